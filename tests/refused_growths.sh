@@ -133,8 +133,8 @@ if [[ $tests == no ]]; then
 else
     input=/dev/null
     for runner in "$@"; do
-        # One test a line; a runner may write `: test` behind the name.
-        mapfile -t names < <("$runner" --list | sed -n 's/: test$//; /refused/p')
+        # A runner lists one test a line, as `tests::name: test`.
+        mapfile -t names < <("$runner" --list | sed -n '/refused.*: test$/s/: test$//p')
         if [[ ${#names[@]} -eq 0 ]]; then echo "$(basename "$runner") has no such test"; fi
         for name in "${names[@]}"; do refuse_test "$runner" "$name"; done
     done
