@@ -14,11 +14,12 @@
 #
 # The requests are refused by tests/refuse.c, which `cc` compiles. Prints `ok NAME` or `FAILED NAME`
 # for each case (a program's whole row of runs, or one test's), then `N passed, M failed`. Ends with
-# status 1 if a case failed.
+# status 1 if a case failed, or met no request at all.
 set -euo pipefail
 export LC_ALL=C
 
 most=100000 # refusals in one case, after which something is wrong
+none='no request came by malloc or realloc, so nothing was tried'
 top=$(dirname "$(dirname "$(readlink -f "${BASH_SOURCE[0]}")")")
 
 usage() {
@@ -102,7 +103,8 @@ refuse_program() { # NAME WORD..
             return
         fi
         if [[ $met == no ]]; then
-            tell "$name" $((n - 1)) ''
+            if [[ $n -eq 1 ]]; then fault=$none; fi
+            tell "$name" $((n - 1)) "$fault"
             return
         fi
     done
@@ -121,6 +123,7 @@ refuse_test() { # RUNNER TEST
         if [[ $met == no ]]; then break; fi
     done
     if [[ -z $fault && $met == yes ]]; then fault="still refused at request $most"; fi
+    if [[ -z $fault && $n -eq 1 ]]; then fault=$none; fi
     tell "$name" $((n - 1)) "$fault"
 }
 
@@ -130,8 +133,9 @@ if [[ $tests == no ]]; then
 else
     input=/dev/null
     for runner in "$@"; do
-        # One test a line; a runner may write `: test` behind the name.
-        mapfile -t names < <("$runner" --list | sed -n 's/: test$//; /refused/p')
+        # A runner lists one test a line, as `tests::name: test`.
+        mapfile -t names < <("$runner" --list | sed -n '/refused.*: test$/s/: test$//p')
+        if [[ ${#names[@]} -eq 0 ]]; then echo "$(basename "$runner") has no such test"; fi
         for name in "${names[@]}"; do refuse_test "$runner" "$name"; done
     done
 fi

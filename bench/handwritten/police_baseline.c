@@ -221,10 +221,10 @@ int main(int argc, char **argv) {
     }
     uint64_t bag = strtoull(argv[1], 0, 10), lmax = strtoull(argv[2], 0, 10);
     uint64_t jitter = strtoull(argv[3], 0, 10);
-    if (bag < 1 || bag > 128 || bag & (bag - 1) || lmax < 64 || lmax > 1518 || jitter > 1000 * bag)
-        end("words BadRule", 0, 2);
     int file = strcmp(argv[4], "-") ? open(argv[4], O_RDONLY) : 0;
     if (file < 0) end("device List", 0, 4);
+    if (bag < 1 || bag > 128 || bag & (bag - 1) || lmax < 64 || lmax > 1518 || jitter > 1000 * bag)
+        end("words BadRule", 0, 2);
 
     rule.lmax = lmax;
     rule.smax = lmax + 20;
