@@ -1,0 +1,72 @@
+//! The words of a command line.
+
+use clap::{Arg, Command, value_parser};
+use std::alloc::{AllocError, Global};
+
+const ABOUT: &str = "A proved simulator of aircraft networks (AFDX, ARINC 664 Part 7)";
+
+const AFTER: &str = "\
+Exit status:
+  0  done
+  1  the configuration is wrong
+  2  the words of the command are wrong
+  3  the list is wrong
+  4  a device or memory failed
+
+Each fault is one line on standard error.";
+
+const POLICE_ABOUT: &str = "Polices the frames of one virtual link";
+
+const POLICE_AFTER: &str = "\
+The frames of LIST are judged for virtual link 1, which enters at port 1, has
+frames of 64 bytes or more and is policed by bytes. Each switch, A and B, has an
+account of its own. A line is printed for each frame:
+
+  V n side accept         the frame of line n was accepted
+  V n side drop WORD      it was dropped: too-short, too-long, bad-fcs,
+                          bad-address, unknown-link, wrong-port, over-lmax,
+                          under-lmin or over-rate
+
+A line of LIST is 'K time side port HEX': K is F (bytes without check sequence,
+which is added), B (the same with a wrong check sequence) or R (bytes as they
+are); time is in ns, side A or B, port 1 to 24; HEX is '-' for no bytes. Lines
+that are empty or begin with '#' are skipped.
+
+Example:
+  afdx police 1 64 500 examples/one_link.list";
+
+fn police_command<'a>(alloc: Global) -> Result<Command<'a>, AllocError> {
+    let bag = Arg::new(alloc, "BAG_MS")
+        .help("The bandwidth allocation gap in ms: 1, 2, 4, 8, 16, 32, 64 or 128")
+        .required(true)
+        .value_parser(value_parser!(u64));
+    let lmax = Arg::new(alloc, "LMAX")
+        .help("The greatest length of a frame in bytes, 64 to 1518")
+        .required(true)
+        .value_parser(value_parser!(u64));
+    let jitter = Arg::new(alloc, "JITTER_US")
+        .help("The jitter in us, at most the gap")
+        .required(true)
+        .value_parser(value_parser!(u64));
+    let list = Arg::new(alloc, "LIST")
+        .help("The path of a frame list, or - for standard input")
+        .required(true);
+    Command::new(alloc, "police")
+        .about(POLICE_ABOUT)
+        .after_help(POLICE_AFTER)
+        .arg(bag)?
+        .arg(lmax)?
+        .arg(jitter)?
+        .arg(list)
+}
+
+/// The words that the program takes.
+pub fn afdx_command<'a>(alloc: Global) -> Result<Command<'a>, AllocError> {
+    Command::new(alloc, "afdx")
+        .version("0.1.0")
+        .about(ABOUT)
+        .after_help(AFTER)
+        .subcommand_required(true)
+        .arg_required_else_help(true)
+        .subcommand(police_command(alloc)?)
+}

@@ -1,0 +1,5 @@
+pub mod FieldLemmas
+pub mod LineLemmas
+pub mod ReaderLemmas
+pub mod TakingLemmas
+pub mod WholeLemmas

@@ -1,0 +1,29 @@
+use Rattle.std.proofs.Common.{rules, arith, ◌≡◌, ◌∷◌, [], List, ℕ, refl, sym, ap, ◌∙◌, Some, None, Ok, Err, Option, inl, inr, true, false}
+use Rattle.std.proofs.lemmas.Grind.{common_steps}
+use Rattle.afdx_lists.specs.FrameLines.{fields_of}
+use Rattle.afdx_lists.specs.FrameLines.{frame_with, frame_bytes}
+use Rattle.afdx_lists.proofs.FieldLemmas.{line_says_nothing, says_bad_line, says_fault, says_frame}
+use Rattle.afdx_lists.proofs.frame_line.read_frame_line.Goals as goal
+
+pub returns-then-says_nothing-clause-ok : goal.returns-then-says_nothing-clause-ok
+returns-then-says_nothing-clause-ok c = line_says_nothing _ _ c.trim_line-text.result.now c.trim_line-text.ensures (sym c.says_nothing.ensures ∙ c.if-says_nothing.true)
+
+pub returns-in-None-clause-err : goal.returns-in-None-clause-err
+returns-in-None-clause-err c = inr (says_bad_line _ _ c.trim_line-text.result.now c.trim_line-text.ensures (sym c.says_nothing.ensures ∙ c.if-says_nothing.false) c.in-None.ensures)
+
+pub returns-in-Some-fault_of_numbers-clause-err : goal.returns-in-Some-fault_of_numbers-clause-err
+returns-in-Some-fault_of_numbers-clause-err c = inr (says_fault _ _ c.trim_line-text.result.now (fields_of c.in-Some.fields) c.in-Some-fault_of_numbers.fault c.trim_line-text.ensures (sym c.says_nothing.ensures ∙ c.if-says_nothing.false) c.in-Some.ensures c.requires c.in-Some-fault_of_numbers.ensures.fault)
+
+pub returns-in-Err-clause-err : goal.returns-in-Err-clause-err
+returns-in-Err-clause-err c =
+    let says = says_frame _ _ c.trim_line-text.result.now (fields_of c.in-Some.fields) c.trim_line-text.ensures (sym c.says_nothing.ensures ∙ c.if-says_nothing.false) c.in-Some.ensures (sym c.in_default.is ∙ c.fault_of_numbers.ensures.fault) (c.fault_of_numbers.ensures.time c.in_default.is) (c.fault_of_numbers.ensures.port c.in_default.is) in
+    elim c.in-Err.ensures.err [
+      | inl memory ↦ inl memory
+      | inr bad ↦ inr (says ∙ rw (bad.0, bad.1) refl)
+    ]
+
+pub returns-clause-ok : goal.returns-clause-ok
+returns-clause-ok c =
+    let says = says_frame _ _ c.trim_line-text.result.now (fields_of c.in-Some.fields) c.trim_line-text.ensures (sym c.says_nothing.ensures ∙ c.if-says_nothing.false) c.in-Some.ensures (sym c.in_default.is ∙ c.fault_of_numbers.ensures.fault) (c.fault_of_numbers.ensures.time c.in_default.is) (c.fault_of_numbers.ensures.port c.in_default.is) in
+    let made : c.finish_frame.new.frame.items ≡ frame_bytes c.in-Some.fields.kind c.read_bytes.new.bytes.items = c.in_ok-is_sealed.ensures.bytes in
+    says ∙ rw (c.in-Ok.ensures.ok, made) refl

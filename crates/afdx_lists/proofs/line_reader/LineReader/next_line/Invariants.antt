@@ -1,0 +1,21 @@
+use Rattle.std.proofs.Common.{◌≡◌, ◌≤◌, ◌+◌, ◌-◌, [], take, false}
+use Rattle.afdx_lists.specs.Lines.{unread, IsHonest, HasNoFeed, TakesBytes}
+use Rattle.afdx_lists.proofs.line_reader.LineReader.next_line.Given as goal
+
+abbrev pub invariant-reads : goal.invariant-reads
+invariant-reads g l = record {
+  sound : l.input.failed ≡ false;
+  honest : IsHonest g.R.Read.remaining l.input;
+  ended : l.input.ended ≡ l.initial.input.ended;
+  lines : l.self.lines ≡ l.initial.self.lines;
+  within : l.searched ≤ l.self.end - l.self.start;
+  short : l.searched ≤ 4200;
+  full : 1000000 ≤ l.self.lines → l.searched ≡ 0;
+  no_feed : HasNoFeed (take l.searched (unread l.self));
+  taken : TakesBytes (g.R.Read.remaining l.initial.input.inner) (g.R.Read.remaining l.input.inner) (unread l.initial.self) (unread l.self) [];
+  calls : l.input.calls ≤ l.initial.input.calls + (l.searched + 1);
+  held : l.input.calls ≤ l.initial.input.calls + (l.self.end - l.self.start);
+}
+
+abbrev pub decreases-reads : goal.decreases-reads
+decreases-reads g l = 4201 - (l.self.end - l.self.start)

@@ -1,0 +1,44 @@
+-- Numbers and bytes as the fields of a line write them.
+use Rattle.std.specs.Prelude.{ℕ, ◌+◌, ◌-◌, ◌*◌, ◌==◌, Bool, true, false, ◌&&◌, List, [], ◌∷◌, Option, Some, None, Result, Ok, Err, if◌then◌else◌}
+use Rattle.std.specs.Borrow.{Bor}
+use Rattle.std.specs.List.{slice_split}
+use Rattle.std.specs.Str.{bytes_eq}
+use Rattle.std.specs.Char.{is_ascii_digit}
+use Rattle.hex.specs.Hex.{decode_of}
+
+-- the fields of a text, which stand between spaces
+abbrev pub between_spaces : List ℕ → List (List ℕ)
+between_spaces text = slice_split (λ byte. byte == 32) text
+
+-- the fields of what is left of a text after a space
+abbrev pub fields_after : Option (Bor (List ℕ)) → List (List ℕ)
+fields_after None = []
+fields_after (Some rest) = between_spaces rest.now
+
+-- what digits write after a number
+abbrev pub number_after : ℕ → List ℕ → ℕ
+number_after n [] = n
+number_after n (digit ∷ digits) = number_after (n * 10 + (digit - 48)) digits
+
+abbrev pub all_digits : List ℕ → Bool
+all_digits [] = true
+all_digits (byte ∷ bytes) = is_ascii_digit byte && all_digits bytes
+
+-- the number that one or more decimal digits write
+abbrev pub number_of : List ℕ → Option ℕ
+number_of [] = None
+number_of (byte ∷ bytes) = if all_digits (byte ∷ bytes) then Some (number_after 0 (byte ∷ bytes)) else None
+
+-- the value of an answer that is one
+abbrev pub ok_of : {A E : Type 0} → Result A E → Option A
+ok_of (Ok value) = Some value
+ok_of (Err error) = None
+
+-- the bytes that a field of hexadecimal digits writes, or `-` for none
+unfoldable pub bytes_of_digits : List ℕ → Option (List ℕ)
+bytes_of_digits digits = if bytes_eq digits (45 ∷ []) then Some [] else ok_of (decode_of digits)
+
+-- nothing, or a remark
+abbrev pub is_skipped : List ℕ → Bool
+is_skipped [] = true
+is_skipped (byte ∷ bytes) = byte == 35

@@ -1,0 +1,210 @@
+//! One line of a frame list.
+ghost use Rattle.std.specs.Prelude.{◌≡◌, ◌⊎◌, ◌^◌, ◌≤◌, None, Ok, Err, IfOk, IfSome, IfErr, OnOk, option_map};
+ghost use Rattle.afdx_frame.specs.Sealing.{is_sealed, sealed_wrongly};
+ghost use Rattle.afdx_lists.specs.FrameLines.{kind_of, side_of, frame_fields, frame_bytes, frame_of, line_says, saturated, fields_of, fields_with, numbers_fault};
+ghost use Rattle.afdx_lists.specs.declared.fault.LineFault.TheVariants.{Memory};
+
+use crate::fault::LineFault;
+use crate::fields::{read_bytes, read_number, says_nothing, split_field, trim_line};
+use afdx_frame::{Side, fcs, is_sealed, seal};
+use std::alloc::AllocError;
+
+/// When and where a frame comes in at a switch.
+#[derive(Clone, Copy, Debug, PartialEq, Eq)]
+pub struct Heading {
+    /// The time of its last bit, in ns, at most 10^15.
+    pub time: u64,
+    /// The network by which it comes.
+    pub side: Side,
+    /// The port at which it comes in, 1 to 24.
+    pub port: u8,
+    /// Whether its last four bytes are the check sequence of the others.
+    pub is_sealed: bool,
+}
+
+/// What is done with the bytes of a line.
+#[derive(Clone, Copy, Debug)]
+enum Kind {
+    /// `F`: sealed
+    Good,
+    /// `B`: sealed with the complement of the check sequence
+    Bad,
+    /// `R`: taken as they are
+    Raw,
+}
+
+/// The fields of a line, read as far as their form goes.
+#[derive(Drop)]
+struct Fields<'a> {
+    kind: Kind,
+    time: u64,
+    side: Side,
+    port: u64,
+    digits: &'a [u8],
+}
+
+const LAST_TIME: u64 = 1_000_000_000_000_000;
+
+fn read_kind(text: &[u8]) -> Option<Kind>
+    ensures { result ≡ kind_of text.now }
+{
+    match text {
+        b"F" => Some(Kind::Good),
+        b"B" => Some(Kind::Bad),
+        b"R" => Some(Kind::Raw),
+        _ => None,
+    }
+}
+
+fn read_side(text: &[u8]) -> Option<Side>
+    ensures { result ≡ side_of text.now }
+{
+    match text {
+        b"A" => Some(Side::A),
+        b"B" => Some(Side::B),
+        _ => None,
+    }
+}
+
+/// The fields, where each could be read.
+fn fields_from<'a>(
+    kind: Option<Kind>,
+    time: Option<u64>,
+    side: Option<Side>,
+    port: Option<u64>,
+    digits: &'a [u8],
+) -> Option<Fields<'a>>
+    ensures { option_map fields_of result ≡ fields_with kind time side port digits.entry.now }
+{
+    if digits.is_empty() {
+        return None;
+    }
+    Some(Fields {
+        kind: kind?,
+        time: time?,
+        side: side?,
+        port: port?,
+        digits,
+    })
+}
+
+fn read_fields(text: &[u8]) -> Option<Fields<'_>>
+    ensures { option_map fields_of result ≡ option_map saturated (frame_fields text.now) }
+{
+    let (kind, rest) = split_field(text);
+    let Some(text) = rest else {
+        return None;
+    };
+    let (time, rest) = split_field(text);
+    let Some(text) = rest else {
+        return None;
+    };
+    let (side, rest) = split_field(text);
+    let Some(text) = rest else {
+        return None;
+    };
+    let (port, rest) = split_field(text);
+    let Some(text) = rest else {
+        return None;
+    };
+    let (digits, rest) = split_field(text);
+    if rest.is_some() {
+        return None;
+    }
+    fields_from(
+        read_kind(kind),
+        read_number(time),
+        read_side(side),
+        read_number(port),
+        digits,
+    )
+}
+
+/// The first false check of a line's numbers.
+fn fault_of_numbers(time: u64, port: u64, latest: u64) -> Option<LineFault>
+    ensures fault { result ≡ numbers_fault time port latest }
+    ensures time { result ≡ None → time ≤ 10 ^ 15 }
+    ensures order { result ≡ None → latest ≤ time }
+    ensures some_port { result ≡ None → 1 ≤ port }
+    ensures port { result ≡ None → port ≤ 24 }
+{
+    if time > LAST_TIME {
+        Some(LineFault::TimeTooLarge)
+    } else if time < latest {
+        Some(LineFault::TimeBack)
+    } else if port < 1 || port > 24 {
+        Some(LineFault::BadPort)
+    } else {
+        None
+    }
+}
+
+/// Appends the complement of the check sequence.
+fn seal_wrongly(frame: &mut Vec<u8>) -> Result<(), AllocError>
+    ensures { OnOk result (frame.new.items ≡ sealed_wrongly frame.old.items) }
+{
+    let sequence = !fcs(frame.as_slice());
+    frame.extend_from_slice(&sequence.to_le_bytes())
+}
+
+/// Makes the frame of a line's bytes. True: it is sealed.
+fn finish_frame(kind: Kind, frame: &mut Vec<u8>) -> Result<bool, AllocError>
+    ensures bytes { OnOk result (frame.new.items ≡ frame_bytes kind frame.old.items) }
+    ensures sealed { IfOk result (λ b. b ≡ is_sealed frame.new.items) }
+{
+    match kind {
+        Kind::Good => {
+            seal(frame)?;
+            Ok(true)
+        }
+        Kind::Bad => {
+            seal_wrongly(frame)?;
+            Ok(false)
+        }
+        Kind::Raw => Ok(is_sealed(frame.as_slice())),
+    }
+}
+
+/// What a line says that comes after one of this time: a frame, whose bytes are put in the place of
+/// `frame`, or nothing if it is to be skipped.
+///
+/// The line stands without its line feed. An error is the first check of the line that is false; want
+/// of memory comes where `frame` can't grow. After an error, and after a line that is skipped, `frame`
+/// holds any bytes.
+pub fn read_frame_line(
+    line: &[u8],
+    latest: u64,
+    frame: &mut Vec<u8>,
+) -> Result<Option<Heading>, LineFault>
+    requires { latest ≤ 10 ^ 15 }
+    ensures time { IfOk result (λ heading. IfSome heading (λ h. h.time ≤ 10 ^ 15)) }
+    ensures order { IfOk result (λ heading. IfSome heading (λ h. latest ≤ h.time)) }
+    ensures some_port { IfOk result (λ heading. IfSome heading (λ h. 1 ≤ h.port)) }
+    ensures port { IfOk result (λ heading. IfSome heading (λ h. h.port ≤ 24)) }
+    ensures sealed { IfOk result (λ heading. IfSome heading (λ h. h.is_sealed ≡ is_sealed frame.new.items)) }
+    ensures ok { IfOk result (λ heading. line_says latest line.now ≡ Ok (option_map (λ h. frame_of h frame.new.items) heading)) }
+    ensures err { IfErr result (λ fault. (fault ≡ Memory) ⊎ (line_says latest line.now ≡ Err fault)) }
+{
+    let text = trim_line(line);
+    if says_nothing(text) {
+        return Ok(None);
+    }
+    let fields = match read_fields(text) {
+        Some(fields) => fields,
+        None => return Err(LineFault::BadLine),
+    };
+    if let Some(fault) = fault_of_numbers(fields.time, fields.port, latest) {
+        return Err(fault);
+    }
+    match read_bytes(fields.digits, frame) {
+        Ok(()) => {}
+        Err(fault) => return Err(fault),
+    }
+    let is_sealed = finish_frame(fields.kind, frame)?;
+    Ok(Some(Heading {
+        time: fields.time,
+        side: fields.side,
+        port: fields.port as u8,
+        is_sealed,
+    }))
+}

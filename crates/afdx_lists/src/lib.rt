@@ -1,0 +1,19 @@
+//! Lists are read, line by line, and text is written, through devices that are watched.
+#![tactic(auto)]
+
+mod fault;
+mod fields;
+mod frame_line;
+pub mod laws;
+mod line_reader;
+mod watched;
+mod writing;
+
+pub use fault::{LineFault, RunFault};
+pub use frame_line::{Heading, read_frame_line};
+pub use line_reader::LineReader;
+pub use watched::Watched;
+pub use writing::write_text;
+
+#[cfg(test)]
+mod tests;

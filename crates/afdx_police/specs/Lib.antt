@@ -1,0 +1,13 @@
+pub mod Account
+pub mod Arrival
+pub mod Charge
+pub mod Laws
+pub mod LinkAccounts
+pub mod Offers
+pub mod Policer
+pub mod Rule
+pub mod RuleOf
+pub mod Shape
+pub mod Stream
+pub mod Verdicts
+pub mod Window

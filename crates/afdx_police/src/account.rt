@@ -1,0 +1,120 @@
+//! The account of a link, charged by the link's own kind of policing, and the verdicts on its arrivals.
+
+ghost use Rattle.std.specs.Prelude.{◌≡◌, ℕ, ◌≤◌, if◌then◌else◌, List, [], ◌∷◌};
+ghost use Rattle.afdx_police.specs.Shape.{fault_of};
+ghost use Rattle.afdx_police.specs.declared.shape.Reason.{Reason};
+ghost use Rattle.afdx_frame.specs.Sealing.{is_sealed};
+ghost use Rattle.afdx_frame.specs.declared.link.Side.{Side};
+ghost use Rattle.afdx_police.specs.Arrival.{Arrival, arrival_with, own};
+ghost use Rattle.afdx_police.specs.Rule.{Rule};
+ghost use Rattle.afdx_police.specs.RuleOf.{rule_of};
+ghost use Rattle.afdx_police.specs.Verdicts.{reason_after, verdict_in};
+
+use crate::charge::{ByteCharge, FrameCharge};
+use crate::policer::Policer;
+use crate::rule::LinkRule;
+use crate::shape::{Reason, judge_checked};
+use afdx_frame::Policing;
+
+/// The account of one link at one switch, of the link's own kind of policing.
+#[derive(Debug, Drop)]
+pub enum LinkAccount {
+    ByByte(Policer<ByteCharge>),
+    ByFrame(Policer<FrameCharge>),
+}
+
+impl LinkAccount {
+    ghost use Rattle.afdx_police.specs.LinkAccounts.{IsOfferedAs, StandsForOwn, account_of, last_time};
+
+    /// A full account.
+    pub fn new(rule: &LinkRule) -> LinkAccount
+        ensures time { last_time result ≡ 0 }
+        ensures stands { StandsForOwn (rule_of rule.now) result [] }
+    {
+        match rule.policing() {
+            Policing::Byte => LinkAccount::ByByte(Policer::new(rule)),
+            Policing::Frame => LinkAccount::ByFrame(Policer::new(rule)),
+        }
+    }
+
+    /// The rule of the account's link.
+    pub fn rule(&self) -> &LinkRule
+        ensures { rule_of result.now ≡ (account_of self.now).rule }
+    {
+        match self {
+            LinkAccount::ByByte(policer) => policer.rule(),
+            LinkAccount::ByFrame(policer) => policer.rule(),
+        }
+    }
+
+    /// Whether an arrival of the link that has no fault is accepted, by its time in nanoseconds and
+    /// its length in bytes. One that is refused is charged nothing.
+    pub fn offer(&mut self, time: u64, length: u64) -> bool
+        requires in_time { last_time self.old ≤ time }
+        requires shortest { 64 ≤ length }
+        requires longest { length ≤ (account_of self.old).rule.lmax }
+
+        ensures rule { (account_of self.new).rule ≡ (account_of self.old).rule }
+        ensures time { last_time self.new ≡ time }
+
+        // Whatever own arrivals led here, the answer is the one on the arrival that was offered.
+        ensures answer { (rule : Rule) (past : List Arrival) (x : Arrival) →
+            StandsForOwn rule self.old past →
+            IsOfferedAs rule x (record { time = time; length = length }) →
+            (if result then None else Some Reason.OverRate) ≡ reason_after rule past x }
+        ensures stands { (rule : Rule) (past : List Arrival) (x : Arrival) →
+            StandsForOwn rule self.old past →
+            IsOfferedAs rule x (record { time = time; length = length }) →
+            StandsForOwn rule self.new (x ∷ past) }
+    {
+        match self {
+            LinkAccount::ByByte(policer) => policer.offer(time, length),
+            LinkAccount::ByFrame(policer) => policer.offer(time, length),
+        }
+    }
+
+    /// Why an arrival is dropped, if it is: for its shape, or else for its link's rate.
+    ///
+    /// `time` is in nanoseconds, `port` the input port, `frame` all bytes, and `sealed` says whether
+    /// they end with their check sequence. Only an arrival that is accepted is charged.
+    pub fn police(&mut self, time: u64, port: u8, frame: &[u8], sealed: bool) -> Option<Reason>
+        requires in_time { last_time self.old ≤ time }
+        requires sealed { sealed ≡ is_sealed frame.now }
+
+        ensures rule { (account_of self.new).rule ≡ (account_of self.old).rule }
+        ensures time { last_time self.new ≤ time }
+
+        // Whatever own arrivals led here, the answer is the one on this arrival after them.
+        ensures reason { (rule : Rule) (past : List Arrival) (tag : ℕ) (side : Side) →
+            StandsForOwn rule self.old past →
+            result ≡ reason_after rule past (arrival_with tag time side port frame.now) }
+        ensures stands { (rule : Rule) (past : List Arrival) (tag : ℕ) (side : Side) →
+            StandsForOwn rule self.old past →
+            StandsForOwn rule self.new (arrival_with tag time side port frame.now ∷ past) }
+
+        // The same where arrivals of any link and side led here, and this one need not name the link.
+        ensures verdict { (rule : Rule) (all : List Arrival) (tag : ℕ) (side : Side) →
+            StandsForOwn rule self.old (own rule.vl side all) →
+            result ≡ verdict_in rule all (arrival_with tag time side port frame.now) }
+        ensures stands_in { (rule : Rule) (all : List Arrival) (tag : ℕ) (side : Side) →
+            StandsForOwn rule self.old (own rule.vl side all) →
+            let x = arrival_with tag time side port frame.now in
+            StandsForOwn rule self.new (own rule.vl side (x ∷ all)) }
+
+        // An arrival with a fault in its shape leaves the account as it was.
+        ensures unchanged { (fault : Reason) →
+            fault_of (Some (account_of self.old).rule) port frame.now ≡ Some fault →
+            self.new ≡ self.old }
+    {
+        match judge_checked(Some(self.rule()), port, frame, sealed) {
+            None => {
+                if self.offer(time, frame.len() as u64) {
+                    None
+                } else {
+                    Some(Reason::OverRate)
+                }
+            }
+            Some(reason) => Some(reason),
+        }
+    }
+}

@@ -1,0 +1,59 @@
+//! Laws over the definitions, for the crates that stand on them.
+
+ghost use Rattle.afdx_police.specs.Laws.{FitsIsEachWindow, FitsIsAccountTest, EachAccountMoves, ArrivalsAreOffers, EachOwnSteps, StrangersAreRefused, FaultsChangeNothing, SoundHasNoFault, SoundIsChargedFor, VerdictsDecide};
+ghost use Rattle.afdx_police.specs.Stream.{RegularIsAccepted};
+
+/// The window rule's test is that of each window.
+pub fn fits_is_each_window()
+    ensures { FitsIsEachWindow }
+{}
+
+/// The window rule's fit is the test of an account.
+pub fn fits_is_account_test()
+    ensures { FitsIsAccountTest }
+{}
+
+/// How an account moves.
+pub fn accounts_move()
+    ensures { EachAccountMoves }
+{}
+
+/// A link's accepted arrivals are those of the offers to its policer.
+pub fn arrivals_are_offers()
+    ensures { ArrivalsAreOffers }
+{}
+
+/// A stream that keeps its gap and its jitter is accepted whole.
+pub fn regular_is_accepted()
+    ensures { RegularIsAccepted }
+{}
+
+/// One more arrival is a link's own, or changes nothing there.
+pub fn own_steps()
+    ensures { EachOwnSteps }
+{}
+
+/// Bytes that don't name a rule's link are refused for themselves alone.
+pub fn strangers_are_refused()
+    ensures { StrangersAreRefused }
+{}
+
+/// An arrival with a fault is dropped for it and leaves the account as it was.
+pub fn faults_change_nothing()
+    ensures { FaultsChangeNothing }
+{}
+
+/// An arrival has no fault exactly if nothing is wrong in it.
+pub fn sound_has_no_fault()
+    ensures { SoundHasNoFault }
+{}
+
+/// An arrival without a fault is charged its wire size at least, and its link's greatest at most.
+pub fn sound_is_charged_for()
+    ensures { SoundIsChargedFor }
+{}
+
+/// An arrival is accepted exactly if it has no fault and fits.
+pub fn verdicts_decide()
+    ensures { VerdictsDecide }
+{}

@@ -1,0 +1,18 @@
+//! Policing of a virtual link: what its frames have to look like, and how much it may send.
+#![tactic(auto)]
+
+mod account;
+mod charge;
+pub mod laws;
+mod policer;
+mod rule;
+mod shape;
+
+pub use account::LinkAccount;
+pub use charge::{ByteCharge, Charge, FrameCharge};
+pub use policer::Policer;
+pub use rule::LinkRule;
+pub use shape::{Reason, judge, judge_checked};
+
+#[cfg(test)]
+mod tests;

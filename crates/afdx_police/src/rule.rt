@@ -1,0 +1,107 @@
+//! The rule of a link.
+
+ghost use Rattle.std.specs.Prelude.{◌≡◌, ◌↔◌, IsSome, IfSome};
+ghost use Rattle.afdx_police.specs.Rule.{IsRule, rule_with};
+
+use afdx_frame::{Policing, VlId};
+
+/// The bytes that a frame takes on the wire besides its own (IEEE 802.3): 7 of preamble,
+/// 1 start delimiter, 12 of gap.
+pub(crate) const WIRE_EXTRA: u64 = 20;
+
+/// How one virtual link is filtered and policed at a switch (ARINC 664 Part 7).
+///
+/// `port` is the one input port of its frames, `bag_ms` the bandwidth allocation gap in
+/// milliseconds, `lmin` and `lmax` the least and greatest frame length in bytes with the check
+/// sequence, `jitter_us` the admitted jitter in microseconds. Each value is in its range.
+#[derive(Clone, Copy, Debug)]
+pub struct LinkRule {
+    pub vl: VlId,
+    pub port: u8,
+    pub bag_ms: u64,
+    pub lmin: u64,
+    pub lmax: u64,
+    pub jitter_us: u64,
+    pub policing: Policing,
+    pub ghost in_range: { IsRule (rule_with vl.0 port bag_ms lmin lmax jitter_us policing) },
+}
+
+impl LinkRule {
+    ghost use Rattle.afdx_police.specs.Rule.{regulation_of};
+    ghost use Rattle.afdx_police.specs.RuleOf.{rule_of};
+    ghost use Rattle.afdx_frame.specs.Regulation.{bag, jitter, fill_rate, cap};
+    ghost use Rattle.std.specs.Prelude.{◌+◌};
+
+    /// The rule of these values; None exactly if one is out of its range: a port of 1 to 24, a gap of
+    /// 1, 2, 4, .. or 128 ms, `64 <= lmin <= lmax <= 1518`, a jitter of at most the gap.
+    pub fn new(
+        vl: VlId,
+        port: u8,
+        bag_ms: u64,
+        lmin: u64,
+        lmax: u64,
+        jitter_us: u64,
+        policing: Policing,
+    ) -> Option<LinkRule>
+        ensures in_range { IsSome result ↔ IsRule (rule_with vl.0 port bag_ms lmin lmax jitter_us policing) }
+        ensures given { IfSome result (λ r.
+            rule_of r ≡ rule_with vl.0 port bag_ms lmin lmax jitter_us policing) }
+    {
+        let is_bag = matches!(bag_ms, 1 | 2 | 4 | 8 | 16 | 32 | 64 | 128);
+        if port >= 1
+            && port <= 24
+            && is_bag
+            && lmin >= 64
+            && lmin <= lmax
+            && lmax <= 1518
+            && jitter_us <= 1000 * bag_ms
+        {
+            Some(LinkRule {
+                vl,
+                port,
+                bag_ms,
+                lmin,
+                lmax,
+                jitter_us,
+                policing,
+            })
+        } else {
+            None
+        }
+    }
+
+    /// How the link's frames are charged.
+    pub fn policing(&self) -> Policing
+        ensures { result ≡ self.now.policing }
+    {
+        self.policing
+    }
+
+    // The greatest wire size of the link's frames.
+    pub(crate) fn smax(&self) -> u64
+        ensures { result ≡ (regulation_of (rule_of self.now)).smax }
+    {
+        self.lmax + WIRE_EXTRA
+    }
+
+    // The units by which the link's account is filled in a nanosecond.
+    pub(crate) fn fill_rate(&self) -> u64
+        ensures { result ≡ fill_rate (regulation_of (rule_of self.now)) }
+    {
+        self.smax() * (128 / self.bag_ms)
+    }
+
+    // The nanoseconds in which an empty account is filled.
+    pub(crate) fn fill_time(&self) -> u64
+        ensures { let link = regulation_of (rule_of self.now) in result ≡ bag link + jitter link }
+    {
+        1_000_000 * self.bag_ms + 1000 * self.jitter_us
+    }
+
+    // The units of a full account.
+    pub(crate) fn cap(&self) -> u64
+        ensures { result ≡ cap (regulation_of (rule_of self.now)) }
+    {
+        self.fill_rate() * self.fill_time()
+    }
+}

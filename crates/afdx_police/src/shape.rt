@@ -1,0 +1,95 @@
+//! What is wrong with one arrival, by its shape.
+
+ghost use Rattle.std.specs.Prelude.{◌≡◌, ◌≤◌, IfNone, IfSome, length, option_map};
+ghost use Rattle.std.specs.Option.{option_copied};
+ghost use Rattle.afdx_frame.specs.Sealing.{is_sealed};
+ghost use Rattle.afdx_police.specs.RuleOf.{rule_of};
+ghost use Rattle.afdx_police.specs.Shape.{fault_of};
+
+use crate::rule::LinkRule;
+use afdx_frame::{Policing, is_sealed, vl_of};
+
+/// Why an arrival is dropped.
+#[derive(Clone, Copy, Debug, PartialEq, Eq)]
+pub enum Reason {
+    /// Under 64 bytes.
+    TooShort,
+    /// Over 1518 bytes.
+    TooLong,
+    /// The last four bytes are not the check sequence of the others.
+    BadFcs,
+    /// The destination address names no link.
+    BadAddress,
+    /// The named link has no rule, or it isn't the rule's.
+    UnknownLink,
+    /// It came at another input port than its link's.
+    WrongPort,
+    /// It is longer than its link's frames may be.
+    OverLmax,
+    /// It is shorter than its link's frames may be, and the link is policed by bytes.
+    UnderLmin,
+    /// Its link sends more than its account holds.
+    OverRate,
+}
+
+/// The first fault of an arrival, in the order of `Reason`, but for its link's rate.
+///
+/// `rule` is that of the link that the frame names, if there is one; `port` is the input port at
+/// which it came, `frame` all of its bytes.
+pub fn judge(rule: Option<&LinkRule>, port: u8, frame: &[u8]) -> Option<Reason>
+    ensures reason { result ≡
+        fault_of (option_map rule_of (option_copied rule.entry)) port frame.now }
+
+    // What has no fault may be offered to a policer.
+    ensures shortest { IfNone result (64 ≤ length frame.now) }
+    ensures longest { IfNone result
+        (IfSome (option_copied rule.entry) (λ r. length frame.now ≤ r.lmax)) }
+{
+    judge_checked(rule, port, frame, is_sealed(frame))
+}
+
+/// As `judge`, for a caller that knows already whether the frame is sealed.
+#[tactic(auto, unfolding(crate::specs::Shape::fault_of, crate::specs::Arrival::names))]
+pub fn judge_checked(
+    rule: Option<&LinkRule>,
+    port: u8,
+    frame: &[u8],
+    sealed: bool,
+) -> Option<Reason>
+    requires { sealed ≡ is_sealed frame.now }
+    ensures reason { result ≡
+        fault_of (option_map rule_of (option_copied rule.entry)) port frame.now }
+    ensures shortest { IfNone result (64 ≤ length frame.now) }
+    ensures longest { IfNone result
+        (IfSome (option_copied rule.entry) (λ r. length frame.now ≤ r.lmax)) }
+{
+    if frame.len() < 64 {
+        return Some(Reason::TooShort);
+    }
+    if frame.len() > 1518 {
+        return Some(Reason::TooLong);
+    }
+    if !sealed {
+        return Some(Reason::BadFcs);
+    }
+    let Some(vl) = vl_of(frame) else {
+        return Some(Reason::BadAddress);
+    };
+    let Some(rule) = rule else {
+        return Some(Reason::UnknownLink);
+    };
+    if vl.0 != rule.vl.0 {
+        return Some(Reason::UnknownLink);
+    }
+    if rule.port != port {
+        return Some(Reason::WrongPort);
+    }
+    let length = frame.len() as u64;
+    if length > rule.lmax {
+        return Some(Reason::OverLmax);
+    }
+    match rule.policing {
+        Policing::Byte if length < rule.lmin => Some(Reason::UnderLmin),
+        _ => None,
+    }
+}

@@ -1,0 +1,109 @@
+-- What a run that polices one link has told.
+use Rattle.std.proofs.Common.{◌≡◌, ℕ, ◌+◌, List, [], ◌∷◌, ◌++◌, refl, ap, sym, ◌∙◌, subst, Option, Some, None, arith, IfSome, length, Bool, true, false, not, is_some}
+use Rattle.std.specs.Prelude.{if◌then◌else◌}
+use Rattle.std.specs.Io.KnownBytes.{Appends}
+use Rattle.std.proofs.KnownBytes.{Appends-trans, Appends-nil}
+use Rattle.afdx_lists.specs.Calls.{AppendsFront}
+use Rattle.afdx_lists.specs.Lines.{lines_of}
+use Rattle.afdx_lists.specs.declared.fault.RunFault.TheVariants as run
+use Rattle.afdx_police.specs.declared.shape.Reason.{Reason}
+use Rattle.afdx_police.specs.Arrival.{Arrival}
+use Rattle.afdx_police.specs.Rule.{Rule}
+use Rattle.afdx_police.specs.Verdicts.{verdict_in}
+use Rattle.afdx_replay.specs.declared.police_run.Policers.{Policers}
+use Rattle.afdx_replay.specs.declared.summary.Summary.{Summary}
+use Rattle.afdx_replay.specs.Listed.{arrivals_of}
+use Rattle.afdx_replay.specs.Stops.{StopsAt}
+use Rattle.afdx_replay.specs.PoliceText.{text_of, accepted_in, dropped_in, verdict_line, counts_of}
+use Rattle.afdx_replay.specs.Policed.{WritesText, WritesBeginning, WritesAll}
+use Rattle.afdx_replay.specs.Policers.{HaveSeen, HasTold}
+use Rattle.afdx_replay.proofs.RunLemmas.{IsDone, arrivals_of-none}
+use Rattle.afdx_replay.proofs.TextLemmas.{text_of-none, text_of-more, accepted_in-none, dropped_in-none, accepted_in-accepted, accepted_in-dropped, dropped_in-accepted, dropped_in-dropped, front-whole, front-more}
+
+pub told-start : (rule : Rule) (policers : Policers) (output : Option (List ℕ)) → HaveSeen policers rule [] → HasTold rule policers 0 0 output output []
+told-start rule policers output seen = record {
+  seen = seen;
+  accepted_is = sym (accepted_in-none rule);
+  dropped_is = sym (dropped_in-none rule);
+  written = subst (λ (t : List ℕ). Appends output output t) (sym (text_of-none rule)) (Appends-nil output);
+}
+
+-- how many more are counted for a verdict
+pub record Counts (reason : Option Reason) (accepted dropped accepted' dropped' : ℕ) : Type 0 where
+  pub if_accepted : reason ≡ None → (accepted' ≡ accepted + 1) × (dropped' ≡ dropped)
+  pub if_dropped : (why : Reason) → reason ≡ Some why → (accepted' ≡ accepted) × (dropped' ≡ dropped + 1)
+
+pub counts_if : (reason : Option Reason) (accepted dropped accepted' dropped' : ℕ) (none : Bool) → is_some reason ≡ not none
+    → accepted' ≡ (if none then accepted + 1 else accepted) → dropped' ≡ (if not none then dropped + 1 else dropped) → Counts reason accepted dropped accepted' dropped'
+counts_if None accepted dropped accepted' dropped' true n a d = record { if_accepted = λ e. (a, d); if_dropped = λ why e. cc }
+counts_if None accepted dropped accepted' dropped' false n a d = cc
+counts_if (Some reason) accepted dropped accepted' dropped' true n a d = cc
+counts_if (Some reason) accepted dropped accepted' dropped' false n a d = record { if_accepted = λ e. cc; if_dropped = λ why e. (a, d) }
+
+pub counts-one : (reason : Option Reason) (accepted dropped accepted' dropped' : ℕ) → Counts reason accepted dropped accepted' dropped' → accepted' + dropped' ≡ accepted + dropped + 1
+counts-one None accepted dropped accepted' dropped' k = let one = k.if_accepted refl in omega (arith, one.0, one.1)
+counts-one (Some why) accepted dropped accepted' dropped' k = let one = k.if_dropped why refl in omega (arith, one.0, one.1)
+
+counted : (rule : Rule) (x : Arrival) (past : List Arrival) (reason : Option Reason) (accepted dropped accepted' dropped' : ℕ)
+    → reason ≡ verdict_in rule past x → Counts reason accepted dropped accepted' dropped' → accepted ≡ accepted_in rule past → dropped ≡ dropped_in rule past
+    → (accepted' ≡ accepted_in rule (x ∷ past)) × (dropped' ≡ dropped_in rule (x ∷ past))
+counted rule x past None accepted dropped accepted' dropped' e k a d =
+    let one = k.if_accepted refl in
+    (one.0 ∙ ap (λ (n : ℕ). n + 1) a ∙ sym (accepted_in-accepted rule x past e), one.1 ∙ d ∙ sym (dropped_in-accepted rule x past e))
+counted rule x past (Some why) accepted dropped accepted' dropped' e k a d =
+    let one = k.if_dropped why refl in
+    (one.0 ∙ a ∙ sym (accepted_in-dropped rule x past why e), one.1 ∙ ap (λ (n : ℕ). n + 1) d ∙ sym (dropped_in-dropped rule x past why e))
+
+-- an arrival more, whose verdict's line was written
+pub told-next : (rule : Rule) (policers after : Policers) (accepted dropped accepted' dropped' : ℕ) (old new newer : Option (List ℕ)) (x : Arrival) (past : List Arrival) (reason : Option Reason) (text : List ℕ)
+    → HasTold rule policers accepted dropped old new past → reason ≡ verdict_in rule past x → HaveSeen after rule (x ∷ past) → Counts reason accepted dropped accepted' dropped'
+    → text ≡ verdict_line x.tag x.side reason → Appends new newer text → HasTold rule after accepted' dropped' old newer (x ∷ past)
+told-next rule policers after accepted dropped accepted' dropped' old new newer x past reason text h e seen k t w =
+    let counts = counted rule x past reason accepted dropped accepted' dropped' e k h.accepted_is h.dropped_is in
+    record {
+      seen = seen;
+      accepted_is = counts.0;
+      dropped_is = counts.1;
+      written = subst (λ (t : List ℕ). Appends old newer t) (sym (text_of-more rule x past reason e))
+        (Appends-trans old new newer (text_of rule past) (verdict_line x.tag x.side reason) h.written (subst (λ (t : List ℕ). Appends new newer t) t w));
+    }
+
+-- of an arrival more, of whose verdict's line a beginning was written
+pub begun-next : (rule : Rule) (policers : Policers) (accepted dropped : ℕ) (old new newer : Option (List ℕ)) (x : Arrival) (past : List Arrival) (reason : Option Reason) (text : List ℕ)
+    → HasTold rule policers accepted dropped old new past → reason ≡ verdict_in rule past x → text ≡ verdict_line x.tag x.side reason → AppendsFront new newer text
+    → WritesBeginning rule old newer (x ∷ past)
+begun-next rule policers accepted dropped old new newer x past reason text h e t w =
+    subst (λ (t : List ℕ). AppendsFront old newer t) (sym (text_of-more rule x past reason e))
+    (front-more old new newer (text_of rule past) (verdict_line x.tag x.side reason) h.written (subst (λ (t : List ℕ). AppendsFront new newer t) t w))
+
+pub told-text : (rule : Rule) (policers : Policers) (accepted dropped : ℕ) (old new : Option (List ℕ)) (past : List Arrival) → HasTold rule policers accepted dropped old new past → WritesText rule old new past
+told-text rule policers accepted dropped old new past h = h.written
+
+pub told-front : (rule : Rule) (policers : Policers) (accepted dropped : ℕ) (old new : Option (List ℕ)) (past : List Arrival) → HasTold rule policers accepted dropped old new past → WritesBeginning rule old new past
+told-front rule policers accepted dropped old new past h = front-whole old new (text_of rule past) h.written
+
+-- all arrivals are told
+done_all : (rule : Rule) (policers : Policers) (accepted dropped n : ℕ) (lines : List (List ℕ)) (old new : Option (List ℕ)) (summary : Summary)
+    → IsDone (HasTold rule policers accepted dropped old new) n lines → summary ≡ record { lines = n; accepted = accepted; dropped = dropped; lost = 0; departed = 0; too_old = 0; delivered = 0 }
+    → WritesAll rule lines old new summary
+done_all rule policers accepted dropped n lines old new summary h e = record {
+  sound = h.sound;
+  written = h.are_told.written;
+  counted = cc (e, h.all, h.are_told.accepted_is, h.are_told.dropped_is);
+}
+
+pub told-done : (rule : Rule) (policers : Policers) (accepted dropped n : ℕ) (input old new : Option (List ℕ)) (summary : Summary)
+    → IfSome input (λ bytes. IsDone (HasTold rule policers accepted dropped old new) n (lines_of bytes)) → summary ≡ record { lines = n; accepted = accepted; dropped = dropped; lost = 0; departed = 0; too_old = 0; delivered = 0 }
+    → IfSome input (λ bytes. WritesAll rule (lines_of bytes) old new summary)
+told-done rule policers accepted dropped n None old new summary h e = tt
+told-done rule policers accepted dropped n (Some bytes) old new summary h e = done_all rule policers accepted dropped n (lines_of bytes) old new summary h e
+
+-- memory ran out before anything was read
+pub stops-start : (rule : Rule) (input after output : Option (List ℕ)) → IfSome input (λ bytes. StopsAt (WritesText rule output output) (WritesBeginning rule output output) bytes after run.Memory)
+stops-start rule None after output = tt
+stops-start rule (Some bytes) after output = (0, record {
+  within = omega arith;
+  sound = λ k lt. absurd (omega arith);
+  are_told = subst (λ (past : List Arrival). WritesBeginning rule output output past) (sym (arrivals_of-none (lines_of bytes)))
+    (subst (λ (t : List ℕ). AppendsFront output output t) (sym (text_of-none rule)) (front-whole output output [] (Appends-nil output)));
+})

@@ -1,0 +1,61 @@
+-- The text of a run that polices one link: a line for each arrival. A list of arrivals has the newest first.
+use Rattle.std.specs.Prelude.{ℕ, suc, List, [], ◌∷◌, ◌++◌, Option, Some, None, codes, is_none, if◌then◌else◌}
+use Rattle.std.specs.Fmt.{decimal}
+use Rattle.afdx_frame.specs.declared.link.Side.{Side}
+use Rattle.afdx_frame.specs.declared.link.Side.TheVariants.{A, B}
+use Rattle.afdx_police.specs.declared.shape.Reason.{Reason}
+use Rattle.afdx_police.specs.declared.shape.Reason.TheVariants.{TooShort, TooLong, BadFcs, BadAddress, UnknownLink, WrongPort, OverLmax, UnderLmin, OverRate}
+use Rattle.afdx_police.specs.Arrival.{Arrival}
+use Rattle.afdx_police.specs.Rule.{Rule}
+use Rattle.afdx_police.specs.Verdicts.{verdict_in}
+use Rattle.afdx_replay.specs.declared.summary.Summary.{Summary}
+
+abbrev pub side_text : Side → List ℕ
+side_text A = codes "A"
+side_text B = codes "B"
+
+abbrev pub reason_text : Reason → List ℕ
+reason_text TooShort = codes "too-short"
+reason_text TooLong = codes "too-long"
+reason_text BadFcs = codes "bad-fcs"
+reason_text BadAddress = codes "bad-address"
+reason_text UnknownLink = codes "unknown-link"
+reason_text WrongPort = codes "wrong-port"
+reason_text OverLmax = codes "over-lmax"
+reason_text UnderLmin = codes "under-lmin"
+reason_text OverRate = codes "over-rate"
+
+-- no reason to drop a frame: it is accepted
+abbrev pub verdict_text : Option Reason → List ℕ
+verdict_text None = codes "accept"
+verdict_text (Some reason) = codes "drop " ++ reason_text reason
+
+-- the line of a verdict on the frame of line n
+abbrev pub verdict_line : ℕ → Side → Option Reason → List ℕ
+verdict_line n side reason = codes "V " ++ decimal n ++ codes " " ++ side_text side ++ codes " " ++ verdict_text reason ++ codes "\n"
+
+-- each arrival's line has the verdict on it after those before it
+unfoldable pub text_of : Rule → List Arrival → List ℕ
+text_of rule [] = []
+text_of rule (x ∷ past) = text_of rule past ++ verdict_line x.tag x.side (verdict_in rule past x)
+
+-- how many of the arrivals are accepted, and how many are dropped
+unfoldable pub accepted_in : Rule → List Arrival → ℕ
+accepted_in rule [] = 0
+accepted_in rule (x ∷ past) = if is_none (verdict_in rule past x) then suc (accepted_in rule past) else accepted_in rule past
+
+unfoldable pub dropped_in : Rule → List Arrival → ℕ
+dropped_in rule [] = 0
+dropped_in rule (x ∷ past) = if is_none (verdict_in rule past x) then dropped_in rule past else suc (dropped_in rule past)
+
+-- what a run over n lines counts; nothing departs and nothing is received in it
+abbrev pub counts_of : Rule → ℕ → List Arrival → Summary
+counts_of rule n past = record {
+  lines = n;
+  accepted = accepted_in rule past;
+  dropped = dropped_in rule past;
+  lost = 0;
+  departed = 0;
+  too_old = 0;
+  delivered = 0;
+}

@@ -1,0 +1,15 @@
+//! Runs over lists of frames, what they write, and the commands of the program.
+#![tactic(auto)]
+
+mod police_command;
+mod police_run;
+mod summary;
+mod verdict;
+
+pub use afdx_lists::{RunFault, Watched};
+pub use police_command::police;
+pub use police_run::run_police;
+pub use summary::Summary;
+
+#[cfg(test)]
+mod tests;

@@ -1,0 +1,142 @@
+//! A run that polices the frames of one link.
+ghost use Rattle.std.specs.Prelude.{◌≡◌, ◌<◌, ◌≤◌, ◌+◌, ◌-◌, ◌^◌, if◌then◌else◌, ◌∷◌, [], ℕ, List, IfSome, OnOk, true, false, string_bytes};
+ghost use Rattle.afdx_frame.specs.Sealing.{is_sealed};
+ghost use Rattle.afdx_police.specs.Arrival.{Arrival};
+ghost use Rattle.afdx_police.specs.Rule.{Rule};
+ghost use Rattle.afdx_police.specs.RuleOf.{rule_of};
+ghost use Rattle.afdx_police.specs.Verdicts.{verdict_in};
+ghost use Rattle.afdx_lists.specs.Calls.{is_failed_read, is_failed_write};
+ghost use Rattle.afdx_replay.specs.PoliceText.{verdict_line};
+ghost use Rattle.afdx_replay.specs.Policed.{Answers};
+
+use crate::summary::Summary;
+use crate::verdict::{side_letter, verdict_words};
+use afdx_frame::Side;
+use afdx_lists::{Heading, LineReader, RunFault, Watched, read_frame_line, write_text};
+use afdx_police::{LinkAccount, LinkRule, Reason};
+use std::alloc::{AllocError, Global};
+use std::io::{Read, Write};
+
+/// The accounts of one link, one at each switch.
+#[derive(Drop)]
+struct Policers {
+    a: LinkAccount,
+    b: LinkAccount,
+}
+
+impl Policers {
+    ghost use Rattle.afdx_replay.specs.Policers.{HaveSeen, AreUntil};
+
+    fn new(rule: &LinkRule) -> Policers
+        ensures seen { HaveSeen result (rule_of rule.now) [] }
+        ensures until { AreUntil result 0 }
+    {
+        Policers {
+            a: LinkAccount::new(rule),
+            b: LinkAccount::new(rule),
+        }
+    }
+
+    /// Why an arrival is dropped, if it is.
+    fn verdict(&mut self, heading: &Heading, frame: &[u8]) -> Option<Reason>
+        requires until { AreUntil self.old heading.now.time }
+        requires sealed { heading.now.is_sealed ≡ is_sealed frame.now }
+        ensures until { AreUntil self.new heading.now.time }
+        ensures answer { (rule : Rule) (past : List Arrival) (tag : ℕ) → HaveSeen self.old rule past →
+            result ≡ verdict_in rule past (record { tag = tag; time = heading.now.time; side = heading.now.side; port = heading.now.port; bytes = frame.now }) }
+        ensures seen { (rule : Rule) (past : List Arrival) (tag : ℕ) → HaveSeen self.old rule past →
+            HaveSeen self.new rule (record { tag = tag; time = heading.now.time; side = heading.now.side; port = heading.now.port; bytes = frame.now } ∷ past) }
+    {
+        let Heading {
+            time,
+            side,
+            port,
+            is_sealed,
+        } = *heading;
+        match side {
+            Side::A => self.a.police(time, port, frame, is_sealed),
+            Side::B => self.b.police(time, port, frame, is_sealed),
+        }
+    }
+}
+
+/// One more than `count`, where the test is true.
+fn count_if(count: u64, is_one_more: bool) -> u64
+    requires { count < 2 ^ 64 - 1 }
+    ensures { result ≡ (if is_one_more then count + 1 else count) }
+{
+    if is_one_more { count + 1 } else { count }
+}
+
+/// Puts the line of a verdict in the place of `text`.
+fn put_verdict(
+    text: &mut String,
+    n: u64,
+    side: Side,
+    reason: Option<Reason>,
+) -> Result<(), AllocError>
+    ensures { OnOk result (string_bytes text.new ≡ verdict_line n side reason) }
+{
+    let side = side_letter(side);
+    let words = verdict_words(reason);
+    text.clear();
+    write!(text, "V {n} {side} {words}\n")
+}
+
+/// Polices the frames of a list for one virtual link, and writes a line for each.
+///
+/// Each switch, A and B, has an account of its own. The whole text of a line is handed to `output`
+/// before the next line is read. A list that can't be read ends the run with its first fault; the
+/// text of the lines before it stands written. `RunFault::Read` and `RunFault::Write` come exactly
+/// where the input's or the output's device failed; neither is tried again. Memory is taken for one
+/// chunk of 64 KiB at the start, for one line and its frame.
+pub fn run_police<R: Read, W: Write>(
+    alloc: Global,
+    rule: &LinkRule,
+    input: &mut Watched<R>,
+    output: &mut Watched<W>,
+) -> Result<Summary, RunFault>
+    requires sound_input { input.old.failed ≡ false }
+    requires unended { input.old.ended ≡ false }
+    requires sound_output { output.old.failed ≡ false }
+    ensures ended { OnOk result (input.new.ended ≡ true) }
+    ensures read { input.new.failed ≡ is_failed_read result }
+    ensures write { output.new.failed ≡ is_failed_write result }
+    ensures calls { input.new.calls ≤ input.old.calls + 4201000001 }
+
+    // Where the input's bytes are known: what is answered and written for the list that they are.
+    ensures answer { IfSome (R.remaining input.old.inner) (λ bytes.
+        Answers (rule_of rule.now) bytes (R.remaining input.new.inner) (W.contents output.old.inner) (W.contents output.new.inner) result) }
+{
+    let mut reader = LineReader::new(alloc)?;
+    let mut policers = Policers::new(rule);
+    let mut frame = Vec::new(alloc);
+    let mut text = String::new(alloc);
+    let mut latest = 0u64;
+    let mut accepted = 0u64;
+    let mut dropped = 0u64;
+    while reader.next_line(input)? {
+        let n = reader.lines();
+        let heading = match read_frame_line(reader.line(), latest, &mut frame) {
+            Ok(Some(heading)) => heading,
+            Ok(None) => continue,
+            Err(fault) => return Err(fault.at_line(n)),
+        };
+        latest = heading.time;
+        let reason = policers.verdict(&heading, frame.as_slice());
+        let is_accepted = reason.is_none();
+        accepted = count_if(accepted, is_accepted);
+        dropped = count_if(dropped, !is_accepted);
+        put_verdict(&mut text, n, heading.side, reason)?;
+        write_text(output, text.as_str().as_bytes())?;
+    }
+    Ok(Summary {
+        lines: reader.lines(),
+        accepted,
+        dropped,
+        lost: 0,
+        departed: 0,
+        too_old: 0,
+        delivered: 0,
+    })
+}

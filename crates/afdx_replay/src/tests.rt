@@ -1,0 +1,214 @@
+//! The worked rows of policing by a run, and a run on weak devices.
+
+mod devices;
+
+use crate::{RunFault, Summary, Watched, police, run_police};
+use afdx_frame::{Policing, VlId};
+use afdx_police::LinkRule;
+use std::alloc::{AllocError, Global};
+use std::test::Fail;
+
+/// The frame of link 1 with the message `hello`, without its check sequence.
+const H1: &str = "030000000001020000000120080045000021000000000111cdea0a000101e0e0000103e803e8000d000068656c6c6f00000000000000000000000000";
+
+/// The same on link 9.
+const H9: &str = "030000000009020000000120080045000021000000000111cdea0a000101e0e0000103e803e8000d000068656c6c6f00000000000000000000000000";
+
+/// The rule of link 1 with a gap of 1 ms and a jitter of 500 us, policed by bytes.
+fn rule(lmax: u64) -> Option<LinkRule> {
+    LinkRule::new(VlId(1), 1, 1, 64, lmax, 500, Policing::Byte)
+}
+
+/// A list with the digits of the frame of link 1 in the place of each `H1`.
+fn spelled(alloc: Global, list: &str) -> Result<String, AllocError> {
+    let mut text = String::new(alloc);
+    for (place, part) in list.split("H1").enumerate() {
+        if place > 0 {
+            text.push_str(H1)?;
+        }
+        text.push_str(part)?;
+    }
+    Ok(text)
+}
+
+/// The digits of so many zero bytes.
+fn zeros(alloc: Global, count: usize) -> Result<String, AllocError> {
+    let mut text = String::new(alloc);
+    for _ in 0..count {
+        text.push_str("00")?;
+    }
+    Ok(text)
+}
+
+fn counts(lines: u64, accepted: u64, dropped: u64) -> Summary {
+    Summary {
+        lines,
+        accepted,
+        dropped,
+        lost: 0,
+        departed: 0,
+        too_old: 0,
+        delivered: 0,
+    }
+}
+
+/// What a run answers for a list, and what it writes.
+fn answer(alloc: Global, rule: &LinkRule, list: &[u8]) -> (Result<Summary, RunFault>, Vec<u8>) {
+    let mut input = Watched::new(list);
+    let mut output = Watched::new(Vec::new(alloc));
+    let result = run_police(alloc, rule, &mut input, &mut output);
+    (result, output.into_inner())
+}
+
+#[test]
+fn worked_lists(rt: HostRuntime) -> Result<(), Fail> {
+    let rows = [
+        (
+            64,
+            "F 0 A 1 H1\nF 499999 A 1 H1\nF 500000 A 1 H1\nF 1499999 A 1 H1\nF 1500000 A 1 H1\n",
+            "V 1 A accept\nV 2 A drop over-rate\nV 3 A accept\nV 4 A drop over-rate\nV 5 A accept\n",
+            counts(5, 3, 2),
+        ),
+        (
+            200,
+            "F 0 A 1 H1\nF 0 A 1 H1\nF 0 A 1 H1\nF 0 A 1 H1\n",
+            "V 1 A accept\nV 2 A accept\nV 3 A accept\nV 4 A drop over-rate\n",
+            counts(4, 3, 1),
+        ),
+        (
+            64,
+            "F 0 A 1 H1\nF 1000000000000000 A 1 H1\n",
+            "V 1 A accept\nV 2 A accept\n",
+            counts(2, 2, 0),
+        ),
+        (
+            64,
+            "F 0 A 2 H1\nF 0 B 1 H1\n",
+            "V 1 A drop wrong-port\nV 2 B accept\n",
+            counts(2, 1, 1),
+        ),
+        (64, "F 000 A 01 H1", "V 1 A accept\n", counts(1, 1, 0)),
+        (
+            64,
+            "\n# a remark\n\r\nF 0 A 1 H1\r\n\r",
+            "V 4 A accept\n",
+            counts(5, 1, 0),
+        ),
+    ];
+    for (lmax, list, text, want) in rows {
+        let rule = rule(lmax).ok_or("a rule")?;
+        let spelled = spelled(rt.alloc(), list)?;
+        let (result, written) = answer(rt.alloc(), &rule, spelled.as_bytes());
+        assert_eq!(rt; result, Ok(want), "{list}");
+        assert!(rt; written.as_slice() == text.as_bytes(), "{list}");
+    }
+    Ok(())
+}
+
+#[test]
+fn each_kind_of_wrong_frame(rt: HostRuntime) -> Result<(), Fail> {
+    let rule = rule(64).ok_or("a rule")?;
+    let short = zeros(rt.alloc(), 63)?;
+    let long = zeros(rt.alloc(), 1519)?;
+    let nowhere = zeros(rt.alloc(), 60)?;
+    let list = format!(
+        in rt.alloc();
+        "B 0 A 1 {H1}\nR 0 A 1 {short}\nR 0 A 1 {long}\nR 0 A 1 0300000000\nF 0 A 1 {nowhere}\nF 0 A 1 {H9}\nF 0 A 1 {H1}00\nR 0 A 1 -\nF 0 A 1 {H1}\n"
+    )?;
+    let text = "V 1 A drop bad-fcs\nV 2 A drop too-short\nV 3 A drop too-long\nV 4 A drop too-short\nV 5 A drop bad-address\nV 6 A drop unknown-link\nV 7 A drop over-lmax\nV 8 A drop too-short\nV 9 A accept\n";
+    let (result, written) = answer(rt.alloc(), &rule, list.as_bytes());
+    assert_eq!(rt; result, Ok(counts(9, 1, 8)));
+    assert!(rt; written.as_slice() == text.as_bytes());
+    Ok(())
+}
+
+#[test]
+fn under_lmin_only_by_bytes(rt: HostRuntime) -> Result<(), Fail> {
+    for (policing, text) in [
+        (Policing::Byte, "V 1 A drop under-lmin\n"),
+        (Policing::Frame, "V 1 A accept\n"),
+    ] {
+        let rule = LinkRule::new(VlId(1), 1, 1, 100, 200, 500, policing).ok_or("a rule")?;
+        let list = spelled(rt.alloc(), "F 0 A 1 H1")?;
+        let (_, written) = answer(rt.alloc(), &rule, list.as_bytes());
+        assert!(rt; written.as_slice() == text.as_bytes());
+    }
+    Ok(())
+}
+
+#[test]
+fn list_faults(rt: HostRuntime) -> Result<(), Fail> {
+    let rule = rule(64).ok_or("a rule")?;
+    let rows = [
+        ("F 5 A", RunFault::BadLine(2)),
+        ("F 5 A 1 030", RunFault::BadHex(2)),
+        ("F 5 A 1 0g", RunFault::BadHex(2)),
+        ("F 5 C 1 00", RunFault::BadLine(2)),
+        ("F 5 A 25 00", RunFault::BadPort(2)),
+        ("F 5 A 0 00", RunFault::BadPort(2)),
+        ("F 5 A 99999999999999999999 00", RunFault::BadPort(2)),
+        ("F 99999999999999999999 A 1 00", RunFault::TimeTooLarge(2)),
+        ("F 1000000000000001 A 1 H1", RunFault::TimeTooLarge(2)),
+        ("F 4 A 1 H1", RunFault::TimeBack(2)),
+        ("F  5 A 1 00", RunFault::BadLine(2)),
+        ("F 5 A 1 00 00", RunFault::BadLine(2)),
+        ("G 5 A 1 00", RunFault::BadLine(2)),
+        ("F +5 A 1 00", RunFault::BadLine(2)),
+        ("F 5 A 1 ", RunFault::BadLine(2)),
+    ];
+    for (line, want) in rows {
+        let first = spelled(rt.alloc(), "F 5 A 1 H1\n")?;
+        let line = spelled(rt.alloc(), line)?;
+        let list = format!(in rt.alloc(); "{first}{line}")?;
+        let (result, written) = answer(rt.alloc(), &rule, list.as_bytes());
+        assert_eq!(rt; result, Err(want), "{line}");
+        assert!(rt; written.as_slice() == b"V 1 A accept\n".as_slice(), "{line}");
+    }
+    Ok(())
+}
+
+#[test]
+fn sizes_of_lines_and_lists(rt: HostRuntime) -> Result<(), Fail> {
+    let rule = rule(64).ok_or("a rule")?;
+    let mut remark = vec![in rt.alloc(); b'#'; 4_200]?;
+    let (result, _) = answer(rt.alloc(), &rule, remark.as_slice());
+    assert_eq!(rt; result, Ok(counts(1, 0, 0)));
+    remark.push(b'#')?;
+    let (result, _) = answer(rt.alloc(), &rule, remark.as_slice());
+    assert_eq!(rt; result, Err(RunFault::LineTooLong(1)));
+    let mut feeds = vec![in rt.alloc(); b'\n'; 1_000_000]?;
+    let (result, _) = answer(rt.alloc(), &rule, feeds.as_slice());
+    assert_eq!(rt; result, Ok(counts(1_000_000, 0, 0)));
+    feeds.push(b'\n')?;
+    let (result, _) = answer(rt.alloc(), &rule, feeds.as_slice());
+    assert_eq!(rt; result, Err(RunFault::TooManyLines));
+    Ok(())
+}
+
+#[test]
+fn the_command(rt: HostRuntime) -> Result<(), Fail> {
+    let rows = [
+        (1, "F 0 A 1 H1\n", 0, "V 1 A accept\n", ""),
+        (3, "F 0 A 1 H1\n", 2, "", "words BadRule\n"),
+        (1, "F 0 A 1 H1\nF 0\n", 3, "V 1 A accept\n", "list BadLine 2\n"),
+    ];
+    for (bag, list, want, text, line) in rows {
+        let list = spelled(rt.alloc(), list)?;
+        let mut input = Watched::new(list.as_bytes());
+        let mut output = Watched::new(Vec::new(rt.alloc()));
+        let mut errors = Watched::new(Vec::new(rt.alloc()));
+        let status = police(
+            rt.alloc(),
+            bag,
+            64,
+            500,
+            &mut input,
+            &mut output,
+            &mut errors,
+        );
+        assert_eq!(rt; status, want);
+        assert!(rt; output.into_inner().as_slice() == text.as_bytes());
+        assert!(rt; errors.into_inner().as_slice() == line.as_bytes());
+    }
+    Ok(())
+}
