@@ -4,14 +4,17 @@
 mod words;
 
 use afdx_replay::{Watched, police};
-use clap::{ArgMatches, Error, error::ErrorKind};
+use clap::error::ErrorKind;
+use clap::{ArgMatches, Error};
 use std::alloc::AllocError;
 use std::fs::File;
 use std::io::{BufWriter, Read, Write};
 use std::process::ExitCode;
 
 const DONE: u8 = 0;
+
 const WRONG_WORDS: u8 = 2;
+
 const NO_DEVICE_OR_MEMORY: u8 = 4;
 
 const OUTPUT_BUFFER: usize = 65_536;

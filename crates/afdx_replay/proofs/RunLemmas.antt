@@ -105,7 +105,7 @@ HasCome-frame told after latest n m (Some bytes) None rest line frame place take
 HasCome-frame told after latest n m (Some bytes) (Some before) None line frame place taken h said tell = absurd taken.takes
 HasCome-frame told after latest n m (Some bytes) (Some before) (Some rest) line frame place taken h said tell =
     rw place (HasRead-frame told after latest n (lines_of bytes) before rest line frame taken.few taken.short h taken.takes said
-      (λ past are. subst (λ (k : ℕ). after (arrival_at k frame ∷ past)) place (tell past are)))
+    (λ past are. subst (λ (k : ℕ). after (arrival_at k frame ∷ past)) place (tell past are)))
 
 drop_nothing : (n : ℕ) (xs : List (List ℕ)) → drop n xs ≡ [] → n ≤ length xs → n ≡ length xs
 drop_nothing n xs h within = let e : length (drop n xs) ≡ 0 = ap length h in grind (arith, common_steps, e)

@@ -65,7 +65,7 @@ told-next rule policers after accepted dropped accepted' dropped' old new newer 
       accepted_is = counts.0;
       dropped_is = counts.1;
       written = subst (λ (t : List ℕ). Appends old newer t) (sym (text_of-more rule x past reason e))
-        (Appends-trans old new newer (text_of rule past) (verdict_line x.tag x.side reason) h.written (subst (λ (t : List ℕ). Appends new newer t) t w));
+          (Appends-trans old new newer (text_of rule past) (verdict_line x.tag x.side reason) h.written (subst (λ (t : List ℕ). Appends new newer t) t w));
     }
 
 -- of an arrival more, of whose verdict's line a beginning was written
@@ -101,9 +101,12 @@ told-done rule policers accepted dropped n (Some bytes) old new summary h e = do
 -- memory ran out before anything was read
 pub stops-start : (rule : Rule) (input after output : Option (List ℕ)) → IfSome input (λ bytes. StopsAt (WritesText rule output output) (WritesBeginning rule output output) bytes after run.Memory)
 stops-start rule None after output = tt
-stops-start rule (Some bytes) after output = (0, record {
-  within = omega arith;
-  sound = λ k lt. absurd (omega arith);
-  are_told = subst (λ (past : List Arrival). WritesBeginning rule output output past) (sym (arrivals_of-none (lines_of bytes)))
-    (subst (λ (t : List ℕ). AppendsFront output output t) (sym (text_of-none rule)) (front-whole output output [] (Appends-nil output)));
-})
+stops-start rule (Some bytes) after output = (
+  0,
+  record {
+    within = omega arith;
+    sound = λ k lt. absurd (omega arith);
+    are_told = subst (λ (past : List Arrival). WritesBeginning rule output output past) (sym (arrivals_of-none (lines_of bytes)))
+        (subst (λ (t : List ℕ). AppendsFront output output t) (sym (text_of-none rule)) (front-whole output output [] (Appends-nil output)));
+  },
+)

@@ -4,3 +4,4 @@ pub mod Progress
 pub mod PoliceText
 pub mod Policed
 pub mod Policers
+pub mod Commands

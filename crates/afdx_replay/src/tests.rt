@@ -9,10 +9,12 @@ use std::alloc::{AllocError, Global};
 use std::test::Fail;
 
 /// The frame of link 1 with the message `hello`, without its check sequence.
-const H1: &str = "030000000001020000000120080045000021000000000111cdea0a000101e0e0000103e803e8000d000068656c6c6f00000000000000000000000000";
+const H1: &str =
+    "030000000001020000000120080045000021000000000111cdea0a000101e0e0000103e803e8000d000068656c6c6f00000000000000000000000000";
 
 /// The same on link 9.
-const H9: &str = "030000000009020000000120080045000021000000000111cdea0a000101e0e0000103e803e8000d000068656c6c6f00000000000000000000000000";
+const H9: &str =
+    "030000000009020000000120080045000021000000000111cdea0a000101e0e0000103e803e8000d000068656c6c6f00000000000000000000000000";
 
 /// The rule of link 1 with a gap of 1 ms and a jitter of 500 us, policed by bytes.
 fn rule(lmax: u64) -> Option<LinkRule> {
@@ -111,11 +113,11 @@ fn each_kind_of_wrong_frame(rt: HostRuntime) -> Result<(), Fail> {
     let short = zeros(rt.alloc(), 63)?;
     let long = zeros(rt.alloc(), 1519)?;
     let nowhere = zeros(rt.alloc(), 60)?;
-    let list = format!(
-        in rt.alloc();
+    let list = format!(in rt.alloc();
         "B 0 A 1 {H1}\nR 0 A 1 {short}\nR 0 A 1 {long}\nR 0 A 1 0300000000\nF 0 A 1 {nowhere}\nF 0 A 1 {H9}\nF 0 A 1 {H1}00\nR 0 A 1 -\nF 0 A 1 {H1}\n"
     )?;
-    let text = "V 1 A drop bad-fcs\nV 2 A drop too-short\nV 3 A drop too-long\nV 4 A drop too-short\nV 5 A drop bad-address\nV 6 A drop unknown-link\nV 7 A drop over-lmax\nV 8 A drop too-short\nV 9 A accept\n";
+    let text =
+        "V 1 A drop bad-fcs\nV 2 A drop too-short\nV 3 A drop too-long\nV 4 A drop too-short\nV 5 A drop bad-address\nV 6 A drop unknown-link\nV 7 A drop over-lmax\nV 8 A drop too-short\nV 9 A accept\n";
     let (result, written) = answer(rt.alloc(), &rule, list.as_bytes());
     assert_eq!(rt; result, Ok(counts(9, 1, 8)));
     assert!(rt; written.as_slice() == text.as_bytes());
@@ -162,7 +164,10 @@ fn list_faults(rt: HostRuntime) -> Result<(), Fail> {
         let list = format!(in rt.alloc(); "{first}{line}")?;
         let (result, written) = answer(rt.alloc(), &rule, list.as_bytes());
         assert_eq!(rt; result, Err(want), "{line}");
-        assert!(rt; written.as_slice() == b"V 1 A accept\n".as_slice(), "{line}");
+        assert!(rt;
+            written.as_slice() == b"V 1 A accept\n".as_slice(),
+            "{line}"
+        );
     }
     Ok(())
 }
@@ -190,7 +195,13 @@ fn the_command(rt: HostRuntime) -> Result<(), Fail> {
     let rows = [
         (1, "F 0 A 1 H1\n", 0, "V 1 A accept\n", ""),
         (3, "F 0 A 1 H1\n", 2, "", "words BadRule\n"),
-        (1, "F 0 A 1 H1\nF 0\n", 3, "V 1 A accept\n", "list BadLine 2\n"),
+        (
+            1,
+            "F 0 A 1 H1\nF 0\n",
+            3,
+            "V 1 A accept\n",
+            "list BadLine 2\n",
+        ),
     ];
     for (bag, list, want, text, line) in rows {
         let list = spelled(rt.alloc(), list)?;

@@ -26,6 +26,7 @@ struct WeakReader<'a> {
 
 impl Read for WeakReader<'_> {
     ghost use Rattle.std.specs.Prelude.{Some};
+
     ghost remaining = { λ reader. Some reader.rest.now };
 
     fn read(&mut self, buf: &mut [u8]) -> io::Result<usize> {
@@ -49,6 +50,7 @@ struct WeakWriter {
 
 impl Write for WeakWriter {
     ghost use Rattle.std.specs.Prelude.{Some};
+
     ghost contents = { λ writer. Some writer.written.items };
 
     fn write(&mut self, buf: &[u8]) -> io::Result<usize> {
@@ -81,7 +83,10 @@ const LISTS: [(&str, &str); 3] = [
         "F 0 A 1 00\n#\nR 1 B 2 -\r\nF 2 A 1 0102",
         "V 1 A drop too-short\nV 3 B drop too-short\nV 4 A drop too-short\n",
     ),
-    ("F 0 A 2 H1\nF 0 B 1 H1", "V 1 A drop wrong-port\nV 2 B accept\n"),
+    (
+        "F 0 A 2 H1\nF 0 B 1 H1",
+        "V 1 A drop wrong-port\nV 2 B accept\n",
+    ),
 ];
 
 /// How often a byte stands in a text.
@@ -119,7 +124,10 @@ fn each_read_fails(rt: HostRuntime) -> Result<(), Fail> {
                 let read = &list.as_bytes()[..list.len() - left];
                 assert!(rt; text.as_bytes().starts_with(written.as_slice()));
                 let remarks = count_of(read, b'#');
-                assert_eq!(rt; count_of(written.as_slice(), b'\n') + remarks, count_of(read, b'\n').max(remarks));
+                assert_eq!(rt;
+                    count_of(written.as_slice(), b'\n') + remarks,
+                    count_of(read, b'\n').max(remarks)
+                );
             }
         }
     }

@@ -46,7 +46,7 @@ loop-text-preserved-in-Ok-None g c =
       calls = omega (arith, lines.0, c.next_line.ensures.calls, c.loop-text.invariant.calls);
       taken = HasTaken-next _ _ _ _ _ _ _ _ _ _ lines.0 c.loop-text.invariant.taken (c.next_line.ensures.whole (search rules));
       come = HasCome-skip _ _ _ _ _ _ _ _ lines.0 (record { few = omega (arith, lines.0, lines.1); short = c.next_line.ensures.short (search rules); takes = c.next_line.ensures.line (search rules) })
-        c.loop-text.invariant.come (rw (c.line.ensures, c.in-Ok-None.field-0-is) at c.in-Ok-None.ensures.ok);
+          c.loop-text.invariant.come (rw (c.line.ensures, c.in-Ok-None.field-0-is) at c.in-Ok-None.ensures.ok);
     }
 
 pub returns-in_err-next_line-clause-answer : goal.returns-in_err-next_line-clause-answer
@@ -55,17 +55,17 @@ returns-in_err-next_line-clause-answer g c =
     let old = g.W.Write.contents c.args.output.now.inner in
     let new = g.W.Write.contents c.loop-text.output.inner in
     let stop = stops-reader _ (WritesText rule old new) (WritesBeginning rule old new) _ _ _ _ (g.R.Read.remaining c.next_line.new.input.inner) c.in_err-next_line.field-0.0
-      c.loop-text.invariant.come c.in_err-next_line.ensures.fault
-      (λ e. let failed = c.in_err-next_line.ensures.read (ap Err e) in HasTaken-stop _ _ _ _ _ _ failed.1 (c.loop-text.invariant.taken failed.0) failed.2)
-      (λ past told. told-text _ _ _ _ _ _ past told) in
+    c.loop-text.invariant.come c.in_err-next_line.ensures.fault
+    (λ e. let failed = c.in_err-next_line.ensures.read (ap Err e) in HasTaken-stop _ _ _ _ _ _ failed.1 (c.loop-text.invariant.taken failed.0) failed.2)
+    (λ past told. told-text _ _ _ _ _ _ past told) in
     search rules
 
 pub returns-in-Err-clause-answer : goal.returns-in-Err-clause-answer
 returns-in-Err-clause-answer g c =
     let lines = c.next_line.ensures.lines (search rules) in
     stops-line _ _ _ _ _ _ _ _ _ _ _ c.in-Err.fault _ (c.lines-n.ensures ∙ lines.0) c.at_line.ensures (rw c.line.ensures at c.in-Err.ensures.err)
-      (record { few = omega (arith, lines.0, lines.1); short = c.next_line.ensures.short (search rules); takes = c.next_line.ensures.line (search rules) })
-      c.loop-text.invariant.come (λ past told. told-text _ _ _ _ _ _ past told) (λ past told. told-front _ _ _ _ _ _ past told)
+    (record { few = omega (arith, lines.0, lines.1); short = c.next_line.ensures.short (search rules); takes = c.next_line.ensures.line (search rules) })
+    c.loop-text.invariant.come (λ past told. told-text _ _ _ _ _ _ past told) (λ past told. told-front _ _ _ _ _ _ past told)
 
 pub returns-in_err-put_verdict-clause-answer : goal.returns-in_err-put_verdict-clause-answer
 returns-in_err-put_verdict-clause-answer g c =
@@ -73,7 +73,7 @@ returns-in_err-put_verdict-clause-answer g c =
     let old = g.W.Write.contents c.args.output.now.inner in
     let new = g.W.Write.contents c.loop-text.output.inner in
     let stop = stops-memory _ (WritesText rule old new) (WritesBeginning rule old new) _ _ _ _ (g.R.Read.remaining c.next_line.new.input.inner)
-      c.loop-text.invariant.come (λ past told. told-front _ _ _ _ _ _ past told) in
+    c.loop-text.invariant.come (λ past told. told-front _ _ _ _ _ _ past told) in
     search rules
 
 pub returns-clause-answer : goal.returns-clause-answer
@@ -97,9 +97,9 @@ loop-text-preserved g c =
       calls = omega (arith, lines.0, c.next_line.ensures.calls, c.loop-text.invariant.calls);
       taken = HasTaken-next _ _ _ _ _ _ _ _ _ _ lines.0 c.loop-text.invariant.taken (c.next_line.ensures.whole (search rules));
       come = HasCome-frame _ _ _ _ _ _ _ _ _ (frame_of c.in-Ok-Some.heading c.read_frame_line.new.frame.items) lines.0
-        (record { few = omega (arith, lines.0, lines.1); short = c.next_line.ensures.short (search rules); takes = c.next_line.ensures.line (search rules) })
-        c.loop-text.invariant.come (rw (c.line.ensures, c.in-Ok-Some.field-0-is) at c.in-Ok-Some.ensures.ok)
-        (λ past told. told-next _ _ _ _ _ _ _ _ _ _ (arrival_at c.next_line.new.self.lines (frame_of c.in-Ok-Some.heading c.read_frame_line.new.frame.items)) past _ _ told
+          (record { few = omega (arith, lines.0, lines.1); short = c.next_line.ensures.short (search rules); takes = c.next_line.ensures.line (search rules) })
+          c.loop-text.invariant.come (rw (c.line.ensures, c.in-Ok-Some.field-0-is) at c.in-Ok-Some.ensures.ok)
+          (λ past told. told-next _ _ _ _ _ _ _ _ _ _ (arrival_at c.next_line.new.self.lines (frame_of c.in-Ok-Some.heading c.read_frame_line.new.frame.items)) past _ _ told
           (rw c.as_slice.ensures.value at (c.verdict-reason.ensures.answer (rule_of c.args.rule.now) past c.next_line.new.self.lines told.seen))
           (rw c.as_slice.ensures.value at (c.verdict-reason.ensures.seen (rule_of c.args.rule.now) past c.next_line.new.self.lines told.seen))
           counts text c.in_ok-write_text.ensures.written);
@@ -113,10 +113,10 @@ returns-in_err-write_text-clause-answer g c =
     let new = g.W.Write.contents c.write_text.new.output.inner in
     let text = c.as_bytes.ensures.value ∙ c.as_str.ensures.value ∙ c.in_ok-put_verdict.ensures ∙ ap (λ n. verdict_line n c.in-Ok-Some.heading.side c.verdict-reason.result) c.lines-n.ensures in
     let come = HasCome-frame _ (WritesBeginning rule old new) _ _ _ _ _ _ _ (frame_of c.in-Ok-Some.heading c.read_frame_line.new.frame.items) lines.0
-      (record { few = omega (arith, lines.0, lines.1); short = c.next_line.ensures.short (search rules); takes = c.next_line.ensures.line (search rules) })
-      c.loop-text.invariant.come (rw (c.line.ensures, c.in-Ok-Some.field-0-is) at c.in-Ok-Some.ensures.ok)
-      (λ past told. begun-next _ _ _ _ _ _ _ (arrival_at c.next_line.new.self.lines (frame_of c.in-Ok-Some.heading c.read_frame_line.new.frame.items)) past _ _ told
-        (rw c.as_slice.ensures.value at (c.verdict-reason.ensures.answer rule past c.next_line.new.self.lines told.seen))
-        text c.in_err-write_text.ensures.front) in
+    (record { few = omega (arith, lines.0, lines.1); short = c.next_line.ensures.short (search rules); takes = c.next_line.ensures.line (search rules) })
+    c.loop-text.invariant.come (rw (c.line.ensures, c.in-Ok-Some.field-0-is) at c.in-Ok-Some.ensures.ok)
+    (λ past told. begun-next _ _ _ _ _ _ _ (arrival_at c.next_line.new.self.lines (frame_of c.in-Ok-Some.heading c.read_frame_line.new.frame.items)) past _ _ told
+    (rw c.as_slice.ensures.value at (c.verdict-reason.ensures.answer rule past c.next_line.new.self.lines told.seen))
+    text c.in_err-write_text.ensures.front) in
     let stop = stops-write _ (WritesText rule old new) (WritesBeginning rule old new) _ _ _ _ (g.R.Read.remaining c.next_line.new.input.inner) come (λ past told. told) in
     search rules
