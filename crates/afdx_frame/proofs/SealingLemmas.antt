@@ -77,7 +77,7 @@ is_sealed-short bytes h =
     ap (λ (b : Bool). b && bytes_eq (drop (length bytes - 4) bytes) (to_le_bytes w32 (sequence_of (take (length bytes - 4) bytes))))
     (false_from_ne_true (nat_le 4 (length bytes)) (λ e. absurd (omega (arith, leb-true 4 (length bytes) e))))
 
-IsBytes-take : (n : ℕ) (bytes : List ℕ) → IsBytes bytes → IsBytes (take n bytes)
+pub IsBytes-take : (n : ℕ) (bytes : List ℕ) → IsBytes bytes → IsBytes (take n bytes)
 IsBytes-take zero bytes h i = omega arith
 IsBytes-take (suc n) [] h i = omega arith
 IsBytes-take (suc n) (b ∷ bytes) h zero = h 0
