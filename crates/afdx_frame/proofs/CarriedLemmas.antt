@@ -10,10 +10,10 @@ use Rattle.afdx_frame.specs.declared.fault.IpFault.TheVariants.{NotIpv4, BadIpHe
 use Rattle.afdx_frame.specs.Datagrams.{Headers, ip_header, udp_header, Begins, IsRight, IsFragment, Carries, HeaderFault, BodyFault, DatagramFault, words, ones_sum}
 use Rattle.afdx_frame.specs.Parts.{FrameParts, word_at, type_of_frame, body_of_frame, IsFrameOf, AreAtPlaces}
 use Rattle.afdx_frame.specs.Carried.{Carried, total_length, is_right_header, is_whole, is_udp, is_right_udp_length, carried_in_body, carried_by, DatagramIsComputed}
-use Rattle.afdx_frame.proofs.Registers.{IsBytes}
+use Rattle.afdx_frame.specs.Sealing.{AreBytes}
 use Rattle.afdx_frame.proofs.DatagramLemmas.{headers_of, RightAt, right_at, at_right, fault, carries}
 use Rattle.afdx_frame.proofs.SoundLemmas.{SameFields, same_headers, same_right, length-ip_header, datagrams_are_sound}
-use Rattle.afdx_frame.proofs.PartsLemmas.{at_places, IsBytes-body}
+use Rattle.afdx_frame.proofs.PartsLemmas.{at_places, AreBytes-body}
 
 -- ---- the tests, one after another
 
@@ -51,7 +51,7 @@ wrong_length n t h = elim (eqb_tells (n + 20) t) [
 refuted : {P : Type 0} (t : Bool) → t ≡ false → Decides t P → P → ⊥
 refuted t e d p = let yes : t ≡ true = d.1 p in absurd cc
 
-steps : (body : List ℕ) (header whole udp fits : Bool) → IsBytes body → 28 ≤ length body → Decides header (RightAt body (total_length body)) → Decides whole (word_at body 6 % 2 ^ 14 ≡ 0)
+steps : (body : List ℕ) (header whole udp fits : Bool) → AreBytes body → 28 ≤ length body → Decides header (RightAt body (total_length body)) → Decides whole (word_at body 6 % 2 ^ 14 ≡ 0)
     → Decides udp (get_or body 9 0 ≡ 17) → Decides fits (FitsTotal body)
     → MatchResult (if not header then Err BadIpHeader
     else (if not whole then Err Fragment
@@ -66,7 +66,7 @@ steps body true true true false h l dh dw du df =
 steps body true true true true h l dh dw du df =
     carries body (total_length body) (word_at body 20) (word_at body 22) h l refl (dh.0 refl) (dw.0 refl) (du.0 refl) (df.0 refl).0 (df.0 refl).1 refl refl
 
-pub body_exact : (body : List ℕ) → IsBytes body → 28 ≤ length body → MatchResult (carried_in_body body) (IsCarried body) (BodyFault body)
+pub body_exact : (body : List ℕ) → AreBytes body → 28 ≤ length body → MatchResult (carried_in_body body) (IsCarried body) (BodyFault body)
 unfolding carried_in_body
 body_exact body h l =
     steps body (is_right_header body) (is_whole body) (is_udp body) (is_right_udp_length body) h l (header-Decides body) (Decides-eqb (word_at body 6 % 2 ^ 14) 0) (Decides-eqb (get_or body 9 0) 17) (udp_length-Decides body)
@@ -148,10 +148,10 @@ the_fault : (body : List ℕ) (e : IpFault) (r : Result Carried IpFault) → Mat
 the_fault body e (Ok d) m w = absurd (not_both body d e m w)
 the_fault body e (Err f) m w = ap Err (one_body_fault body f e m w)
 
-pub computed_carried : (body : List ℕ) (c : Carried) → IsBytes body → 28 ≤ length body → IsCarried body c → carried_in_body body ≡ Ok c
+pub computed_carried : (body : List ℕ) (c : Carried) → AreBytes body → 28 ≤ length body → IsCarried body c → carried_in_body body ≡ Ok c
 computed_carried body c h l is = the_carried body c (carried_in_body body) (body_exact body h l) is
 
-pub computed_fault : (body : List ℕ) (e : IpFault) → IsBytes body → 28 ≤ length body → BodyFault body e → carried_in_body body ≡ Err e
+pub computed_fault : (body : List ℕ) (e : IpFault) → AreBytes body → 28 ≤ length body → BodyFault body e → carried_in_body body ≡ Err e
 computed_fault body e h l w = the_fault body e (carried_in_body body) (body_exact body h l) w
 
 -- ---- in a frame
@@ -188,20 +188,20 @@ with_kind : (p : FrameParts) (r : Result Carried IpFault) → p.kind ≡ 0x0800 
 with_kind p (Ok c) k m = (k, m)
 with_kind p (Err e) k m = in_body p e k m
 
-pub datagram_exact : (bytes : List ℕ) (p : FrameParts) → IsBytes bytes → IsFrameOf bytes p → MatchResult (carried_by bytes) (IsIn p) (DatagramFault p.kind p.body)
+pub datagram_exact : (bytes : List ℕ) (p : FrameParts) → AreBytes bytes → IsFrameOf bytes p → MatchResult (carried_by bytes) (IsIn p) (DatagramFault p.kind p.body)
 datagram_exact bytes p h f = elim (eqb_tells p.kind 0x0800) [
   | inl eq ↦ subst (λ (r : Result Carried IpFault). MatchResult r (IsIn p) (DatagramFault p.kind p.body)) (sym (carried_by-ipv4 bytes p f eq.1))
-      (with_kind p (carried_in_body p.body) eq.1 (body_exact p.body (IsBytes-body bytes p h f) (room bytes p f)))
+      (with_kind p (carried_in_body p.body) eq.1 (body_exact p.body (AreBytes-body bytes p h f) (room bytes p f)))
   | inr other ↦ subst (λ (r : Result Carried IpFault). MatchResult r (IsIn p) (DatagramFault p.kind p.body)) (sym (carried_by-other bytes p f other.1)) other.1
 ]
 
-pub in_frame-carried : (bytes : List ℕ) (p : FrameParts) (c : Carried) → IsBytes bytes → IsFrameOf bytes p → IsIn p c → carried_by bytes ≡ Ok c
-in_frame-carried bytes p c h f m = carried_by-ipv4 bytes p f m.0 ∙ computed_carried p.body c (IsBytes-body bytes p h f) (room bytes p f) m.1
+pub in_frame-carried : (bytes : List ℕ) (p : FrameParts) (c : Carried) → AreBytes bytes → IsFrameOf bytes p → IsIn p c → carried_by bytes ≡ Ok c
+in_frame-carried bytes p c h f m = carried_by-ipv4 bytes p f m.0 ∙ computed_carried p.body c (AreBytes-body bytes p h f) (room bytes p f) m.1
 
-in_frame-body : (bytes : List ℕ) (p : FrameParts) (e : IpFault) → IsBytes bytes → IsFrameOf bytes p → p.kind ≡ 0x0800 → BodyFault p.body e → carried_by bytes ≡ Err e
-in_frame-body bytes p e h f k w = carried_by-ipv4 bytes p f k ∙ computed_fault p.body e (IsBytes-body bytes p h f) (room bytes p f) w
+in_frame-body : (bytes : List ℕ) (p : FrameParts) (e : IpFault) → AreBytes bytes → IsFrameOf bytes p → p.kind ≡ 0x0800 → BodyFault p.body e → carried_by bytes ≡ Err e
+in_frame-body bytes p e h f k w = carried_by-ipv4 bytes p f k ∙ computed_fault p.body e (AreBytes-body bytes p h f) (room bytes p f) w
 
-pub in_frame-fault : (bytes : List ℕ) (p : FrameParts) (e : IpFault) → IsBytes bytes → IsFrameOf bytes p → DatagramFault p.kind p.body e → carried_by bytes ≡ Err e
+pub in_frame-fault : (bytes : List ℕ) (p : FrameParts) (e : IpFault) → AreBytes bytes → IsFrameOf bytes p → DatagramFault p.kind p.body e → carried_by bytes ≡ Err e
 in_frame-fault bytes p NotIpv4 h f w = carried_by-other bytes p f w
 in_frame-fault bytes p BadIpHeader h f w = in_frame-body bytes p BadIpHeader h f w.0 w.1
 in_frame-fault bytes p Fragment h f w = in_frame-body bytes p Fragment h f w.0 w.1

@@ -5,8 +5,8 @@ use Rattle.std.specs.Int.{w16, to_be_bytes}
 use Rattle.std.proofs.lemmas.Bool.Decides.{Decides-eqb}
 use Rattle.afdx_frame.specs.declared.link.VlId.{VlId}
 use Rattle.afdx_frame.specs.Layout.{IsTo, link_named_by, LinkIsComputed}
+use Rattle.afdx_frame.specs.Sealing.{AreBytes}
 use Rattle.afdx_frame.proofs.LayoutLemmas.{is_to}
-use Rattle.afdx_frame.proofs.Registers.{IsBytes}
 
 id_of : ℕ → VlId
 id_of n = record { 0 = n }
@@ -25,7 +25,7 @@ by_test : (t : Bool) (x : VlId) (vl : VlId) → (if t then Some x else None) ≡
 by_test true x vl h = (refl, cc)
 by_test false x vl h = cc
 
-named : (bytes : List ℕ) (vl : VlId) → IsBytes bytes → link_named_by bytes ≡ Some vl → IsTo bytes vl.0
+named : (bytes : List ℕ) (vl : VlId) → AreBytes bytes → link_named_by bytes ≡ Some vl → IsTo bytes vl.0
 unfolding id_of
 named [] vl h e = cc
 named (a ∷ []) vl h e = cc

@@ -11,11 +11,11 @@ use Rattle.afdx_frame.specs.declared.link.VlId.{VlId}
 use Rattle.afdx_frame.specs.declared.fault.MacFault.{MacFault}
 use Rattle.afdx_frame.specs.declared.fault.MacFault.TheVariants.{TooShort, TooLong, BadFcs, BadAddress}
 use Rattle.afdx_frame.specs.Sequence.{IsSealed}
-use Rattle.afdx_frame.specs.Sealing.{is_sealed}
+use Rattle.afdx_frame.specs.Sealing.{is_sealed, AreBytes}
 use Rattle.afdx_frame.specs.Layout.{IsTo, IsFrame, FrameFault, link_named_by, unsealed}
 use Rattle.afdx_frame.specs.Parts.{FrameParts, word_at, type_of_frame, body_of_frame, number_of_frame, frame_with, frame_of, IsFrameOf, AreAtPlaces, FrameIsComputed}
-use Rattle.afdx_frame.proofs.Registers.{IsBytes, IsBytes-drop}
-use Rattle.afdx_frame.proofs.SealingLemmas.{is_sealed-decides, IsBytes-take}
+use Rattle.afdx_frame.proofs.Registers.{AreBytes-drop}
+use Rattle.afdx_frame.proofs.SealingLemmas.{is_sealed-decides, AreBytes-take}
 use Rattle.afdx_frame.proofs.LayoutLemmas.{is_frame}
 use Rattle.afdx_frame.proofs.LinkLemmas.{link_is_computed}
 use Rattle.afdx_frame.proofs.SoundLemmas.{frames_are_sound}
@@ -95,8 +95,8 @@ same_parts bytes p q a b =
     ∙ ap₂ (λ (body : List ℕ) (number : ℕ). parts q.link q.kind body number) (a.body ∙ sym b.body) (a.number ∙ sym b.number)
 
 -- the body of bytes are bytes
-pub IsBytes-body : (bytes : List ℕ) (p : FrameParts) → IsBytes bytes → IsFrameOf bytes p → IsBytes p.body
-IsBytes-body bytes p h f = subst IsBytes (sym (at_places bytes p f).body) (IsBytes-take (length bytes - 19) (drop 14 bytes) (IsBytes-drop 14 bytes h))
+pub AreBytes-body : (bytes : List ℕ) (p : FrameParts) → AreBytes bytes → IsFrameOf bytes p → AreBytes p.body
+AreBytes-body bytes p h f = subst AreBytes (sym (at_places bytes p f).body) (AreBytes-take (length bytes - 19) (drop 14 bytes) (AreBytes-drop 14 bytes h))
 
 -- ---- what is computed
 
@@ -106,7 +106,7 @@ at_least a n m e d = elim (cases_lt n m) [ inl lt ↦ let yes : a ≡ true = d.1
 no_link : (bytes : List ℕ) → None ≡ link_named_by bytes → (vl : ℕ) → IsTo bytes vl → ⊥
 no_link bytes none vl to = let some = link_is_computed.only_one bytes vl to in absurd cc
 
-steps : (bytes : List ℕ) (a b s : Bool) (l : Option VlId) → IsBytes bytes → Decides a (length bytes < 64) → Decides b (1518 < length bytes) → Decides s (IsSealed bytes) → l ≡ link_named_by bytes
+steps : (bytes : List ℕ) (a b s : Bool) (l : Option VlId) → AreBytes bytes → Decides a (length bytes < 64) → Decides b (1518 < length bytes) → Decides s (IsSealed bytes) → l ≡ link_named_by bytes
     → MatchResult (if a then Err TooShort else (if b then Err TooLong else (if not s then Err BadFcs else frame_with bytes l))) (IsFrameOf bytes) (FrameFault bytes)
 steps bytes true b s l h da db ds e = da.0 refl
 steps bytes false true s l h da db ds e = db.0 refl
@@ -116,7 +116,7 @@ steps bytes false false true (Some vl) h da db ds e =
     is_frame bytes vl.0 (type_of_frame bytes) (number_of_frame bytes) (body_of_frame bytes) h (at_least false (length bytes) 64 refl da) (at_least false 1518 (length bytes) refl db) (ds.0 refl)
     (link_is_computed.named bytes vl h (sym e)) (omega (arith, h 12, h 13)) refl (ap (λ (n : ℕ). take n (drop 14 bytes)) (omega arith)) refl
 
-pub frame_exact : (bytes : List ℕ) → IsBytes bytes → MatchResult (frame_of bytes) (IsFrameOf bytes) (FrameFault bytes)
+pub frame_exact : (bytes : List ℕ) → AreBytes bytes → MatchResult (frame_of bytes) (IsFrameOf bytes) (FrameFault bytes)
 unfolding frame_of
 frame_exact bytes h = steps bytes _ _ (is_sealed bytes) (link_named_by bytes) h (Decides-ltb (length bytes) 64) (Decides-ltb 1518 (length bytes)) (is_sealed-decides bytes h) refl
 
@@ -147,10 +147,10 @@ the_fault : (bytes : List ℕ) (e : MacFault) (r : Result FrameParts MacFault) �
 the_fault bytes e (Ok q) m f = absurd (frames_are_sound bytes q.body q.link.0 q.kind q.number e m f)
 the_fault bytes e (Err g) m f = ap Err (one_fault bytes g e m f)
 
-pub computed_frame : (bytes : List ℕ) (p : FrameParts) → IsBytes bytes → IsFrameOf bytes p → frame_of bytes ≡ Ok p
+pub computed_frame : (bytes : List ℕ) (p : FrameParts) → AreBytes bytes → IsFrameOf bytes p → frame_of bytes ≡ Ok p
 computed_frame bytes p h f = the_frame bytes p (frame_of bytes) (frame_exact bytes h) f
 
-pub computed_fault : (bytes : List ℕ) (e : MacFault) → IsBytes bytes → FrameFault bytes e → frame_of bytes ≡ Err e
+pub computed_fault : (bytes : List ℕ) (e : MacFault) → AreBytes bytes → FrameFault bytes e → frame_of bytes ≡ Err e
 computed_fault bytes e h f = the_fault bytes e (frame_of bytes) (frame_exact bytes h) f
 
 pub frame_is_computed : FrameIsComputed

@@ -10,7 +10,7 @@ use Rattle.afdx_frame.specs.Grammar.{Read}
 use Rattle.afdx_frame.specs.Parts.{FrameParts, frame_of, IsFrameOf}
 use Rattle.afdx_frame.specs.Carried.{Carried, carried_in, carried_in_body, carried_by}
 use Rattle.afdx_frame.specs.Reading.{Reads, NoneRead, ReadingIsComputed}
-use Rattle.afdx_frame.proofs.Registers.{IsBytes}
+use Rattle.afdx_frame.specs.Sealing.{AreBytes}
 use Rattle.afdx_frame.proofs.PartsLemmas.{frame_is_computed, same_parts, at_places}
 use Rattle.afdx_frame.proofs.SoundLemmas.{datagrams_are_sound}
 use Rattle.afdx_frame.proofs.CarriedLemmas.{IsCarried, in_body, carried_by-ipv4, datagram_is_computed}
