@@ -12,11 +12,14 @@ use Rattle.afdx_frame.specs.Carried.{Carried, carried_in, carried_in_body, carri
 use Rattle.afdx_frame.specs.Reading.{Reads, NoneRead, ReadingIsComputed}
 use Rattle.afdx_frame.specs.Sealing.{AreBytes}
 use Rattle.afdx_frame.proofs.PartsLemmas.{frame_is_computed, same_parts, at_places}
-use Rattle.afdx_frame.proofs.SoundLemmas.{datagrams_are_sound}
+use Rattle.afdx_frame.proofs.SoundLemmas.{frames_are_sound, datagrams_are_sound}
 use Rattle.afdx_frame.proofs.CarriedLemmas.{IsCarried, in_body, carried_by-ipv4, datagram_is_computed}
 
 pub reads : (bytes : List ℕ) (p : FrameParts) (c : Carried) → IsFrameOf bytes p → p.kind ≡ 0x0800 → IsCarried p.body c → Reads bytes p c
 reads bytes p c f k m = record { body = p.body; frame = subst (λ (kind : ℕ). IsFrame bytes p.link.0 kind p.body p.number) k f; datagram = m }
+
+pub unframed : (bytes : List ℕ) (e : MacFault) → FrameFault bytes e → NoneRead bytes
+unframed bytes e w vl from_port to_port number payload r = frames_are_sound bytes r.body vl 0x0800 number e r.frame w
 
 the_parts : (bytes : List ℕ) (vl from_port to_port number : ℕ) (payload : List ℕ) → Read bytes vl from_port to_port payload number → FrameParts
 the_parts bytes vl from_port to_port number payload r = record { link = record { 0 = vl }; kind = 0x0800; body = r.body; number = number }
