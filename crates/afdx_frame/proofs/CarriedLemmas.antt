@@ -1,5 +1,5 @@
 -- What is computed of a frame's datagram is what its body carries, or its first fault.
-use Rattle.std.proofs.Common.{◌≡◌, ◌≢◌, ◌⊎◌, ℕ, ◌+◌, ◌-◌, ◌*◌, ◌%◌, ◌^◌, ◌<◌, ◌≤◌, inl, inr, Bool, true, false, List, [], ◌∷◌, ◌++◌, length, take, drop, get_or, refl, sym, ap, ap₂, subst, ◌∙◌, arith, append_assoc}
+use Rattle.std.proofs.Common.{◌≡◌, ◌≢◌, ◌⊎◌, ℕ, ◌+◌, ◌-◌, ◌%◌, ◌^◌, ◌≤◌, inl, inr, Bool, true, false, List, ◌++◌, length, take, drop, get_or, refl, sym, ap, ap₂, subst, ◌∙◌, arith}
 use Rattle.std.specs.Prelude.{◌==◌, ◌&&◌, not, nat_le, if◌then◌else◌, Result, Ok, Err, MatchResult}
 use Rattle.std.specs.Bool.{Decides}
 use Rattle.std.proofs.lemmas.Bool.{le-leb, leb-true}
@@ -7,11 +7,11 @@ use Rattle.std.proofs.lemmas.Bool.Decides.{Decides-eqb, Decides-and, Decides-not
 use Rattle.std.proofs.lemmas.List.{take_at, drop_at, length-append}
 use Rattle.afdx_frame.specs.declared.fault.IpFault.{IpFault}
 use Rattle.afdx_frame.specs.declared.fault.IpFault.TheVariants.{NotIpv4, BadIpHeader, Fragment, NotUdp, BadUdpLength}
-use Rattle.afdx_frame.specs.Datagrams.{Headers, ip_header, udp_header, Begins, IsRight, IsFragment, Carries, HeaderFault, BodyFault, DatagramFault, words, ones_sum}
-use Rattle.afdx_frame.specs.Parts.{FrameParts, word_at, type_of_frame, body_of_frame, IsFrameOf, AreAtPlaces}
+use Rattle.afdx_frame.specs.Datagrams.{Headers, ip_header, udp_header, Begins, Carries, HeaderFault, BodyFault, DatagramFault, words, ones_sum}
+use Rattle.afdx_frame.specs.Parts.{FrameParts, word_at, IsFrameOf}
 use Rattle.afdx_frame.specs.Carried.{Carried, total_length, is_right_header, is_whole, is_udp, is_right_udp_length, carried_in_body, carried_by, DatagramIsComputed}
 use Rattle.afdx_frame.specs.Sealing.{AreBytes}
-use Rattle.afdx_frame.proofs.DatagramLemmas.{headers_of, RightAt, right_at, at_right, fault, carries}
+use Rattle.afdx_frame.proofs.DatagramLemmas.{RightAt, right_at, at_right, fault, carries}
 use Rattle.afdx_frame.proofs.SoundLemmas.{SameFields, same_headers, same_right, length-ip_header, datagrams_are_sound}
 use Rattle.afdx_frame.proofs.PartsLemmas.{at_places, AreBytes-body}
 

@@ -1,7 +1,7 @@
 -- The parts of a frame stand at their places, and what is computed of bytes is the frame or the fault that the layout gives.
 use Rattle.std.proofs.Common.{◌≡◌, ℕ, ◌+◌, ◌-◌, ◌*◌, ◌/◌, ◌%◌, ◌<◌, ◌≤◌, inl, inr, Bool, true, false, List, [], ◌∷◌, ◌++◌, length, take, drop, get_or, refl, sym, ap, ap₂, subst, ◌∙◌, arith, append_assoc}
 use Rattle.std.specs.Prelude.{not, if◌then◌else◌, Option, Some, None, Result, Ok, Err, MatchResult}
-use Rattle.std.specs.Int.{w16, w32, to_be_bytes, to_le_bytes}
+use Rattle.std.specs.Int.{w32, to_le_bytes}
 use Rattle.std.specs.Bool.{Decides}
 use Rattle.std.proofs.lemmas.Bool.{cases_lt}
 use Rattle.std.proofs.lemmas.Bool.Decides.{Decides-ltb}
@@ -13,7 +13,7 @@ use Rattle.afdx_frame.specs.declared.fault.MacFault.TheVariants.{TooShort, TooLo
 use Rattle.afdx_frame.specs.Sequence.{IsSealed}
 use Rattle.afdx_frame.specs.Sealing.{is_sealed, AreBytes}
 use Rattle.afdx_frame.specs.Layout.{IsTo, IsFrame, FrameFault, link_named_by, unsealed}
-use Rattle.afdx_frame.specs.Parts.{FrameParts, word_at, type_of_frame, body_of_frame, number_of_frame, frame_with, frame_of, IsFrameOf, AreAtPlaces, FrameIsComputed}
+use Rattle.afdx_frame.specs.Parts.{FrameParts, type_of_frame, body_of_frame, number_of_frame, frame_with, frame_of, IsFrameOf, AreAtPlaces, FrameIsComputed}
 use Rattle.afdx_frame.proofs.Registers.{AreBytes-drop}
 use Rattle.afdx_frame.proofs.SealingLemmas.{is_sealed-decides, AreBytes-take}
 use Rattle.afdx_frame.proofs.LayoutLemmas.{is_frame}

@@ -7,10 +7,9 @@ use Rattle.afdx_frame.specs.Layout.{IsFrame, FrameFault}
 use Rattle.afdx_frame.specs.declared.datagram.Datagram.{Datagram}
 use Rattle.afdx_frame.specs.Datagrams.{Carries, BodyFault, DatagramFault}
 use Rattle.afdx_frame.specs.Grammar.{Read}
-use Rattle.afdx_frame.specs.Parts.{FrameParts, frame_of, IsFrameOf}
+use Rattle.afdx_frame.specs.Parts.{FrameParts, IsFrameOf}
 use Rattle.afdx_frame.specs.Carried.{Carried, carried_in, carried_in_body, carried_by}
 use Rattle.afdx_frame.specs.Reading.{Reads, NoneRead, ReadingIsComputed}
-use Rattle.afdx_frame.specs.Sealing.{AreBytes}
 use Rattle.afdx_frame.proofs.PartsLemmas.{frame_is_computed, same_parts, at_places}
 use Rattle.afdx_frame.proofs.SoundLemmas.{frames_are_sound, datagrams_are_sound}
 use Rattle.afdx_frame.proofs.CarriedLemmas.{IsCarried, in_body, carried_by-ipv4, datagram_is_computed}
@@ -38,8 +37,7 @@ reading_is_computed = record {
       let f : IsFrameOf bytes p = (frame_is_computed.frame bytes p h).0 e in
       let m : (p.kind ≡ 0x0800) × IsCarried p.body c = (datagram_is_computed.carried bytes p c h f).0 d in reads bytes p c f m.0 m.1;
   only_one = λ bytes vl from_port to_port number payload h r.
-      let q : FrameParts = the_parts bytes vl from_port to_port number payload r in
-      (
+      let q : FrameParts = the_parts bytes vl from_port to_port number payload r in (
         q,
         (frame_is_computed.frame bytes q h).1 r.frame,
         refl,

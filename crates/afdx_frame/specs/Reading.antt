@@ -1,5 +1,5 @@
 -- What a receiver reads in bytes, from the bytes alone.
-use Rattle.std.specs.Prelude.{◌≡◌, ℕ, ◌↔◌, Result, Ok, List}
+use Rattle.std.specs.Prelude.{◌≡◌, ℕ, Ok, List}
 use Rattle.afdx_frame.specs.Sealing.{AreBytes}
 use Rattle.afdx_frame.specs.Grammar.{Read}
 use Rattle.afdx_frame.specs.Parts.{FrameParts, frame_of}

@@ -1,4 +1,4 @@
-use Rattle.std.proofs.Common.{◌≡◌, ◌∙◌, ℕ, List, sym, ap, subst}
+use Rattle.std.proofs.Common.{◌∙◌, ℕ, List, sym, subst}
 use Rattle.afdx_frame.specs.declared.fault.IpFault.TheVariants.{NotIpv4}
 use Rattle.afdx_frame.specs.Parts.{parts_of}
 use Rattle.afdx_frame.proofs.CarriedLemmas.{carried_by-other}

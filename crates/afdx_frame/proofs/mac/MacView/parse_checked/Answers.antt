@@ -1,7 +1,5 @@
-use Rattle.std.proofs.Common.{◌≡◌, ◌∙◌, true, false, arith, refl, sym}
+use Rattle.std.proofs.Common.{◌∙◌, arith, refl, sym}
 use Rattle.afdx_frame.specs.declared.fault.MacFault.TheVariants.{TooShort, TooLong, BadFcs, BadAddress}
-use Rattle.afdx_frame.specs.Layout.{FrameFault}
-use Rattle.afdx_frame.specs.Sequence.{IsSealed}
 use Rattle.afdx_frame.proofs.SealingLemmas.{is_sealed-decides}
 use Rattle.afdx_frame.proofs.LayoutLemmas.{is_frame}
 use Rattle.afdx_frame.proofs.PartsLemmas.{computed_frame, computed_fault}
