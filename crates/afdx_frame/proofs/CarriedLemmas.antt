@@ -42,13 +42,13 @@ udp_length-Decides body =
     (Decides-not (word_at body 24 == 8) (Decides-eqb (word_at body 24) 8))
 
 -- where the UDP length is wrong, one of its two conditions is
-wrong_length : (n t : ℕ) → (((n + 20 ≡ t) × (n ≡ 8 → ⊥)) → ⊥) → (n + 20 ≢ t) ⊎ (n ≡ 8)
+pub wrong_length : (n t : ℕ) → (((n + 20 ≡ t) × (n ≡ 8 → ⊥)) → ⊥) → (n + 20 ≢ t) ⊎ (n ≡ 8)
 wrong_length n t h = elim (eqb_tells (n + 20) t) [
   | inr ne ↦ inl ne.1
   | inl eq ↦ elim (eqb_tells n 8) [ inl e ↦ inr e.1 | inr ne ↦ absurd (h (eq.1, ne.1)) ]
 ]
 
-refuted : {P : Type 0} (t : Bool) → t ≡ false → Decides t P → P → ⊥
+pub refuted : {P : Type 0} (t : Bool) → t ≡ false → Decides t P → P → ⊥
 refuted t e d p = let yes : t ≡ true = d.1 p in absurd cc
 
 steps : (body : List ℕ) (header whole udp fits : Bool) → AreBytes body → 28 ≤ length body → Decides header (RightAt body (total_length body)) → Decides whole (word_at body 6 % 2 ^ 14 ≡ 0)
