@@ -1,7 +1,9 @@
--- What a receiver reads in bytes, from the bytes alone.
-use Rattle.std.specs.Prelude.{◌≡◌, ℕ, Ok, List}
+-- What a receiver reads in bytes, from the bytes alone, and what it reads in what was built.
+use Rattle.std.specs.Prelude.{◌≡◌, ℕ, ◌<◌, ◌^◌, Ok, List, length}
+use Rattle.afdx_frame.specs.declared.link.Side.{Side}
+use Rattle.afdx_frame.specs.declared.builder.Address.{Address}
 use Rattle.afdx_frame.specs.Sealing.{AreBytes}
-use Rattle.afdx_frame.specs.Grammar.{Read}
+use Rattle.afdx_frame.specs.Grammar.{Read, Built, Buildable, built_length, built_body, built_frame}
 use Rattle.afdx_frame.specs.Parts.{FrameParts, frame_of}
 use Rattle.afdx_frame.specs.Carried.{Carried, carried_by}
 
@@ -19,3 +21,16 @@ pub record ReadingIsComputed : Type 0 where
   pub only_one : (bytes : List ℕ) (vl from_port to_port number : ℕ) (payload : List ℕ) → AreBytes bytes → Read bytes vl from_port to_port payload number →
       (p : FrameParts) × (frame_of bytes ≡ Ok p) × (p.link ≡ record { 0 = vl }) × (p.number ≡ number)
       × (carried_by bytes ≡ Ok (record { from_port = from_port; to_port = to_port; payload = payload }))
+
+-- the bytes are the one frame that the builder gives, and they are read as what it was given
+pub record IsTheFrame (a : Address) (number : ℕ) (side : Side) (p frame : List ℕ) : Type 0 where
+  pub built : Built a number side p frame
+  pub only_one : (other : List ℕ) → Built a number side p other → other ≡ frame
+  pub bytes : AreBytes frame
+  pub long : length frame ≡ built_length a (length p)
+  pub parts : frame_of frame ≡ Ok (record { link = a.vl; kind = 0x0800; body = built_body a p; number = number })
+  pub carried : carried_by frame ≡ Ok (record { from_port = a.from_udp; to_port = a.to_udp; payload = p })
+
+-- the frame that is computed is the one that is built
+abbrev pub BuiltIsComputed : Type 0
+BuiltIsComputed = (a : Address) (number : ℕ) (side : Side) (p : List ℕ) → Buildable a p → AreBytes p → number < 2 ^ 8 → IsTheFrame a number side p (built_frame a number side p)
