@@ -2,7 +2,7 @@ use Rattle.std.proofs.Common.{◌∙◌, arith, refl, sym}
 use Rattle.afdx_frame.specs.declared.fault.MacFault.TheVariants.{TooShort, TooLong, BadFcs, BadAddress}
 use Rattle.afdx_frame.proofs.SealingLemmas.{is_sealed-decides}
 use Rattle.afdx_frame.proofs.LayoutLemmas.{is_frame}
-use Rattle.afdx_frame.proofs.PartsLemmas.{computed_frame, computed_fault}
+use Rattle.afdx_frame.proofs.PartsLemmas.{at_places, computed_frame, computed_fault}
 use Rattle.afdx_frame.proofs.ReadingLemmas.{unframed}
 use Rattle.afdx_frame.proofs.mac.MacView.parse_checked.Goals as goal
 
@@ -40,6 +40,9 @@ pub returns-clause-ok : goal.returns-clause-ok
 returns-clause-ok c =
     is_frame c.args.bytes.now c.in-Some.vl.0 c.from_be_bytes.result _ _ (λ i. omega (arith, c.type_inv.bytes i)) (omega arith) (omega arith)
     ((is_sealed-decides c.args.bytes.now (λ i. omega (arith, c.type_inv.bytes i))).0 (sym c.requires ∙ c.if-not-sealed.false)) c.in-Some.ensures.some (omega arith) c.from_be_bytes.ensures refl refl
+
+pub returns-clause-at_places : goal.returns-clause-at_places
+returns-clause-at_places c = at_places c.args.bytes.now _ (returns-clause-ok c)
 
 pub returns-clause-computed : goal.returns-clause-computed
 returns-clause-computed c = computed_frame c.args.bytes.now _ (λ i. omega (arith, c.type_inv.bytes i)) (returns-clause-ok c)
