@@ -9,7 +9,7 @@ use Rattle.afdx_frame.specs.declared.fault.IpFault.{IpFault}
 use Rattle.afdx_frame.specs.declared.fault.IpFault.TheVariants.{NotIpv4, BadIpHeader, Fragment, NotUdp, BadUdpLength}
 use Rattle.afdx_frame.specs.Datagrams.{Headers, ip_header, udp_header, Begins, Carries, HeaderFault, BodyFault, DatagramFault, words, ones_sum}
 use Rattle.afdx_frame.specs.Parts.{FrameParts, word_at, IsFrameOf}
-use Rattle.afdx_frame.specs.Carried.{Carried, total_length, is_right_header, is_whole, is_udp, is_right_udp_length, carried_in_body, carried_by, DatagramIsComputed}
+use Rattle.afdx_frame.specs.Carried.{Carried, total_length, is_right_header, is_whole, is_udp, is_right_udp_length, carried_in_body, carried_by, FrameCarries, DatagramIsComputed}
 use Rattle.afdx_frame.specs.Sealing.{AreBytes}
 use Rattle.afdx_frame.proofs.DatagramLemmas.{RightAt, right_at, at_right, fault, carries}
 use Rattle.afdx_frame.proofs.SoundLemmas.{SameFields, same_headers, same_right, length-ip_header, datagrams_are_sound}
@@ -171,9 +171,6 @@ pub carried_by-other : (bytes : List ℕ) (p : FrameParts) → IsFrameOf bytes p
 unfolding carried_with
 carried_by-other bytes p f ne = by_parts bytes p f ∙ elim (eqb_tells p.kind 0x0800) [ inl eq ↦ absurd (ne eq.1) | inr other ↦ ap (λ (t : Bool). if t then carried_in_body p.body else Err NotIpv4) other.0 ]
 
-abbrev IsIn : FrameParts → Carried → Type 0
-IsIn p c = (p.kind ≡ 0x0800) × IsCarried p.body c
-
 room : (bytes : List ℕ) (p : FrameParts) → IsFrameOf bytes p → 28 ≤ length p.body
 room bytes p f = omega (arith, (at_places bytes p f).long, f.least)
 
@@ -184,18 +181,18 @@ in_body p Fragment k w = (k, w)
 in_body p NotUdp k w = (k, w)
 in_body p BadUdpLength k w = (k, w)
 
-with_kind : (p : FrameParts) (r : Result Carried IpFault) → p.kind ≡ 0x0800 → MatchResult r (IsCarried p.body) (BodyFault p.body) → MatchResult r (IsIn p) (DatagramFault p.kind p.body)
+with_kind : (p : FrameParts) (r : Result Carried IpFault) → p.kind ≡ 0x0800 → MatchResult r (IsCarried p.body) (BodyFault p.body) → MatchResult r (FrameCarries p) (DatagramFault p.kind p.body)
 with_kind p (Ok c) k m = (k, m)
 with_kind p (Err e) k m = in_body p e k m
 
-pub datagram_exact : (bytes : List ℕ) (p : FrameParts) → AreBytes bytes → IsFrameOf bytes p → MatchResult (carried_by bytes) (IsIn p) (DatagramFault p.kind p.body)
+pub datagram_exact : (bytes : List ℕ) (p : FrameParts) → AreBytes bytes → IsFrameOf bytes p → MatchResult (carried_by bytes) (FrameCarries p) (DatagramFault p.kind p.body)
 datagram_exact bytes p h f = elim (eqb_tells p.kind 0x0800) [
-  | inl eq ↦ subst (λ (r : Result Carried IpFault). MatchResult r (IsIn p) (DatagramFault p.kind p.body)) (sym (carried_by-ipv4 bytes p f eq.1))
+  | inl eq ↦ subst (λ (r : Result Carried IpFault). MatchResult r (FrameCarries p) (DatagramFault p.kind p.body)) (sym (carried_by-ipv4 bytes p f eq.1))
       (with_kind p (carried_in_body p.body) eq.1 (body_exact p.body (AreBytes-body bytes p h f) (room bytes p f)))
-  | inr other ↦ subst (λ (r : Result Carried IpFault). MatchResult r (IsIn p) (DatagramFault p.kind p.body)) (sym (carried_by-other bytes p f other.1)) other.1
+  | inr other ↦ subst (λ (r : Result Carried IpFault). MatchResult r (FrameCarries p) (DatagramFault p.kind p.body)) (sym (carried_by-other bytes p f other.1)) other.1
 ]
 
-pub in_frame-carried : (bytes : List ℕ) (p : FrameParts) (c : Carried) → AreBytes bytes → IsFrameOf bytes p → IsIn p c → carried_by bytes ≡ Ok c
+pub in_frame-carried : (bytes : List ℕ) (p : FrameParts) (c : Carried) → AreBytes bytes → IsFrameOf bytes p → FrameCarries p c → carried_by bytes ≡ Ok c
 in_frame-carried bytes p c h f m = carried_by-ipv4 bytes p f m.0 ∙ computed_carried p.body c (AreBytes-body bytes p h f) (room bytes p f) m.1
 
 in_frame-body : (bytes : List ℕ) (p : FrameParts) (e : IpFault) → AreBytes bytes → IsFrameOf bytes p → p.kind ≡ 0x0800 → BodyFault p.body e → carried_by bytes ≡ Err e
@@ -210,6 +207,6 @@ in_frame-fault bytes p BadUdpLength h f w = in_frame-body bytes p BadUdpLength h
 
 pub datagram_is_computed : DatagramIsComputed
 datagram_is_computed = record {
-  carried = λ bytes p c h f. (λ is. subst (λ (r : Result Carried IpFault). MatchResult r (IsIn p) (DatagramFault p.kind p.body)) is (datagram_exact bytes p h f), λ m. in_frame-carried bytes p c h f m);
-  fault = λ bytes p e h f. (λ is. subst (λ (r : Result Carried IpFault). MatchResult r (IsIn p) (DatagramFault p.kind p.body)) is (datagram_exact bytes p h f), λ w. in_frame-fault bytes p e h f w);
+  carried = λ bytes p c h f. (λ is. subst (λ (r : Result Carried IpFault). MatchResult r (FrameCarries p) (DatagramFault p.kind p.body)) is (datagram_exact bytes p h f), λ m. in_frame-carried bytes p c h f m);
+  fault = λ bytes p e h f. (λ is. subst (λ (r : Result Carried IpFault). MatchResult r (FrameCarries p) (DatagramFault p.kind p.body)) is (datagram_exact bytes p h f), λ w. in_frame-fault bytes p e h f w);
 }

@@ -8,7 +8,7 @@ use Rattle.afdx_frame.specs.declared.datagram.Datagram.{Datagram}
 use Rattle.afdx_frame.specs.Datagrams.{Carries, BodyFault, DatagramFault}
 use Rattle.afdx_frame.specs.Grammar.{Read}
 use Rattle.afdx_frame.specs.Parts.{FrameParts, IsFrameOf}
-use Rattle.afdx_frame.specs.Carried.{Carried, carried_in, carried_in_body, carried_by}
+use Rattle.afdx_frame.specs.Carried.{Carried, carried_in, carried_in_body, carried_by, FrameCarries}
 use Rattle.afdx_frame.specs.Reading.{Reads, NoneRead, ReadingIsComputed}
 use Rattle.afdx_frame.proofs.PartsLemmas.{frame_is_computed, same_parts, at_places}
 use Rattle.afdx_frame.proofs.SoundLemmas.{frames_are_sound, datagrams_are_sound}
@@ -35,7 +35,7 @@ unfolding the_parts
 reading_is_computed = record {
   computed = λ bytes p c h e d.
       let f : IsFrameOf bytes p = (frame_is_computed.frame bytes p h).0 e in
-      let m : (p.kind ≡ 0x0800) × IsCarried p.body c = (datagram_is_computed.carried bytes p c h f).0 d in reads bytes p c f m.0 m.1;
+      let m : FrameCarries p c = (datagram_is_computed.carried bytes p c h f).0 d in reads bytes p c f m.0 m.1;
   only_one = λ bytes vl from_port to_port number payload h r.
       let q : FrameParts = the_parts bytes vl from_port to_port number payload r in (
         q,
@@ -54,7 +54,7 @@ IsExact body r = MatchResult r (λ d. Carries body d.from_port d.to_port d.paylo
 abbrev pub IsComputed : List ℕ → Result Datagram IpFault → Type 0
 IsComputed body r = MatchResult r (λ d. carried_in_body body ≡ Ok (carried_in d)) (λ e. carried_in_body body ≡ Err e)
 
-pub shown-ok : (p : FrameParts) (r : Result Datagram IpFault) → p.kind ≡ 0x0800 → IsExact p.body r → IfOk r (λ d. (p.kind ≡ 0x0800) × Carries p.body d.from_port d.to_port d.payload.now)
+pub shown-ok : (p : FrameParts) (r : Result Datagram IpFault) → p.kind ≡ 0x0800 → IsExact p.body r → IfOk r (λ d. FrameCarries p (carried_in d))
 shown-ok p (Ok d) k m = (k, m)
 shown-ok p (Err e) k m = tt
 

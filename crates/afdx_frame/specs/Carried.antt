@@ -53,9 +53,13 @@ carried_in_body body =
 unfoldable pub carried_by : List ℕ → Result Carried IpFault
 carried_by bytes = if type_of_frame bytes == 0x0800 then carried_in_body (body_of_frame bytes) else Err NotIpv4
 
+-- a frame with these parts carries this
+abbrev pub FrameCarries : FrameParts → Carried → Type 0
+FrameCarries p c = (p.kind ≡ 0x0800) × Carries p.body c.from_port c.to_port c.payload
+
 -- what is computed of a frame is what its body carries, or its first fault
 pub record DatagramIsComputed : Type 0 where
   pub carried : (bytes : List ℕ) (p : FrameParts) (c : Carried) → AreBytes bytes → IsFrameOf bytes p →
-      (carried_by bytes ≡ Ok c) ↔ ((p.kind ≡ 0x0800) × Carries p.body c.from_port c.to_port c.payload)
+      (carried_by bytes ≡ Ok c) ↔ FrameCarries p c
   pub fault : (bytes : List ℕ) (p : FrameParts) (fault : IpFault) → AreBytes bytes → IsFrameOf bytes p →
       (carried_by bytes ≡ Err fault) ↔ DatagramFault p.kind p.body fault
