@@ -1,12 +1,11 @@
 -- The link that bytes name.
-use Rattle.std.proofs.Common.{◌≡◌, ℕ, zero, suc, ◌+◌, ◌*◌, ◌/◌, ◌%◌, ◌^◌, ◌<◌, Bool, true, false, List, [], ◌∷◌, ◌++◌, refl, sym, ap, ap₂, subst, ◌∙◌, arith}
-use Rattle.std.specs.Prelude.{◌==◌, ◌&&◌, if◌then◌else◌, Option, Some, None}
-use Rattle.std.specs.Int.{w16, to_be_bytes}
+use Rattle.std.proofs.Common.{◌≡◌, ℕ, ◌+◌, ◌*◌, ◌/◌, ◌%◌, Bool, true, false, List, [], ◌∷◌, refl, ap, subst, ◌∙◌, arith}
+use Rattle.std.specs.Prelude.{◌==◌, ◌&&◌, if◌then◌else◌, Some, None}
 use Rattle.std.proofs.lemmas.Bool.Decides.{Decides-eqb}
 use Rattle.afdx_frame.specs.declared.link.VlId.{VlId}
 use Rattle.afdx_frame.specs.Layout.{IsTo, link_named_by, LinkIsComputed}
+use Rattle.afdx_frame.specs.Sealing.{AreBytes}
 use Rattle.afdx_frame.proofs.LayoutLemmas.{is_to}
-use Rattle.afdx_frame.proofs.Registers.{IsBytes}
 
 id_of : ℕ → VlId
 id_of n = record { 0 = n }
@@ -25,7 +24,7 @@ by_test : (t : Bool) (x : VlId) (vl : VlId) → (if t then Some x else None) ≡
 by_test true x vl h = (refl, cc)
 by_test false x vl h = cc
 
-named : (bytes : List ℕ) (vl : VlId) → IsBytes bytes → link_named_by bytes ≡ Some vl → IsTo bytes vl.0
+named : (bytes : List ℕ) (vl : VlId) → AreBytes bytes → link_named_by bytes ≡ Some vl → IsTo bytes vl.0
 unfolding id_of
 named [] vl h e = cc
 named (a ∷ []) vl h e = cc

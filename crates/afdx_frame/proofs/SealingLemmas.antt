@@ -1,6 +1,6 @@
 -- What computes of a check sequence agrees with the remainder.
-use Rattle.std.proofs.Common.{◌≡◌, ℕ, zero, suc, ◌+◌, ◌-◌, ◌*◌, ◌/◌, ◌%◌, ◌^◌, ◌<◌, ◌≤◌, inl, inr, Bool, true, false, cond, List, [], ◌∷◌, ◌++◌, length, take, drop, get_or, refl, sym, ap, ap₂, subst, ◌∙◌, arith}
-use Rattle.std.specs.Prelude.{bit_xor, ◌==◌, ◌&&◌, nat_le, IsTrue, ◌↔◌}
+use Rattle.std.proofs.Common.{◌≡◌, ℕ, zero, suc, ◌+◌, ◌-◌, ◌*◌, ◌/◌, ◌%◌, ◌^◌, ◌<◌, ◌≤◌, inl, inr, Bool, true, false, cond, List, [], ◌∷◌, ◌++◌, length, take, drop, refl, sym, ap, ap₂, subst, ◌∙◌, arith}
+use Rattle.std.specs.Prelude.{bit_xor, ◌==◌, ◌&&◌, nat_le}
 use Rattle.std.specs.Bool.{Decides}
 use Rattle.std.specs.Str.{bytes_eq}
 use Rattle.std.specs.Int.{w32, to_le_bytes, from_le_bytes}
@@ -8,13 +8,13 @@ use Rattle.std.proofs.Common.{pow-add}
 use Rattle.std.proofs.Math.Nat.{pow-suc}
 use Rattle.std.proofs.Math.Pow.{pow_pos}
 use Rattle.std.proofs.lemmas.Nat.{xor_lt, from_le_bytes-to_le_bytes_4}
-use Rattle.std.proofs.lemmas.Bool.{cases_lt, le-leb, lt-ltb, leb-true, false_from_ne_true}
+use Rattle.std.proofs.lemmas.Bool.{cases_lt, le-leb, leb-true, false_from_ne_true}
 use Rattle.std.proofs.lemmas.Slice.Eq.{bytes_eq-Decides}
 use Rattle.std.proofs.lemmas.List.{take_at, drop_at, length-append}
 use Rattle.afdx_frame.specs.Sequence.{IsSequence, IsSealed}
 use Rattle.afdx_frame.specs.Register.{shifted, shift, number}
 use Rattle.afdx_frame.specs.Sealing.{sequence_of, sealed, sealed_wrongly, is_sealed, AreBytes, SequenceIsComputed, SealingIsComputed}
-use Rattle.afdx_frame.proofs.Registers.{sequence_is, number_lt, IsBytes}
+use Rattle.afdx_frame.proofs.Registers.{sequence_is, number_lt}
 use Rattle.afdx_frame.proofs.OnlyOne.{only_one}
 use Rattle.afdx_frame.proofs.SealedLemmas as last
 
@@ -42,7 +42,7 @@ shift_lt (suc k) j n e h = shift_lt k (32 + k) (shifted n) refl (shifted_lt (32 
     twice = ap (λ (m : ℕ). 2 ^ m) j_is ∙ pow-suc 2 (32 + k)
 
 -- what a message leaves in the register
-pub register_lt : (message : List ℕ) → IsBytes message → shift (8 * length message) (bit_xor 0xffff_ffff (number message)) < 2 ^ 32
+pub register_lt : (message : List ℕ) → AreBytes message → shift (8 * length message) (bit_xor 0xffff_ffff (number message)) < 2 ^ 32
 register_lt message h =
     let long : number message < 2 ^ (32 + 8 * length message) =
     omega (arith, number_lt message h, pow-add 2 32 (8 * length message), pow_pos (8 * length message)) in
@@ -50,7 +50,7 @@ register_lt message h =
     shift_lt (8 * length message) (32 + 8 * length message) (bit_xor 0xffff_ffff (number message)) refl
     (xor_lt (32 + 8 * length message) 0xffff_ffff (number message) ones long)
 
-pub sequence_computed : (message : List ℕ) → IsBytes message → IsSequence message (sequence_of message)
+pub sequence_computed : (message : List ℕ) → AreBytes message → IsSequence message (sequence_of message)
 unfolding sequence_of
 sequence_computed message h =
     sequence_is message (shift (8 * length message) (bit_xor 0xffff_ffff (number message))) (0xffff_ffff - shift (8 * length message) (bit_xor 0xffff_ffff (number message))) h refl (register_lt message h) refl
@@ -77,23 +77,23 @@ is_sealed-short bytes h =
     ap (λ (b : Bool). b && bytes_eq (drop (length bytes - 4) bytes) (to_le_bytes w32 (sequence_of (take (length bytes - 4) bytes))))
     (false_from_ne_true (nat_le 4 (length bytes)) (λ e. absurd (omega (arith, leb-true 4 (length bytes) e))))
 
-IsBytes-take : (n : ℕ) (bytes : List ℕ) → IsBytes bytes → IsBytes (take n bytes)
-IsBytes-take zero bytes h i = omega arith
-IsBytes-take (suc n) [] h i = omega arith
-IsBytes-take (suc n) (b ∷ bytes) h zero = h 0
-IsBytes-take (suc n) (b ∷ bytes) h (suc i) = IsBytes-take n bytes (λ k. h (suc k)) i
+pub AreBytes-take : (n : ℕ) (bytes : List ℕ) → AreBytes bytes → AreBytes (take n bytes)
+AreBytes-take zero bytes h i = omega arith
+AreBytes-take (suc n) [] h i = omega arith
+AreBytes-take (suc n) (b ∷ bytes) h zero = h 0
+AreBytes-take (suc n) (b ∷ bytes) h (suc i) = AreBytes-take n bytes (λ k. h (suc k)) i
 
-pub is_sealed-decides : (bytes : List ℕ) → IsBytes bytes → Decides (is_sealed bytes) (IsSealed bytes)
+pub is_sealed-decides : (bytes : List ℕ) → AreBytes bytes → Decides (is_sealed bytes) (IsSealed bytes)
 is_sealed-decides bytes h = elim (cases_lt (length bytes) 4) [
   | inl short ↦ (
     λ e. absurd (cc (is_sealed-short bytes short, e)),
     λ s. absurd (omega (arith, last.sealed_long bytes s, short)),
   )
   | inr long ↦ (
-    λ e. last.sealed bytes (length bytes - 4) (sequence_of (take (length bytes - 4) bytes)) (sequence_computed (take (length bytes - 4) bytes) (IsBytes-take (length bytes - 4) bytes h))
+    λ e. last.sealed bytes (length bytes - 4) (sequence_of (take (length bytes - 4) bytes)) (sequence_computed (take (length bytes - 4) bytes) (AreBytes-take (length bytes - 4) bytes h))
         ((bytes_eq-Decides (drop (length bytes - 4) bytes) (to_le_bytes w32 (sequence_of (take (length bytes - 4) bytes)))).0 (sym (is_sealed-long bytes long) ∙ e)),
     λ s. is_sealed-long bytes long ∙ (bytes_eq-Decides (drop (length bytes - 4) bytes) (to_le_bytes w32 (sequence_of (take (length bytes - 4) bytes)))).1
-        (last.sealed_last bytes (length bytes - 4) (sequence_of (take (length bytes - 4) bytes)) (omega (arith, long)) (sequence_computed (take (length bytes - 4) bytes) (IsBytes-take (length bytes - 4) bytes h)) s),
+        (last.sealed_last bytes (length bytes - 4) (sequence_of (take (length bytes - 4) bytes)) (omega (arith, long)) (sequence_computed (take (length bytes - 4) bytes) (AreBytes-take (length bytes - 4) bytes h)) s),
   )
 ]
 

@@ -1,5 +1,5 @@
 -- The check sequence as a function of a message, and what is sealed by it.
-use Rattle.std.specs.Prelude.{◌≡◌, ◌↔◌, ℕ, ◌+◌, ◌-◌, ◌*◌, ◌<◌, ◌^◌, Bool, false, ◌&&◌, nat_le, IsTrue, List, ◌++◌, length, take, drop, slice_index, bit_xor}
+use Rattle.std.specs.Prelude.{◌≡◌, ◌↔◌, ℕ, ◌-◌, ◌*◌, ◌<◌, ◌^◌, Bool, false, ◌&&◌, nat_le, IsTrue, List, ◌++◌, length, take, drop, slice_index, bit_xor}
 use Rattle.std.specs.Int.{w32, to_le_bytes}
 use Rattle.std.specs.Str.{bytes_eq}
 use Rattle.afdx_frame.specs.Sequence.{IsSequence, IsSealed}
