@@ -1,26 +1,24 @@
 -- The fields of a line.
-use Rattle.std.proofs.Common.{◌≡◌, ℕ, ◌+◌, ◌-◌, ◌*◌, ◌^◌, ◌<◌, ◌≤◌, min, List, [], ◌∷◌, ◌++◌, length, get_or, take, drop, Bool, true, false, cond, ◌&&◌, refl, ap, sym, ◌∙◌, arith, eqb, eq-eqb, rules, Option, Some, None, suc, zero}
+use Rattle.std.proofs.Common.{◌≡◌, ℕ, ◌+◌, ◌-◌, ◌*◌, ◌^◌, ◌<◌, ◌≤◌, min, List, [], ◌∷◌, ◌++◌, length, get_or, take, drop, Bool, true, false, cond, ◌&&◌, refl, ap, sym, ◌∙◌, arith, eqb, eq-eqb, Option, Some, None, suc, zero}
 use Rattle.std.proofs.lemmas.Grind.{common_steps}
 use Rattle.std.specs.Char.{is_ascii_digit}
 use Rattle.std.specs.List.{slice_split}
 use Rattle.std.proofs.lemmas.List.Splits.{slice_split_at, slice_split_none}
-use Rattle.std.proofs.lemmas.List.{take_all}
 use Rattle.memchr.specs.Find.{IsFirstByte, is_byte}
 use Rattle.afdx_lists.proofs.LineLemmas.{piece_before, no_feed_at_all, HasFirst, slice_split-has_first}
 use Rattle.std.specs.Option.{option_map, is_some}
 use Rattle.std.specs.Borrow.{Bor}
 use Rattle.std.specs.Str.Lines.{strip_carriage_return}
-use Rattle.std.proofs.Common.{Result, Ok, Err, nat_lt, ◌||◌}
-use Rattle.std.proofs.lemmas.Bool.{cases_lt}
+use Rattle.std.proofs.Common.{Result, Ok, Err}
 use Rattle.afdx_frame.specs.declared.link.Side.{Side}
 use Rattle.afdx_lists.specs.declared.frame_line.Kind.{Kind}
 use Rattle.afdx_lists.specs.declared.fault.LineFault.{LineFault}
-use Rattle.afdx_lists.specs.declared.fault.LineFault.TheVariants.{BadLine, TimeTooLarge, TimeBack, BadPort, BadHex}
+use Rattle.afdx_lists.specs.declared.fault.LineFault.TheVariants.{BadLine}
 use Rattle.afdx_lists.specs.Fields.{fields_after, number_of, number_after, all_digits, is_skipped, bytes_of_digits, ok_of}
-use Rattle.afdx_lists.specs.FrameLines.{FrameFields, Frame, fields_of_parts, fields_with, saturated, frame_fields, fields_say, fields_say_with, numbers_fault, line_says, frame_with}
+use Rattle.afdx_lists.specs.FrameLines.{FrameFields, fields_of_parts, fields_with, saturated, frame_fields, fields_say, fields_say_with, numbers_fault, line_says, frame_with}
 use Rattle.hex.specs.Hex.{decode_of, decode_sized}
 use Rattle.hex.specs.declared.error.FromHexError.{FromHexError}
-use Rattle.std.specs.Prelude.{MatchResult, ◌/◌, ◌%◌, if◌then◌else◌}
+use Rattle.std.specs.Prelude.{MatchResult, ◌/◌, ◌%◌}
 use Rattle.std.specs.Str.{bytes_eq}
 use Rattle.hex.specs.declared.error.FromHexError.TheVariants.{OddLength}
 

@@ -1,13 +1,12 @@
 -- Lines taken from known bytes.
-use Rattle.std.proofs.Common.{◌≡◌, ℕ, ◌+◌, ◌-◌, ◌<◌, ◌≤◌, List, [], ◌∷◌, ◌++◌, length, get_or, take, drop, Bool, true, false, cond, refl, ap, sym, ◌∙◌, arith, eqb, rules, Option, Some, None, IfSome, suc, slice_range, add-one, drop-cons, subst, true≢false}
+use Rattle.std.proofs.Common.{◌≡◌, ℕ, ◌+◌, ◌<◌, ◌≤◌, List, [], ◌∷◌, ◌++◌, length, get_or, take, drop, Bool, true, false, cond, refl, ap, ◌∙◌, arith, eqb, Some, None, drop-cons, subst}
 use Rattle.std.specs.List.{slice_split, onto_first, All}
-use Rattle.std.proofs.lemmas.List.{take-append-drop, get_or-take, drop-take}
-use Rattle.memchr.specs.Find.{IsFirstByte, is_byte, Passes, NoneBefore}
+use Rattle.std.proofs.lemmas.List.{take-append-drop, get_or-take}
+use Rattle.memchr.specs.Find.{IsFirstByte, is_byte}
 use Rattle.std.proofs.lemmas.List.Splits.{slice_split_at, slice_split_none, slice_split-cons_yes, slice_split-cons_no}
 use Rattle.std.proofs.lemmas.List.Elements.{All-append, All-head, All-tail}
 use Rattle.std.proofs.lemmas.Grind.{common_steps}
-use Rattle.std.specs.Io.KnownBytes.{Consumes, prepend_known, IsAtEnd}
-use Rattle.afdx_lists.specs.Lines.{lines_of, whole_lines_of, between_feeds, but_empty_last, but_last, HasNoFeed, IsFirstFeed, TakesLine, TakesBytes}
+use Rattle.afdx_lists.specs.Lines.{lines_of, but_empty_last, HasNoFeed, IsFirstFeed}
 
 is_feed : ℕ → Bool
 is_feed byte = eqb byte 10

@@ -1,9 +1,9 @@
 -- Places of a chunk, and what a read puts behind them.
-use Rattle.std.proofs.Common.{◌≡◌, Bool, true, false, eqb, ltb, ◌&&◌, ◌||◌, ℕ, ◌+◌, ◌-◌, ◌<◌, ◌≤◌, List, [], ◌∷◌, ◌++◌, length, take, drop, refl, ap, sym, ◌∙◌, arith, slice_range, append_assoc}
+use Rattle.std.proofs.Common.{◌≡◌, Bool, true, false, eqb, ltb, ◌&&◌, ◌||◌, ℕ, ◌+◌, ◌-◌, ◌<◌, ◌≤◌, List, [], ◌++◌, length, take, drop, refl, ap, sym, ◌∙◌, arith, slice_range, append_assoc}
 use Rattle.std.proofs.lemmas.List.{drop-take, take-append-drop, take-take, take_at}
 use Rattle.std.proofs.lemmas.Grind.{common_steps}
 use Rattle.afdx_lists.specs.declared.line_reader.LineReader.{LineReader}
-use Rattle.afdx_lists.specs.Lines.{unread, latest_line}
+use Rattle.afdx_lists.specs.Lines.{unread}
 
 pub nothing_between : (xs : List ℕ) → slice_range xs 0 0 ≡ []
 nothing_between xs = grind (arith, common_steps)

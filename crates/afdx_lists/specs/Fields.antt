@@ -1,5 +1,5 @@
 -- Numbers and bytes as the fields of a line write them.
-use Rattle.std.specs.Prelude.{ℕ, ◌+◌, ◌-◌, ◌*◌, ◌==◌, Bool, true, false, ◌&&◌, List, [], ◌∷◌, Option, Some, None, Result, Ok, Err, if◌then◌else◌}
+use Rattle.std.specs.Prelude.{ℕ, ◌+◌, ◌-◌, ◌*◌, ◌==◌, Bool, true, ◌&&◌, List, [], ◌∷◌, Option, Some, None, Result, Ok, Err, if◌then◌else◌}
 use Rattle.std.specs.Borrow.{Bor}
 use Rattle.std.specs.List.{slice_split}
 use Rattle.std.specs.Str.{bytes_eq}
@@ -20,6 +20,7 @@ abbrev pub number_after : ℕ → List ℕ → ℕ
 number_after n [] = n
 number_after n (digit ∷ digits) = number_after (n * 10 + (digit - 48)) digits
 
+-- each byte is a decimal digit
 abbrev pub all_digits : List ℕ → Bool
 all_digits [] = true
 all_digits (byte ∷ bytes) = is_ascii_digit byte && all_digits bytes

@@ -42,6 +42,7 @@ abbrev pub fields_with : Option Kind → Option ℕ → Option Side → Option �
 fields_with (Some kind) (Some time) (Some side) (Some port) (digit ∷ digits) = Some (record { kind = kind; time = time; side = side; port = port; digits = digit ∷ digits })
 fields_with _ _ _ _ _ = None
 
+-- the five fields of these parts, if there are five
 abbrev pub fields_of_parts : List (List ℕ) → Option FrameFields
 fields_of_parts (kind ∷ time ∷ side ∷ port ∷ digits ∷ []) = fields_with (kind_of kind) (number_of time) (side_of side) (number_of port) digits
 fields_of_parts _ = None

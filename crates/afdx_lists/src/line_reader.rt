@@ -18,7 +18,7 @@ const CHUNK: usize = 65_536;
 /// Takes the lines of a list one by one, in memory that doesn't grow.
 ///
 /// It holds what was read and not yet taken, and the line that was taken last.
-#[derive(Drop)]
+#[derive(Debug, Drop)]
 pub struct LineReader {
     chunk: Vec<u8>,
     line_start: usize,
@@ -33,6 +33,13 @@ pub struct LineReader {
     ghost room: { vec_len chunk ≡ 65536 },
 }
 
+/// Room for what is held.
+fn new_chunk(alloc: Global) -> Result<Vec<u8>, AllocError>
+    ensures { IfOk result (λ chunk. vec_len chunk ≡ 65536) }
+{
+    vec![in alloc; 0u8; CHUNK]
+}
+
 impl LineReader {
     ghost use Rattle.afdx_lists.specs.Lines.{unread, latest_line, lines_taken, left, IsHonest, HasNoFeed, IsFirstFeed, TakesLine, TakesBytes, CanStop};
 
@@ -42,7 +49,7 @@ impl LineReader {
         ensures lines { IfOk result (λ reader. lines_taken reader ≡ 0) }
     {
         Ok(LineReader {
-            chunk: vec![in alloc; 0u8; CHUNK]?,
+            chunk: new_chunk(alloc)?,
             line_start: 0,
             line_end: 0,
             start: 0,

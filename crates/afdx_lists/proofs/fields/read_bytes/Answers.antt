@@ -1,5 +1,4 @@
-use Rattle.std.proofs.Common.{rules, arith, ◌≡◌, ◌∷◌, [], true, false, List, ℕ, length, sym, ◌∙◌, ap, inr, refl, Some, eqb, vec_len}
-use Rattle.std.proofs.lemmas.Grind.{common_steps}
+use Rattle.std.proofs.Common.{arith, ◌≡◌, ◌∷◌, [], true, false, length, sym, ◌∙◌, ap, inr, refl, Some}
 use Rattle.std.specs.Prelude.{◌/◌}
 use Rattle.std.specs.Str.{bytes_eq}
 use Rattle.afdx_lists.proofs.FieldLemmas.{dash_is_no_bytes, digits_are, digits_are_bad, written_over}

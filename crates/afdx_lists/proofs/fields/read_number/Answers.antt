@@ -1,9 +1,6 @@
-use Rattle.std.proofs.Common.{rules, arith, ◌≡◌, ℕ, ◌+◌, ◌-◌, ◌*◌, ◌^◌, min, take, length, true, false, get_or, Option, None, Some, refl, sym, ap, ◌∙◌}
-use Rattle.std.proofs.lemmas.Grind.{common_steps}
-use Rattle.std.proofs.lemmas.List.{take_more, take_all}
-use Rattle.std.specs.Option.{option_map}
-use Rattle.afdx_lists.specs.Fields.{number_of, number_after, all_digits}
-use Rattle.afdx_lists.proofs.FieldLemmas.{all_digits_not, number_of_not, number_of_digits, number_after_push, all_digits_push}
+use Rattle.std.proofs.Common.{arith, take, get_or, refl, sym, ◌∙◌}
+use Rattle.std.proofs.lemmas.List.{take_more}
+use Rattle.afdx_lists.proofs.FieldLemmas.{all_digits_not, number_of_not, number_after_push, all_digits_push}
 use Rattle.afdx_lists.proofs.fields.read_number.Goals as goal
 
 pub returns-then-not-is_ascii_digit : goal.returns-then-not-is_ascii_digit

@@ -1,4 +1,4 @@
-use Rattle.std.proofs.Common.{rules, arith, ◌≡◌, sym, ◌∙◌, ap, refl, true, false, List, ℕ}
+use Rattle.std.proofs.Common.{rules, sym, ◌∙◌, ap}
 use Rattle.afdx_frame.specs.Sealing.{is_sealed}
 use Rattle.afdx_frame.proofs.SealingLemmas.{sealing_is_computed}
 use Rattle.afdx_lists.specs.FrameLines.{frame_bytes}

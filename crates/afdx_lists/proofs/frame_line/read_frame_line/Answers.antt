@@ -1,7 +1,6 @@
-use Rattle.std.proofs.Common.{rules, arith, ◌≡◌, ◌∷◌, [], List, ℕ, refl, sym, ap, ◌∙◌, Some, None, Ok, Err, Option, inl, inr, true, false}
-use Rattle.std.proofs.lemmas.Grind.{common_steps}
+use Rattle.std.proofs.Common.{◌≡◌, refl, sym, ◌∙◌, inl, inr}
 use Rattle.afdx_lists.specs.FrameLines.{fields_of}
-use Rattle.afdx_lists.specs.FrameLines.{frame_with, frame_bytes}
+use Rattle.afdx_lists.specs.FrameLines.{frame_bytes}
 use Rattle.afdx_lists.proofs.FieldLemmas.{line_says_nothing, says_bad_line, says_fault, says_frame}
 use Rattle.afdx_lists.proofs.frame_line.read_frame_line.Goals as goal
 

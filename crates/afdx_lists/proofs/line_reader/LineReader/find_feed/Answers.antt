@@ -1,4 +1,4 @@
-use Rattle.std.proofs.Common.{rules, arith, ◌≡◌, ◌+◌, ◌-◌, ◌≤◌, List, ℕ, length, take, drop, subst, ap, ◌∙◌, sym, Some, None, Option}
+use Rattle.std.proofs.Common.{arith, ◌≡◌, ◌+◌, ◌-◌, List, ℕ, take, drop, subst, ap, ◌∙◌, Some, None}
 use Rattle.memchr.specs.Find.{IsFirstByte, is_byte}
 use Rattle.afdx_lists.specs.Lines.{unread}
 use Rattle.afdx_lists.proofs.LineLemmas.{first_feed, no_feed_found}

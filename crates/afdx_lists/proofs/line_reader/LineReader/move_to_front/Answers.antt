@@ -1,5 +1,4 @@
-use Rattle.std.proofs.Common.{arith, ◌≤◌, length, ◌∙◌}
-use Rattle.std.proofs.lemmas.Grind.{common_steps}
+use Rattle.std.proofs.Common.{arith}
 use Rattle.afdx_lists.specs.Lines.{unread}
 use Rattle.afdx_lists.proofs.ReaderLemmas.{moved_to_front}
 use Rattle.afdx_lists.proofs.line_reader.LineReader.move_to_front.Goals as goal

@@ -1,8 +1,6 @@
-use Rattle.std.proofs.Common.{rules, arith, ◌≡◌, ◌≤◌, ◌<◌, ◌+◌, ◌-◌, ◌++◌, ◌∷◌, [], List, ℕ, length, take, drop, refl, sym, ap, ◌∙◌, subst, append_assoc}
-use Rattle.std.proofs.lemmas.Grind.{common_steps}
+use Rattle.std.proofs.Common.{rules, arith, ◌≡◌, ◌+◌, ◌-◌, ◌++◌, ◌∷◌, [], length, take, drop, refl, sym, ap, ◌∙◌, subst, append_assoc}
 use Rattle.std.proofs.lemmas.List.{append-nil, length-take-le, take_at}
-use Rattle.std.specs.Io.KnownBytes.{IsAtEnd}
-use Rattle.afdx_lists.specs.Lines.{unread, latest_line, HasNoFeed, TakesBytes, TakesLine}
+use Rattle.afdx_lists.specs.Lines.{unread, latest_line, HasNoFeed}
 use Rattle.afdx_lists.proofs.ReaderLemmas.{unread_length, unread_nothing, few_lines, all_taken, none_after}
 use Rattle.afdx_lists.proofs.TakingLemmas.{TakesBytes-then, TakesBytes-part, TakesLine-feed, TakesLine-last, IsAtEnd-left, some_line_left, long_line_left}
 use Rattle.afdx_lists.proofs.line_reader.LineReader.next_line.Goals as goal

@@ -1,9 +1,8 @@
-use Rattle.std.proofs.Common.{rules, arith, ◌≡◌, ◌+◌, ◌-◌, ◌≤◌, ◌<◌, ◌++◌, [], List, ℕ, length, take, refl, sym, ap, ◌∙◌, true, false, slice_range, ltb, Ok, add-zero}
+use Rattle.std.proofs.Common.{rules, arith, ◌≡◌, ◌-◌, ◌≤◌, ◌++◌, [], List, ℕ, length, take, sym, ap, ◌∙◌, slice_range, add-zero}
 use Rattle.std.proofs.lemmas.Grind.{common_steps}
 use Rattle.std.proofs.lemmas.List.{append-nil}
 use Rattle.std.proofs.KnownBytes.{Consumes-nil, Consumes-kept}
-use Rattle.afdx_lists.specs.Calls.{gave_end}
-use Rattle.afdx_lists.specs.Lines.{unread, TakesBytes}
+use Rattle.afdx_lists.specs.Lines.{unread}
 use Rattle.afdx_lists.proofs.ReaderLemmas.{read_behind, kept_before, unread_from_front, room_behind, gave_none}
 use Rattle.afdx_lists.proofs.line_reader.LineReader.refill.Goals as goal
 

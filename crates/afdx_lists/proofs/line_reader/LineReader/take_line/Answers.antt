@@ -1,4 +1,4 @@
-use Rattle.std.proofs.Common.{arith, ◌+◌, ◌-◌, ◌≤◌}
+use Rattle.std.proofs.Common.{arith, ◌+◌}
 use Rattle.afdx_lists.specs.Lines.{latest_line, unread}
 use Rattle.afdx_lists.proofs.ReaderLemmas.{front_between, rest_between}
 use Rattle.afdx_lists.proofs.line_reader.LineReader.take_line.Goals as goal

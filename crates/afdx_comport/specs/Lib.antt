@@ -1,0 +1,4 @@
+pub mod Messages
+pub mod Held
+pub mod Ports
+pub mod Laws

@@ -1,0 +1,136 @@
+//! The ports of one end system.
+
+ghost use Rattle.std.specs.Prelude.{◌≡◌, ◌↔◌, ◌<◌, ℕ, Some, Err, IfOk, IfSome, OnOk, OnErr, IsTrue, length, map, filter, nat_eq, position, slice_get, slice_set, option_map};
+ghost use Rattle.afdx_comport.specs.Held.{is_full, with_message, sample_of, first_of, without_first};
+ghost use Rattle.afdx_comport.specs.declared.fault.PutFault.TheVariants.{Full};
+
+use crate::fault::PutFault;
+use crate::held::{Held, Queue};
+use afdx_config::{ComRow, Kind, SystemId, Tables};
+use afdx_frame::VlId;
+use std::alloc::{AllocError, Global};
+use std::collections::HashMap;
+use std::marker::Model;
+
+/// A port of the system.
+#[derive(Drop)]
+pub(crate) struct ComPort {
+    pub(crate) link: VlId,
+    pub(crate) udp: u16,
+    pub(crate) held: Held,
+}
+
+impl ComPort {
+    ghost use Rattle.afdx_config.specs.Rows.{port_row};
+    ghost use Rattle.afdx_comport.specs.Ports.{port_at_first};
+
+    /// A port that holds nothing.
+    fn new(alloc: Global, row: &ComRow) -> Result<ComPort, AllocError>
+        ensures { IfOk result (λ port. port ≡ port_at_first (port_row row.now)) }
+    {
+        let held = match row.kind {
+            Kind::Sampling => Held::Sampling(None),
+            Kind::Queuing => Held::Queuing(Queue::new(alloc, row.depth as usize)?),
+        };
+        Ok(ComPort {
+            link: row.link,
+            udp: row.udp,
+            held,
+        })
+    }
+}
+
+/// The communication ports of an end system (ARINC 664 Part 7). A contract sees them as a list of ports in the
+/// order of the tables, each with its link, its UDP port and the messages that it holds.
+#[derive(Drop)]
+pub struct ComPorts {
+    alloc: Global,
+    places: HashMap<(VlId, u16), usize>,
+    ports: Vec<ComPort>,
+}
+
+impl Model for ComPorts {
+    ghost use Rattle.std.specs.Prelude.{List};
+    ghost use Rattle.afdx_comport.specs.Ports.{PlacesAreOf};
+    ghost use Rattle.afdx_comport.specs.declared.com_ports.ComPort.{ComPort};
+
+    ghost Value = { List ComPort };
+
+    ghost view = { λ c. c.ports.items };
+
+    ghost invariant = { λ c. PlacesAreOf c.places c.ports.items };
+}
+
+impl ComPorts {
+    ghost use Rattle.afdx_comport.specs.Ports.{ports_at_first, is_for};
+    ghost use Rattle.afdx_comport.specs.declared.com_ports.ComPort.{ComPort};
+
+    /// The communication ports that the tables give the system, in the order of the tables. They hold nothing.
+    /// Room is taken for each queue's depth, and for looking ports up. The error is want of memory alone.
+    pub fn new(alloc: Global, tables: &Tables, system: SystemId) -> Result<ComPorts, AllocError>
+        ensures { IfOk result (λ ports. ports ≡ ports_at_first system.0 tables.now.ports) }
+    {
+        let mut places = HashMap::new(alloc);
+        let mut ports = Vec::new(alloc);
+        let count = tables.com_count();
+        for index in 0..count {
+            let row = tables.com(index);
+            if row.system == system {
+                places.insert((row.link, row.udp), ports.len())?;
+                ports.push(ComPort::new(alloc, row)?)?;
+            }
+        }
+        Ok(ComPorts {
+            alloc,
+            places,
+            ports,
+        })
+    }
+
+    /// The place of the port of a link and a UDP port, or `None` if the system has no such port. It is a
+    /// look-up, and takes no memory.
+    pub fn find(&self, link: VlId, udp: u16) -> Option<usize>
+        ensures place { result ≡ position (is_for link.0 udp) self.now }
+        ensures known { IfSome result (λ place. place < length self.now) }
+    {
+        self.places.get(&(link, udp)).copied()
+    }
+
+    /// Puts a message that comes at `time`, in ns, to the port at this place. A sampling port keeps it in place
+    /// of the one before, a queuing port puts it behind the others.
+    ///
+    /// `Full` comes exactly where a queue holds as many messages as its depth, and before any memory is asked
+    /// for; else `Memory` comes where the room for the message's bytes is refused. After an error every port is
+    /// as it was, and after `Ok` every other port.
+    pub fn put(&mut self, port: usize, time: u64, message: &[u8]) -> Result<(), PutFault>
+        requires { port < length self.old }
+        ensures full { (p : ComPort) → slice_get self.old port ≡ Some p → (result ≡ Err Full) ↔ IsTrue (is_full p.held) }
+        ensures ok { (p : ComPort) → slice_get self.old port ≡ Some p →
+            OnOk result (self.new ≡ slice_set self.old port (record p { held = with_message time message.now p.held })) }
+        ensures err { OnErr result (self.new ≡ self.old) }
+    {
+        let alloc = self.alloc;
+        self.ports[port].held.put(alloc, time, message)
+    }
+
+    /// The newest message of the sampling port at this place, and the time at which it came, in ns. It stays.
+    /// `None` if nothing came yet, and at a queuing port. It takes no memory.
+    pub fn read_sample(&self, port: usize) -> Option<(u64, &[u8])>
+        requires { port < length self.now }
+        ensures { (p : ComPort) → slice_get self.now port ≡ Some p →
+            option_map (λ s. record { time = s.0; bytes = s.1.now }) result ≡ sample_of p.held }
+    {
+        self.ports[port].held.sample()
+    }
+
+    /// Takes the oldest message out of the queuing port at this place. `None` if the queue is empty, and at a
+    /// sampling port. Every other port stays as it was. It takes no memory.
+    pub fn take_queued(&mut self, port: usize) -> Option<Vec<u8>>
+        requires { port < length self.old }
+        ensures first { (p : ComPort) → slice_get self.old port ≡ Some p → option_map (λ m. m.items) result ≡ first_of p.held }
+        ensures rest { (p : ComPort) → slice_get self.old port ≡ Some p →
+            self.new ≡ slice_set self.old port (record p { held = without_first p.held }) }
+    {
+        self.ports[port].held.take()
+    }
+}

@@ -1,0 +1,128 @@
+//! What one port holds.
+
+ghost use Rattle.std.specs.Prelude.{◌≡◌, ◌↔◌, ◌≤◌, ◌<◌, [], ◌∷◌, ◌++◌, length, IfOk, IfErr, OnOk, OnErr, IsTrue, MatchOption, option_map, nat_eq, Err};
+ghost use Rattle.afdx_comport.specs.Held.{is_full, with_message, sample_of, first_of, without_first};
+ghost use Rattle.afdx_comport.specs.declared.fault.PutFault.TheVariants.{Full};
+
+use crate::fault::PutFault;
+use std::alloc::{AllocError, Global};
+use std::collections::VecDeque;
+use std::marker::Model;
+
+/// A message that came to a sampling port.
+#[derive(Drop)]
+pub(crate) struct Sample {
+    pub(crate) time: u64,
+    pub(crate) bytes: Vec<u8>,
+}
+
+impl Model for Sample {
+    ghost use Rattle.afdx_comport.specs.Messages.{Message};
+
+    ghost Value = { Message };
+
+    ghost view = { λ s. record { time = s.time; bytes = s.bytes.items } };
+}
+
+/// The messages of a queuing port.
+#[derive(Drop)]
+pub(crate) struct Queue {
+    depth: usize,
+    messages: VecDeque<Vec<u8>>,
+}
+
+impl Model for Queue {
+    ghost use Rattle.std.specs.Prelude.{◌≤◌, map};
+    ghost use Rattle.std.specs.VecDeque.{deque_len, deque_capacity};
+    ghost use Rattle.afdx_comport.specs.Messages.{Line};
+
+    ghost Value = { Line };
+
+    ghost view = { λ q. record { depth = q.depth; messages = map (λ m. m.items) q.messages.items } };
+
+    ghost invariant = { λ q. (deque_len q.messages ≤ q.depth) × (q.depth ≤ deque_capacity q.messages) };
+}
+
+impl Queue {
+    /// An empty queue, with room for as many messages as its depth.
+    pub(crate) fn new(alloc: Global, depth: usize) -> Result<Queue, AllocError>
+        ensures { IfOk result (λ q. q ≡ record { depth = depth; messages = [] }) }
+    {
+        let messages = VecDeque::with_capacity(alloc, depth)?;
+        Ok(Queue { depth, messages })
+    }
+
+    /// Whether it holds as many messages as its depth. It never holds more.
+    pub(crate) fn is_full(&self) -> bool
+        ensures full { result ≡ nat_eq (length self.now.messages) self.now.depth }
+        ensures bounded { length self.now.messages ≤ self.now.depth }
+    {
+        self.messages.len() == self.depth
+    }
+
+    /// Puts a message behind the others. The room is there.
+    pub(crate) fn push(&mut self, message: Vec<u8>)
+        requires { length self.old.messages < self.old.depth }
+        ensures { self.new ≡ record self.old { messages = self.old.messages ++ message.items ∷ [] } }
+    {
+        self.messages.push_back_reserved(message);
+    }
+
+    /// Takes out the oldest message.
+    pub(crate) fn pop(&mut self) -> Option<Vec<u8>>
+        ensures { MatchOption result ((self.old.messages ≡ []) × (self.new ≡ self.old)) (λ m. self.old ≡ record self.new { messages = m.items ∷ self.new.messages }) }
+    {
+        self.messages.pop_front()
+    }
+}
+
+/// What a port holds, by its kind.
+#[derive(Drop)]
+pub(crate) enum Held {
+    Sampling(Option<Sample>),
+    Queuing(Queue),
+}
+
+impl Held {
+    /// Takes in a message that comes now.
+    pub(crate) fn put(&mut self, alloc: Global, time: u64, message: &[u8]) -> Result<(), PutFault>
+        ensures full { (result ≡ Err Full) ↔ IsTrue (is_full self.old) }
+        ensures ok { OnOk result (self.new ≡ with_message time message.now self.old) }
+        ensures err { OnErr result (self.new ≡ self.old) }
+    {
+        match self {
+            Held::Sampling(sample) => {
+                let bytes = Vec::from_slice(alloc, message)?;
+                *sample = Some(Sample { time, bytes });
+            }
+            Held::Queuing(queue) => {
+                if queue.is_full() {
+                    return Err(PutFault::Full);
+                }
+                queue.push(Vec::from_slice(alloc, message)?);
+            }
+        }
+        Ok(())
+    }
+
+    /// The newest message and its time, if this is a sampling port and one came.
+    pub(crate) fn sample(&self) -> Option<(u64, &[u8])>
+        ensures { option_map (λ s. record { time = s.0; bytes = s.1.now }) result ≡ sample_of self.now }
+    {
+        match self {
+            Held::Sampling(Some(sample)) => Some((sample.time, sample.bytes.as_slice())),
+            Held::Sampling(None) | Held::Queuing(_) => None,
+        }
+    }
+
+    /// Takes out the oldest message, if this is a queuing port that has one.
+    pub(crate) fn take(&mut self) -> Option<Vec<u8>>
+        ensures first { option_map (λ m. m.items) result ≡ first_of self.old }
+        ensures rest { self.new ≡ without_first self.old }
+    {
+        match self {
+            Held::Sampling(_) => None,
+            Held::Queuing(queue) => queue.pop(),
+        }
+    }
+}

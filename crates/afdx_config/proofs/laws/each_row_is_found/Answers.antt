@@ -1,0 +1,5 @@
+use Rattle.afdx_config.proofs.LookUps.{each_row-found}
+use Rattle.afdx_config.proofs.laws.each_row_is_found.Goals as goal
+
+pub returns : goal.returns
+returns c = each_row-found

@@ -1,0 +1,89 @@
+-- Every rule of the format, as a fact of the rows.
+use Rattle.std.specs.Prelude.{◌≡◌, ℕ, ◌*◌, ◌<◌, ◌≤◌, true, List, [], ◌∷◌, length, nat_eq, slice_get, Some}
+use Rattle.std.specs.List.{list_any, AllByRecursion}
+use Rattle.afdx_config.specs.declared.read_links.Traffic.{Traffic}
+use Rattle.afdx_config.specs.declared.read_links.Treatment.{Treatment}
+use Rattle.afdx_config.specs.Rows.{SystemRow, LinkRow, PortRow, Rows}
+use Rattle.afdx_config.specs.Reading.{is_name, are_apart, goes_to, deepest, rates}
+
+abbrev pub IsWithin : ℕ → ℕ → ℕ → Type 0
+IsWithin low high n = (low ≤ n) × (n ≤ high)
+
+abbrev pub IsOneOf : List ℕ → ℕ → Type 0
+IsOneOf ns n = list_any (λ m. nat_eq m n) ns ≡ true
+
+-- two rows that agree in this are one row
+unfoldable pub AreDistinct : {R A : Type 0} → (R → A) → List R → Type 0
+AreDistinct {R} f rows = (i j : ℕ) (a b : R) → slice_get rows i ≡ Some a → slice_get rows j ≡ Some b → f a ≡ f b → i ≡ j
+
+-- the gaps that a link may have, in ms
+abbrev pub gaps : List ℕ
+gaps = 1 ∷ 2 ∷ 4 ∷ 8 ∷ 16 ∷ 32 ∷ 64 ∷ 128 ∷ []
+
+pub record IsSystem (profile : ℕ) (s : SystemRow) : Type 0 where
+  pub name : is_name s.name ≡ true
+  pub port : IsWithin 1 24 s.port
+  pub id : IsWithin 0 65535 s.id
+  pub partition : IsWithin 0 255 s.partition
+  pub rate : IsOneOf (rates profile) s.rate
+
+-- how much a link may send
+pub record IsTraffic (x : Traffic) : Type 0 where
+  pub bag_ms : IsOneOf gaps x.bag_ms
+  pub lmin : IsWithin 64 1518 x.lmin
+  pub lmax : IsWithin x.lmin 1518 x.lmax
+  pub jitter_us : IsWithin 0 (1000 * x.bag_ms) x.jitter_us
+
+-- how a link's frames are treated
+pub record IsTreatment (x : Treatment) : Type 0 where
+  pub latency_us : IsWithin 1 100000 x.latency_us
+  pub skew_us : IsWithin 1 100000 x.skew_us
+  pub subs : IsWithin 1 4 x.subs
+
+pub record IsLink (systems : ℕ) (l : LinkRow) : Type 0 where
+  pub vl : IsWithin 0 65535 l.vl
+  pub from : l.from < systems
+  pub to : AllByRecursion (λ i. i < systems) l.to
+  pub to_count : IsWithin 1 24 (length l.to)
+  pub apart : are_apart l.from l.to ≡ true
+  pub bag_ms : IsOneOf gaps l.bag_ms
+  pub lmin : IsWithin 64 1518 l.lmin
+  pub lmax : IsWithin l.lmin 1518 l.lmax
+  pub jitter_us : IsWithin 0 (1000 * l.bag_ms) l.jitter_us
+  pub latency_us : IsWithin 1 100000 l.latency_us
+  pub skew_us : IsWithin 1 100000 l.skew_us
+  pub subs : IsWithin 1 4 l.subs
+
+pub record IsPort (systems : ℕ) (links : List LinkRow) (p : PortRow) : Type 0 where
+  pub system : p.system < systems
+  pub link : goes_to links p.link p.system ≡ true
+  pub udp : IsWithin 1 65535 p.udp
+  pub depth : IsWithin 1 (deepest p.kind) p.depth
+
+-- what tells a port entry from the others
+abbrev pub triple : PortRow → ℕ × ℕ × ℕ
+triple p = (p.system, p.link, p.udp)
+
+pub record AreSystems (profile : ℕ) (systems : List SystemRow) : Type 0 where
+  pub count : length systems ≤ 24
+  pub each : AllByRecursion (IsSystem profile) systems
+  pub names : AreDistinct (λ s. s.name) systems
+  pub ports : AreDistinct (λ s. s.port) systems
+  pub ids : AreDistinct (λ s. s.id) systems
+
+pub record AreLinks (systems : ℕ) (links : List LinkRow) : Type 0 where
+  pub count : length links ≤ 4096
+  pub each : AllByRecursion (IsLink systems) links
+  pub identifiers : AreDistinct (λ l. l.vl) links
+
+pub record ArePorts (systems : ℕ) (links : List LinkRow) (ports : List PortRow) : Type 0 where
+  pub count : length ports ≤ 4096
+  pub each : AllByRecursion (IsPort systems links) ports
+  pub triples : AreDistinct triple ports
+
+pub record IsLawful (t : Rows) : Type 0 where
+  pub profile : IsWithin 1 2 t.profile
+  pub buffer : IsWithin 64 4194304 t.buffer
+  pub systems : AreSystems t.profile t.systems
+  pub links : AreLinks (length t.systems) t.links
+  pub ports : ArePorts (length t.systems) t.links t.ports

@@ -1,0 +1,15 @@
+pub mod Rows
+pub mod Kept
+pub mod Fault
+pub mod FaultText
+pub mod Trees
+pub mod Keys
+pub mod Reading
+pub mod New
+pub mod Lawful
+pub mod Flows
+pub mod Numbers
+pub mod SentList
+pub mod LawfulStream
+pub mod Admission
+pub mod Laws

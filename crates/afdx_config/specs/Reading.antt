@@ -1,0 +1,187 @@
+-- The one order of the checks, over the tree that TOML reads: the top, then each system, each link and each port
+-- entry in file order. A table is read key by key, in the order of the keys' numbers.
+use Rattle.std.specs.Prelude.{◌≡◌, ℕ, ◌+◌, ◌*◌, Bool, false, not, ◌&&◌, ◌||◌, ◌==◌, nat_le, nat_eq, List, [], ◌∷◌, ◌++◌, length, codes, position, find, Option, Some, None, is_some, option_map, option_and_then, Result, Ok, Err, IsUtf8, ◌⊎◌, if◌then◌else◌}
+use Rattle.std.specs.List.{list_any, list_all}
+use Rattle.std.specs.Option.{option_map_or}
+use Rattle.std.specs.Str.{bytes_eq}
+use Rattle.std.specs.Char.{is_ascii_alphanumeric}
+use Rattle.afdx_frame.specs.declared.link.Priority.TheVariants.{High, Low}
+use Rattle.afdx_frame.specs.declared.link.Policing.TheVariants.{Byte, Frame}
+use Rattle.toml.specs.Parse.{parse_document}
+use Rattle.toml.specs.Data.{Members}
+use Rattle.afdx_config.specs.declared.fault.Part.TheVariants as part
+use Rattle.afdx_config.specs.declared.fault.Place.{Place}
+use Rattle.afdx_config.specs.declared.fault.ConfigFault.{ConfigFault}
+use Rattle.afdx_config.specs.declared.fault.ConfigFault.TheVariants.{NotToml, BadProfile, OutOfRange, Twice, NoSuchSystem}
+use Rattle.afdx_config.specs.declared.rows.Kind.{Kind}
+use Rattle.afdx_config.specs.declared.rows.Kind.TheVariants.{Sampling, Queuing}
+use Rattle.afdx_config.specs.declared.read_links.Traffic.{Traffic}
+use Rattle.afdx_config.specs.declared.read_links.Treatment.{Treatment}
+use Rattle.afdx_config.specs.Rows.{SystemRow, LinkRow, PortRow, Rows, is_to}
+use Rattle.afdx_config.specs.Fault.{◌>>=◌, ◌>>◌, check}
+use Rattle.afdx_config.specs.Keys.{place, whole, one_of, text, word, tables, texts, only_system_keys, only_link_keys, only_port_keys, only_top_keys}
+
+-- ---- look-ups among the rows
+
+-- the place of the system of this name, and of the one at this port of the switch
+unfoldable pub system_named : List SystemRow → List ℕ → Option ℕ
+system_named systems name = position (λ s. bytes_eq name s.name) systems
+
+unfoldable pub system_at_port : List SystemRow → ℕ → Option ℕ
+system_at_port systems port = position (λ s. s.port == port) systems
+
+unfoldable pub has_id : List SystemRow → ℕ → Bool
+has_id systems id = list_any (λ s. s.id == id) systems
+
+abbrev pub or_no_such : {A : Type 0} → Place → Option A → Result A ConfigFault
+or_no_such at None = Err (NoSuchSystem at)
+or_no_such at (Some x) = Ok x
+
+unfoldable pub named : Place → List ℕ → List SystemRow → Members → Result ℕ ConfigFault
+named at key systems t = do
+  name ← text at key t
+  or_no_such at (system_named systems name)
+
+-- what each of a list stands for, where each stands for something
+abbrev pub all_of : {X A : Type 0} → (X → Option A) → List X → Option (List A)
+all_of f [] = Some []
+all_of f (x ∷ xs) = option_and_then (λ a. option_map (λ rest. a ∷ rest) (all_of f xs)) (f x)
+
+abbrev pub has_repeat : List ℕ → Bool
+has_repeat [] = false
+has_repeat (i ∷ is) = list_any (λ j. nat_eq j i) is || has_repeat is
+
+-- the systems are all different, and none is `from`
+unfoldable pub are_apart : ℕ → List ℕ → Bool
+are_apart from to = not (list_any (λ j. nat_eq j from) to) && not (has_repeat to)
+
+unfoldable pub destinations : Place → List SystemRow → ℕ → Members → Result (List ℕ) ConfigFault
+destinations at systems from t = do
+  names ← texts at (codes "to") t
+  check (nat_le 1 (length names) && nat_le (length names) 24) (OutOfRange at)
+  to ← or_no_such at (all_of (system_named systems) names)
+  check (are_apart from to) (Twice at)
+  Ok to
+
+-- ---- the rows, each after those before it
+
+unfoldable pub is_name : List ℕ → Bool
+is_name s = (nat_le 1 (length s) && nat_le (length s) 16) && list_all is_ascii_alphanumeric s
+
+unfoldable pub new_name : Place → List SystemRow → Members → Result (List ℕ) ConfigFault
+new_name at before t = do
+  name ← text at (codes "name") t
+  check (is_name name) (OutOfRange at)
+  check (not (is_some (system_named before name))) (Twice at)
+  Ok name
+
+-- the rates of a profile's lines, in Mbit/s
+abbrev pub rates : ℕ → List ℕ
+rates profile = if profile == 2 then 10 ∷ 100 ∷ 1000 ∷ [] else 10 ∷ 100 ∷ []
+
+unfoldable pub system_at : ℕ → List SystemRow → Members → Result SystemRow ConfigFault
+system_at profile before t =
+    let at : ℕ → Place = place part.System (length before + 1) in do
+      name ← new_name (at 1) before t
+      port ← whole (at 2) (codes "port") 1 24 t
+      check (not (is_some (system_at_port before port))) (Twice (at 2))
+      id ← whole (at 3) (codes "id") 0 65535 t
+      check (not (has_id before id)) (Twice (at 3))
+      partition ← whole (at 4) (codes "partition") 0 255 t
+      rate ← one_of (at 5) (codes "rate") (rates profile) t
+      only_system_keys (at 0) t
+      Ok (record { name = name; port = port; id = id; partition = partition; rate = rate })
+
+-- the place of the link of this identifier
+unfoldable pub link_of : List LinkRow → ℕ → Option ℕ
+link_of links vl = position (λ l. nat_eq vl l.vl) links
+
+-- keys 4 to 7, and keys 8 to 12
+unfoldable pub traffic_at : (ℕ → Place) → Members → Result Traffic ConfigFault
+traffic_at at t = do
+  bag_ms ← one_of (at 4) (codes "bag_ms") (1 ∷ 2 ∷ 4 ∷ 8 ∷ 16 ∷ 32 ∷ 64 ∷ 128 ∷ []) t
+  lmin ← whole (at 5) (codes "lmin") 64 1518 t
+  lmax ← whole (at 6) (codes "lmax") lmin 1518 t
+  jitter_us ← whole (at 7) (codes "jitter_us") 0 (1000 * bag_ms) t
+  Ok (record { bag_ms = bag_ms; lmin = lmin; lmax = lmax; jitter_us = jitter_us })
+
+unfoldable pub treatment_at : (ℕ → Place) → Members → Result Treatment ConfigFault
+treatment_at at t = do
+  priority ← word (at 8) (codes "priority") ((codes "high", High) ∷ (codes "low", Low) ∷ []) t
+  policing ← word (at 9) (codes "policing") ((codes "byte", Byte) ∷ (codes "frame", Frame) ∷ []) t
+  latency_us ← whole (at 10) (codes "latency_us") 1 100000 t
+  skew_us ← whole (at 11) (codes "skew_us") 1 100000 t
+  subs ← whole (at 12) (codes "subs") 1 4 t
+  Ok (record { priority = priority; policing = policing; latency_us = latency_us; skew_us = skew_us; subs = subs })
+
+unfoldable pub link_at : List SystemRow → List LinkRow → Members → Result LinkRow ConfigFault
+link_at systems before t =
+    let at : ℕ → Place = place part.Link (length before + 1) in do
+      vl ← whole (at 1) (codes "vl") 0 65535 t
+      check (not (is_some (link_of before vl))) (Twice (at 1))
+      from ← named (at 2) (codes "from") systems t
+      to ← destinations (at 3) systems from t
+      traffic ← traffic_at at t
+      treatment ← treatment_at at t
+      only_link_keys (at 0) t
+      Ok (record { vl = vl; from = from; to = to; bag_ms = traffic.bag_ms; lmin = traffic.lmin; lmax = traffic.lmax; jitter_us = traffic.jitter_us; priority = treatment.priority; policing = treatment.policing; latency_us = treatment.latency_us; skew_us = treatment.skew_us; subs = treatment.subs })
+
+-- there is a link of this identifier, and it goes to the system
+unfoldable pub goes_to : List LinkRow → ℕ → ℕ → Bool
+goes_to links vl system = option_map_or (is_to system) (find (λ l. nat_eq vl l.vl) links) false
+
+unfoldable pub has_port : List PortRow → ℕ → ℕ → ℕ → Bool
+has_port ports system link udp = list_any (λ p. (nat_eq p.system system && nat_eq p.link link) && nat_eq p.udp udp) ports
+
+-- how many messages a port of a kind may hold
+abbrev pub deepest : Kind → ℕ
+deepest Sampling = 1
+deepest Queuing = 64
+
+unfoldable pub port_at : List SystemRow → List LinkRow → List PortRow → Members → Result PortRow ConfigFault
+port_at systems links before t =
+    let at : ℕ → Place = place part.Port (length before + 1) in do
+      system ← named (at 1) (codes "system") systems t
+      link ← whole (at 2) (codes "link") 0 65535 t
+      check (goes_to links link system) (OutOfRange (at 2))
+      udp ← whole (at 3) (codes "udp") 1 65535 t
+      check (not (has_port before system link udp)) (Twice (at 3))
+      kind ← word (at 4) (codes "kind") ((codes "sampling", Sampling) ∷ (codes "queuing", Queuing) ∷ []) t
+      depth ← whole (at 5) (codes "depth") 1 (deepest kind) t
+      only_port_keys (at 0) t
+      Ok (record { system = system; link = link; udp = udp; kind = kind; depth = depth })
+
+-- the rows of some tables, each read after those before it
+abbrev pub each : {R : Type 0} → (List R → Members → Result R ConfigFault) → List R → List Members → Result (List R) ConfigFault
+each row_at before [] = Ok before
+each row_at before (t ∷ ts) = do
+  row ← row_at before t
+  each row_at (before ++ row ∷ []) ts
+
+-- ---- the whole
+
+-- whatever is wrong with the profile, it is a bad one
+abbrev pub or_bad_profile : Result ℕ ConfigFault → Result ℕ ConfigFault
+or_bad_profile (Ok n) = Ok n
+or_bad_profile (Err e) = Err BadProfile
+
+unfoldable pub tables_at : Members → Result Rows ConfigFault
+tables_at t = do
+  profile ← or_bad_profile (whole (place part.Top 0 1) (codes "profile") 1 2 t)
+  buffer ← whole (place part.Top 0 2) (codes "buffer") 64 4194304 t
+  systems ← tables (place part.Top 0 3) (codes "system") 24 t
+  links ← tables (place part.Top 0 4) (codes "link") 4096 t
+  ports ← tables (place part.Top 0 5) (codes "port") 4096 t
+  only_top_keys (place part.Top 0 0) t
+  systems ← each (system_at profile) [] systems
+  links ← each (link_at systems) [] links
+  ports ← each (port_at systems links) [] ports
+  Ok (record { profile = profile; buffer = buffer; systems = systems; links = links; ports = ports })
+
+-- what is wrong with a text: it is no TOML, or its tree has this first fault
+abbrev pub IsFaultOf : List ℕ → ConfigFault → Type 0
+IsFaultOf text e = ((e ≡ NotToml) × (IsUtf8 text → parse_document text ≡ None)) ⊎ (IsUtf8 text × ((tree : Members) × (parse_document text ≡ Some tree) × (tables_at tree ≡ Err e)))
+
+-- the text spells a tree that states the rows
+abbrev pub Spells : List ℕ → Rows → Type 0
+Spells text rows = IsUtf8 text × ((tree : Members) × (parse_document text ≡ Some tree) × (tables_at tree ≡ Ok rows))

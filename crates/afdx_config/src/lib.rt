@@ -1,0 +1,22 @@
+//! The tables of a network, read from TOML text and checked in one order.
+#![tactic(auto)]
+
+mod fault;
+mod keys;
+pub mod laws;
+mod links;
+mod read;
+mod read_links;
+mod read_ports;
+mod read_systems;
+mod rows;
+mod systems;
+mod tables;
+
+pub use fault::{ConfigFault, Part, Place};
+pub use read::read_tables;
+pub use rows::{ComRow, Kind, Link, System, SystemId};
+pub use tables::Tables;
+
+#[cfg(test)]
+mod tests;

@@ -1,0 +1,79 @@
+//! The links of a network, by identifier.
+ghost use Rattle.std.specs.Prelude.{◌≡◌, ◌<◌, ◌≤◌, ◌++◌, [], ◌∷◌, length, slice_get, None, Some, OnOk, IfSome};
+ghost use Rattle.afdx_config.specs.Rows.{link_row};
+ghost use Rattle.afdx_config.specs.Reading.{link_of, goes_to};
+
+use crate::rows::{Link, SystemId};
+use afdx_frame::VlId;
+use indexmap::IndexMap;
+use std::alloc::{AllocError, Global};
+use std::marker::Model;
+
+/// The links by identifier, in file order.
+#[derive(Debug, Drop)]
+pub(crate) struct Links {
+    by_vl: IndexMap<VlId, Link>,
+}
+
+impl Model for Links {
+    ghost use Rattle.std.specs.Prelude.{◌≤◌, List, map, length};
+    ghost use Rattle.std.specs.List.{AllByRecursion};
+    ghost use Rattle.afdx_config.specs.Rows.{LinkRow};
+    ghost use Rattle.afdx_config.specs.Kept.{link_rows, IsUnderItsIdentifier};
+
+    ghost Value = { List LinkRow };
+
+    ghost view = { λ l. link_rows l.by_vl.entries };
+
+    ghost invariant = { λ l. (length l.by_vl.entries ≤ 4096) × AllByRecursion IsUnderItsIdentifier l.by_vl.entries };
+}
+
+impl Links {
+    pub(crate) fn new(alloc: Global) -> Links
+        ensures { result ≡ [] }
+    {
+        Links {
+            by_vl: IndexMap::new(alloc),
+        }
+    }
+
+    pub(crate) fn len(&self) -> usize
+        ensures len { result ≡ length self.now }
+        ensures small { result ≤ 4096 }
+    {
+        self.by_vl.len()
+    }
+
+    pub(crate) fn of(&self, vl: VlId) -> Option<usize>
+        ensures place { result ≡ link_of self.now vl.0 }
+        ensures within { IfSome result (λ i. i < length self.now) }
+    {
+        self.by_vl.get_index_of(&vl)
+    }
+
+    /// Whether there is a link of this identifier, and it goes to the system.
+    pub(crate) fn goes_to(&self, vl: VlId, system: SystemId) -> bool
+        ensures { result ≡ goes_to self.now vl.0 system.0 }
+    {
+        match self.of(vl) {
+            Some(index) => self.at(index).goes_to(system),
+            None => false,
+        }
+    }
+
+    pub(crate) fn at(&self, index: usize) -> &Link
+        requires { index < length self.now }
+        ensures { slice_get self.now index ≡ Some (link_row result.now) }
+    {
+        &self.by_vl[index]
+    }
+
+    pub(crate) fn push(&mut self, link: Link) -> Result<(), AllocError>
+        requires room { length self.old < 4096 }
+        requires fresh { link_of self.old link.vl.0 ≡ None }
+        ensures { OnOk result (self.new ≡ self.old ++ link_row link ∷ []) }
+    {
+        self.by_vl.insert(link.vl, link)?;
+        Ok(())
+    }
+}

@@ -1,0 +1,246 @@
+//! The reading of links.
+ghost use Rattle.std.specs.Prelude.{◌≡◌, ◌≤◌, ◌<◌, ◌∷◌, [], length, None, IfOk, codes, true, nat_eq};
+ghost use Rattle.std.specs.List.{list_any, AllByRecursion};
+ghost use Rattle.toml.specs.View.{table_view};
+ghost use Rattle.afdx_frame.specs.declared.link.Priority.TheVariants.{High, Low};
+ghost use Rattle.afdx_frame.specs.declared.link.Policing.TheVariants.{Byte, Frame};
+ghost use Rattle.afdx_config.specs.Lawful.{IsLink, AreLinks, IsTraffic, IsTreatment, IsWithin};
+ghost use Rattle.afdx_config.specs.Rows.{link_row, system_places};
+ghost use Rattle.afdx_config.specs.Fault.{Gives};
+ghost use Rattle.afdx_config.specs.Trees.{trees, lent_texts};
+ghost use Rattle.afdx_config.specs.Keys as keys;
+ghost use Rattle.afdx_config.specs.Reading as spec;
+
+use crate::fault::{ConfigFault, Part, Place};
+use crate::keys::{one_of, only_link_keys, place, text, texts, whole};
+use crate::links::Links;
+use crate::read_systems::named;
+use crate::rows::{Link, SystemId};
+use crate::systems::Systems;
+use afdx_frame::{Policing, Priority, VlId};
+use std::alloc::Global;
+use toml::Table;
+
+#[tactic(auto, using(crate::proofs::EachRow::all_push))]
+fn all_named(
+    alloc: Global,
+    place: Place,
+    names: &[&str],
+    systems: &Systems,
+) -> Result<Vec<SystemId>, ConfigFault>
+    ensures known { IfOk result (λ v. AllByRecursion (λ i. i < length systems.now) (system_places v.items)) }
+    ensures count { IfOk result (λ v. length v.items ≡ length names.now) }
+    ensures value { Gives (λ v. system_places v.items) result (spec.or_no_such place (spec.all_of (spec.system_named systems.now) (lent_texts names.now))) }
+{
+    let mut ids = Vec::new(alloc);
+    for name in names {
+        match systems.named(name) {
+            Some(id) => ids.push(id)?,
+            None => return Err(ConfigFault::NoSuchSystem(place)),
+        }
+    }
+    Ok(ids)
+}
+
+#[tactic(auto, using(crate::proofs::Gathered::any_places))]
+fn is_among(id: SystemId, ids: &[SystemId]) -> bool
+    ensures { result ≡ list_any (λ j. nat_eq j id.0) (system_places ids.now) }
+{
+    ids.contains(&id)
+}
+
+fn has_repeat(ids: &[SystemId]) -> bool
+    ensures { result ≡ spec.has_repeat (system_places ids.now) }
+{
+    match ids {
+        [] => false,
+        [first, rest @ ..] => is_among(*first, rest) || has_repeat(rest),
+    }
+}
+
+#[tactic(auto, unfolding(crate::specs::Reading::are_apart))]
+fn are_apart(from: SystemId, ids: &[SystemId]) -> bool
+    ensures { result ≡ spec.are_apart from.0 (system_places ids.now) }
+{
+    !is_among(from, ids) && !has_repeat(ids)
+}
+
+/// The systems that an array of 1 to 24 texts names, all different, and other than `from`.
+#[tactic(auto, unfolding(crate::specs::Reading::destinations))]
+fn destinations(
+    alloc: Global,
+    table: &Table,
+    place: Place,
+    systems: &Systems,
+    from: SystemId,
+) -> Result<Vec<SystemId>, ConfigFault>
+    ensures known { IfOk result (λ v. AllByRecursion (λ i. i < length systems.now) (system_places v.items)) }
+    ensures count { IfOk result (λ v. IsWithin 1 24 (length v.items)) }
+    ensures apart { IfOk result (λ v. spec.are_apart from.0 (system_places v.items) ≡ true) }
+    ensures value { Gives (λ v. system_places v.items) result (spec.destinations place systems.now from.0 (table_view table.now)) }
+{
+    let names = texts(alloc, table, place, "to")?;
+    if names.len() < 1 || 24 < names.len() {
+        return Err(ConfigFault::OutOfRange(place));
+    }
+    let ids = all_named(alloc, place, &names, systems)?;
+    if are_apart(from, &ids) {
+        Ok(ids)
+    } else {
+        Err(ConfigFault::Twice(place))
+    }
+}
+
+#[tactic(auto, unfolding(crate::specs::Keys::word))]
+fn priority(table: &Table, place: Place) -> Result<Priority, ConfigFault>
+    ensures { Gives (λ p. p) result (keys.word place (codes "priority") ((codes "high", High) ∷ (codes "low", Low) ∷ []) (table_view table.now)) }
+{
+    match text(table, place, "priority")? {
+        "high" => Ok(Priority::High),
+        "low" => Ok(Priority::Low),
+        _ => Err(ConfigFault::OutOfRange(place)),
+    }
+}
+
+#[tactic(auto, unfolding(crate::specs::Keys::word))]
+fn policing(table: &Table, place: Place) -> Result<Policing, ConfigFault>
+    ensures { Gives (λ p. p) result (keys.word place (codes "policing") ((codes "byte", Byte) ∷ (codes "frame", Frame) ∷ []) (table_view table.now)) }
+{
+    let word = text(table, place, "policing")?;
+    if word == "byte" {
+        Ok(Policing::Byte)
+    } else if word == "frame" {
+        Ok(Policing::Frame)
+    } else {
+        Err(ConfigFault::OutOfRange(place))
+    }
+}
+
+/// How much a link may send.
+#[derive(Clone, Copy)]
+struct Traffic {
+    bag_ms: u64,
+    lmin: u64,
+    lmax: u64,
+    jitter_us: u64,
+}
+
+/// How a link's frames are treated.
+#[derive(Clone, Copy)]
+struct Treatment {
+    priority: Priority,
+    policing: Policing,
+    latency_us: u64,
+    skew_us: u64,
+    subs: u64,
+}
+
+#[tactic(auto, unfolding(crate::specs::Reading::traffic_at))]
+fn traffic_of(table: &Table, index: usize) -> Result<Traffic, ConfigFault>
+    ensures lawful { IfOk result IsTraffic }
+    ensures value { Gives (λ x. x) result (spec.traffic_at (keys.place Part.Link index) (table_view table.now)) }
+{
+    let bag_ms = one_of(
+        table,
+        place(Part::Link, index, 4),
+        "bag_ms",
+        &[1, 2, 4, 8, 16, 32, 64, 128],
+    )?;
+    let lmin = whole(table, place(Part::Link, index, 5), "lmin", 64, 1518)?;
+    let lmax = whole(table, place(Part::Link, index, 6), "lmax", lmin, 1518)?;
+    let jitter_us = whole(
+        table,
+        place(Part::Link, index, 7),
+        "jitter_us",
+        0,
+        1000 * bag_ms,
+    )?;
+    Ok(Traffic {
+        bag_ms,
+        lmin,
+        lmax,
+        jitter_us,
+    })
+}
+
+#[tactic(auto, unfolding(crate::specs::Reading::treatment_at))]
+fn treatment_of(table: &Table, index: usize) -> Result<Treatment, ConfigFault>
+    ensures lawful { IfOk result IsTreatment }
+    ensures value { Gives (λ x. x) result (spec.treatment_at (keys.place Part.Link index) (table_view table.now)) }
+{
+    let priority = priority(table, place(Part::Link, index, 8))?;
+    let policing = policing(table, place(Part::Link, index, 9))?;
+    let latency_us = whole(
+        table,
+        place(Part::Link, index, 10),
+        "latency_us",
+        1,
+        100_000,
+    )?;
+    let skew_us = whole(table, place(Part::Link, index, 11), "skew_us", 1, 100_000)?;
+    let subs = whole(table, place(Part::Link, index, 12), "subs", 1, 4)?;
+    Ok(Treatment {
+        priority,
+        policing,
+        latency_us,
+        skew_us,
+        subs,
+    })
+}
+
+/// The link that a table states, after those before it.
+#[tactic(auto, unfolding(crate::specs::Reading::link_at))]
+fn link_of(
+    alloc: Global,
+    table: &Table,
+    systems: &Systems,
+    before: &Links,
+) -> Result<Link, ConfigFault>
+    ensures value { Gives link_row result (spec.link_at systems.now before.now (table_view table.now)) }
+    ensures fresh { IfOk result (λ l. spec.link_of before.now l.vl.0 ≡ None) }
+    ensures lawful { IfOk result (λ l. IsLink (length systems.now) (link_row l)) }
+{
+    let index = before.len() + 1;
+    let at = place(Part::Link, index, 1);
+    let vl = VlId(whole(table, at, "vl", 0, 65535)? as u16);
+    if before.of(vl).is_some() {
+        return Err(ConfigFault::Twice(at));
+    }
+    let from = named(table, place(Part::Link, index, 2), "from", systems)?;
+    let to = destinations(alloc, table, place(Part::Link, index, 3), systems, from)?;
+    let traffic = traffic_of(table, index)?;
+    let treatment = treatment_of(table, index)?;
+    only_link_keys(table, place(Part::Link, index, 0))?;
+    Ok(Link {
+        vl,
+        from,
+        to,
+        bag_ms: traffic.bag_ms,
+        lmin: traffic.lmin,
+        lmax: traffic.lmax,
+        jitter_us: traffic.jitter_us,
+        priority: treatment.priority,
+        policing: treatment.policing,
+        latency_us: treatment.latency_us,
+        skew_us: treatment.skew_us,
+        subs: treatment.subs,
+    })
+}
+
+/// The links that the tables state, in their order.
+pub(crate) fn links_of(
+    alloc: Global,
+    tables: &[&Table],
+    systems: &Systems,
+) -> Result<Links, ConfigFault>
+    requires { length tables.now ≤ 4096 }
+    ensures lawful { IfOk result (AreLinks (length systems.now)) }
+    ensures value { Gives (λ l. l) result (spec.each (spec.link_at systems.now) [] (trees tables.now)) }
+{
+    let mut links = Links::new(alloc);
+    for table in tables {
+        let link = link_of(alloc, table, systems, &links)?;
+        links.push(link)?;
+    }
+    Ok(links)
+}

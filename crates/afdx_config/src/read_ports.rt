@@ -1,0 +1,115 @@
+//! The reading of communication ports.
+ghost use Rattle.std.specs.Prelude.{◌≡◌, ◌≤◌, ◌<◌, ◌∷◌, [], length, IfOk, codes, nat_eq, ◌&&◌, false};
+ghost use Rattle.std.specs.List.{list_any};
+ghost use Rattle.toml.specs.View.{table_view};
+ghost use Rattle.afdx_config.specs.Lawful.{IsPort, ArePorts};
+ghost use Rattle.afdx_config.specs.Rows.{port_row, port_rows};
+ghost use Rattle.afdx_config.specs.Fault.{Gives};
+ghost use Rattle.afdx_config.specs.Trees.{trees};
+ghost use Rattle.afdx_config.specs.Keys as keys;
+ghost use Rattle.afdx_config.specs.Reading as spec;
+
+use crate::fault::{ConfigFault, Part, Place};
+use crate::keys::{only_port_keys, place, text, whole};
+use crate::links::Links;
+use crate::read_systems::named;
+use crate::rows::{ComRow, Kind, SystemId};
+use crate::systems::Systems;
+use afdx_frame::VlId;
+use std::alloc::Global;
+use toml::Table;
+
+fn has_port(before: &[ComRow], system: SystemId, link: VlId, udp: u16) -> bool
+    ensures { result ≡ list_any (λ p. (nat_eq p.system.0 system.0 && nat_eq p.link.0 link.0) && nat_eq p.udp udp) before.now }
+{
+    before.iter().any(|com| com.system == system && com.link == link && com.udp == udp)
+}
+
+#[tactic(auto, unfolding(crate::specs::Reading::has_port))]
+fn is_taken(before: &[ComRow], system: SystemId, link: VlId, udp: u16) -> bool
+    ensures { result ≡ spec.has_port (port_rows before.now) system.0 link.0 udp }
+{
+    has_port(before, system, link, udp)
+}
+
+/// The port entry that a table states, after those before it.
+#[tactic(auto, unfolding(crate::specs::Reading::port_at))]
+fn com_of(
+    table: &Table,
+    systems: &Systems,
+    links: &Links,
+    before: &[ComRow],
+) -> Result<ComRow, ConfigFault>
+    requires { length before.now < 4096 }
+    ensures fresh { IfOk result (λ p. spec.has_port (port_rows before.now) p.system.0 p.link.0 p.udp ≡ false) }
+    ensures lawful { IfOk result (λ p. IsPort (length systems.now) links.now (port_row p)) }
+    ensures value { Gives port_row result (spec.port_at systems.now links.now (port_rows before.now) (table_view table.now)) }
+{
+    let index = before.len() + 1;
+    let system = named(table, place(Part::Port, index, 1), "system", systems)?;
+    let at = place(Part::Port, index, 2);
+    let link = VlId(whole(table, at, "link", 0, 65535)? as u16);
+    if !links.goes_to(link, system) {
+        return Err(ConfigFault::OutOfRange(at));
+    }
+    let at = place(Part::Port, index, 3);
+    let udp = whole(table, at, "udp", 1, 65535)? as u16;
+    if is_taken(before, system, link, udp) {
+        return Err(ConfigFault::Twice(at));
+    }
+    let kind = kind(table, place(Part::Port, index, 4))?;
+    let depth = whole(
+        table,
+        place(Part::Port, index, 5),
+        "depth",
+        1,
+        deepest(kind),
+    )?;
+    only_port_keys(table, place(Part::Port, index, 0))?;
+    Ok(ComRow {
+        system,
+        link,
+        udp,
+        kind,
+        depth,
+    })
+}
+
+fn deepest(kind: Kind) -> u64
+    ensures { result ≡ spec.deepest kind }
+{
+    match kind {
+        Kind::Sampling => 1,
+        Kind::Queuing => 64,
+    }
+}
+
+#[tactic(auto, unfolding(crate::specs::Keys::word))]
+fn kind(table: &Table, place: Place) -> Result<Kind, ConfigFault>
+    ensures { Gives (λ k. k) result (keys.word place (codes "kind") ((codes "sampling", Kind.Sampling) ∷ (codes "queuing", Kind.Queuing) ∷ []) (table_view table.now)) }
+{
+    match text(table, place, "kind")? {
+        "sampling" => Ok(Kind::Sampling),
+        "queuing" => Ok(Kind::Queuing),
+        _ => Err(ConfigFault::OutOfRange(place)),
+    }
+}
+
+/// The communication ports that the tables state, in their order.
+pub(crate) fn coms_of(
+    alloc: Global,
+    tables: &[&Table],
+    systems: &Systems,
+    links: &Links,
+) -> Result<Vec<ComRow>, ConfigFault>
+    requires { length tables.now ≤ 4096 }
+    ensures lawful { IfOk result (λ v. ArePorts (length systems.now) links.now (port_rows v.items)) }
+    ensures value { Gives (λ v. port_rows v.items) result (spec.each (spec.port_at systems.now links.now) [] (trees tables.now)) }
+{
+    let mut coms = Vec::new(alloc);
+    for table in tables {
+        let com = com_of(table, systems, links, &coms)?;
+        coms.push(com)?;
+    }
+    Ok(coms)
+}

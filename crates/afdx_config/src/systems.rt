@@ -1,0 +1,102 @@
+//! The systems of a network, by name.
+ghost use Rattle.std.specs.Prelude.{◌≡◌, ◌<◌, ◌≤◌, ◌++◌, [], ◌∷◌, length, slice_get, string_bytes, option_map, None, Some, OnOk, IfSome, position, ◌==◌};
+ghost use Rattle.std.specs.List.{list_any};
+ghost use Rattle.indexmap.specs.IndexMap.{values};
+ghost use Rattle.afdx_config.specs.Rows.{system_row};
+ghost use Rattle.afdx_config.specs.Reading.{system_named, system_at_port, has_id};
+
+use crate::rows::{System, SystemId};
+use indexmap::IndexMap;
+use std::alloc::{AllocError, Global};
+use std::marker::Model;
+
+/// The systems by name, in file order.
+#[derive(Debug, Drop)]
+pub(crate) struct Systems {
+    by_name: IndexMap<String, System>,
+}
+
+impl Model for Systems {
+    ghost use Rattle.std.specs.Prelude.{◌≤◌, List, map, length};
+    ghost use Rattle.std.specs.List.{AllByRecursion};
+    ghost use Rattle.afdx_config.specs.Rows.{SystemRow};
+    ghost use Rattle.afdx_config.specs.Kept.{system_rows, IsUnderItsName};
+
+    ghost Value = { List SystemRow };
+
+    ghost view = { λ s. system_rows s.by_name.entries };
+
+    ghost invariant = { λ s. (length s.by_name.entries ≤ 24) × AllByRecursion IsUnderItsName s.by_name.entries };
+}
+
+impl Systems {
+    pub(crate) fn new(alloc: Global) -> Systems
+        ensures { result ≡ [] }
+    {
+        Systems {
+            by_name: IndexMap::new(alloc),
+        }
+    }
+
+    pub(crate) fn len(&self) -> usize
+        ensures len { result ≡ length self.now }
+        ensures small { result ≤ 24 }
+    {
+        self.by_name.len()
+    }
+
+    pub(crate) fn named(&self, name: &str) -> Option<SystemId>
+        ensures place { option_map (λ i. i.0) result ≡ system_named self.now name.now }
+        ensures known { IfSome result (λ i. i.0 < length self.now) }
+    {
+        match self.by_name.get_index_of(name) {
+            Some(index) => Some(SystemId(index as u8)),
+            None => None,
+        }
+    }
+
+    pub(crate) fn at(&self, id: SystemId) -> &System
+        requires { id.0 < length self.now }
+        ensures { slice_get self.now id.0 ≡ Some (system_row result.now) }
+    {
+        &self.by_name[id.0 as usize]
+    }
+
+    pub(crate) fn at_port(&self, port: u8) -> Option<SystemId>
+        ensures place { option_map (λ i. i.0) result ≡ system_at_port self.now port }
+        ensures known { IfSome result (λ i. i.0 < length self.now) }
+    {
+        match place_of_port(&self.by_name, port) {
+            Some(index) => Some(SystemId(index as u8)),
+            None => None,
+        }
+    }
+
+    pub(crate) fn has_id(&self, id: u16) -> bool
+        ensures { result ≡ has_id self.now id }
+    {
+        any_has_id(&self.by_name, id)
+    }
+
+    pub(crate) fn push(&mut self, system: System) -> Result<(), AllocError>
+        requires room { length self.old < 24 }
+        requires fresh { system_named self.old (string_bytes system.name) ≡ None }
+        ensures { OnOk result (self.new ≡ self.old ++ system_row system ∷ []) }
+    {
+        let name = system.name.clone()?;
+        self.by_name.insert(name, system)?;
+        Ok(())
+    }
+}
+
+fn place_of_port(systems: &IndexMap<String, System>, port: u8) -> Option<usize>
+    ensures { result ≡ position (λ s. s.port == port) (values systems.now) }
+{
+    systems.values().position(|system| system.port == port)
+}
+
+fn any_has_id(systems: &IndexMap<String, System>, id: u16) -> bool
+    ensures { result ≡ list_any (λ s. s.id == id) (values systems.now) }
+{
+    systems.values().any(|system| system.id == id)
+}

@@ -1,0 +1,156 @@
+//! The tables of a network.
+use crate::links::Links;
+use crate::rows::{ComRow, Link, System, SystemId};
+use crate::systems::Systems;
+use afdx_frame::VlId;
+use std::marker::Model;
+
+/// The tables of a network: its systems, its links and the communication ports of its systems, each
+/// in the order of the file. Every rule of the format holds in them.
+#[derive(Debug, Drop)]
+pub struct Tables {
+    profile: u64,
+    buffer: u64,
+    systems: Systems,
+    links: Links,
+    coms: Vec<ComRow>,
+}
+
+impl Model for Tables {
+    ghost use Rattle.afdx_config.specs.Rows.{Rows, port_rows};
+    ghost use Rattle.afdx_config.specs.Lawful.{IsLawful};
+
+    ghost Value = { Rows };
+
+    ghost view = { λ t. record { profile = t.profile; buffer = t.buffer; systems = t.systems; links = t.links; ports = port_rows t.coms.items } };
+
+    ghost invariant = { λ t. IsLawful (record { profile = t.profile; buffer = t.buffer; systems = t.systems; links = t.links; ports = port_rows t.coms.items }) };
+}
+
+impl Tables {
+    ghost use Rattle.std.specs.Prelude.{◌≡◌, ◌<◌, length, slice_get, Some, option_map, IfSome};
+    ghost use Rattle.afdx_config.specs.Rows.{LinkRow, system_row, link_row, port_row, port_rows, is_to};
+    ghost use Rattle.afdx_config.specs.Reading.{system_named, system_at_port, link_of};
+    ghost use Rattle.afdx_config.specs.Lawful.{IsLawful, IsSystem, IsLink, IsPort};
+
+    pub(crate) fn new(
+        profile: u64,
+        buffer: u64,
+        systems: Systems,
+        links: Links,
+        coms: Vec<ComRow>,
+    ) -> Tables
+        requires { IsLawful (record { profile = profile; buffer = buffer; systems = systems; links = links; ports = port_rows coms.items }) }
+        ensures { result ≡ record { profile = profile; buffer = buffer; systems = systems; links = links; ports = port_rows coms.items } }
+    {
+        Tables {
+            profile,
+            buffer,
+            systems,
+            links,
+            coms,
+        }
+    }
+
+    /// The profile, 1 or 2.
+    pub fn profile(&self) -> u64
+        ensures profile { result ≡ self.now.profile }
+        ensures lawful { IsLawful self.now }
+    {
+        self.profile
+    }
+
+    /// The room of each output port, in bytes of waiting frames.
+    pub fn buffer(&self) -> u64
+        ensures buffer { result ≡ self.now.buffer }
+        ensures lawful { IsLawful self.now }
+    {
+        self.buffer
+    }
+
+    /// How many systems there are, at most 24.
+    pub fn system_count(&self) -> usize
+        ensures count { result ≡ length self.now.systems }
+        ensures lawful { IsLawful self.now }
+    {
+        self.systems.len()
+    }
+
+    /// The system at this place.
+    pub fn system(&self, id: SystemId) -> &System
+        requires { id.0 < length self.now.systems }
+        ensures row { slice_get self.now.systems id.0 ≡ Some (system_row result.now) }
+        ensures lawful_row { IsSystem self.now.profile (system_row result.now) }
+        ensures lawful { IsLawful self.now }
+    {
+        self.systems.at(id)
+    }
+
+    /// The system of this name, if there is one. A look-up.
+    pub fn system_named(&self, name: &str) -> Option<SystemId>
+        ensures place { option_map (λ i. i.0) result ≡ system_named self.now.systems name.now }
+        ensures known { IfSome result (λ i. i.0 < length self.now.systems) }
+    {
+        self.systems.named(name)
+    }
+
+    /// The system at this port of the switch, if there is one. It tries each system.
+    pub fn system_at(&self, port: u8) -> Option<SystemId>
+        ensures place { option_map (λ i. i.0) result ≡ system_at_port self.now.systems port }
+        ensures known { IfSome result (λ i. i.0 < length self.now.systems) }
+    {
+        self.systems.at_port(port)
+    }
+
+    /// How many links there are, at most 4,096.
+    pub fn link_count(&self) -> usize
+        ensures count { result ≡ length self.now.links }
+        ensures lawful { IsLawful self.now }
+    {
+        self.links.len()
+    }
+
+    /// The link at this place, from 0.
+    pub fn link(&self, index: usize) -> &Link
+        requires { index < length self.now.links }
+        ensures row { slice_get self.now.links index ≡ Some (link_row result.now) }
+        ensures lawful_row { IsLink (length self.now.systems) (link_row result.now) }
+        ensures lawful { IsLawful self.now }
+    {
+        self.links.at(index)
+    }
+
+    /// The place of the link of this identifier, if there is one. A look-up.
+    pub fn link_of(&self, vl: VlId) -> Option<usize>
+        ensures place { result ≡ link_of self.now.links vl.0 }
+        ensures known { IfSome result (λ i. i < length self.now.links) }
+    {
+        self.links.of(vl)
+    }
+
+    /// Whether the link at this place goes to the system. It tries each of the link's systems.
+    pub fn goes_to(&self, link: usize, system: SystemId) -> bool
+        requires { link < length self.now.links }
+        ensures { (l : LinkRow) → slice_get self.now.links link ≡ Some l → result ≡ is_to system.0 l }
+    {
+        self.links.at(link).goes_to(system)
+    }
+
+    /// How many communication ports there are, at most 4,096.
+    pub fn com_count(&self) -> usize
+        ensures count { result ≡ length self.now.ports }
+        ensures lawful { IsLawful self.now }
+    {
+        self.coms.len()
+    }
+
+    /// The communication port at this place, from 0.
+    pub fn com(&self, index: usize) -> &ComRow
+        requires { index < length self.now.ports }
+        ensures row { slice_get self.now.ports index ≡ Some (port_row result.now) }
+        ensures lawful_row { IsPort (length self.now.systems) self.now.links (port_row result.now) }
+        ensures lawful { IsLawful self.now }
+    {
+        &self.coms[index]
+    }
+}

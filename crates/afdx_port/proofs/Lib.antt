@@ -1,0 +1,10 @@
+pub mod TurnLemmas
+pub mod ScheduleLemmas
+pub mod ClassLemmas
+pub mod QueueLemmas
+pub mod DueLemmas
+pub mod HistoryLemmas
+pub mod SoundLemmas
+pub mod BeginLemmas
+pub mod PutLemmas
+pub mod TakeLemmas

@@ -1,0 +1,13 @@
+-- What a port has to know of a frame.
+use Rattle.std.specs.Prelude.{ℕ, ◌≤◌, Option, IfSome}
+
+-- its length in bytes, and how many nanoseconds it may wait for its turn, if there is a limit
+pub record Facts : Type 0 where
+  pub bytes : ℕ
+  pub longest_wait : Option ℕ
+
+-- a frame has 64 to 1518 bytes (IEEE 802.3), and waits for at most 100 ms
+pub record AreLawful (f : Facts) : Type 0 where
+  pub least : 64 ≤ f.bytes
+  pub most : f.bytes ≤ 1518
+  pub wait : IfSome f.longest_wait (λ wait. wait ≤ 100000000)

@@ -1,0 +1,98 @@
+-- What a port holds, and what comes of it next.
+use Rattle.std.specs.Prelude.{◌≡◌, ℕ, ◌+◌, ◌*◌, ◌<◌, ◌≤◌, ◌⊎◌, max, nat_lt, if◌then◌else◌, Bool, List, [], ◌∷◌, length, Option, Some, None, IfSome, option_map, slice_get, sum_by}
+use Rattle.std.specs.List.{AllByRecursion}
+use Rattle.afdx_frame.specs.declared.link.Priority.{Priority}
+use Rattle.afdx_frame.specs.declared.link.Priority.TheVariants.{High, Low}
+use Rattle.afdx_port.specs.declared.left.Left.{Left}
+use Rattle.afdx_port.specs.declared.left.Due.{Due}
+use Rattle.afdx_port.specs.declared.pending.Waiting.{Waiting}
+use Rattle.afdx_port.specs.declared.pending.Pending.{Pending}
+use Rattle.afdx_port.specs.Facts.{Facts}
+use Rattle.afdx_port.specs.Due.{IsAfter}
+use Rattle.afdx_port.specs.Schedule.{is_past, lasting}
+
+-- the time of one byte on a line of 1000, 100 or 10 Mbit/s, in ns
+abbrev pub IsByteTime : ℕ → Type 0
+IsByteTime byte_ns = (byte_ns ≡ 8) ⊎ ((byte_ns ≡ 80) ⊎ (byte_ns ≡ 800))
+
+-- the class that goes next, and its moment, from the moments at which the first frame of each class could go
+abbrev pub choice : Option ℕ → Option ℕ → Option (Priority × ℕ)
+choice None None = None
+choice None (Some low) = Some (Low, low)
+choice (Some high) None = Some (High, high)
+choice (Some high) (Some low) = if nat_lt low high then Some (Low, low) else Some (High, high)
+
+module _ {X : Type 0} where
+  -- when the first frame of a queue could go
+  abbrev pub ready : ℕ → List (Waiting X) → Option ℕ
+  ready free [] = None
+  ready free (w ∷ ws) = Some (max w.time free)
+
+  abbrev pub queue_of : Priority → Pending X → List (Waiting X)
+  queue_of High p = p.high.items
+  queue_of Low p = p.low.items
+
+  abbrev pub choice_of : Pending X → Option (Priority × ℕ)
+  choice_of p = choice (ready p.free p.high.items) (ready p.free p.low.items)
+
+  -- at t the frame has waited too long
+  abbrev pub is_too_old : (X → Facts) → Waiting X → ℕ → Bool
+  is_too_old facts w t = is_past (facts w.item).longest_wait w.time t
+
+  -- the turn of a frame at t
+  abbrev pub due_from : (X → Facts) → ℕ → Waiting X → ℕ → Due
+  due_from facts byte_ns w t = record { time = t + lasting byte_ns (is_too_old facts w t) (facts w.item).bytes; too_old = is_too_old facts w t }
+
+  -- the turn of the first frame of the class that goes next
+  abbrev pub due_next : (X → Facts) → Pending X → Option (Priority × ℕ) → Option Due
+  due_next facts p None = None
+  due_next facts p (Some (priority, moment)) = option_map (λ w. due_from facts p.byte_ns w moment) (slice_get (queue_of priority p) 0)
+
+  -- the turn that has begun, or else the next one
+  abbrev pub due_first : ℕ → Option (Left X) → Option Due → Option Due
+  due_first free None next = next
+  due_first free (Some left) next = Some (record { time = free; too_old = left.too_old })
+
+  -- the turn that is given next, if no frame is put before
+  abbrev pub due_of : (X → Facts) → Pending X → Option Due
+  due_of facts p = due_first p.free p.sending (due_next facts p (choice_of p))
+
+  -- no further turn is given by t
+  abbrev pub IsQuiet : (X → Facts) → Pending X → ℕ → Type 0
+  IsQuiet facts p t = IfSome (due_of facts p) (λ d. IsAfter t d)
+
+  -- the last time used
+  abbrev pub last_time : Pending X → ℕ
+  last_time p = p.clock
+
+  -- how many frames the port holds, that of a turn that has begun among them
+  abbrev pub sending_count : Option (Left X) → ℕ
+  sending_count None = 0
+  sending_count (Some left) = 1
+
+  abbrev pub frames_held : Pending X → ℕ
+  frames_held p = length p.high.items + length p.low.items + sending_count p.sending
+
+  -- all else stays, but for the queue of one class, which keeps its room
+  abbrev pub ChangesQueue : Priority → Pending X → Pending X → Type 0
+  ChangesQueue High old new = (new ≡ record old { high = new.high }) × (new.high.capacity ≡ old.high.capacity)
+  ChangesQueue Low old new = (new ≡ record old { low = new.low }) × (new.low.capacity ≡ old.low.capacity)
+
+  -- a further frame of the class fits into the memory that was reserved
+  abbrev pub HasRoom : Priority → Pending X → Type 0
+  HasRoom High p = length p.high.items < p.high.capacity
+  HasRoom Low p = length p.low.items < p.low.capacity
+
+  -- what is true of every port, whatever the calls
+  pub record IsSound (facts : X → Facts) (p : Pending X) : Type 0 where
+    pub rate : (1 ≤ p.byte_ns) × (p.byte_ns ≤ 800)
+    pub buffer : p.buffer ≤ 4194304
+    pub waiting : p.waiting ≡ sum_by (λ w. (facts w.item).bytes) p.high.items + sum_by (λ w. (facts w.item).bytes) p.low.items
+    pub within : p.waiting ≤ p.buffer
+    pub high_room : p.buffer < 64 * (p.high.capacity + 1)
+    pub low_room : p.buffer < 64 * (p.low.capacity + 1)
+    pub high_times : AllByRecursion (λ w. w.time ≤ 1000032768000000) p.high.items
+    pub low_times : AllByRecursion (λ w. w.time ≤ 1000032768000000) p.low.items
+    -- a slot takes at most 1,230,400 ns
+    pub soon : p.free ≤ p.clock + 1230400
+    pub ends : p.free + (length p.high.items + length p.low.items) * 1230400 ≤ 1100000000000000

@@ -1,0 +1,47 @@
+ghost use Rattle.std.specs.Prelude.{◌<◌, ◌↔◌, IsTrue};
+
+use afdx_frame::Priority;
+
+/// A frame that left the port.
+#[derive(Debug, Drop)]
+pub struct Left<T> {
+    pub item: T,
+    pub priority: Priority,
+    /// When its slot ended, in ns. For a frame that was dropped, the moment of its turn.
+    pub end: u64,
+    /// The frame was dropped: its turn came when its longest wait was past.
+    pub too_old: bool,
+}
+
+/// When a turn will be over, in ns: the end of a slot, or the moment of a drop.
+#[derive(Clone, Copy, Debug, PartialEq, Eq)]
+pub struct Due {
+    pub time: u64,
+    pub too_old: bool,
+}
+
+impl Due {
+    ghost use Rattle.afdx_port.specs.Due.{order_of, IsBy};
+
+    /// Whether the turn is given by `until`: a slot if it ends at or before, a drop if its moment is before.
+    pub fn is_by(&self, until: u64) -> bool
+        ensures { IsTrue result ↔ IsBy until self.now }
+    {
+        if self.too_old {
+            self.time < until
+        } else {
+            self.time <= until
+        }
+    }
+
+    /// Whether this turn goes before the other one, where ports are served together: by time, and at one time slots before drops.
+    pub fn is_before(&self, other: &Due) -> bool
+        ensures { IsTrue result ↔ order_of self.now < order_of other.now }
+    {
+        if self.time == other.time {
+            !self.too_old && other.too_old
+        } else {
+            self.time < other.time
+        }
+    }
+}

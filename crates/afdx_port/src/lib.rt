@@ -1,0 +1,14 @@
+//! An output port: two queues of frames, high before low, that share a buffer and a line.
+#![tactic(auto)]
+
+mod has_length;
+pub mod laws;
+mod left;
+mod pending;
+mod port;
+#[cfg(test)]
+mod tests;
+
+pub use has_length::HasLength;
+pub use left::{Due, Left};
+pub use port::Port;

@@ -1,0 +1,250 @@
+ghost use Rattle.std.specs.Prelude.{◌≡◌, ℕ, ◌+◌, ◌-◌, ◌*◌, ◌/◌, ◌<◌, ◌≤◌, ◌^◌, ◌⊎◌, ◌↔◌, [], ◌∷◌, ◌++◌, List, Some, None, IfOk, IfErr, OnOk, OnErr, IsErr, IfSome, OnSome, IfNone, MatchOption, MatchResult, option_copied, slice_get};
+ghost use Rattle.afdx_frame.specs.declared.link.Priority.{Priority};
+ghost use Rattle.afdx_port.specs.Schedule.{Entry, Turn, is_past, IsNext, IsSchedule, IsLost};
+
+use crate::has_length::HasLength;
+use crate::left::{Due, Left};
+use afdx_frame::Priority;
+use circular_buffer::HeapCircularBuffer;
+use std::alloc::{AllocError, Global};
+
+/// The bytes on the wire beside a frame: preamble, start delimiter and gap (IEEE 802.3, 3.1.1 and 4.4.2).
+const GAP: u64 = 20;
+
+/// A frame that waits, and when it came.
+#[derive(Debug, Drop)]
+pub(crate) struct Waiting<T> {
+    pub(crate) time: u64,
+    pub(crate) item: T,
+}
+
+/// What a port still has to do.
+#[derive(Drop)]
+pub(crate) struct Pending<T> {
+    byte_ns: u64,
+    buffer: u64,
+    /// The last time used.
+    clock: u64,
+    /// When the last turn that has begun is over.
+    free: u64,
+    /// The frame of that turn, until it is taken.
+    sending: Option<Left<T>>,
+    /// The lengths of the frames that wait.
+    waiting: u64,
+    high: HeapCircularBuffer<Waiting<T>>,
+    low: HeapCircularBuffer<Waiting<T>>,
+}
+
+/// Whether a frame that came at `time` has waited too long at `moment`.
+fn is_too_old(longest_wait: Option<u64>, time: u64, moment: u64) -> bool
+    requires { time ≤ moment }
+    ensures { result ≡ is_past longest_wait time moment }
+{
+    match longest_wait {
+        None => false,
+        Some(wait) => wait < moment - time,
+    }
+}
+
+impl<T: HasLength> Pending<T> {
+    ghost use Rattle.afdx_port.specs.Due.{given_at, IsAfter};
+    ghost use Rattle.afdx_port.specs.Held.{IsByteTime, choice_of, queue_of, due_from, due_of, IsQuiet, frames_held, ChangesQueue, HasRoom, IsSound};
+    ghost use Rattle.afdx_port.specs.History.{History, no_calls, at, with_put, entry_of, due_at, StandsFor, Gives};
+
+    pub(crate) fn new(alloc: Global, byte_ns: u64, buffer: u64) -> Result<Pending<T>, AllocError>
+        requires rate { IsByteTime byte_ns }
+        requires buffer { (64 ≤ buffer) × (buffer ≤ 4194304) }
+        ensures sound { IfOk result (λ p. IsSound T.facts p) }
+        ensures stands { IfOk result (λ p. StandsFor T.facts p (no_calls byte_ns buffer)) }
+        ensures held { IfOk result (λ p. frames_held p ≡ 0) }
+        ensures quiet { (t : ℕ) → IfOk result (λ p. IsQuiet T.facts p t) }
+        ensures clock { IfOk result (λ p. p.clock ≡ 0) }
+    {
+        let places = (buffer / 64) as usize;
+        let high = HeapCircularBuffer::with_capacity(alloc, places)?;
+        let low = HeapCircularBuffer::with_capacity(alloc, places)?;
+        Ok(Pending {
+            byte_ns,
+            buffer,
+            clock: 0,
+            free: 0,
+            sending: None,
+            waiting: 0,
+            high,
+            low,
+        })
+    }
+
+    /// The class that goes next, and its moment.
+    fn next_choice(&self) -> Option<(Priority, u64)>
+        ensures { result ≡ choice_of self.now }
+    {
+        let high = self.high.front().map(|front| front.time.max(self.free));
+        let low = self.low.front().map(|front| front.time.max(self.free));
+        match (high, low) {
+            (Some(high), Some(low)) if low < high => Some((Priority::Low, low)),
+            (Some(high), _) => Some((Priority::High, high)),
+            (None, Some(low)) => Some((Priority::Low, low)),
+            (None, None) => None,
+        }
+    }
+
+    /// The first frame of a class.
+    fn front(&self, priority: Priority) -> Option<&Waiting<T>>
+        ensures { option_copied result ≡ slice_get (queue_of priority self.now) 0 }
+    {
+        match priority {
+            Priority::High => self.high.front(),
+            Priority::Low => self.low.front(),
+        }
+    }
+
+    /// The turn of a frame at `moment`.
+    fn turn_of(&self, waiting: &Waiting<T>, moment: u64) -> Due
+        requires came { waiting.now.time ≤ moment }
+        requires rate { self.now.byte_ns ≤ 800 }
+        requires fits { moment + 1230400 < 2 ^ 64 }
+        ensures { result ≡ due_from T.facts self.now.byte_ns waiting.now moment }
+    {
+        let too_old = is_too_old(waiting.item.longest_wait(), waiting.time, moment);
+        let slot = (waiting.item.length() + GAP) * self.byte_ns;
+        let lasts = if too_old { 0 } else { slot };
+        Due {
+            time: moment + lasts,
+            too_old,
+        }
+    }
+
+    /// When the next turn is over.
+    pub(crate) fn due(&self) -> Option<Due>
+        requires sound { IsSound T.facts self.now }
+        ensures due { result ≡ due_of T.facts self.now }
+        ensures limit { IfSome result (λ due. given_at due ≤ 1200000000000000) }
+    {
+        if let Some(left) = &self.sending {
+            return Some(Due {
+                time: self.free,
+                too_old: left.too_old,
+            });
+        }
+        let (priority, moment) = self.next_choice()?;
+        let front = self.front(priority)?;
+        Some(self.turn_of(front, moment))
+    }
+
+    /// Takes the first frame of a class.
+    fn pop(&mut self, priority: Priority) -> Option<Waiting<T>>
+        ensures first { MatchOption result (queue_of priority self.old ≡ []) (λ w. queue_of priority self.old ≡ w ∷ queue_of priority self.new) }
+        ensures others { ChangesQueue priority self.old self.new }
+    {
+        match priority {
+            Priority::High => self.high.pop_front(),
+            Priority::Low => self.low.pop_front(),
+        }
+    }
+
+    /// Adds a frame to its class, which has room.
+    fn push(&mut self, priority: Priority, waiting: Waiting<T>)
+        requires { HasRoom priority self.old }
+        ensures queue { queue_of priority self.new ≡ queue_of priority self.old ++ waiting ∷ [] }
+        ensures others { ChangesQueue priority self.old self.new }
+    {
+        let overwritten = match priority {
+            Priority::High => self.high.push_back(waiting),
+            Priority::Low => self.low.push_back(waiting),
+        };
+        let fits = overwritten.is_none();
+        prove!(fits);
+    }
+
+    /// Begins the next turn, if its moment is before `time`.
+    fn advance(&mut self, time: u64)
+        requires clock { self.old.clock ≤ time }
+        requires sound { IsSound T.facts self.old }
+        ensures sound { IsSound T.facts self.new }
+        ensures clock { self.new.clock ≡ time }
+        ensures stands { (h : History T) → StandsFor T.facts self.old h → StandsFor T.facts self.new (at h time) }
+        ensures chosen { (c : Priority) (moment : ℕ) → self.new.sending ≡ None → choice_of self.new ≡ Some (c, moment) → time ≤ moment }
+        ensures due { due_of T.facts self.new ≡ due_of T.facts self.old }
+        ensures held { frames_held self.new ≡ frames_held self.old }
+    {
+        self.clock = time;
+        if self.sending.is_some() {
+            return;
+        }
+        let Some((priority, moment)) = self.next_choice() else {
+            return;
+        };
+        if moment >= time {
+            return;
+        }
+        let Some(waiting) = self.pop(priority) else {
+            unreachable!();
+        };
+        let due = self.turn_of(&waiting, moment);
+        let Waiting { time: _, item } = waiting;
+        let length = item.length();
+        self.waiting -= length;
+        self.free = due.time;
+        self.sending = Some(Left {
+            item,
+            priority,
+            end: due.time,
+            too_old: due.too_old,
+        });
+    }
+
+    pub(crate) fn put(&mut self, time: u64, priority: Priority, item: T) -> Result<(), T>
+        requires clock { self.old.clock ≤ time }
+        requires limit { time ≤ 1000032768000000 }
+        requires quiet { IsQuiet T.facts self.old time }
+        requires sound { IsSound T.facts self.old }
+        ensures sound { IsSound T.facts self.new }
+        ensures quiet { IsQuiet T.facts self.new time }
+        ensures clock { self.new.clock ≡ time }
+        ensures held { MatchResult result (λ _. frames_held self.new ≡ frames_held self.old + 1) (λ _. frames_held self.new ≡ frames_held self.old) }
+        ensures ok { (h : History T) → StandsFor T.facts self.old h →
+            OnOk result (StandsFor T.facts self.new (with_put h (entry_of T.facts time priority item))) }
+        ensures err { (h : History T) → StandsFor T.facts self.old h →
+            OnErr result (StandsFor T.facts self.new (at h time)) }
+        ensures back { IfErr result (λ back. back ≡ item) }
+        ensures lost { (h : History T) (turns : List (Turn T)) → StandsFor T.facts self.old h → IsSchedule h.byte_ns h.entries turns →
+            (IsErr result ↔ IsLost h.buffer h.entries turns time (T.facts item).bytes) }
+    {
+        self.advance(time);
+        let length = item.length();
+        if self.waiting + length > self.buffer {
+            return Err(item);
+        }
+        self.push(priority, Waiting { time, item });
+        self.waiting += length;
+        Ok(())
+    }
+
+    /// Sets the clock.
+    pub(crate) fn wait(&mut self, time: u64)
+        ensures { self.new ≡ record self.old { clock = time } }
+    {
+        self.clock = time;
+    }
+
+    pub(crate) fn take(&mut self, until: u64) -> Option<Left<T>>
+        requires clock { self.old.clock ≤ until }
+        requires sound { IsSound T.facts self.old }
+        ensures sound { IsSound T.facts self.new }
+        ensures clock { self.new.clock ≡ until }
+        ensures quiet { IfNone result (IsQuiet T.facts self.new until) }
+        ensures held { MatchOption result (frames_held self.new ≡ frames_held self.old) (λ _. frames_held self.new + 1 ≡ frames_held self.old) }
+        ensures given { (h : History T) → StandsFor T.facts self.old h → IfSome result (λ left. Gives T.facts h until left self.new) }
+        ensures none { (h : History T) → StandsFor T.facts self.old h → IfNone result (StandsFor T.facts self.new (at h until)) }
+        ensures no_more { (h : History T) (s : Turn T) → StandsFor T.facts self.old h → IsNext h.byte_ns h.entries h.taken s → IfNone result (IsAfter until (due_at s)) }
+        ensures all_done { (h : History T) → StandsFor T.facts self.old h → 1200000000000000 ≤ until → IfNone result (IsSchedule h.byte_ns h.entries h.taken) }
+    {
+        self.advance(until);
+        let is_over = self.free <= until;
+        if !is_over {
+            return None;
+        }
+        self.sending.take()
+    }
+}

@@ -1,0 +1,121 @@
+ghost use Rattle.std.specs.Prelude.{◌≡◌, ℕ, ◌+◌, ◌<◌, ◌≤◌, ◌↔◌, ◌++◌, List, Some, None, IfOk, IfErr, OnOk, OnErr, IsErr, IsTrue, IfSome, IfNone, MatchOption, MatchResult};
+ghost use Rattle.afdx_port.specs.Schedule.{Turn, IsNext, AreTurns, IsSchedule, IsLost};
+ghost use Rattle.afdx_port.specs.ScheduleOf.{AreInOrder, schedule_of};
+
+use crate::has_length::HasLength;
+use crate::left::{Due, Left};
+use crate::pending::Pending;
+use afdx_frame::Priority;
+use std::alloc::{AllocError, Global};
+use std::marker::Model;
+
+/// An output port (ARINC 664 Part 7, the switch's output queues): two queues of frames, high before low, that share a buffer and a line.
+/// No frame is interrupted, and the next frame is chosen after all that came by that moment.
+/// It keeps the frames that still have a turn to come, and nothing of those that left.
+#[derive(Drop)]
+pub struct Port<T: HasLength> {
+    pending: Pending<T>,
+    /// The next turn.
+    due: Option<Due>,
+}
+
+impl<T: HasLength> Model for Port<T> {
+    ghost use Rattle.afdx_port.specs.declared.pending.Pending.{Pending};
+
+    ghost Value = { Pending T };
+
+    ghost use Rattle.std.specs.Prelude.{◌≡◌};
+    ghost use Rattle.afdx_port.specs.Held.{due_of, IsSound};
+
+    ghost view = { λ p. p.pending };
+
+    ghost invariant = { λ p. IsSound T.facts p.pending × (p.due ≡ due_of T.facts p.pending) };
+}
+
+impl<T: HasLength> Port<T> {
+    ghost use Rattle.afdx_port.specs.Due.{given_at, IsAfter};
+    ghost use Rattle.afdx_port.specs.Held.{IsByteTime, due_of, IsQuiet, last_time, frames_held};
+    ghost use Rattle.afdx_port.specs.History.{History, no_calls, at, with_put, entry_of, due_at, StandsFor, Gives};
+
+    /// An idle port at time 0, whose line takes `byte_ns` for a byte: 8, 80 or 800 ns.
+    /// The frames that wait may have `buffer` bytes together, 64 to 4,194,304; there is room for `buffer / 64` of them in each class.
+    /// The error says that memory was refused.
+    pub fn new(alloc: Global, byte_ns: u64, buffer: u64) -> Result<Port<T>, AllocError>
+        requires rate { IsByteTime byte_ns }
+        requires buffer { (64 ≤ buffer) × (buffer ≤ 4194304) }
+        ensures stands { IfOk result (λ p. StandsFor T.facts p (no_calls byte_ns buffer)) }
+        ensures quiet { (t : ℕ) → IfOk result (λ p. IsQuiet T.facts p t) }
+        ensures held { IfOk result (λ p. frames_held p ≡ 0) }
+        ensures clock { IfOk result (λ p. last_time p ≡ 0) }
+    {
+        Ok(Port {
+            pending: Pending::new(alloc, byte_ns, buffer)?,
+            due: None,
+        })
+    }
+
+    /// Offers a frame at `time`, in ns, which isn't before the last time used; no turn is left to be taken by then.
+    /// The frame is lost, and handed back, exactly if the lengths of the frames that wait, with its own, sum to more than the buffer.
+    /// A frame whose turn comes at `time` or later still waits. A lost frame changes nothing but the last time used.
+    pub fn put(&mut self, time: u64, priority: Priority, item: T) -> Result<(), T>
+        requires clock { last_time self.old ≤ time }
+        requires limit { time ≤ 1000032768000000 }
+        requires quiet { IsQuiet T.facts self.old time }
+        ensures ok { (h : History T) → StandsFor T.facts self.old h →
+            OnOk result (StandsFor T.facts self.new (with_put h (entry_of T.facts time priority item))) }
+        ensures err { (h : History T) → StandsFor T.facts self.old h →
+            OnErr result (StandsFor T.facts self.new (at h time)) }
+        ensures back { IfErr result (λ back. back ≡ item) }
+        ensures lost { (h : History T) → StandsFor T.facts self.old h →
+            (IsErr result ↔ IsLost h.buffer h.entries (schedule_of h.byte_ns h.entries) time (T.facts item).bytes) }
+        ensures lost_by_any { (h : History T) (turns : List (Turn T)) → StandsFor T.facts self.old h → IsSchedule h.byte_ns h.entries turns →
+            (IsErr result ↔ IsLost h.buffer h.entries turns time (T.facts item).bytes) }
+        ensures quiet { IsQuiet T.facts self.new time }
+        ensures held { MatchResult result (λ _. frames_held self.new ≡ frames_held self.old + 1) (λ _. frames_held self.new ≡ frames_held self.old) }
+        ensures clock { last_time self.new ≡ time }
+    {
+        let taken = self.pending.put(time, priority, item);
+        self.due = self.pending.due();
+        taken
+    }
+
+    /// When the next turn will be over if no frame is put before, and whether it is a drop.
+    /// None if the port holds nothing: then each frame that was put and not lost has had its turn.
+    pub fn due(&self) -> Option<Due>
+        ensures due { result ≡ due_of T.facts self.now }
+        ensures is_next { (h : History T) (s : Turn T) → StandsFor T.facts self.now h → IsNext h.byte_ns h.entries h.taken s → result ≡ Some (due_at s) }
+        ensures comes { (h : History T) → StandsFor T.facts self.now h → IfSome result (λ due. (s : Turn T) × IsNext h.byte_ns h.entries h.taken s × (due ≡ due_at s)) }
+        ensures all_done { (h : History T) → StandsFor T.facts self.now h → IfNone result (IsSchedule h.byte_ns h.entries h.taken) }
+        ensures limit { IfSome result (λ due. given_at due ≤ 1200000000000000) }
+    {
+        self.due
+    }
+
+    /// Whether `take(time)` would give nothing.
+    pub fn is_quiet(&self, time: u64) -> bool
+        ensures { IsTrue result ↔ IsQuiet T.facts self.now time }
+    {
+        self.due().is_none_or(|due| !due.is_by(time))
+    }
+
+    /// The next turn, if it is over by `until`, in ns: a slot that ends at or before `until`, or a drop whose moment is before `until`.
+    /// `until` isn't before the last time used. If it is 1.2e15 or later, None says that each frame that was put and not lost has had its turn.
+    pub fn take(&mut self, until: u64) -> Option<Left<T>>
+        requires clock { last_time self.old ≤ until }
+        ensures given { (h : History T) → StandsFor T.facts self.old h → IfSome result (λ left. Gives T.facts h until left self.new) }
+        ensures none { (h : History T) → StandsFor T.facts self.old h → IfNone result (StandsFor T.facts self.new (at h until)) }
+        ensures no_more { (h : History T) (s : Turn T) → StandsFor T.facts self.old h → IsNext h.byte_ns h.entries h.taken s → IfNone result (IsAfter until (due_at s)) }
+        ensures all_done { (h : History T) → StandsFor T.facts self.old h → 1200000000000000 ≤ until → IfNone result (IsSchedule h.byte_ns h.entries h.taken) }
+        ensures quiet { IfNone result (IsQuiet T.facts self.new until) }
+        ensures held { MatchOption result (frames_held self.new ≡ frames_held self.old) (λ _. frames_held self.new + 1 ≡ frames_held self.old) }
+        ensures clock { last_time self.new ≡ until }
+    {
+        if self.is_quiet(until) {
+            self.pending.wait(until);
+            return None;
+        }
+        let left = self.pending.take(until);
+        self.due = self.pending.due();
+        left
+    }
+}

@@ -1,0 +1,6 @@
+pub mod AnswerLemmas
+pub mod ReceiverLemmas
+pub mod ReceptionLemmas
+pub mod StepsLemmas
+pub mod StreamLemmas
+pub mod TableLemmas

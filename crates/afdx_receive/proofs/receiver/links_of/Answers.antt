@@ -1,0 +1,19 @@
+use Rattle.std.proofs.Common.{refl}
+use Rattle.afdx_config.specs.Rows.{link_row}
+use Rattle.afdx_receive.proofs.TableLemmas.{link_passed, link_added}
+use Rattle.afdx_receive.proofs.receiver.links_of.Goals as goal
+use Rattle.afdx_receive.proofs.receiver.links_of.Goals.{then-goes_to+in_ok-insert, else-goes_to}
+
+pub loop-index-preserved : goal.loop-index-preserved
+loop-index-preserved c =
+    let links = c.args.tables.now.links in
+    let link = link_row c.link-link.result.now in
+    elim c.if-goes_to.branch [
+      | then-goes_to+in_ok-insert w ↦
+          rw w.links-is (link_added c.args.system.0 links c.loop-index.index link c.link-link.result.now.vl c.loop-index.links w.insert.new.self
+          c.loop-index.invariant c.link-link.ensures.lawful.links.identifiers c.link-link.ensures.row refl (rw c.goes_to.ensures at w.if-goes_to.true)
+          (rw w.new.ensures at w.in_ok-insert.ensures.updates.0))
+      | else-goes_to w ↦
+          rw w.links-is (link_passed c.args.system.0 links c.loop-index.index link c.loop-index.links
+          c.loop-index.invariant c.link-link.ensures.row (rw c.goes_to.ensures at w.if-goes_to.false))
+    ]

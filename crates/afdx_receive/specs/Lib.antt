@@ -1,0 +1,11 @@
+pub mod Steps
+pub mod Integrity
+pub mod Redundancy
+pub mod Standing
+pub mod Arrivals
+pub mod Answers
+pub mod Reception
+pub mod Memory
+pub mod StandsFor
+pub mod TwoStreams
+pub mod Laws

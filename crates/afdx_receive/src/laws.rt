@@ -1,0 +1,45 @@
+//! Laws over the definitions.
+
+ghost use Rattle.afdx_receive.specs.Laws.{WithinIsSomeSteps, FramesAreOwn, AnswerIsComputed};
+ghost use Rattle.afdx_receive.specs.TwoStreams.{StandsByPlace, FirstCopiesWin, FirstCopiesAreCounted, SentIsWonOnce};
+
+use afdx_frame::laws::{datagram_is_computed, frame_is_computed, reading_is_computed};
+
+/// One to some number of steps lead to a number exactly if one of them does.
+pub fn within_is_some_steps()
+    ensures { WithinIsSomeSteps }
+{}
+
+/// A link's frames of what arrived grow by its own frames alone.
+pub fn frames_are_own()
+    ensures { FramesAreOwn }
+{}
+
+/// There is one right answer to what arrives, and it is the one that is computed.
+pub fn answer_is_computed()
+    ensures { AnswerIsComputed }
+{
+    frame_is_computed();
+    datagram_is_computed();
+    reading_is_computed();
+}
+
+/// Of two streams in order the first copies win, and no others.
+pub fn first_copies_win()
+    ensures { FirstCopiesWin }
+{}
+
+/// The first copies are as many as came by the side that came further.
+pub fn first_copies_are_counted()
+    ensures { FirstCopiesAreCounted }
+{}
+
+/// What was sent is won once each, in order.
+pub fn sent_is_won_once()
+    ensures { SentIsWonOnce }
+{}
+
+/// Of two streams in order the next frame wins if it is a first copy, and else it is redundant.
+pub fn next_stands_by_place()
+    ensures { StandsByPlace }
+{}

@@ -1,0 +1,15 @@
+//! What an end system receives on its virtual links (ARINC 664 Part 7): integrity checking, redundancy
+//! management, and the datagram of each frame that wins.
+#![tactic(auto)]
+
+pub mod laws;
+mod memory;
+mod receiver;
+mod reception;
+mod sequence;
+
+pub use receiver::Receiver;
+pub use reception::{DropReason, Reception};
+
+#[cfg(test)]
+mod tests;
