@@ -3,7 +3,7 @@
 
 mod words;
 
-use afdx_replay::{Watched, police};
+use afdx_replay::{Watched, check, police};
 use clap::error::ErrorKind;
 use clap::{ArgMatches, Error};
 use std::alloc::AllocError;
@@ -19,6 +19,9 @@ const NO_DEVICE_OR_MEMORY: u8 = 4;
 
 const OUTPUT_BUFFER: usize = 65_536;
 
+/// The most bytes of a configuration.
+const LARGEST_CONFIG: u64 = 4_194_304;
+
 /// A fault's one line on standard error. There is nothing to be done where that fails too.
 fn complain(rt: &HostRuntime, line: &str) {
     let _ = rt.eprintln(line);
@@ -27,6 +30,43 @@ fn complain(rt: &HostRuntime, line: &str) {
 fn memory(rt: &HostRuntime) -> u8 {
     complain(rt, "memory");
     NO_DEVICE_OR_MEMORY
+}
+
+/// Why a configuration is not there.
+enum NoConfig {
+    Device,
+    Memory,
+}
+
+/// The bytes of a configuration. More than it may have are not read.
+fn read_config(rt: &HostRuntime, path: &str) -> Result<Vec<u8>, NoConfig> {
+    let Ok(file) = File::open(rt, path) else {
+        return Err(NoConfig::Device);
+    };
+    let mut bytes = Vec::new(rt.alloc());
+    match file.take(LARGEST_CONFIG + 1).read_to_end(&mut bytes) {
+        Ok(count) if count as u64 <= LARGEST_CONFIG => Ok(bytes),
+        Err(error) if error.kind() == std::io::ErrorKind::OutOfMemory => Err(NoConfig::Memory),
+        _ => Err(NoConfig::Device),
+    }
+}
+
+fn check_config(rt: &HostRuntime, matches: &ArgMatches<'_>) -> u8 {
+    let Some(path) = matches.get_str("CONFIG") else {
+        return WRONG_WORDS;
+    };
+    match read_config(rt, path) {
+        Ok(config) => {
+            let mut output = Watched::new(rt.stdout());
+            let mut errors = Watched::new(rt.stderr());
+            check(rt.alloc(), config.as_slice(), &mut output, &mut errors)
+        }
+        Err(NoConfig::Memory) => memory(rt),
+        Err(NoConfig::Device) => {
+            complain(rt, "device Config");
+            NO_DEVICE_OR_MEMORY
+        }
+    }
 }
 
 /// Polices what `input` gives, and hands all verdicts to standard output.
@@ -76,6 +116,7 @@ fn police_list(rt: &HostRuntime, matches: &ArgMatches<'_>) -> u8 {
 
 fn run_matches(rt: &HostRuntime, matches: &ArgMatches<'_>) -> u8 {
     match matches.subcommand() {
+        Some(("check", matches)) => check_config(rt, matches),
         Some(("police", matches)) => police_list(rt, matches),
         _ => WRONG_WORDS,
     }

@@ -35,6 +35,41 @@ that are empty or begin with '#' are skipped.
 Example:
   afdx police 1 64 500 examples/one_link.list";
 
+const CHECK_ABOUT: &str = "Says whether a network keeps its latencies";
+
+const CHECK_AFTER: &str = "\
+For each port of the switch that has a system, ascending, a line is printed:
+
+  P port high low buffer
+
+high and low are the longest that a frame of that priority takes through the
+port, in ns ('-' where the high links leave nothing of the line), buffer the
+bytes of buffer that the port needs. Then comes 'ok', or 'no' with the first of
+these lines that is false:
+
+  A1 port            the links to the port send no more than its line carries
+  A2 port bytes      the port's buffer holds all that may wait there
+  A3 port vl ns      each high link's latency is at least the bound of the port
+  A4 port vl ns      each low link's latency is at least the bound of the port
+  A5 system ns       the jitter at a system's output is at most 500 us
+  A6 vl ns           a link's jitter is at least that of its sender's output
+  A7 vl              a link's latency is at most its skew
+
+Ports come first, A1 to A4 at each; then systems, then links in the file's order.
+
+Example:
+  afdx check examples/network.toml";
+
+fn check_command<'a>(alloc: Global) -> Result<Command<'a>, AllocError> {
+    let config = Arg::new(alloc, "CONFIG")
+        .help("The path of a configuration (TOML), at most 4,194,304 bytes")
+        .required(true);
+    Command::new(alloc, "check")
+        .about(CHECK_ABOUT)
+        .after_help(CHECK_AFTER)
+        .arg(config)
+}
+
 fn police_command<'a>(alloc: Global) -> Result<Command<'a>, AllocError> {
     let bag = Arg::new(alloc, "BAG_MS")
         .help("The bandwidth allocation gap in ms: 1, 2, 4, 8, 16, 32, 64 or 128")
@@ -68,5 +103,6 @@ pub fn afdx_command<'a>(alloc: Global) -> Result<Command<'a>, AllocError> {
         .after_help(AFTER)
         .subcommand_required(true)
         .arg_required_else_help(true)
+        .subcommand(check_command(alloc)?)?
         .subcommand(police_command(alloc)?)
 }

@@ -3,7 +3,8 @@
 use Rattle.std.specs.Prelude.{◌≡◌, ℕ, ◌+◌, ◌*◌, ◌/◌, ◌≤◌, List, filter, map, nat_eq, slice_get, Some}
 use Rattle.std.specs.List.{sum_by}
 use Rattle.afdx_config.specs.Rows.{SystemRow, LinkRow, Rows, is_to}
-use Rattle.afdx_config.specs.Flows.{Flow, flow_of, regulation_of, IsPortAdmitted}
+use Rattle.afdx_frame.specs.Flows.{Flow, IsPortAdmitted}
+use Rattle.afdx_config.specs.Flows.{flow_of, regulation_of}
 
 -- the ns of a byte on a system's line, whose rate is in Mbit/s
 abbrev pub byte_ns : SystemRow → ℕ

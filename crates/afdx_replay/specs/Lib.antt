@@ -5,3 +5,4 @@ pub mod PoliceText
 pub mod Policed
 pub mod Policers
 pub mod Commands
+pub mod CheckText

@@ -1,5 +1,6 @@
 //! The worked rows of policing by a run, and a run on weak devices.
 
+mod checks;
 mod devices;
 
 use crate::{RunFault, Summary, Watched, police, run_police};

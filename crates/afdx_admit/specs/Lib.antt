@@ -1,0 +1,5 @@
+pub mod Lines
+pub mod Sums
+pub mod Late
+pub mod FaultText
+pub mod Known

@@ -1,0 +1,59 @@
+-- The sums that are kept of an output port's links.
+use Rattle.std.specs.Prelude.{◌≡◌, ℕ, ◌+◌, ◌*◌, ◌≤◌, ◌<◌, max, List, length, slice_index, slice_get, Option, Some, if◌then◌else◌}
+use Rattle.afdx_frame.specs.declared.link.Priority.TheVariants.{High, Low}
+use Rattle.afdx_frame.specs.Regulation.{fill_rate, cap}
+use Rattle.afdx_config.specs.Rows.{SystemRow, LinkRow, Rows}
+use Rattle.afdx_config.specs.Lawful.{IsLink}
+use Rattle.afdx_frame.specs.Flows.{Flow, is_class}
+use Rattle.afdx_frame.specs.Flows as port
+use Rattle.afdx_admit.specs.declared.fault.AdmitFault.{AdmitFault}
+use Rattle.afdx_admit.specs.declared.sums.Sums.{Sums}
+use Rattle.afdx_admit.specs.Lines.{Output, output_to, output_lines, first_false, jitter_at}
+
+pub record IsSums (o : Output) (r : Sums) : Type 0 where
+  pub byte_ns : r.byte_ns ≡ o.byte_ns
+  pub burst : r.burst ≡ port.burst o.flows
+  pub load : r.load ≡ port.load o.byte_ns o.flows
+  pub high_burst : r.high_burst ≡ port.burst (port.of_class High o.flows)
+  pub high_load : r.high_load ≡ port.load o.byte_ns (port.of_class High o.flows)
+  pub longest_low : r.longest_low ≡ port.longest (port.of_class Low o.flows)
+
+-- the sums of the output port to the system at a place
+pub record AreSumsTo (t : Rows) (place : ℕ) (r : Sums) : Type 0 where
+  pub row : SystemRow
+  pub stands : slice_get t.systems place ≡ Some row
+  pub sums : IsSums (output_to t place row) r
+  pub some : 1 ≤ r.byte_ns
+
+-- how great the sums of so many links are at most
+pub record IsSmall (count : ℕ) (r : Sums) : Type 0 where
+  pub byte_ns : r.byte_ns ≤ 800
+  pub burst : r.burst ≤ count * 393728000000
+  pub load : r.load ≤ count * 157491200
+  pub high_burst : r.high_burst ≤ r.burst
+  pub high_load : r.high_load ≤ r.load
+  pub longest_low : r.longest_low ≤ 1538
+
+-- one flow more
+pub record Adds (f : Flow) (old new : Sums) : Type 0 where
+  pub byte_ns : new.byte_ns ≡ old.byte_ns
+  pub burst : new.burst ≡ old.burst + cap f.link
+  pub load : new.load ≡ old.load + fill_rate f.link * old.byte_ns
+  pub high_burst : new.high_burst ≡ old.high_burst + (if is_class High f.priority then cap f.link else 0)
+  pub high_load : new.high_load ≡ old.high_load + (if is_class High f.priority then fill_rate f.link * old.byte_ns else 0)
+  pub longest_low : new.longest_low ≡ (if is_class Low f.priority then max old.longest_low f.link.smax else old.longest_low)
+
+-- the rules that bound what a link sends
+abbrev pub CanSend : LinkRow → Type 0
+CanSend l = (systems : ℕ) × IsLink systems l
+
+-- the jitters of all systems, in their order
+pub record AreJitters (t : Rows) (jitters : List ℕ) : Type 0 where
+  pub count : length jitters ≡ 24
+  pub each : (place : ℕ) → place < length t.systems → slice_index jitters place ≡ jitter_at t place
+
+-- the first false line of the output port to the system at a place, at a port of the switch
+pub record IsFaultAt (t : Rows) (port place : ℕ) (result : Option AdmitFault) : Type 0 where
+  pub row : SystemRow
+  pub stands : slice_get t.systems place ≡ Some row
+  pub first : result ≡ first_false (output_lines t.buffer port (output_to t place row))

@@ -1,0 +1,15 @@
+//! Admission: whether every frame of a network keeps its link's latency.
+#![tactic(auto)]
+
+mod admitted;
+mod bounds;
+mod fault;
+mod lines;
+mod sums;
+
+pub use admitted::{Admitted, admit};
+pub use bounds::{buffer_need, high_bound, low_bound};
+pub use fault::{AdmitFault, AdmitText};
+
+#[cfg(test)]
+mod tests;

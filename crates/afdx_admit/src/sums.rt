@@ -1,0 +1,181 @@
+//! What is summed over the links that go to one output port.
+ghost use Rattle.std.specs.Prelude.{◌≡◌, ◌*◌, ◌≤◌, ◌<◌, ◌∷◌, [], length, slice_get, Some};
+ghost use Rattle.afdx_frame.specs.Regulation.{cap, fill_rate};
+ghost use Rattle.afdx_config.specs.Rows.{SystemRow, link_row};
+ghost use Rattle.afdx_config.specs.Flows.{flow_of, regulation_of};
+ghost use Rattle.afdx_config.specs.Admission.{byte_ns};
+ghost use Rattle.afdx_admit.specs.Sums.{CanSend, IsSums, IsSmall, AreSumsTo};
+
+use afdx_config::{Link, SystemId, Tables};
+use afdx_frame::Priority;
+
+/// The units of a byte in a burst: as many as 128 ms has nanoseconds.
+pub(crate) const BYTE_UNITS: u64 = 128_000_000;
+
+/// Bursts in units of a byte over `BYTE_UNITS`, loads in such units for the time of a byte.
+#[derive(Clone, Copy)]
+pub(crate) struct Sums {
+    pub(crate) byte_ns: u64,
+    pub(crate) burst: u64,
+    pub(crate) load: u64,
+    pub(crate) high_burst: u64,
+    pub(crate) high_load: u64,
+    pub(crate) longest_low: u64,
+}
+
+impl Sums {
+    ghost use Rattle.afdx_frame.specs.Flows.{high_wait, low_wait};
+    ghost use Rattle.afdx_admit.specs.Lines.{Output, high_bound_of, low_bound_of, buffer_need_of};
+    ghost use Rattle.afdx_admit.specs.Sums.{Adds};
+
+    fn empty(byte_ns: u64) -> Sums
+        requires { byte_ns ≤ 800 }
+        ensures small { IsSmall 0 result }
+        ensures sums { IsSums (record { byte_ns = byte_ns; flows = [] }) result }
+    {
+        Sums {
+            byte_ns,
+            burst: 0,
+            load: 0,
+            high_burst: 0,
+            high_load: 0,
+            longest_low: 0,
+        }
+    }
+
+    /// With one link more.
+    fn with(self, link: &Link) -> Sums
+        requires small { IsSmall 4095 self }
+        requires lawful { CanSend (link_row link.now) }
+        ensures { Adds (flow_of (link_row link.now)) self result }
+    {
+        let burst = burst(link);
+        let load = load(self.byte_ns, link);
+        let all = Sums {
+            burst: self.burst + burst,
+            load: self.load + load,
+            ..self
+        };
+        match link.priority {
+            Priority::High => Sums {
+                high_burst: self.high_burst + burst,
+                high_load: self.high_load + load,
+                ..all
+            },
+            Priority::Low => Sums {
+                longest_low: self.longest_low.max(wire_size(link)),
+                ..all
+            },
+        }
+    }
+
+    /// What a high frame waits for at most, in ns times `BYTE_UNITS`.
+    pub(crate) fn high_wait(&self) -> u64
+        requires { IsSmall 4096 self.now }
+        ensures { (o : Output) → IsSums o self.now → result ≡ high_wait o.byte_ns o.flows }
+    {
+        (self.high_burst + BYTE_UNITS * self.longest_low) * self.byte_ns
+    }
+
+    /// What a low frame waits for at most, in ns times what the high ones leave of `BYTE_UNITS`.
+    pub(crate) fn low_wait(&self) -> u64
+        requires { IsSmall 4096 self.now }
+        ensures { (o : Output) → IsSums o self.now → result ≡ low_wait o.byte_ns o.flows }
+    {
+        self.burst * self.byte_ns
+    }
+
+    /// The bytes that wait at most, rounded up.
+    #[tactic(auto, unfolding(crate::specs::Lines::buffer_need_of))]
+    pub(crate) fn buffer_need(&self) -> u64
+        ensures { (o : Output) → IsSums o self.now → result ≡ buffer_need_of o }
+    {
+        self.burst.div_ceil(BYTE_UNITS)
+    }
+
+    /// What a high frame waits for at most, in ns, rounded up.
+    #[tactic(auto, unfolding(crate::specs::Lines::high_bound_of))]
+    pub(crate) fn high_bound(&self) -> u64
+        requires { IsSmall 4096 self.now }
+        ensures { (o : Output) → IsSums o self.now → result ≡ high_bound_of o }
+    {
+        self.high_wait().div_ceil(BYTE_UNITS)
+    }
+
+    /// What a low frame waits for at most, in ns, rounded up, if the high ones leave something.
+    #[tactic(auto, unfolding(crate::specs::Lines::low_bound_of))]
+    pub(crate) fn low_bound(&self) -> Option<u64>
+        requires { IsSmall 4096 self.now }
+        ensures { (o : Output) → IsSums o self.now → result ≡ low_bound_of o }
+    {
+        if self.high_load < BYTE_UNITS {
+            Some(self.low_wait().div_ceil(BYTE_UNITS - self.high_load))
+        } else {
+            None
+        }
+    }
+}
+
+/// The greatest wire size of a link's frames, in bytes.
+pub(crate) fn wire_size(link: &Link) -> u64
+    requires { CanSend (link_row link.now) }
+    ensures size { result ≡ (regulation_of (link_row link.now)).smax }
+    ensures small { result ≤ 1538 }
+{
+    link.lmax + 20
+}
+
+/// What a link may send at once.
+fn burst(link: &Link) -> u64
+    requires { CanSend (link_row link.now) }
+    ensures burst { result ≡ cap (regulation_of (link_row link.now)) }
+    ensures small { result ≤ 393728000000 }
+{
+    wire_size(link) * (128 / link.bag_ms) * (1_000_000 * link.bag_ms + 1000 * link.jitter_us)
+}
+
+/// What a link may send in the time of a byte.
+fn load(byte_ns: u64, link: &Link) -> u64
+    requires lawful { CanSend (link_row link.now) }
+    requires slow { byte_ns ≤ 800 }
+    ensures load { result ≡ fill_rate (regulation_of (link_row link.now)) * byte_ns }
+    ensures small { result ≤ 157491200 }
+{
+    wire_size(link) * (128 / link.bag_ms) * byte_ns
+}
+
+/// The ns of a byte on a system's line.
+pub(crate) fn byte_ns_of(tables: &Tables, id: SystemId) -> u64
+    requires { id.0 < length tables.now.systems }
+    ensures time { (s : SystemRow) → slice_get tables.now.systems id.0 ≡ Some s → result ≡ byte_ns s }
+    ensures some { 1 ≤ result }
+    ensures small { result ≤ 800 }
+{
+    8000 / tables.system(id).rate
+}
+
+/// The link at a place.
+pub(crate) fn link_at(tables: &Tables, index: usize) -> &Link
+    requires { index < length tables.now.links }
+    ensures row { slice_get tables.now.links index ≡ Some (link_row result.now) }
+    ensures lawful { CanSend (link_row result.now) }
+{
+    tables.link(index)
+}
+
+/// The sums of the output port to a system.
+pub(crate) fn sums_to(tables: &Tables, system: SystemId) -> Sums
+    requires { system.0 < length tables.now.systems }
+    ensures small { IsSmall 4096 result }
+    ensures sums { AreSumsTo tables.now system.0 result }
+{
+    let count = tables.link_count();
+    let mut sums = Sums::empty(byte_ns_of(tables, system));
+    for i in 0..count {
+        let link = link_at(tables, i);
+        if link.goes_to(system) {
+            sums = sums.with(link);
+        }
+    }
+    sums
+}

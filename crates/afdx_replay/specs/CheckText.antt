@@ -1,0 +1,53 @@
+-- What the command `check` writes of some tables: the bounds of each output port that has a system, and the answer.
+use Rattle.std.specs.Prelude.{◌≡◌, ℕ, zero, suc, ◌+◌, ◌⊎◌, List, [], ◌++◌, Option, Some, None, is_some, codes, if◌then◌else◌}
+use Rattle.std.specs.Fmt.{decimal}
+use Rattle.std.specs.Io.KnownBytes.{Appends}
+use Rattle.afdx_config.specs.Rows.{Rows}
+use Rattle.afdx_config.specs.Reading.{system_at_port, Spells, IsFaultOf}
+use Rattle.afdx_config.specs.Admission.{IsAdmitted}
+use Rattle.afdx_config.specs.declared.fault.ConfigFault.{ConfigFault}
+use Rattle.afdx_admit.specs.declared.fault.AdmitFault.{AdmitFault}
+use Rattle.afdx_admit.specs.FaultText.{fault_text}
+use Rattle.afdx_admit.specs.Known.{name_of}
+use Rattle.afdx_admit.specs.Lines.{high_bound_at, low_bound_at, buffer_need_at, first_false, lines}
+
+-- a bound in ns, or a dash where there is none
+abbrev pub bound_text : Option ℕ → List ℕ
+bound_text (Some bound) = decimal bound
+bound_text None = codes "-"
+
+-- the high and the low bound in ns, and the bytes of buffer that are needed, at a port of the switch
+abbrev pub port_line : Rows → ℕ → List ℕ
+port_line t port =
+    codes "P " ++ decimal port ++ codes " " ++ decimal (high_bound_at t port) ++ codes " " ++ bound_text (low_bound_at t port)
+    ++ codes " " ++ decimal (buffer_need_at t port) ++ codes "\n"
+
+abbrev pub line_if_used : Rows → ℕ → List ℕ
+line_if_used t port = if is_some (system_at_port t.systems port) then port_line t port else []
+
+-- the lines of the first ports of the switch, as many as this, that have a system
+unfoldable pub port_lines : Rows → ℕ → List ℕ
+port_lines t zero = []
+port_lines t (suc count) = port_lines t count ++ line_if_used t (suc count)
+
+-- admitted, or the first line of admission that is false
+abbrev pub answer_line : Rows → Option AdmitFault → List ℕ
+answer_line t None = codes "ok\n"
+answer_line t (Some fault) = codes "no " ++ fault_text (name_of t fault) fault ++ codes "\n"
+
+abbrev pub check_text : Rows → List ℕ
+check_text t = port_lines t 24 ++ answer_line t (first_false (lines t))
+
+-- the text of the tables that these bytes spell is written
+pub record WritesCheck (config : List ℕ) (old new : Option (List ℕ)) (t : Rows) : Type 0 where
+  pub spelled : Spells config t
+  pub written : Appends old new (check_text t)
+
+-- the configuration is read and its tables are admitted
+abbrev pub IsChecked : List ℕ → Option (List ℕ) → Option (List ℕ) → Type 0
+IsChecked config old new = (t : Rows) × WritesCheck config old new t × IsAdmitted t
+
+-- the configuration has a fault, or its tables are not admitted
+abbrev pub IsRefused : List ℕ → Option (List ℕ) → Option (List ℕ) → Type 0
+IsRefused config old new =
+    ((e : ConfigFault) × IsFaultOf config e × Appends old new []) ⊎ ((t : Rows) × WritesCheck config old new t × (IsAdmitted t → ⊥))
