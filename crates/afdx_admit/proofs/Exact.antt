@@ -1,5 +1,5 @@
 -- No line is false exactly where the tables are admitted.
-use Rattle.std.proofs.Common.{◌≡◌, inl, inr, ℕ, zero, suc, ◌+◌, ◌-◌, ◌*◌, ◌<◌, ◌≤◌, Bool, true, false, nat_le, All, List, [], ◌∷◌, ◌++◌, length, map, cond, Option, Some, None, if◌then◌else◌, slice_get, slice_index_or, refl, sym, ap, subst, ◌∙◌, arith}
+use Rattle.std.proofs.Common.{◌≡◌, inl, inr, ℕ, zero, suc, ◌+◌, ◌-◌, ◌*◌, ◌<◌, ◌≤◌, Bool, true, false, nat_le, List, [], ◌∷◌, ◌++◌, length, map, cond, Option, Some, None, if◌then◌else◌, slice_get, refl, sym, ap, subst, ◌∙◌, arith}
 use Rattle.std.specs.List.{AllByRecursion}
 use Rattle.std.specs.Option.{option_map_or}
 use Rattle.std.specs.Int.{div_ceil}
@@ -18,7 +18,7 @@ use Rattle.afdx_config.proofs.EachRow.{all_at}
 use Rattle.afdx_config.proofs.LookUps.{each_row-found}
 use Rattle.afdx_admit.specs.declared.fault.AdmitFault.{AdmitFault}
 use Rattle.afdx_admit.specs.declared.fault.AdmitFault.TheVariants.{Overload, Buffer, HighLatency, LowLatency, SenderJitter, LinkJitter, Skew}
-use Rattle.afdx_admit.specs.Lines.{Line, line, first_false, each_from, lines, Output, output_to, output_at, output_lines, port_lines, sender_lines, link_lines, lines_of_link, jitter_at, high_line, low_line, high_bound_of, buffer_need_of}
+use Rattle.afdx_admit.specs.Lines.{Line, line, first_false, each_from, lines, Output, output_to, output_lines, port_lines, sender_lines, link_lines, lines_of_link, jitter_at, high_line, low_line, high_bound_of, buffer_need_of}
 use Rattle.afdx_admit.proofs.FirstFalse.{first_false-skip, first_false-nil, first_false-append, le-true, true-le}
 use Rattle.afdx_admit.proofs.OutputLemmas.{late_line}
 use Rattle.afdx_admit.proofs.Outputs.{output_at-some, output_at-none, found_within}

@@ -1,10 +1,10 @@
 -- The first late flow of a port, as the first late row of the tables.
-use Rattle.std.proofs.Common.{◌≡◌, ℕ, ◌+◌, ◌*◌, zero, suc, Bool, true, false, ◌&&◌, nat_le, nat_lt, List, [], ◌∷◌, map, filter, find, drop, Option, Some, None, cond, if◌then◌else◌, slice_get, refl, sym, ap, ◌∙◌, arith}
+use Rattle.std.proofs.Common.{◌≡◌, ℕ, ◌+◌, ◌*◌, zero, suc, Bool, true, false, ◌&&◌, nat_le, nat_lt, List, [], ◌∷◌, map, filter, find, drop, Option, Some, cond, if◌then◌else◌, slice_get, refl, sym, ap, ◌∙◌, arith}
 use Rattle.std.specs.Option.{option_map}
 use Rattle.std.proofs.lemmas.Bool.Decides.{nat_tests}
 use Rattle.afdx_frame.specs.declared.link.Priority.{Priority}
 use Rattle.afdx_config.specs.Rows.{LinkRow, is_to}
-use Rattle.afdx_frame.specs.Flows.{Flow, is_class, of_class}
+use Rattle.afdx_frame.specs.Flows.{is_class, of_class}
 use Rattle.afdx_config.specs.Flows.{flow_of}
 use Rattle.afdx_config.specs.Admission.{flows_to}
 use Rattle.afdx_admit.specs.Late.{first_late, is_late}

@@ -1,10 +1,10 @@
 -- The output port at a port of the switch.
-use Rattle.std.proofs.Common.{◌≡◌, ℕ, ◌<◌, length, [], Option, Some, None, position, slice_get, ap, ◌∙◌, ◌==◌, Bool}
+use Rattle.std.proofs.Common.{◌≡◌, ℕ, ◌<◌, length, [], Some, None, slice_get, ap, ◌∙◌, ◌==◌, Bool}
 use Rattle.std.specs.Option.{option_map, option_and_then}
 use Rattle.std.proofs.lemmas.List.Quantifiers.{position-Some}
 use Rattle.afdx_config.specs.Rows.{SystemRow, Rows}
 use Rattle.afdx_config.specs.Reading.{system_at_port}
-use Rattle.afdx_admit.specs.Lines.{Output, output_at, output_to}
+use Rattle.afdx_admit.specs.Lines.{output_at, output_to}
 
 pub output_at-some : (t : Rows) (port place : ℕ) (s : SystemRow) → system_at_port t.systems port ≡ Some place → slice_get t.systems place ≡ Some s → output_at t port ≡ Some (output_to t place s)
 unfolding output_at

@@ -1,12 +1,12 @@
 -- How great bursts and loads can be.
-use Rattle.std.proofs.Common.{◌≡◌, ℕ, ◌+◌, ◌*◌, ◌/◌, ◌≤◌, ◌<◌, Bool, true, false, ◌||◌, ◌==◌, List, [], ◌∷◌, nat_eq, if◌then◌else◌, refl, sym, ap, subst, ◌∙◌, arith}
+use Rattle.std.proofs.Common.{◌≡◌, ℕ, ◌+◌, ◌*◌, ◌/◌, ◌≤◌, Bool, true, false, ◌||◌, ◌==◌, List, [], ◌∷◌, nat_eq, if◌then◌else◌, refl, ap, subst, arith}
 use Rattle.std.proofs.Math.Nat.{mul-le-mul_left}
 use Rattle.std.specs.List.{list_any, AllByRecursion}
 use Rattle.std.proofs.lemmas.Bool.{eqb-true}
-use Rattle.afdx_frame.specs.Regulation.{Regulation, bag, jitter, cap, fill_rate}
-use Rattle.afdx_config.specs.Rows.{LinkRow, SystemRow}
+use Rattle.afdx_frame.specs.Regulation.{cap, fill_rate}
+use Rattle.afdx_config.specs.Rows.{LinkRow}
 use Rattle.afdx_config.specs.Reading.{rates}
-use Rattle.afdx_config.specs.Lawful.{IsLink, IsSystem, IsOneOf, gaps}
+use Rattle.afdx_config.specs.Lawful.{IsLink, IsOneOf, gaps}
 use Rattle.afdx_config.specs.Flows.{regulation_of}
 
 -- what holds of each of some numbers holds of one of them

@@ -1,12 +1,9 @@
 -- The rows that pass a test, among one row more.
-use Rattle.std.proofs.Common.{◌≡◌, ℕ, zero, suc, ◌+◌, ◌*◌, ◌<◌, Bool, true, false, cond, List, [], ◌∷◌, ◌++◌, map, filter, take, slice_get, get_or, Some, length, refl, sym, ap, ◌∙◌, add-zero, arith}
-use Rattle.std.specs.List.{sum_by}
+use Rattle.std.proofs.Common.{◌≡◌, ℕ, zero, suc, ◌+◌, ◌<◌, Bool, true, false, cond, List, [], ◌∷◌, ◌++◌, map, filter, take, slice_get, Some, length, refl, ap, ◌∙◌, arith}
 use Rattle.std.proofs.lemmas.List.{append-nil}
-use Rattle.std.proofs.lemmas.List.Sums.{sum_by_push}
 use Rattle.std.proofs.lemmas.Option.{get_or_from_slice_get, slice_get_within}
 use Rattle.std.proofs.lemmas.List.Elements.{filter_more}
 use Rattle.afdx_config.specs.Rows.{LinkRow, is_to}
-use Rattle.afdx_frame.specs.Flows.{Flow}
 use Rattle.afdx_config.specs.Flows.{flow_of}
 use Rattle.afdx_config.specs.Admission.{flows_to, links_to}
 

@@ -1,16 +1,15 @@
 use Rattle.std.proofs.Common.{◌≡◌, ℕ, Bool, true, false, cond, List, [], ◌∷◌, ◌++◌, map, length, nat_eq, refl, ap, arith, ◌∙◌}
-use Rattle.std.specs.Prelude.{filter, Some}
+use Rattle.std.specs.Prelude.{filter}
 use Rattle.std.specs.List.{AllByRecursion}
 use Rattle.std.proofs.lemmas.Bool.{ne_eqb}
 use Rattle.afdx_config.specs.Rows.{LinkRow, PortRow}
 use Rattle.afdx_config.specs.Lawful.{IsPort}
 use Rattle.afdx_config.specs.declared.rows.Kind.{Kind}
 use Rattle.afdx_config.specs.declared.rows.Kind.TheVariants as kind
-use Rattle.afdx_comport.specs.Messages.{Line}
 use Rattle.afdx_comport.specs.declared.held.Held.{Held}
 use Rattle.afdx_comport.specs.declared.held.Held.TheVariants.{Sampling, Queuing}
 use Rattle.afdx_comport.specs.declared.com_ports.ComPort.{ComPort}
-use Rattle.afdx_comport.specs.Held.{with_message, first, rest, IsRead}
+use Rattle.afdx_comport.specs.Held.{first, rest, IsRead}
 use Rattle.afdx_comport.specs.Ports.{empty_of, port_at_first, ports_at_first}
 use Rattle.afdx_comport.specs.Laws.{IsPutAndRead}
 

@@ -1,4 +1,4 @@
-use Rattle.std.proofs.Common.{◌≡◌, ℕ, zero, suc, ◌+◌, ◌<◌, ◌≤◌, Bool, true, false, cond, ◌||◌, ◌&&◌, ◌⊎◌, inl, inr, Option, Some, None, List, [], ◌∷◌, ◌++◌, take, length, map, nat_eq, refl, sym, subst, ◌∙◌, ap, arith, append-nil}
+use Rattle.std.proofs.Common.{◌≡◌, ℕ, zero, suc, ◌+◌, ◌<◌, Bool, true, false, cond, ◌||◌, ◌&&◌, inl, inr, Option, Some, None, List, [], ◌∷◌, ◌++◌, take, length, map, nat_eq, refl, sym, subst, ◌∙◌, ap, arith, append-nil}
 use Rattle.std.specs.Prelude.{slice_get, slice_set, position, filter, is_some, IfSome, nat_lt}
 use Rattle.std.specs.List.{list_any, position_from, position_or_len}
 use Rattle.std.specs.Option.{option_or}
@@ -15,7 +15,7 @@ use Rattle.afdx_frame.specs.declared.link.VlId.{VlId}
 use Rattle.afdx_config.specs.Rows.{PortRow}
 use Rattle.afdx_config.specs.declared.rows.Kind.TheVariants.{Sampling}
 use Rattle.afdx_config.specs.Reading.{has_port}
-use Rattle.afdx_config.specs.Lawful.{AreDistinct, triple, IsPort}
+use Rattle.afdx_config.specs.Lawful.{AreDistinct, triple}
 use Rattle.afdx_comport.specs.Ports.{port_at_first, ports_at_first, is_for, is_same_key, PlacesAreOf}
 use Rattle.afdx_comport.specs.declared.com_ports.ComPort.{ComPort}
 use Rattle.afdx_comport.specs.declared.held.Held.{Held}

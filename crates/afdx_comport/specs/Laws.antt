@@ -21,13 +21,17 @@ PutIsReadBack = (held : Held) (time : ℕ) (bytes : List ℕ) → IsRead held �
 -- a new system's ports have nothing to read
 abbrev pub AllIsReadAtFirst : Type 0
 AllIsReadAtFirst = (systems system : ℕ) (links : List LinkRow) (rows : List PortRow) →
-    AllByRecursion (IsPort systems links) rows → AllByRecursion (λ port. IsRead port.held) (ports_at_first system rows)
+    AllByRecursion (IsPort systems links) rows →
+    AllByRecursion (λ port. IsRead port.held) (ports_at_first system rows)
 
 -- a port is found exactly where the tables have it
 abbrev pub FoundIsConfigured : Type 0
-FoundIsConfigured = (rows : List PortRow) (system link udp : ℕ) → is_some (position (is_for link udp) (ports_at_first system rows)) ≡ has_port rows system link udp
+FoundIsConfigured = (rows : List PortRow) (system link udp : ℕ) →
+    is_some (position (is_for link udp) (ports_at_first system rows)) ≡ has_port rows system link udp
 
 -- what a port holds doesn't change where a port is found
 abbrev pub FoundStays : Type 0
-FoundStays = (ports : List ComPort) (place link udp : ℕ) (port : ComPort) (held : Held) → slice_get ports place ≡ Some port →
-    position (is_for link udp) (slice_set ports place (record port { held = held })) ≡ position (is_for link udp) ports
+FoundStays = (ports : List ComPort) (place link udp : ℕ) (port : ComPort) (held : Held) →
+    slice_get ports place ≡ Some port →
+    position (is_for link udp) (slice_set ports place (record port { held = held }))
+    ≡ position (is_for link udp) ports

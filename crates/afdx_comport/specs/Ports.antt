@@ -31,4 +31,5 @@ is_same_key a b = nat_eq a.0.0 b.0.0 && nat_eq a.1 b.1
 
 -- each key leads to the place of its port
 abbrev pub PlacesAreOf : {S : Type 0} → HashMap (VlId × ℕ) ℕ S → List ComPort → Type 0
-PlacesAreOf places ports = (key : VlId × ℕ) → hash.get is_same_key places key ≡ position (is_for key.0.0 key.1) ports
+PlacesAreOf places ports = (key : VlId × ℕ) →
+    hash.get is_same_key places key ≡ position (is_for key.0.0 key.1) ports

@@ -1,6 +1,7 @@
 //! The ports of one end system.
 
-ghost use Rattle.std.specs.Prelude.{◌≡◌, ◌↔◌, ◌<◌, ℕ, Some, Err, IfOk, IfSome, OnOk, OnErr, IsTrue, length, map, filter, nat_eq, position, slice_get, slice_set, option_map};
+ghost use Rattle.std.specs.Prelude.{◌≡◌, ◌↔◌, ◌<◌, Some, Err, IfOk, IfSome, OnOk, OnErr, IsTrue, length};
+ghost use Rattle.std.specs.Prelude.{position, slice_get, slice_set, option_map};
 ghost use Rattle.afdx_comport.specs.Held.{is_full, with_message, sample_of, first_of, without_first};
 ghost use Rattle.afdx_comport.specs.declared.fault.PutFault.TheVariants.{Full};
 
@@ -104,9 +105,11 @@ impl ComPorts {
     /// as it was, and after `Ok` every other port.
     pub fn put(&mut self, port: usize, time: u64, message: &[u8]) -> Result<(), PutFault>
         requires { port < length self.old }
-        ensures full { (p : ComPort) → slice_get self.old port ≡ Some p → (result ≡ Err Full) ↔ IsTrue (is_full p.held) }
+        ensures full { (p : ComPort) → slice_get self.old port ≡ Some p →
+            (result ≡ Err Full) ↔ IsTrue (is_full p.held) }
         ensures ok { (p : ComPort) → slice_get self.old port ≡ Some p →
-            OnOk result (self.new ≡ slice_set self.old port (record p { held = with_message time message.now p.held })) }
+            OnOk result
+                (self.new ≡ slice_set self.old port (record p { held = with_message time message.now p.held })) }
         ensures err { OnErr result (self.new ≡ self.old) }
     {
         let alloc = self.alloc;
@@ -127,7 +130,8 @@ impl ComPorts {
     /// sampling port. Every other port stays as it was. It takes no memory.
     pub fn take_queued(&mut self, port: usize) -> Option<Vec<u8>>
         requires { port < length self.old }
-        ensures first { (p : ComPort) → slice_get self.old port ≡ Some p → option_map (λ m. m.items) result ≡ first_of p.held }
+        ensures first { (p : ComPort) → slice_get self.old port ≡ Some p →
+            option_map (λ m. m.items) result ≡ first_of p.held }
         ensures rest { (p : ComPort) → slice_get self.old port ≡ Some p →
             self.new ≡ slice_set self.old port (record p { held = without_first p.held }) }
     {

@@ -1,6 +1,7 @@
 //! What one port holds.
 
-ghost use Rattle.std.specs.Prelude.{◌≡◌, ◌↔◌, ◌≤◌, ◌<◌, [], ◌∷◌, ◌++◌, length, IfOk, IfErr, OnOk, OnErr, IsTrue, MatchOption, option_map, nat_eq, Err};
+ghost use Rattle.std.specs.Prelude.{◌≡◌, ◌↔◌, ◌≤◌, ◌<◌, [], ◌∷◌, ◌++◌, length, nat_eq, IsTrue, Err};
+ghost use Rattle.std.specs.Prelude.{IfOk, OnOk, OnErr, MatchOption, option_map};
 ghost use Rattle.afdx_comport.specs.Held.{is_full, with_message, sample_of, first_of, without_first};
 ghost use Rattle.afdx_comport.specs.declared.fault.PutFault.TheVariants.{Full};
 
@@ -70,7 +71,8 @@ impl Queue {
 
     /// Takes out the oldest message.
     pub(crate) fn pop(&mut self) -> Option<Vec<u8>>
-        ensures { MatchOption result ((self.old.messages ≡ []) × (self.new ≡ self.old)) (λ m. self.old ≡ record self.new { messages = m.items ∷ self.new.messages }) }
+        ensures { MatchOption result ((self.old.messages ≡ []) × (self.new ≡ self.old))
+            (λ m. self.old ≡ record self.new { messages = m.items ∷ self.new.messages }) }
     {
         self.messages.pop_front()
     }

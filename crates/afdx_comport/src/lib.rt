@@ -10,6 +10,5 @@ pub mod laws;
 pub use com_ports::ComPorts;
 pub use fault::PutFault;
 
-
 #[cfg(test)]
 mod tests;

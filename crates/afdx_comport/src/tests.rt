@@ -63,7 +63,10 @@ fn new_ports(alloc: Global, tables: &Tables, system: SystemId) -> Result<ComPort
 }
 
 fn push_link(text: &mut String, vl: u16, from: &str, to: &str) -> Result<(), AllocError> {
-    write!(text, "\n[[link]]\nvl = {vl}\nfrom = \"{from}\"\nto = [{to}]\n")?;
+    write!(
+        text,
+        "\n[[link]]\nvl = {vl}\nfrom = \"{from}\"\nto = [{to}]\n"
+    )?;
     text.push_str("bag_ms = 1\nlmin = 64\nlmax = 64\njitter_us = 500\npriority = \"high\"\n")?;
     text.push_str("policing = \"frame\"\nlatency_us = 17\nskew_us = 1000\nsubs = 2\n")
 }
@@ -139,7 +142,21 @@ fn first_in_is_first_out(rt: HostRuntime) -> Result<(), Fail> {
 }
 
 #[test]
-fn newest_stays(rt: HostRuntime) -> Result<(), Fail> {
+fn refused_put_leaves_the_queue(rt: HostRuntime) -> Result<(), Fail> {
+    let mut ports = base_ports(rt.alloc())?;
+    for byte in [1, 2] {
+        assert_eq!(rt; put(&rt, &mut ports, 2, 2000, 0, byte), Ok(()));
+    }
+    for byte in [1, 2] {
+        assert!(rt; takes(&rt, &mut ports, byte));
+    }
+    let port = ports.find(VlId(2), 2000).ok_or("a port")?;
+    assert!(rt; ports.take_queued(port).is_none());
+    Ok(())
+}
+
+#[test]
+fn refused_put_leaves_the_sample(rt: HostRuntime) -> Result<(), Fail> {
     let mut ports = base_ports(rt.alloc())?;
     let port = ports.find(VlId(1), 1000).ok_or("a port")?;
     assert!(rt; ports.read_sample(port).is_none());
@@ -183,7 +200,10 @@ fn largest_text(alloc: Global) -> Result<String, AllocError> {
         push_link(&mut text, vl, "s1", "\"s2\", \"s3\"")?;
     }
     for vl in 0..GREATEST_COUNT {
-        write!(text, "\n[[port]]\nsystem = \"s2\"\nlink = {vl}\nudp = 1000\n")?;
+        write!(
+            text,
+            "\n[[port]]\nsystem = \"s2\"\nlink = {vl}\nudp = 1000\n"
+        )?;
         text.push_str("kind = \"sampling\"\ndepth = 1\n")?;
     }
     Ok(text)

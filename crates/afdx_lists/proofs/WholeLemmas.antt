@@ -1,5 +1,5 @@
 -- Whole lines of what was read, and how calls of the line reader compose.
-use Rattle.std.proofs.Common.{◌≡◌, ℕ, zero, suc, ◌+◌, ◌-◌, ◌<◌, ◌≤◌, Bool, true, false, List, [], ◌∷◌, ◌++◌, length, take, refl, ap, ◌∙◌, arith, eqb, cond, Option, Some, append_assoc, ◌⊎◌, inl, inr, length-append}
+use Rattle.std.proofs.Common.{IfSome, None, ◌≡◌, ℕ, zero, suc, ◌+◌, ◌-◌, ◌<◌, ◌≤◌, Bool, true, false, List, [], ◌∷◌, ◌++◌, length, take, refl, ap, ◌∙◌, arith, eqb, cond, Option, Some, append_assoc, ◌⊎◌, inl, inr, length-append}
 use Rattle.std.specs.List.{count_by, slice_split}
 use Rattle.std.proofs.KnownBytes.{Consumes-nil, Consumes-trans}
 use Rattle.std.proofs.lemmas.List.{length-take}
@@ -134,3 +134,13 @@ GaveWhole-lines bytes rest n h =
       first = first;
       within = grind (arith, common_steps, ap length first, h.counted, length-take n (lines_of bytes));
     }
+
+-- the same, from what `next_line` ensures at a failed read
+pub HasTaken-fail : (before : Bool) (a b c : Option (List ℕ)) (u v : List ℕ) (n : ℕ) → (before ≡ false → HasTaken a b u n) → (before ≡ false) × HasNoFeed v × TakesBytes b c u v [] → GaveWhole a c n
+HasTaken-fail before a b c u v n h stopped = HasTaken-stop a b c u v n stopped.1 (h stopped.0) stopped.2
+
+-- the same, wherever the bytes are known
+pub GaveWhole-known : (a c : Option (List ℕ)) (n : ℕ) → GaveWhole a c n → IfSome a (λ bytes. IfSome c (λ rest. AreWhole bytes rest n))
+GaveWhole-known None c n h = tt
+GaveWhole-known (Some bytes) None n h = tt
+GaveWhole-known (Some bytes) (Some rest) n h = GaveWhole-lines bytes rest n h

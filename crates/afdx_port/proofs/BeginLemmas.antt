@@ -9,7 +9,8 @@ use Rattle.afdx_port.specs.declared.pending.Waiting.{Waiting}
 use Rattle.afdx_port.specs.declared.pending.Pending.{Pending}
 use Rattle.afdx_port.specs.Facts.{Facts, AreLawful}
 use Rattle.afdx_port.specs.Schedule.{lasting}
-use Rattle.afdx_port.specs.Held.{frames_held, sending_count, choice_of, queue_of, is_too_old, due_from, due_of, ChangesQueue, IsSound}
+use Rattle.afdx_port.specs.Held.{frames_held, sending_count, choice_of, queue_of, is_too_old, due_from, due_of}
+use Rattle.afdx_port.specs.Sound.{ChangesQueue, IsSound}
 use Rattle.afdx_port.specs.History.{History, at, StandsFor}
 use Rattle.afdx_port.proofs.DueLemmas.{due_idle, due_busy}
 use Rattle.afdx_port.proofs.HistoryLemmas.{other, left, begin_stands}

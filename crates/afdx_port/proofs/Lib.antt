@@ -8,3 +8,4 @@ pub mod SoundLemmas
 pub mod BeginLemmas
 pub mod PutLemmas
 pub mod TakeLemmas
+pub mod FirstLemmas

@@ -11,7 +11,8 @@ use Rattle.afdx_port.specs.declared.pending.Waiting.{Waiting}
 use Rattle.afdx_port.specs.declared.pending.Pending.{Pending}
 use Rattle.afdx_port.specs.Facts.{Facts, AreLawful}
 use Rattle.afdx_port.specs.Due.{IsAfter}
-use Rattle.afdx_port.specs.Held.{HasRoom, frames_held, sending_count, ready, choice, choice_of, queue_of, due_of, ChangesQueue, IsSound, IsQuiet}
+use Rattle.afdx_port.specs.Held.{frames_held, sending_count, ready, choice, choice_of, queue_of, due_of, IsQuiet}
+use Rattle.afdx_port.specs.Sound.{HasRoom, ChangesQueue, IsSound}
 use Rattle.afdx_port.specs.History.{History, at, with_put, entry_of, StandsFor}
 use Rattle.afdx_port.proofs.TurnLemmas.{nat_lt-true, nat_lt-false}
 use Rattle.afdx_port.proofs.QueueLemmas.{pair_same}

@@ -11,7 +11,8 @@ use Rattle.afdx_port.specs.declared.pending.Pending.{Pending}
 use Rattle.afdx_port.specs.Facts.{Facts, AreLawful}
 use Rattle.afdx_port.specs.Schedule.{lasting}
 use Rattle.afdx_port.specs.Due.{IsAfter}
-use Rattle.afdx_port.specs.Held.{ready, choice, choice_of, queue_of, is_too_old, due_of, ChangesQueue, IsSound, IsQuiet}
+use Rattle.afdx_port.specs.Held.{ready, choice, choice_of, queue_of, is_too_old, due_of, IsQuiet}
+use Rattle.afdx_port.specs.Sound.{ChangesQueue, IsSound}
 use Rattle.afdx_port.proofs.QueueLemmas.{choice_high, choice_low}
 use Rattle.afdx_port.proofs.DueLemmas.{due_idle, due_nothing, has_front, not_empty}
 use Rattle.afdx_port.proofs.HistoryLemmas.{other}

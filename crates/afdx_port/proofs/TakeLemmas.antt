@@ -12,7 +12,8 @@ use Rattle.afdx_port.specs.declared.pending.Pending.{Pending}
 use Rattle.afdx_port.specs.Facts.{Facts, AreLawful}
 use Rattle.afdx_port.specs.Schedule.{Entry, Turn, has_turn, end_of, lasting, IsWithoutTurn, IsNext, AreTurns, IsSchedule}
 use Rattle.afdx_port.specs.Due.{given_at, IsAfter}
-use Rattle.afdx_port.specs.Held.{ready, choice, choice_of, queue_of, is_too_old, due_from, due_of, IsSound, IsQuiet}
+use Rattle.afdx_port.specs.Held.{ready, choice, choice_of, queue_of, is_too_old, due_from, due_of, IsQuiet}
+use Rattle.afdx_port.specs.Sound.{IsSound}
 use Rattle.afdx_port.specs.History.{History, at, due_at, IsQueue, HasBegun, StandsFor, Gives}
 use Rattle.afdx_port.proofs.TurnLemmas.{priority_cases, nat_lt-true, nat_lt-false}
 use Rattle.afdx_port.proofs.DueLemmas.{due, due_idle, due_busy, due_nothing, has_front, quiet_after}

@@ -6,9 +6,11 @@ use Rattle.afdx_port.specs.declared.left.Due.{Due}
 abbrev pub given_at : Due → ℕ
 given_at d = d.time + (if d.too_old then 1 else 0)
 
+-- the turn is given by t
 abbrev pub IsBy : ℕ → Due → Type 0
 IsBy t d = given_at d ≤ t
 
+-- the turn is given after t
 abbrev pub IsAfter : ℕ → Due → Type 0
 IsAfter t d = t < given_at d
 

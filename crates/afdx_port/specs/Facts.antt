@@ -6,7 +6,7 @@ pub record Facts : Type 0 where
   pub bytes : ℕ
   pub longest_wait : Option ℕ
 
--- a frame has 64 to 1518 bytes (IEEE 802.3), and waits for at most 100 ms
+-- a frame has 64 to 1518 bytes (IEEE 802.3, 4.4.2), and waits for at most 100 ms
 pub record AreLawful (f : Facts) : Type 0 where
   pub least : 64 ≤ f.bytes
   pub most : f.bytes ≤ 1518

@@ -1,6 +1,5 @@
 -- What a port holds, and what comes of it next.
-use Rattle.std.specs.Prelude.{◌≡◌, ℕ, ◌+◌, ◌*◌, ◌<◌, ◌≤◌, ◌⊎◌, max, nat_lt, if◌then◌else◌, Bool, List, [], ◌∷◌, length, Option, Some, None, IfSome, option_map, slice_get, sum_by}
-use Rattle.std.specs.List.{AllByRecursion}
+use Rattle.std.specs.Prelude.{◌≡◌, ℕ, ◌+◌, ◌⊎◌, max, nat_lt, if◌then◌else◌, Bool, List, [], ◌∷◌, length, Option, Some, None, IfSome, option_map, slice_get}
 use Rattle.afdx_frame.specs.declared.link.Priority.{Priority}
 use Rattle.afdx_frame.specs.declared.link.Priority.TheVariants.{High, Low}
 use Rattle.afdx_port.specs.declared.left.Left.{Left}
@@ -28,10 +27,12 @@ module _ {X : Type 0} where
   ready free [] = None
   ready free (w ∷ ws) = Some (max w.time free)
 
+  -- the frames of a class that wait, in order
   abbrev pub queue_of : Priority → Pending X → List (Waiting X)
   queue_of High p = p.high.items
   queue_of Low p = p.low.items
 
+  -- the class that goes next, if a frame waits, and its moment
   abbrev pub choice_of : Pending X → Option (Priority × ℕ)
   choice_of p = choice (ready p.free p.high.items) (ready p.free p.low.items)
 
@@ -65,34 +66,10 @@ module _ {X : Type 0} where
   abbrev pub last_time : Pending X → ℕ
   last_time p = p.clock
 
-  -- how many frames the port holds, that of a turn that has begun among them
   abbrev pub sending_count : Option (Left X) → ℕ
   sending_count None = 0
   sending_count (Some left) = 1
 
+  -- how many frames the port holds, that of a turn that has begun among them
   abbrev pub frames_held : Pending X → ℕ
   frames_held p = length p.high.items + length p.low.items + sending_count p.sending
-
-  -- all else stays, but for the queue of one class, which keeps its room
-  abbrev pub ChangesQueue : Priority → Pending X → Pending X → Type 0
-  ChangesQueue High old new = (new ≡ record old { high = new.high }) × (new.high.capacity ≡ old.high.capacity)
-  ChangesQueue Low old new = (new ≡ record old { low = new.low }) × (new.low.capacity ≡ old.low.capacity)
-
-  -- a further frame of the class fits into the memory that was reserved
-  abbrev pub HasRoom : Priority → Pending X → Type 0
-  HasRoom High p = length p.high.items < p.high.capacity
-  HasRoom Low p = length p.low.items < p.low.capacity
-
-  -- what is true of every port, whatever the calls
-  pub record IsSound (facts : X → Facts) (p : Pending X) : Type 0 where
-    pub rate : (1 ≤ p.byte_ns) × (p.byte_ns ≤ 800)
-    pub buffer : p.buffer ≤ 4194304
-    pub waiting : p.waiting ≡ sum_by (λ w. (facts w.item).bytes) p.high.items + sum_by (λ w. (facts w.item).bytes) p.low.items
-    pub within : p.waiting ≤ p.buffer
-    pub high_room : p.buffer < 64 * (p.high.capacity + 1)
-    pub low_room : p.buffer < 64 * (p.low.capacity + 1)
-    pub high_times : AllByRecursion (λ w. w.time ≤ 1000032768000000) p.high.items
-    pub low_times : AllByRecursion (λ w. w.time ≤ 1000032768000000) p.low.items
-    -- a slot takes at most 1,230,400 ns
-    pub soon : p.free ≤ p.clock + 1230400
-    pub ends : p.free + (length p.high.items + length p.low.items) * 1230400 ≤ 1100000000000000

@@ -4,4 +4,6 @@ pub mod ScheduleOf
 pub mod Classes
 pub mod Due
 pub mod Held
+pub mod Sound
 pub mod History
+pub mod Ports

@@ -1,6 +1,6 @@
 ghost use Rattle.std.specs.Prelude.{◌≡◌};
 
-/// What a port can send: a frame of 64 to 1518 bytes with its check sequence (IEEE 802.3, 3.1.1).
+/// What a port can send: a frame of 64 to 1518 bytes with its check sequence (IEEE 802.3, 4.4.2).
 pub trait HasLength: Drop {
     ghost use Rattle.afdx_port.specs.Facts.{Facts, AreLawful};
 

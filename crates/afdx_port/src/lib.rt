@@ -6,9 +6,11 @@ pub mod laws;
 mod left;
 mod pending;
 mod port;
+mod ports;
 #[cfg(test)]
 mod tests;
 
 pub use has_length::HasLength;
 pub use left::{Due, Left};
 pub use port::Port;
+pub use ports::first_due;

@@ -48,7 +48,8 @@ fn is_too_old(longest_wait: Option<u64>, time: u64, moment: u64) -> bool
 
 impl<T: HasLength> Pending<T> {
     ghost use Rattle.afdx_port.specs.Due.{given_at, IsAfter};
-    ghost use Rattle.afdx_port.specs.Held.{IsByteTime, choice_of, queue_of, due_from, due_of, IsQuiet, frames_held, ChangesQueue, HasRoom, IsSound};
+    ghost use Rattle.afdx_port.specs.Held.{IsByteTime, choice_of, queue_of, due_from, due_of, IsQuiet, frames_held};
+    ghost use Rattle.afdx_port.specs.Sound.{ChangesQueue, HasRoom, IsSound};
     ghost use Rattle.afdx_port.specs.History.{History, no_calls, at, with_put, entry_of, due_at, StandsFor, Gives};
 
     pub(crate) fn new(alloc: Global, byte_ns: u64, buffer: u64) -> Result<Pending<T>, AllocError>

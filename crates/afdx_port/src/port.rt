@@ -9,7 +9,7 @@ use afdx_frame::Priority;
 use std::alloc::{AllocError, Global};
 use std::marker::Model;
 
-/// An output port (ARINC 664 Part 7, the switch's output queues): two queues of frames, high before low, that share a buffer and a line.
+/// An output port (ARINC 664 Part 7): two queues of frames, high before low, that share a buffer and a line.
 /// No frame is interrupted, and the next frame is chosen after all that came by that moment.
 /// It keeps the frames that still have a turn to come, and nothing of those that left.
 #[derive(Drop)]
@@ -25,7 +25,8 @@ impl<T: HasLength> Model for Port<T> {
     ghost Value = { Pending T };
 
     ghost use Rattle.std.specs.Prelude.{◌≡◌};
-    ghost use Rattle.afdx_port.specs.Held.{due_of, IsSound};
+    ghost use Rattle.afdx_port.specs.Held.{due_of};
+    ghost use Rattle.afdx_port.specs.Sound.{IsSound};
 
     ghost view = { λ p. p.pending };
 
@@ -54,7 +55,7 @@ impl<T: HasLength> Port<T> {
         })
     }
 
-    /// Offers a frame at `time`, in ns, which isn't before the last time used; no turn is left to be taken by then.
+    /// Offers a frame at `time`, in ns, which isn't before the last time used and is at most 1,000,032,768,000,000; `take(time)` would give nothing.
     /// The frame is lost, and handed back, exactly if the lengths of the frames that wait, with its own, sum to more than the buffer.
     /// A frame whose turn comes at `time` or later still waits. A lost frame changes nothing but the last time used.
     pub fn put(&mut self, time: u64, priority: Priority, item: T) -> Result<(), T>

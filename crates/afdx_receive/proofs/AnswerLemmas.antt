@@ -1,6 +1,5 @@
 -- The right answer is the one that is computed.
 use Rattle.std.proofs.Common.{◌≡◌, ℕ, ◌*◌, Bool, true, false, Option, None, Some, Result, Ok, Err, List, refl, sym, ap, subst, ◌∙◌}
-use Rattle.std.specs.Prelude.{◌↔◌}
 use Rattle.afdx_frame.specs.declared.fault.MacFault.{MacFault}
 use Rattle.afdx_frame.specs.declared.fault.IpFault.{IpFault}
 use Rattle.afdx_frame.specs.Sealing.{AreBytes}
@@ -29,7 +28,6 @@ carried_as : Known → (tables : Rows) (system : ℕ) (bytes : List ℕ) (frame 
     IsReadAs tables system bytes frame (answer_to_carried frame.link.0 (has_port tables.ports system frame.link.0) (carried_by bytes))
 carried_as known tables system bytes frame are-bytes is-frame computed = at (carried_by bytes) refl
   where
-
     by_port : (carried : Carried) (b : Bool) → carried_by bytes ≡ Ok carried → has_port tables.ports system frame.link.0 carried.to_port ≡ b →
         IsReadAs tables system bytes frame (answer_to_carried frame.link.0 (has_port tables.ports system frame.link.0) (carried_by bytes))
     by_port carried true e b =

@@ -1,4 +1,5 @@
 pub mod AnswerLemmas
+pub mod DeliveryLemmas
 pub mod ReceiverLemmas
 pub mod ReceptionLemmas
 pub mod StepsLemmas

@@ -1,6 +1,6 @@
 -- What a frame that arrives does to the memories of the links.
 use Rattle.std.proofs.Common.{◌≡◌, ℕ, ◌*◌, Bool, true, false, cond, Option, Some, None, List, [], ◌∷◌, eqb, Ok, refl, sym, ◌∙◌, ap, subst}
-use Rattle.std.proofs.lemmas.Bool.{eqb-true, cond-true, cond-false, false_from_ne_true}
+use Rattle.std.proofs.lemmas.Bool.{eqb-true, false_from_ne_true}
 use Rattle.std.specs.Option.{IsSome, option_map}
 use Rattle.std.specs.HashMap as hash
 use Rattle.std.specs.HashMap.{HashMap}
@@ -111,7 +111,7 @@ pub taken : {S : Type 0} (tables : Rows) (system : ℕ) (past : List Arrived) (x
 taken tables system past x frame links after memory moved how stands is-frame computed found skew answers remembers updates =
     let here : Subscribed tables system past frame.link.0 memory = subscribed_at tables system past links frame.link memory stands found in
     let stood : standing (1000 * here.link.skew_us) (frames_of frame.link.0 past) (incoming x frame) ≡ how =
-        sym (answers here.remembers ∙ ap (λ n. standing n (frames_of frame.link.0 past) (incoming x frame)) here.skew) in
+    sym (answers here.remembers ∙ ap (λ n. standing n (frames_of frame.link.0 past) (incoming x frame)) here.skew) in
     record {
       received = record { is_frame = is-frame; link = here.link; subscribed = here.subscribed; stands = stood };
       answers = answer_received tables system past x frame here.link how computed here.subscribed stood;

@@ -1,4 +1,4 @@
-use Rattle.std.proofs.Common.{◌≡◌, ℕ, ◌*◌, Bool, true, false, cond, Option, None, Some, Result, Ok, Err, List, ◌∷◌, eqb, nat_eq, refl, sym, ap, ◌∙◌}
+use Rattle.std.proofs.Common.{◌≡◌, ℕ, ◌*◌, Bool, true, false, cond, None, Some, Result, Ok, Err, List, ◌∷◌, eqb, nat_eq, refl, sym, ap, ◌∙◌}
 use Rattle.std.proofs.lemmas.Bool.{eq-eqb, cond-true, cond-false}
 use Rattle.afdx_frame.specs.declared.fault.MacFault.{MacFault}
 use Rattle.afdx_frame.specs.declared.fault.IpFault.{IpFault}
@@ -9,12 +9,11 @@ use Rattle.afdx_frame.specs.declared.link.VlId.{VlId}
 use Rattle.afdx_config.specs.Rows.{Rows, LinkRow}
 use Rattle.afdx_config.specs.Reading.{has_port}
 use Rattle.afdx_receive.specs.Standing.{standing}
-use Rattle.afdx_receive.specs.Answers.{Answer, Message, Dropped, subscription, answer_to_carried, answer_by, answer_on, answer_to_frame, answer_to}
+use Rattle.afdx_receive.specs.Answers.{Answer, Message, Dropped, subscription, answer_to_carried, answer_by, answer_after, answer_on, answer_to_frame, answer_to}
 use Rattle.afdx_receive.specs.Reception.{IsReceived, IsReadAs, IsAnswer}
 use Rattle.afdx_receive.specs.declared.memory.Standing.{Standing}
 use Rattle.afdx_receive.specs.declared.memory.Standing.TheVariants as stands
 use Rattle.afdx_receive.specs.declared.reception.DropReason.TheVariants.{Mac, NotSubscribed, Sequence, Redundant, Ip, NoPort}
-use Rattle.afdx_receive.specs.Integrity.{Incoming}
 use Rattle.afdx_receive.specs.Arrivals.{Arrived, incoming, with_frame, frames_of}
 
 -- ---- a link's frames of what arrived
@@ -53,6 +52,11 @@ unfolding answer_to
 answer_received tables system past x frame link how e subscribed stood =
     ap (λ (s : Standing). answer_by s (answer_to_carried frame.link.0 (has_port tables.ports system frame.link.0) (carried_by x.bytes))) (sym stood)
     ∙ sym (ap (answer_to_frame tables system past x) e ∙ ap (answer_on tables system past x frame) subscribed)
+
+pub answer_own : (tables : Rows) (system : ℕ) (past : List Arrived) (x : Arrived) (frame : FrameParts) (link : LinkRow) → frame_of x.bytes ≡ Ok frame → subscription tables system frame.link.0 ≡ Some link →
+    answer_to tables system past x ≡ answer_after (1000 * link.skew_us) (has_port tables.ports system frame.link.0) (frames_of frame.link.0 past) (incoming x frame)
+unfolding answer_to
+answer_own tables system past x frame link e subscribed = ap (answer_to_frame tables system past x) e ∙ ap (answer_on tables system past x frame) subscribed
 
 pub answer_no_port : (vl : ℕ) (is_open : ℕ → Bool) (read : Result Carried IpFault) (carried : Carried) → read ≡ Ok carried → is_open carried.to_port ≡ false →
     Dropped NoPort ≡ answer_to_carried vl is_open read

@@ -150,7 +150,7 @@ last_number skew (frame ∷ before) streams side = at (is_same_side frame.side s
         so_far
 
 -- a first copy's place is how many first copies there were
-own_place : (before : List Incoming) (frame : Incoming) → is_first_copy before frame ≡ true → count_of frame.side before ≡ length (first_copies before)
+pub own_place : (before : List Incoming) (frame : Incoming) → is_first_copy before frame ≡ true → count_of frame.side before ≡ length (first_copies before)
 own_place before frame first =
     let all : length (first_copies before) ≡ most_of frame.side before = counted before ∙ sym (most_any frame.side before) in
     let ahead : count_of (other_side frame.side) before ≤ count_of frame.side before = leb-true (count_of (other_side frame.side) before) (count_of frame.side before) first in

@@ -1,8 +1,8 @@
-use Rattle.std.proofs.Common.{◌≡◌, ℕ, zero, suc, ◌+◌, ◌<◌, ◌⊎◌, inl, inr, Bool, true, false, cond, ◌||◌, ◌&&◌, Option, Some, None, List, [], ◌∷◌, ◌++◌, take, eqb, nat_eq, refl, sym, ◌∙◌, ap, arith}
+use Rattle.std.proofs.Common.{◌≡◌, ℕ, zero, suc, ◌+◌, ◌<◌, inl, inr, Bool, true, false, cond, ◌||◌, ◌&&◌, Option, Some, None, List, [], ◌∷◌, ◌++◌, take, eqb, nat_eq, refl, sym, ◌∙◌, ap, arith}
 use Rattle.std.specs.Prelude.{find, slice_get, option_map}
 use Rattle.std.specs.List.{list_any}
 use Rattle.std.specs.Option.{option_or}
-use Rattle.std.proofs.lemmas.Bool.{eqb-true, eq-eqb, cond-false, and_parts, and_left, and_right, or_cases, or_parts, false_from_ne_true}
+use Rattle.std.proofs.lemmas.Bool.{eqb-true, eq-eqb, cond-true, cond-false, and_parts, and_from, and_left, and_right, or_cases, or_parts, false_from_ne_true}
 use Rattle.std.proofs.lemmas.List.{take_more}
 use Rattle.std.proofs.lemmas.List.Folds.{find-append, list_any-append}
 use Rattle.std.proofs.lemmas.Option.{get_or_from_slice_get, slice_get_within}
@@ -50,6 +50,26 @@ none_before system vl links i link distinct here named = none_found (is_for syst
     let both : (nat_eq found.1.vl vl ≡ true) × (is_to system found.1 ≡ true) = and_parts (nat_eq found.1.vl vl) (is_to system found.1) found.4 in
     let same : found.0 ≡ i = distinct found.0 i found.1 link found.3 here (eqb-true found.1.vl vl both.0 ∙ sym named) in
     omega (arith, found.2, same)))
+
+-- the first that passes a test, where some does
+first_found : {X : Type 0} (p : X → Bool) (xs : List X) (i : ℕ) (x : X) → slice_get xs i ≡ Some x → p x ≡ true → (j : ℕ) × (y : X) × (slice_get xs j ≡ Some y) × (p y ≡ true) × (find p xs ≡ Some y)
+first_found p [] i x here holds = absurd (cc)
+first_found p (y ∷ ys) zero x here holds = let same : y ≡ x = (cc) in (0, y, refl, ap p same ∙ holds, cond-true (p y) (Some y) (find p ys) (ap p same ∙ holds))
+first_found {X = X} p (y ∷ ys) (suc i) x here holds = by (p y) refl (first_found p ys i x here holds)
+  where
+    by : (b : Bool) → p y ≡ b → (j : ℕ) × (z : X) × (slice_get ys j ≡ Some z) × (p z ≡ true) × (find p ys ≡ Some z) → (j : ℕ) × (z : X) × (slice_get (y ∷ ys) j ≡ Some z) × (p z ≡ true) × (find p (y ∷ ys) ≡ Some z)
+    by true e later = (0, y, refl, e, cond-true (p y) (Some y) (find p ys) e)
+    by false e later = (suc later.0, later.1, later.2, later.3, cond-false (p y) (Some y) (find p ys) e ∙ later.4)
+
+-- a link that goes to the system is found under its identifier
+pub received : (system : ℕ) (links : List LinkRow) (i : ℕ) (link : LinkRow) → AreDistinct (λ (l : LinkRow). l.vl) links → slice_get links i ≡ Some link → is_to system link ≡ true → find (is_for system link.vl) links ≡ Some link
+unfolding AreDistinct
+received system links i link distinct here goes =
+    let found = first_found (is_for system link.vl) links i link here (and_from (nat_eq link.vl link.vl) (is_to system link) (eq-eqb link.vl link.vl refl) goes) in
+    let both : (nat_eq found.1.vl link.vl ≡ true) × (is_to system found.1 ≡ true) = and_parts (nat_eq found.1.vl link.vl) (is_to system found.1) found.3 in
+    let same : found.0 ≡ i = distinct found.0 i found.1 link found.2 here (eqb-true found.1.vl link.vl both.0) in
+    let one : Some found.1 ≡ Some link = sym found.2 ∙ ap (slice_get links) same ∙ here in
+    found.4 ∙ one
 
 -- the memories of the links so far
 abbrev pub LinksSoFar : {S : Type 0} → ℕ → List LinkRow → ℕ → HashMap VlId LinkMemory S → Type 0

@@ -34,7 +34,8 @@ is_ignored answer = false
 
 -- to a frame that won, from what it carries, and the test whether the system has a UDP port for its link
 abbrev pub answer_to_carried : ℕ → (ℕ → Bool) → Result Carried IpFault → Answer
-answer_to_carried vl is_open (Ok carried) = if is_open carried.to_port then Message vl carried.to_port carried.payload else Dropped NoPort
+answer_to_carried vl is_open (Ok carried) =
+    if is_open carried.to_port then Message vl carried.to_port carried.payload else Dropped NoPort
 answer_to_carried vl is_open (Err fault) = Dropped (Ip fault)
 
 -- to a frame, by how it stands
@@ -45,7 +46,8 @@ answer_by stands.Redundant read = Dropped Redundant
 
 -- to a frame of a link that the system receives, from that link's frames before it alone
 abbrev pub answer_after : ℕ → (ℕ → Bool) → List Incoming → Incoming → Answer
-answer_after skew is_open before frame = answer_by (standing skew before frame) (answer_to_carried frame.vl is_open (carried_by frame.bytes))
+answer_after skew is_open before frame =
+    answer_by (standing skew before frame) (answer_to_carried frame.vl is_open (carried_by frame.bytes))
 
 -- the link of an identifier that goes to the system
 abbrev pub subscription : Rows → ℕ → ℕ → Option LinkRow
@@ -55,11 +57,13 @@ subscription tables system vl = find (λ link. nat_eq link.vl vl && is_to system
 abbrev pub answer_on : Rows → ℕ → List Arrived → Arrived → FrameParts → Option LinkRow → Answer
 answer_on tables system past x frame None = Dropped NotSubscribed
 answer_on tables system past x frame (Some link) =
-    answer_after (1000 * link.skew_us) (has_port tables.ports system frame.link.0) (frames_of frame.link.0 past) (incoming x frame)
+    answer_after (1000 * link.skew_us) (has_port tables.ports system frame.link.0)
+    (frames_of frame.link.0 past) (incoming x frame)
 
 -- to bytes that are a frame, or not
 abbrev pub answer_to_frame : Rows → ℕ → List Arrived → Arrived → Result FrameParts MacFault → Answer
-answer_to_frame tables system past x (Ok frame) = answer_on tables system past x frame (subscription tables system frame.link.0)
+answer_to_frame tables system past x (Ok frame) =
+    answer_on tables system past x frame (subscription tables system frame.link.0)
 answer_to_frame tables system past x (Err fault) = Dropped (Mac fault)
 
 -- to what arrives at a system after what arrived before

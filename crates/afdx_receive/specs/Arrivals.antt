@@ -11,6 +11,9 @@ pub record Arrived : Type 0 where
   pub side : Side
   pub bytes : List ℕ
 
+abbrev pub arrived : ℕ → Side → List ℕ → Arrived
+arrived time side bytes = record { time = time; side = side; bytes = bytes }
+
 -- the frame of a link that the bytes are
 abbrev pub incoming : Arrived → FrameParts → Incoming
 incoming x frame = record { time = x.time; side = x.side; vl = frame.link.0; number = frame.number; bytes = x.bytes }

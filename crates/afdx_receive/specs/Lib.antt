@@ -8,4 +8,5 @@ pub mod Reception
 pub mod Memory
 pub mod StandsFor
 pub mod TwoStreams
+pub mod Delivery
 pub mod Laws

@@ -28,11 +28,13 @@ memory_at_first link = record { skew_ns = 1000 * link.skew_us; previous_a = None
 abbrev pub LinkStandsFor : Rows → ℕ → List Arrived → ℕ → Option LinkMemory → Type 0
 LinkStandsFor tables system past vl None = subscription tables system vl ≡ None
 LinkStandsFor tables system past vl (Some memory) =
-    (link : LinkRow) × (subscription tables system vl ≡ Some link) × (memory.skew_ns ≡ 1000 * link.skew_us) × Remembers memory (frames_of vl past)
+    (link : LinkRow) × (subscription tables system vl ≡ Some link) × (memory.skew_ns ≡ 1000 * link.skew_us)
+    × Remembers memory (frames_of vl past)
 
 -- the ports of the system
 abbrev pub PortsStandFor : {S : Type 0} → Rows → ℕ → HashSet Endpoint S → Type 0
-PortsStandFor tables system ports = (to : Endpoint) → bag.contains is_same_endpoint ports to ≡ has_port tables.ports system to.link.0 to.udp
+PortsStandFor tables system ports = (to : Endpoint) →
+    bag.contains is_same_endpoint ports to ≡ has_port tables.ports system to.link.0 to.udp
 
 -- a receiver of the system, after what arrived
 pub record StandsFor (tables : Rows) (system : ℕ) (receiver : Receiver) (past : List Arrived) : Type 0 where
@@ -40,7 +42,8 @@ pub record StandsFor (tables : Rows) (system : ℕ) (receiver : Receiver) (past 
   pub ports : PortsStandFor tables system receiver.ports
 
 -- what arrives after what arrived before has this answer, which is computed and right, and joins what arrived
-pub record Receives (tables : Rows) (system : ℕ) (past : List Arrived) (x : Arrived) (answer : Answer) (new : Receiver) : Type 0 where
+pub record Receives (tables : Rows) (system : ℕ) (past : List Arrived) (x : Arrived) (answer : Answer)
+    (new : Receiver) : Type 0 where
   pub computed : answer ≡ answer_to tables system past x
   pub right : IsAnswer tables system past x answer
   pub stands : StandsFor tables system new (x ∷ past)

@@ -1,4 +1,5 @@
--- How many steps lead from one sequence number to another (ARINC 664 Part 7). A step leads from 0 to 1, from n to n + 1, from 255 to 1, and none to 0.
+-- How many steps lead from one sequence number to another (ARINC 664 Part 7). A step leads from 0 to 1, from n to
+-- n + 1, from 255 to 1, and none to 0.
 use Rattle.std.specs.Prelude.{◌≡◌, ℕ, zero, suc, ◌≤◌, Bool, false, ◌||◌, nat_eq}
 use Rattle.afdx_config.specs.Numbers.{after_steps}
 

@@ -22,13 +22,15 @@ is_first_copy before frame = nat_le (count_of (other_side frame.side) before) (c
 
 abbrev pub first_copies : List Incoming → List Incoming
 first_copies [] = []
-first_copies (frame ∷ before) = if is_first_copy before frame then frame ∷ first_copies before else first_copies before
+first_copies (frame ∷ before) =
+    if is_first_copy before frame then frame ∷ first_copies before else first_copies before
 
--- a frame is the next one of its side's stream: it has the number of its place; if it is a late copy, it comes at most the skew
--- after the last first copy, and at most 127 places behind it
+-- a frame is the next one of its side's stream: it has the number of its place; if it is a late copy, it comes at most
+-- the skew after the last first copy, and at most 127 places behind it
 pub record IsNextOfStream (skew : ℕ) (before : List Incoming) (frame : Incoming) : Type 0 where
   pub number : frame.number ≡ after_steps (count_of frame.side before) 0
-  pub soon : is_first_copy before frame ≡ false → IfSome (newest (first_copies before)) (λ first. frame.time ≤ first.time + skew)
+  pub soon : is_first_copy before frame ≡ false →
+      IfSome (newest (first_copies before)) (λ first. frame.time ≤ first.time + skew)
   pub near : count_of (other_side frame.side) before ≤ count_of frame.side before + 128
 
 -- the frames are two streams in order, merged
@@ -39,16 +41,19 @@ AreTwoStreams skew (frame ∷ before) = IsNextOfStream skew before frame × AreT
 -- each frame carries what was sent at its place
 abbrev pub CarrySent : (Incoming → List ℕ) → List (List ℕ) → List Incoming → Type 0
 CarrySent carried sent [] = Unit {0}
-CarrySent carried sent (frame ∷ before) = (slice_get sent (count_of frame.side before) ≡ Some (carried frame)) × CarrySent carried sent before
+CarrySent carried sent (frame ∷ before) =
+    (slice_get sent (count_of frame.side before) ≡ Some (carried frame)) × CarrySent carried sent before
 
 -- of two streams in order the first copies win, and no others
 abbrev pub FirstCopiesWin : Type 0
 FirstCopiesWin = (skew : ℕ) (came : List Incoming) → AreTwoStreams skew came → winners skew came ≡ first_copies came
 
--- of two streams in order the next frame wins if it is a first copy, at the place after those that won, and else it is redundant
+-- of two streams in order the next frame wins if it is a first copy, at the place after those that won, and else it is
+-- redundant
 abbrev pub StandsByPlace : Type 0
 StandsByPlace = (skew : ℕ) (before : List Incoming) (frame : Incoming) → AreTwoStreams skew (frame ∷ before) →
-    (standing skew before frame ≡ (if is_first_copy before frame then Winner else Redundant)) × (is_first_copy before frame ≡ true → count_of frame.side before ≡ length (winners skew before))
+    (standing skew before frame ≡ (if is_first_copy before frame then Winner else Redundant))
+    × (is_first_copy before frame ≡ true → count_of frame.side before ≡ length (winners skew before))
 
 -- the first copies are as many as came by the side that came further
 abbrev pub FirstCopiesAreCounted : Type 0

@@ -1,7 +1,9 @@
 //! Laws over the definitions.
 
-ghost use Rattle.afdx_receive.specs.Laws.{WithinIsSomeSteps, FramesAreOwn, AnswerIsComputed};
+ghost use Rattle.afdx_receive.specs.Laws.{WithinIsSomeSteps, FramesAreOwn, AnswerIsOwn, LinksAreReceived};
+ghost use Rattle.afdx_receive.specs.Laws.{AnswerIsComputed};
 ghost use Rattle.afdx_receive.specs.TwoStreams.{StandsByPlace, FirstCopiesWin, FirstCopiesAreCounted, SentIsWonOnce};
+ghost use Rattle.afdx_receive.specs.Delivery.{SentIsDeliveredOnce};
 
 use afdx_frame::laws::{datagram_is_computed, frame_is_computed, reading_is_computed};
 
@@ -13,6 +15,16 @@ pub fn within_is_some_steps()
 /// A link's frames of what arrived grow by its own frames alone.
 pub fn frames_are_own()
     ensures { FramesAreOwn }
+{}
+
+/// The answer to a frame of a link that the system receives comes from that link's frames alone.
+pub fn answer_is_own()
+    ensures { AnswerIsOwn }
+{}
+
+/// A system receives each link that goes to it.
+pub fn links_are_received()
+    ensures { LinksAreReceived }
 {}
 
 /// There is one right answer to what arrives, and it is the one that is computed.
@@ -42,4 +54,10 @@ pub fn sent_is_won_once()
 /// Of two streams in order the next frame wins if it is a first copy, and else it is redundant.
 pub fn next_stands_by_place()
     ensures { StandsByPlace }
+{}
+
+/// Of two streams in order exactly the messages that were sent to an open UDP port are delivered, each once and in
+/// order.
+pub fn sent_is_delivered_once()
+    ensures { SentIsDeliveredOnce }
 {}

@@ -8,7 +8,7 @@ ghost use Rattle.afdx_frame.specs.Parts.{parts_of, IsFrameOf};
 ghost use Rattle.afdx_frame.specs.Carried.{carried_by};
 ghost use Rattle.afdx_config.specs.Rows.{Rows};
 ghost use Rattle.afdx_config.specs.Reading.{has_port};
-ghost use Rattle.afdx_receive.specs.Arrivals.{Arrived};
+ghost use Rattle.afdx_receive.specs.Arrivals.{Arrived, arrived};
 ghost use Rattle.afdx_receive.specs.Answers.{subscription, answer_of, answer_to_carried, is_ignored};
 ghost use Rattle.afdx_receive.specs.Reception.{IsReadAs};
 ghost use Rattle.afdx_receive.specs.StandsFor.{StandsFor, Receives, PortsStandFor, is_same_link, memory_at_first};
@@ -42,7 +42,8 @@ fn links_of(
     tables: &Tables,
     system: SystemId,
 ) -> Result<HashMap<VlId, LinkMemory>, AllocError>
-    ensures { IfOk result (λ links. (vl : VlId) → hash.get is_same_link links vl ≡ option_map memory_at_first (subscription tables.now system.0 vl.0)) }
+    ensures { IfOk result (λ links. (vl : VlId) →
+        hash.get is_same_link links vl ≡ option_map memory_at_first (subscription tables.now system.0 vl.0)) }
 {
     let mut links = HashMap::new(alloc);
     let count = tables.link_count();
@@ -97,8 +98,9 @@ impl Receiver {
     /// last winner also where its datagram or its UDP port is refused. It takes no memory: a frame costs one
     /// check sequence and two look-ups.
     pub fn receive<'a>(&mut self, time: u64, side: Side, bytes: &'a [u8]) -> Reception<'a>
-        ensures received { (tables : Rows) (system : ℕ) (past : List Arrived) → StandsFor tables system self.old past →
-            Receives tables system past (record { time = time; side = side; bytes = bytes.now }) (answer_of result) self.new }
+        ensures received { (tables : Rows) (system : ℕ) (past : List Arrived) →
+            StandsFor tables system self.old past →
+            Receives tables system past (arrived time side bytes.now) (answer_of result) self.new }
         ensures unchanged { IsTrue (is_ignored (answer_of result)) → self.new ≡ self.old }
     {
         self.receive_checked(time, side, bytes, is_sealed(bytes))
@@ -114,8 +116,9 @@ impl Receiver {
         sealed: bool,
     ) -> Reception<'a>
         requires { sealed ≡ is_sealed bytes.now }
-        ensures received { (tables : Rows) (system : ℕ) (past : List Arrived) → StandsFor tables system self.old past →
-            Receives tables system past (record { time = time; side = side; bytes = bytes.now }) (answer_of result) self.new }
+        ensures received { (tables : Rows) (system : ℕ) (past : List Arrived) →
+            StandsFor tables system self.old past →
+            Receives tables system past (arrived time side bytes.now) (answer_of result) self.new }
         ensures unchanged { IsTrue (is_ignored (answer_of result)) → self.new ≡ self.old }
     {
         let frame = match MacView::parse_checked(bytes, sealed) {
@@ -135,10 +138,13 @@ impl Receiver {
 
     /// The message of a frame that won, if it has one for this system.
     fn read<'a>(&self, frame: MacView<'a>) -> Reception<'a>
-        ensures answer { (tables : Rows) (system : ℕ) (bytes : List ℕ) → PortsStandFor tables system self.now.ports → IsFrameOf bytes (parts_of frame.entry) →
-            answer_of result ≡ answer_to_carried (parts_of frame.entry).link.0 (has_port tables.ports system (parts_of frame.entry).link.0) (carried_by bytes) }
+        ensures answer { (tables : Rows) (system : ℕ) (bytes : List ℕ) →
+            PortsStandFor tables system self.now.ports → IsFrameOf bytes (parts_of frame.entry) →
+            let vl = (parts_of frame.entry).link.0 in
+            answer_of result ≡ answer_to_carried vl (has_port tables.ports system vl) (carried_by bytes) }
         ensures won { is_ignored (answer_of result) ≡ false }
-        ensures right { (tables : Rows) (system : ℕ) (bytes : List ℕ) → PortsStandFor tables system self.now.ports → IsFrameOf bytes (parts_of frame.entry) →
+        ensures right { (tables : Rows) (system : ℕ) (bytes : List ℕ) →
+            PortsStandFor tables system self.now.ports → IsFrameOf bytes (parts_of frame.entry) →
             IsReadAs tables system bytes (parts_of frame.entry) (answer_of result) }
     {
         let datagram = match Datagram::parse(frame) {

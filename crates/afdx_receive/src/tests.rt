@@ -80,7 +80,10 @@ fn new_receiver(alloc: Global, tables: &Tables, system: SystemId) -> Result<Rece
 }
 
 fn push_link(text: &mut String, vl: u16, from: &str, to: &str) -> Result<(), AllocError> {
-    write!(text, "\n[[link]]\nvl = {vl}\nfrom = \"{from}\"\nto = [{to}]\n")?;
+    write!(
+        text,
+        "\n[[link]]\nvl = {vl}\nfrom = \"{from}\"\nto = [{to}]\n"
+    )?;
     text.push_str("bag_ms = 1\nlmin = 64\nlmax = 64\njitter_us = 500\npriority = \"high\"\n")?;
     text.push_str("policing = \"frame\"\nlatency_us = 17\nskew_us = 1000\nsubs = 2\n")
 }
@@ -198,6 +201,14 @@ fn numbers(rt: HostRuntime) -> Result<(), Fail> {
 }
 
 #[test]
+fn refused_new_is_made_again(rt: HostRuntime) -> Result<(), Fail> {
+    let mut receiver = base_receiver(rt.alloc(), THIRD)?;
+    let bytes = numbered(0);
+    assert!(rt; is_answer(receiver.receive(0, Side::A, &bytes), None));
+    Ok(())
+}
+
+#[test]
 fn first_copy_wins(rt: HostRuntime) -> Result<(), Fail> {
     let mut receiver = base_receiver(rt.alloc(), THIRD)?;
     // The network is not that of the source address.
@@ -249,7 +260,12 @@ fn wrong_datagrams(rt: HostRuntime) -> Result<(), Fail> {
         assert!(rt; is_answer(receiver.receive(6720, Side::A, &bytes), Some(why)));
         // It won all the same: its copy is redundant.
         let copy = numbered(0);
-        assert!(rt; is_answer(receiver.receive(6720, Side::B, &copy), Some(DropReason::Redundant)));
+        assert!(rt;
+            is_answer(
+                receiver.receive(6720, Side::B, &copy),
+                Some(DropReason::Redundant)
+            )
+        );
     }
     Ok(())
 }
@@ -280,7 +296,12 @@ fn not_its_frames(rt: HostRuntime) -> Result<(), Fail> {
             Some(DropReason::Mac(MacFault::BadFcs))
         )
     );
-    assert!(rt; is_answer(receiver.receive_checked(0, Side::A, &bytes, is_sealed(&bytes)), None));
+    assert!(rt;
+        is_answer(
+            receiver.receive_checked(0, Side::A, &bytes, is_sealed(&bytes)),
+            None
+        )
+    );
     let mut second = base_receiver(rt.alloc(), SECOND)?;
     assert!(rt;
         is_answer(
@@ -333,7 +354,10 @@ fn largest_text(alloc: Global) -> Result<String, AllocError> {
         push_link(&mut text, vl, "s1", "\"s2\", \"s3\"")?;
     }
     for vl in 0..GREATEST_COUNT {
-        write!(text, "\n[[port]]\nsystem = \"s2\"\nlink = {vl}\nudp = 1000\n")?;
+        write!(
+            text,
+            "\n[[port]]\nsystem = \"s2\"\nlink = {vl}\nudp = 1000\n"
+        )?;
         text.push_str("kind = \"sampling\"\ndepth = 1\n")?;
     }
     Ok(text)

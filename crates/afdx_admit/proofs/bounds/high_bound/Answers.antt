@@ -1,4 +1,4 @@
-use Rattle.std.proofs.Common.{Some, sym, ap, ◌∙◌}
+use Rattle.std.proofs.Common.{sym, ap, ◌∙◌}
 use Rattle.std.specs.Option.{option_map_or}
 use Rattle.afdx_admit.specs.Lines.{output_to, high_bound_of}
 use Rattle.afdx_admit.proofs.Outputs.{output_at-some, output_at-none}

@@ -1,4 +1,4 @@
-use Rattle.std.proofs.Common.{◌≡◌, ◌≤◌, Bool, None, length, drop, find, option_map, sym, ap, ◌∙◌, arith, true, false}
+use Rattle.std.proofs.Common.{◌≡◌, ◌≤◌, Bool, None, length, find, option_map, sym, ap, ◌∙◌, arith, true, false}
 use Rattle.std.proofs.Math.ListN.{drop_of_length-le}
 use Rattle.afdx_config.specs.Rows.{LinkRow, link_row}
 use Rattle.afdx_admit.specs.Late.{is_late}

@@ -1,8 +1,8 @@
-use Rattle.std.proofs.Common.{◌≡◌, ◌<◌, ◌≤◌, ◌*◌, List, [], ◌∷◌, length, slice_index, Some, None, sym, ap, subst, ◌∙◌, arith, true, false, nat_le}
+use Rattle.std.proofs.Common.{◌≡◌, ◌*◌, [], ◌∷◌, slice_index, Some, sym, ap, subst, ◌∙◌, arith, true, false, nat_le}
 use Rattle.std.specs.Option.{option_map_or}
-use Rattle.afdx_config.specs.Rows.{link_row, LinkRow}
+use Rattle.afdx_config.specs.Rows.{link_row}
 use Rattle.afdx_admit.specs.declared.fault.AdmitFault.TheVariants.{LinkJitter, Skew}
-use Rattle.afdx_admit.specs.Lines.{Line, line, link_lines, first_false, jitter_at, lines_of_link}
+use Rattle.afdx_admit.specs.Lines.{line, link_lines, first_false, jitter_at, lines_of_link}
 use Rattle.afdx_admit.proofs.FirstFalse.{first_false-skip, first_false-stop, first_false-nil, le-true, le-false}
 use Rattle.afdx_admit.proofs.lines.link_fault.Goals as goal
 

@@ -1,11 +1,11 @@
-use Rattle.std.proofs.Common.{◌≡◌, ◌<◌, ◌≤◌, ◌-◌, ◌*◌, ℕ, length, Some, None, sym, ap, subst, ◌∙◌, arith}
+use Rattle.std.proofs.Common.{◌≡◌, ◌<◌, ◌≤◌, ◌-◌, ◌*◌, length, Some, None, sym, ap, ◌∙◌, arith}
 use Rattle.std.specs.Int.{div_ceil}
 use Rattle.std.specs.Option.{option_map}
 use Rattle.afdx_frame.specs.declared.link.Priority.TheVariants.{High, Low}
 use Rattle.afdx_frame.specs.Regulation.{byte_units}
 use Rattle.afdx_frame.specs.Flows.{of_class, burst, load, high_wait, low_wait, high_load}
 use Rattle.afdx_admit.specs.declared.fault.AdmitFault.TheVariants.{Buffer, HighLatency, LowLatency}
-use Rattle.afdx_admit.specs.Lines.{output_to, buffer_need_of, high_bound_of}
+use Rattle.afdx_admit.specs.Lines.{output_to}
 use Rattle.afdx_admit.specs.Late.{first_late}
 use Rattle.afdx_admit.proofs.FirstFalse.{none_of}
 use Rattle.afdx_admit.proofs.OutputLemmas.{overload, short_buffer, high_late, highs_soon, left_some, rates_some}

@@ -1,6 +1,6 @@
-use Rattle.std.proofs.Common.{◌≡◌, ◌<◌, ◌≤◌, List, [], ◌∷◌, length, slice_index, Some, None, sym, ap, subst, ◌∙◌, arith, true, false, nat_le}
+use Rattle.std.proofs.Common.{◌≡◌, [], length, slice_index, Some, None, sym, ap, subst, ◌∙◌, arith, true, false, nat_le}
 use Rattle.afdx_admit.specs.declared.fault.AdmitFault.TheVariants.{SenderJitter}
-use Rattle.afdx_admit.specs.Lines.{Line, line, sender_lines, first_false, each_from, jitter_at}
+use Rattle.afdx_admit.specs.Lines.{line, sender_lines, first_false, each_from, jitter_at}
 use Rattle.afdx_admit.proofs.FirstFalse.{so_far-start, so_far-next, so_far-found, so_far-end, first_false-skip, first_false-stop, first_false-nil, le-true, le-false}
 use Rattle.afdx_admit.proofs.lines.senders_fault.Goals as goal
 

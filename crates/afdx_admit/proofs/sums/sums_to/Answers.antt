@@ -1,13 +1,13 @@
-use Rattle.std.proofs.Common.{◌≡◌, ◌≤◌, ◌<◌, ◌+◌, take, length, true, false, List, sym, ap, subst, ◌∙◌, arith, ℕ}
+use Rattle.std.proofs.Common.{◌≡◌, ◌≤◌, ◌+◌, take, length, List, sym, subst, ◌∙◌, arith, ℕ}
 use Rattle.std.proofs.lemmas.List.{take_all}
-use Rattle.afdx_config.specs.Rows.{LinkRow, link_row, is_to}
+use Rattle.afdx_config.specs.Rows.{link_row}
 use Rattle.afdx_frame.specs.Flows.{Flow}
 use Rattle.afdx_config.specs.Flows.{flow_of}
 use Rattle.afdx_config.specs.Admission.{flows_to, byte_ns}
 use Rattle.afdx_admit.specs.declared.sums.Sums.{Sums}
 use Rattle.afdx_admit.specs.Lines.{Output}
-use Rattle.afdx_admit.specs.Sums.{IsSums, IsSmall, AreSumsTo}
-use Rattle.afdx_admit.proofs.Pushed.{sums_push, small_push, with_flow}
+use Rattle.afdx_admit.specs.Sums.{IsSums, IsSmall}
+use Rattle.afdx_admit.proofs.Pushed.{sums_push, small_push}
 use Rattle.afdx_admit.proofs.Small.{cap_small, load_small, smax_small}
 use Rattle.afdx_admit.proofs.Taken.{with_flow_to, without_flow_to, at_place}
 use Rattle.afdx_admit.proofs.sums.sums_to.Goals as goal

@@ -1,7 +1,5 @@
-use Rattle.std.proofs.Common.{◌≡◌, ◌≤◌, sym, subst, arith}
-use Rattle.afdx_port.specs.declared.pending.Pending.{Pending}
+use Rattle.std.proofs.Common.{◌≡◌, ◌≤◌, arith}
 use Rattle.afdx_port.specs.Held.{last_time, IsQuiet}
-use Rattle.afdx_port.specs.History.{at, StandsFor}
 use Rattle.afdx_port.proofs.DueLemmas.{quiet_after}
 use Rattle.afdx_port.proofs.HistoryLemmas.{waited_stands}
 use Rattle.afdx_port.proofs.TakeLemmas.{quiet_all_done}

@@ -1,4 +1,4 @@
-use Rattle.std.proofs.Common.{◌≡◌, sym, ◌∙◌, ap, true}
+use Rattle.std.proofs.Common.{sym, ◌∙◌, ap}
 use Rattle.afdx_frame.specs.declared.link.VlId.{VlId}
 use Rattle.afdx_frame.specs.Carried.{carried_in, carried_by}
 use Rattle.afdx_config.specs.Reading.{has_port}

@@ -1,4 +1,4 @@
-use Rattle.std.proofs.Common.{◌≡◌, Some, ◌∷◌, refl, ◌∙◌}
+use Rattle.std.proofs.Common.{◌≡◌, Some, ◌∷◌, ◌∙◌}
 use Rattle.std.specs.HashMap as hash
 use Rattle.afdx_frame.specs.Parts.{FrameParts, parts_of}
 use Rattle.afdx_receive.specs.Arrivals.{Arrived, frames_of}

@@ -1,0 +1,117 @@
+-- What an accepted arrival looks like, and what it adds to its link's accepted ones.
+use Rattle.std.proofs.Common.{◌≡◌, ℕ, ◌≤◌, ◌==◌, ◌&&◌, Bool, true, false, List, [], ◌∷◌, length, Option, Some, None, inl, inr, refl, sym, subst, arith, ◌∙◌, if◌then◌else◌}
+use Rattle.std.specs.Prelude.{find, not, nat_lt, is_none, option_map}
+use Rattle.std.specs.Option.{option_map_or, option_or}
+use Rattle.std.specs.List.{AllByRecursion}
+use Rattle.std.proofs.lemmas.Bool.{cases_lt, eqb-true}
+use Rattle.afdx_frame.specs.Layout.{link_named_by}
+use Rattle.afdx_frame.specs.declared.link.Policing.{Policing}
+use Rattle.afdx_frame.specs.declared.link.Policing.TheVariants.{Byte, Frame}
+use Rattle.afdx_frame.specs.declared.link.Side.{Side}
+use Rattle.afdx_frame.specs.declared.link.Side.TheVariants.{A, B}
+use Rattle.afdx_frame.specs.declared.link.VlId.{VlId}
+use Rattle.afdx_police.specs.declared.shape.Reason.{Reason}
+use Rattle.afdx_police.specs.declared.shape.Reason.TheVariants.{OverRate}
+use Rattle.afdx_police.specs.Arrival.{Arrival, is_side, names, own}
+use Rattle.afdx_police.specs.Charge.{charge_by}
+use Rattle.afdx_police.specs.Rule.{Rule, regulation_of}
+use Rattle.afdx_police.specs.Shape.{faults, fault_of}
+use Rattle.afdx_police.specs.Verdicts.{charged_by, drop_reason, accepted_own, reason_after}
+use Rattle.afdx_police.specs.Window.{Charged, fits}
+use Rattle.afdx_port.proofs.TurnLemmas.{nat_lt-true}
+use Rattle.afdx_bounds.specs.Outputs.{Row, accepts}
+use Rattle.afdx_bounds.proofs.WorkLemmas.{bool_cases}
+
+find-none : (xs : List (Bool × Reason)) → find (λ f. f.0) xs ≡ None → AllByRecursion (λ f. f.0 ≡ false) xs
+find-none [] h = tt
+find-none (x ∷ xs) h = elim (bool_cases x.0) [ inl found ↦ absurd (let k = rw found at h in cc k) | inr not-found ↦ (not-found, find-none xs (rw not-found at h)) ]
+
+map-none : {Y Z : Type 0} (f : Y → Z) (o : Option Y) → option_map f o ≡ None → o ≡ None
+map-none f None h = refl
+map-none f (Some a) h = absurd (cc h)
+
+record Clean (fault : Option Reason) (fit : Bool) : Type 0 where
+  clean : fault ≡ None
+  fits-in : fit ≡ true
+
+clean-from : (fault : Option Reason) (fit : Bool) → is_none (option_or fault (if fit then None else Some OverRate)) ≡ true → Clean fault fit
+clean-from None true h = record { clean = refl; fits-in = refl }
+clean-from None false h = absurd (cc h)
+clean-from (Some r) fit h = absurd (cc h)
+
+not-false : (b : Bool) → not b ≡ false → b ≡ true
+not-false true h = refl
+not-false false h = absurd (cc h)
+
+not-less : (a b : ℕ) → nat_lt a b ≡ false → b ≤ a
+not-less a b h = elim (cases_lt a b) [ inl lt ↦ absurd (let k = nat_lt-true a b lt in cc (h, k)) | inr ge ↦ ge ]
+
+pub record Looks (rule : Rule) (accepted : List Charged) (x : Arrival) : Type 0 where
+  pub named : names rule.vl x.bytes ≡ true
+  pub short : length x.bytes ≤ rule.lmax
+  pub fit : fits (regulation_of rule) accepted (charged_by rule x) ≡ true
+
+looks-from : (rule : Rule) (accepted : List Charged) (x : Arrival) → is_none (drop_reason rule accepted x) ≡ true → Looks rule accepted x
+unfolding fault_of
+looks-from rule accepted x h =
+    let c = clean-from (fault_of (Some rule) x.port x.bytes) (fits (regulation_of rule) accepted (charged_by rule x)) h in
+    let all = find-none (faults (Some rule) x.port x.bytes) (map-none (λ f. f.1) (find (λ f. f.0) (faults (Some rule) x.port x.bytes)) c.clean) in
+    record {
+      named = not-false (names rule.vl x.bytes) all.1.1.1.1.0;
+      short = not-less rule.lmax (length x.bytes) all.1.1.1.1.1.1.0;
+      fit = c.fits-in;
+    }
+
+pub looks : (r : Row) (past : List Arrival) (x : Arrival) → accepts past x r ≡ true → Looks r.rule (accepted_own r.rule (own r.rule.vl x.side past)) x
+unfolding reason_after
+looks r past x h = looks-from r.rule (accepted_own r.rule (own r.rule.vl x.side past)) x h
+
+pub charge-least : (p : Policing) (smax wire : ℕ) → wire ≤ smax → (wire ≤ charge_by p smax wire) × (charge_by p smax wire ≤ smax)
+charge-least Byte smax wire h = (omega arith, h)
+charge-least Frame smax wire h = (h, omega arith)
+
+pub same-side : (a b : Side) → is_side a b ≡ true → a ≡ b
+same-side A A h = refl
+same-side A B h = absurd (cc h)
+same-side B A h = absurd (cc h)
+same-side B B h = refl
+
+same-named : (o : Option VlId) (a b : ℕ) → option_map_or (λ vl. vl.0 == a) o false ≡ true → option_map_or (λ vl. vl.0 == b) o false ≡ true → a ≡ b
+same-named None a b h k = absurd (cc h)
+same-named (Some v) a b h k = sym (eqb-true v.0 a h) ∙ eqb-true v.0 b k
+
+-- bytes name one link
+pub one-name : (a b : ℕ) (bytes : List ℕ) → names a bytes ≡ true → names b bytes ≡ true → a ≡ b
+unfolding names
+one-name a b bytes h k = same-named (link_named_by bytes) a b h k
+
+-- what is accepted of a link's own arrivals, the newest of which may be one that it accepts
+own-more : (rule : Rule) (side : Side) (past : List Arrival) (x : Arrival) (accepted : Bool) → side ≡ x.side → is_none (reason_after rule (own rule.vl x.side past) x) ≡ accepted → names rule.vl x.bytes ≡ true → is_side side x.side ≡ true →
+    accepted_own rule (own rule.vl side (x ∷ past)) ≡ (if accepted then charged_by rule x ∷ accepted_own rule (own rule.vl side past) else accepted_own rule (own rule.vl side past))
+unfolding reason_after accepted_own
+own-more rule side past x accepted same is named on =
+    let P : Side → Type 0 = λ s. is_none (drop_reason rule (accepted_own rule (own rule.vl s past)) x) ≡ accepted in
+    let here = subst P (sym same) is in
+    rw (on, named, here) refl
+
+pub both-then : (a b : Bool) (xs ys : List Charged) → a ≡ true → b ≡ true → xs ≡ (if a && b then xs else ys)
+both-then true true xs ys h k = refl
+both-then true false xs ys h k = absurd (cc k)
+both-then false b xs ys h k = absurd (cc h)
+
+-- one more arrival is among the accepted ones of its link on its side, if it is accepted
+pub accepted-more : (r : Row) (side : Side) (past : List Arrival) (x : Arrival) →
+    accepted_own r.rule (own r.rule.vl side (x ∷ past)) ≡ (if accepts past x r && is_side side x.side then charged_by r.rule x ∷ accepted_own r.rule (own r.rule.vl side past) else accepted_own r.rule (own r.rule.vl side past))
+accepted-more r side past x =
+    elim (bool_cases (is_side side x.side)) [
+      | inr other ↦ elim (bool_cases (accepts past x r)) [ inl is ↦ rw (other, is) refl | inr isnt ↦ rw (other, isnt) refl ]
+      | inl on ↦ elim (bool_cases (accepts past x r)) [
+        | inl is ↦ (let l = looks r past x is in
+            own-more r.rule side past x true (same-side side x.side on) is l.named on
+            ∙ both-then (accepts past x r) (is_side side x.side) (charged_by r.rule x ∷ accepted_own r.rule (own r.rule.vl side past)) (accepted_own r.rule (own r.rule.vl side past)) is on)
+        | inr isnt ↦ elim (bool_cases (names r.rule.vl x.bytes)) [
+          | inl named ↦ (let more = own-more r.rule side past x false (same-side side x.side on) isnt named on in rw isnt more)
+          | inr other ↦ rw (isnt, on, other) refl
+        ]
+      ]
+    ]

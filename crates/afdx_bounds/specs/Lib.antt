@@ -1,0 +1,11 @@
+pub mod Curve
+pub mod CurveLaws
+pub mod Policed
+pub mod Admitted
+pub mod Sender
+pub mod Offered
+pub mod Outputs
+pub mod OutputLaws
+pub mod Examples
+pub mod Needed
+pub mod PortLaws
