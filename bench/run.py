@@ -39,7 +39,7 @@ STARTER = "/usr/bin/time"
 RULE = ["police", "1", "64", "500"]
 
 
-def one_run(words, given, taken, note):
+def timed(words, given, taken, note, statuses=(0,)):
     """Runs it once: seconds, and peak memory in KiB."""
     # Linux counts the memory of the process that starts a program to that program's peak, so a
     # small starter is put between. Without it the figure is at least what Python itself takes.
@@ -50,12 +50,12 @@ def one_run(words, given, taken, note):
     _, status, usage = os.wait4(child.pid, 0)
     seconds = time.perf_counter() - began
     child.returncode = os.waitstatus_to_exitcode(status)
-    if child.returncode:
+    if child.returncode not in statuses:
         sys.exit(f"{' '.join(words)} ended with status {child.returncode}")
     if not has_starter:
         return seconds, usage.ru_maxrss
     with open(note, encoding="ascii") as text:
-        return seconds, int(text.read())
+        return seconds, int(text.read().split()[-1])
 
 
 def measure(program, way, listing, copy, times):
@@ -66,13 +66,13 @@ def measure(program, way, listing, copy, times):
         if way == "pipe to null":
             with open(os.devnull, "w", encoding="ascii") as taken:
                 feeder = subprocess.Popen(["cat", listing], stdout=subprocess.PIPE)
-                runs.append(one_run([*program, "-"], feeder.stdout, taken, note))
+                runs.append(timed([*program, "-"], feeder.stdout, taken, note))
                 feeder.stdout.close()
                 feeder.wait()
         else:
             target = copy if way == "file to file" else os.devnull
             with open(target, "w", encoding="ascii") as taken:
-                runs.append(one_run([*program, listing], subprocess.DEVNULL, taken, note))
+                runs.append(timed([*program, listing], subprocess.DEVNULL, taken, note))
     return min(seconds for seconds, _ in runs), max(memory for _, memory in runs)
 
 

@@ -19,3 +19,5 @@ pub mod ExampleLemmas
 pub mod CarryLemmas
 pub mod NeededLemmas
 pub mod PortLawLemmas
+pub mod TableLemmas
+pub mod TableLawLemmas

@@ -9,3 +9,5 @@ pub mod OutputLaws
 pub mod Examples
 pub mod Needed
 pub mod PortLaws
+pub mod Tables
+pub mod TableLaws

@@ -12,6 +12,8 @@ ghost use Rattle.afdx_bounds.specs.Outputs.{BytesCarry};
 ghost use Rattle.afdx_bounds.specs.OutputLaws.{EntriesAreRegulated, EntriesAreAccepted, OffersEnter, ArrivalIsKept, ArrivalsAreInTime, ArrivalsAreNotOld, ArrivalsHaveLeft};
 ghost use Rattle.afdx_bounds.specs.PortLaws.{PutIsKept, TakenAreInTime, TakenAreNotOld, AllWereTaken};
 ghost use Rattle.afdx_bounds.specs.Sender.{SenderIsAdmitted, SenderIsRegulated, SenderIsNeverFull, SenderIsInTime};
+ghost use Rattle.afdx_bounds.specs.Tables.{EachOutputIsServed, EachSystemIsSender};
+ghost use Rattle.afdx_bounds.specs.TableLaws.{NothingIsLost, EachHasItsSlot, EachSlotHasCome};
 
 use afdx_police::laws::{accounts_move, arrivals_are_offers, regular_is_accepted};
 use afdx_port::HasLength;
@@ -118,6 +120,24 @@ pub fn arrivals_are_in_time<T>()
     ensures within { ArrivalsAreInTime T }
     ensures not_old { ArrivalsAreNotOld T }
     ensures left { ArrivalsHaveLeft T }
+{
+    accounts_move();
+    arrivals_are_offers()
+}
+
+/// Where the tables are admitted, each output port is admitted with the flows that they say go there, and each system's
+/// own port with the links that it sends.
+pub fn tables_are_served()
+    ensures outputs { EachOutputIsServed }
+    ensures senders { EachSystemIsSender }
+{}
+
+/// Admitted tables, whatever arrives: no output port loses anything, and each frame of a link that goes there has a slot
+/// that ends within the link's latency. So it has been sent when the port gives nothing more by then.
+pub fn admitted_tables_keep_all<T>()
+    ensures nothing_lost { NothingIsLost T }
+    ensures slot { EachHasItsSlot T }
+    ensures has_come { EachSlotHasCome T }
 {
     accounts_move();
     arrivals_are_offers()

@@ -87,7 +87,7 @@ fn a_high_frame_goes_before_a_low_one_that_came_earlier(rt: HostRuntime) -> Resu
     let mut port = idle_port(rt.alloc(), 80, 128)?;
     assert!(rt; port.put(0, Priority::Low, waits_on(64)).is_ok());
     assert!(rt; port.put(0, Priority::Low, waits_on(64)).is_ok());
-    assert_eq!(rt; port.put(0, Priority::Low, waits_on(65)), Err(waits_on(65)));
+    assert_eq!(rt; port.put(0, Priority::Low, waits_on(64)), Err(waits_on(64)));
     assert!(rt; left(&mut port, 6719).is_none());
     assert_eq!(rt; left(&mut port, 6720), Some((Priority::Low, 6720, false)));
     assert!(rt; left(&mut port, 6720).is_none());
@@ -195,7 +195,10 @@ fn a_gigabit_line_takes_8_ns_for_a_byte(rt: HostRuntime) -> Result<(), AllocErro
     let mut port = idle_port(rt.alloc(), 8, 1518)?;
     assert!(rt; port.put(0, Priority::Low, waits_on(1518)).is_ok());
     assert!(rt; left(&mut port, 12303).is_none());
-    assert_eq!(rt; left(&mut port, 12304), Some((Priority::Low, 12304, false)));
+    assert_eq!(rt;
+        port.take(12304).map(|left| left.item),
+        Some(waits_on(1518))
+    );
     Ok(())
 }
 
