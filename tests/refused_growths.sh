@@ -4,10 +4,10 @@
 #     tests/refused_growths.sh PROGRAM             the built program, as crates/afdx/out/afdx
 #     tests/refused_growths.sh --tests RUNNER..    built test runners, as crates/afdx_police/out/afdx_police_tests
 #
-# PROGRAM polices examples/one_link.list on standard input, with the first request refused, then
-# the second, and so on, until a run meets no refusal. Each run must write a beginning of what the
-# undisturbed run writes, and end either with the line `memory` and status 4, or as the undisturbed
-# run does.
+# PROGRAM polices examples/one_link.list on standard input, and checks examples/base.toml, each with
+# the first request refused, then the second, and so on, until a run meets no refusal. Each run must
+# write a beginning of what the undisturbed run writes, and end either with the line `memory` and
+# status 4, or as the undisturbed run does.
 #
 # Of each RUNNER the tests whose names contain `refused` are run in the same way. Such a test makes
 # a call again where it answered want of memory, and asserts what holds then: it must pass each time.
@@ -130,6 +130,7 @@ refuse_test() { # RUNNER TEST
 if [[ $tests == no ]]; then
     input=$top/examples/one_link.list
     refuse_program 'police one_link.list' "$1" police 1 64 500 -
+    refuse_program 'check base.toml' "$1" check "$top/examples/base.toml"
 else
     input=/dev/null
     for runner in "$@"; do

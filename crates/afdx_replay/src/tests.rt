@@ -2,6 +2,7 @@
 
 mod checks;
 mod devices;
+mod refusals;
 
 use crate::{RunFault, Summary, Watched, police, run_police};
 use afdx_frame::{Policing, VlId};

@@ -5,7 +5,7 @@ use std::alloc::{AllocError, Global};
 use std::test::Fail;
 
 /// Three systems and two links to the third, one high and one low.
-const BASE: &str = r#"profile = 1
+pub(super) const BASE: &str = r#"profile = 1
 buffer = 252
 
 [[system]]
@@ -72,7 +72,7 @@ kind = "queuing"
 depth = 4
 "#;
 
-const BASE_PORTS: &str = "P 1 0 0 0\nP 2 0 0 0\nP 3 16800 20297 252\n";
+pub(super) const BASE_PORTS: &str = "P 1 0 0 0\nP 2 0 0 0\nP 3 16800 20297 252\n";
 
 /// The text with `new` in the place of the first `old`.
 fn changed(alloc: Global, text: &str, old: &str, new: &str) -> Result<String, AllocError> {
@@ -89,7 +89,7 @@ fn changed(alloc: Global, text: &str, old: &str, new: &str) -> Result<String, Al
 }
 
 /// The status, the output and the error output of `check`.
-fn checked(alloc: Global, config: &[u8]) -> (u8, Vec<u8>, Vec<u8>) {
+pub(super) fn checked(alloc: Global, config: &[u8]) -> (u8, Vec<u8>, Vec<u8>) {
     let mut output = Watched::new(Vec::new(alloc));
     let mut errors = Watched::new(Vec::new(alloc));
     let status = check(alloc, config, &mut output, &mut errors);
