@@ -27,7 +27,8 @@ pub product-positive : (a b : ℕ) → 0 < a → 0 < b → 0 < a * b
 product-positive a b h k = grind arith
 
 -- what may wait as long as the latency isn't too old within it
-not-past : (longest : Option ℕ) (time t latency : ℕ) → IfSome longest (λ wait. latency ≤ wait) → t ≤ time + latency → is_past longest time t ≡ false
+not-past : (longest : Option ℕ) (time t latency : ℕ) → IfSome longest (λ wait. latency ≤ wait) → t ≤ time + latency →
+    is_past longest time t ≡ false
 not-past None time t latency waits soon = refl
 not-past (Some wait) time t latency waits soon = nat_lt-false (time + wait) t (omega (arith, waits, soon))
 
@@ -42,8 +43,10 @@ module _ {X : Type 0} where
       let holds = regulated.admitted.fits_buffer in
       omega (arith, few, all, holds, lost)
 
-  pub turn-in-time : EachAccountMoves → (byte_ns buffer : ℕ) (flows : List Flow) (vl_of : X → ℕ) (charge_of : Entry X → ℕ) (entries : List (Entry X)) (turns : List (Turn X)) (f : Flow) (i : ℕ) (s : Turn X) →
-      IsRegulated byte_ns buffer flows vl_of charge_of entries → AreTurns byte_ns entries turns → Contains flows f → slice_get turns i ≡ Some s → vl_of s.entry.item ≡ f.vl →
+  pub turn-in-time : EachAccountMoves → (byte_ns buffer : ℕ) (flows : List Flow) (vl_of : X → ℕ)
+      (charge_of : Entry X → ℕ) (entries : List (Entry X)) (turns : List (Turn X)) (f : Flow) (i : ℕ) (s : Turn X) →
+      IsRegulated byte_ns buffer flows vl_of charge_of entries → AreTurns byte_ns entries turns → Contains flows f →
+      slice_get turns i ≡ Some s → vl_of s.entry.item ≡ f.vl →
       s.end ≤ s.entry.time + f.latency
   turn-in-time moves byte_ns buffer flows vl_of charge_of entries turns f i s regulated are flow at named =
       let high = policed-keep moves vl_of charge_of flows entries High regulated.flows_are regulated.policed in
@@ -79,7 +82,8 @@ module _ {X : Type 0} where
             le_of_mul-le-mul_left (finish (byte_units - byte_ns * rates (of_class High flows)) s.end s.entry.time f.latency byte_ns (burst flows) (burst (of_class High flows) + burst (of_class Low flows)) r line-rates bursts-ns) left)
       ]
     where
-      finish : (w end time latency b all both : ℕ) → w * end ≤ w * time + b * both → all * b ≤ latency * w → b * all ≡ b * both → w * end ≤ w * (time + latency)
+      finish : (w end time latency b all both : ℕ) → w * end ≤ w * time + b * both → all * b ≤ latency * w →
+          b * all ≡ b * both → w * end ≤ w * (time + latency)
       finish w end time latency b all both h k e = omega (arith, h, k, e)
 
   pub in-time : EachAccountMoves → EachIsInTime X
@@ -87,8 +91,10 @@ module _ {X : Type 0} where
       all_get (λ s. vl_of s.entry.item ≡ f.vl → s.end ≤ s.entry.time + f.latency) turns
       (λ i s g named. turn-in-time moves byte_ns buffer flows vl_of charge_of entries turns f i s regulated are flow g named)
 
-  pub turn-not-old : EachAccountMoves → (byte_ns buffer : ℕ) (flows : List Flow) (vl_of : X → ℕ) (charge_of : Entry X → ℕ) (entries : List (Entry X)) (turns : List (Turn X)) (f : Flow) (i : ℕ) (s : Turn X) →
-      IsRegulated byte_ns buffer flows vl_of charge_of entries → AreTurns byte_ns entries turns → Contains flows f → slice_get turns i ≡ Some s → vl_of s.entry.item ≡ f.vl →
+  pub turn-not-old : EachAccountMoves → (byte_ns buffer : ℕ) (flows : List Flow) (vl_of : X → ℕ)
+      (charge_of : Entry X → ℕ) (entries : List (Entry X)) (turns : List (Turn X)) (f : Flow) (i : ℕ) (s : Turn X) →
+      IsRegulated byte_ns buffer flows vl_of charge_of entries → AreTurns byte_ns entries turns → Contains flows f →
+      slice_get turns i ≡ Some s → vl_of s.entry.item ≡ f.vl →
       MayWait f.latency s.entry → s.too_old ≡ false
   turn-not-old moves byte_ns buffer flows vl_of charge_of entries turns f i s regulated are flow at named waits =
       let soon = turn-in-time moves byte_ns buffer flows vl_of charge_of entries turns f i s regulated are flow at named in

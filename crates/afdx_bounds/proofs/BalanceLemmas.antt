@@ -15,7 +15,8 @@ use Rattle.afdx_bounds.proofs.BoundLemmas.{came_before, shorter}
 
 module _ {X : Type 0} where
   -- the balance of the work left against what comes until t
-  pub work_bound : (byte_ns hb hr lb lr : ℕ) (entries : List (Entry X)) (turns : List (Turn X)) (t : ℕ) → byte_ns * (hr + lr) ≤ byte_units →
+  pub work_bound : (byte_ns hb hr lb lr : ℕ) (entries : List (Entry X)) (turns : List (Turn X)) (t : ℕ) →
+      byte_ns * (hr + lr) ≤ byte_units →
       ((since : ℕ) → since ≤ t → byte_units * wire_between High since t entries ≤ hb + hr * (t - since)) →
       ((since : ℕ) → since ≤ t → byte_units * wire_between Low since t entries ≤ lb + lr * (t - since)) →
       ((i : ℕ) (e : Entry X) → slice_get entries i ≡ Some e → e.time ≤ t) → IsSchedule byte_ns entries turns →
@@ -43,10 +44,13 @@ module _ {X : Type 0} where
       (highs line.since begins) (lows line.since begins) came (omega (arith, waits-ns, ends, line.balance, begins))
 
   -- the balance of the high work left
-  pub high_work_bound : (byte_ns extra hb hr : ℕ) (entries : List (Entry X)) (turns : List (Turn X)) (t : ℕ) → byte_ns * hr ≤ byte_units →
+  pub high_work_bound : (byte_ns extra hb hr : ℕ) (entries : List (Entry X)) (turns : List (Turn X)) (t : ℕ) →
+      byte_ns * hr ≤ byte_units →
       ((since : ℕ) → since ≤ t → byte_units * wire_between High since t entries ≤ hb + hr * (t - since)) →
-      ((i : ℕ) (e : Entry X) → slice_get entries i ≡ Some e → e.time ≤ t) → ((i : ℕ) (e : Entry X) → slice_get entries i ≡ Some e → e.priority ≡ Low → e.bytes + 20 ≤ extra) →
-      IsSchedule byte_ns entries turns → byte_units * high_work_left byte_ns entries turns t ≤ byte_ns * (hb + byte_units * extra)
+      ((i : ℕ) (e : Entry X) → slice_get entries i ≡ Some e → e.time ≤ t) →
+      ((i : ℕ) (e : Entry X) → slice_get entries i ≡ Some e → e.priority ≡ Low → e.bytes + 20 ≤ extra) →
+      IsSchedule byte_ns entries turns → byte_units * high_work_left byte_ns entries turns t ≤ byte_ns *
+      (hb + byte_units * extra)
   high_work_bound byte_ns extra hb hr entries turns t rate highs come small schedule =
       let weight : Entry X → ℕ = wire_in High 0 t in
       let b = begun_at byte_ns entries turns t schedule.each_next
@@ -65,8 +69,10 @@ module _ {X : Type 0} where
       even-high byte_ns extra hb hr (t - line.since) (high_work_left byte_ns entries turns t) (left_over weight line.earlier 0 entries) (wire_between High line.since t entries) rate (highs line.since begins) came
       (omega (arith, waits-ns, ends, line.balance, begins))
 
-  begun_weighs : (byte_ns : ℕ) (entries : List (Entry X)) (t : ℕ) (turns : List (Turn X)) (place : ℕ) (e : Entry X) → AreInOrder entries → AreTurns byte_ns entries turns →
-      IsWithoutTurn entries turns place e → e.priority ≡ Low → AllByRecursion (λ s. s.moment < t) turns → AllByRecursion (λ x. Weighs (λ d. wire_in High 0 t d + wire_in Low 0 e.time d) true 0 x.entry) turns
+  begun_weighs : (byte_ns : ℕ) (entries : List (Entry X)) (t : ℕ) (turns : List (Turn X)) (place : ℕ) (e : Entry X) →
+      AreInOrder entries → AreTurns byte_ns entries turns →
+      IsWithoutTurn entries turns place e → e.priority ≡ Low → AllByRecursion (λ s. s.moment < t) turns →
+      AllByRecursion (λ x. Weighs (λ d. wire_in High 0 t d + wire_in Low 0 e.time d) true 0 x.entry) turns
   begun_weighs byte_ns entries t [] place e order h free low started = tt
   begun_weighs byte_ns entries t (x ∷ rest) place e order h free low started =
       let begins : x.moment < t = started.0 in
@@ -79,12 +85,15 @@ module _ {X : Type 0} where
       )
 
   -- the balance along a low frame's wait
-  pub low_work_bound : (byte_ns hb hr lb lr : ℕ) (entries : List (Entry X)) (turns : List (Turn X)) (t place : ℕ) (e : Entry X) → byte_ns * (hr + lr) ≤ byte_units →
+  pub low_work_bound : (byte_ns hb hr lb lr : ℕ) (entries : List (Entry X)) (turns : List (Turn X)) (t place : ℕ)
+      (e : Entry X) → byte_ns * (hr + lr) ≤ byte_units →
       ((since : ℕ) → since ≤ t → byte_units * wire_between High since t entries ≤ hb + hr * (t - since)) →
       ((since : ℕ) → since ≤ e.time → byte_units * wire_between Low since e.time entries ≤ lb + lr * (e.time - since)) →
-      ((i : ℕ) (d : Entry X) → slice_get entries i ≡ Some d → d.time ≤ t) → AreInOrder entries → IsSchedule byte_ns entries turns →
+      ((i : ℕ) (d : Entry X) → slice_get entries i ≡ Some d → d.time ≤ t) → AreInOrder entries →
+      IsSchedule byte_ns entries turns →
       IsWithoutTurn entries (begun_before t turns) place e → e.priority ≡ Low →
-      byte_units * low_work_left byte_ns entries turns e.time t + (byte_units - byte_ns * hr) * (t - e.time) ≤ byte_ns * (hb + lb)
+      byte_units * low_work_left byte_ns entries turns e.time t + (byte_units - byte_ns * hr) * (t - e.time)
+      ≤ byte_ns * (hb + lb)
   low_work_bound byte_ns hb hr lb lr entries turns t place e rates highs lows come order schedule waits-at low =
       let weight : Entry X → ℕ = λ d. wire_in High 0 t d + wire_in Low 0 e.time d in
       let b = begun_at byte_ns entries turns t schedule.each_next

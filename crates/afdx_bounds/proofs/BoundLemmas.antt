@@ -55,7 +55,8 @@ module _ {X : Type 0} where
     pub next : IsNext byte_ns entries earlier s
     pub are : AreTurns byte_ns entries earlier
 
-  pub turn_at : (byte_ns : ℕ) (entries : List (Entry X)) (turns : List (Turn X)) (i : ℕ) (s : Turn X) → AreTurns byte_ns entries turns → slice_get turns i ≡ Some s → Stands byte_ns entries s
+  pub turn_at : (byte_ns : ℕ) (entries : List (Entry X)) (turns : List (Turn X)) (i : ℕ) (s : Turn X) →
+      AreTurns byte_ns entries turns → slice_get turns i ≡ Some s → Stands byte_ns entries s
   turn_at byte_ns entries [] i s h g = absurd (cc g)
   turn_at byte_ns entries (x ∷ rest) zero s h g =
       let same : x ≡ s = cc g in
@@ -64,18 +65,23 @@ module _ {X : Type 0} where
   turn_at byte_ns entries (x ∷ rest) (suc i) s h g = turn_at byte_ns entries rest i s h.1 g
 
   -- an entry of the same class that has a turn before this one's stands before it, and came no later
-  pub came_before : (byte_ns : ℕ) (entries : List (Entry X)) (earlier : List (Turn X)) (x : Turn X) (place : ℕ) (e : Entry X) → AreInOrder entries → IsNext byte_ns entries earlier x →
+  pub came_before : (byte_ns : ℕ) (entries : List (Entry X)) (earlier : List (Turn X)) (x : Turn X) (place : ℕ)
+      (e : Entry X) → AreInOrder entries → IsNext byte_ns entries earlier x →
       IsWithoutTurn entries (x ∷ earlier) place e → e.priority ≡ x.entry.priority → x.entry.time ≤ e.time
   came_before byte_ns entries earlier x place e order n free same =
       let before : x.place ≤ place = n.in_order place e (record { stands = free.stands; without = or-false (x.place == place) (has_turn earlier place) free.without }) same in
       order x.place place x.entry e before n.own.stands free.stands
 
-  pub shorter : (x : Turn X) (turns : List (Turn X)) (entries : List (Entry X)) (place : ℕ) (e : Entry X) → IsWithoutTurn entries (x ∷ turns) place e → IsWithoutTurn entries turns place e
+  pub shorter : (x : Turn X) (turns : List (Turn X)) (entries : List (Entry X)) (place : ℕ) (e : Entry X) →
+      IsWithoutTurn entries (x ∷ turns) place e → IsWithoutTurn entries turns place e
   shorter x turns entries place e free = record { stands = free.stands; without = or-false (x.place == place) (has_turn turns place) free.without }
 
-  high_weighs : (byte_ns : ℕ) (entries : List (Entry X)) (longest : ℕ) (turns : List (Turn X)) (place : ℕ) (e : Entry X) → AreInOrder entries →
-      ((i : ℕ) (d : Entry X) → slice_get entries i ≡ Some d → d.priority ≡ Low → d.bytes + 20 ≤ longest) → AreTurns byte_ns entries turns →
-      IsWithoutTurn entries turns place e → e.priority ≡ High → AllByRecursion (λ x. Weighs (wire_in High 0 e.time) false longest x.entry) turns
+  high_weighs : (byte_ns : ℕ) (entries : List (Entry X)) (longest : ℕ) (turns : List (Turn X)) (place : ℕ)
+      (e : Entry X) → AreInOrder entries →
+      ((i : ℕ) (d : Entry X) → slice_get entries i ≡ Some d → d.priority ≡ Low → d.bytes + 20 ≤ longest) →
+      AreTurns byte_ns entries turns →
+      IsWithoutTurn entries turns place e → e.priority ≡ High →
+      AllByRecursion (λ x. Weighs (wire_in High 0 e.time) false longest x.entry) turns
   high_weighs byte_ns entries longest [] place e order small h free high = tt
   high_weighs byte_ns entries longest (x ∷ rest) place e order small h free high = (
     record {
@@ -86,7 +92,8 @@ module _ {X : Type 0} where
     high_weighs byte_ns entries longest rest place e order small h.1 (shorter x rest entries place e free) high,
   )
 
-  pub high_soon : (byte_ns : ℕ) (high : Curve) (longest : ℕ) (entries : List (Entry X)) (turns : List (Turn X)) (i : ℕ) (s : Turn X) →
+  pub high_soon : (byte_ns : ℕ) (high : Curve) (longest : ℕ) (entries : List (Entry X)) (turns : List (Turn X))
+      (i : ℕ) (s : Turn X) →
       byte_ns * high.rate ≤ byte_units → AreInOrder entries → KeepsCurve High high entries →
       ((place : ℕ) (e : Entry X) → slice_get entries place ≡ Some e → e.priority ≡ Low → e.bytes + 20 ≤ longest) →
       AreTurns byte_ns entries turns → slice_get turns i ≡ Some s → s.entry.priority ≡ High →
@@ -114,8 +121,10 @@ module _ {X : Type 0} where
       let r = soon-high byte_ns high.burst high.rate longest line.since (s.entry.time - line.since) s.end (wire_between High line.since s.entry.time entries) rates (curve line.since s.entry.time begins) sent in
       rw moment at r
 
-  low_weighs : (byte_ns : ℕ) (entries : List (Entry X)) (u : ℕ) (turns : List (Turn X)) (place : ℕ) (e : Entry X) → AreInOrder entries → AreTurns byte_ns entries turns →
-      IsWithoutTurn entries turns place e → e.priority ≡ Low → end_of turns ≤ u → AllByRecursion (λ x. Weighs (λ d. wire_in High 0 u d + wire_in Low 0 e.time d) true 0 x.entry) turns
+  low_weighs : (byte_ns : ℕ) (entries : List (Entry X)) (u : ℕ) (turns : List (Turn X)) (place : ℕ) (e : Entry X) →
+      AreInOrder entries → AreTurns byte_ns entries turns →
+      IsWithoutTurn entries turns place e → e.priority ≡ Low → end_of turns ≤ u →
+      AllByRecursion (λ x. Weighs (λ d. wire_in High 0 u d + wire_in Low 0 e.time d) true 0 x.entry) turns
   low_weighs byte_ns entries u [] place e order h free low over = tt
   low_weighs byte_ns entries u (x ∷ rest) place e order h free low over =
       let lasts : x.moment ≤ x.end = (lasts-of byte_ns entries rest x h.0).after in
@@ -128,10 +137,13 @@ module _ {X : Type 0} where
         low_weighs byte_ns entries u rest place e order h.1 (shorter x rest entries place e free) low (omega (arith, lasts, after, over)),
       )
 
-  pub low_soon : (byte_ns : ℕ) (high low : Curve) (entries : List (Entry X)) (turns : List (Turn X)) (i : ℕ) (s : Turn X) →
-      byte_ns * (high.rate + low.rate) ≤ byte_units → AreInOrder entries → KeepsCurve High high entries → KeepsCurve Low low entries →
+  pub low_soon : (byte_ns : ℕ) (high low : Curve) (entries : List (Entry X)) (turns : List (Turn X)) (i : ℕ)
+      (s : Turn X) →
+      byte_ns * (high.rate + low.rate) ≤ byte_units → AreInOrder entries → KeepsCurve High high entries →
+      KeepsCurve Low low entries →
       AreTurns byte_ns entries turns → slice_get turns i ≡ Some s → s.entry.priority ≡ Low →
-      (byte_units - byte_ns * high.rate) * s.end ≤ (byte_units - byte_ns * high.rate) * s.entry.time + byte_ns * (high.burst + low.burst)
+      (byte_units - byte_ns * high.rate) * s.end ≤ (byte_units - byte_ns * high.rate) * s.entry.time + byte_ns *
+      (high.burst + low.burst)
   low_soon byte_ns high low entries turns i s rates order high-curve low-curve h g is =
       let at = turn_at byte_ns entries turns i s h g in
       let next : IsNext byte_ns entries at.earlier s = at.next in

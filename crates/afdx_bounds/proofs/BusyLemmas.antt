@@ -42,7 +42,8 @@ module _ {X : Type 0} where
     pub after : s.moment ≤ s.end
     pub most : s.end ≤ s.moment + (s.entry.bytes + 20) * byte_ns
 
-  pub lasts-of : (byte_ns : ℕ) (entries : List (Entry X)) (earlier : List (Turn X)) (s : Turn X) → IsNext byte_ns entries earlier s → Lasts byte_ns s
+  pub lasts-of : (byte_ns : ℕ) (entries : List (Entry X)) (earlier : List (Turn X)) (s : Turn X) →
+      IsNext byte_ns entries earlier s → Lasts byte_ns s
   lasts-of byte_ns entries earlier s next =
       let is : s.end ≡ s.moment + lasting byte_ns s.too_old s.entry.bytes = next.lasts in
       let most = lasting-most byte_ns s.entry.bytes s.too_old in
@@ -57,20 +58,25 @@ module _ {X : Type 0} where
   pub record Busy (byte_ns : ℕ) (weight : Entry X → ℕ) (both : Bool) (extra : ℕ) (entries : List (Entry X)) (turns : List (Turn X)) (now : ℕ) : Type 0 where
     pub since : ℕ
     pub earlier : List (Turn X)
-    pub come : (place : ℕ) (e : Entry X) → IsWithoutTurn entries earlier place e → counts both e.priority ≡ true → since ≤ e.time
+    pub come : (place : ℕ) (e : Entry X) → IsWithoutTurn entries earlier place e → counts both e.priority ≡ true →
+        since ≤ e.time
     pub still : (place : ℕ) → has_turn turns place ≡ false → has_turn earlier place ≡ false
     pub begins : (t : ℕ) → (end_of turns < now → now ≤ t) → AllByRecursion (λ s. s.moment < t) turns → since ≤ t
-    pub balance : byte_ns * left_over weight turns 0 entries + now ≤ since + byte_ns * (extra + left_over weight earlier 0 entries)
+    pub balance : byte_ns * left_over weight turns 0 entries + now ≤ since + byte_ns *
+        (extra + left_over weight earlier 0 entries)
 
   -- no entry without a turn came before the next turn, if that begins after a pause
-  pub pause : (byte_ns : ℕ) (entries : List (Entry X)) (earlier : List (Turn X)) (s : Turn X) → IsNext byte_ns entries earlier s → end_of earlier < s.moment →
+  pub pause : (byte_ns : ℕ) (entries : List (Entry X)) (earlier : List (Turn X)) (s : Turn X) →
+      IsNext byte_ns entries earlier s → end_of earlier < s.moment →
       (place : ℕ) (e : Entry X) → IsWithoutTurn entries earlier place e → s.moment ≤ e.time
   pause byte_ns entries earlier s n gap place e free =
       let soon : s.moment ≤ max e.time (end_of earlier) = n.least (max e.time (end_of earlier)) place e free (omega arith) (omega arith) in
       omega arith
 
-  pub busy : (byte_ns : ℕ) (weight : Entry X → ℕ) (both : Bool) (extra : ℕ) (entries : List (Entry X)) (turns : List (Turn X)) → AreTurns byte_ns entries turns →
-      AllByRecursion (λ s. Weighs weight both extra s.entry) turns → Busy byte_ns weight both extra entries turns (end_of turns)
+  pub busy : (byte_ns : ℕ) (weight : Entry X → ℕ) (both : Bool) (extra : ℕ) (entries : List (Entry X))
+      (turns : List (Turn X)) → AreTurns byte_ns entries turns →
+      AllByRecursion (λ s. Weighs weight both extra s.entry) turns →
+      Busy byte_ns weight both extra entries turns (end_of turns)
   busy byte_ns weight both extra entries [] h w = record {
     since = 0;
     earlier = [];
@@ -123,7 +129,8 @@ module _ {X : Type 0} where
       ]
 
   -- the busy time back from any moment, if nothing that counts was left behind in a pause
-  pub busy_at : (byte_ns : ℕ) (weight : Entry X → ℕ) (both : Bool) (extra : ℕ) (entries : List (Entry X)) (turns : List (Turn X)) (now : ℕ) → AreTurns byte_ns entries turns →
+  pub busy_at : (byte_ns : ℕ) (weight : Entry X → ℕ) (both : Bool) (extra : ℕ) (entries : List (Entry X))
+      (turns : List (Turn X)) (now : ℕ) → AreTurns byte_ns entries turns →
       AllByRecursion (λ s. Weighs weight both extra s.entry) turns →
       (end_of turns < now → (place : ℕ) (e : Entry X) → IsWithoutTurn entries turns place e → now ≤ e.time) →
       Busy byte_ns weight both extra entries turns now

@@ -12,16 +12,19 @@ use Rattle.afdx_bounds.specs.Outputs.{BytesCarry}
 use Rattle.afdx_bounds.specs.Outputs.{Row, AreRows, link_in}
 use Rattle.afdx_bounds.proofs.RowLemmas.{find-some, find-none}
 
-named-is : (o : Option VlId) (vl none : ℕ) → option_map_or (λ named. named.0 == vl) o false ≡ true → option_map_or (λ named. named.0) o none ≡ vl
+named-is : (o : Option VlId) (vl none : ℕ) → option_map_or (λ named. named.0 == vl) o false ≡ true →
+    option_map_or (λ named. named.0) o none ≡ vl
 named-is None vl none h = absurd (cc h)
 named-is (Some v) vl none h = eqb-true v.0 vl h
 
-bytes-name : (vl : ℕ) (bytes : List ℕ) → names vl bytes ≡ true → option_map_or (λ named. named.0) (link_named_by bytes) 65536 ≡ vl
+bytes-name : (vl : ℕ) (bytes : List ℕ) → names vl bytes ≡ true →
+    option_map_or (λ named. named.0) (link_named_by bytes) 65536 ≡ vl
 unfolding names
 bytes-name vl bytes h = named-is (link_named_by bytes) vl 65536 h
 
 -- the row of an identifier is the one that has it
-found-row : (rows : List Row) (vl : ℕ) (r : Row) (charge : Row → ℕ) → AreRows rows → Contains rows r → vl ≡ r.rule.vl → option_map_or charge (find (λ q. q.rule.vl == vl) rows) 0 ≡ charge r
+found-row : (rows : List Row) (vl : ℕ) (r : Row) (charge : Row → ℕ) → AreRows rows → Contains rows r →
+    vl ≡ r.rule.vl → option_map_or charge (find (λ q. q.rule.vl == vl) rows) 0 ≡ charge r
 found-row rows vl r charge are stands is = by_find (find (λ q. q.rule.vl == vl) rows) refl
   where
     by_find : (w : Option Row) → find (λ q. q.rule.vl == vl) rows ≡ w → option_map_or charge w 0 ≡ charge r

@@ -25,13 +25,15 @@ Rising : ℕ → List Flow → Type 0
 Rising low [] = Unit {0}
 Rising low (f ∷ fs) = (low ≤ f.vl) × Rising (f.vl + 1) fs
 
-rising-least : (low : ℕ) (flows : List Flow) (i : ℕ) (f : Flow) → Rising low flows → i < length flows → slice_index_or flows i f ≡ f → low ≤ f.vl
+rising-least : (low : ℕ) (flows : List Flow) (i : ℕ) (f : Flow) → Rising low flows → i < length flows →
+    slice_index_or flows i f ≡ f → low ≤ f.vl
 unfolding Rising
 rising-least low [] i f h lt at = absurd (omega (arith, lt))
 rising-least low (d ∷ ds) zero f h lt at = let same : d.vl ≡ f.vl = ap (λ z. z.vl) at in let least = h.0 in omega (arith, same, least)
 rising-least low (d ∷ ds) (suc i) f h lt at = let least = h.0 in let rest = rising-least (d.vl + 1) ds i f h.1 (omega (arith, lt)) at in omega (arith, least, rest)
 
-rising-distinct : (low : ℕ) (flows : List Flow) → Rising low flows → (i j : ℕ) (f g : Flow) → i < length flows → j < length flows → slice_index_or flows i f ≡ f → slice_index_or flows j g ≡ g → f.vl ≡ g.vl → f ≡ g
+rising-distinct : (low : ℕ) (flows : List Flow) → Rising low flows → (i j : ℕ) (f g : Flow) → i < length flows →
+    j < length flows → slice_index_or flows i f ≡ f → slice_index_or flows j g ≡ g → f.vl ≡ g.vl → f ≡ g
 unfolding Rising
 rising-distinct low [] h i j f g lt below at there same = absurd (omega (arith, lt))
 rising-distinct low (d ∷ ds) h zero zero f g lt below at there same = sym at ∙ there
@@ -41,7 +43,8 @@ rising-distinct low (d ∷ ds) h (suc i) zero f g lt below at there same =
     absurd (let own : d.vl ≡ g.vl = ap (λ z. z.vl) there in let later = rising-least (d.vl + 1) ds i f h.1 (omega (arith, lt)) at in omega (arith, own, later, same))
 rising-distinct low (d ∷ ds) h (suc i) (suc j) f g lt below at there same = rising-distinct (d.vl + 1) ds h.1 i j f g (omega (arith, lt)) (omega (arith, below)) at there same
 
-distinct : (flows : List Flow) → Rising 0 flows → (f g : Flow) → Contains flows f → Contains flows g → f.vl ≡ g.vl → f ≡ g
+distinct : (flows : List Flow) → Rising 0 flows → (f g : Flow) → Contains flows f → Contains flows g → f.vl ≡ g.vl →
+    f ≡ g
 distinct flows h f g k l same = rising-distinct 0 flows h k.0 l.0 f g k.1 l.1 k.2 l.2 same
 
 abbrev HighLine : Flow → Type 0
@@ -84,7 +87,8 @@ three-sent = record {
   four = λ h. (let line = h.jitter in omega (arith, line));
 }
 
-two-rows : (r s : Row) (i j : ℕ) → i < 2 → j < 2 → slice_index_or rows i r ≡ r → slice_index_or rows j s ≡ s → r.rule.vl ≡ s.rule.vl → r ≡ s
+two-rows : (r s : Row) (i j : ℕ) → i < 2 → j < 2 → slice_index_or rows i r ≡ r → slice_index_or rows j s ≡ s →
+    r.rule.vl ≡ s.rule.vl → r ≡ s
 two-rows r s zero zero lt below at there same = sym at ∙ there
 two-rows r s (suc zero) (suc zero) lt below at there same = sym at ∙ there
 two-rows r s zero (suc zero) lt below at there same = absurd (let a : 1 ≡ r.rule.vl = ap (λ z. z.rule.vl) at in let b : 2 ≡ s.rule.vl = ap (λ z. z.rule.vl) there in omega (arith, a, b, same))

@@ -19,12 +19,14 @@ abbrev pub charged_between : ℕ → ℕ → List Charged → ℕ
 charged_between since until [] = 0
 charged_between since until (x ∷ xs) = charged_in since until x + charged_between since until xs
 
-pub between-append : (since until : ℕ) (xs ys : List Charged) → charged_between since until (xs ++ ys) ≡ charged_between since until xs + charged_between since until ys
+pub between-append : (since until : ℕ) (xs ys : List Charged) →
+    charged_between since until (xs ++ ys) ≡ charged_between since until xs + charged_between since until ys
 between-append since until [] ys = omega arith
 between-append since until (x ∷ xs) ys = let rest = between-append since until xs ys in omega (arith, rest)
 
 -- a frame that came in the interval came within it
-charged_in-some : (since until : ℕ) (x : Charged) → (charged_in since until x ≡ 0) ⊎ ((charged_in since until x ≡ x.charge) × (since ≤ x.time) × (x.time ≤ until))
+charged_in-some : (since until : ℕ) (x : Charged) →
+    (charged_in since until x ≡ 0) ⊎ ((charged_in since until x ≡ x.charge) × (since ≤ x.time) × (x.time ≤ until))
 charged_in-some since until x =
     elim (bool_cases (nat_le since x.time && nat_le x.time until)) [
       | inr out ↦ inl (rw out refl)
@@ -36,7 +38,8 @@ charged_in-some since until x =
 Overdraws : Regulation → ℕ → ℕ → ℕ → ℕ → List Charged → Type 0
 Overdraws link since until now taken xs = (charged_between since until xs ≡ 0) ⊎ (byte_units * (taken + charged_between since until xs) ≤ overdrawn link xs taken now + fill_rate link * (now - since))
 
-window-overdraws : (link : Regulation) (since until now taken : ℕ) (xs : List Charged) → Overdraws link since until now taken xs
+window-overdraws : (link : Regulation) (since until now taken : ℕ) (xs : List Charged) →
+    Overdraws link since until now taken xs
 unfolding Overdraws overdrawn
 window-overdraws link since until now taken [] = inl refl
 window-overdraws link since until now taken (x ∷ xs) =
@@ -54,7 +57,8 @@ window-overdraws link since until now taken (x ∷ xs) =
     ]
 
 -- what was charged since a moment is missing, but for what was filled since
-pub window-missing : (link : Regulation) (since until now : ℕ) (xs : List Charged) → byte_units * charged_between since until xs ≤ missing link xs now + fill_rate link * (now - since)
+pub window-missing : (link : Regulation) (since until now : ℕ) (xs : List Charged) →
+    byte_units * charged_between since until xs ≤ missing link xs now + fill_rate link * (now - since)
 unfolding Overdraws
 window-missing link since until now xs = elim (window-overdraws link since until now 0 xs) [ inl nothing ↦ omega (arith, nothing) | inr more ↦ omega (arith, more) ]
 
@@ -62,7 +66,8 @@ window-missing link since until now xs = elim (window-overdraws link since until
 abbrev Keeps : Regulation → List Charged → Type 0
 Keeps link xs = (since until : ℕ) → since ≤ until → byte_units * charged_between since until xs ≤ cap link + fill_rate link * (until - since)
 
-keeps-next : EachAccountMoves → (link : Regulation) → IsTrue (is_bag link.bag_ms) → (xs : List Charged) (x : Charged) → Keeps link xs → fits link xs x ≡ true → Keeps link (x ∷ xs)
+keeps-next : EachAccountMoves → (link : Regulation) → IsTrue (is_bag link.bag_ms) →
+    (xs : List Charged) (x : Charged) → Keeps link xs → fits link xs x ≡ true → Keeps link (x ∷ xs)
 keeps-next moves link gap xs x keeps fit since until le =
     let room : missing link xs x.time + byte_units * x.charge ≤ cap link = ((moves link gap).room xs x).0 fit in
     elim (charged_in-some since until x) [
@@ -73,7 +78,8 @@ keeps-next moves link gap xs x keeps fit since until le =
           omega (arith, own, window, longer, room))
     ]
 
-pub accepted-keeps : EachAccountMoves → (link : Regulation) → IsTrue (is_bag link.bag_ms) → (came : List Charged) (since until : ℕ) → since ≤ until →
+pub accepted-keeps : EachAccountMoves → (link : Regulation) → IsTrue (is_bag link.bag_ms) →
+    (came : List Charged) (since until : ℕ) → since ≤ until →
     byte_units * charged_between since until (accepted_of link came) ≤ cap link + fill_rate link * (until - since)
 unfolding accepted_of
 accepted-keeps moves link gap [] since until le = omega arith

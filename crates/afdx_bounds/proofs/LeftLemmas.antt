@@ -21,12 +21,14 @@ over : (until end : ℕ) (too_old : Bool) → until < end + (if too_old then 1 e
 over until end true h = omega (arith, h)
 over until end false h = omega (arith, h)
 
-slot-after : (until end : ℕ) (too_old : Bool) → too_old ≡ false → until < end + (if too_old then 1 else 0) → until < end
+slot-after : (until end : ℕ) (too_old : Bool) → too_old ≡ false → until < end + (if too_old then 1 else 0) →
+    until < end
 slot-after until end true kept h = absurd (cc kept)
 slot-after until end false kept h = omega (arith, h)
 
 -- a turn with its moment at or after `until` is given after it
-given : (byte_ns until moment end bytes : ℕ) (too_old : Bool) → 0 < byte_ns → end ≡ moment + lasting byte_ns too_old bytes → until ≤ moment → until < end + (if too_old then 1 else 0)
+given : (byte_ns until moment end bytes : ℕ) (too_old : Bool) → 0 < byte_ns →
+    end ≡ moment + lasting byte_ns too_old bytes → until ≤ moment → until < end + (if too_old then 1 else 0)
 given byte_ns until moment end bytes true some lasts h = omega (arith, lasts, h)
 given byte_ns until moment end bytes false some lasts h = let long = product-positive (bytes + 20) byte_ns (omega arith) some in omega (arith, lasts, h, long)
 
@@ -40,8 +42,10 @@ module _ {X : Type 0} where
     after : IsAfter until (due_at s)
 
   -- where the next turn is given after `until`, so are those after it
-  later-given : (byte_ns : ℕ) (entries : List (Entry X)) (turns later : List (Turn X)) (until place : ℕ) → 0 < byte_ns → AreTurns byte_ns entries (later ++ turns) →
-      ((s : Turn X) → IsNext byte_ns entries turns s → IsAfter until (due_at s)) → has_turn turns place ≡ false → has_turn (later ++ turns) place ≡ true → Later later turns place until
+  later-given : (byte_ns : ℕ) (entries : List (Entry X)) (turns later : List (Turn X)) (until place : ℕ) →
+      0 < byte_ns → AreTurns byte_ns entries (later ++ turns) →
+      ((s : Turn X) → IsNext byte_ns entries turns s → IsAfter until (due_at s)) → has_turn turns place ≡ false →
+      has_turn (later ++ turns) place ≡ true → Later later turns place until
   later-given byte_ns entries turns [] until place some are next out has = absurd (cc (out, has))
   later-given byte_ns entries turns (s ∷ later) until place some are next out has =
       elim (bool_cases (s.place == place)) [
@@ -50,7 +54,8 @@ module _ {X : Type 0} where
             record { i = suc r.i; s = r.s; at = r.at; own = r.own; after = r.after })
       ]
     where
-      first : (rest : List (Turn X)) (x : Turn X) → AreTurns byte_ns entries (x ∷ rest ++ turns) → IsAfter until (due_at x)
+      first : (rest : List (Turn X)) (x : Turn X) → AreTurns byte_ns entries (x ∷ rest ++ turns) →
+          IsAfter until (due_at x)
       first [] x h = next x h.0
       first (y ∷ ys) x h =
           let before = over until y.end y.too_old (first ys y h.1) in

@@ -59,7 +59,8 @@ alone-policed f entries each all = record {
       subst P same (charged_to (λ vl. vl) wire f.vl entries, all));
 }
 
-is-charged : (class : Priority) (jitter_us smax latency time bytes : ℕ) → bytes + 20 ≤ smax → IsCharged (λ vl. vl) wire (alone class jitter_us smax latency ∷ []) (frame class time bytes)
+is-charged : (class : Priority) (jitter_us smax latency time bytes : ℕ) → bytes + 20 ≤ smax →
+    IsCharged (λ vl. vl) wire (alone class jitter_us smax latency ∷ []) (frame class time bytes)
 is-charged class jitter_us smax latency time bytes small = record { flow = alone class jitter_us smax latency; stands = (0, omega arith, refl); named = refl; class = refl; at_least = omega arith; at_most = small }
 
 -- at 10 Mbit/s a frame of 1518 bytes a millisecond is more than the line carries: the second one is late
@@ -95,7 +96,8 @@ buffer-needed h =
 abbrev hasty : Priority → Flow
 hasty class = alone class 0 84 6719
 
-high-needed : InTimeWhere (λ byte_ns buffer flows. AdmitsLate byte_ns buffer flows × All (λ f. f.priority ≡ High) flows) → ⊥
+high-needed : InTimeWhere
+    (λ byte_ns buffer flows. AdmitsLate byte_ns buffer flows × All (λ f. f.priority ≡ High) flows) → ⊥
 unfolding accepted_of keeps_windows
 high-needed h =
     let late = h 80 84 (hasty High ∷ []) (frame High 0 64 ∷ []) (hasty High) (omega arith) (alone-is (hasty High) refl) (
@@ -107,7 +109,8 @@ high-needed h =
     (0, omega arith, refl) 0 (record { place = 0; entry = frame High 0 0; moment = 0; end = 0; too_old = false }) (omega arith) refl in
     omega (arith, late)
 
-low-needed : InTimeWhere (λ byte_ns buffer flows. AdmitsLate byte_ns buffer flows × All (λ f. f.priority ≡ Low) flows) → ⊥
+low-needed : InTimeWhere
+    (λ byte_ns buffer flows. AdmitsLate byte_ns buffer flows × All (λ f. f.priority ≡ Low) flows) → ⊥
 unfolding accepted_of keeps_windows
 low-needed h =
     let late = h 80 84 (hasty Low ∷ []) (frame Low 0 64 ∷ []) (hasty Low) (omega arith) (alone-is (hasty Low) refl) (

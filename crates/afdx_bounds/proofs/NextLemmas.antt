@@ -24,14 +24,16 @@ use Rattle.afdx_bounds.proofs.WorkLemmas.{bool_cases}
 use Rattle.afdx_bounds.proofs.SumLemmas.{charged-push}
 
 -- what fits is accepted
-joins : (link : Regulation) (came accepted : List Charged) (x : Charged) → accepted ≡ accepted_of link came → fits link accepted x ≡ true → x ∷ accepted ≡ accepted_of link (x ∷ came)
+joins : (link : Regulation) (came accepted : List Charged) (x : Charged) → accepted ≡ accepted_of link came →
+    fits link accepted x ≡ true → x ∷ accepted ≡ accepted_of link (x ∷ came)
 unfolding accepted_of
 joins link came accepted x is fit =
     let P : List Charged → Type 0 = λ xs. fits link xs x ≡ true in
     ap (λ xs. x ∷ xs) is ∙ sym (cond-true (fits link (accepted_of link came) x) (x ∷ accepted_of link came) (accepted_of link came) (subst P is fit))
 
 -- all but the newest of what is accepted is what is accepted of some frames
-older : (link : Regulation) (x : Charged) (xs came : List Charged) → x ∷ xs ≡ accepted_of link came → (earlier : List Charged) × (xs ≡ accepted_of link earlier)
+older : (link : Regulation) (x : Charged) (xs came : List Charged) → x ∷ xs ≡ accepted_of link came →
+    (earlier : List Charged) × (xs ≡ accepted_of link earlier)
 unfolding accepted_of
 older link x xs [] h = absurd (cc h)
 older link x xs (y ∷ past) h =
@@ -45,8 +47,10 @@ true-less a b h = elim (cases_lt a b) [ inl lt ↦ lt | inr ge ↦ absurd (let k
 
 module _ {X : Type 0} where
   -- an offer that leaves the entries policed isn't lost
-  pub offer-kept : EachAccountMoves → (byte_ns buffer : ℕ) (flows : List Flow) (vl_of : X → ℕ) (charge_of : Entry X → ℕ) (entries : List (Entry X)) (new : Entry X) →
-      AreInOrder entries → IsRegulated byte_ns buffer flows vl_of charge_of (entries ++ new ∷ []) → is_lost byte_ns buffer entries new ≡ false
+  pub offer-kept : EachAccountMoves → (byte_ns buffer : ℕ) (flows : List Flow) (vl_of : X → ℕ)
+      (charge_of : Entry X → ℕ) (entries : List (Entry X)) (new : Entry X) →
+      AreInOrder entries → IsRegulated byte_ns buffer flows vl_of charge_of (entries ++ new ∷ []) →
+      is_lost byte_ns buffer entries new ≡ false
   offer-kept moves byte_ns buffer flows vl_of charge_of entries new order regulated =
       elim (bool_cases (is_lost byte_ns buffer entries new)) [
         | inr stays ↦ stays
@@ -54,7 +58,8 @@ module _ {X : Type 0} where
             (true-less buffer (waiting_bytes entries (schedule_of byte_ns entries) new.time + new.bytes) lost))
       ]
 
-  pub order-push : (entries : List (Entry X)) (new : Entry X) → AreInOrder entries → All (λ e. e.time ≤ new.time) entries → AreInOrder (entries ++ new ∷ [])
+  pub order-push : (entries : List (Entry X)) (new : Entry X) → AreInOrder entries →
+      All (λ e. e.time ≤ new.time) entries → AreInOrder (entries ++ new ∷ [])
   order-push entries new order come i j d e le g k =
       elim (get_either entries new j e k) [
         | inl old-j ↦ elim (get_either entries new i d g) [
@@ -68,11 +73,14 @@ module _ {X : Type 0} where
             ])
       ]
 
-  joins-charged : (vl_of : X → ℕ) (charge_of : Entry X → ℕ) (flows : List Flow) (entries : List (Entry X)) (f : Flow) (new : Entry X) → Joins vl_of charge_of flows entries f new → IsCharged vl_of charge_of flows new
+  joins-charged : (vl_of : X → ℕ) (charge_of : Entry X → ℕ) (flows : List Flow) (entries : List (Entry X)) (f : Flow)
+      (new : Entry X) → Joins vl_of charge_of flows entries f new → IsCharged vl_of charge_of flows new
   joins-charged vl_of charge_of flows entries f new h = record { flow = f; stands = h.stands; named = sym h.named; class = h.class; at_least = h.at_least; at_most = h.at_most }
 
-  next-policed : (flows : List Flow) (vl_of : X → ℕ) (charge_of : Entry X → ℕ) (entries : List (Entry X)) (f : Flow) (new : Entry X) →
-      AreFlows flows → ArePoliced vl_of charge_of flows entries → Joins vl_of charge_of flows entries f new → ArePoliced vl_of charge_of flows (entries ++ new ∷ [])
+  next-policed : (flows : List Flow) (vl_of : X → ℕ) (charge_of : Entry X → ℕ) (entries : List (Entry X)) (f : Flow)
+      (new : Entry X) →
+      AreFlows flows → ArePoliced vl_of charge_of flows entries → Joins vl_of charge_of flows entries f new →
+      ArePoliced vl_of charge_of flows (entries ++ new ∷ [])
   next-policed flows vl_of charge_of entries f new links policed h = record {
     charged = All-push (λ e. IsCharged vl_of charge_of flows e) entries new policed.charged (joins-charged vl_of charge_of flows entries f new h);
     accepted = λ g k. (let own = policed.accepted g k in
@@ -96,8 +104,10 @@ module _ {X : Type 0} where
   }
 
   -- the frames but the last are policed too
-  earlier-regulated : (byte_ns buffer : ℕ) (flows : List Flow) (vl_of : X → ℕ) (charge_of : Entry X → ℕ) (entries : List (Entry X)) (last : Entry X) →
-      IsRegulated byte_ns buffer flows vl_of charge_of (entries ++ last ∷ []) → IsRegulated byte_ns buffer flows vl_of charge_of entries
+  earlier-regulated : (byte_ns buffer : ℕ) (flows : List Flow) (vl_of : X → ℕ) (charge_of : Entry X → ℕ)
+      (entries : List (Entry X)) (last : Entry X) →
+      IsRegulated byte_ns buffer flows vl_of charge_of (entries ++ last ∷ []) →
+      IsRegulated byte_ns buffer flows vl_of charge_of entries
   earlier-regulated byte_ns buffer flows vl_of charge_of entries last regulated = record {
     line = regulated.line;
     flows_are = regulated.flows_are;
@@ -123,7 +133,8 @@ module _ {X : Type 0} where
       let rest = offers-entries moves byte_ns buffer flows vl_of charge_of offers (earlier-regulated byte_ns buffer flows vl_of charge_of (reverse offers) new all) in
       ap (λ es. with_offer byte_ns buffer es new) rest ∙ kept all ∙ sym last
     where
-      kept : IsRegulated byte_ns buffer flows vl_of charge_of (reverse offers ++ new ∷ []) → with_offer byte_ns buffer (reverse offers) new ≡ reverse offers ++ new ∷ []
+      kept : IsRegulated byte_ns buffer flows vl_of charge_of (reverse offers ++ new ∷ []) →
+          with_offer byte_ns buffer (reverse offers) new ≡ reverse offers ++ new ∷ []
       kept all = cond-false (is_lost byte_ns buffer (reverse offers) new) (reverse offers) (reverse offers ++ new ∷ [])
           (offer-kept moves byte_ns buffer flows vl_of charge_of (reverse offers) new (earlier-regulated byte_ns buffer flows vl_of charge_of (reverse offers) new all).in_order all)
 

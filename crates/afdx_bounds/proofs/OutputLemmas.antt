@@ -17,12 +17,11 @@ use Rattle.afdx_police.specs.Window.{Charged, fits, accepted_of}
 use Rattle.afdx_port.specs.Schedule.{Entry}
 use Rattle.afdx_port.specs.ScheduleOf.{AreInOrder}
 use Rattle.afdx_port.proofs.TurnLemmas.{eqb-same}
-use Rattle.afdx_bounds.specs.OutputLaws.{EntriesAreRegulated, EntriesAreAccepted, OffersEnter, ArrivalIsKept, ArrivalsAreInTime, ArrivalsAreNotOld, ArrivalsHaveLeft}
+use Rattle.afdx_bounds.specs.OutputLaws.{IsServed, SentIsOffered, UnsentIsNot, EntriesAreRegulated, EntriesAreAccepted, OffersEnter, ArrivalIsKept, ArrivalsAreInTime, ArrivalsAreNotOld, ArrivalsHaveLeft}
 use Rattle.afdx_bounds.specs.Policed.{charged_as, charged_to, MayWait, IsCharged, ArePoliced, IsRegulated}
 use Rattle.afdx_bounds.specs.Admitted.{Joins}
 use Rattle.afdx_bounds.specs.Outputs.{Row, Output, AreRows, flow_of, flows_at, AreTimed, accepts, sends, entry_of, with_sent, offers_at, entries_at, Carries}
 use Rattle.afdx_bounds.specs.Offered.{is_lost, entries_of}
-use Rattle.afdx_bounds.specs.OutputLaws.{IsServed}
 use Rattle.afdx_bounds.proofs.WorkLemmas.{bool_cases}
 use Rattle.afdx_bounds.proofs.SumLemmas.{charged-push}
 use Rattle.afdx_bounds.proofs.AdmittedLemmas.{in-time, turn-not-old}
@@ -46,7 +45,8 @@ sends-parts o past x r h =
     record { accepted = first.0; side = rest.0; goes = rest.1 }
 
 -- the row that accepts is one
-one-row : (rows : List Row) (past : List Arrival) (x : Arrival) (r s : Row) → AreRows rows → Contains rows r → Contains rows s → accepts past x r ≡ true → accepts past x s ≡ true → r ≡ s
+one-row : (rows : List Row) (past : List Arrival) (x : Arrival) (r s : Row) → AreRows rows → Contains rows r →
+    Contains rows s → accepts past x r ≡ true → accepts past x s ≡ true → r ≡ s
 one-row rows past x r s are k l h g = are.distinct r s k l (one-name r.rule.vl s.rule.vl x.bytes (looks r past x h).named (looks s past x g).named)
 
 module _ {X : Type 0} where
@@ -63,9 +63,11 @@ module _ {X : Type 0} where
     charged : All (λ e. IsCharged vl_of charge_of (flows_at o.number rows) e) entries
     waits : All (λ e. Waits vl_of rows e) entries
     come : (t : ℕ) → All (λ y. y.time ≤ t) past → All (λ e. e.time ≤ t) entries
-    owned : (r : Row) → Contains rows r → r.goes_to o.number ≡ true → charged_to vl_of charge_of r.rule.vl entries ≡ accepted_own r.rule (own r.rule.vl o.side past)
+    owned : (r : Row) → Contains rows r → r.goes_to o.number ≡ true →
+        charged_to vl_of charge_of r.rule.vl entries ≡ accepted_own r.rule (own r.rule.vl o.side past)
 
-  policed : ArrivalsAreOffers → (vl_of : X → ℕ) (charge_of : Entry X → ℕ) (rows : List Row) (o : Output) (past : List Arrival) (entries : List (Entry X)) → Inv vl_of charge_of rows o past entries →
+  policed : ArrivalsAreOffers → (vl_of : X → ℕ) (charge_of : Entry X → ℕ) (rows : List Row) (o : Output)
+      (past : List Arrival) (entries : List (Entry X)) → Inv vl_of charge_of rows o past entries →
       ArePoliced vl_of charge_of (flows_at o.number rows) entries
   policed offers vl_of charge_of rows o past entries inv = record {
     charged = inv.charged;
@@ -76,7 +78,8 @@ module _ {X : Type 0} where
         subst P w.is (came, is));
   }
 
-  regulated : ArrivalsAreOffers → (vl_of : X → ℕ) (charge_of : Entry X → ℕ) (rows : List Row) (o : Output) (past : List Arrival) (entries : List (Entry X)) → IsServed rows o → Inv vl_of charge_of rows o past entries →
+  regulated : ArrivalsAreOffers → (vl_of : X → ℕ) (charge_of : Entry X → ℕ) (rows : List Row) (o : Output)
+      (past : List Arrival) (entries : List (Entry X)) → IsServed rows o → Inv vl_of charge_of rows o past entries →
       IsRegulated o.byte_ns o.buffer (flows_at o.number rows) vl_of charge_of entries
   regulated offers vl_of charge_of rows o past entries served inv = record {
     line = served.line;
@@ -86,15 +89,19 @@ module _ {X : Type 0} where
     policed = policed offers vl_of charge_of rows o past entries inv;
   }
 
-  same-charged : (charge_of : Entry X → ℕ) (item_of : Arrival → X) (r : Row) (x : Arrival) → charge_of (entry_of item_of r x) ≡ (charged_by r.rule x).charge → charged_as charge_of (entry_of item_of r x) ≡ charged_by r.rule x
+  same-charged : (charge_of : Entry X → ℕ) (item_of : Arrival → X) (r : Row) (x : Arrival) →
+      charge_of (entry_of item_of r x) ≡ (charged_by r.rule x).charge →
+      charged_as charge_of (entry_of item_of r x) ≡ charged_by r.rule x
   same-charged charge_of item_of r x is = ap (λ n. with_charge n) is
     where
       with_charge : ℕ → Charged
       with_charge n = record { time = x.time; charge = n }
 
   -- an arrival that a row sends there joins the entries
-  arrival-joins : (item_of : Arrival → X) (vl_of : X → ℕ) (charge_of : Entry X → ℕ) (rows : List Row) (o : Output) (past : List Arrival) (entries : List (Entry X)) (x : Arrival) (r : Row) →
-      Carries item_of vl_of charge_of rows → Inv vl_of charge_of rows o past entries → All (λ y. y.time ≤ x.time) past → Contains rows r → Sends o past x r →
+  arrival-joins : (item_of : Arrival → X) (vl_of : X → ℕ) (charge_of : Entry X → ℕ) (rows : List Row) (o : Output)
+      (past : List Arrival) (entries : List (Entry X)) (x : Arrival) (r : Row) →
+      Carries item_of vl_of charge_of rows → Inv vl_of charge_of rows o past entries →
+      All (λ y. y.time ≤ x.time) past → Contains rows r → Sends o past x r →
       Joins vl_of charge_of (flows_at o.number rows) entries (flow_of r) (entry_of item_of r x)
   arrival-joins item_of vl_of charge_of rows o past entries x r carries inv times stands s =
       let l = looks r past x s.accepted in
@@ -114,8 +121,10 @@ module _ {X : Type 0} where
         fits_in = subst Q (sym (same-charged charge_of item_of r x charge)) (subst P (sym is) l.fit);
       }
 
-  kept : EachAccountMoves → ArrivalsAreOffers → (item_of : Arrival → X) (vl_of : X → ℕ) (charge_of : Entry X → ℕ) (rows : List Row) (o : Output) (past : List Arrival) (entries : List (Entry X)) (x : Arrival) (r : Row) →
-      IsServed rows o → Carries item_of vl_of charge_of rows → Inv vl_of charge_of rows o past entries → All (λ y. y.time ≤ x.time) past → Contains rows r → Sends o past x r →
+  kept : EachAccountMoves → ArrivalsAreOffers → (item_of : Arrival → X) (vl_of : X → ℕ) (charge_of : Entry X → ℕ)
+      (rows : List Row) (o : Output) (past : List Arrival) (entries : List (Entry X)) (x : Arrival) (r : Row) →
+      IsServed rows o → Carries item_of vl_of charge_of rows → Inv vl_of charge_of rows o past entries →
+      All (λ y. y.time ≤ x.time) past → Contains rows r → Sends o past x r →
       is_lost o.byte_ns o.buffer entries (entry_of item_of r x) ≡ false
   kept moves offers item_of vl_of charge_of rows o past entries x r served carries inv times stands s =
       offer-kept moves o.byte_ns o.buffer (flows_at o.number rows) vl_of charge_of entries (entry_of item_of r x) inv.order
@@ -123,7 +132,8 @@ module _ {X : Type 0} where
       (arrival-joins item_of vl_of charge_of rows o past entries x r carries inv times stands s))
 
   -- no row sends the arrival there
-  stays : (vl_of : X → ℕ) (charge_of : Entry X → ℕ) (rows : List Row) (o : Output) (past : List Arrival) (entries : List (Entry X)) (x : Arrival) →
+  stays : (vl_of : X → ℕ) (charge_of : Entry X → ℕ) (rows : List Row) (o : Output) (past : List Arrival)
+      (entries : List (Entry X)) (x : Arrival) →
       Inv vl_of charge_of rows o past entries → ((r : Row) → Contains rows r → sends o past x r ≡ false) → Inv vl_of charge_of rows o (x ∷ past) entries
   stays vl_of charge_of rows o past entries x inv none = record {
     order = inv.order;
@@ -133,14 +143,17 @@ module _ {X : Type 0} where
     owned = λ r k goes. inv.owned r k goes ∙ sym (accepted-more r o.side past x ∙ unsent (accepts past x r) (is_side o.side x.side) (r.goes_to o.number) (charged_by r.rule x ∷ accepted_own r.rule (own r.rule.vl o.side past)) (accepted_own r.rule (own r.rule.vl o.side past)) goes (none r k));
   }
     where
-      unsent : (a s g : Bool) (xs ys : List Charged) → g ≡ true → (a && (s && g)) ≡ false → (if a && s then xs else ys) ≡ ys
+      unsent : (a s g : Bool) (xs ys : List Charged) → g ≡ true → (a && (s && g)) ≡ false →
+          (if a && s then xs else ys) ≡ ys
       unsent false s g xs ys goes none = refl
       unsent true false g xs ys goes none = refl
       unsent true true g xs ys goes none = absurd (cc (goes, none))
 
   -- a row sends it
-  grows : (item_of : Arrival → X) (vl_of : X → ℕ) (charge_of : Entry X → ℕ) (rows : List Row) (o : Output) (past : List Arrival) (entries : List (Entry X)) (x : Arrival) (r : Row) →
-      AreRows rows → Carries item_of vl_of charge_of rows → Inv vl_of charge_of rows o past entries → All (λ y. y.time ≤ x.time) past → Contains rows r → Sends o past x r →
+  grows : (item_of : Arrival → X) (vl_of : X → ℕ) (charge_of : Entry X → ℕ) (rows : List Row) (o : Output)
+      (past : List Arrival) (entries : List (Entry X)) (x : Arrival) (r : Row) →
+      AreRows rows → Carries item_of vl_of charge_of rows → Inv vl_of charge_of rows o past entries →
+      All (λ y. y.time ≤ x.time) past → Contains rows r → Sends o past x r →
       Inv vl_of charge_of rows o (x ∷ past) (entries ++ entry_of item_of r x ∷ [])
   grows item_of vl_of charge_of rows o past entries x r are carries inv times stands s =
       let j = arrival-joins item_of vl_of charge_of rows o past entries x r carries inv times stands s in
@@ -171,12 +184,15 @@ module _ {X : Type 0} where
             ]);
       }
 
-  next : EachAccountMoves → ArrivalsAreOffers → (item_of : Arrival → X) (vl_of : X → ℕ) (charge_of : Entry X → ℕ) (rows : List Row) (o : Output) (past : List Arrival) (earlier : List (Entry X)) (x : Arrival) →
-      IsServed rows o → Carries item_of vl_of charge_of rows → Inv vl_of charge_of rows o past (entries_of o.byte_ns o.buffer earlier) → All (λ y. y.time ≤ x.time) past →
+  next : EachAccountMoves → ArrivalsAreOffers → (item_of : Arrival → X) (vl_of : X → ℕ) (charge_of : Entry X → ℕ)
+      (rows : List Row) (o : Output) (past : List Arrival) (earlier : List (Entry X)) (x : Arrival) →
+      IsServed rows o → Carries item_of vl_of charge_of rows →
+      Inv vl_of charge_of rows o past (entries_of o.byte_ns o.buffer earlier) → All (λ y. y.time ≤ x.time) past →
       Inv vl_of charge_of rows o (x ∷ past) (entries_of o.byte_ns o.buffer (with_sent item_of x (find (sends o past x) rows) earlier))
   next moves offers item_of vl_of charge_of rows o past earlier x served carries inv times = by_find (find (sends o past x) rows) refl
     where
-      by_find : (w : Option Row) → find (sends o past x) rows ≡ w → Inv vl_of charge_of rows o (x ∷ past) (entries_of o.byte_ns o.buffer (with_sent item_of x w earlier))
+      by_find : (w : Option Row) → find (sends o past x) rows ≡ w →
+          Inv vl_of charge_of rows o (x ∷ past) (entries_of o.byte_ns o.buffer (with_sent item_of x w earlier))
       by_find None h = stays vl_of charge_of rows o past (entries_of o.byte_ns o.buffer earlier) x inv (λ r k. find-none (sends o past x) rows r h k)
       by_find (Some r) h =
           let found = find-some (sends o past x) rows r h in
@@ -184,8 +200,10 @@ module _ {X : Type 0} where
           let fits-in = kept moves offers item_of vl_of charge_of rows o past (entries_of o.byte_ns o.buffer earlier) x r served carries inv times found.stands s in
           rw fits-in (grows item_of vl_of charge_of rows o past (entries_of o.byte_ns o.buffer earlier) x r served.rows_are carries inv times found.stands s)
 
-  all-of : EachAccountMoves → ArrivalsAreOffers → (item_of : Arrival → X) (vl_of : X → ℕ) (charge_of : Entry X → ℕ) (rows : List Row) (o : Output) (arrivals : List Arrival) →
-      IsServed rows o → Carries item_of vl_of charge_of rows → AreTimed arrivals → Inv vl_of charge_of rows o arrivals (entries_at item_of rows o arrivals)
+  all-of : EachAccountMoves → ArrivalsAreOffers → (item_of : Arrival → X) (vl_of : X → ℕ) (charge_of : Entry X → ℕ)
+      (rows : List Row) (o : Output) (arrivals : List Arrival) →
+      IsServed rows o → Carries item_of vl_of charge_of rows → AreTimed arrivals →
+      Inv vl_of charge_of rows o arrivals (entries_at item_of rows o arrivals)
   unfolding offers_at accepted_own
   all-of moves offers item_of vl_of charge_of rows o [] served carries timed = record {
     order = λ i j d e le g k. absurd (cc g);
@@ -209,8 +227,11 @@ module _ {X : Type 0} where
   arrival-kept moves offers item_of vl_of charge_of rows o past x r served carries timed stands h =
       kept moves offers item_of vl_of charge_of rows o past (entries_at item_of rows o past) x r served carries (all-of moves offers item_of vl_of charge_of rows o past served carries timed.1) timed.0 stands (sends-parts o past x r h)
 
-  entry-waits : EachAccountMoves → ArrivalsAreOffers → (item_of : Arrival → X) (vl_of : X → ℕ) (charge_of : Entry X → ℕ) (rows : List Row) (o : Output) (arrivals : List Arrival) (r : Row) (place : ℕ) (e : Entry X) →
-      IsServed rows o → Carries item_of vl_of charge_of rows → AreTimed arrivals → Contains rows r → IfSome r.longest_wait (λ wait. r.latency ≤ wait) →
+  entry-waits : EachAccountMoves → ArrivalsAreOffers →
+      (item_of : Arrival → X) (vl_of : X → ℕ) (charge_of : Entry X → ℕ) (rows : List Row) (o : Output)
+      (arrivals : List Arrival) (r : Row) (place : ℕ) (e : Entry X) →
+      IsServed rows o → Carries item_of vl_of charge_of rows → AreTimed arrivals → Contains rows r →
+      IfSome r.longest_wait (λ wait. r.latency ≤ wait) →
       slice_get (entries_at item_of rows o arrivals) place ≡ Some e → vl_of e.item ≡ r.rule.vl → MayWait r.latency e
   entry-waits moves offers item_of vl_of charge_of rows o arrivals r place e served carries timed stands waits at named =
       let inv = all-of moves offers item_of vl_of charge_of rows o arrivals served carries timed in
@@ -244,7 +265,8 @@ module _ {X : Type 0} where
   offers-enter moves offers item_of vl_of charge_of rows o (x ∷ past) served carries timed =
       by_find (find (sends o past x) rows) refl (offers-enter moves offers item_of vl_of charge_of rows o past served carries timed.1)
     where
-      by_find : (w : Option Row) → find (sends o past x) rows ≡ w → entries_at item_of rows o past ≡ reverse (offers_at item_of rows o past) →
+      by_find : (w : Option Row) → find (sends o past x) rows ≡ w →
+          entries_at item_of rows o past ≡ reverse (offers_at item_of rows o past) →
           entries_of o.byte_ns o.buffer (with_sent item_of x w (offers_at item_of rows o past)) ≡ reverse (with_sent item_of x w (offers_at item_of rows o past))
       by_find None h rest = rest
       by_find (Some r) h rest =
@@ -252,3 +274,35 @@ module _ {X : Type 0} where
           let fits-in = arrival-kept moves offers item_of vl_of charge_of rows o past x r served carries timed found.stands found.holds in
           cond-false (is_lost o.byte_ns o.buffer (entries_at item_of rows o past) (entry_of item_of r x)) (entries_at item_of rows o past) (entries_at item_of rows o past ++ entry_of item_of r x ∷ []) fits-in
           ∙ ap (λ es. es ++ entry_of item_of r x ∷ []) rest ∙ sym (reverse-append (entry_of item_of r x ∷ []) (offers_at item_of rows o past))
+
+  with-found : (item_of : Arrival → X) (x : Arrival) (p : Row → Bool) (rows : List Row) (offers : List (Entry X))
+      (r : Row) → find p rows ≡ Some r →
+      with_sent item_of x (find p rows) offers ≡ entry_of item_of r x ∷ offers
+  with-found item_of x p rows offers r h = ap (λ w. with_sent item_of x w offers) h
+
+  with-none : (item_of : Arrival → X) (x : Arrival) (p : Row → Bool) (rows : List Row) (offers : List (Entry X)) →
+      find p rows ≡ None → with_sent item_of x (find p rows) offers ≡ offers
+  with-none item_of x p rows offers h = ap (λ w. with_sent item_of x w offers) h
+
+  pub sent-offered : SentIsOffered X
+  unfolding offers_at
+  sent-offered item_of rows o past x r are stands h = by_find (find (sends o past x) rows) refl
+    where
+      by_find : (w : Option Row) → find (sends o past x) rows ≡ w →
+          with_sent item_of x (find (sends o past x) rows)
+          (offers_at item_of rows o past) ≡ entry_of item_of r x ∷ offers_at item_of rows o past
+      by_find None g = absurd (let none = find-none (sends o past x) rows r g stands in cc (h, none))
+      by_find (Some q) g =
+          let found = find-some (sends o past x) rows q g in
+          let same = one-row rows past x q r are found.stands stands (sends-parts o past x q found.holds).accepted (sends-parts o past x r h).accepted in
+          with-found item_of x (sends o past x) rows (offers_at item_of rows o past) q g ∙ ap (λ z. entry_of item_of z x ∷ offers_at item_of rows o past) same
+
+  pub unsent-not : UnsentIsNot X
+  unfolding offers_at
+  unsent-not item_of rows o past x none = by_find (find (sends o past x) rows) refl
+    where
+      by_find : (w : Option Row) → find (sends o past x) rows ≡ w →
+          with_sent item_of x (find (sends o past x) rows)
+          (offers_at item_of rows o past) ≡ offers_at item_of rows o past
+      by_find None g = with-none item_of x (sends o past x) rows (offers_at item_of rows o past) g
+      by_find (Some q) g = absurd (let found = find-some (sends o past x) rows q g in let out = none q found.stands in cc (found.holds, out))

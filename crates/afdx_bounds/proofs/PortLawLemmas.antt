@@ -1,5 +1,5 @@
 -- A port that stands for calls, where its entries regulate it.
-use Rattle.std.proofs.Common.{◌≡◌, ℕ, ◌↔◌, List}
+use Rattle.std.proofs.Common.{ℕ, ◌↔◌}
 use Rattle.afdx_port.specs.declared.pending.Pending.{Pending}
 use Rattle.afdx_port.specs.Due.{IsAfter}
 use Rattle.afdx_port.specs.Facts.{Facts}
@@ -9,7 +9,6 @@ use Rattle.afdx_port.specs.Schedule.{Turn, IsNext, AreTurns}
 use Rattle.afdx_port.proofs.ScheduleLemmas.{schedule_of_is}
 use Rattle.afdx_police.specs.Laws.{EachAccountMoves}
 use Rattle.afdx_bounds.specs.PortLaws.{PutIsKept, TakenAreInTime, TakenAreNotOld, AllWereTaken}
-use Rattle.afdx_bounds.specs.Policed.{IsRegulated}
 use Rattle.afdx_port.specs.ScheduleOf.{schedule_of}
 use Rattle.afdx_bounds.proofs.AdmittedLemmas.{none-lost, in-time, none-too-old}
 use Rattle.afdx_bounds.proofs.LeftLemmas.{each-left}
@@ -33,6 +32,7 @@ module _ {X : Type 0} where
   pub taken-not-old : EachAccountMoves → (facts : X → Facts) → TakenAreTurns facts → TakenAreNotOld facts
   taken-not-old moves facts are p h flows vl_of charge_of f port flow = none-too-old moves h.byte_ns h.buffer flows vl_of charge_of h.entries h.taken f port.regulated (are p h port.stands) flow
 
-  pub all-taken : EachAccountMoves → (facts : X → Facts) → TakenAreTurns facts → QuietIsNext facts → AllWereTaken facts
+  pub all-taken : EachAccountMoves → (facts : X → Facts) → TakenAreTurns facts → QuietIsNext facts →
+      AllWereTaken facts
   all-taken moves facts are next p h flows vl_of charge_of f t place e port flow quiet =
       each-left moves h.byte_ns h.buffer flows vl_of charge_of h.entries h.taken f t place e port.regulated (are p h port.stands) flow ((next p h t port.stands).0 quiet)

@@ -16,7 +16,8 @@ pub record From (number : ℕ) (rows : List Row) (f : Flow) : Type 0 where
   pub goes : row.goes_to number ≡ true
   pub is : flow_of row ≡ f
 
-pub flow-from : (number : ℕ) (rows : List Row) (i : ℕ) (f : Flow) → i < length (flows_at number rows) → slice_index_or (flows_at number rows) i f ≡ f → From number rows f
+pub flow-from : (number : ℕ) (rows : List Row) (i : ℕ) (f : Flow) → i < length (flows_at number rows) →
+    slice_index_or (flows_at number rows) i f ≡ f → From number rows f
 flow-from number [] i f lt h = absurd (omega (arith, lt))
 flow-from number (r ∷ rs) i f lt h =
     elim (bool_cases (r.goes_to number)) [
@@ -24,12 +25,14 @@ flow-from number (r ∷ rs) i f lt h =
       | inl goes ↦ at i goes (rw goes at lt) (rw goes at h) (λ j lt-j h-j. flow-from number rs j f lt-j h-j)
     ]
   where
-    at : (j : ℕ) → r.goes_to number ≡ true → j < length (flow_of r ∷ flows_at number rs) → slice_index_or (flow_of r ∷ flows_at number rs) j f ≡ f →
+    at : (j : ℕ) → r.goes_to number ≡ true → j < length (flow_of r ∷ flows_at number rs) →
+        slice_index_or (flow_of r ∷ flows_at number rs) j f ≡ f →
         ((k : ℕ) → k < length (flows_at number rs) → slice_index_or (flows_at number rs) k f ≡ f → From number rs f) → From number (r ∷ rs) f
     at zero goes lt-j h-j rest = record { row = r; stands = contains_head r rs; goes = goes; is = h-j }
     at (suc j) goes lt-j h-j rest = let w = rest j (omega (arith, lt-j)) h-j in record { row = w.row; stands = contains_tail r rs w.row w.stands; goes = w.goes; is = w.is }
 
-flow-at : (number : ℕ) (rows : List Row) (i : ℕ) (r : Row) → i < length rows → slice_index_or rows i r ≡ r → r.goes_to number ≡ true → Contains (flows_at number rows) (flow_of r)
+flow-at : (number : ℕ) (rows : List Row) (i : ℕ) (r : Row) → i < length rows → slice_index_or rows i r ≡ r →
+    r.goes_to number ≡ true → Contains (flows_at number rows) (flow_of r)
 flow-at number [] i r lt h goes = absurd (omega (arith, lt))
 flow-at number (d ∷ ds) zero r lt h goes =
     let own-goes : d.goes_to number ≡ true = ap (λ z. z.goes_to number) h ∙ goes in
@@ -38,16 +41,19 @@ flow-at number (d ∷ ds) (suc i) r lt h goes =
     let rest = flow-at number ds i r (omega (arith, lt)) h goes in
     elim (bool_cases (d.goes_to number)) [ inr stays ↦ rw stays rest | inl first ↦ rw first (contains_tail (flow_of d) (flows_at number ds) (flow_of r) rest) ]
 
-pub flow-to : (number : ℕ) (rows : List Row) (r : Row) → Contains rows r → r.goes_to number ≡ true → Contains (flows_at number rows) (flow_of r)
+pub flow-to : (number : ℕ) (rows : List Row) (r : Row) → Contains rows r → r.goes_to number ≡ true →
+    Contains (flows_at number rows) (flow_of r)
 flow-to number rows r stands goes = flow-at number rows stands.0 r stands.1 stands.2 goes
 
-flows-gaps : (number : ℕ) (rows : List Row) → All (λ r. IsTrue (is_bag r.rule.bag_ms)) rows → All (λ f. IsTrue (is_bag f.link.bag_ms)) (flows_at number rows)
+flows-gaps : (number : ℕ) (rows : List Row) → All (λ r. IsTrue (is_bag r.rule.bag_ms)) rows →
+    All (λ f. IsTrue (is_bag f.link.bag_ms)) (flows_at number rows)
 flows-gaps number rows gaps k d lt =
     let at : slice_index_or (flows_at number rows) k d ≡ slice_index_or (flows_at number rows) k (slice_index_or (flows_at number rows) k d) = any-default (flows_at number rows) k d (slice_index_or (flows_at number rows) k d) lt in
     let w = flow-from number rows k (slice_index_or (flows_at number rows) k d) lt (sym at) in
     subst (λ (f : Flow). IsTrue (is_bag f.link.bag_ms)) w.is (All-contains (λ r. IsTrue (is_bag r.rule.bag_ms)) rows w.row gaps w.stands)
   where
-    any-default : (fs : List Flow) (j : ℕ) (a b : Flow) → j < length fs → slice_index_or fs j a ≡ slice_index_or fs j b
+    any-default : (fs : List Flow) (j : ℕ) (a b : Flow) → j < length fs →
+        slice_index_or fs j a ≡ slice_index_or fs j b
     any-default [] j a b below = absurd (omega (arith, below))
     any-default (f ∷ fs) zero a b below = refl
     any-default (f ∷ fs) (suc j) a b below = any-default fs j a b (omega (arith, below))
@@ -76,7 +82,8 @@ find-some p (d ∷ ds) r h =
       | inr not-here ↦ (let w = find-some p ds r (rw not-here at h) in record { holds = w.holds; stands = contains_tail d ds r w.stands })
     ]
 
-none-at : (p : Row → Bool) (rows : List Row) (i : ℕ) (r : Row) → find p rows ≡ None → i < length rows → slice_index_or rows i r ≡ r → p r ≡ false
+none-at : (p : Row → Bool) (rows : List Row) (i : ℕ) (r : Row) → find p rows ≡ None → i < length rows →
+    slice_index_or rows i r ≡ r → p r ≡ false
 none-at p [] i r h lt at = absurd (omega (arith, lt))
 none-at p (d ∷ ds) zero r h lt at = elim (bool_cases (p d)) [ inl here ↦ absurd (let k = rw here at h in cc k) | inr not-here ↦ sym (ap p at) ∙ not-here ]
 none-at p (d ∷ ds) (suc i) r h lt at =

@@ -30,7 +30,8 @@ cap-one ms m smax j h none =
     let all : smax * m * (1000000 * ms + 1000 * 0) ≡ smax * 1000000 * (ms * m) = grind arith in
     rw none (all ∙ rw h (omega arith))
 
-load-le : (byte_ns : ℕ) (flows : List Flow) → All (λ f. IsTrue (is_bag f.link.bag_ms)) flows → load byte_ns flows ≤ 128 * one_of_each byte_ns flows
+load-le : (byte_ns : ℕ) (flows : List Flow) → All (λ f. IsTrue (is_bag f.link.bag_ms)) flows →
+    load byte_ns flows ≤ 128 * one_of_each byte_ns flows
 load-le byte_ns [] gaps = omega arith
 load-le byte_ns (f ∷ fs) gaps =
     let rest = load-le byte_ns fs (λ k d lt. gaps (suc k) d (omega (arith, lt))) in
@@ -39,7 +40,8 @@ load-le byte_ns (f ∷ fs) gaps =
     let first : fill_rate f.link * byte_ns ≡ (f.link.smax * byte_ns) * (128 / f.link.bag_ms) = grind arith in
     rw (sum_by-cons (λ f. fill_rate f.link * byte_ns) f fs, sum_by-cons (λ f. f.link.smax * byte_ns) f fs) (omega (arith, rest, first, scaled))
 
-burst-ns : (byte_ns : ℕ) (flows : List Flow) → All (λ f. IsTrue (is_bag f.link.bag_ms)) flows → All (λ f. f.link.jitter_us ≡ 0) flows → burst flows * byte_ns ≡ byte_units * one_of_each byte_ns flows
+burst-ns : (byte_ns : ℕ) (flows : List Flow) → All (λ f. IsTrue (is_bag f.link.bag_ms)) flows →
+    All (λ f. f.link.jitter_us ≡ 0) flows → burst flows * byte_ns ≡ byte_units * one_of_each byte_ns flows
 burst-ns byte_ns [] gaps none = omega arith
 burst-ns byte_ns (f ∷ fs) gaps none =
     let rest = burst-ns byte_ns fs (λ k d lt. gaps (suc k) d (omega (arith, lt))) (λ k d lt. none (suc k) d (omega (arith, lt))) in
@@ -52,7 +54,8 @@ not-class : (a b c : Priority) → is_class a b ≡ false → c ≡ b → is_cla
 not-class a b c other same = rw same other
 
 -- where all flows are of one class there are none of the other
-none-of : (a b : Priority) (flows : List Flow) → is_class a b ≡ false → All (λ f. f.priority ≡ b) flows → of_class a flows ≡ []
+none-of : (a b : Priority) (flows : List Flow) → is_class a b ≡ false → All (λ f. f.priority ≡ b) flows →
+    of_class a flows ≡ []
 none-of a b [] other each = refl
 none-of a b (f ∷ fs) other each = rw (not-class a b f.priority other (each 0 f (omega arith))) (none-of a b fs other (λ k d lt. each (suc k) d (omega (arith, lt))))
 

@@ -43,7 +43,8 @@ is-low High h = absurd (cc h)
 is-low Low h = record { own = refl; other = refl }
 
 -- both classes together are all
-pub sum-classes : (g : Flow → ℕ) (flows : List Flow) → sum_by g flows ≡ sum_by g (of_class High flows) + sum_by g (of_class Low flows)
+pub sum-classes : (g : Flow → ℕ) (flows : List Flow) → sum_by g flows ≡ sum_by g (of_class High flows) + sum_by g
+    (of_class Low flows)
 sum-classes g [] = refl
 sum-classes g (f ∷ fs) =
     let rest = sum-classes g fs in
@@ -53,7 +54,8 @@ sum-classes g (f ∷ fs) =
     ]
 
 -- a low flow is one of the sum
-low-at : (g : Flow → ℕ) (flows : List Flow) (i : ℕ) (f : Flow) → i < length flows → slice_index_or flows i f ≡ f → f.priority ≡ Low → g f ≤ sum_by g (of_class Low flows)
+low-at : (g : Flow → ℕ) (flows : List Flow) (i : ℕ) (f : Flow) → i < length flows → slice_index_or flows i f ≡ f →
+    f.priority ≡ Low → g f ≤ sum_by g (of_class Low flows)
 low-at g [] i f lt h low = absurd (omega (arith, lt))
 low-at g (d ∷ ds) zero f lt h low =
     let c = is-low d.priority (ap (λ z. z.priority) h ∙ low) in
@@ -66,10 +68,12 @@ low-at g (d ∷ ds) (suc i) f lt h low =
       | inr is ↦ (let c = is-low d.priority is in rw (c.own, sum_by-cons g d (of_class Low ds)) (omega (arith, rest)))
     ]
 
-pub low-one : (g : Flow → ℕ) (flows : List Flow) (f : Flow) → Contains flows f → f.priority ≡ Low → g f ≤ sum_by g (of_class Low flows)
+pub low-one : (g : Flow → ℕ) (flows : List Flow) (f : Flow) → Contains flows f → f.priority ≡ Low →
+    g f ≤ sum_by g (of_class Low flows)
 low-one g flows f h low = low-at g flows h.0 f h.1 h.2 low
 
-longest-at : (flows : List Flow) (i : ℕ) (f : Flow) → i < length flows → slice_index_or flows i f ≡ f → f.priority ≡ Low → f.link.smax ≤ longest (of_class Low flows)
+longest-at : (flows : List Flow) (i : ℕ) (f : Flow) → i < length flows → slice_index_or flows i f ≡ f →
+    f.priority ≡ Low → f.link.smax ≤ longest (of_class Low flows)
 longest-at [] i f lt h low = absurd (omega (arith, lt))
 longest-at (d ∷ ds) zero f lt h low =
     let c = is-low d.priority (ap (λ z. z.priority) h ∙ low) in
@@ -82,7 +86,8 @@ longest-at (d ∷ ds) (suc i) f lt h low =
       | inr is ↦ (let c = is-low d.priority is in rw c.own (omega (arith, rest)))
     ]
 
-pub longest-one : (flows : List Flow) (f : Flow) → Contains flows f → f.priority ≡ Low → f.link.smax ≤ longest (of_class Low flows)
+pub longest-one : (flows : List Flow) (f : Flow) → Contains flows f → f.priority ≡ Low →
+    f.link.smax ≤ longest (of_class Low flows)
 longest-one flows f h low = longest-at flows h.0 f h.1 h.2 low
 
 pub load-rates : (byte_ns : ℕ) (flows : List Flow) → load byte_ns flows ≡ byte_ns * rates flows
@@ -92,7 +97,8 @@ load-rates byte_ns (f ∷ fs) =
     rw (sum_by-cons (λ f. fill_rate f.link * byte_ns) f fs, sum_by-cons (λ f. fill_rate f.link) f fs, rest) (grind arith)
 
 -- a bound of each flow is one of the sums of a class
-pub sum-bound : (g h r : Flow → ℕ) (gap : ℕ) (class : Priority) (fs : List Flow) → ((f : Flow) → Contains fs f → byte_units * g f ≤ h f + r f * gap) →
+pub sum-bound : (g h r : Flow → ℕ) (gap : ℕ) (class : Priority) (fs : List Flow) →
+    ((f : Flow) → Contains fs f → byte_units * g f ≤ h f + r f * gap) →
     byte_units * sum_by g (of_class class fs) ≤ sum_by h (of_class class fs) + sum_by r (of_class class fs) * gap
 sum-bound g h r gap class [] each = omega arith
 sum-bound g h r gap class (f ∷ fs) each =
@@ -111,12 +117,14 @@ or-right : (a b : Bool) → b ≡ true → (a || b) ≡ true
 or-right true b h = refl
 or-right false b h = h
 
-among-at : (fs : List Flow) (i : ℕ) (f : Flow) (vl : ℕ) → i < length fs → slice_index_or fs i f ≡ f → vl ≡ f.vl → among fs vl ≡ true
+among-at : (fs : List Flow) (i : ℕ) (f : Flow) (vl : ℕ) → i < length fs → slice_index_or fs i f ≡ f → vl ≡ f.vl →
+    among fs vl ≡ true
 among-at [] i f vl lt h same = absurd (omega (arith, lt))
 among-at (d ∷ ds) zero f vl lt h same = let named : vl ≡ d.vl = same ∙ sym (ap (λ z. z.vl) h) in rw (eqb-same vl d.vl named) refl
 among-at (d ∷ ds) (suc i) f vl lt h same = or-right (vl == d.vl) (among ds vl) (among-at ds i f vl (omega (arith, lt)) h same)
 
-pub classes-load : (byte_ns : ℕ) (flows : List Flow) → load byte_ns flows ≡ byte_ns * (rates (of_class High flows) + rates (of_class Low flows))
+pub classes-load : (byte_ns : ℕ) (flows : List Flow) →
+    load byte_ns flows ≡ byte_ns * (rates (of_class High flows) + rates (of_class Low flows))
 classes-load byte_ns flows =
     let all = load-rates byte_ns flows in
     let split = sum-classes (λ f. fill_rate f.link) flows in
@@ -128,7 +136,8 @@ module _ {X : Type 0} where
   wire_among vl_of class since until fs [] = 0
   wire_among vl_of class since until fs (e ∷ es) = (if among fs (vl_of e.item) then wire_in class since until e else 0) + wire_among vl_of class since until fs es
 
-  among-all : (vl_of : X → ℕ) (charge_of : Entry X → ℕ) (flows : List Flow) (class : Priority) (since until : ℕ) (es : List (Entry X)) → All (λ e. IsCharged vl_of charge_of flows e) es →
+  among-all : (vl_of : X → ℕ) (charge_of : Entry X → ℕ) (flows : List Flow) (class : Priority) (since until : ℕ)
+      (es : List (Entry X)) → All (λ e. IsCharged vl_of charge_of flows e) es →
       wire_between class since until es ≡ wire_among vl_of class since until flows es
   among-all vl_of charge_of flows class since until [] each = refl
   among-all vl_of charge_of flows class since until (e ∷ es) each =
@@ -137,7 +146,8 @@ module _ {X : Type 0} where
       let own = among-at flows here.stands.0 here.flow (vl_of e.item) here.stands.1 here.stands.2 (sym here.named) in
       rw own (omega (arith, rest))
 
-  among-none : (vl_of : X → ℕ) (class : Priority) (since until : ℕ) (es : List (Entry X)) → wire_among vl_of class since until [] es ≡ 0
+  among-none : (vl_of : X → ℕ) (class : Priority) (since until : ℕ) (es : List (Entry X)) →
+      wire_among vl_of class since until [] es ≡ 0
   among-none vl_of class since until [] = refl
   among-none vl_of class since until (e ∷ es) = let rest = among-none vl_of class since until es in omega (arith, rest)
 
@@ -146,7 +156,8 @@ module _ {X : Type 0} where
   charged_own vl_of charge_of since until vl [] = 0
   charged_own vl_of charge_of since until vl (e ∷ es) = (if vl_of e.item == vl then charged_in since until (charged_as charge_of e) else 0) + charged_own vl_of charge_of since until vl es
 
-  own-is : (vl_of : X → ℕ) (charge_of : Entry X → ℕ) (since until vl : ℕ) (es : List (Entry X)) → charged_own vl_of charge_of since until vl es ≡ charged_between since until (charged_to vl_of charge_of vl es)
+  own-is : (vl_of : X → ℕ) (charge_of : Entry X → ℕ) (since until vl : ℕ) (es : List (Entry X)) →
+      charged_own vl_of charge_of since until vl es ≡ charged_between since until (charged_to vl_of charge_of vl es)
   own-is vl_of charge_of since until vl [] = refl
   own-is vl_of charge_of since until vl (e ∷ es) =
       let rest = own-is vl_of charge_of since until vl es in
@@ -158,7 +169,8 @@ module _ {X : Type 0} where
             rw own (omega (arith, rest, append, whole)))
       ]
 
-  part-charged : (charge_of : Entry X → ℕ) (class : Priority) (since until : ℕ) (e : Entry X) → e.bytes + 20 ≤ charge_of e → wire_in class since until e ≤ charged_in since until (charged_as charge_of e)
+  part-charged : (charge_of : Entry X → ℕ) (class : Priority) (since until : ℕ) (e : Entry X) →
+      e.bytes + 20 ≤ charge_of e → wire_in class since until e ≤ charged_in since until (charged_as charge_of e)
   part-charged charge_of class since until e least =
       elim (bool_cases (is_class class e.priority)) [
         | inr other ↦ rw other (omega arith)
@@ -169,7 +181,8 @@ module _ {X : Type 0} where
       ]
 
   -- the entries of one flow, and those of the flows after it
-  step : (vl_of : X → ℕ) (charge_of : Entry X → ℕ) (flows : List Flow) (class : Priority) (since until : ℕ) (f : Flow) (fs : List Flow) → AreFlows flows → Contains flows f → (es : List (Entry X)) →
+  step : (vl_of : X → ℕ) (charge_of : Entry X → ℕ) (flows : List Flow) (class : Priority) (since until : ℕ)
+      (f : Flow) (fs : List Flow) → AreFlows flows → Contains flows f → (es : List (Entry X)) →
       All (λ e. IsCharged vl_of charge_of flows e) es →
       wire_among vl_of class since until (f ∷ fs) es ≤ (if is_class class f.priority then charged_own vl_of charge_of since until f.vl es else 0) + wire_among vl_of class since until fs es
   step vl_of charge_of flows class since until f fs links own [] each = omega arith
@@ -195,7 +208,8 @@ module _ {X : Type 0} where
       ]
 
   -- what comes of a class is at most what its flows are charged
-  among-flows : (vl_of : X → ℕ) (charge_of : Entry X → ℕ) (flows : List Flow) (class : Priority) (since until : ℕ) (es : List (Entry X)) → AreFlows flows → All (λ e. IsCharged vl_of charge_of flows e) es →
+  among-flows : (vl_of : X → ℕ) (charge_of : Entry X → ℕ) (flows : List Flow) (class : Priority) (since until : ℕ)
+      (es : List (Entry X)) → AreFlows flows → All (λ e. IsCharged vl_of charge_of flows e) es →
       (fs : List Flow) → ((f : Flow) → Contains fs f → Contains flows f) →
       wire_among vl_of class since until fs es ≤ sum_by (λ f. charged_own vl_of charge_of since until f.vl es) (of_class class fs)
   among-flows vl_of charge_of flows class since until es links each [] part = omega (arith, among-none vl_of class since until es)
@@ -208,7 +222,8 @@ module _ {X : Type 0} where
         | inr is ↦ (let split = rw is at first in rw is (omega (arith, split, rest)))
       ]
 
-  pub wire-charged : (vl_of : X → ℕ) (charge_of : Entry X → ℕ) (flows : List Flow) (class : Priority) (since until : ℕ) (es : List (Entry X)) → AreFlows flows → All (λ e. IsCharged vl_of charge_of flows e) es →
+  pub wire-charged : (vl_of : X → ℕ) (charge_of : Entry X → ℕ) (flows : List Flow) (class : Priority)
+      (since until : ℕ) (es : List (Entry X)) → AreFlows flows → All (λ e. IsCharged vl_of charge_of flows e) es →
       wire_between class since until es ≤ sum_by (λ f. charged_own vl_of charge_of since until f.vl es) (of_class class flows)
   wire-charged vl_of charge_of flows class since until es links each =
       let all = among-all vl_of charge_of flows class since until es each in
@@ -216,7 +231,8 @@ module _ {X : Type 0} where
       omega (arith, all, sum)
 
   -- policed entries keep the curve of their flows
-  pub policed-keep : EachAccountMoves → (vl_of : X → ℕ) (charge_of : Entry X → ℕ) (flows : List Flow) (entries : List (Entry X)) (class : Priority) → AreFlows flows → ArePoliced vl_of charge_of flows entries →
+  pub policed-keep : EachAccountMoves → (vl_of : X → ℕ) (charge_of : Entry X → ℕ) (flows : List Flow)
+      (entries : List (Entry X)) (class : Priority) → AreFlows flows → ArePoliced vl_of charge_of flows entries →
       KeepsCurve class (curve_of class flows) entries
   policed-keep moves vl_of charge_of flows entries class links policed since until le =
       let g : Flow → ℕ = λ f. charged_own vl_of charge_of since until f.vl entries in
@@ -231,8 +247,11 @@ module _ {X : Type 0} where
       omega (arith, all, sum)
 
   -- and whatever was accepted, what is missing in the accounts is as much as their burst would be
-  pub missing-keep : (vl_of : X → ℕ) (charge_of : Entry X → ℕ) (flows : List Flow) (entries : List (Entry X)) (class : Priority) (since now : ℕ) → AreFlows flows → All (λ e. IsCharged vl_of charge_of flows e) entries →
-      byte_units * wire_between class since now entries ≤ sum_by (λ f. missing f.link (charged_to vl_of charge_of f.vl entries) now) (of_class class flows) + rates (of_class class flows) * (now - since)
+  pub missing-keep : (vl_of : X → ℕ) (charge_of : Entry X → ℕ) (flows : List Flow) (entries : List (Entry X))
+      (class : Priority) (since now : ℕ) → AreFlows flows → All (λ e. IsCharged vl_of charge_of flows e) entries →
+      byte_units * wire_between class since now entries ≤ sum_by
+      (λ f. missing f.link (charged_to vl_of charge_of f.vl entries) now) (of_class class flows) + rates
+      (of_class class flows) * (now - since)
   missing-keep vl_of charge_of flows entries class since now links each =
       let g : Flow → ℕ = λ f. charged_own vl_of charge_of since now f.vl entries in
       let all = wire-charged vl_of charge_of flows class since now entries links each in

@@ -1,19 +1,19 @@
 -- Admitted tables, whatever arrives.
-use Rattle.std.proofs.Common.{◌≡◌, ℕ, ◌+◌, ◌*◌, ◌<◌, ◌≤◌, ◌==◌, Bool, true, false, List, [], ◌∷◌, length, map, Some, None, refl, ap, arith, suc, zero, if◌then◌else◌}
-use Rattle.std.specs.Prelude.{All, Contains, IfSome}
+use Rattle.std.proofs.Common.{◌≡◌, ℕ, ◌*◌, ◌≤◌, ◌==◌, Bool, true, false, List, [], ◌∷◌, map, Some, None, ap, arith, suc, zero, if◌then◌else◌}
+use Rattle.std.specs.Prelude.{Contains, IfSome}
 use Rattle.std.specs.List.{slice_get}
 use Rattle.afdx_config.specs.Rows.{LinkRow, Rows}
-use Rattle.afdx_police.specs.Arrival.{Arrival}
 use Rattle.afdx_police.specs.Laws.{EachAccountMoves, ArrivalsAreOffers}
-use Rattle.afdx_bounds.specs.Outputs.{Carries, link_in, charge_in}
-use Rattle.afdx_bounds.specs.Tables.{row_of, rows_of, longest_wait_of, output_to, EachOutputIsServed}
-use Rattle.afdx_bounds.specs.TableLaws.{IsOutputOf, NothingIsLost, EachHasItsSlot, EachSlotHasCome}
-use Rattle.afdx_bounds.proofs.ListLemmas.{contains_head, contains_tail}
+use Rattle.afdx_bounds.specs.Outputs.{link_in, charge_in}
+use Rattle.afdx_bounds.specs.Tables.{row_of, rows_of, longest_wait_of, output_to}
+use Rattle.afdx_bounds.specs.TableLaws.{NothingIsLost, EachHasItsSlot, EachSlotHasCome}
+use Rattle.afdx_bounds.proofs.ListLemmas.{contains_tail}
 use Rattle.afdx_bounds.proofs.CarryLemmas.{bytes-carry}
 use Rattle.afdx_bounds.proofs.OutputLemmas.{offers-enter, arrivals-in-time, arrivals-not-old, arrivals-left}
 use Rattle.afdx_bounds.proofs.TableLemmas.{output-served, rows-are}
 
-contains-mapped : {Y Z : Type 0} (f : Y → Z) (xs : List Y) (i : ℕ) (y : Y) → slice_get xs i ≡ Some y → Contains (map f xs) (f y)
+contains-mapped : {Y Z : Type 0} (f : Y → Z) (xs : List Y) (i : ℕ) (y : Y) → slice_get xs i ≡ Some y →
+    Contains (map f xs) (f y)
 contains-mapped f [] i y at = absurd (cc at)
 contains-mapped f (x ∷ xs) zero y at = let same : x ≡ y = cc at in (0, omega arith, ap f same)
 contains-mapped f (x ∷ xs) (suc i) y at = contains_tail (f x) (map f xs) (f y) (contains-mapped f xs i y at)
@@ -22,7 +22,8 @@ contains-mapped f (x ∷ xs) (suc i) y at = contains_tail (f x) (map f xs) (f y)
 waits-long : (t : Rows) (l : LinkRow) → IfSome (longest_wait_of t l) (λ wait. 1000 * l.latency_us ≤ wait)
 waits-long t l = by_profile (t.profile == 2)
   where
-    by_profile : (second : Bool) → IfSome (if second then Some (1000 * l.latency_us) else None) (λ wait. 1000 * l.latency_us ≤ wait)
+    by_profile : (second : Bool) → IfSome (if second then Some (1000 * l.latency_us) else None)
+        (λ wait. 1000 * l.latency_us ≤ wait)
     by_profile true = omega arith
     by_profile false = tt
 

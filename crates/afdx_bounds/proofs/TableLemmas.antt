@@ -1,24 +1,20 @@
 -- The ports of admitted tables.
 use Rattle.std.proofs.Common.{◌≡◌, ℕ, ◌+◌, ◌*◌, ◌/◌, ◌<◌, ◌≤◌, ◌==◌, Bool, true, false, ◌||◌, List, [], ◌∷◌, length, map, filter, Some, inl, inr, refl, sym, ap, subst, arith, ◌∙◌, suc, zero, if◌then◌else◌}
 use Rattle.std.specs.Prelude.{All, Contains, IsTrue, nat_eq, slice_index_or, sum_by}
-use Rattle.std.specs.List.{slice_get, list_any, AllByRecursion}
+use Rattle.std.specs.List.{slice_get, AllByRecursion}
 use Rattle.std.proofs.lemmas.Bool.{eqb-true}
 use Rattle.std.proofs.lemmas.List.Sums.{sum_by-cons}
 use Rattle.afdx_frame.specs.declared.link.Priority.{Priority}
-use Rattle.afdx_frame.specs.declared.link.Side.{Side}
 use Rattle.afdx_frame.specs.Flows.{Flow, IsPortAdmitted}
-use Rattle.afdx_config.specs.Admission.{IsAdmitted, byte_ns, flows_to, links_from, sender_jitter}
+use Rattle.afdx_config.specs.Admission.{byte_ns, flows_to, links_from}
 use Rattle.afdx_config.specs.Flows.{flow_of}
 use Rattle.afdx_config.specs.Lawful.{IsLawful, IsOneOf, IsLink, IsSystem, AreDistinct, gaps}
-use Rattle.afdx_config.specs.Reading.{rates}
 use Rattle.afdx_config.specs.Rows.{SystemRow, LinkRow, Rows, is_to}
 use Rattle.afdx_police.specs.Rule.{is_bag}
-use Rattle.afdx_bounds.specs.Outputs.{Row, AreRows, flows_at}
-use Rattle.afdx_bounds.specs.Policed.{AreFlows}
-use Rattle.afdx_bounds.specs.Sender.{one_of_each, IsSent, IsSender}
-use Rattle.afdx_bounds.specs.Tables.{row_of, rows_of, output_to, ServesTables, EachOutputIsServed, sent_flow, sent_flows, EachSystemIsSender}
+use Rattle.afdx_bounds.specs.Outputs.{AreRows, flows_at}
+use Rattle.afdx_bounds.specs.Sender.{one_of_each, IsSent}
+use Rattle.afdx_bounds.specs.Tables.{row_of, rows_of, EachOutputIsServed, sent_flow, sent_flows, EachSystemIsSender}
 use Rattle.afdx_bounds.proofs.WorkLemmas.{bool_cases}
-use Rattle.afdx_bounds.proofs.ListLemmas.{contains_head, contains_tail}
 
 is-bag : (ms : ℕ) → IsOneOf gaps ms → IsTrue (is_bag ms)
 is-bag ms h = h
@@ -27,14 +23,17 @@ is-bag ms h = h
 rate-line : (profile : ℕ) (s : SystemRow) → IsSystem profile s → 8 ≤ byte_ns s
 rate-line profile s is = by_profile (profile == 2) s.rate is.rate
   where
-    one-of : (n rate : ℕ) (rest : Bool) → (nat_eq n rate || rest) ≡ true → 8 ≤ 8000 / n → (rest ≡ true → 8 ≤ 8000 / rate) → 8 ≤ 8000 / rate
+    one-of : (n rate : ℕ) (rest : Bool) → (nat_eq n rate || rest) ≡ true → 8 ≤ 8000 / n →
+        (rest ≡ true → 8 ≤ 8000 / rate) → 8 ≤ 8000 / rate
     one-of n rate rest h here other = elim (bool_cases (nat_eq n rate)) [ inl is ↦ subst (λ (m : ℕ). 8 ≤ 8000 / m) (eqb-true n rate is) here | inr isnt ↦ other (rw isnt at h) ]
 
-    by_profile : (second : Bool) (rate : ℕ) → IsOneOf (if second then 10 ∷ 100 ∷ 1000 ∷ [] else 10 ∷ 100 ∷ []) rate → 8 ≤ 8000 / rate
+    by_profile : (second : Bool) (rate : ℕ) → IsOneOf (if second then 10 ∷ 100 ∷ 1000 ∷ [] else 10 ∷ 100 ∷ []) rate →
+        8 ≤ 8000 / rate
     by_profile true rate h = one-of 10 rate _ h (omega arith) (λ k. one-of 100 rate _ k (omega arith) (λ m. one-of 1000 rate _ m (omega arith) (λ none. absurd (cc none))))
     by_profile false rate h = one-of 10 rate _ h (omega arith) (λ k. one-of 100 rate _ k (omega arith) (λ none. absurd (cc none)))
 
-each-at : {Y : Type 0} (P : Y → Type 0) (xs : List Y) (i : ℕ) (y : Y) → AllByRecursion P xs → slice_get xs i ≡ Some y → P y
+each-at : {Y : Type 0} (P : Y → Type 0) (xs : List Y) (i : ℕ) (y : Y) → AllByRecursion P xs →
+    slice_get xs i ≡ Some y → P y
 each-at P [] i y h at = absurd (cc at)
 each-at P (x ∷ xs) zero y h at = let same : x ≡ y = cc at in subst P same h.0
 each-at P (x ∷ xs) (suc i) y h at = each-at P xs i y h.1 at
@@ -46,7 +45,8 @@ record Mapped {Y Z : Type 0} (f : Y → Z) (xs : List Y) (z : Z) : Type 0 where
   stands : slice_get xs place ≡ Some own
   is : f own ≡ z
 
-mapped-at : {Y Z : Type 0} (f : Y → Z) (xs : List Y) (i : ℕ) (z : Z) → i < length (map f xs) → slice_index_or (map f xs) i z ≡ z → Mapped f xs z
+mapped-at : {Y Z : Type 0} (f : Y → Z) (xs : List Y) (i : ℕ) (z : Z) → i < length (map f xs) →
+    slice_index_or (map f xs) i z ≡ z → Mapped f xs z
 mapped-at f [] i z lt at = absurd (omega (arith, lt))
 mapped-at f (x ∷ xs) zero z lt at = record { place = 0; own = x; stands = refl; is = at }
 mapped-at f (x ∷ xs) (suc i) z lt at = let rest = mapped-at f xs i z (omega (arith, lt)) at in record { place = suc rest.place; own = rest.own; stands = rest.stands; is = rest.is }
@@ -54,13 +54,15 @@ mapped-at f (x ∷ xs) (suc i) z lt at = let rest = mapped-at f xs i z (omega (a
 mapped : {Y Z : Type 0} (f : Y → Z) (xs : List Y) (z : Z) → Contains (map f xs) z → Mapped f xs z
 mapped f xs z h = mapped-at f xs h.0 z h.1 h.2
 
-all-mapped : {Y Z : Type 0} (P : Z → Type 0) (f : Y → Z) (xs : List Y) → ((i : ℕ) (y : Y) → slice_get xs i ≡ Some y → P (f y)) → All P (map f xs)
+all-mapped : {Y Z : Type 0} (P : Z → Type 0) (f : Y → Z) (xs : List Y) →
+    ((i : ℕ) (y : Y) → slice_get xs i ≡ Some y → P (f y)) → All P (map f xs)
 all-mapped P f [] h k d lt = absurd (omega (arith, lt))
 all-mapped P f (x ∷ xs) h zero d lt = h 0 x refl
 all-mapped P f (x ∷ xs) h (suc k) d lt = all-mapped P f xs (λ i y at. h (suc i) y at) k d (omega (arith, lt))
 
 -- an element of a filtered list stands in the list
-filtered : {Y : Type 0} (p : Y → Bool) (xs : List Y) (i : ℕ) (y : Y) → slice_get (filter p xs) i ≡ Some y → (j : ℕ) × (slice_get xs j ≡ Some y)
+filtered : {Y : Type 0} (p : Y → Bool) (xs : List Y) (i : ℕ) (y : Y) → slice_get (filter p xs) i ≡ Some y →
+    (j : ℕ) × (slice_get xs j ≡ Some y)
 filtered p [] i y at = absurd (cc at)
 filtered p (x ∷ xs) i y at =
     elim (bool_cases (p x)) [
@@ -68,12 +70,15 @@ filtered p (x ∷ xs) i y at =
       | inl kept ↦ by_place i (rw kept at at) (λ k h. filtered p xs k y h)
     ]
   where
-    by_place : (k : ℕ) → slice_get (x ∷ filter p xs) k ≡ Some y → ((n : ℕ) → slice_get (filter p xs) n ≡ Some y → (j : ℕ) × (slice_get xs j ≡ Some y)) → (j : ℕ) × (slice_get (x ∷ xs) j ≡ Some y)
+    by_place : (k : ℕ) → slice_get (x ∷ filter p xs) k ≡ Some y →
+        ((n : ℕ) → slice_get (filter p xs) n ≡ Some y → (j : ℕ) × (slice_get xs j ≡ Some y)) →
+        (j : ℕ) × (slice_get (x ∷ xs) j ≡ Some y)
     by_place zero h rest = (0, h)
     by_place (suc k) h rest = let r = rest k h in (suc r.0, r.1)
 
 -- two links of one identifier are one
-one-link : (links : List LinkRow) (i j : ℕ) (k l : LinkRow) → AreDistinct (λ m. m.vl) links → slice_get links i ≡ Some k → slice_get links j ≡ Some l → k.vl ≡ l.vl → k ≡ l
+one-link : (links : List LinkRow) (i j : ℕ) (k l : LinkRow) → AreDistinct (λ m. m.vl) links →
+    slice_get links i ≡ Some k → slice_get links j ≡ Some l → k.vl ≡ l.vl → k ≡ l
 unfolding AreDistinct
 one-link links i j k l distinct at there same =
     let places : i ≡ j = distinct i j k l at there same in
@@ -89,7 +94,8 @@ rows-are t lawful = record {
       sym a.is ∙ ap (λ z. row_of t z) (one-link t.links a.place b.place a.own b.own lawful.links.identifiers a.stands b.stands vls) ∙ b.is);
 }
 
-flows-same : (t : Rows) (system : ℕ) (links : List LinkRow) → flows_at system (map (row_of t) links) ≡ flows_to links system
+flows-same : (t : Rows) (system : ℕ) (links : List LinkRow) →
+    flows_at system (map (row_of t) links) ≡ flows_to links system
 flows-same t system [] = refl
 flows-same t system (l ∷ ls) =
     let rest = flows-same t system ls in
@@ -105,7 +111,8 @@ output-served t side system s lawful admitted at =
       served = record { line = omega (arith, line); rows_are = rows-are t lawful; admitted = subst P (sym flows) (admitted.ports system s at) };
     }
 
-sent-sum : (b : ℕ) (class : Priority) (own links : List LinkRow) → one_of_each b (map (sent_flow b class own) links) ≡ sum_by (λ k. (k.lmax + 20) * b) links
+sent-sum : (b : ℕ) (class : Priority) (own links : List LinkRow) →
+    one_of_each b (map (sent_flow b class own) links) ≡ sum_by (λ k. (k.lmax + 20) * b) links
 sent-sum b class own [] = refl
 sent-sum b class own (l ∷ ls) =
     let rest = sent-sum b class own ls in

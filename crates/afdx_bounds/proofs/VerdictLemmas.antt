@@ -34,7 +34,8 @@ record Clean (fault : Option Reason) (fit : Bool) : Type 0 where
   clean : fault ≡ None
   fits-in : fit ≡ true
 
-clean-from : (fault : Option Reason) (fit : Bool) → is_none (option_or fault (if fit then None else Some OverRate)) ≡ true → Clean fault fit
+clean-from : (fault : Option Reason) (fit : Bool) →
+    is_none (option_or fault (if fit then None else Some OverRate)) ≡ true → Clean fault fit
 clean-from None true h = record { clean = refl; fits-in = refl }
 clean-from None false h = absurd (cc h)
 clean-from (Some r) fit h = absurd (cc h)
@@ -51,7 +52,8 @@ pub record Looks (rule : Rule) (accepted : List Charged) (x : Arrival) : Type 0 
   pub short : length x.bytes ≤ rule.lmax
   pub fit : fits (regulation_of rule) accepted (charged_by rule x) ≡ true
 
-looks-from : (rule : Rule) (accepted : List Charged) (x : Arrival) → is_none (drop_reason rule accepted x) ≡ true → Looks rule accepted x
+looks-from : (rule : Rule) (accepted : List Charged) (x : Arrival) → is_none (drop_reason rule accepted x) ≡ true →
+    Looks rule accepted x
 unfolding fault_of
 looks-from rule accepted x h =
     let c = clean-from (fault_of (Some rule) x.port x.bytes) (fits (regulation_of rule) accepted (charged_by rule x)) h in
@@ -62,11 +64,13 @@ looks-from rule accepted x h =
       fit = c.fits-in;
     }
 
-pub looks : (r : Row) (past : List Arrival) (x : Arrival) → accepts past x r ≡ true → Looks r.rule (accepted_own r.rule (own r.rule.vl x.side past)) x
+pub looks : (r : Row) (past : List Arrival) (x : Arrival) → accepts past x r ≡ true →
+    Looks r.rule (accepted_own r.rule (own r.rule.vl x.side past)) x
 unfolding reason_after
 looks r past x h = looks-from r.rule (accepted_own r.rule (own r.rule.vl x.side past)) x h
 
-pub charge-least : (p : Policing) (smax wire : ℕ) → wire ≤ smax → (wire ≤ charge_by p smax wire) × (charge_by p smax wire ≤ smax)
+pub charge-least : (p : Policing) (smax wire : ℕ) → wire ≤ smax →
+    (wire ≤ charge_by p smax wire) × (charge_by p smax wire ≤ smax)
 charge-least Byte smax wire h = (omega arith, h)
 charge-least Frame smax wire h = (h, omega arith)
 
@@ -76,7 +80,8 @@ same-side A B h = absurd (cc h)
 same-side B A h = absurd (cc h)
 same-side B B h = refl
 
-same-named : (o : Option VlId) (a b : ℕ) → option_map_or (λ vl. vl.0 == a) o false ≡ true → option_map_or (λ vl. vl.0 == b) o false ≡ true → a ≡ b
+same-named : (o : Option VlId) (a b : ℕ) → option_map_or (λ vl. vl.0 == a) o false ≡ true →
+    option_map_or (λ vl. vl.0 == b) o false ≡ true → a ≡ b
 same-named None a b h k = absurd (cc h)
 same-named (Some v) a b h k = sym (eqb-true v.0 a h) ∙ eqb-true v.0 b k
 
@@ -86,7 +91,9 @@ unfolding names
 one-name a b bytes h k = same-named (link_named_by bytes) a b h k
 
 -- what is accepted of a link's own arrivals, the newest of which may be one that it accepts
-own-more : (rule : Rule) (side : Side) (past : List Arrival) (x : Arrival) (accepted : Bool) → side ≡ x.side → is_none (reason_after rule (own rule.vl x.side past) x) ≡ accepted → names rule.vl x.bytes ≡ true → is_side side x.side ≡ true →
+own-more : (rule : Rule) (side : Side) (past : List Arrival) (x : Arrival) (accepted : Bool) → side ≡ x.side →
+    is_none (reason_after rule (own rule.vl x.side past) x) ≡ accepted → names rule.vl x.bytes ≡ true →
+    is_side side x.side ≡ true →
     accepted_own rule (own rule.vl side (x ∷ past)) ≡ (if accepted then charged_by rule x ∷ accepted_own rule (own rule.vl side past) else accepted_own rule (own rule.vl side past))
 unfolding reason_after accepted_own
 own-more rule side past x accepted same is named on =

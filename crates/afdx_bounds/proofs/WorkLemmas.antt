@@ -1,9 +1,8 @@
 -- The weights of the entries without a turn.
-use Rattle.std.proofs.Common.{◌≡◌, ◌≢◌, ℕ, ◌+◌, ◌<◌, ◌≤◌, ◌==◌, ◌&&◌, ◌||◌, Bool, true, false, List, [], ◌∷◌, ◌++◌, Some, ◌⊎◌, inl, inr, refl, ap, subst, arith, if◌then◌else◌, suc, zero}
+use Rattle.std.proofs.Common.{◌≡◌, ◌≢◌, ℕ, ◌+◌, ◌<◌, ◌≤◌, ◌&&◌, ◌||◌, Bool, true, false, List, [], ◌∷◌, ◌++◌, Some, ◌⊎◌, inl, inr, refl, ap, subst, arith, if◌then◌else◌, suc, zero}
 use Rattle.std.specs.Prelude.{nat_le}
 use Rattle.std.specs.List.{slice_get}
 use Rattle.std.proofs.lemmas.Bool.{le-leb, leb-true}
-use Rattle.std.proofs.lemmas.Bool.Decides.{nat_tests}
 use Rattle.afdx_frame.specs.declared.link.Priority.{Priority}
 use Rattle.afdx_frame.specs.declared.link.Priority.TheVariants.{High, Low}
 use Rattle.afdx_port.specs.Schedule.{Entry, Turn, has_turn, bytes_without_turn}
@@ -36,7 +35,8 @@ and_split true b h = (refl, h)
 and_split false b h = absurd (cc h)
 
 module _ {X : Type 0} where
-  above : (weight : Entry X → ℕ) (s : Turn X) (turns : List (Turn X)) (place : ℕ) (es : List (Entry X)) → s.place < place → left_over weight (s ∷ turns) place es ≡ left_over weight turns place es
+  above : (weight : Entry X → ℕ) (s : Turn X) (turns : List (Turn X)) (place : ℕ) (es : List (Entry X)) →
+      s.place < place → left_over weight (s ∷ turns) place es ≡ left_over weight turns place es
   above weight s turns place [] lt = refl
   above weight s turns place (e ∷ es) lt =
       let other : s.place ≢ place = λ q. omega arith in
@@ -44,7 +44,8 @@ module _ {X : Type 0} where
       rw (eqb-other s.place place other) (ap (λ n. (if has_turn turns place then 0 else weight e) + n) rest)
 
   -- a turn takes its entry's weight
-  pub served : (weight : Entry X → ℕ) (s : Turn X) (turns : List (Turn X)) (place i : ℕ) (e : Entry X) (es : List (Entry X)) → slice_get es i ≡ Some e → s.place ≡ place + i → has_turn turns s.place ≡ false →
+  pub served : (weight : Entry X → ℕ) (s : Turn X) (turns : List (Turn X)) (place i : ℕ) (e : Entry X)
+      (es : List (Entry X)) → slice_get es i ≡ Some e → s.place ≡ place + i → has_turn turns s.place ≡ false →
       left_over weight (s ∷ turns) place es + weight e ≡ left_over weight turns place es
   served weight s turns place i e [] h at free = cc
   served weight s turns place zero e (d ∷ ds) h at free =
@@ -72,7 +73,8 @@ module _ {X : Type 0} where
       ]
 
   -- and of one class
-  pub one_class : (weight : Entry X → ℕ) (turns : List (Turn X)) (class : Priority) (since until place : ℕ) (es : List (Entry X)) →
+  pub one_class : (weight : Entry X → ℕ) (turns : List (Turn X)) (class : Priority) (since until place : ℕ)
+      (es : List (Entry X)) →
       ((i : ℕ) (e : Entry X) → slice_get es i ≡ Some e → has_turn turns (place + i) ≡ false → weight e ≤ wire_in class since until e) →
       left_over weight turns place es ≤ wire_between class since until es
   one_class weight turns class since until place [] each = omega arith
@@ -84,7 +86,8 @@ module _ {X : Type 0} where
       ]
 
   -- the lengths of the entries without a turn are at most their weights, if that is so of each
-  pub bytes_weigh : (weight : Entry X → ℕ) (turns : List (Turn X)) (place : ℕ) (es : List (Entry X)) → ((i : ℕ) (e : Entry X) → slice_get es i ≡ Some e → e.bytes ≤ weight e) →
+  pub bytes_weigh : (weight : Entry X → ℕ) (turns : List (Turn X)) (place : ℕ) (es : List (Entry X)) →
+      ((i : ℕ) (e : Entry X) → slice_get es i ≡ Some e → e.bytes ≤ weight e) →
       bytes_without_turn turns place es ≤ left_over weight turns place es
   bytes_weigh weight turns place [] each = omega arith
   bytes_weigh weight turns place (e ∷ es) each =
@@ -92,7 +95,8 @@ module _ {X : Type 0} where
       let here = each 0 e refl in
       elim (bool_cases (has_turn turns place)) [ inl has ↦ rw has (omega (arith, rest)) | inr free ↦ rw free (omega (arith, rest, here)) ]
 
-  pub same_left : (v w : Entry X → ℕ) (turns : List (Turn X)) (place : ℕ) (es : List (Entry X)) → ((i : ℕ) (e : Entry X) → slice_get es i ≡ Some e → v e ≡ w e) →
+  pub same_left : (v w : Entry X → ℕ) (turns : List (Turn X)) (place : ℕ) (es : List (Entry X)) →
+      ((i : ℕ) (e : Entry X) → slice_get es i ≡ Some e → v e ≡ w e) →
       left_over v turns place es ≡ left_over w turns place es
   same_left v w turns place [] each = refl
   same_left v w turns place (e ∷ es) each =
@@ -100,23 +104,27 @@ module _ {X : Type 0} where
       let here : v e ≡ w e = each 0 e refl in
       rw (rest, here) refl
 
-  pub left_add : (v w : Entry X → ℕ) (turns : List (Turn X)) (place : ℕ) (es : List (Entry X)) → left_over (λ e. v e + w e) turns place es ≡ left_over v turns place es + left_over w turns place es
+  pub left_add : (v w : Entry X → ℕ) (turns : List (Turn X)) (place : ℕ) (es : List (Entry X)) →
+      left_over (λ e. v e + w e) turns place es ≡ left_over v turns place es + left_over w turns place es
   left_add v w turns place [] = refl
   left_add v w turns place (e ∷ es) =
       let rest = left_add v w turns (place + 1) es in
       elim (bool_cases (has_turn turns place)) [ inl has ↦ rw has (omega (arith, rest)) | inr free ↦ rw free (omega (arith, rest)) ]
 
   -- a further entry
-  pub between_push : (class : Priority) (since until : ℕ) (es : List (Entry X)) (e : Entry X) → wire_between class since until (es ++ e ∷ []) ≡ wire_between class since until es + wire_in class since until e
+  pub between_push : (class : Priority) (since until : ℕ) (es : List (Entry X)) (e : Entry X) →
+      wire_between class since until (es ++ e ∷ []) ≡ wire_between class since until es + wire_in class since until e
   between_push class since until [] e = omega arith
   between_push class since until (d ∷ ds) e = let rest = between_push class since until ds e in omega (arith, rest)
 
   -- an entry of the class in the interval counts in full
-  pub wire_full : (class : Priority) (since until : ℕ) (e : Entry X) → e.priority ≡ class → since ≤ e.time → e.time ≤ until → wire_in class since until e ≡ e.bytes + 20
+  pub wire_full : (class : Priority) (since until : ℕ) (e : Entry X) → e.priority ≡ class → since ≤ e.time →
+      e.time ≤ until → wire_in class since until e ≡ e.bytes + 20
   wire_full class since until e same from to = rw (class_same e.priority class same, le-leb since e.time from, le-leb e.time until to) refl
 
   -- an interval that begins later misses nothing, if the class's entries come later
-  pub wire_later : (class : Priority) (since until : ℕ) (e : Entry X) → (e.priority ≡ class → since ≤ e.time) → wire_in class 0 until e ≤ wire_in class since until e
+  pub wire_later : (class : Priority) (since until : ℕ) (e : Entry X) → (e.priority ≡ class → since ≤ e.time) →
+      wire_in class 0 until e ≤ wire_in class since until e
   wire_later class since until e later =
       elim (bool_cases (comes_between class 0 until e)) [
         | inr out ↦ rw out (omega arith)

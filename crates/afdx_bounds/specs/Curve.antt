@@ -31,12 +31,14 @@ module _ {X : Type 0} where
 
   -- in no interval does more of the class come than the burst, and the rate for as long as the interval lasts
   abbrev pub KeepsCurve : Priority → Curve → List (Entry X) → Type 0
-  KeepsCurve class curve entries = (since until : ℕ) → since ≤ until → byte_units * wire_between class since until entries ≤ curve.burst + curve.rate * (until - since)
+  KeepsCurve class curve entries = (since until : ℕ) → since ≤ until →
+      byte_units * wire_between class since until entries ≤ curve.burst + curve.rate * (until - since)
 
   -- what the entries weigh that have none of these turns. The first entry stands at this place
   abbrev pub left_over : (Entry X → ℕ) → List (Turn X) → ℕ → List (Entry X) → ℕ
   left_over weight turns place [] = 0
-  left_over weight turns place (e ∷ es) = (if has_turn turns place then 0 else weight e) + left_over weight turns (place + 1) es
+  left_over weight turns place (e ∷ es) = (if has_turn turns place then 0 else weight e) + left_over weight turns
+      (place + 1) es
 
   -- what the entries weigh that wait at t
   abbrev pub waiting : (Entry X → ℕ) → List (Entry X) → List (Turn X) → ℕ → ℕ
@@ -50,10 +52,12 @@ module _ {X : Type 0} where
   abbrev pub work_left : ℕ → List (Entry X) → List (Turn X) → ℕ → ℕ
   work_left byte_ns entries turns t = byte_ns * waiting wire entries turns t + slot_left turns t
 
-  -- the work left at t that goes before a high frame: the high frames that wait, and the rest of the slot that has begun
+  -- the work left at t that goes before a high frame: the high frames that wait, and the rest of the slot that has
+  -- begun
   abbrev pub high_work_left : ℕ → List (Entry X) → List (Turn X) → ℕ → ℕ
   high_work_left byte_ns entries turns t = byte_ns * waiting (wire_in High 0 t) entries turns t + slot_left turns t
 
   -- the work left at t that goes before a low frame that came at `came`, with those that came with it
   abbrev pub low_work_left : ℕ → List (Entry X) → List (Turn X) → ℕ → ℕ → ℕ
-  low_work_left byte_ns entries turns came t = byte_ns * waiting (wire_in Low 0 came) entries turns t + high_work_left byte_ns entries turns t
+  low_work_left byte_ns entries turns came t = byte_ns * waiting
+      (wire_in Low 0 came) entries turns t + high_work_left byte_ns entries turns t

@@ -8,7 +8,8 @@ use Rattle.afdx_bounds.specs.Policed.{IsRegulated}
 module _ {X : Type 0} where
   -- the frames that wait at the port leave no room for this one
   abbrev pub is_lost : ℕ → ℕ → List (Entry X) → Entry X → Bool
-  is_lost byte_ns buffer entries new = nat_lt buffer (waiting_bytes entries (schedule_of byte_ns entries) new.time + new.bytes)
+  is_lost byte_ns buffer entries new = nat_lt buffer
+      (waiting_bytes entries (schedule_of byte_ns entries) new.time + new.bytes)
 
   -- the entries, by adding the last offer unless it is lost
   abbrev pub with_offer : ℕ → ℕ → List (Entry X) → Entry X → List (Entry X)
@@ -20,5 +21,7 @@ module _ {X : Type 0} where
 
 -- where the port is admitted, and all offers are policed and in order, each of them is an entry
 abbrev pub OffersAreEntries : Type 0 → Type 0
-OffersAreEntries X = (byte_ns buffer : ℕ) (flows : List Flow) (vl_of : X → ℕ) (charge_of : Entry X → ℕ) (offers : List (Entry X)) →
-    IsRegulated byte_ns buffer flows vl_of charge_of (reverse offers) → entries_of byte_ns buffer offers ≡ reverse offers
+OffersAreEntries X =
+    (byte_ns buffer : ℕ) (flows : List Flow) (vl_of : X → ℕ) (charge_of : Entry X → ℕ) (offers : List (Entry X)) →
+    IsRegulated byte_ns buffer flows vl_of charge_of (reverse offers) →
+    entries_of byte_ns buffer offers ≡ reverse offers

@@ -1,4 +1,5 @@
--- The entries of an output port of a switch, from the tables and from all that arrives. A list of arrivals has the newest first.
+-- The entries of an output port of a switch, from the tables and from all that arrives. A list of arrivals has the
+-- newest first.
 use Rattle.std.specs.Prelude.{◌≡◌, ℕ, ◌+◌, ◌≤◌, ◌==◌, ◌&&◌, Bool, true, is_none, All, Contains, IsTrue, Option, Some, None, List, [], ◌∷◌, length, filter, map, find}
 use Rattle.std.specs.Option.{option_map_or}
 use Rattle.afdx_frame.specs.declared.link.Priority.{Priority}
@@ -13,7 +14,8 @@ use Rattle.afdx_port.specs.Schedule.{Entry}
 use Rattle.afdx_bounds.specs.Curve.{wire}
 use Rattle.afdx_bounds.specs.Offered.{entries_of}
 
--- a link of the tables: its rule, its class, its latency in ns, how long its frames may wait for a turn if there is a limit, and the output ports that it goes to
+-- a link of the tables: its rule, its class, its latency in ns, how long its frames may wait for a turn if there is a
+-- limit, and the output ports that it goes to
 pub record Row : Type 0 where
   pub rule : Rule
   pub priority : Priority
@@ -66,16 +68,20 @@ module _ {X : Type 0} where
   -- what the port is offered of all of these arrivals, the newest first
   unfoldable pub offers_at : (Arrival → X) → List Row → Output → List Arrival → List (Entry X)
   offers_at item_of rows o [] = []
-  offers_at item_of rows o (x ∷ past) = with_sent item_of x (find (sends o past x) rows) (offers_at item_of rows o past)
+  offers_at item_of rows o (x ∷ past) = with_sent item_of x (find (sends o past x) rows)
+      (offers_at item_of rows o past)
 
   -- its entries then
   abbrev pub entries_at : (Arrival → X) → List Row → Output → List Arrival → List (Entry X)
   entries_at item_of rows o arrivals = entries_of o.byte_ns o.buffer (offers_at item_of rows o arrivals)
 
   -- what a port holds of a frame tells its link and its charge
-  pub record Carries (item_of : Arrival → X) (vl_of : X → ℕ) (charge_of : Entry X → ℕ) (rows : List Row) : Type 0 where
-    pub link : (r : Row) (x : Arrival) → Contains rows r → names r.rule.vl x.bytes ≡ true → vl_of (item_of x) ≡ r.rule.vl
-    pub charge : (r : Row) (x : Arrival) → Contains rows r → names r.rule.vl x.bytes ≡ true → charge_of (entry_of item_of r x) ≡ (charged_by r.rule x).charge
+  pub record Carries (item_of : Arrival → X) (vl_of : X → ℕ) (charge_of : Entry X → ℕ)
+      (rows : List Row) : Type 0 where
+    pub link : (r : Row) (x : Arrival) → Contains rows r → names r.rule.vl x.bytes ≡ true →
+        vl_of (item_of x) ≡ r.rule.vl
+    pub charge : (r : Row) (x : Arrival) → Contains rows r → names r.rule.vl x.bytes ≡ true →
+        charge_of (entry_of item_of r x) ≡ (charged_by r.rule x).charge
 
   -- the link that the bytes of an item name; none is 65536
   abbrev pub link_in : (X → List ℕ) → X → ℕ
@@ -84,9 +90,12 @@ module _ {X : Type 0} where
   -- what its row charges for an entry
   abbrev pub charge_in : (X → List ℕ) → List Row → Entry X → ℕ
   charge_in bytes_of rows e =
-      option_map_or (λ r. charge_by r.rule.policing (r.rule.lmax + 20) (wire e)) (find (λ r. r.rule.vl == link_in bytes_of e.item) rows) 0
+      option_map_or (λ r. charge_by r.rule.policing (r.rule.lmax + 20) (wire e))
+      (find (λ r. r.rule.vl == link_in bytes_of e.item) rows) 0
 
 -- an item that keeps the frame's bytes does
 abbrev pub BytesCarry : Type 0 → Type 0
-BytesCarry X = (item_of : Arrival → X) (bytes_of : X → List ℕ) (rows : List Row) → AreRows rows → ((x : Arrival) → bytes_of (item_of x) ≡ x.bytes) →
+BytesCarry X =
+    (item_of : Arrival → X) (bytes_of : X → List ℕ) (rows : List Row) → AreRows rows →
+    ((x : Arrival) → bytes_of (item_of x) ≡ x.bytes) →
     Carries item_of (link_in bytes_of) (charge_in bytes_of rows) rows

@@ -19,13 +19,15 @@ module _ {X : Type 0} where
 
   -- the entries of one link as the window rule sees them, the newest first
   abbrev pub charged_to : (X → ℕ) → (Entry X → ℕ) → ℕ → List (Entry X) → List Charged
-  charged_to vl_of charge_of vl entries = reverse (map (charged_as charge_of) (filter (λ e. vl_of e.item == vl) entries))
+  charged_to vl_of charge_of vl entries = reverse
+      (map (charged_as charge_of) (filter (λ e. vl_of e.item == vl) entries))
 
   -- the frame may wait for so many nanoseconds and isn't too old yet
   abbrev pub MayWait : ℕ → Entry X → Type 0
   MayWait ns e = IfSome e.longest_wait (λ wait. ns ≤ wait)
 
-  -- an entry is of one of the flows, has its class, and is charged its wire size at least, and the flow's greatest one at most
+  -- an entry is of one of the flows, has its class, and is charged its wire size at least, and the flow's greatest
+  -- one at most
   pub record IsCharged (vl_of : X → ℕ) (charge_of : Entry X → ℕ) (flows : List Flow) (e : Entry X) : Type 0 where
     pub flow : Flow
     pub stands : Contains flows flow
@@ -35,12 +37,15 @@ module _ {X : Type 0} where
     pub at_most : charge_of e ≤ flow.link.smax
 
   -- each entry is so charged, and those of each flow are what the window rule accepts of some frames
-  pub record ArePoliced (vl_of : X → ℕ) (charge_of : Entry X → ℕ) (flows : List Flow) (entries : List (Entry X)) : Type 0 where
+  pub record ArePoliced (vl_of : X → ℕ) (charge_of : Entry X → ℕ) (flows : List Flow)
+      (entries : List (Entry X)) : Type 0 where
     pub charged : All (λ e. IsCharged vl_of charge_of flows e) entries
-    pub accepted : (f : Flow) → Contains flows f → (came : List Charged) × (charged_to vl_of charge_of f.vl entries ≡ accepted_of f.link came)
+    pub accepted : (f : Flow) → Contains flows f →
+        (came : List Charged) × (charged_to vl_of charge_of f.vl entries ≡ accepted_of f.link came)
 
   -- the port is admitted with its flows, and its entries, which are policed, stand in the order of their times
-  pub record IsRegulated (byte_ns buffer : ℕ) (flows : List Flow) (vl_of : X → ℕ) (charge_of : Entry X → ℕ) (entries : List (Entry X)) : Type 0 where
+  pub record IsRegulated (byte_ns buffer : ℕ) (flows : List Flow) (vl_of : X → ℕ) (charge_of : Entry X → ℕ)
+      (entries : List (Entry X)) : Type 0 where
     pub line : 0 < byte_ns
     pub flows_are : AreFlows flows
     pub admitted : IsPortAdmitted byte_ns buffer flows

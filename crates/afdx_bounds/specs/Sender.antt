@@ -11,7 +11,8 @@ use Rattle.afdx_bounds.specs.Policed.{AreFlows, charged_to, IsCharged, IsRegulat
 abbrev pub one_of_each : ℕ → List Flow → ℕ
 one_of_each byte_ns flows = sum_by (λ f. f.link.smax * byte_ns) flows
 
--- a link as its sender's own port sees it: of the port's one class, released with no jitter, and in time if one frame of each link has been sent since its release
+-- a link as its sender's own port sees it: of the port's one class, released with no jitter, and in time if one frame
+-- of each link has been sent since its release
 pub record IsSent (byte_ns : ℕ) (class : Priority) (flows : List Flow) (f : Flow) : Type 0 where
   pub own_class : f.priority ≡ class
   pub regular : f.link.jitter_us ≡ 0
@@ -26,26 +27,39 @@ pub record IsSender (byte_ns : ℕ) (class : Priority) (flows : List Flow) : Typ
 
 -- such links are admitted at a port of 65,536 bytes
 abbrev pub SenderIsAdmitted : Type 0
-SenderIsAdmitted = (byte_ns : ℕ) (class : Priority) (flows : List Flow) → IsSender byte_ns class flows → IsPortAdmitted byte_ns 65536 flows
+SenderIsAdmitted =
+    (byte_ns : ℕ) (class : Priority) (flows : List Flow) → IsSender byte_ns class flows →
+    IsPortAdmitted byte_ns 65536 flows
 
 -- the entries of each link are a stream that keeps the link's gap
 abbrev pub AreReleased : {X : Type 0} → (X → ℕ) → (Entry X → ℕ) → List Flow → List (Entry X) → Type 0
-AreReleased vl_of charge_of flows entries = (f : Flow) → Contains flows f → (next : ℕ) × IsRegular f.link (charged_to vl_of charge_of f.vl entries) next
+AreReleased vl_of charge_of flows entries =
+    (f : Flow) → Contains flows f → (next : ℕ) × IsRegular f.link (charged_to vl_of charge_of f.vl entries) next
 
 -- so what such streams release there is policed
 abbrev pub SenderIsRegulated : Type 0 → Type 0
-SenderIsRegulated X = (byte_ns : ℕ) (class : Priority) (flows : List Flow) (vl_of : X → ℕ) (charge_of : Entry X → ℕ) (entries : List (Entry X)) →
-    IsSender byte_ns class flows → AreInOrder entries → All (λ e. IsCharged vl_of charge_of flows e) entries → AreReleased vl_of charge_of flows entries →
+SenderIsRegulated X =
+    (byte_ns : ℕ) (class : Priority) (flows : List Flow) (vl_of : X → ℕ) (charge_of : Entry X → ℕ)
+    (entries : List (Entry X)) →
+    IsSender byte_ns class flows → AreInOrder entries → All (λ e. IsCharged vl_of charge_of flows e) entries →
+    AreReleased vl_of charge_of flows entries →
     IsRegulated byte_ns 65536 flows vl_of charge_of entries
 
 -- the port is never full
 abbrev pub SenderIsNeverFull : Type 0 → Type 0
-SenderIsNeverFull X = (byte_ns : ℕ) (class : Priority) (flows : List Flow) (vl_of : X → ℕ) (charge_of : Entry X → ℕ) (entries : List (Entry X)) (turns : List (Turn X)) (new : Entry X) →
-    IsSender byte_ns class flows → AreInOrder (entries ++ new ∷ []) → All (λ e. IsCharged vl_of charge_of flows e) (entries ++ new ∷ []) → AreReleased vl_of charge_of flows (entries ++ new ∷ []) →
+SenderIsNeverFull X =
+    (byte_ns : ℕ) (class : Priority) (flows : List Flow) (vl_of : X → ℕ) (charge_of : Entry X → ℕ)
+    (entries : List (Entry X)) (turns : List (Turn X)) (new : Entry X) →
+    IsSender byte_ns class flows → AreInOrder (entries ++ new ∷ []) →
+    All (λ e. IsCharged vl_of charge_of flows e) (entries ++ new ∷ []) →
+    AreReleased vl_of charge_of flows (entries ++ new ∷ []) →
     IsSchedule byte_ns entries turns → IsLost 65536 entries turns new.time new.bytes → ⊥
 
 -- and each frame has been sent when one frame of each link could have been since its release
 abbrev pub SenderIsInTime : Type 0 → Type 0
-SenderIsInTime X = (byte_ns : ℕ) (class : Priority) (flows : List Flow) (vl_of : X → ℕ) (charge_of : Entry X → ℕ) (entries : List (Entry X)) (turns : List (Turn X)) →
-    IsSender byte_ns class flows → AreInOrder entries → All (λ e. IsCharged vl_of charge_of flows e) entries → AreReleased vl_of charge_of flows entries →
+SenderIsInTime X =
+    (byte_ns : ℕ) (class : Priority) (flows : List Flow) (vl_of : X → ℕ) (charge_of : Entry X → ℕ)
+    (entries : List (Entry X)) (turns : List (Turn X)) →
+    IsSender byte_ns class flows → AreInOrder entries → All (λ e. IsCharged vl_of charge_of flows e) entries →
+    AreReleased vl_of charge_of flows entries →
     AreTurns byte_ns entries turns → All (λ s. s.end ≤ s.entry.time + one_of_each byte_ns flows) turns

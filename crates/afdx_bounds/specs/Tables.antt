@@ -47,7 +47,9 @@ pub record ServesTables (t : Rows) (side : Side) (system : ℕ) (s : SystemRow) 
   pub served : IsServed (rows_of t) (output_to t side system s)
 
 abbrev pub EachOutputIsServed : Type 0
-EachOutputIsServed = (t : Rows) (side : Side) (system : ℕ) (s : SystemRow) → IsLawful t → IsAdmitted t → slice_get t.systems system ≡ Some s → ServesTables t side system s
+EachOutputIsServed =
+    (t : Rows) (side : Side) (system : ℕ) (s : SystemRow) → IsLawful t → IsAdmitted t →
+    slice_get t.systems system ≡ Some s → ServesTables t side system s
 
 -- the links that a system sends, in one class, as its own port sees them
 abbrev pub sent_flow : ℕ → Priority → List LinkRow → LinkRow → Flow
@@ -59,9 +61,12 @@ sent_flow byte_ns class own l = record {
 }
 
 abbrev pub sent_flows : Rows → Priority → ℕ → SystemRow → List Flow
-sent_flows t class system s = map (sent_flow (byte_ns s) class (links_from t.links system)) (links_from t.links system)
+sent_flows t class system s = map (sent_flow (byte_ns s) class (links_from t.links system))
+    (links_from t.links system)
 
 -- where the tables are admitted, they are the links of a sender
 abbrev pub EachSystemIsSender : Type 0
-EachSystemIsSender = (t : Rows) (class : Priority) (system : ℕ) (s : SystemRow) → IsLawful t → IsAdmitted t → slice_get t.systems system ≡ Some s →
+EachSystemIsSender =
+    (t : Rows) (class : Priority) (system : ℕ) (s : SystemRow) → IsLawful t → IsAdmitted t →
+    slice_get t.systems system ≡ Some s →
     IsSender (byte_ns s) class (sent_flows t class system s)

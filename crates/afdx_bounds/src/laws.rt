@@ -9,7 +9,7 @@ ghost use Rattle.afdx_bounds.specs.Examples.{PairIsAdmitted, PairIsServed, Three
 ghost use Rattle.afdx_bounds.specs.Needed.{EachLineIsNeeded};
 ghost use Rattle.afdx_bounds.specs.Offered.{OffersAreEntries};
 ghost use Rattle.afdx_bounds.specs.Outputs.{BytesCarry};
-ghost use Rattle.afdx_bounds.specs.OutputLaws.{EntriesAreRegulated, EntriesAreAccepted, OffersEnter, ArrivalIsKept, ArrivalsAreInTime, ArrivalsAreNotOld, ArrivalsHaveLeft};
+ghost use Rattle.afdx_bounds.specs.OutputLaws.{SentIsOffered, UnsentIsNot, EntriesAreRegulated, EntriesAreAccepted, OffersEnter, ArrivalIsKept, ArrivalsAreInTime, ArrivalsAreNotOld, ArrivalsHaveLeft};
 ghost use Rattle.afdx_bounds.specs.PortLaws.{PutIsKept, TakenAreInTime, TakenAreNotOld, AllWereTaken};
 ghost use Rattle.afdx_bounds.specs.Sender.{SenderIsAdmitted, SenderIsRegulated, SenderIsNeverFull, SenderIsInTime};
 ghost use Rattle.afdx_bounds.specs.Tables.{EachOutputIsServed, EachSystemIsSender};
@@ -97,6 +97,12 @@ pub fn offers_are_entries<T>()
 {
     accounts_move()
 }
+
+/// What an output port is offered grows by an arrival exactly if a row sends it there.
+pub fn offers_grow<T>()
+    ensures sent { SentIsOffered T }
+    ensures unsent { UnsentIsNot T }
+{}
 
 /// A port that holds a frame's bytes knows its link and its charge.
 pub fn bytes_carry<T>()
