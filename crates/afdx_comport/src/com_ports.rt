@@ -69,7 +69,7 @@ impl ComPorts {
     /// The communication ports that the tables give the system, in the order of the tables. They hold nothing.
     /// Room is taken for each queue's depth, and for looking ports up. The error is want of memory alone.
     pub fn new(alloc: Global, tables: &Tables, system: SystemId) -> Result<ComPorts, AllocError>
-        ensures { IfOk result (λ ports. ports ≡ ports_at_first system.0 tables.now.ports) }
+        ensures ports { IfOk result (λ ports. ports ≡ ports_at_first system.0 tables.now.ports) }
     {
         let mut places = HashMap::new(alloc);
         let mut ports = Vec::new(alloc);
@@ -109,8 +109,9 @@ impl ComPorts {
             (result ≡ Err Full) ↔ IsTrue (is_full p.held) }
         ensures ok { (p : ComPort) → slice_get self.old port ≡ Some p →
             OnOk result
-                (self.new ≡ slice_set self.old port (record p { held = with_message time message.now p.held })) }
+            (self.new ≡ slice_set self.old port (record p { held = with_message time message.now p.held })) }
         ensures err { OnErr result (self.new ≡ self.old) }
+        ensures count { length self.new ≡ length self.old }
     {
         let alloc = self.alloc;
         self.ports[port].held.put(alloc, time, message)
@@ -120,7 +121,7 @@ impl ComPorts {
     /// `None` if nothing came yet, and at a queuing port. It takes no memory.
     pub fn read_sample(&self, port: usize) -> Option<(u64, &[u8])>
         requires { port < length self.now }
-        ensures { (p : ComPort) → slice_get self.now port ≡ Some p →
+        ensures sample { (p : ComPort) → slice_get self.now port ≡ Some p →
             option_map (λ s. record { time = s.0; bytes = s.1.now }) result ≡ sample_of p.held }
     {
         self.ports[port].held.sample()
@@ -134,6 +135,7 @@ impl ComPorts {
             option_map (λ m. m.items) result ≡ first_of p.held }
         ensures rest { (p : ComPort) → slice_get self.old port ≡ Some p →
             self.new ≡ slice_set self.old port (record p { held = without_first p.held }) }
+        ensures count { length self.new ≡ length self.old }
     {
         self.ports[port].held.take()
     }

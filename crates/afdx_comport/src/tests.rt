@@ -177,6 +177,20 @@ fn refused_put_leaves_the_sample(rt: HostRuntime) -> Result<(), Fail> {
 }
 
 #[test]
+fn put_and_read_at_once(rt: HostRuntime) -> Result<(), Fail> {
+    let mut ports = base_ports(rt.alloc())?;
+    let port = ports.find(VlId(2), 2000).ok_or("a port")?;
+    if ports.put(port, 5, &[1]) == Err(PutFault::Memory) {
+        assert_eq!(rt; ports.put(port, 5, &[1]), Ok(()));
+    }
+    assert!(rt; ports.read_sample(port).is_none());
+    let bytes = ports.take_queued(port).ok_or("a message")?;
+    assert_eq!(rt; bytes.as_slice(), [1].as_slice());
+    assert!(rt; ports.take_queued(port).is_none());
+    Ok(())
+}
+
+#[test]
 fn each_port_by_itself(rt: HostRuntime) -> Result<(), Fail> {
     let mut ports = base_ports(rt.alloc())?;
     assert!(rt; ports.find(VlId(1), 2000).is_none());

@@ -1,5 +1,7 @@
 pub mod AnswerLemmas
+pub mod CopyLemmas
 pub mod DeliveryLemmas
+pub mod OnceLemmas
 pub mod ReceiverLemmas
 pub mod ReceptionLemmas
 pub mod StepsLemmas

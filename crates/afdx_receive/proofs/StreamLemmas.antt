@@ -32,7 +32,7 @@ next-low n low = by (cases_lt n 255)
     by (inl below) = grind arith
     by (inr at) = grind arith
 
-steps_low : (k from : ℕ) → from ≤ 255 → after_steps k from ≤ 255
+pub steps_low : (k from : ℕ) → from ≤ 255 → after_steps k from ≤ 255
 unfolding after_steps
 steps_low zero from low = low
 steps_low (suc k) from low = next-low (after_steps k from) (steps_low k from low)
@@ -81,10 +81,10 @@ count_other : (frame : Incoming) (before : List Incoming) → count_of (other_si
 count_other frame before = ap length (cond-false (is_same_side frame.side (other_side frame.side)) (frame ∷ filter (λ (f : Incoming). is_same_side f.side (other_side frame.side)) before) (filter (λ (f : Incoming). is_same_side f.side (other_side frame.side)) before) (other_not frame.side))
 
 -- the greater count, seen from either side
-abbrev most_of : Side → List Incoming → ℕ
+abbrev pub most_of : Side → List Incoming → ℕ
 most_of side came = max (count_of side came) (count_of (other_side side) came)
 
-most_any : (side : Side) (came : List Incoming) → most_of side came ≡ max (count_of A came) (count_of B came)
+pub most_any : (side : Side) (came : List Incoming) → most_of side came ≡ max (count_of A came) (count_of B came)
 most_any A came = refl
 most_any B came = swap (count_of B came) (count_of A came)
   where
@@ -117,7 +117,7 @@ counted (frame ∷ before) = at (is_first_copy before frame) refl (counted befor
 
 -- ---- the last ones
 
-same_side-eq : (a b : Side) → is_same_side a b ≡ true → a ≡ b
+pub same_side-eq : (a b : Side) → is_same_side a b ≡ true → a ≡ b
 same_side-eq A A e = refl
 same_side-eq B B e = refl
 same_side-eq A B e = absurd (cc)

@@ -9,4 +9,5 @@ pub mod Memory
 pub mod StandsFor
 pub mod TwoStreams
 pub mod Delivery
+pub mod Copies
 pub mod Laws

@@ -4,8 +4,11 @@ ghost use Rattle.afdx_receive.specs.Laws.{WithinIsSomeSteps, FramesAreOwn, Answe
 ghost use Rattle.afdx_receive.specs.Laws.{AnswerIsComputed};
 ghost use Rattle.afdx_receive.specs.TwoStreams.{StandsByPlace, FirstCopiesWin, FirstCopiesAreCounted, SentIsWonOnce};
 ghost use Rattle.afdx_receive.specs.Delivery.{SentIsDeliveredOnce};
+ghost use Rattle.afdx_receive.specs.Copies.{StreamIsDeliveredOnce};
 
-use afdx_frame::laws::{datagram_is_computed, frame_is_computed, reading_is_computed};
+use afdx_frame::laws::{
+    built_is_computed, datagram_is_computed, frame_is_computed, reading_is_computed,
+};
 
 /// One to some number of steps lead to a number exactly if one of them does.
 pub fn within_is_some_steps()
@@ -61,3 +64,11 @@ pub fn next_stands_by_place()
 pub fn sent_is_delivered_once()
     ensures { SentIsDeliveredOnce }
 {}
+
+/// Of a lawful stream, whose copies come by each network in order and within a latency of at most the skew, exactly
+/// the messages to an open UDP port are delivered, each once and in order.
+pub fn stream_is_delivered_once()
+    ensures { StreamIsDeliveredOnce }
+{
+    built_is_computed();
+}

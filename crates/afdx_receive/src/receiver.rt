@@ -82,7 +82,7 @@ impl Receiver {
     /// A receiver of the system, to which nothing arrived. It takes room for all that it will keep. The error is
     /// want of memory alone.
     pub fn new(alloc: Global, tables: &Tables, system: SystemId) -> Result<Receiver, AllocError>
-        ensures { IfOk result (λ receiver. StandsFor tables.now system.0 receiver []) }
+        ensures stands { IfOk result (λ receiver. StandsFor tables.now system.0 receiver []) }
     {
         let links = links_of(alloc, tables, system)?;
         let ports = ports_of(alloc, tables, system)?;
