@@ -109,20 +109,36 @@ fn worked_lists(rt: HostRuntime) -> Result<(), Fail> {
     Ok(())
 }
 
+/// A frame of each wrong kind, and a right one.
+fn wrong_frames(alloc: Global) -> Result<String, AllocError> {
+    let short = zeros(alloc, 63)?;
+    let long = zeros(alloc, 1519)?;
+    let nowhere = zeros(alloc, 60)?;
+    format!(in alloc;
+        "B 0 A 1 {H1}\nR 0 A 1 {short}\nR 0 A 1 {long}\nR 0 A 1 0300000000\nF 0 A 1 {nowhere}\nF 0 A 1 {H9}\nF 0 A 1 {H1}00\nR 0 A 1 -\nF 0 A 1 {H1}\n"
+    )
+}
+
+/// Their verdicts.
+const WRONG_FRAMES: &str = "\
+V 1 A drop bad-fcs
+V 2 A drop too-short
+V 3 A drop too-long
+V 4 A drop too-short
+V 5 A drop bad-address
+V 6 A drop unknown-link
+V 7 A drop over-lmax
+V 8 A drop too-short
+V 9 A accept
+";
+
 #[test]
 fn each_kind_of_wrong_frame(rt: HostRuntime) -> Result<(), Fail> {
     let rule = rule(64).ok_or("a rule")?;
-    let short = zeros(rt.alloc(), 63)?;
-    let long = zeros(rt.alloc(), 1519)?;
-    let nowhere = zeros(rt.alloc(), 60)?;
-    let list = format!(in rt.alloc();
-        "B 0 A 1 {H1}\nR 0 A 1 {short}\nR 0 A 1 {long}\nR 0 A 1 0300000000\nF 0 A 1 {nowhere}\nF 0 A 1 {H9}\nF 0 A 1 {H1}00\nR 0 A 1 -\nF 0 A 1 {H1}\n"
-    )?;
-    let text =
-        "V 1 A drop bad-fcs\nV 2 A drop too-short\nV 3 A drop too-long\nV 4 A drop too-short\nV 5 A drop bad-address\nV 6 A drop unknown-link\nV 7 A drop over-lmax\nV 8 A drop too-short\nV 9 A accept\n";
+    let list = wrong_frames(rt.alloc())?;
     let (result, written) = answer(rt.alloc(), &rule, list.as_bytes());
     assert_eq!(rt; result, Ok(counts(9, 1, 8)));
-    assert!(rt; written.as_slice() == text.as_bytes());
+    assert!(rt; written.as_slice() == WRONG_FRAMES.as_bytes());
     Ok(())
 }
 

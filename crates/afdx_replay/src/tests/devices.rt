@@ -2,10 +2,12 @@
 
 ghost use Rattle.std.specs.Prelude.{◌<◌};
 
-use super::{rule, spelled};
+use super::{WRONG_FRAMES, rule, spelled, wrong_frames};
 use crate::{RunFault, Watched, run_police};
+use std::alloc::Global;
 use std::io;
 use std::io::{ErrorKind, Read, Write};
+use std::process::Abort;
 use std::test::Fail;
 
 /// What a writer does at the call where it breaks.
@@ -73,98 +75,163 @@ impl Write for WeakWriter {
 /// Enough calls for any of the lists.
 const ENOUGH: u64 = 100_000;
 
-/// The whole text of a list, and the text of its first `lines` whole lines.
-const LISTS: [(&str, &str); 3] = [
+/// Lists with their whole texts. Each line is a frame's; the last list ends with a fault.
+const LISTS: [(&str, &str); 4] = [
     (
         "F 0 A 1 H1\nF 499999 A 1 H1\nF 500000 A 1 H1\nF 1499999 A 1 H1\nF 1500000 A 1 H1\n",
         "V 1 A accept\nV 2 A drop over-rate\nV 3 A accept\nV 4 A drop over-rate\nV 5 A accept\n",
     ),
     (
-        "F 0 A 1 00\n#\nR 1 B 2 -\r\nF 2 A 1 0102",
-        "V 1 A drop too-short\nV 3 B drop too-short\nV 4 A drop too-short\n",
+        "F 0 A 1 00\nR 1 B 2 -\r\nF 2 A 1 0102",
+        "V 1 A drop too-short\nV 2 B drop too-short\nV 3 A drop too-short\n",
     ),
     (
         "F 0 A 2 H1\nF 0 B 1 H1",
         "V 1 A drop wrong-port\nV 2 B accept\n",
     ),
+    ("F 0 A 1 H1\nF 0 A", "V 1 A accept\n"),
 ];
 
-/// How often a byte stands in a text.
-fn count_of(text: &[u8], byte: u8) -> usize {
-    text.iter().filter(|each| **each == byte).count()
+/// How often a line feed stands in a text.
+fn feeds_in(text: &[u8]) -> usize {
+    text.iter().filter(|byte| **byte == b'\n').count()
+}
+
+/// Runs the list on a reader that fails after each number of calls, until none fails.
+fn fail_reads(
+    rt: &impl Abort,
+    alloc: Global,
+    list: &[u8],
+    text: &[u8],
+    most: usize,
+    first: u64,
+) -> Result<(), Fail>
+    requires { 0 < most }
+{
+    let rule = rule(64).ok_or("a rule")?;
+    for calls in first..ENOUGH + 1 {
+        let mut input = Watched::new(WeakReader {
+            rest: list,
+            most,
+            calls,
+        });
+        let mut output = Watched::new(Vec::new(alloc));
+        let result = run_police(alloc, &rule, &mut input, &mut output);
+        let (failed, ended) = (input.failed(), input.ended());
+        let left = input.into_inner().rest.len();
+        let written = output.into_inner();
+        if matches!(result, Err(RunFault::Read)) {
+            assert!(rt; failed && !ended);
+            assert!(rt; text.starts_with(written.as_slice()));
+            assert!(rt; left <= list.len());
+            let (read, _) = list.split_at(list.len().saturating_sub(left));
+            assert_eq!(rt; feeds_in(written.as_slice()), feeds_in(read));
+        } else {
+            assert!(rt; !failed);
+            assert!(rt; written.as_slice() == text);
+            return Ok(());
+        }
+    }
+    assert!(rt; false, "each run failed");
+    Ok(())
+}
+
+/// Runs the list on a writer that breaks after each number of calls, until none breaks.
+fn fail_writes(
+    rt: &impl Abort,
+    alloc: Global,
+    list: &[u8],
+    text: &[u8],
+    most: usize,
+    first: u64,
+    breaks: Break,
+) -> Result<(), Fail> {
+    let rule = rule(64).ok_or("a rule")?;
+    for calls in first..ENOUGH + 1 {
+        let mut input = Watched::new(list);
+        let mut output = Watched::new(WeakWriter {
+            written: Vec::new(alloc),
+            most,
+            calls,
+            breaks,
+        });
+        let result = run_police(alloc, &rule, &mut input, &mut output);
+        let failed = output.failed();
+        let written = output.into_inner().written;
+        if matches!(result, Err(RunFault::Write)) {
+            assert!(rt; failed);
+            assert!(rt; text.starts_with(written.as_slice()));
+        } else {
+            assert!(rt; !failed);
+            assert!(rt; written.as_slice() == text);
+            return Ok(());
+        }
+    }
+    assert!(rt; false, "each run failed");
+    Ok(())
 }
 
 #[test]
 fn each_read_fails(rt: HostRuntime) -> Result<(), Fail> {
-    let rule = rule(64).ok_or("a rule")?;
     for (list, text) in LISTS {
         let list = spelled(rt.alloc(), list)?;
-        for (most, calls) in [(16, None), (1, Some(ENOUGH))] {
-            for failing in 0..ENOUGH {
-                let mut input = Watched::new(WeakReader {
-                    rest: list.as_bytes(),
-                    most,
-                    calls: calls.unwrap_or(failing),
-                });
-                let mut output = Watched::new(Vec::new(rt.alloc()));
-                let result = run_police(rt.alloc(), &rule, &mut input, &mut output);
-                let failed = input.failed();
-                let ended = input.ended();
-                let left = input.into_inner().rest.len();
-                let written = output.into_inner();
-                match result {
-                    Ok(_) => {
-                        assert!(rt; ended && !failed);
-                        assert!(rt; written.as_slice() == text.as_bytes());
-                        break;
-                    }
-                    Err(RunFault::Read) => assert!(rt; failed && !ended),
-                    Err(fault) => assert!(rt; false, "{fault}"),
-                }
-                let read = &list.as_bytes()[..list.len() - left];
-                assert!(rt; text.as_bytes().starts_with(written.as_slice()));
-                let remarks = count_of(read, b'#');
-                assert_eq!(rt;
-                    count_of(written.as_slice(), b'\n') + remarks,
-                    count_of(read, b'\n').max(remarks)
-                );
-            }
-        }
+        fail_reads(&rt, rt.alloc(), list.as_bytes(), text.as_bytes(), 16, 0)?;
+        fail_reads(&rt, rt.alloc(), list.as_bytes(), text.as_bytes(), 1, ENOUGH)?;
     }
+    let list = wrong_frames(rt.alloc())?;
+    fail_reads(
+        &rt,
+        rt.alloc(),
+        list.as_bytes(),
+        WRONG_FRAMES.as_bytes(),
+        16,
+        0,
+    )?;
+    fail_reads(
+        &rt,
+        rt.alloc(),
+        list.as_bytes(),
+        WRONG_FRAMES.as_bytes(),
+        1,
+        ENOUGH,
+    )?;
     Ok(())
 }
 
 #[test]
 fn each_write_fails(rt: HostRuntime) -> Result<(), Fail> {
-    let rule = rule(64).ok_or("a rule")?;
-    for (list, text) in LISTS {
-        let list = spelled(rt.alloc(), list)?;
-        for breaks in [Break::Fails, Break::TakesNone] {
-            for (most, calls) in [(16, None), (1, Some(ENOUGH))] {
-                for failing in 0..ENOUGH {
-                    let mut input = Watched::new(list.as_bytes());
-                    let mut output = Watched::new(WeakWriter {
-                        written: Vec::new(rt.alloc()),
-                        most,
-                        calls: calls.unwrap_or(failing),
-                        breaks,
-                    });
-                    let result = run_police(rt.alloc(), &rule, &mut input, &mut output);
-                    let failed = output.failed();
-                    let written = output.into_inner().written;
-                    match result {
-                        Ok(_) => {
-                            assert!(rt; !failed);
-                            assert!(rt; written.as_slice() == text.as_bytes());
-                            break;
-                        }
-                        Err(RunFault::Write) => assert!(rt; failed),
-                        Err(fault) => assert!(rt; false, "{fault}"),
-                    }
-                    assert!(rt; text.as_bytes().starts_with(written.as_slice()));
-                }
-            }
+    for breaks in [Break::Fails, Break::TakesNone] {
+        for (list, text) in LISTS {
+            let list = spelled(rt.alloc(), list)?;
+            fail_writes(
+                &rt,
+                rt.alloc(),
+                list.as_bytes(),
+                text.as_bytes(),
+                16,
+                0,
+                breaks,
+            )?;
+            fail_writes(
+                &rt,
+                rt.alloc(),
+                list.as_bytes(),
+                text.as_bytes(),
+                1,
+                ENOUGH,
+                breaks,
+            )?;
         }
+        let list = wrong_frames(rt.alloc())?;
+        fail_writes(
+            &rt,
+            rt.alloc(),
+            list.as_bytes(),
+            WRONG_FRAMES.as_bytes(),
+            16,
+            0,
+            breaks,
+        )?;
     }
     Ok(())
 }
