@@ -1,6 +1,7 @@
 pub mod Exact
 pub mod FirstFalse
 pub mod LateLemmas
+pub mod LowBound
 pub mod OutputLemmas
 pub mod Outputs
 pub mod Pushed

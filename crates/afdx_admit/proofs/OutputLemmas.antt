@@ -1,7 +1,7 @@
 -- The first false line of an output port.
-use Rattle.std.proofs.Common.{◌≡◌, ℕ, ◌+◌, ◌-◌, ◌*◌, ◌<◌, ◌≤◌, ◌⊎◌, inl, inr, Bool, true, false, nat_le, List, [], ◌∷◌, ◌++◌, map, cond, Option, Some, None, if◌then◌else◌, refl, ap, ◌∙◌, arith}
+use Rattle.std.proofs.Common.{length, ◌≡◌, ℕ, ◌+◌, ◌-◌, ◌*◌, ◌<◌, ◌≤◌, ◌⊎◌, inl, inr, Bool, true, false, nat_le, List, [], ◌∷◌, ◌++◌, map, cond, Option, Some, None, if◌then◌else◌, refl, ap, ◌∙◌, arith}
 use Rattle.std.specs.Int.{div_ceil}
-use Rattle.std.specs.List.{AllByRecursion}
+use Rattle.std.specs.List.{AllByRecursion, Contains}
 use Rattle.std.specs.Option.{option_map}
 use Rattle.std.proofs.Math.Nat.{mul-le-mul_left}
 use Rattle.std.proofs.lemmas.List.Sums.{sum_by-cons}
@@ -125,6 +125,14 @@ module _ (byte_ns : ℕ) (some : 1 ≤ byte_ns) where
   split : (fs : List Flow) → AllByRecursion (λ f. 1 ≤ fill_rate f.link) fs → Split byte_ns fs (of_class High fs) (of_class Low fs)
   split [] h = record { at_most = omega arith; less = inl refl }
   split (f ∷ fs) h = split-cons f fs (of_class High fs) (of_class Low fs) h.0 (split fs h.1) f.priority
+
+  pub left_some_at : (fs : List Flow) (f : Flow) → AllByRecursion (λ g. 1 ≤ fill_rate g.link) fs → load byte_ns fs ≤ byte_units → Contains (of_class Low fs) f → 0 < byte_units - load byte_ns (of_class High fs)
+  left_some_at fs f rates fits stands =
+      let s = split fs rates in
+      elim s.less [
+        | inl none ↦ let within : stands.0 < length (of_class Low fs) = stands.1 in absurd (omega (arith, within, ap length none))
+        | inr fewer ↦ omega (arith, fewer, fits)
+      ]
 
   pub left_some : (fs : List Flow) (wait rest v : ℕ) → AllByRecursion (λ f. 1 ≤ fill_rate f.link) fs → load byte_ns fs ≤ byte_units → first_late wait rest (of_class Low fs) ≡ Some v → 0 < byte_units - load byte_ns (of_class High fs)
   unfolding first_late

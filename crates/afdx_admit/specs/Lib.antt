@@ -3,3 +3,4 @@ pub mod Sums
 pub mod Late
 pub mod FaultText
 pub mod Known
+pub mod Laws

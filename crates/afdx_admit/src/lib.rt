@@ -4,6 +4,7 @@
 mod admitted;
 mod bounds;
 mod fault;
+pub mod laws;
 mod lines;
 mod sums;
 

@@ -31,6 +31,12 @@ impl Text {
         }
     }
 
+    fn add_each(&mut self, pieces: &[&str]) {
+        for piece in pieces {
+            self.add(piece);
+        }
+    }
+
     fn as_slice(&self) -> &[u8] {
         if self.len <= 2048 {
             &self.bytes[..self.len]
@@ -81,35 +87,41 @@ const WIDE: LinkText = LinkText {
 };
 
 fn add_system(text: &mut Text, number: &str, rate: &str) {
-    text.add("[[system]]\nname = \"s");
-    text.add(number);
-    text.add("\"\nport = ");
-    text.add(number);
-    text.add("\nid = ");
-    text.add(number);
-    text.add("\npartition = 1\nrate = ");
-    text.add(rate);
-    text.add("\n");
+    text.add_each(&[
+        "[[system]]\nname = \"s",
+        number,
+        "\"\nport = ",
+        number,
+        "\nid = ",
+        number,
+        "\npartition = 1\nrate = ",
+        rate,
+        "\n",
+    ]);
 }
 
 fn add_link(text: &mut Text, link: &LinkText) {
-    text.add("[[link]]\npolicing = \"frame\"\nsubs = 1\nto = [\"s3\"]\nlmin = 64\nvl = ");
-    text.add(link.vl);
-    text.add("\nfrom = \"");
-    text.add(link.from);
-    text.add("\"\nbag_ms = ");
-    text.add(link.bag_ms);
-    text.add("\nlmax = ");
-    text.add(link.lmax);
-    text.add("\njitter_us = ");
-    text.add(link.jitter_us);
-    text.add("\npriority = \"");
-    text.add(link.priority);
-    text.add("\"\nlatency_us = ");
-    text.add(link.latency_us);
-    text.add("\nskew_us = ");
-    text.add(link.skew_us);
-    text.add("\n");
+    text.add_each(&[
+        "[[link]]\npolicing = \"frame\"\nsubs = 1\nto = [\"s3\"]\nlmin = 64\nvl = ",
+        link.vl,
+        "\nfrom = \"",
+        link.from,
+        "\"\nbag_ms = ",
+        link.bag_ms,
+        "\nlmax = ",
+        link.lmax,
+        "\njitter_us = ",
+        link.jitter_us,
+    ]);
+    text.add_each(&[
+        "\npriority = \"",
+        link.priority,
+        "\"\nlatency_us = ",
+        link.latency_us,
+        "\nskew_us = ",
+        link.skew_us,
+        "\n",
+    ]);
 }
 
 /// Three systems s1 to s3 on ports 1 to 3, whose last has another rate, and these links.
@@ -125,15 +137,23 @@ fn network(top: &str, rate: &str, last_rate: &str, links: &[LinkText]) -> Text {
     text
 }
 
-fn base(links: &[LinkText]) -> Text {
-    network("profile = 1\nbuffer = 252\n", "100", "100", links)
-}
-
-fn read(alloc: Global, text: &[u8]) -> Result<Tables, ConfigFault> {
-    match read_tables(alloc, text) {
-        Err(ConfigFault::Memory) => read_tables(alloc, text),
+/// The tables of such a network.
+fn tables_of(
+    alloc: Global,
+    top: &str,
+    rate: &str,
+    last_rate: &str,
+    links: &[LinkText],
+) -> Result<Tables, ConfigFault> {
+    let text = network(top, rate, last_rate, links);
+    match read_tables(alloc, text.as_slice()) {
+        Err(ConfigFault::Memory) => read_tables(alloc, text.as_slice()),
         answer => answer,
     }
+}
+
+fn base(alloc: Global, links: &[LinkText]) -> Result<Tables, ConfigFault> {
+    tables_of(alloc, "profile = 1\nbuffer = 252\n", "100", "100", links)
 }
 
 fn written(alloc: Global, text: AdmitText) -> Result<String, Fail> {
@@ -144,31 +164,35 @@ fn written(alloc: Global, text: AdmitText) -> Result<String, Fail> {
 }
 
 /// The text of the first false line, or an empty one.
-fn answer(alloc: Global, text: &Text) -> Result<String, Fail> {
-    match admit(read(alloc, text.as_slice())?) {
+fn answer(alloc: Global, tables: Tables) -> Result<String, Fail> {
+    match admit(tables) {
         Ok(_) => Ok(String::new(alloc)),
         Err((tables, fault)) => written(alloc, fault.text(&tables)),
     }
 }
 
+/// The high and the low bound, and the bytes needed.
+fn bounds(tables: &Tables, port: u8) -> (u64, Option<u64>, u64) {
+    (
+        high_bound(tables, port),
+        low_bound(tables, port),
+        buffer_need(tables, port),
+    )
+}
+
 #[test]
 fn base_bounds(rt: HostRuntime) -> Result<(), Fail> {
-    let tables = read(rt.alloc(), base(&[FIRST, SECOND]).as_slice())?;
+    let tables = base(rt.alloc(), &[FIRST, SECOND])?;
     for port in [0, 1, 2, 4, 24, 255] {
-        assert_eq!(rt; high_bound(&tables, port), 0);
-        assert_eq!(rt; low_bound(&tables, port), Some(0));
-        assert_eq!(rt; buffer_need(&tables, port), 0);
+        assert_eq!(rt; bounds(&tables, port), (0, Some(0), 0));
     }
-    assert_eq!(rt; high_bound(&tables, 3), 16_800);
-    assert_eq!(rt; low_bound(&tables, 3), Some(20_297));
-    assert_eq!(rt; buffer_need(&tables, 3), 252);
+    assert_eq!(rt; bounds(&tables, 3), (16_800, Some(20_297), 252));
     Ok(())
 }
 
 #[test]
 fn base_is_admitted(rt: HostRuntime) -> Result<(), Fail> {
-    let tables = read(rt.alloc(), base(&[FIRST, SECOND]).as_slice())?;
-    match admit(tables) {
+    match admit(base(rt.alloc(), &[FIRST, SECOND])?) {
         Ok(admitted) => assert_eq!(rt; admitted.tables().link_count(), 2),
         Err((_, fault)) => panic!(rt; "{fault:?}"),
     }
@@ -176,13 +200,12 @@ fn base_is_admitted(rt: HostRuntime) -> Result<(), Fail> {
 }
 
 #[test]
-fn refused_tables_come_back(rt: HostRuntime) -> Result<(), Fail> {
+fn tables_come_back(rt: HostRuntime) -> Result<(), Fail> {
     let late = LinkText {
         latency_us: "16",
         ..FIRST
     };
-    let tables = read(rt.alloc(), base(&[late, SECOND]).as_slice())?;
-    match admit(tables) {
+    match admit(base(rt.alloc(), &[late, SECOND])?) {
         Ok(_) => panic!(rt; "admitted"),
         Err((tables, fault)) => {
             assert_eq!(rt; tables.link_count(), 2);
@@ -195,38 +218,64 @@ fn refused_tables_come_back(rt: HostRuntime) -> Result<(), Fail> {
 #[test]
 fn one_value_changed(rt: HostRuntime) -> Result<(), Fail> {
     let a = rt.alloc();
-    let late = LinkText {
-        latency_us: "16",
-        ..FIRST
-    };
-    assert_eq!(rt; answer(a, &base(&[late, SECOND]))?.as_str(), "A3 3 1 16800");
-    let late = LinkText {
-        latency_us: "20",
-        ..SECOND
-    };
-    assert_eq!(rt; answer(a, &base(&[FIRST, late]))?.as_str(), "A4 3 2 20297");
-    let short = network(
+    for (first, second, text) in [
+        (
+            LinkText {
+                latency_us: "16",
+                ..FIRST
+            },
+            SECOND,
+            "A3 3 1 16800",
+        ),
+        (
+            FIRST,
+            LinkText {
+                latency_us: "20",
+                ..SECOND
+            },
+            "A4 3 2 20297",
+        ),
+        (
+            LinkText {
+                jitter_us: "46",
+                ..FIRST
+            },
+            SECOND,
+            "A6 1 46720",
+        ),
+        (
+            LinkText {
+                jitter_us: "47",
+                ..FIRST
+            },
+            SECOND,
+            "",
+        ),
+        (
+            LinkText {
+                skew_us: "16",
+                ..FIRST
+            },
+            SECOND,
+            "A7 1",
+        ),
+    ] {
+        assert_eq!(rt; answer(a, base(a, &[first, second])?)?.as_str(), text);
+    }
+    Ok(())
+}
+
+#[test]
+fn short_buffer(rt: HostRuntime) -> Result<(), Fail> {
+    let a = rt.alloc();
+    let tables = tables_of(
+        a,
         "profile = 1\nbuffer = 251\n",
         "100",
         "100",
         &[FIRST, SECOND],
-    );
-    assert_eq!(rt; answer(a, &short)?.as_str(), "A2 3 252");
-    let steady = LinkText {
-        jitter_us: "46",
-        ..FIRST
-    };
-    assert_eq!(rt; answer(a, &base(&[steady, SECOND]))?.as_str(), "A6 1 46720");
-    let steady = LinkText {
-        jitter_us: "47",
-        ..FIRST
-    };
-    assert_eq!(rt; answer(a, &base(&[steady, SECOND]))?.as_str(), "");
-    let close = LinkText {
-        skew_us: "16",
-        ..FIRST
-    };
-    assert_eq!(rt; answer(a, &base(&[close, SECOND]))?.as_str(), "A7 1");
+    )?;
+    assert_eq!(rt; answer(a, tables)?.as_str(), "A2 3 252");
     Ok(())
 }
 
@@ -237,57 +286,67 @@ fn overloaded_port(rt: HostRuntime) -> Result<(), Fail> {
         lmax: "1518",
         ..FIRST
     };
-    let text = network("profile = 1\nbuffer = 252\n", "100", "10", &[long]);
-    let tables = read(a, text.as_slice())?;
-    assert_eq!(rt; high_bound(&tables, 3), 1_845_600);
-    assert_eq!(rt; low_bound(&tables, 3), None);
-    assert_eq!(rt; buffer_need(&tables, 3), 2307);
-    assert_eq!(rt; answer(a, &text)?.as_str(), "A1 3");
+    let tables = tables_of(a, "profile = 1\nbuffer = 252\n", "100", "10", &[long])?;
+    assert_eq!(rt; bounds(&tables, 3), (1_845_600, None, 2307));
+    assert_eq!(rt; answer(a, tables)?.as_str(), "A1 3");
+    Ok(())
+}
+
+const WIDE_LINKS: [LinkText; 4] = [
+    WIDE,
+    LinkText { vl: "2", ..WIDE },
+    LinkText { vl: "3", ..WIDE },
+    LinkText { vl: "4", ..WIDE },
+];
+
+#[test]
+fn four_wide_links(rt: HostRuntime) -> Result<(), Fail> {
+    let a = rt.alloc();
+    let tables = tables_of(
+        a,
+        "profile = 1\nbuffer = 65536\n",
+        "100",
+        "100",
+        &WIDE_LINKS,
+    )?;
+    match admit(tables) {
+        Ok(_) => panic!(rt; "admitted"),
+        Err((tables, fault)) => {
+            assert_eq!(rt; fault, AdmitFault::SenderJitter(SystemId(0), 532_160));
+            assert_eq!(rt; answer(a, tables)?.as_str(), "A5 s1 532160");
+        }
+    }
     Ok(())
 }
 
 #[test]
-fn jitter_of_a_sender(rt: HostRuntime) -> Result<(), Fail> {
+fn three_wide_links(rt: HostRuntime) -> Result<(), Fail> {
     let a = rt.alloc();
-    let links = [
-        WIDE,
-        LinkText { vl: "2", ..WIDE },
-        LinkText { vl: "3", ..WIDE },
-        LinkText { vl: "4", ..WIDE },
-    ];
-    let text = network("profile = 1\nbuffer = 65536\n", "100", "100", &links);
-    assert_eq!(rt; answer(a, &text)?.as_str(), "A5 s1 532160");
-    match admit(read(a, text.as_slice())?) {
-        Ok(_) => panic!(rt; "admitted"),
-        Err((_, fault)) => assert_eq!(rt; fault, AdmitFault::SenderJitter(SystemId(0), 532_160)),
-    }
-    let text = network("profile = 1\nbuffer = 65536\n", "100", "100", &links[..3]);
-    let tables = read(a, text.as_slice())?;
-    assert_eq!(rt; high_bound(&tables, 3), 370_562);
-    assert_eq!(rt; low_bound(&tables, 3), Some(371_634));
-    assert_eq!(rt; buffer_need(&tables, 3), 4633);
-    assert_eq!(rt; answer(a, &text)?.as_str(), "");
+    let tables = tables_of(
+        a,
+        "profile = 1\nbuffer = 65536\n",
+        "100",
+        "100",
+        &WIDE_LINKS[..3],
+    )?;
+    assert_eq!(rt; bounds(&tables, 3), (370_562, Some(371_634), 4633));
+    assert_eq!(rt; answer(a, tables)?.as_str(), "");
     Ok(())
 }
 
 #[test]
 fn gigabit(rt: HostRuntime) -> Result<(), Fail> {
     let a = rt.alloc();
-    let text = network(
+    let tables = tables_of(
+        a,
         "profile = 2\nbuffer = 252\n",
         "1000",
         "1000",
         &[FIRST, SECOND],
-    );
-    let tables = read(a, text.as_slice())?;
-    for port in [1, 2] {
-        assert_eq!(rt; high_bound(&tables, port), 0);
-        assert_eq!(rt; low_bound(&tables, port), Some(0));
-        assert_eq!(rt; buffer_need(&tables, port), 0);
-    }
-    assert_eq!(rt; high_bound(&tables, 3), 1680);
-    assert_eq!(rt; low_bound(&tables, 3), Some(2018));
-    assert_eq!(rt; buffer_need(&tables, 3), 252);
-    assert_eq!(rt; answer(a, &text)?.as_str(), "");
+    )?;
+    assert_eq!(rt; bounds(&tables, 1), (0, Some(0), 0));
+    assert_eq!(rt; bounds(&tables, 2), (0, Some(0), 0));
+    assert_eq!(rt; bounds(&tables, 3), (1680, Some(2018), 252));
+    assert_eq!(rt; answer(a, tables)?.as_str(), "");
     Ok(())
 }

@@ -10,6 +10,7 @@ use Rattle.afdx_config.specs.declared.fault.ConfigFault.{ConfigFault}
 use Rattle.afdx_config.specs.declared.fault.ConfigFault.TheVariants.{Missing, WrongKind, UnknownKey, OutOfRange}
 use Rattle.afdx_config.specs.Fault.{◌>>=◌, ◌>>◌, check}
 
+-- where a check looks: the part, the table's place in it, and the key's number
 abbrev pub place : Part → ℕ → ℕ → Place
 place p i k = record { part = p; index = i; key = k }
 
@@ -28,6 +29,7 @@ abbrev pub in_range : Place → ℕ → ℕ → ℤ → Result ℕ ConfigFault
 in_range at low high (pos n) = if nat_le low n && nat_le n high then Ok n else Err (OutOfRange at)
 in_range at low high (negsuc n) = Err (OutOfRange at)
 
+-- a whole number of a key
 unfoldable pub whole : Place → List ℕ → ℕ → ℕ → Members → Result ℕ ConfigFault
 whole at key low high t = do
   value ← required at (get_member key t)
@@ -41,6 +43,7 @@ one_of at key numbers t = do
   check (list_any (λ n. nat_eq n number) numbers) (OutOfRange at)
   Ok number
 
+-- a text of a key
 unfoldable pub text : Place → List ℕ → Members → Result (List ℕ) ConfigFault
 text at key t = do
   value ← required at (get_member key t)
@@ -51,6 +54,7 @@ abbrev pub meaning : {A : Type 0} → List (List ℕ × A) → List ℕ → Opti
 meaning [] s = None
 meaning (w ∷ ws) s = if bytes_eq s w.0 then Some w.1 else meaning ws s
 
+-- a word that stands for nothing is out of range
 abbrev pub or_out_of_range : {A : Type 0} → Place → Option A → Result A ConfigFault
 or_out_of_range at None = Err (OutOfRange at)
 or_out_of_range at (Some x) = Ok x
@@ -72,12 +76,14 @@ tables_or_none at (Some d) = do
   items ← of_kind at (as_array d)
   of_kind at (all_as as_table items)
 
+-- at most so many tables
 unfoldable pub tables : Place → List ℕ → ℕ → Members → Result (List Members) ConfigFault
 tables at key most t = do
   ts ← tables_or_none at (get_member key t)
   check (nat_le (length ts) most) (OutOfRange at)
   Ok ts
 
+-- an array of texts
 unfoldable pub texts : Place → List ℕ → Members → Result (List (List ℕ)) ConfigFault
 texts at key t = do
   value ← required at (get_member key t)

@@ -33,6 +33,7 @@ system_at_port systems port = position (λ s. s.port == port) systems
 unfoldable pub has_id : List SystemRow → ℕ → Bool
 has_id systems id = list_any (λ s. s.id == id) systems
 
+-- a text that has to name a system
 abbrev pub or_no_such : {A : Type 0} → Place → Option A → Result A ConfigFault
 or_no_such at None = Err (NoSuchSystem at)
 or_no_such at (Some x) = Ok x
@@ -47,6 +48,7 @@ abbrev pub all_of : {X A : Type 0} → (X → Option A) → List X → Option (L
 all_of f [] = Some []
 all_of f (x ∷ xs) = option_and_then (λ a. option_map (λ rest. a ∷ rest) (all_of f xs)) (f x)
 
+-- a place stands twice
 abbrev pub has_repeat : List ℕ → Bool
 has_repeat [] = false
 has_repeat (i ∷ is) = list_any (λ j. nat_eq j i) is || has_repeat is
@@ -55,6 +57,7 @@ has_repeat (i ∷ is) = list_any (λ j. nat_eq j i) is || has_repeat is
 unfoldable pub are_apart : ℕ → List ℕ → Bool
 are_apart from to = not (list_any (λ j. nat_eq j from) to) && not (has_repeat to)
 
+-- what `to` names: 1 to 24 systems, all different, and other than `from`
 unfoldable pub destinations : Place → List SystemRow → ℕ → Members → Result (List ℕ) ConfigFault
 destinations at systems from t = do
   names ← texts at (codes "to") t
@@ -65,9 +68,11 @@ destinations at systems from t = do
 
 -- ---- the rows, each after those before it
 
+-- 1 to 16 ASCII letters and digits
 unfoldable pub is_name : List ℕ → Bool
 is_name s = (nat_le 1 (length s) && nat_le (length s) 16) && list_all is_ascii_alphanumeric s
 
+-- a name that no system before has
 unfoldable pub new_name : Place → List SystemRow → Members → Result (List ℕ) ConfigFault
 new_name at before t = do
   name ← text at (codes "name") t
@@ -79,6 +84,7 @@ new_name at before t = do
 abbrev pub rates : ℕ → List ℕ
 rates profile = if profile == 2 then 10 ∷ 100 ∷ 1000 ∷ [] else 10 ∷ 100 ∷ []
 
+-- a system, whose name, port and id no system before has
 unfoldable pub system_at : ℕ → List SystemRow → Members → Result SystemRow ConfigFault
 system_at profile before t =
     let at : ℕ → Place = place part.System (length before + 1) in do
@@ -96,7 +102,7 @@ system_at profile before t =
 unfoldable pub link_of : List LinkRow → ℕ → Option ℕ
 link_of links vl = position (λ l. nat_eq vl l.vl) links
 
--- keys 4 to 7, and keys 8 to 12
+-- how much a link may send, and how its frames are treated
 unfoldable pub traffic_at : (ℕ → Place) → Members → Result Traffic ConfigFault
 traffic_at at t = do
   bag_ms ← one_of (at 4) (codes "bag_ms") (1 ∷ 2 ∷ 4 ∷ 8 ∷ 16 ∷ 32 ∷ 64 ∷ 128 ∷ []) t
@@ -114,6 +120,7 @@ treatment_at at t = do
   subs ← whole (at 12) (codes "subs") 1 4 t
   Ok (record { priority = priority; policing = policing; latency_us = latency_us; skew_us = skew_us; subs = subs })
 
+-- a link, whose identifier no link before has
 unfoldable pub link_at : List SystemRow → List LinkRow → Members → Result LinkRow ConfigFault
 link_at systems before t =
     let at : ℕ → Place = place part.Link (length before + 1) in do
@@ -130,6 +137,7 @@ link_at systems before t =
 unfoldable pub goes_to : List LinkRow → ℕ → ℕ → Bool
 goes_to links vl system = option_map_or (is_to system) (find (λ l. nat_eq vl l.vl) links) false
 
+-- an entry for this system, link and UDP port
 unfoldable pub has_port : List PortRow → ℕ → ℕ → ℕ → Bool
 has_port ports system link udp = list_any (λ p. (nat_eq p.system system && nat_eq p.link link) && nat_eq p.udp udp) ports
 
@@ -138,6 +146,7 @@ abbrev pub deepest : Kind → ℕ
 deepest Sampling = 1
 deepest Queuing = 64
 
+-- a port entry, for a link that goes to its system, and a triple that no entry before has
 unfoldable pub port_at : List SystemRow → List LinkRow → List PortRow → Members → Result PortRow ConfigFault
 port_at systems links before t =
     let at : ℕ → Place = place part.Port (length before + 1) in do
@@ -165,6 +174,7 @@ abbrev pub or_bad_profile : Result ℕ ConfigFault → Result ℕ ConfigFault
 or_bad_profile (Ok n) = Ok n
 or_bad_profile (Err e) = Err BadProfile
 
+-- the top, whose arrays of tables are counted before any table is read
 unfoldable pub tables_at : Members → Result Rows ConfigFault
 tables_at t = do
   profile ← or_bad_profile (whole (place part.Top 0 1) (codes "profile") 1 2 t)

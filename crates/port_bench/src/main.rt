@@ -11,7 +11,9 @@ use std::alloc::AllocError;
 
 /// The ns of a byte, the bytes of the buffer and the ns of a frame's slot.
 const BYTE_NS: u64 = 80;
+
 const BUFFER: u64 = 4_194_304;
+
 const SLOT: u64 = 6_720;
 
 /// A frame of 64 bytes that may wait for ever.
