@@ -1,5 +1,5 @@
 -- One line more of a run, whatever is told of the arrivals.
-use Rattle.std.proofs.Common.{◌≡◌, ℕ, zero, suc, ◌+◌, ◌*◌, ◌<◌, ◌≤◌, List, [], ◌∷◌, ◌++◌, length, get_or, drop, refl, ap, sym, ◌∙◌, subst, Option, Some, None, Result, Ok, Err, IfSome, arith, rules, add-one, below_more, nat_le, nat_lt, true, false, ◌⊎◌, inl, inr}
+use Rattle.std.proofs.Common.{◌≡◌, ℕ, zero, suc, ◌+◌, ◌<◌, ◌≤◌, List, [], ◌∷◌, length, get_or, drop, refl, ap, sym, ◌∙◌, subst, Option, Some, None, Ok, Err, IfSome, arith, add-one, below_more, nat_le, nat_lt, true, false, ◌⊎◌, inl, inr}
 use Rattle.std.proofs.lemmas.Grind.{common_steps}
 use Rattle.std.specs.Io.KnownBytes.{IsAtEnd, prepend_known}
 use Rattle.afdx_police.specs.Arrival.{Arrival}
@@ -10,7 +10,7 @@ use Rattle.afdx_lists.specs.declared.fault.LineFault.TheVariants.{BadLine, TimeT
 use Rattle.afdx_lists.specs.FrameLines.{Frame, line_says}
 use Rattle.afdx_lists.specs.Lines.{lines_of, TakesLine, CanStop, GaveWhole}
 use Rattle.afdx_lists.proofs.LineLemmas.{lines_of_nothing}
-use Rattle.afdx_replay.specs.Listed.{AreSound, FirstFault, arrivals_of, arrival_at, with_said, latest_time, says, fault_at, fault_said}
+use Rattle.afdx_replay.specs.Listed.{AreSound, FirstFault, arrivals_of, arrival_at, with_said, says, fault_at, fault_said}
 use Rattle.afdx_lists.specs.Faults.{fault_with}
 use Rattle.afdx_replay.specs.Stops.{IsToldOf, StopsAt}
 use Rattle.afdx_replay.specs.Progress.{HasRead, HasCome}

@@ -1,5 +1,5 @@
 -- What a run that polices one link has told.
-use Rattle.std.proofs.Common.{◌≡◌, ℕ, ◌+◌, List, [], ◌∷◌, ◌++◌, refl, ap, sym, ◌∙◌, subst, Option, Some, None, arith, IfSome, length, Bool, true, false, not, is_some}
+use Rattle.std.proofs.Common.{◌≡◌, ℕ, ◌+◌, List, [], ◌∷◌, refl, ap, sym, ◌∙◌, subst, Option, Some, None, arith, IfSome, Bool, true, false, not, is_some}
 use Rattle.std.specs.Prelude.{if◌then◌else◌}
 use Rattle.std.specs.Io.KnownBytes.{Appends}
 use Rattle.std.proofs.KnownBytes.{Appends-trans, Appends-nil}
@@ -12,9 +12,8 @@ use Rattle.afdx_police.specs.Rule.{Rule}
 use Rattle.afdx_police.specs.Verdicts.{verdict_in}
 use Rattle.afdx_replay.specs.declared.police_run.Policers.{Policers}
 use Rattle.afdx_replay.specs.declared.summary.Summary.{Summary}
-use Rattle.afdx_replay.specs.Listed.{arrivals_of}
 use Rattle.afdx_replay.specs.Stops.{StopsAt}
-use Rattle.afdx_replay.specs.PoliceText.{text_of, accepted_in, dropped_in, verdict_line, counts_of}
+use Rattle.afdx_replay.specs.PoliceText.{text_of, accepted_in, dropped_in, verdict_line}
 use Rattle.afdx_replay.specs.Policed.{WritesText, WritesBeginning, WritesAll}
 use Rattle.afdx_replay.specs.Policers.{HaveSeen, HasTold}
 use Rattle.afdx_replay.proofs.RunLemmas.{IsDone, arrivals_of-none}

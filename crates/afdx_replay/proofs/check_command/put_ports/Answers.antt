@@ -1,4 +1,4 @@
-use Rattle.std.proofs.Common.{rules, arith, ◌≡◌, ◌+◌, ◌++◌, ◌∙◌, sym, ap, is_some, string_bytes}
+use Rattle.std.proofs.Common.{rules, string_bytes}
 use Rattle.afdx_replay.proofs.CheckLemmas.{port_lines-none, port_lines-used, port_lines-unused}
 use Rattle.afdx_replay.proofs.check_command.put_ports.Goals as goal
 use Rattle.afdx_replay.proofs.check_command.put_ports.Goals.{then-is_some+in_ok-put_port, else-is_some}

@@ -1,15 +1,11 @@
-use Rattle.std.proofs.Common.{rules, arith, ◌≡◌, ◌≤◌, ◌+◌, ◌++◌, ◌∷◌, [], List, ℕ, refl, sym, ap, ◌∙◌, Option, Some, None, Ok, Err, true, false, inl, inr, string_bytes}
-use Rattle.std.proofs.lemmas.Grind.{common_steps}
-use Rattle.std.specs.Io.KnownBytes.{Appends}
-use Rattle.afdx_police.specs.Arrival.{Arrival}
+use Rattle.std.proofs.Common.{rules, arith, ap, ◌∙◌, Err}
 use Rattle.afdx_police.specs.RuleOf.{rule_of}
-use Rattle.afdx_lists.specs.FrameLines.{Frame, frame_of}
+use Rattle.afdx_lists.specs.FrameLines.{frame_of}
 use Rattle.afdx_lists.proofs.WholeLemmas.{HasTaken-start, HasTaken-next, HasTaken-stop}
 use Rattle.afdx_replay.specs.PoliceText.{verdict_line}
-use Rattle.afdx_replay.specs.Policers.{HasTold}
 use Rattle.afdx_replay.specs.Policed.{WritesText, WritesBeginning}
 use Rattle.afdx_replay.specs.Listed.{arrival_at}
-use Rattle.afdx_replay.proofs.RunLemmas.{IsTaken, HasCome-start, HasCome-skip, HasCome-frame, HasCome-done, stops-memory, stops-write, stops-line, stops-reader}
+use Rattle.afdx_replay.proofs.RunLemmas.{HasCome-start, HasCome-skip, HasCome-frame, HasCome-done, stops-memory, stops-write, stops-line, stops-reader}
 use Rattle.afdx_replay.proofs.ToldLemmas.{told-start, told-next, told-front, told-text, told-done, begun-next, stops-start, counts_if, counts-one}
 use Rattle.afdx_replay.proofs.police_run.run_police.Goals as goal
 

@@ -1,4 +1,4 @@
-use Rattle.std.proofs.Common.{◌≡◌, ◌≤◌, ◌+◌, ◌*◌, ◌-◌, ◌^◌, ℕ, false}
+use Rattle.std.proofs.Common.{◌≡◌, ◌≤◌, ◌+◌, ◌*◌, ◌-◌, ◌^◌, false}
 use Rattle.afdx_police.specs.RuleOf.{rule_of}
 use Rattle.afdx_lists.specs.Lines.{IsHonest, HasTaken, left, lines_taken, unread}
 use Rattle.afdx_replay.specs.Policers.{AreUntil, HasTold}
