@@ -1,0 +1,5 @@
+use Rattle.afdx_switch.proofs.LawLemmas.{entries-grow}
+use Rattle.afdx_switch.proofs.laws.entries_grow.Goals as goal
+
+pub returns : goal.returns
+returns c = entries-grow

@@ -1,0 +1,5 @@
+use Rattle.afdx_switch.proofs.LawLemmas.{links-in-order}
+use Rattle.afdx_switch.proofs.laws.links_go_in_order.Goals as goal
+
+pub returns : goal.returns
+returns c = links-in-order

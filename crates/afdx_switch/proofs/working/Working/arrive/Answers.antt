@@ -1,0 +1,169 @@
+use Rattle.std.proofs.Common.{◌≡◌, ◌≤◌, sym, ◌∙◌, arith, ap, refl, subst, Some, None, length, map}
+use Rattle.std.specs.Prelude.{slice_get, if◌then◌else◌}
+use Rattle.std.proofs.lemmas.Option.{slice_get_read, slice_get_within}
+use Rattle.std.proofs.lemmas.List.{length-map}
+use Rattle.afdx_police.specs.Arrival.{arrival_with, own}
+use Rattle.afdx_police.specs.RuleOf.{rule_of}
+use Rattle.afdx_police.specs.Shape.{fault_of}
+use Rattle.afdx_police.specs.Verdicts.{reason_after}
+use Rattle.afdx_police.specs.declared.shape.Reason.TheVariants.{UnknownLink, OverRate}
+use Rattle.afdx_switch.specs.Carried.{carried_with}
+use Rattle.afdx_switch.specs.declared.line.Line.{Line}
+use Rattle.afdx_switch.specs.Tables.{rows_of}
+use Rattle.afdx_switch.specs.Switching.{IsNamedAt, IsLineSound, share_of}
+use Rattle.afdx_switch.proofs.ArrivalLemmas.{reason-named}
+use Rattle.afdx_switch.proofs.ListLemmas.{all-at, all-set, items-are}
+use Rattle.afdx_switch.proofs.TakeLemmas.{lines-later}
+use Rattle.afdx_switch.proofs.StandsLemmas.{unknown-reason, stands-dropped, lines-unknown, lines-faulted, lines-with, line-is, fault-reason, stands-accepted, lost-is, ports-sound, ports-quiet}
+use Rattle.afdx_switch.proofs.working.Working.arrive.Goals as goal
+
+pub returns-in_default-clause-verdict : goal.returns-in_default-clause-verdict
+returns-in_default-clause-verdict c t side h st =
+    let x = arrival_with c.args.tag c.args.time side c.args.port c.args.bytes.now in
+    rw c.unwrap_or.ensures (unknown-reason t x c.args.self.now h st c.judge_checked.result UnknownLink (c.in_default.ensures.place t side h st) c.judge_checked.ensures.reason)
+
+pub returns-in_default-clause-stands : goal.returns-in_default-clause-stands
+returns-in_default-clause-stands c t side h st =
+    let x = arrival_with c.args.tag c.args.time side c.args.port c.args.bytes.now in
+    let none = c.in_default.ensures.place t side h st in
+    stands-dropped t x c.args.self.now h st _ _ None none (unknown-reason t x c.args.self.now h st c.judge_checked.result UnknownLink none c.judge_checked.ensures.reason)
+    (lines-unknown t x c.args.self.now h st none) refl refl refl refl
+
+pub returns-in-Some-judge_checked-clause-verdict : goal.returns-in-Some-judge_checked-clause-verdict
+returns-in-Some-judge_checked-clause-verdict c t side h st =
+    let x = arrival_with c.args.tag c.args.time side c.args.port c.args.bytes.now in
+    let n : IsNamedAt (rows_of t) c.args.bytes.now c.in-Some.place = c.in-Some.ensures.place t side h st in
+    let at = slice_get_read c.args.self.now.lines.items _ c.in-Some.place c.index-line.result.now c.args.self.now.lines.ok.0 c.in-Some.ensures.within c.index-line.ensures in
+    let is = line-is t x c.args.self.now h st c.in-Some.place n c.index-line.result.now at in
+    let rule : rule_of c.rule.result.now ≡ n.row.rule = c.rule.ensures ∙ is.account.by_rule in
+    let fault : fault_of (Some n.row.rule) c.args.port c.args.bytes.now ≡ Some c.in-Some-judge_checked.reason = ap (λ q. fault_of (Some q) c.args.port c.args.bytes.now) (sym rule) ∙ sym c.in-Some-judge_checked.ensures.reason in
+    fault-reason t x c.args.self.now h st c.in-Some.place n c.index-line.result.now at c.in-Some-judge_checked.reason fault
+
+pub returns-in-Some-judge_checked-clause-stands : goal.returns-in-Some-judge_checked-clause-stands
+returns-in-Some-judge_checked-clause-stands c t side h st =
+    let x = arrival_with c.args.tag c.args.time side c.args.port c.args.bytes.now in
+    let n : IsNamedAt (rows_of t) c.args.bytes.now c.in-Some.place = c.in-Some.ensures.place t side h st in
+    let at = slice_get_read c.args.self.now.lines.items _ c.in-Some.place c.index-line.result.now c.args.self.now.lines.ok.0 c.in-Some.ensures.within c.index-line.ensures in
+    let is = line-is t x c.args.self.now h st c.in-Some.place n c.index-line.result.now at in
+    let rule : rule_of c.rule.result.now ≡ n.row.rule = c.rule.ensures ∙ is.account.by_rule in
+    let fault : fault_of (Some n.row.rule) c.args.port c.args.bytes.now ≡ Some c.in-Some-judge_checked.reason = ap (λ q. fault_of (Some q) c.args.port c.args.bytes.now) (sym rule) ∙ sym c.in-Some-judge_checked.ensures.reason in
+    stands-dropped t x c.args.self.now h st _ c.in-Some-judge_checked.reason (Some c.in-Some.place) n
+    (fault-reason t x c.args.self.now h st c.in-Some.place n c.index-line.result.now at c.in-Some-judge_checked.reason fault)
+    (lines-faulted t x c.args.self.now h st c.in-Some.place n c.index-line.result.now at c.in-Some-judge_checked.reason fault) refl refl refl refl
+
+pub returns-then-not-offer-clause-verdict : goal.returns-then-not-offer-clause-verdict
+returns-then-not-offer-clause-verdict c t side h st =
+    let x = arrival_with c.args.tag c.args.time side c.args.port c.args.bytes.now in
+    let n : IsNamedAt (rows_of t) c.args.bytes.now c.in-Some.place = c.in-Some.ensures.place t side h st in
+    let at = slice_get_read c.args.self.now.lines.items _ c.in-Some.place c.index-line.result.now c.args.self.now.lines.ok.0 c.in-Some.ensures.within c.index-line.ensures in
+    let is = line-is t x c.args.self.now h st c.in-Some.place n c.index-line.result.now at in
+    let rule : rule_of c.rule.result.now ≡ n.row.rule = c.rule.ensures ∙ is.account.by_rule in
+    let at_line = slice_get_read c.args.self.now.lines.items _ c.in-Some.place c.index_mut-line.result.now c.args.self.now.lines.ok.0 c.in-Some.ensures.within c.index_mut-line.ensures.value in
+    let same_line : c.index-line.result.now ≡ c.index_mut-line.result.now = cc in
+    let is_line = line-is t x c.args.self.now h st c.in-Some.place n c.index_mut-line.result.now at_line in
+    let sound : fault_of (Some n.row.rule) c.args.port c.args.bytes.now ≡ None = ap (λ q. fault_of (Some q) c.args.port c.args.bytes.now) (sym rule) ∙ sym c.in_default-judge_checked.ensures.reason in
+    let answer : (if c.offer.result then None else Some OverRate) ≡ reason_after n.row.rule (own n.row.rule.vl side h.arrivals) x = c.offer.ensures.answer n.row.rule (own n.row.rule.vl side h.arrivals) x is_line.account (record { sound = sound; same = refl }) in
+    reason-named t x h.arrivals c.in-Some.place n ∙ sym (rw c.if-not-offer.true at answer)
+
+pub returns-then-not-offer-clause-stands : goal.returns-then-not-offer-clause-stands
+returns-then-not-offer-clause-stands c t side h st =
+    let x = arrival_with c.args.tag c.args.time side c.args.port c.args.bytes.now in
+    let n : IsNamedAt (rows_of t) c.args.bytes.now c.in-Some.place = c.in-Some.ensures.place t side h st in
+    let at = slice_get_read c.args.self.now.lines.items _ c.in-Some.place c.index-line.result.now c.args.self.now.lines.ok.0 c.in-Some.ensures.within c.index-line.ensures in
+    let is = line-is t x c.args.self.now h st c.in-Some.place n c.index-line.result.now at in
+    let rule : rule_of c.rule.result.now ≡ n.row.rule = c.rule.ensures ∙ is.account.by_rule in
+    let at_line = slice_get_read c.args.self.now.lines.items _ c.in-Some.place c.index_mut-line.result.now c.args.self.now.lines.ok.0 c.in-Some.ensures.within c.index_mut-line.ensures.value in
+    let same_line : c.index-line.result.now ≡ c.index_mut-line.result.now = cc in
+    let is_line = line-is t x c.args.self.now h st c.in-Some.place n c.index_mut-line.result.now at_line in
+    let sound : fault_of (Some n.row.rule) c.args.port c.args.bytes.now ≡ None = ap (λ q. fault_of (Some q) c.args.port c.args.bytes.now) (sym rule) ∙ sym c.in_default-judge_checked.ensures.reason in
+    let answer : (if c.offer.result then None else Some OverRate) ≡ reason_after n.row.rule (own n.row.rule.vl side h.arrivals) x = c.offer.ensures.answer n.row.rule (own n.row.rule.vl side h.arrivals) x is_line.account (record { sound = sound; same = refl }) in
+    let account = c.offer.ensures.stands n.row.rule (own n.row.rule.vl side h.arrivals) x is_line.account (record { sound = sound; same = refl }) in
+    stands-dropped t x c.args.self.now h st _ OverRate (Some c.in-Some.place) n
+    (reason-named t x h.arrivals c.in-Some.place n ∙ sym (rw c.if-not-offer.true at answer))
+    (lines-with t x c.args.self.now h st c.in-Some.place n c.index_mut-line.result.now at_line c.offer.new.self account) refl refl refl refl
+
+pub returns-clause-verdict : goal.returns-clause-verdict
+returns-clause-verdict c t side h st =
+    let x = arrival_with c.args.tag c.args.time side c.args.port c.args.bytes.now in
+    let n : IsNamedAt (rows_of t) c.args.bytes.now c.in-Some.place = c.in-Some.ensures.place t side h st in
+    let at = slice_get_read c.args.self.now.lines.items _ c.in-Some.place c.index-line.result.now c.args.self.now.lines.ok.0 c.in-Some.ensures.within c.index-line.ensures in
+    let is = line-is t x c.args.self.now h st c.in-Some.place n c.index-line.result.now at in
+    let rule : rule_of c.rule.result.now ≡ n.row.rule = c.rule.ensures ∙ is.account.by_rule in
+    let at_line = slice_get_read c.args.self.now.lines.items _ c.in-Some.place c.index_mut-line.result.now c.args.self.now.lines.ok.0 c.in-Some.ensures.within c.index_mut-line.ensures.value in
+    let same_line : c.index-line.result.now ≡ c.index_mut-line.result.now = cc in
+    let is_line = line-is t x c.args.self.now h st c.in-Some.place n c.index_mut-line.result.now at_line in
+    let sound : fault_of (Some n.row.rule) c.args.port c.args.bytes.now ≡ None = ap (λ q. fault_of (Some q) c.args.port c.args.bytes.now) (sym rule) ∙ sym c.in_default-judge_checked.ensures.reason in
+    let answer : (if c.offer.result then None else Some OverRate) ≡ reason_after n.row.rule (own n.row.rule.vl side h.arrivals) x = c.offer.ensures.answer n.row.rule (own n.row.rule.vl side h.arrivals) x is_line.account (record { sound = sound; same = refl }) in
+    let accepted = reason-named t x h.arrivals c.in-Some.place n ∙ sym (rw c.if-not-offer.false at answer) in
+    let small = (all-at (IsLineSound c.args.self.now.clock) c.args.self.now.lines.items c.in-Some.place c.index_mut-line.result.now c.requires.sound.lines at_line).wait in
+    let longest : length c.args.bytes.now ≤ 1518 = omega (arith, c.in_default-judge_checked.ensures.longest, c.rule.result.now.in_range.longest) in
+    let shares_are : c.in_ok-shares.shares.items ≡ map (share_of (carried_with c.args.tag c.index-line.result.now.longest_wait c.args.bytes.now)) c.index-line.result.now.goes.items =
+    c.in_ok-shares.ensures ∙ ap (map (share_of (carried_with c.args.tag c.index-line.result.now.longest_wait c.args.bytes.now))) c.as_slice.ensures.value in
+    let shares_of_line = subst (λ (l : Line). c.in_ok-shares.shares.items ≡ map (share_of (carried_with c.args.tag l.longest_wait c.args.bytes.now)) l.goes.items) same_line shares_are in
+    let old_count : length c.args.self.now.ports.items ≡ 24 = omega (arith, c.args.self.now.ports.ok.0, c.requires.sound.port_count) in (
+      accepted,
+      lost-is t x c.args.self.now h st c.in-Some.place n c.index_mut-line.result.now at_line accepted c.in_default-judge_checked.ensures.shortest longest small
+          c.in_ok-shares.shares.items shares_of_line c.forward-lost.new.ports c.forward-lost.result old_count c.forward-lost.ensures.count
+          (λ i o p share at_o at_p at_s. c.forward-lost.ensures.offered i o p share (ap (λ ps. slice_get ps i) c.deref_mut.ensures.value ∙ at_o) at_p (ap (λ ss. slice_get ss i) c.as_mut_slice.ensures.value ∙ at_s)),
+      c.forward-lost.ensures.numbers,
+    )
+
+pub returns-clause-stands : goal.returns-clause-stands
+returns-clause-stands c t side h st =
+    let x = arrival_with c.args.tag c.args.time side c.args.port c.args.bytes.now in
+    let n : IsNamedAt (rows_of t) c.args.bytes.now c.in-Some.place = c.in-Some.ensures.place t side h st in
+    let at = slice_get_read c.args.self.now.lines.items _ c.in-Some.place c.index-line.result.now c.args.self.now.lines.ok.0 c.in-Some.ensures.within c.index-line.ensures in
+    let is = line-is t x c.args.self.now h st c.in-Some.place n c.index-line.result.now at in
+    let rule : rule_of c.rule.result.now ≡ n.row.rule = c.rule.ensures ∙ is.account.by_rule in
+    let at_line = slice_get_read c.args.self.now.lines.items _ c.in-Some.place c.index_mut-line.result.now c.args.self.now.lines.ok.0 c.in-Some.ensures.within c.index_mut-line.ensures.value in
+    let same_line : c.index-line.result.now ≡ c.index_mut-line.result.now = cc in
+    let is_line = line-is t x c.args.self.now h st c.in-Some.place n c.index_mut-line.result.now at_line in
+    let sound : fault_of (Some n.row.rule) c.args.port c.args.bytes.now ≡ None = ap (λ q. fault_of (Some q) c.args.port c.args.bytes.now) (sym rule) ∙ sym c.in_default-judge_checked.ensures.reason in
+    let answer : (if c.offer.result then None else Some OverRate) ≡ reason_after n.row.rule (own n.row.rule.vl side h.arrivals) x = c.offer.ensures.answer n.row.rule (own n.row.rule.vl side h.arrivals) x is_line.account (record { sound = sound; same = refl }) in
+    let account = c.offer.ensures.stands n.row.rule (own n.row.rule.vl side h.arrivals) x is_line.account (record { sound = sound; same = refl }) in
+    let accepted = reason-named t x h.arrivals c.in-Some.place n ∙ sym (rw c.if-not-offer.false at answer) in
+    let small = (all-at (IsLineSound c.args.self.now.clock) c.args.self.now.lines.items c.in-Some.place c.index_mut-line.result.now c.requires.sound.lines at_line).wait in
+    let longest : length c.args.bytes.now ≤ 1518 = omega (arith, c.in_default-judge_checked.ensures.longest, c.rule.result.now.in_range.longest) in
+    let shares_are : c.in_ok-shares.shares.items ≡ map (share_of (carried_with c.args.tag c.index-line.result.now.longest_wait c.args.bytes.now)) c.index-line.result.now.goes.items =
+    c.in_ok-shares.ensures ∙ ap (map (share_of (carried_with c.args.tag c.index-line.result.now.longest_wait c.args.bytes.now))) c.as_slice.ensures.value in
+    let shares_of_line = subst (λ (l : Line). c.in_ok-shares.shares.items ≡ map (share_of (carried_with c.args.tag l.longest_wait c.args.bytes.now)) l.goes.items) same_line shares_are in
+    let old_count : length c.args.self.now.ports.items ≡ 24 = omega (arith, c.args.self.now.ports.ok.0, c.requires.sound.port_count) in
+    stands-accepted t x c.args.self.now h st c.in-Some.place n c.index_mut-line.result.now at_line accepted c.in_default-judge_checked.ensures.shortest longest small
+    c.in_ok-shares.shares.items shares_of_line c.forward-lost.new.ports c.forward-lost.result old_count c.forward-lost.ensures.count
+    (λ i o p share at_o at_p at_s. c.forward-lost.ensures.offered i o p share (ap (λ ps. slice_get ps i) c.deref_mut.ensures.value ∙ at_o) at_p (ap (λ ss. slice_get ss i) c.as_mut_slice.ensures.value ∙ at_s))
+    _ (lines-with t x c.args.self.now h st c.in-Some.place n c.index_mut-line.result.now at_line c.offer.new.self account) refl refl refl
+    (items-are c.args.self.now.ports.len c.forward-lost.new.ports c.args.self.now.ports.items (omega (arith, c.forward-lost.ensures.count, c.requires.sound.port_count)))
+
+pub returns-clause-sound : goal.returns-clause-sound
+returns-clause-sound c =
+    let at = slice_get_read c.args.self.now.lines.items _ c.in-Some.place c.index-line.result.now c.args.self.now.lines.ok.0 c.in-Some.ensures.within c.index-line.ensures in
+    let at_line = slice_get_read c.args.self.now.lines.items _ c.in-Some.place c.index_mut-line.result.now c.args.self.now.lines.ok.0 c.in-Some.ensures.within c.index_mut-line.ensures.value in
+    let same_line : c.index-line.result.now ≡ c.index_mut-line.result.now = cc in
+    let old_count : length c.args.self.now.ports.items ≡ 24 = omega (arith, c.args.self.now.ports.ok.0, c.requires.sound.port_count) in
+    let line_sound = all-at (IsLineSound c.args.self.now.clock) c.args.self.now.lines.items c.in-Some.place c.index_mut-line.result.now c.requires.sound.lines at_line in
+    let share_count : length c.in_ok-shares.shares.items ≡ 24 =
+    ap length c.in_ok-shares.ensures ∙ length-map c.as_slice.result.now (share_of (carried_with c.args.tag c.index-line.result.now.longest_wait c.args.bytes.now)) ∙ ap length c.as_slice.ensures.value
+    ∙ (all-at (IsLineSound c.args.self.now.clock) c.args.self.now.lines.items c.in-Some.place c.index-line.result.now c.requires.sound.lines at).goes in
+    let same_ports = items-are c.args.self.now.ports.len c.forward-lost.new.ports c.args.self.now.ports.items (omega (arith, c.forward-lost.ensures.count, c.requires.sound.port_count)) in
+    record {
+      lines = all-set (IsLineSound c.args.time) c.args.self.now.lines.items c.in-Some.place _ (slice_get_within c.args.self.now.lines.items c.in-Some.place c.index_mut-line.result.now at_line)
+          (lines-later c.args.self.now.lines.items c.args.self.now.clock c.args.time c.requires.clock c.requires.sound.lines)
+          (record { in_time = omega (arith, c.offer.ensures.time); wait = line_sound.wait; goes = line_sound.goes });
+      place_count = c.requires.sound.place_count;
+      places = c.requires.sound.places;
+      port_count = c.requires.sound.port_count;
+      ports = rw same_ports (ports-sound c.args.time c.args.self.now.clock c.index_mut-line.result.now.priority c.args.self.now.ports.items c.forward-lost.new.ports c.in_ok-shares.shares.items c.forward-lost.result old_count c.forward-lost.ensures.count share_count
+          (λ i o p share at_o at_p at_s. c.forward-lost.ensures.offered i o p share (ap (λ ps. slice_get ps i) c.deref_mut.ensures.value ∙ at_o) at_p (ap (λ ss. slice_get ss i) c.as_mut_slice.ensures.value ∙ at_s))
+          c.requires.sound.ports);
+    }
+
+pub returns-clause-quiet : goal.returns-clause-quiet
+returns-clause-quiet c =
+    let at = slice_get_read c.args.self.now.lines.items _ c.in-Some.place c.index-line.result.now c.args.self.now.lines.ok.0 c.in-Some.ensures.within c.index-line.ensures in
+    let old_count : length c.args.self.now.ports.items ≡ 24 = omega (arith, c.args.self.now.ports.ok.0, c.requires.sound.port_count) in
+    let share_count : length c.in_ok-shares.shares.items ≡ 24 =
+    ap length c.in_ok-shares.ensures ∙ length-map c.as_slice.result.now (share_of (carried_with c.args.tag c.index-line.result.now.longest_wait c.args.bytes.now)) ∙ ap length c.as_slice.ensures.value
+    ∙ (all-at (IsLineSound c.args.self.now.clock) c.args.self.now.lines.items c.in-Some.place c.index-line.result.now c.requires.sound.lines at).goes in
+    let same_ports = items-are c.args.self.now.ports.len c.forward-lost.new.ports c.args.self.now.ports.items (omega (arith, c.forward-lost.ensures.count, c.requires.sound.port_count)) in
+    rw same_ports (ports-quiet c.args.time c.args.self.now.clock c.index_mut-line.result.now.priority c.args.self.now.ports.items c.forward-lost.new.ports c.in_ok-shares.shares.items c.forward-lost.result old_count c.forward-lost.ensures.count share_count
+    (λ i o p share at_o at_p at_s. c.forward-lost.ensures.offered i o p share (ap (λ ps. slice_get ps i) c.deref_mut.ensures.value ∙ at_o) at_p (ap (λ ss. slice_get ss i) c.as_mut_slice.ensures.value ∙ at_s)))

@@ -1,0 +1,168 @@
+//! A switch of the tables, before anything came.
+ghost use Rattle.std.specs.Prelude.{◌≡◌, ℕ, ◌≤◌, ◌<◌, ◌+◌, Option, Some, IfOk, IfSome, length, slice_get, vec_len};
+ghost use Rattle.afdx_config.specs.Lawful.{IsLawful};
+ghost use Rattle.afdx_config.specs.Reading.{link_of};
+ghost use Rattle.afdx_config.specs.Rows.{LinkRow, Rows, link_row};
+ghost use Rattle.afdx_frame.specs.declared.link.Side.{Side};
+ghost use Rattle.afdx_bounds.specs.Outputs.{Row};
+ghost use Rattle.afdx_port.specs.Held.{IsByteTime};
+ghost use Rattle.afdx_port.specs.declared.pending.Pending.{Pending};
+ghost use Rattle.afdx_switch.specs.Carried.{Carried};
+ghost use Rattle.afdx_switch.specs.Tables.{row_of, rows_of, goes_to, byte_ns_at, longest_wait_of};
+ghost use Rattle.afdx_switch.specs.Switching.{IsSound, IsQuiet, StandsFor, no_calls, last_time, frames_held};
+ghost use Rattle.afdx_switch.specs.New.{IsNewLine, IsNewPort};
+ghost use Rattle.afdx_switch.specs.declared.line.Line.{Line};
+
+use crate::frame::Frame;
+use crate::line::Line;
+use crate::working::Working;
+use afdx_config::{Link, Tables};
+use afdx_frame::VlId;
+use afdx_police::{LinkAccount, LinkRule};
+use afdx_port::Port;
+use arrayvec::ArrayVec;
+use std::alloc::{AllocError, Global};
+
+/// The time of a byte at an output port, in ns.
+#[tactic(auto, unfolding(crate::specs::Tables::byte_ns_at))]
+fn byte_ns(tables: &Tables, port: u8) -> u64
+    ensures is { result ≡ byte_ns_at tables.now port }
+    ensures byte_time { IsByteTime result }
+{
+    match tables.system_at(port) {
+        Some(system) => 8000 / tables.system(system).rate,
+        None => 80,
+    }
+}
+
+/// Whether the link at this place goes to the system that has the port.
+#[tactic(auto, unfolding(crate::specs::Tables::goes_to))]
+fn goes(tables: &Tables, link: usize, port: u8) -> bool
+    requires { link < length tables.now.links }
+    ensures { (l : LinkRow) → slice_get tables.now.links link ≡ Some l → result ≡ goes_to tables.now l port }
+{
+    match tables.system_at(port) {
+        Some(system) => tables.goes_to(link, system),
+        None => false,
+    }
+}
+
+/// How long the frames of a link may wait for their turn, in ns, if there is a limit.
+#[tactic(auto, unfolding(crate::specs::Tables::longest_wait_of))]
+fn longest_wait(tables: &Tables, link: &Link) -> Option<u64>
+    requires { link.now.latency_us ≤ 100000 }
+    ensures is { result ≡ longest_wait_of tables.now (link_row link.now) }
+    ensures small { IfSome result (λ wait. wait ≤ 100000000) }
+{
+    if tables.profile() == 2 {
+        Some(1000 * link.latency_us)
+    } else {
+        None
+    }
+}
+
+/// The output ports to which the link at this place goes.
+fn ports_of(tables: &Tables, link: usize) -> ArrayVec<bool, 24>
+    requires { link < length tables.now.links }
+    ensures count { length result.items ≡ 24 }
+    ensures each { (l : LinkRow) (place : ℕ) → slice_get tables.now.links link ≡ Some l → place < 24 → slice_get result.items place ≡ Some (goes_to tables.now l (place + 1)) }
+{
+    let mut ports = ArrayVec::new();
+    for place in 0..24_u8 {
+        ports.push(goes(tables, link, place + 1));
+    }
+    ports
+}
+
+/// What the switch keeps of the link at this place.
+fn line(tables: &Tables, place: usize) -> Line
+    requires { place < length tables.now.links }
+    ensures { (l : LinkRow) → slice_get tables.now.links place ≡ Some l → IsNewLine (row_of tables.now l) result }
+{
+    let link = tables.link(place);
+    let sender = tables.system(link.from);
+    let Some(rule) = LinkRule::new(
+        link.vl,
+        sender.port,
+        link.bag_ms,
+        link.lmin,
+        link.lmax,
+        link.jitter_us,
+        link.policing,
+    ) else {
+        unreachable!();
+    };
+    Line {
+        account: LinkAccount::new(&rule),
+        priority: link.priority,
+        longest_wait: longest_wait(tables, link),
+        goes: ports_of(tables, place),
+    }
+}
+
+fn lines(alloc: Global, tables: &Tables) -> Result<Vec<Line>, AllocError>
+    ensures lawful { IsLawful tables.now }
+    ensures count { IfOk result (λ v. vec_len v ≡ length tables.now.links) }
+    ensures each { IfOk result (λ v. (i : ℕ) (l : LinkRow) (line : Line) → slice_get tables.now.links i ≡ Some l → slice_get v.items i ≡ Some line → IsNewLine (row_of tables.now l) line) }
+{
+    let mut lines = Vec::new(alloc);
+    for place in 0..tables.link_count() {
+        lines.push(line(tables, place))?;
+    }
+    Ok(lines)
+}
+
+/// The place of the link of this identifier, if there is one.
+fn place(tables: &Tables, vl: u16) -> Option<u16>
+    requires { length tables.now.links ≤ 4096 }
+    ensures place { result ≡ link_of tables.now.links vl }
+    ensures known { IfSome result (λ i. i < length tables.now.links) }
+{
+    match tables.link_of(VlId(vl)) {
+        Some(place) => Some(place as u16),
+        None => None,
+    }
+}
+
+fn places(alloc: Global, tables: &Tables) -> Result<Vec<Option<u16>>, AllocError>
+    requires { length tables.now.links ≤ 4096 }
+    ensures count { IfOk result (λ v. vec_len v ≡ 65536) }
+    ensures each { IfOk result (λ v. (vl : ℕ) (place : Option ℕ) → slice_get v.items vl ≡ Some place → place ≡ link_of tables.now.links vl) }
+{
+    let mut places = Vec::new(alloc);
+    for vl in 0..65536_u32 {
+        places.push(place(tables, vl as u16))?;
+    }
+    Ok(places)
+}
+
+fn ports(alloc: Global, tables: &Tables) -> Result<Vec<Port<Frame>>, AllocError>
+    ensures count { IfOk result (λ v. vec_len v ≡ 24) }
+    ensures each { IfOk result (λ v. (i : ℕ) (p : Pending Carried) → slice_get v.items i ≡ Some p → IsNewPort tables.now i p) }
+{
+    let mut ports = Vec::new(alloc);
+    for place in 0..24_u8 {
+        ports.push(Port::new(alloc, byte_ns(tables, place + 1), tables.buffer())?)?;
+    }
+    Ok(ports)
+}
+
+/// Full accounts and idle ports.
+pub(crate) fn build(alloc: Global, tables: &Tables) -> Result<Working, AllocError>
+    ensures sound { IfOk result (λ w. IsSound w) }
+    ensures stands { (side : Side) → IfOk result (λ w. StandsFor tables.now side w no_calls) }
+    ensures quiet { (t : ℕ) → IfOk result (λ w. IsQuiet w t) }
+    ensures clock { IfOk result (λ w. last_time w ≡ 0) }
+    ensures held { IfOk result (λ w. frames_held w ≡ 0) }
+{
+    let lines = lines(alloc, tables)?;
+    let places = places(alloc, tables)?;
+    let ports = ports(alloc, tables)?;
+    Ok(Working {
+        alloc,
+        clock: 0,
+        lines,
+        places,
+        ports,
+    })
+}

@@ -1,0 +1,91 @@
+ghost use Rattle.std.specs.Prelude.{◌≡◌, ◌≤◌, length, IfOk, IfSome};
+
+use afdx_port::HasLength;
+use std::alloc::{AllocError, Global};
+use std::marker::Model;
+use std::rc::Rc;
+
+/// A frame on its way through the switch: one of the shares of its one copy.
+#[derive(Drop)]
+pub struct Frame {
+    tag: u64,
+    /// How long it may wait for its turn, in ns, if there is a limit.
+    longest_wait: Option<u64>,
+    bytes: Rc<Vec<u8>>,
+}
+
+impl Model for Frame {
+    ghost use Rattle.std.specs.Prelude.{◌≤◌, length, IfSome};
+    ghost use Rattle.afdx_switch.specs.Carried.{Carried};
+
+    ghost Value = { Carried };
+
+    ghost view = { λ f. record { tag = f.tag; longest_wait = f.longest_wait; bytes = f.bytes.value.items } };
+
+    ghost invariant = { λ f. (64 ≤ length f.bytes.value.items) × (length f.bytes.value.items ≤ 1518) × IfSome f.longest_wait (λ wait. wait ≤ 100000000) };
+}
+
+impl Frame {
+    ghost use Rattle.afdx_switch.specs.Carried.{Carried, carried_with};
+
+    /// The one copy of a frame.
+    pub(crate) fn copy(
+        alloc: Global,
+        tag: u64,
+        longest_wait: Option<u64>,
+        bytes: &[u8],
+    ) -> Result<Frame, AllocError>
+        requires shortest { 64 ≤ length bytes.now }
+        requires longest { length bytes.now ≤ 1518 }
+        requires wait { IfSome longest_wait (λ wait. wait ≤ 100000000) }
+        ensures { IfOk result (λ f. f ≡ carried_with tag longest_wait bytes.now) }
+    {
+        let copy = Vec::from_slice(alloc, bytes)?;
+        let bytes = Rc::new(alloc, copy)?;
+        Ok(Frame {
+            tag,
+            longest_wait,
+            bytes,
+        })
+    }
+
+    /// One more share.
+    pub(crate) fn share(&self) -> Result<Frame, AllocError>
+        ensures { IfOk result (λ f. f ≡ self.now) }
+    {
+        let bytes = self.bytes.clone()?;
+        Ok(Frame {
+            tag: self.tag,
+            longest_wait: self.longest_wait,
+            bytes,
+        })
+    }
+
+    pub(crate) fn tag(&self) -> u64
+        ensures { result ≡ self.now.tag }
+    {
+        self.tag
+    }
+
+    pub(crate) fn bytes(&self) -> &[u8]
+        ensures { result.now ≡ self.now.bytes }
+    {
+        self.bytes.as_ref().as_slice()
+    }
+}
+
+impl HasLength for Frame {
+    ghost use Rattle.afdx_switch.specs.Carried.{facts, facts-lawful};
+
+    ghost facts = { facts };
+
+    fn length(&self) -> u64 {
+        self.bytes.as_ref().len() as u64
+    }
+
+    fn longest_wait(&self) -> Option<u64> {
+        self.longest_wait
+    }
+
+    ghost lawful = { facts-lawful };
+}

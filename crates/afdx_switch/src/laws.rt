@@ -1,0 +1,33 @@
+//! What is true of the definitions, and of each switch that stands for calls, for the crates that stand on them.
+ghost use Rattle.afdx_switch.specs.Laws.{VerdictsAreOwn, EntriesGrow, TakenAreTurns, LinksGoInOrder, OtherSideIsApart, LostPortsAreListed};
+
+/// A verdict comes from the own arrivals of the link that the frame names.
+pub fn verdicts_are_own()
+    ensures { VerdictsAreOwn }
+{}
+
+/// What one more arrival adds to the entries of an output port: its own entry exactly if it came to the port's side, is
+/// accepted, goes there and isn't lost there.
+pub fn entries_grow()
+    ensures { EntriesGrow }
+{}
+
+/// The turns that a switch gave at a port are turns of the port's entries, each next after those before it.
+pub fn taken_are_turns()
+    ensures { TakenAreTurns }
+{}
+
+/// At each port the frames of a link have their turns in the order in which they came.
+pub fn links_go_in_order()
+    ensures { LinksGoInOrder }
+{}
+
+/// What arrives at the switch of the other side changes nothing.
+pub fn other_side_is_apart()
+    ensures { OtherSideIsApart }
+{}
+
+/// The ports of an answer's set are those at which the arrival is lost.
+pub fn lost_ports_are_listed()
+    ensures { LostPortsAreListed }
+{}

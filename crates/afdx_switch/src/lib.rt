@@ -1,0 +1,17 @@
+//! One switch: filter and police what arrives, and send it on through the output ports.
+#![tactic(auto)]
+
+mod build;
+mod frame;
+pub mod laws;
+mod line;
+mod ports;
+mod switch;
+#[cfg(test)]
+mod tests;
+mod verdict;
+mod working;
+
+pub use ports::PortSet;
+pub use switch::{Departure, Switch};
+pub use verdict::Verdict;

@@ -1,0 +1,14 @@
+use afdx_frame::Priority;
+use afdx_police::LinkAccount;
+use arrayvec::ArrayVec;
+
+/// What the switch keeps of a link.
+#[derive(Drop)]
+pub struct Line {
+    pub(crate) account: LinkAccount,
+    pub(crate) priority: Priority,
+    /// How long its frames may wait for their turn, in ns, if there is a limit.
+    pub(crate) longest_wait: Option<u64>,
+    /// For each output port, from port 1 on, whether the link goes there.
+    pub(crate) goes: ArrayVec<bool, 24>,
+}

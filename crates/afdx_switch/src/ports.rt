@@ -1,0 +1,51 @@
+ghost use Rattle.std.specs.Prelude.{◌≡◌, ℕ, ◌<◌, ◌⊎◌, false, true, not, if◌then◌else◌};
+ghost use Rattle.std.specs.List.{list_any};
+ghost use Rattle.std.specs.Prelude.{◌==◌};
+
+/// A set of the ports 1 to 24 of a switch.
+#[derive(Clone, Copy, Debug, PartialEq, Eq)]
+pub struct PortSet {
+    /// By number; there is no port 0.
+    ports: [bool; 25],
+}
+
+impl PortSet {
+    ghost use Rattle.afdx_switch.specs.Ports.{holds};
+
+    pub(crate) fn new() -> PortSet
+        ensures { (p : ℕ) → holds result p ≡ false }
+    {
+        PortSet { ports: [false; 25] }
+    }
+
+    pub(crate) fn add(&mut self, port: u8)
+        requires { port < 25 }
+        ensures added { holds self.new port ≡ true }
+        ensures others { (p : ℕ) → (p ≡ port) ⊎ (holds self.new p ≡ holds self.old p) }
+    {
+        self.ports[port as usize] = true;
+    }
+
+    /// Whether the port is one of them.
+    pub fn holds(&self, port: u8) -> bool
+        ensures { result ≡ holds self.now port }
+    {
+        match self.ports.get(port as usize) {
+            Some(held) => *held,
+            None => false,
+        }
+    }
+
+    /// Whether no port is.
+    pub fn is_empty(&self) -> bool
+        ensures { result ≡ not (list_any (λ held. held) self.now.ports) }
+    {
+        !any_held(self.ports.as_slice())
+    }
+}
+
+fn any_held(held: &[bool]) -> bool
+    ensures { result ≡ list_any (λ h. h) held.now }
+{
+    held.iter().any(|held| *held)
+}

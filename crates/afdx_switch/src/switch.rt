@@ -1,0 +1,164 @@
+ghost use Rattle.std.specs.Prelude.{◌≡◌, ℕ, ◌≤◌, ◌+◌, IfOk, OnOk, OnErr, IfSome, IfNone, MatchOption};
+
+use crate::build::build;
+use crate::frame::Frame;
+use crate::verdict::Verdict;
+use crate::working::Working;
+use afdx_config::Tables;
+use afdx_frame::is_sealed;
+use afdx_port::Left;
+use std::alloc::{AllocError, Global};
+use std::marker::Model;
+
+/// A frame whose turn at an output port is over.
+#[derive(Drop)]
+pub struct Departure {
+    pub(crate) port: u8,
+    pub(crate) left: Left<Frame>,
+}
+
+impl Departure {
+    /// When its slot ended, in ns. For a frame that was dropped as too old, the moment of its turn.
+    pub fn time(&self) -> u64
+        ensures { result ≡ self.now.left.end }
+    {
+        self.left.end
+    }
+
+    /// The output port, 1 to 24.
+    pub fn port(&self) -> u8
+        ensures { result ≡ self.now.port }
+    {
+        self.port
+    }
+
+    /// The tag of its arrival.
+    pub fn tag(&self) -> u64
+        ensures { result ≡ self.now.left.item.tag }
+    {
+        self.left.item.tag()
+    }
+
+    /// All bytes of the frame.
+    pub fn bytes(&self) -> &[u8]
+        ensures { result.now ≡ self.now.left.item.bytes }
+    {
+        self.left.item.bytes()
+    }
+
+    /// The frame was dropped: its turn came when it had waited too long.
+    pub fn too_old(&self) -> bool
+        ensures { result ≡ self.now.left.too_old }
+    {
+        self.left.too_old
+    }
+}
+
+/// One switch. It keeps an account for each link, and the frames that still have a turn to come.
+#[derive(Drop)]
+pub struct Switch {
+    working: Working,
+}
+
+impl Model for Switch {
+    ghost use Rattle.afdx_switch.specs.declared.working.Working.{Working};
+    ghost use Rattle.afdx_switch.specs.Switching.{IsSound};
+
+    ghost Value = { Working };
+
+    ghost view = { λ s. s.working };
+
+    ghost invariant = { λ s. IsSound s.working };
+}
+
+impl Switch {
+    ghost use Rattle.afdx_config.specs.Rows.{Rows};
+    ghost use Rattle.afdx_frame.specs.declared.link.Side.{Side};
+    ghost use Rattle.afdx_frame.specs.Sealing.{is_sealed};
+    ghost use Rattle.afdx_police.specs.Arrival.{arrival_with};
+    ghost use Rattle.afdx_port.specs.Due.{IsAfter};
+    ghost use Rattle.afdx_port.specs.History.{due_at};
+    ghost use Rattle.afdx_port.specs.Schedule.{Turn};
+    ghost use Rattle.afdx_switch.specs.Carried.{Carried};
+    ghost use Rattle.afdx_switch.specs.Verdicts.{IsVerdict};
+    ghost use Rattle.afdx_switch.specs.Switching.{History, StandsFor, IsQuiet, IsNextAt, Gives, no_calls, with_arrival, at, frames_held, last_time};
+
+    /// A switch of these tables at time 0, with full accounts and idle ports.
+    /// The error says that memory was refused.
+    pub fn new(alloc: Global, tables: &Tables) -> Result<Switch, AllocError>
+        ensures stands { (side : Side) → IfOk result (λ w. StandsFor tables.now side w no_calls) }
+        ensures quiet { (t : ℕ) → IfOk result (λ w. IsQuiet w t) }
+        ensures clock { IfOk result (λ w. last_time w ≡ 0) }
+        ensures held { IfOk result (λ w. frames_held w ≡ 0) }
+    {
+        Ok(Switch {
+            working: build(alloc, tables)?,
+        })
+    }
+
+    /// Filters and polices a frame that arrives at `time`, in ns, at an input port, and offers it to the output ports of its link.
+    ///
+    /// `time` isn't before the last time used and is at most 1,000,032,768,000,000; `take(time)` would give nothing.
+    /// `tag` is handed back with the frame's departures.
+    /// The error says that memory was refused: then nothing has changed.
+    pub fn arrive(
+        &mut self,
+        time: u64,
+        port: u8,
+        tag: u64,
+        bytes: &[u8],
+    ) -> Result<Verdict, AllocError>
+        requires limit { time ≤ 1000032768000000 }
+        requires clock { last_time self.old ≤ time }
+        requires quiet { IsQuiet self.old time }
+        ensures verdict { (t : Rows) (side : Side) (h : History) → StandsFor t side self.old h →
+            IfOk result (IsVerdict t h.arrivals (arrival_with tag time side port bytes.now)) }
+        ensures stands { (t : Rows) (side : Side) (h : History) → StandsFor t side self.old h →
+            OnOk result (StandsFor t side self.new (with_arrival h (arrival_with tag time side port bytes.now))) }
+        ensures refused { OnErr result (self.new ≡ self.old) }
+        ensures quiet { IsQuiet self.new time }
+        ensures clock { OnOk result (last_time self.new ≡ time) }
+    {
+        self.arrive_checked(time, port, tag, bytes, is_sealed(bytes))
+    }
+
+    /// Takes in a frame of which it is known whether its bytes end with their check sequence, and doesn't read that again:
+    /// `sealed` is what `is_sealed` answers. It is `arrive` otherwise.
+    pub fn arrive_checked(
+        &mut self,
+        time: u64,
+        port: u8,
+        tag: u64,
+        bytes: &[u8],
+        sealed: bool,
+    ) -> Result<Verdict, AllocError>
+        requires limit { time ≤ 1000032768000000 }
+        requires sealed { sealed ≡ is_sealed bytes.now }
+        requires clock { last_time self.old ≤ time }
+        requires quiet { IsQuiet self.old time }
+        ensures verdict { (t : Rows) (side : Side) (h : History) → StandsFor t side self.old h →
+            IfOk result (IsVerdict t h.arrivals (arrival_with tag time side port bytes.now)) }
+        ensures stands { (t : Rows) (side : Side) (h : History) → StandsFor t side self.old h →
+            OnOk result (StandsFor t side self.new (with_arrival h (arrival_with tag time side port bytes.now))) }
+        ensures refused { OnErr result (self.new ≡ self.old) }
+        ensures quiet { IsQuiet self.new time }
+        ensures clock { OnOk result (last_time self.new ≡ time) }
+    {
+        self.working.arrive(time, port, tag, bytes, sealed)
+    }
+
+    /// The next frame that leaves, or is dropped as too old, by `until`, in ns: a slot that ends at or before `until`,
+    /// or a drop whose moment is before `until`. They go by time, at one time those that leave before those too old, then by port.
+    pub fn take(&mut self, until: u64) -> Option<Departure>
+        requires clock { last_time self.old ≤ until }
+        ensures given { (t : Rows) (side : Side) (h : History) → StandsFor t side self.old h → IfSome result (λ d. Gives t side h until d self.new) }
+        ensures none { (t : Rows) (side : Side) (h : History) → StandsFor t side self.old h → IfNone result (StandsFor t side self.new (at h until)) }
+        ensures no_more { (t : Rows) (side : Side) (h : History) (port : ℕ) (s : Turn Carried) → StandsFor t side self.old h → 1 ≤ port → port ≤ 24 → IsNextAt t side h port s →
+            IfNone result (IsAfter until (due_at s)) }
+        ensures quiet { IfNone result (IsQuiet self.new until) }
+        ensures held { MatchOption result (frames_held self.new ≡ frames_held self.old) (λ _. frames_held self.new + 1 ≡ frames_held self.old) }
+        ensures clock { last_time self.new ≡ until }
+    {
+        self.working.take(until)
+    }
+}

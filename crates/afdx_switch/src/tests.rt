@@ -1,0 +1,330 @@
+//! The worked rows, on one switch. They pass also where any one growth is refused.
+ghost use Rattle.std.specs.Prelude.{◌≡◌, ℕ, ◌≤◌, IfOk, IsTrue};
+ghost use Rattle.afdx_switch.specs.Switching.{IsQuiet, last_time};
+
+use crate::{Switch, Verdict};
+use afdx_config::{Tables, read_tables};
+use afdx_frame::{Address, Side, VlId, build, is_sealed};
+use afdx_police::Reason;
+use std::alloc::{AllocError, Global};
+use std::test::Fail;
+
+/// Three systems and two links to the third, one high and one low.
+const BASE: &str = r#"profile = 1
+buffer = 252
+
+[[system]]
+name = "s1"
+port = 1
+id = 1
+partition = 1
+rate = 100
+
+[[system]]
+name = "s2"
+port = 2
+id = 2
+partition = 1
+rate = 100
+
+[[system]]
+name = "s3"
+port = 3
+id = 3
+partition = 1
+rate = 100
+
+[[link]]
+vl = 1
+from = "s1"
+to = ["s3"]
+bag_ms = 1
+lmin = 64
+lmax = 64
+jitter_us = 500
+priority = "high"
+policing = "frame"
+latency_us = 17
+skew_us = 1000
+subs = 2
+
+[[link]]
+vl = 2
+from = "s2"
+to = ["s3"]
+bag_ms = 1
+lmin = 64
+lmax = 64
+jitter_us = 500
+priority = "low"
+policing = "frame"
+latency_us = 21
+skew_us = 1000
+subs = 1
+"#;
+
+/// The text with `new` in the place of the first `old`.
+fn changed(alloc: Global, text: &str, old: &str, new: &str) -> Result<String, AllocError> {
+    let mut result = String::new(alloc);
+    match text.split_once(old) {
+        Some((front, back)) => {
+            result.push_str(front)?;
+            result.push_str(new)?;
+            result.push_str(back)?;
+        }
+        None => result.push_str(text)?,
+    }
+    Ok(result)
+}
+
+/// The tables with these two changes.
+fn tables(alloc: Global, first: (&str, &str), second: (&str, &str)) -> Result<Tables, Fail> {
+    let text = changed(alloc, BASE, first.0, first.1)?;
+    let text = changed(alloc, text.as_str(), second.0, second.1)?;
+    match read_tables(alloc, text.as_bytes()) {
+        Ok(tables) => Ok(tables),
+        Err(_) => Err("tables".into()),
+    }
+}
+
+const SAME: (&str, &str) = ("", "");
+
+/// The frame of link 1 with the message `hello`.
+fn hello(alloc: Global) -> Result<Vec<u8>, AllocError> {
+    let address = Address {
+        vl: VlId(1),
+        system_id: 1,
+        partition: 1,
+        from_udp: 1000,
+        to_udp: 1000,
+        least: 64,
+    };
+    build(alloc, &address, 0, Side::A, b"hello")
+}
+
+/// The frame of link 2 with the message `world`.
+fn world(alloc: Global) -> Result<Vec<u8>, AllocError> {
+    let address = Address {
+        vl: VlId(2),
+        system_id: 2,
+        partition: 1,
+        from_udp: 2000,
+        to_udp: 2000,
+        least: 64,
+    };
+    build(alloc, &address, 0, Side::A, b"world")
+}
+
+/// A frame arrives. Where memory is refused, it arrives again: a refused arrival has changed nothing.
+fn arrive(
+    switch: &mut Switch,
+    time: u64,
+    port: u8,
+    tag: u64,
+    bytes: &[u8],
+) -> Result<Verdict, AllocError>
+    requires limit { time ≤ 1000032768000000 }
+    requires clock { last_time switch.old ≤ time }
+    requires quiet { IsQuiet switch.old time }
+    ensures clock { IfOk result (λ _. last_time switch.new ≡ time) }
+    ensures quiet { IsQuiet switch.new time }
+{
+    match switch.arrive(time, port, tag, bytes) {
+        Ok(verdict) => Ok(verdict),
+        Err(AllocError) => switch.arrive_checked(time, port, tag, bytes, is_sealed(bytes)),
+    }
+}
+
+fn is_forwarded(verdict: Verdict) -> bool {
+    match verdict {
+        Verdict::Accepted { lost } => lost.is_empty(),
+        Verdict::Dropped(_) => false,
+    }
+}
+
+/// Whether nothing leaves by `until`.
+fn is_still(switch: &mut Switch, until: u64) -> bool
+    requires { last_time switch.old ≤ until }
+    ensures clock { last_time switch.new ≡ until }
+    ensures quiet { IsTrue result → IsQuiet switch.new until }
+{
+    switch.take(until).is_none()
+}
+
+/// What leaves by `until`: its tag, its time, its port and whether it was too old.
+fn left(switch: &mut Switch, until: u64) -> Option<(u64, u64, u8, bool)>
+    requires { last_time switch.old ≤ until }
+    ensures clock { last_time switch.new ≡ until }
+{
+    let gone = switch.take(until)?;
+    Some((gone.tag(), gone.time(), gone.port(), gone.too_old()))
+}
+
+#[test]
+fn a_high_frame_goes_before_a_low_one_of_its_moment(rt: HostRuntime) -> Result<(), Fail> {
+    let tables = tables(rt.alloc(), SAME, SAME)?;
+    let mut switch = Switch::new(rt.alloc(), &tables)?;
+    assert!(rt; is_forwarded(arrive(&mut switch, 0, 2, 1, world(rt.alloc())?.as_slice())?));
+    assert!(rt; is_forwarded(arrive(&mut switch, 0, 1, 2, hello(rt.alloc())?.as_slice())?));
+    assert!(rt; is_still(&mut switch, 6719));
+    assert_eq!(rt; left(&mut switch, 1000000), Some((2, 6720, 3, false)));
+    assert_eq!(rt; left(&mut switch, 1000000), Some((1, 13440, 3, false)));
+    assert!(rt; is_still(&mut switch, 2000000));
+    Ok(())
+}
+
+#[test]
+fn a_frame_that_is_sent_goes_before_a_high_one(rt: HostRuntime) -> Result<(), Fail> {
+    let tables = tables(rt.alloc(), SAME, SAME)?;
+    let mut switch = Switch::new(rt.alloc(), &tables)?;
+    assert!(rt; is_forwarded(arrive(&mut switch, 0, 2, 1, world(rt.alloc())?.as_slice())?));
+    assert!(rt; is_still(&mut switch, 1));
+    assert!(rt; is_forwarded(arrive(&mut switch, 1, 1, 2, hello(rt.alloc())?.as_slice())?));
+    assert_eq!(rt; left(&mut switch, 1000000), Some((1, 6720, 3, false)));
+    assert_eq!(rt; left(&mut switch, 1000000), Some((2, 13440, 3, false)));
+    assert!(rt; is_still(&mut switch, 1000000));
+    Ok(())
+}
+
+#[test]
+fn a_frame_at_another_port_is_dropped_and_not_charged(rt: HostRuntime) -> Result<(), Fail> {
+    let tables = tables(rt.alloc(), SAME, SAME)?;
+    let mut switch = Switch::new(rt.alloc(), &tables)?;
+    let frame = hello(rt.alloc())?;
+    let wrong = arrive(&mut switch, 0, 2, 1, frame.as_slice())?;
+    assert_eq!(rt; wrong, Verdict::Dropped(Reason::WrongPort));
+    assert!(rt; is_forwarded(arrive(&mut switch, 0, 1, 2, frame.as_slice())?));
+    let gone = switch.take(6720).ok_or("a departure")?;
+    assert!(rt; gone.bytes() == frame.as_slice());
+    assert_eq!(rt; (gone.tag(), gone.time(), gone.port()), (2, 6720, 3));
+    assert!(rt; is_still(&mut switch, 1000000));
+    Ok(())
+}
+
+#[test]
+fn a_short_frame_of_a_link_that_is_policed_by_bytes(rt: HostRuntime) -> Result<(), Fail> {
+    let (old, new) = (
+        "to = [\"s3\"]\nbag_ms = 1\nlmin = 64\nlmax = 64\njitter_us = 500\npriority = \"low\"\npolicing = \"frame\"",
+        "to = [\"s3\"]\nbag_ms = 1\nlmin = 100\nlmax = 200\njitter_us = 500\npriority = \"low\"\npolicing = \"byte\"",
+    );
+    let tables = tables(rt.alloc(), (old, new), SAME)?;
+    let mut switch = Switch::new(rt.alloc(), &tables)?;
+    let verdict = arrive(&mut switch, 0, 2, 1, world(rt.alloc())?.as_slice())?;
+    assert_eq!(rt; verdict, Verdict::Dropped(Reason::UnderLmin));
+    assert!(rt; is_still(&mut switch, 1000000));
+    Ok(())
+}
+
+#[test]
+fn a_frame_is_lost_at_a_full_port_and_stays_charged(rt: HostRuntime) -> Result<(), Fail> {
+    let tables = tables(rt.alloc(), ("buffer = 252", "buffer = 64"), SAME)?;
+    let mut switch = Switch::new(rt.alloc(), &tables)?;
+    let world = world(rt.alloc())?;
+    assert!(rt; is_forwarded(arrive(&mut switch, 0, 1, 1, hello(rt.alloc())?.as_slice())?));
+    let Verdict::Accepted { lost } = arrive(&mut switch, 0, 2, 2, world.as_slice())? else {
+        return Err("accepted".into());
+    };
+    assert_eq!(rt;
+        (lost.holds(2), lost.holds(3), lost.holds(25)),
+        (false, true, false)
+    );
+    assert!(rt; !lost.is_empty());
+    assert!(rt; is_still(&mut switch, 1));
+    let verdict = arrive(&mut switch, 1, 2, 3, world.as_slice())?;
+    assert_eq!(rt; verdict, Verdict::Dropped(Reason::OverRate));
+    assert_eq!(rt; left(&mut switch, 1000000), Some((1, 6720, 3, false)));
+    assert!(rt; is_still(&mut switch, 1000000));
+    Ok(())
+}
+
+/// Whether each of 999 further frames at time 0 and port 2 is dropped for its link's rate.
+fn is_over_rate(switch: &mut Switch, bytes: &[u8]) -> Result<bool, AllocError>
+    requires clock { last_time switch.old ≡ 0 }
+    requires quiet { IsQuiet switch.old 0 }
+    ensures clock { IfOk result (λ _. last_time switch.new ≡ 0) }
+    ensures quiet { IfOk result (λ _. IsQuiet switch.new 0) }
+{
+    let mut all = true;
+    for tag in 2..1001_u64 {
+        let verdict = arrive(switch, 0, 2, tag, bytes)?;
+        all = all && verdict == Verdict::Dropped(Reason::OverRate);
+    }
+    Ok(all)
+}
+
+#[test]
+fn a_babbling_link_leaves_another_as_it_is(rt: HostRuntime) -> Result<(), Fail> {
+    let tables = tables(rt.alloc(), SAME, SAME)?;
+    let mut switch = Switch::new(rt.alloc(), &tables)?;
+    let world = world(rt.alloc())?;
+    assert!(rt; is_forwarded(arrive(&mut switch, 0, 2, 1, world.as_slice())?));
+    assert!(rt; is_over_rate(&mut switch, world.as_slice())?);
+    assert!(rt; is_forwarded(arrive(&mut switch, 0, 1, 1001, hello(rt.alloc())?.as_slice())?));
+    assert_eq!(rt; left(&mut switch, 1000000), Some((1001, 6720, 3, false)));
+    assert_eq!(rt; left(&mut switch, 1000000), Some((1, 13440, 3, false)));
+    assert!(rt; is_still(&mut switch, 1000000));
+    Ok(())
+}
+
+/// What leaves after a frame of link 1 at 0 and one of link 2 at `time`, where link 2 has a latency of 6 us.
+fn second_left(
+    alloc: Global,
+    profile: (&str, &str),
+    time: u64,
+) -> Result<(Option<(u64, u64, u8, bool)>, Option<(u64, u64, u8, bool)>), Fail>
+    requires { time ≤ 6719 }
+{
+    let tables = tables(alloc, profile, ("latency_us = 21", "latency_us = 6"))?;
+    let mut switch = Switch::new(alloc, &tables)?;
+    let first = arrive(&mut switch, 0, 1, 1, hello(alloc)?.as_slice())?;
+    if !is_forwarded(first) || !is_still(&mut switch, time) {
+        return Err("the first frame".into());
+    }
+    let second = arrive(&mut switch, time, 2, 2, world(alloc)?.as_slice())?;
+    if !is_forwarded(second) {
+        return Err("the second frame".into());
+    }
+    let first_left = left(&mut switch, 1000000);
+    let second_left = left(&mut switch, 1000000);
+    Ok((first_left, second_left))
+}
+
+#[test]
+fn a_frame_that_waited_too_long_is_dropped(rt: HostRuntime) -> Result<(), Fail> {
+    let second = ("profile = 1", "profile = 2");
+    let first = ("profile = 1", "profile = 1");
+    let hello_left = Some((1, 6720, 3, false));
+    let dropped = second_left(rt.alloc(), second, 719)?;
+    assert_eq!(rt; dropped, (hello_left, Some((2, 6720, 3, true))));
+    let in_time = second_left(rt.alloc(), second, 720)?;
+    assert_eq!(rt; in_time, (hello_left, Some((2, 13440, 3, false))));
+    let for_ever = second_left(rt.alloc(), first, 719)?;
+    assert_eq!(rt; for_ever, (hello_left, Some((2, 13440, 3, false))));
+    Ok(())
+}
+
+#[test]
+fn a_drop_is_given_once_its_moment_is_past(rt: HostRuntime) -> Result<(), Fail> {
+    let second = ("profile = 1", "profile = 2");
+    let tables = tables(rt.alloc(), second, ("latency_us = 21", "latency_us = 6"))?;
+    let mut switch = Switch::new(rt.alloc(), &tables)?;
+    assert!(rt; is_forwarded(arrive(&mut switch, 0, 1, 1, hello(rt.alloc())?.as_slice())?));
+    assert!(rt; is_forwarded(arrive(&mut switch, 0, 2, 2, world(rt.alloc())?.as_slice())?));
+    assert_eq!(rt; left(&mut switch, 6720), Some((1, 6720, 3, false)));
+    assert!(rt; is_still(&mut switch, 6720));
+    assert_eq!(rt; left(&mut switch, 6721), Some((2, 6720, 3, true)));
+    assert!(rt; is_still(&mut switch, 1000000));
+    Ok(())
+}
+
+#[test]
+fn departures_of_one_time_go_by_port(rt: HostRuntime) -> Result<(), Fail> {
+    let (old, new) = ("to = [\"s3\"]", "to = [\"s3\", \"s2\"]");
+    let tables = tables(rt.alloc(), (old, new), SAME)?;
+    let mut switch = Switch::new(rt.alloc(), &tables)?;
+    assert!(rt; is_forwarded(arrive(&mut switch, 0, 1, 1, hello(rt.alloc())?.as_slice())?));
+    assert_eq!(rt; left(&mut switch, 1000000), Some((1, 6720, 2, false)));
+    assert_eq!(rt; left(&mut switch, 1000000), Some((1, 6720, 3, false)));
+    assert!(rt; is_still(&mut switch, 1000000));
+    Ok(())
+}
