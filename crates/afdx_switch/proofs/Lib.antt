@@ -6,3 +6,4 @@ pub mod ArrivalLemmas
 pub mod StandsLemmas
 pub mod NewLemmas
 pub mod LawLemmas
+pub mod JoinLemmas

@@ -1,5 +1,5 @@
 //! What is true of the definitions, and of each switch that stands for calls, for the crates that stand on them.
-ghost use Rattle.afdx_switch.specs.Laws.{VerdictsAreOwn, EntriesGrow, TakenAreTurns, LinksGoInOrder, OtherSideIsApart, LostPortsAreListed};
+ghost use Rattle.afdx_switch.specs.Laws.{VerdictsAreOwn, EntriesGrow, TakenAreTurns, LinksGoInOrder, OtherSideIsApart, LostPortsAreListed, PortsAreOfSystems};
 
 /// A verdict comes from the own arrivals of the link that the frame names.
 pub fn verdicts_are_own()
@@ -30,4 +30,9 @@ pub fn other_side_is_apart()
 /// The ports of an answer's set are those at which the arrival is lost.
 pub fn lost_ports_are_listed()
     ensures { LostPortsAreListed }
+{}
+
+/// An output port by number is that of the system that has it: what is true of the ports of admitted tables is true of a switch's.
+pub fn ports_are_of_systems()
+    ensures { PortsAreOfSystems }
 {}
