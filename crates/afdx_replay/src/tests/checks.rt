@@ -271,3 +271,43 @@ fn faults_of_a_configuration(rt: HostRuntime) -> Result<(), Fail> {
     }
     Ok(())
 }
+
+/// The largest tables: 24 systems, 4,096 links from the first to all others, and 4,096 ports of the second.
+fn largest_tables(alloc: Global) -> Result<String, AllocError> {
+    let mut others = String::new(alloc);
+    let mut text = String::new(alloc);
+    text.push_str("profile = 1\nbuffer = 252\n")?;
+    for place in 1..=24_u8 {
+        if place > 1 {
+            write!(others, "\"s{place}\",")?;
+        }
+        write!(
+            text,
+            "[[system]]\nname = \"s{place}\"\nport = {place}\nid = {place}\npartition = 1\nrate = 100\n"
+        )?;
+    }
+    for vl in 0..4096_u16 {
+        write!(
+            text,
+            "[[link]]\nvl = {vl}\nfrom = \"s1\"\nto = [{others}]\nbag_ms = 1\nlmin = 64\nlmax = 64\njitter_us = 500\npriority = \"high\"\npolicing = \"frame\"\nlatency_us = 17\nskew_us = 1000\nsubs = 2\n"
+        )?;
+    }
+    for vl in 0..4096_u16 {
+        write!(
+            text,
+            "[[port]]\nsystem = \"s2\"\nlink = {vl}\nudp = 1000\nkind = \"sampling\"\ndepth = 1\n"
+        )?;
+    }
+    Ok(text)
+}
+
+#[test]
+fn the_largest_tables(rt: HostRuntime) -> Result<(), Fail> {
+    let config = largest_tables(rt.alloc())?;
+    let (status, output, errors) = checked(rt.alloc(), config.as_bytes());
+    assert_eq!(rt; status, 1);
+    assert!(rt; output.starts_with(b"P 1 0 0 0\nP 2 41287680 - 516096\n"));
+    assert!(rt; ends(output.as_slice(), "\nP 24 41287680 - 516096\nno A1 2\n"));
+    assert!(rt; errors.is_empty());
+    Ok(())
+}

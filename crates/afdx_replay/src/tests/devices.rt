@@ -4,6 +4,7 @@ ghost use Rattle.std.specs.Prelude.{◌<◌};
 
 use super::{WRONG_FRAMES, rule, spelled, wrong_frames};
 use crate::{RunFault, Watched, run_police};
+use afdx_police::LinkRule;
 use std::alloc::Global;
 use std::io;
 use std::io::{ErrorKind, Read, Write};
@@ -75,21 +76,41 @@ impl Write for WeakWriter {
 /// Enough calls for any of the lists.
 const ENOUGH: u64 = 100_000;
 
-/// Lists with their whole texts. Each line is a frame's; the last list ends with a fault.
-const LISTS: [(&str, &str); 4] = [
+/// The greatest length of a frame of the link, a list, and its whole text. Each line is a frame's; the last lists end
+/// with a fault.
+const LISTS: [(u64, &str, &str); 8] = [
     (
+        64,
         "F 0 A 1 H1\nF 499999 A 1 H1\nF 500000 A 1 H1\nF 1499999 A 1 H1\nF 1500000 A 1 H1\n",
         "V 1 A accept\nV 2 A drop over-rate\nV 3 A accept\nV 4 A drop over-rate\nV 5 A accept\n",
     ),
     (
+        200,
+        "F 0 A 1 H1\nF 0 A 1 H1\nF 0 A 1 H1\nF 0 A 1 H1\n",
+        "V 1 A accept\nV 2 A accept\nV 3 A accept\nV 4 A drop over-rate\n",
+    ),
+    (
+        64,
         "F 0 A 1 00\nR 1 B 2 -\r\nF 2 A 1 0102",
         "V 1 A drop too-short\nV 2 B drop too-short\nV 3 A drop too-short\n",
     ),
     (
+        64,
         "F 0 A 2 H1\nF 0 B 1 H1",
         "V 1 A drop wrong-port\nV 2 B accept\n",
     ),
-    ("F 0 A 1 H1\nF 0 A", "V 1 A accept\n"),
+    (
+        64,
+        "F 0 A 1 H1\nF 1000000000000000 A 1 H1\n",
+        "V 1 A accept\nV 2 A accept\n",
+    ),
+    (
+        64,
+        "F 1000000000000000 A 1 H1\nF 1000000000000001 A 1 H1\n",
+        "V 1 A accept\n",
+    ),
+    (64, "F 5 A 1 H1\nF 4 A 1 H1\n", "V 1 A accept\n"),
+    (64, "F 0 A 1 H1\nF 0 A", "V 1 A accept\n"),
 ];
 
 /// How often a line feed stands in a text.
@@ -101,6 +122,7 @@ fn feeds_in(text: &[u8]) -> usize {
 fn fail_reads(
     rt: &impl Abort,
     alloc: Global,
+    rule: &LinkRule,
     list: &[u8],
     text: &[u8],
     most: usize,
@@ -108,7 +130,6 @@ fn fail_reads(
 ) -> Result<(), Fail>
     requires { 0 < most }
 {
-    let rule = rule(64).ok_or("a rule")?;
     for calls in first..ENOUGH + 1 {
         let mut input = Watched::new(WeakReader {
             rest: list,
@@ -116,7 +137,7 @@ fn fail_reads(
             calls,
         });
         let mut output = Watched::new(Vec::new(alloc));
-        let result = run_police(alloc, &rule, &mut input, &mut output);
+        let result = run_police(alloc, rule, &mut input, &mut output);
         let (failed, ended) = (input.failed(), input.ended());
         let left = input.into_inner().rest.len();
         let written = output.into_inner();
@@ -140,13 +161,13 @@ fn fail_reads(
 fn fail_writes(
     rt: &impl Abort,
     alloc: Global,
+    rule: &LinkRule,
     list: &[u8],
     text: &[u8],
     most: usize,
     first: u64,
     breaks: Break,
 ) -> Result<(), Fail> {
-    let rule = rule(64).ok_or("a rule")?;
     for calls in first..ENOUGH + 1 {
         let mut input = Watched::new(list);
         let mut output = Watched::new(WeakWriter {
@@ -155,7 +176,7 @@ fn fail_writes(
             calls,
             breaks,
         });
-        let result = run_police(alloc, &rule, &mut input, &mut output);
+        let result = run_police(alloc, rule, &mut input, &mut output);
         let failed = output.failed();
         let written = output.into_inner().written;
         if matches!(result, Err(RunFault::Write)) {
@@ -173,65 +194,35 @@ fn fail_writes(
 
 #[test]
 fn each_read_fails(rt: HostRuntime) -> Result<(), Fail> {
-    for (list, text) in LISTS {
+    for (lmax, list, text) in LISTS {
+        let rule = rule(lmax).ok_or("a rule")?;
         let list = spelled(rt.alloc(), list)?;
-        fail_reads(&rt, rt.alloc(), list.as_bytes(), text.as_bytes(), 16, 0)?;
-        fail_reads(&rt, rt.alloc(), list.as_bytes(), text.as_bytes(), 1, ENOUGH)?;
+        let (list, text) = (list.as_bytes(), text.as_bytes());
+        fail_reads(&rt, rt.alloc(), &rule, list, text, 16, 0)?;
+        fail_reads(&rt, rt.alloc(), &rule, list, text, 1, ENOUGH)?;
     }
+    let rule = rule(64).ok_or("a rule")?;
     let list = wrong_frames(rt.alloc())?;
-    fail_reads(
-        &rt,
-        rt.alloc(),
-        list.as_bytes(),
-        WRONG_FRAMES.as_bytes(),
-        16,
-        0,
-    )?;
-    fail_reads(
-        &rt,
-        rt.alloc(),
-        list.as_bytes(),
-        WRONG_FRAMES.as_bytes(),
-        1,
-        ENOUGH,
-    )?;
+    let (list, text) = (list.as_bytes(), WRONG_FRAMES.as_bytes());
+    fail_reads(&rt, rt.alloc(), &rule, list, text, 16, 0)?;
+    fail_reads(&rt, rt.alloc(), &rule, list, text, 1, ENOUGH)?;
     Ok(())
 }
 
 #[test]
 fn each_write_fails(rt: HostRuntime) -> Result<(), Fail> {
     for breaks in [Break::Fails, Break::TakesNone] {
-        for (list, text) in LISTS {
+        for (lmax, list, text) in LISTS {
+            let rule = rule(lmax).ok_or("a rule")?;
             let list = spelled(rt.alloc(), list)?;
-            fail_writes(
-                &rt,
-                rt.alloc(),
-                list.as_bytes(),
-                text.as_bytes(),
-                16,
-                0,
-                breaks,
-            )?;
-            fail_writes(
-                &rt,
-                rt.alloc(),
-                list.as_bytes(),
-                text.as_bytes(),
-                1,
-                ENOUGH,
-                breaks,
-            )?;
+            let (list, text) = (list.as_bytes(), text.as_bytes());
+            fail_writes(&rt, rt.alloc(), &rule, list, text, 16, 0, breaks)?;
+            fail_writes(&rt, rt.alloc(), &rule, list, text, 1, ENOUGH, breaks)?;
         }
+        let rule = rule(64).ok_or("a rule")?;
         let list = wrong_frames(rt.alloc())?;
-        fail_writes(
-            &rt,
-            rt.alloc(),
-            list.as_bytes(),
-            WRONG_FRAMES.as_bytes(),
-            16,
-            0,
-            breaks,
-        )?;
+        let (list, text) = (list.as_bytes(), WRONG_FRAMES.as_bytes());
+        fail_writes(&rt, rt.alloc(), &rule, list, text, 16, 0, breaks)?;
     }
     Ok(())
 }
