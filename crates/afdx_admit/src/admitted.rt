@@ -18,12 +18,13 @@ pub struct Admitted {
 impl Model for Admitted {
     ghost use Rattle.afdx_config.specs.Rows.{Rows};
     ghost use Rattle.afdx_config.specs.Admission.{IsAdmitted};
+    ghost use Rattle.afdx_config.specs.Lawful.{IsLawful};
 
     ghost Value = { Rows };
 
     ghost view = { λ a. a.tables };
 
-    ghost invariant = { λ a. IsAdmitted a.tables };
+    ghost invariant = { λ a. IsLawful a.tables × IsAdmitted a.tables };
 }
 
 impl Admitted {
@@ -34,6 +35,7 @@ impl Admitted {
     /// The tables that were admitted.
     pub fn tables(&self) -> &Tables
         ensures tables { result.now ≡ self.now }
+        ensures lawful { IsLawful self.now }
         ensures admitted { IsAdmitted self.now }
     {
         &self.tables

@@ -20,7 +20,7 @@ is-bag : (ms : ℕ) → IsOneOf gaps ms → IsTrue (is_bag ms)
 is-bag ms h = h
 
 -- a byte takes 8 ns at least
-rate-line : (profile : ℕ) (s : SystemRow) → IsSystem profile s → 8 ≤ byte_ns s
+pub rate-line : (profile : ℕ) (s : SystemRow) → IsSystem profile s → 8 ≤ byte_ns s
 rate-line profile s is = by_profile (profile == 2) s.rate is.rate
   where
     one-of : (n rate : ℕ) (rest : Bool) → (nat_eq n rate || rest) ≡ true → 8 ≤ 8000 / n →
@@ -32,7 +32,7 @@ rate-line profile s is = by_profile (profile == 2) s.rate is.rate
     by_profile true rate h = one-of 10 rate _ h (omega arith) (λ k. one-of 100 rate _ k (omega arith) (λ m. one-of 1000 rate _ m (omega arith) (λ none. absurd (cc none))))
     by_profile false rate h = one-of 10 rate _ h (omega arith) (λ k. one-of 100 rate _ k (omega arith) (λ none. absurd (cc none)))
 
-each-at : {Y : Type 0} (P : Y → Type 0) (xs : List Y) (i : ℕ) (y : Y) → AllByRecursion P xs →
+pub each-at : {Y : Type 0} (P : Y → Type 0) (xs : List Y) (i : ℕ) (y : Y) → AllByRecursion P xs →
     slice_get xs i ≡ Some y → P y
 each-at P [] i y h at = absurd (cc at)
 each-at P (x ∷ xs) zero y h at = let same : x ≡ y = cc at in subst P same h.0

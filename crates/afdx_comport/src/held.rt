@@ -25,6 +25,23 @@ impl Model for Sample {
     ghost view = { λ s. record { time = s.time; bytes = s.bytes.items } };
 }
 
+impl Sample {
+    /// Puts a message in the place of this one, and in its room where that is enough.
+    fn replace(&mut self, alloc: Global, time: u64, message: &[u8]) -> Result<(), AllocError>
+        ensures ok { OnOk result (self.new ≡ record { time = time; bytes = message.now }) }
+        ensures err { OnErr result (self.new ≡ self.old) }
+    {
+        if message.len() <= self.bytes.capacity() {
+            self.bytes.clear();
+            self.bytes.extend_from_slice(message)?;
+        } else {
+            self.bytes = Vec::from_slice(alloc, message)?;
+        }
+        self.time = time;
+        Ok(())
+    }
+}
+
 /// The messages of a queuing port.
 #[derive(Drop)]
 pub(crate) struct Queue {
@@ -93,9 +110,10 @@ impl Held {
         ensures err { OnErr result (self.new ≡ self.old) }
     {
         match self {
-            Held::Sampling(sample) => {
+            Held::Sampling(Some(sample)) => sample.replace(alloc, time, message)?,
+            Held::Sampling(none) => {
                 let bytes = Vec::from_slice(alloc, message)?;
-                *sample = Some(Sample { time, bytes });
+                *none = Some(Sample { time, bytes });
             }
             Held::Queuing(queue) => {
                 if queue.is_full() {

@@ -98,6 +98,7 @@ impl Tables {
     pub fn system_at(&self, port: u8) -> Option<SystemId>
         ensures place { option_map (λ i. i.0) result ≡ system_at_port self.now.systems port }
         ensures known { IfSome result (λ i. i.0 < length self.now.systems) }
+        ensures lawful { IsLawful self.now }
     {
         self.systems.at_port(port)
     }

@@ -1,6 +1,6 @@
 //! What is wrong with one arrival, by its shape.
 
-ghost use Rattle.std.specs.Prelude.{◌≡◌, ◌≤◌, IfNone, IfSome, length, option_map};
+ghost use Rattle.std.specs.Prelude.{◌≡◌, ◌≤◌, IfNone, IfSome, length, option_map, true};
 ghost use Rattle.std.specs.Option.{option_copied};
 ghost use Rattle.afdx_frame.specs.Sealing.{is_sealed};
 ghost use Rattle.afdx_police.specs.RuleOf.{rule_of};
@@ -60,6 +60,7 @@ pub fn judge_checked(
     ensures reason { result ≡
         fault_of (option_map rule_of (option_copied rule.entry)) port frame.now }
     ensures shortest { IfNone result (64 ≤ length frame.now) }
+    ensures sealed { IfNone result (is_sealed frame.now ≡ true) }
     ensures longest { IfNone result
         (IfSome (option_copied rule.entry) (λ r. length frame.now ≤ r.lmax)) }
 {

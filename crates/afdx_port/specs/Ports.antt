@@ -1,25 +1,32 @@
 -- Which of several ports gives its turn first.
-use Rattle.std.specs.Prelude.{◌≡◌, ℕ, ◌<◌, ◌≤◌, nat_lt, if◌then◌else◌, List, Option, Some, None, slice_get}
+use Rattle.std.specs.Prelude.{◌≡◌, ℕ, ◌+◌, ◌*◌, min, ◌<◌, ◌≤◌, nat_lt, if◌then◌else◌, List, Option, Some, None, slice_get}
 use Rattle.afdx_port.specs.declared.left.Due.{Due}
 use Rattle.afdx_port.specs.declared.pending.Pending.{Pending}
 use Rattle.afdx_port.specs.Facts.{Facts}
 use Rattle.afdx_port.specs.Due.{given_at, IsBy, order_of}
 use Rattle.afdx_port.specs.Held.{due_of, IsQuiet}
 
--- of two turns in the order of their places, the one that goes first
-abbrev pub earlier_of_two : Option (ℕ × Due) → ℕ → Due → Option (ℕ × Due)
-earlier_of_two None place d = Some (place, d)
-earlier_of_two (Some (at, e)) place d = if nat_lt (order_of d) (order_of e) then Some (place, d) else Some (at, e)
+-- the orders of the turns that are given by then are below this, and no others; no turn is later than 1.2e15 ns
+abbrev pub bound_at : ℕ → ℕ
+bound_at until = 2 * min until 1200000000000000 + 1
 
--- the one that goes first after the port at a further place, which may have a turn that is given by then
-abbrev pub earlier_of : ℕ → Option (ℕ × Due) → ℕ → Option Due → Option (ℕ × Due)
-earlier_of until first place None = first
-earlier_of until first place (Some d) = if nat_lt until (given_at d) then first else earlier_of_two first place d
+-- the least order so far, and the place where it is due, after the port at a further place
+abbrev pub bound_after : ℕ → Option Due → ℕ
+bound_after bound None = bound
+bound_after bound (Some d) = if nat_lt (order_of d) bound then order_of d else bound
+
+abbrev pub place_after : Option ℕ → ℕ → ℕ → Option Due → Option ℕ
+place_after first bound place None = first
+place_after first bound place (Some d) = if nat_lt (order_of d) bound then Some place else first
 
 module _ {X : Type 0} where
   -- none of the first n ports gives a further turn by then
   abbrev pub AreQuiet : (X → Facts) → List (Pending X) → ℕ → ℕ → Type 0
   AreQuiet facts ports until n = (place : ℕ) (p : Pending X) → place < n → slice_get ports place ≡ Some p → IsQuiet facts p until
+
+  -- what is due at the first n ports is given by 1.2e15 ns
+  abbrev pub AreLimited : (X → Facts) → List (Pending X) → ℕ → Type 0
+  AreLimited facts ports n = (place : ℕ) (p : Pending X) (d : Due) → place < n → slice_get ports place ≡ Some p → due_of facts p ≡ Some d → given_at d ≤ 1200000000000000
 
   -- of the first n ports this one gives its turn first, and by then
   pub record IsFirstAt (facts : X → Facts) (ports : List (Pending X)) (until n place : ℕ) (d : Due) : Type 0 where

@@ -21,7 +21,8 @@ pub struct Due {
 }
 
 impl Due {
-    ghost use Rattle.afdx_port.specs.Due.{order_of, IsBy};
+    ghost use Rattle.std.specs.Prelude.{◌≡◌, ◌≤◌};
+    ghost use Rattle.afdx_port.specs.Due.{given_at, order_of, IsBy};
 
     /// Whether the turn is given by `until`: a slot if it ends at or before, a drop if its moment is before.
     pub fn is_by(&self, until: u64) -> bool
@@ -31,6 +32,18 @@ impl Due {
             self.time < until
         } else {
             self.time <= until
+        }
+    }
+
+    /// The place of the turn in the order in which ports are served together: by time, and at one time slots before drops.
+    pub(crate) fn order(&self) -> u64
+        requires { given_at self.now ≤ 1200000000000000 }
+        ensures { result ≡ order_of self.now }
+    {
+        if self.too_old {
+            2 * self.time + 1
+        } else {
+            2 * self.time
         }
     }
 

@@ -3,7 +3,7 @@ use Rattle.afdx_admit.proofs.Exact.{admitted_from, from_admitted}
 use Rattle.afdx_admit.proofs.admitted.admit.Goals as goal
 
 pub invariant_of-result : goal.invariant_of-result
-invariant_of-result c = admitted_from c.args.tables c.first_fault.ensures.lawful (sym c.in-None.ensures.fault)
+invariant_of-result c = (c.first_fault.ensures.lawful, admitted_from c.args.tables c.first_fault.ensures.lawful (sym c.in-None.ensures.fault))
 
 pub returns-in-None-clause-exact : goal.returns-in-None-clause-exact
 returns-in-None-clause-exact c = (λ _. admitted_from c.args.tables c.first_fault.ensures.lawful (sym c.in-None.ensures.fault), λ _. refl)
