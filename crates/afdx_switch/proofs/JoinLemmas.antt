@@ -31,7 +31,7 @@ module _ (t : Rows) (side : Side) (system : ℕ) (s : SystemRow) (lawful : IsLaw
   unfolding goes_to
   goes-is l = ap (λ (o : Option ℕ). option_map_or (λ k. is_to k l) o false) at-port
 
-  sends-is : (past : List Arrival) (x : Arrival) (l : LinkRow) → sends (output_at t side s.port) past x (row_of t l) ≡ sends (bounds.output_to t side system s) past x (bounds.row_of t l)
+  pub sends-is : (past : List Arrival) (x : Arrival) (l : LinkRow) → sends (output_at t side s.port) past x (row_of t l) ≡ sends (bounds.output_to t side system s) past x (bounds.row_of t l)
   unfolding rule_of port_of
   sends-is past x l = ap (λ b. accepts past x (bounds.row_of t l) && (is_side side x.side && b)) (goes-is l)
 

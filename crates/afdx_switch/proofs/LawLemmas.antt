@@ -41,7 +41,7 @@ verdicts-own t past other x same = on (row_named t x.bytes) same
     on (Some r) equal = ap (λ xs. reason_after r.rule xs x) equal
 
 -- where the row stands that the bytes name, in lawful tables
-named-place : (t : Rows) (bytes : List ℕ) → IsLawful t → (place : Option ℕ) × IsNamed (rows_of t) bytes place
+pub named-place : (t : Rows) (bytes : List ℕ) → IsLawful t → (place : Option ℕ) × IsNamed (rows_of t) bytes place
 named-place t bytes lawful = by (link_named_by bytes) refl
   where
     here : (v : VlId) (place : Option ℕ) → link_named_by bytes ≡ Some v → IsPlaceOf (rows_of t) v.0 place → (k : Option ℕ) × IsNamed (rows_of t) bytes k
@@ -106,15 +106,15 @@ entries-grow t side port x past lawful = record {
 }
 
 -- the arrival and the row that an entry is of
-record From (t : Rows) (e : Entry Carried) : Type 0 where
-  x : Arrival
-  row : Row
-  place : ℕ
-  stands : slice_get (rows_of t) place ≡ Some row
-  named : names row.rule.vl x.bytes ≡ true
-  is : e ≡ entry_of (carried t) row x
+pub record From (t : Rows) (e : Entry Carried) : Type 0 where
+  pub x : Arrival
+  pub row : Row
+  pub place : ℕ
+  pub stands : slice_get (rows_of t) place ≡ Some row
+  pub named : names row.rule.vl x.bytes ≡ true
+  pub is : e ≡ entry_of (carried t) row x
 
-entry-from : (t : Rows) (side : Side) (port : ℕ) (arrivals : List Arrival) (i : ℕ) (e : Entry Carried) → slice_get (entries_at t side port arrivals) i ≡ Some e → From t e
+pub entry-from : (t : Rows) (side : Side) (port : ℕ) (arrivals : List Arrival) (i : ℕ) (e : Entry Carried) → slice_get (entries_at t side port arrivals) i ≡ Some e → From t e
 unfolding offers_at
 entry-from t side port [] i e at = absurd cc
 entry-from t side port (x ∷ past) i e at = by (find (sends (output_at t side port) past x) (rows_of t)) refl (entry-from t side port past i e)
@@ -135,7 +135,7 @@ entry-from t side port (x ∷ past) i e at = by (find (sends (output_at t side p
         more r (is_lost (byte_ns_at t port) t.buffer (entries_at t side port past) (entry_of (carried t) r x)) sent earlier
         (sym (ap (λ es. slice_get es i) (side-with t side port x past (Some r) sent)) ∙ at)
 
-one-class : (t : Rows) (side : Side) (port vl : ℕ) (arrivals : List Arrival) → IsLawful t → AreOfOneClass (is_of vl) (entries_at t side port arrivals)
+pub one-class : (t : Rows) (side : Side) (port vl : ℕ) (arrivals : List Arrival) → IsLawful t → AreOfOneClass (is_of vl) (entries_at t side port arrivals)
 unfolding carried
 one-class t side port vl arrivals lawful = by (link_of t.links vl) (place-of t lawful vl (link_of t.links vl) refl)
   where

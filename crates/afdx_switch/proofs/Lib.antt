@@ -7,3 +7,5 @@ pub mod StandsLemmas
 pub mod NewLemmas
 pub mod LawLemmas
 pub mod JoinLemmas
+pub mod AdmittedLemmas
+pub mod RegularLemmas

@@ -1,7 +1,8 @@
 -- A switch through an arrival.
-use Rattle.std.proofs.Common.{◌≡◌, ◌≢◌, ℕ, zero, suc, ◌<◌, ◌≤◌, ◌+◌, true, false, List, ◌∷◌, length, map, set, sym, ap, ◌∙◌, arith, subst, inl, inr}
-use Rattle.std.specs.Prelude.{Option, Some, None, IfSome, All, option_map, slice_get, vec_len, ◌⊎◌}
+use Rattle.std.proofs.Common.{◌≡◌, ◌≢◌, ℕ, zero, suc, ◌<◌, ◌≤◌, ◌+◌, true, false, List, [], ◌∷◌, length, map, set, refl, sym, ap, ◌∙◌, arith, subst, inl, inr}
+use Rattle.std.specs.Prelude.{Option, Some, None, IfSome, All, option_map, slice_get, sum_by, vec_len, ◌⊎◌}
 use Rattle.std.specs.Option.{unwrap_or}
+use Rattle.std.proofs.lemmas.List.Sums.{sum_by-cons}
 use Rattle.std.proofs.lemmas.Bool.{cases_eq}
 use Rattle.std.proofs.lemmas.Option.{slice_get_within, slice_get_cases, slice_get-get_or, slice_get-map}
 use Rattle.afdx_frame.specs.declared.link.Priority.{Priority}
@@ -173,7 +174,16 @@ module _ (t : Rows) (x : Arrival) (w : Working) (h : History) (st : StandsFor t 
       ports = λ i p at_p. port-after i p (sym (ap (λ ps. slice_get ps i) is_ports) ∙ at_p);
     }
 
--- ports through the offers of shares are sound and quiet
+sum-grows : {X : Type 0} (f : X → ℕ) (xs ys : List X) → length xs ≡ length ys → ((i : ℕ) (x y : X) → slice_get xs i ≡ Some x → slice_get ys i ≡ Some y → f y ≤ f x + 1) → sum_by f ys ≤ sum_by f xs + length xs
+sum-grows f [] [] same each = omega arith
+sum-grows f [] (y ∷ ys) same each = absurd (omega (arith, same))
+sum-grows f (x ∷ xs) [] same each = absurd (omega (arith, same))
+sum-grows f (x ∷ xs) (y ∷ ys) same each =
+    let first = each 0 x y refl refl in
+    let rest = sum-grows f xs ys (omega (arith, same)) (λ i a b p q. each (suc i) a b p q) in
+    omega (arith, first, rest, sum_by-cons f x xs, sum_by-cons f y ys)
+
+-- ports through the offers of shares are sound and quiet, and hold at most one frame more each
 module _ (time clock : ℕ) (priority : Priority) (old ports : List (Pending Carried)) (shares : List (Option Carried)) (lost : PortSet) (old_count : length old ≡ 24) (new_count : length ports ≡ 24)
     (share_count : length shares ≡ 24)
     (offered : (i : ℕ) (o p : Pending Carried) (share : Option Carried) → slice_get old i ≡ Some o → slice_get ports i ≡ Some p → slice_get shares i ≡ Some share → IsOffered time priority share o p (holds lost (i + 1))) where
@@ -192,3 +202,11 @@ module _ (time clock : ℕ) (priority : Priority) (old ports : List (Pending Car
       let o = found-at old i (omega (arith, below, old_count)) in
       let share = found-at shares i (omega (arith, below, share_count)) in
       (offered i o.0 p share.0 o.1 at_p share.1).quiet)
+
+  pub ports-held : sum_by (λ p. held.frames_held p) ports ≤ sum_by (λ p. held.frames_held p) old + 24
+  ports-held =
+      let more = sum-grows (λ p. held.frames_held p) old ports (omega (arith, old_count, new_count)) (λ i o p at_o at_p.
+      let below : i < 24 = omega (arith, slice_get_within ports i p at_p, new_count) in
+      let share = found-at shares i (omega (arith, below, share_count)) in
+      (offered i o p share.0 at_o at_p share.1).more) in
+      omega (arith, more, old_count)

@@ -5,3 +5,5 @@ pub mod Verdicts
 pub mod Switching
 pub mod New
 pub mod Laws
+pub mod Admitted
+pub mod Regular

@@ -9,7 +9,8 @@ use Rattle.afdx_police.specs.LinkAccounts.{StandsForOwn}
 use Rattle.afdx_port.specs.Due.{IsBy, order_of}
 use Rattle.afdx_port.specs.Held as held
 use Rattle.afdx_port.specs.History as queue
-use Rattle.afdx_port.specs.Schedule.{Entry, Turn, IsNext}
+use Rattle.afdx_port.specs.Schedule.{Entry, Turn, IsNext, IsSchedule}
+use Rattle.afdx_port.specs.declared.left.Due.{Due}
 use Rattle.afdx_port.specs.declared.pending.Pending.{Pending}
 use Rattle.afdx_bounds.specs.Offered as offered
 use Rattle.afdx_bounds.specs.Outputs.{Row}
@@ -67,6 +68,16 @@ pub record IsNextOf (t : Rows) (side : Side) (h : History) (gone : PortTurn) : T
   pub last_port : gone.port ≤ 24
   pub next : IsNextAt t side h gone.port gone.turn
   pub first : (port : ℕ) (s : Turn Carried) → 1 ≤ port → port ≤ 24 → IsNextAt t side h port s → GoesBefore gone port s
+
+-- the next turn of the switch is due so
+pub record IsDue (t : Rows) (side : Side) (h : History) (due : Due) : Type 0 where
+  pub gone : PortTurn
+  pub next : IsNextOf t side h gone
+  pub is : due ≡ queue.due_at gone.turn
+
+-- each entry of a port has had its turn
+abbrev pub IsDone : Rows → Side → History → ℕ → Type 0
+IsDone t side h port = IsSchedule (byte_ns_at t port) (entries_at t side port h.arrivals) (taken_at port h.taken)
 
 -- a link's line is the one that its own arrivals leave
 pub record IsLine (side : Side) (arrivals : List Arrival) (r : Row) (line : Line) : Type 0 where
@@ -177,5 +188,6 @@ calls_after time priority share h clock =
 pub record IsOffered (time : ℕ) (priority : Priority) (share : Option Carried) (o n : Pending Carried) (is_lost : Bool) : Type 0 where
   pub clock : n.clock ≤ time
   pub quiet : held.IsQuiet facts n time
+  pub more : held.frames_held n ≤ held.frames_held o + 1
   pub stands : (h : queue.History Carried) → queue.StandsFor facts o h → queue.StandsFor facts n (calls_after time priority share h n.clock)
   pub lost : (h : queue.History Carried) → queue.StandsFor facts o h → is_lost ≡ loses_share time priority h.byte_ns h.buffer h.entries share

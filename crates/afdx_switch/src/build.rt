@@ -1,5 +1,5 @@
 //! A switch of the tables, before anything came.
-ghost use Rattle.std.specs.Prelude.{◌≡◌, ℕ, ◌≤◌, ◌<◌, ◌+◌, Option, Some, IfOk, IfSome, length, slice_get, vec_len};
+ghost use Rattle.std.specs.Prelude.{◌≡◌, ℕ, ◌≤◌, ◌<◌, ◌+◌, Option, Some, IfOk, OnOk, IfSome, length, slice_get, vec_len};
 ghost use Rattle.afdx_config.specs.Lawful.{IsLawful};
 ghost use Rattle.afdx_config.specs.Reading.{link_of};
 ghost use Rattle.afdx_config.specs.Rows.{LinkRow, Rows, link_row};
@@ -149,6 +149,7 @@ fn ports(alloc: Global, tables: &Tables) -> Result<Vec<Port<Frame>>, AllocError>
 
 /// Full accounts and idle ports.
 pub(crate) fn build(alloc: Global, tables: &Tables) -> Result<Working, AllocError>
+    ensures lawful { OnOk result (IsLawful tables.now) }
     ensures sound { IfOk result (λ w. IsSound w) }
     ensures stands { (side : Side) → IfOk result (λ w. StandsFor tables.now side w no_calls) }
     ensures quiet { (t : ℕ) → IfOk result (λ w. IsQuiet w t) }

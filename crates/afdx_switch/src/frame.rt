@@ -15,17 +15,20 @@ pub struct Frame {
 }
 
 impl Model for Frame {
-    ghost use Rattle.std.specs.Prelude.{◌≤◌, length, IfSome};
+    ghost use Rattle.std.specs.Prelude.{◌≡◌, ◌≤◌, true, length, IfSome};
+    ghost use Rattle.afdx_frame.specs.Sealing.{is_sealed};
     ghost use Rattle.afdx_switch.specs.Carried.{Carried};
 
     ghost Value = { Carried };
 
     ghost view = { λ f. record { tag = f.tag; longest_wait = f.longest_wait; bytes = f.bytes.value.items } };
 
-    ghost invariant = { λ f. (64 ≤ length f.bytes.value.items) × (length f.bytes.value.items ≤ 1518) × IfSome f.longest_wait (λ wait. wait ≤ 100000000) };
+    ghost invariant = { λ f. (64 ≤ length f.bytes.value.items) × (length f.bytes.value.items ≤ 1518) × IfSome f.longest_wait (λ wait. wait ≤ 100000000) × (is_sealed f.bytes.value.items ≡ true) };
 }
 
 impl Frame {
+    ghost use Rattle.std.specs.Prelude.{true};
+    ghost use Rattle.afdx_frame.specs.Sealing.{is_sealed};
     ghost use Rattle.afdx_switch.specs.Carried.{Carried, carried_with};
 
     /// The one copy of a frame.
@@ -38,6 +41,7 @@ impl Frame {
         requires shortest { 64 ≤ length bytes.now }
         requires longest { length bytes.now ≤ 1518 }
         requires wait { IfSome longest_wait (λ wait. wait ≤ 100000000) }
+        requires sealed { is_sealed bytes.now ≡ true }
         ensures { IfOk result (λ f. f ≡ carried_with tag longest_wait bytes.now) }
     {
         let copy = Vec::from_slice(alloc, bytes)?;
@@ -68,7 +72,8 @@ impl Frame {
     }
 
     pub(crate) fn bytes(&self) -> &[u8]
-        ensures { result.now ≡ self.now.bytes }
+        ensures bytes { result.now ≡ self.now.bytes }
+        ensures sealed { is_sealed result.now ≡ true }
     {
         self.bytes.as_ref().as_slice()
     }

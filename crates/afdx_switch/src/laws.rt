@@ -1,4 +1,5 @@
 //! What is true of the definitions, and of each switch that stands for calls, for the crates that stand on them.
+ghost use Rattle.afdx_switch.specs.Admitted.{AcceptedIsKept, AcceptedEnter, TurnsAreInTime, AllHaveLeft};
 ghost use Rattle.afdx_switch.specs.Laws.{VerdictsAreOwn, EntriesGrow, TakenAreTurns, LinksGoInOrder, OtherSideIsApart, LostPortsAreListed, PortsAreOfSystems};
 
 /// A verdict comes from the own arrivals of the link that the frame names.
@@ -35,4 +36,14 @@ pub fn lost_ports_are_listed()
 /// An output port by number is that of the system that has it: what is true of the ports of admitted tables is true of a switch's.
 pub fn ports_are_of_systems()
     ensures { PortsAreOfSystems }
+{}
+
+/// Admitted tables, whatever arrives: an accepted frame is lost nowhere. At each port that a link goes to exactly its accepted
+/// frames enter, in the order in which they came, and at others none. Their turns are slots that end within its latency, and
+/// each whose latency is over has had its turn where no further one is given.
+pub fn admitted_switch_keeps_all()
+    ensures kept { AcceptedIsKept }
+    ensures enter { AcceptedEnter }
+    ensures in_time { TurnsAreInTime }
+    ensures left { AllHaveLeft }
 {}

@@ -1,4 +1,4 @@
-ghost use Rattle.std.specs.Prelude.{◌≡◌, ℕ, ◌≤◌, ◌+◌, IfOk, OnOk, OnErr, IfSome, IfNone, MatchOption};
+ghost use Rattle.std.specs.Prelude.{◌≡◌, ◌↔◌, ℕ, ◌≤◌, ◌+◌, IfOk, OnOk, OnErr, IfSome, IfNone, MatchOption, ◌∷◌, Some, slice_get, true};
 
 use crate::build::build;
 use crate::frame::Frame;
@@ -6,7 +6,7 @@ use crate::verdict::Verdict;
 use crate::working::Working;
 use afdx_config::Tables;
 use afdx_frame::is_sealed;
-use afdx_port::Left;
+use afdx_port::{Due, Left};
 use std::alloc::{AllocError, Global};
 use std::marker::Model;
 
@@ -18,6 +18,9 @@ pub struct Departure {
 }
 
 impl Departure {
+    ghost use Rattle.std.specs.Prelude.{true};
+    ghost use Rattle.afdx_frame.specs.Sealing.{is_sealed};
+
     /// When its slot ended, in ns. For a frame that was dropped as too old, the moment of its turn.
     pub fn time(&self) -> u64
         ensures { result ≡ self.now.left.end }
@@ -39,9 +42,10 @@ impl Departure {
         self.left.item.tag()
     }
 
-    /// All bytes of the frame.
+    /// All bytes of the frame. Its check sequence was right when it arrived, and is.
     pub fn bytes(&self) -> &[u8]
-        ensures { result.now ≡ self.now.left.item.bytes }
+        ensures bytes { result.now ≡ self.now.left.item.bytes }
+        ensures sealed { is_sealed result.now ≡ true }
     {
         self.left.item.bytes()
     }
@@ -72,20 +76,25 @@ impl Model for Switch {
 }
 
 impl Switch {
-    ghost use Rattle.afdx_config.specs.Rows.{Rows};
+    ghost use Rattle.afdx_config.specs.Lawful.{IsLawful};
+    ghost use Rattle.afdx_config.specs.Rows.{LinkRow, Rows};
     ghost use Rattle.afdx_frame.specs.declared.link.Side.{Side};
     ghost use Rattle.afdx_frame.specs.Sealing.{is_sealed};
-    ghost use Rattle.afdx_police.specs.Arrival.{arrival_with};
-    ghost use Rattle.afdx_port.specs.Due.{IsAfter};
+    ghost use Rattle.afdx_police.specs.Arrival.{arrival_with, names, own};
+    ghost use Rattle.afdx_port.specs.Due.{given_at, IsAfter};
     ghost use Rattle.afdx_port.specs.History.{due_at};
     ghost use Rattle.afdx_port.specs.Schedule.{Turn};
     ghost use Rattle.afdx_switch.specs.Carried.{Carried};
+    ghost use Rattle.afdx_switch.specs.Admitted.{IsAdmittedRun, LosesNothing, IsInTime, HaveLeft};
+    ghost use Rattle.afdx_switch.specs.Tables.{rule_of, entries_at};
+    ghost use Rattle.afdx_switch.specs.Regular.{IsRegularAt, IsAccepted};
     ghost use Rattle.afdx_switch.specs.Verdicts.{IsVerdict};
-    ghost use Rattle.afdx_switch.specs.Switching.{History, StandsFor, IsQuiet, IsNextAt, Gives, no_calls, with_arrival, at, frames_held, last_time};
+    ghost use Rattle.afdx_switch.specs.Switching.{History, StandsFor, IsQuiet, IsNextAt, IsDue, IsDone, Gives, no_calls, with_arrival, at, taken_at, frames_held, last_time};
 
     /// A switch of these tables at time 0, with full accounts and idle ports.
     /// The error says that memory was refused.
     pub fn new(alloc: Global, tables: &Tables) -> Result<Switch, AllocError>
+        ensures lawful { OnOk result (IsLawful tables.now) }
         ensures stands { (side : Side) → IfOk result (λ w. StandsFor tables.now side w no_calls) }
         ensures quiet { (t : ℕ) → IfOk result (λ w. IsQuiet w t) }
         ensures clock { IfOk result (λ w. last_time w ≡ 0) }
@@ -115,8 +124,13 @@ impl Switch {
             IfOk result (IsVerdict t h.arrivals (arrival_with tag time side port bytes.now)) }
         ensures stands { (t : Rows) (side : Side) (h : History) → StandsFor t side self.old h →
             OnOk result (StandsFor t side self.new (with_arrival h (arrival_with tag time side port bytes.now))) }
+        ensures kept { (t : Rows) (side : Side) (h : History) → StandsFor t side self.old h → IsAdmittedRun t (arrival_with tag time side port bytes.now ∷ h.arrivals) →
+            IfOk result LosesNothing }
+        ensures regular { (t : Rows) (side : Side) (h : History) (place : ℕ) (l : LinkRow) → StandsFor t side self.old h → IsLawful t → slice_get t.links place ≡ Some l → names l.vl bytes.now ≡ true →
+            (rule_of t l).port ≡ port → IsRegularAt (rule_of t l) (own l.vl side (arrival_with tag time side port bytes.now ∷ h.arrivals)) → IfOk result IsAccepted }
         ensures refused { OnErr result (self.new ≡ self.old) }
         ensures quiet { IsQuiet self.new time }
+        ensures held { frames_held self.new ≤ frames_held self.old + 24 }
         ensures clock { OnOk result (last_time self.new ≡ time) }
     {
         self.arrive_checked(time, port, tag, bytes, is_sealed(bytes))
@@ -140,21 +154,43 @@ impl Switch {
             IfOk result (IsVerdict t h.arrivals (arrival_with tag time side port bytes.now)) }
         ensures stands { (t : Rows) (side : Side) (h : History) → StandsFor t side self.old h →
             OnOk result (StandsFor t side self.new (with_arrival h (arrival_with tag time side port bytes.now))) }
+        ensures kept { (t : Rows) (side : Side) (h : History) → StandsFor t side self.old h → IsAdmittedRun t (arrival_with tag time side port bytes.now ∷ h.arrivals) →
+            IfOk result LosesNothing }
+        ensures regular { (t : Rows) (side : Side) (h : History) (place : ℕ) (l : LinkRow) → StandsFor t side self.old h → IsLawful t → slice_get t.links place ≡ Some l → names l.vl bytes.now ≡ true →
+            (rule_of t l).port ≡ port → IsRegularAt (rule_of t l) (own l.vl side (arrival_with tag time side port bytes.now ∷ h.arrivals)) → IfOk result IsAccepted }
         ensures refused { OnErr result (self.new ≡ self.old) }
         ensures quiet { IsQuiet self.new time }
+        ensures held { frames_held self.new ≤ frames_held self.old + 24 }
         ensures clock { OnOk result (last_time self.new ≡ time) }
     {
         self.working.arrive(time, port, tag, bytes, sealed)
     }
 
+    /// When the next turn of all ports will be over if no frame arrives before, and whether it is a drop.
+    /// None if each frame that was accepted and not lost has had its turn at each port.
+    pub fn due(&self) -> Option<Due>
+        ensures comes { (t : Rows) (side : Side) (h : History) → StandsFor t side self.now h → IfSome result (λ due. IsDue t side h due) }
+        ensures all_done { (t : Rows) (side : Side) (h : History) (port : ℕ) → StandsFor t side self.now h → 1 ≤ port → port ≤ 24 → IfNone result (IsDone t side h port) }
+        ensures quiet { (time : ℕ) → IsQuiet self.now time ↔ IfSome result (λ due. IsAfter time due) }
+        ensures limit { IfSome result (λ due. given_at due ≤ 1200000000000000) }
+    {
+        self.working.due()
+    }
+
     /// The next frame that leaves, or is dropped as too old, by `until`, in ns: a slot that ends at or before `until`,
     /// or a drop whose moment is before `until`. They go by time, at one time those that leave before those too old, then by port.
+    /// If `until` is 1.2e15 or later, None says that each frame that was accepted and not lost has had its turn at each port.
     pub fn take(&mut self, until: u64) -> Option<Departure>
         requires clock { last_time self.old ≤ until }
         ensures given { (t : Rows) (side : Side) (h : History) → StandsFor t side self.old h → IfSome result (λ d. Gives t side h until d self.new) }
         ensures none { (t : Rows) (side : Side) (h : History) → StandsFor t side self.old h → IfNone result (StandsFor t side self.new (at h until)) }
         ensures no_more { (t : Rows) (side : Side) (h : History) (port : ℕ) (s : Turn Carried) → StandsFor t side self.old h → 1 ≤ port → port ≤ 24 → IsNextAt t side h port s →
             IfNone result (IsAfter until (due_at s)) }
+        ensures in_time { (t : Rows) (side : Side) (h : History) → IsAdmittedRun t h.arrivals → IfSome result (λ d. (g : Gives t side h until d self.new) → IsInTime t g.gone.turn) }
+        ensures left { (t : Rows) (side : Side) (h : History) (port place : ℕ) (l : LinkRow) → StandsFor t side self.old h → IsAdmittedRun t h.arrivals → 1 ≤ port → port ≤ 24 →
+            slice_get t.links place ≡ Some l → IfNone result (HaveLeft l until (entries_at t side port h.arrivals) (taken_at port h.taken)) }
+        ensures all_done { (t : Rows) (side : Side) (h : History) (port : ℕ) → StandsFor t side self.old h → 1200000000000000 ≤ until → 1 ≤ port → port ≤ 24 → IfNone result (IsDone t side h port) }
+        ensures gives { IfNone result (IsQuiet self.old until) }
         ensures quiet { IfNone result (IsQuiet self.new until) }
         ensures held { MatchOption result (frames_held self.new ≡ frames_held self.old) (λ _. frames_held self.new + 1 ≡ frames_held self.old) }
         ensures clock { last_time self.new ≡ until }

@@ -1,5 +1,6 @@
-ghost use Rattle.std.specs.Prelude.{◌≡◌, ℕ, ◌≤◌, ◌<◌, ◌+◌, List, Option, None, Some, IfOk, OnOk, OnErr, IfSome, IfNone, MatchOption, length, map, slice_get, true, false, not, All, vec_len};
+ghost use Rattle.std.specs.Prelude.{◌≡◌, ◌↔◌, ℕ, ◌≤◌, ◌<◌, ◌+◌, List, Option, None, Some, IfOk, OnOk, OnErr, IfSome, IfNone, MatchOption, length, map, slice_get, true, false, not, All, vec_len};
 ghost use Rattle.afdx_frame.specs.declared.link.Priority.{Priority};
+ghost use Rattle.afdx_frame.specs.Sealing.{is_sealed};
 ghost use Rattle.afdx_port.specs.declared.pending.Pending.{Pending};
 ghost use Rattle.afdx_port.specs.History as queue;
 ghost use Rattle.afdx_port.specs.Held as held;
@@ -14,7 +15,7 @@ use crate::switch::Departure;
 use crate::verdict::Verdict;
 use afdx_frame::{Priority, vl_of};
 use afdx_police::{Reason, judge_checked};
-use afdx_port::{Port, first_due};
+use afdx_port::{Due, Port, first_due};
 use arrayvec::ArrayVec;
 use std::alloc::{AllocError, Global};
 
@@ -43,6 +44,7 @@ fn shares(
     requires shortest { 64 ≤ length bytes.now }
     requires longest { length bytes.now ≤ 1518 }
     requires wait { IfSome longest_wait (λ wait. wait ≤ 100000000) }
+    requires sealed { is_sealed bytes.now ≡ true }
     requires few { length goes.now ≤ 24 }
     ensures { IfOk result (λ s. s.items ≡ map (share_of (carried_with tag longest_wait bytes.now)) goes.now) }
 {
@@ -98,13 +100,12 @@ impl Working {
     ghost use Rattle.afdx_config.specs.Rows.{Rows};
     ghost use Rattle.afdx_frame.specs.declared.link.Side.{Side};
     ghost use Rattle.afdx_frame.specs.Layout.{link_named_by};
-    ghost use Rattle.afdx_frame.specs.Sealing.{is_sealed};
     ghost use Rattle.afdx_police.specs.Arrival.{arrival_with};
-    ghost use Rattle.afdx_port.specs.Due.{IsAfter};
+    ghost use Rattle.afdx_port.specs.Due.{given_at, IsAfter};
     ghost use Rattle.afdx_port.specs.Schedule.{Turn};
     ghost use Rattle.afdx_switch.specs.Verdicts.{IsVerdict};
     ghost use Rattle.afdx_switch.specs.Tables.{rows_of};
-    ghost use Rattle.afdx_switch.specs.Switching.{History, StandsFor, IsSound, IsQuiet, IsNextAt, Gives, IsNamed, with_arrival, at, frames_held, last_time};
+    ghost use Rattle.afdx_switch.specs.Switching.{History, StandsFor, IsSound, IsQuiet, IsNextAt, IsDue, IsDone, Gives, IsNamed, with_arrival, at, frames_held, last_time};
 
     /// The place of the link that the bytes name.
     fn place_of(&self, bytes: &[u8]) -> Option<usize>
@@ -139,6 +140,7 @@ impl Working {
         ensures refused { OnErr result (self.new ≡ self.old) }
         ensures sound { IsSound self.new }
         ensures quiet { IsQuiet self.new time }
+        ensures held { frames_held self.new ≤ frames_held self.old + 24 }
         ensures clock { OnOk result (last_time self.new ≡ time) }
     {
         let Some(place) = self.place_of(bytes) else {
@@ -168,6 +170,18 @@ impl Working {
         Ok(Verdict::Accepted { lost })
     }
 
+    /// When the next turn is over.
+    pub(crate) fn due(&self) -> Option<Due>
+        requires { IsSound self.now }
+        ensures comes { (t : Rows) (side : Side) (h : History) → StandsFor t side self.now h → IfSome result (λ due. IsDue t side h due) }
+        ensures all_done { (t : Rows) (side : Side) (h : History) (port : ℕ) → StandsFor t side self.now h → 1 ≤ port → port ≤ 24 → IfNone result (IsDone t side h port) }
+        ensures quiet { (time : ℕ) → IsQuiet self.now time ↔ IfSome result (λ due. IsAfter time due) }
+        ensures limit { IfSome result (λ due. given_at due ≤ 1200000000000000) }
+    {
+        let place = first_due(&self.ports, u64::MAX)?;
+        self.ports[place].due()
+    }
+
     pub(crate) fn take(&mut self, until: u64) -> Option<Departure>
         requires sound { IsSound self.old }
         requires clock { last_time self.old ≤ until }
@@ -176,6 +190,8 @@ impl Working {
         ensures none { (t : Rows) (side : Side) (h : History) → StandsFor t side self.old h → IfNone result (StandsFor t side self.new (at h until)) }
         ensures no_more { (t : Rows) (side : Side) (h : History) (port : ℕ) (s : Turn Carried) → StandsFor t side self.old h → 1 ≤ port → port ≤ 24 → IsNextAt t side h port s →
             IfNone result (IsAfter until (queue.due_at s)) }
+        ensures all_done { (t : Rows) (side : Side) (h : History) (port : ℕ) → StandsFor t side self.old h → 1200000000000000 ≤ until → 1 ≤ port → port ≤ 24 → IfNone result (IsDone t side h port) }
+        ensures gives { IfNone result (IsQuiet self.old until) }
         ensures quiet { IfNone result (IsQuiet self.new until) }
         ensures held { MatchOption result (frames_held self.new ≡ frames_held self.old) (λ _. frames_held self.new + 1 ≡ frames_held self.old) }
         ensures clock { last_time self.new ≡ until }

@@ -14,7 +14,7 @@ use Rattle.afdx_switch.specs.Switching.{IsNamedAt, IsLineSound, share_of}
 use Rattle.afdx_switch.proofs.ArrivalLemmas.{reason-named}
 use Rattle.afdx_switch.proofs.ListLemmas.{all-at, all-set, items-are}
 use Rattle.afdx_switch.proofs.TakeLemmas.{lines-later}
-use Rattle.afdx_switch.proofs.StandsLemmas.{unknown-reason, stands-dropped, lines-unknown, lines-faulted, lines-with, line-is, fault-reason, stands-accepted, lost-is, ports-sound, ports-quiet}
+use Rattle.afdx_switch.proofs.StandsLemmas.{unknown-reason, stands-dropped, lines-unknown, lines-faulted, lines-with, line-is, fault-reason, stands-accepted, lost-is, ports-sound, ports-quiet, ports-held}
 use Rattle.afdx_switch.proofs.working.Working.arrive.Goals as goal
 
 pub returns-in_default-clause-verdict : goal.returns-in_default-clause-verdict
@@ -166,4 +166,15 @@ returns-clause-quiet c =
     ∙ (all-at (IsLineSound c.args.self.now.clock) c.args.self.now.lines.items c.in-Some.place c.index-line.result.now c.requires.sound.lines at).goes in
     let same_ports = items-are c.args.self.now.ports.len c.forward-lost.new.ports c.args.self.now.ports.items (omega (arith, c.forward-lost.ensures.count, c.requires.sound.port_count)) in
     rw same_ports (ports-quiet c.args.time c.args.self.now.clock c.index_mut-line.result.now.priority c.args.self.now.ports.items c.forward-lost.new.ports c.in_ok-shares.shares.items c.forward-lost.result old_count c.forward-lost.ensures.count share_count
+    (λ i o p share at_o at_p at_s. c.forward-lost.ensures.offered i o p share (ap (λ ps. slice_get ps i) c.deref_mut.ensures.value ∙ at_o) at_p (ap (λ ss. slice_get ss i) c.as_mut_slice.ensures.value ∙ at_s)))
+
+pub returns-clause-held : goal.returns-clause-held
+returns-clause-held c =
+    let at = slice_get_read c.args.self.now.lines.items _ c.in-Some.place c.index-line.result.now c.args.self.now.lines.ok.0 c.in-Some.ensures.within c.index-line.ensures in
+    let old_count : length c.args.self.now.ports.items ≡ 24 = omega (arith, c.args.self.now.ports.ok.0, c.requires.sound.port_count) in
+    let share_count : length c.in_ok-shares.shares.items ≡ 24 =
+    ap length c.in_ok-shares.ensures ∙ length-map c.as_slice.result.now (share_of (carried_with c.args.tag c.index-line.result.now.longest_wait c.args.bytes.now)) ∙ ap length c.as_slice.ensures.value
+    ∙ (all-at (IsLineSound c.args.self.now.clock) c.args.self.now.lines.items c.in-Some.place c.index-line.result.now c.requires.sound.lines at).goes in
+    let same_ports = items-are c.args.self.now.ports.len c.forward-lost.new.ports c.args.self.now.ports.items (omega (arith, c.forward-lost.ensures.count, c.requires.sound.port_count)) in
+    rw same_ports (ports-held c.args.time c.args.self.now.clock c.index_mut-line.result.now.priority c.args.self.now.ports.items c.forward-lost.new.ports c.in_ok-shares.shares.items c.forward-lost.result old_count c.forward-lost.ensures.count share_count
     (λ i o p share at_o at_p at_s. c.forward-lost.ensures.offered i o p share (ap (λ ps. slice_get ps i) c.deref_mut.ensures.value ∙ at_o) at_p (ap (λ ss. slice_get ss i) c.as_mut_slice.ensures.value ∙ at_s)))

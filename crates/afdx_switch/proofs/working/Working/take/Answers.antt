@@ -1,10 +1,10 @@
 use Rattle.std.proofs.Common.{◌≡◌, ◌+◌, arith, refl, subst, length}
 use Rattle.std.proofs.lemmas.Option.{slice_get_read, slice_get-get_or}
-use Rattle.afdx_port.specs.Ports.{IsFirstDue, AreQuiet}
+use Rattle.afdx_port.specs.Ports.{IsFirstDue, AreQuiet, AreLimited}
 use Rattle.afdx_switch.specs.Carried.{facts}
 use Rattle.afdx_switch.specs.Switching.{IsPortSound, calls_at}
 use Rattle.afdx_switch.proofs.ListLemmas.{all-at}
-use Rattle.afdx_switch.proofs.TakeLemmas.{must-give, none-next, next-of, stands-after, taken-sound, lines-later, gone}
+use Rattle.afdx_switch.proofs.TakeLemmas.{must-give, none-next, all-done, next-of, stands-after, taken-sound, lines-later, gone}
 use Rattle.afdx_switch.proofs.working.Working.take.Goals as goal
 
 pub returns-in_err-place-clause-no_more : goal.returns-in_err-place-clause-no_more
@@ -13,8 +13,20 @@ returns-in_err-place-clause-no_more c t side h port s st low high next =
     let count : length c.args.self.now.ports.items ≡ 24 = omega (arith, c.args.self.now.ports.ok.0, c.requires.sound.port_count) in
     rw c.from_residual.ensures (none-next t side c.args.self.now h st c.args.until count quiet port s low high next)
 
+pub returns-in_err-place-clause-all_done : goal.returns-in_err-place-clause-all_done
+returns-in_err-place-clause-all_done c t side h port st late low high =
+    let quiet : AreQuiet facts c.args.self.now.ports.items c.args.until (length c.args.self.now.ports.items) = subst (λ ps. AreQuiet facts ps c.args.until (length ps)) c.deref.ensures.value c.in_err-place.ensures.none in
+    let limited : AreLimited facts c.args.self.now.ports.items (length c.args.self.now.ports.items) = subst (λ ps. AreLimited facts ps (length ps)) c.deref.ensures.value c.first_due.ensures.limit in
+    let count : length c.args.self.now.ports.items ≡ 24 = omega (arith, c.args.self.now.ports.ok.0, c.requires.sound.port_count) in
+    rw c.from_residual.ensures (all-done t side c.args.self.now h st c.args.until count quiet limited late port low high)
+
 pub returns-in_err-place-clause-quiet : goal.returns-in_err-place-clause-quiet
 returns-in_err-place-clause-quiet c =
+    let quiet : AreQuiet facts c.args.self.now.ports.items c.args.until (length c.args.self.now.ports.items) = subst (λ ps. AreQuiet facts ps c.args.until (length ps)) c.deref.ensures.value c.in_err-place.ensures.none in
+    rw c.from_residual.ensures (λ k d below. quiet k _ below (slice_get-get_or c.args.self.now.ports.items k d below))
+
+pub returns-in_err-place-clause-gives : goal.returns-in_err-place-clause-gives
+returns-in_err-place-clause-gives c =
     let quiet : AreQuiet facts c.args.self.now.ports.items c.args.until (length c.args.self.now.ports.items) = subst (λ ps. AreQuiet facts ps c.args.until (length ps)) c.deref.ensures.value c.in_err-place.ensures.none in
     rw c.from_residual.ensures (λ k d below. quiet k _ below (slice_get-get_or c.args.self.now.ports.items k d below))
 
@@ -46,7 +58,7 @@ returns-clause-given c t side h st =
     let count : length c.args.self.now.ports.items ≡ 24 = omega (arith, c.args.self.now.ports.ok.0, c.requires.sound.port_count) in
     record {
       gone = gone t side c.args.self.now h st c.args.until c.in_ok-place.place first.0 c.index_mut.result.now c.take.new.self c.in-Some.left count first.1 at gives;
-      next = next-of t side c.args.self.now h st c.args.until c.in_ok-place.place first.0 c.index_mut.result.now c.take.new.self c.in-Some.left count first.1 at gives;
+      next = next-of t side c.args.self.now h st c.args.until c.in_ok-place.place first.0 c.index_mut.result.now gives.turn count first.1 at gives.next;
       in_time = gives.in_time;
       hands = record { port = refl; left = gives.is };
       stands = stands-after t side c.args.self.now h st c.args.until c.in_ok-place.place first.0 c.index_mut.result.now c.take.new.self c.in-Some.left count first.1 at gives _ refl refl refl refl;
