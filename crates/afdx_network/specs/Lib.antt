@@ -1,0 +1,5 @@
+pub mod Events
+pub mod Order
+pub mod First
+pub mod Network
+pub mod Laws

@@ -1,0 +1,96 @@
+-- What the switches of both sides have to do with the events so far.
+use Rattle.std.specs.Prelude.{ℕ, ◌≡◌, ◌+◌, ◌≤◌, true, Option, Some, None, List, [], ◌∷◌, length, filter}
+use Rattle.afdx_frame.specs.declared.link.Side.{Side}
+use Rattle.afdx_frame.specs.declared.link.Side.TheVariants.{A, B}
+use Rattle.afdx_config.specs.Lawful.{IsLawful}
+use Rattle.afdx_config.specs.Rows.{Rows}
+use Rattle.afdx_police.specs.declared.shape.Reason.{Reason}
+use Rattle.afdx_port.specs.Due.{IsBy}
+use Rattle.afdx_port.specs.History.{left_of, due_at}
+use Rattle.afdx_port.specs.Schedule.{Turn}
+use Rattle.afdx_switch.specs.Carried.{Carried}
+use Rattle.afdx_switch.specs.Switching as switch
+use Rattle.afdx_switch.specs.Switching.{IsNextAt, taken_at}
+use Rattle.afdx_switch.specs.Ports.{holds}
+use Rattle.afdx_switch.specs.declared.ports.PortSet.{PortSet}
+use Rattle.afdx_switch.specs.Verdicts.{numbers}
+use Rattle.afdx_switch.specs.declared.verdict.Verdict.{Verdict}
+use Rattle.afdx_switch.specs.declared.verdict.Verdict.TheVariants.{Dropped, Accepted}
+use Rattle.afdx_network.specs.Events.{Event, Came, Left, Admission, Departure, departure_with, admission_after, arrivals_in, turns_on, calls_on}
+use Rattle.afdx_network.specs.Order.{IsAmong, AreInOrder, is_below, is_before, key}
+use Rattle.afdx_network.specs.declared.network.Departed.{Departed}
+use Rattle.afdx_network.specs.declared.network.Network.{Network}
+
+-- the event is what becomes of an arrival after these, or the next turn of a port
+abbrev pub Follows : Rows → List Event → Event → Type 0
+Follows t before (Came c) = c ≡ admission_after t (arrivals_in before) c.arrival
+Follows t before (Left d) = (1 ≤ d.port) × (d.port ≤ 24) × (d.place ≡ length (taken_at d.port (turns_on d.side before)))
+
+abbrev pub EachFollows : Rows → List Event → Type 0
+EachFollows t [] = Unit {0}
+EachFollows t (e ∷ before) = Follows t before e × EachFollows t before
+
+-- what a verdict says of an arrival
+abbrev pub reason_in : Verdict → Option Reason
+reason_in (Dropped reason) = Some reason
+reason_in (Accepted lost) = None
+
+-- the ports of a set, in ascending order
+unfoldable pub ports_in : PortSet → List ℕ
+ports_in set = filter (holds set) numbers
+
+abbrev pub lost_in : Verdict → List ℕ
+lost_in (Dropped reason) = []
+lost_in (Accepted lost) = ports_in lost
+
+pub record Tells (verdict : Verdict) (c : Admission) : Type 0 where
+  pub reason : reason_in verdict ≡ c.reason
+  pub lost : lost_in verdict ≡ c.lost
+
+-- neither switch was used after this time
+pub record IsUntil (n : Network) (time : ℕ) : Type 0 where
+  pub on_a : switch.last_time n.a ≤ time
+  pub on_b : switch.last_time n.b ≤ time
+
+-- `take(time)` would answer None
+pub record IsQuiet (n : Network) (time : ℕ) : Type 0 where
+  pub on_a : switch.IsQuiet n.a time
+  pub on_b : switch.IsQuiet n.b time
+
+-- how many frames the output ports of both switches hold
+abbrev pub frames_held : Network → ℕ
+frames_held n = switch.frames_held n.a + switch.frames_held n.b
+
+-- the turn of a port as the event that it is after these
+abbrev pub departure_after : List Event → Side → ℕ → Turn Carried → Departure
+departure_after before side port s = departure_with side port (length (taken_at port (turns_on side before))) s
+
+-- the next turn of a port of a side, after these events
+abbrev pub IsNextOn : Rows → List Event → Side → ℕ → Turn Carried → Type 0
+IsNextOn t events side port s = IsNextAt t side (calls_on side events 0) port s
+
+-- the switches of both sides are those that these events leave
+pub record StandsFor (t : Rows) (n : Network) (events : List Event) : Type 0 where
+  pub lawful : IsLawful t
+  pub on_a : switch.StandsFor t A n.a (calls_on A events (switch.last_time n.a))
+  pub on_b : switch.StandsFor t B n.b (calls_on B events (switch.last_time n.b))
+  pub in_order : AreInOrder events
+  pub follows : EachFollows t events
+  -- they come before what arrives next, at any time that isn't past
+  pub past : (time : ℕ) → IsUntil n time → (e : Event) → IsAmong e events → is_below (key e) (time ∷ 1 ∷ length (arrivals_in events) ∷ []) ≡ true
+  -- and before the next turn of each port
+  pub next : (side : Side) (port : ℕ) (s : Turn Carried) → 1 ≤ port → port ≤ 24 → IsNextOn t events side port s →
+      (e : Event) → IsAmong e events → is_before e (Left (departure_after events side port s)) ≡ true
+
+-- what is handed out for a departure
+pub record Hands (value : Departed) (d : Departure) : Type 0 where
+  pub side : value.side ≡ d.side
+  pub port : value.departure.port ≡ d.port
+  pub left : value.departure.left ≡ left_of d.turn
+
+-- the next event is a departure, it is given by then, and its frame is handed out
+pub record Gives (t : Rows) (events : List Event) (until : ℕ) (value : Departed) (new : Network) : Type 0 where
+  pub departure : Departure
+  pub in_time : IsBy until (due_at departure.turn)
+  pub hands : Hands value departure
+  pub stands : StandsFor t new (Left departure ∷ events)

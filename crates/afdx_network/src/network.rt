@@ -1,0 +1,134 @@
+ghost use Rattle.std.specs.Prelude.{◌≡◌, ℕ, ◌+◌, ◌≤◌, ◌∷◌, [], List, Option, IfSome, IfNone, IfOk, OnOk, OnErr, MatchOption};
+ghost use Rattle.afdx_network.specs.First.{IsFirstSide, IsOrder};
+
+use afdx_config::Tables;
+use afdx_frame::Side;
+use afdx_port::Due;
+use afdx_switch::{Departure, Switch, Verdict};
+use std::alloc::{AllocError, Global};
+
+/// A departure, and the side of the switch that it is from.
+#[derive(Drop)]
+pub struct Departed {
+    pub side: Side,
+    pub departure: Departure,
+}
+
+/// Whether the turn that is due at side A goes before that of side B, or together with it.
+fn is_a_first(a: Option<Due>, b: Option<Due>) -> bool
+    ensures { IsOrder a b result }
+{
+    match (a, b) {
+        (Some(a), Some(b)) => !b.is_before(&a),
+        (Some(_), None) => true,
+        (None, _) => false,
+    }
+}
+
+/// The side whose turn goes first, if it is given by `until`: by time, at one time slots before drops, then side A.
+fn first_side(a: Option<Due>, b: Option<Due>, until: u64) -> Option<Side>
+    ensures { IsFirstSide until a b result }
+{
+    if is_a_first(a, b) {
+        if a?.is_by(until) { Some(Side::A) } else { None }
+    } else {
+        if b?.is_by(until) { Some(Side::B) } else { None }
+    }
+}
+
+/// The switches of both sides.
+#[derive(Drop)]
+pub struct Network {
+    a: Switch,
+    b: Switch,
+}
+
+impl Network {
+    ghost use Rattle.afdx_config.specs.Rows.{Rows};
+    ghost use Rattle.afdx_frame.specs.Sealing.{is_sealed};
+    ghost use Rattle.afdx_police.specs.Arrival.{arrival_with};
+    ghost use Rattle.afdx_network.specs.Events.{Event, Came, admission_after, arrivals_in};
+    ghost use Rattle.afdx_network.specs.Order.{AreEvents};
+    ghost use Rattle.afdx_network.specs.Network.{IsUntil, IsQuiet, StandsFor, Tells, Gives, frames_held};
+
+    /// The switches of these tables at time 0, with full accounts and idle ports.
+    /// The error says that memory was refused.
+    pub fn new(alloc: Global, tables: &Tables) -> Result<Network, AllocError>
+        ensures stands { IfOk result (λ n. StandsFor tables.now n []) }
+        ensures quiet { (time : ℕ) → IfOk result (λ n. IsQuiet n time) }
+        ensures clock { IfOk result (λ n. IsUntil n 0) }
+        ensures held { IfOk result (λ n. frames_held n ≡ 0) }
+    {
+        let a = Switch::new(alloc, tables)?;
+        let b = Switch::new(alloc, tables)?;
+        Ok(Network { a, b })
+    }
+
+    /// A frame arrives at `time`, in ns, at an input port of one side's switch, which filters and polices it and offers it to the
+    /// output ports of its link.
+    ///
+    /// `time` isn't before the last time used and is at most 1,000,032,768,000,000; `take(time)` would give nothing.
+    /// `tag` is handed back with the frame's departures; `sealed` is what `is_sealed` answers.
+    /// The error says that memory was refused: then nothing has changed.
+    pub fn arrive(
+        &mut self,
+        side: Side,
+        time: u64,
+        port: u8,
+        tag: u64,
+        bytes: &[u8],
+        sealed: bool,
+    ) -> Result<Verdict, AllocError>
+        requires limit { time ≤ 1000032768000000 }
+        requires sealed { sealed ≡ is_sealed bytes.now }
+        requires clock { IsUntil self.old time }
+        requires quiet { IsQuiet self.old time }
+        ensures verdict { (t : Rows) (events : List Event) → StandsFor t self.old events →
+            IfOk result (λ verdict. Tells verdict (admission_after t (arrivals_in events) (arrival_with tag time side port bytes.now))) }
+        ensures stands { (t : Rows) (events : List Event) → StandsFor t self.old events →
+            OnOk result (StandsFor t self.new (Came (admission_after t (arrivals_in events) (arrival_with tag time side port bytes.now)) ∷ events)) }
+        ensures refused { OnErr result (self.new ≡ self.old) }
+        ensures quiet { IsQuiet self.new time }
+        ensures held { frames_held self.new ≤ frames_held self.old + 24 }
+        ensures clock { IsUntil self.new time }
+    {
+        match side {
+            Side::A => self.a.arrive_checked(time, port, tag, bytes, sealed),
+            Side::B => self.b.arrive_checked(time, port, tag, bytes, sealed),
+        }
+    }
+
+    /// The next departure of both sides by `until`, in ns: a slot that ends at or before `until`, or a drop whose moment is before `until`.
+    /// They go by time, at one time those that leave before those too old, then side A before side B, then by port.
+    /// If `until` is 1.2e15 or later, None says that these were all events.
+    pub fn take(&mut self, until: u64) -> Option<Departed>
+        requires clock { IsUntil self.old until }
+        ensures given { (t : Rows) (events : List Event) → StandsFor t self.old events → IfSome result (λ value. Gives t events until value self.new) }
+        ensures none { IfNone result (self.new ≡ self.old) }
+        ensures quiet { IfNone result (IsQuiet self.new until) }
+        ensures all_done { (t : Rows) (events : List Event) → StandsFor t self.old events → 1200000000000000 ≤ until → IfNone result (AreEvents t (arrivals_in events) events) }
+        ensures held { MatchOption result (frames_held self.new ≡ frames_held self.old) (λ _. frames_held self.new + 1 ≡ frames_held self.old) }
+        ensures clock { IsUntil self.new until }
+    {
+        match first_side(self.a.due(), self.b.due(), until)? {
+            Side::A => {
+                let Some(departure) = self.a.take(until) else {
+                    unreachable!();
+                };
+                Some(Departed {
+                    side: Side::A,
+                    departure,
+                })
+            }
+            Side::B => {
+                let Some(departure) = self.b.take(until) else {
+                    unreachable!();
+                };
+                Some(Departed {
+                    side: Side::B,
+                    departure,
+                })
+            }
+        }
+    }
+}
