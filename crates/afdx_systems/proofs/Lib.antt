@@ -1,0 +1,6 @@
+mod DigitLemmas
+mod PassLemmas
+mod EndLemmas
+mod SystemsLemmas
+mod LawLemmas
+mod Examples

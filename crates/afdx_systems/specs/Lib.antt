@@ -1,0 +1,7 @@
+pub mod Handovers
+pub mod Words
+pub mod Receptions
+pub mod ReadPorts
+pub mod StandsFor
+pub mod Laws
+pub mod Worked

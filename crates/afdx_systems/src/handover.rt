@@ -1,0 +1,16 @@
+use afdx_frame::Side;
+
+/// A frame that leaves an output port of a switch, and is handed over to the system there.
+#[derive(Clone, Copy, Debug)]
+pub struct Handover<'a> {
+    /// The switch, and so the network by which the frame comes.
+    pub side: Side,
+    /// The output port, 1 to 24.
+    pub port: u8,
+    /// When its slot ended, in ns.
+    pub time: u64,
+    /// The line of the list that it came from.
+    pub line: u64,
+    /// All bytes of the frame.
+    pub bytes: &'a [u8],
+}
