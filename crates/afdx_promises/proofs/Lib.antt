@@ -1,0 +1,9 @@
+pub mod ListLemmas
+pub mod PortLemmas
+pub mod MergeLemmas
+pub mod ReceiverLemmas
+pub mod PromiseLemmas
+pub mod StreamLemmas
+pub mod OnceLemmas
+pub mod EventLemmas
+pub mod ExampleLemmas

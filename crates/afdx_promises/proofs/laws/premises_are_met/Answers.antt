@@ -1,0 +1,8 @@
+use Rattle.afdx_promises.proofs.ExampleLemmas.{premises-met, admission-needed}
+use Rattle.afdx_promises.proofs.laws.premises_are_met.Goals as goal
+
+pub returns-clause-met : goal.returns-clause-met
+returns-clause-met c = premises-met c.built_is_computed.ensures
+
+pub returns-clause-needed : goal.returns-clause-needed
+returns-clause-needed c = admission-needed c.built_is_computed.ensures
