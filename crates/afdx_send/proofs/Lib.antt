@@ -1,0 +1,15 @@
+mod RegulatorLemmas
+mod ReleaseLemmas
+mod AgendaLemmas
+mod LineLemmas
+mod OwnLemmas
+mod StandLemmas
+mod FullLemmas
+mod KeptLemmas
+mod NextLemmas
+mod EmitLemmas
+mod AddLemmas
+mod SubmitLemmas
+mod NewLemmas
+mod LawLemmas
+mod DoneLemmas

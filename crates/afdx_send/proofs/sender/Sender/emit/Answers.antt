@@ -1,0 +1,10 @@
+use Rattle.afdx_send.proofs.sender.Sender.emit.Goals as goal
+
+pub returns-clause-given : goal.returns-clause-given
+returns-clause-given c = rw (← c.self.view_is) c.emit.ensures.given
+
+pub returns-clause-no_more : goal.returns-clause-no_more
+returns-clause-no_more c = rw (← c.self.view_is) c.emit.ensures.no_more
+
+pub returns-clause-all_done : goal.returns-clause-all_done
+returns-clause-all_done c = rw (← c.self.view_is) c.emit.ensures.all_done

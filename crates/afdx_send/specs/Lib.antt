@@ -1,0 +1,9 @@
+pub mod Releases
+pub mod Frames
+pub mod Emissions
+pub mod Agenda
+pub mod Regulator
+pub mod Lines
+pub mod Sender
+pub mod New
+pub mod Laws

@@ -1,0 +1,212 @@
+-- What a sender that keeps only what is still to be sent has to do with all that it took and emitted.
+use Rattle.std.specs.Prelude.{◌≡◌, ℕ, ◌+◌, ◌<◌, ◌≤◌, ◌⊎◌, map, List, [], ◌∷◌, ◌++◌, length, sum_by, replicate, Option, Some, None, true, slice_get, slice_set}
+use Rattle.std.specs.List.{AllByRecursion}
+use Rattle.afdx_frame.specs.declared.link.Priority.TheVariants.{Low}
+use Rattle.afdx_frame.specs.declared.link.Side.TheVariants.{A, B}
+use Rattle.afdx_frame.specs.Flows.{Flow}
+use Rattle.afdx_frame.specs.Grammar.{built_frame}
+use Rattle.afdx_frame.specs.Regulation.{jitter}
+use Rattle.afdx_config.specs.Flows.{regulation_of}
+use Rattle.afdx_config.specs.LawfulStream.{Sending}
+use Rattle.afdx_config.specs.Admission.{byte_ns, links_from}
+use Rattle.afdx_config.specs.Lawful.{IsLink, AreDistinct}
+use Rattle.afdx_config.specs.Rows.{SystemRow, LinkRow, Rows}
+use Rattle.afdx_bounds.specs.Sender.{IsSender, one_of_each}
+use Rattle.afdx_bounds.specs.Tables.{sent_flow}
+use Rattle.afdx_port.specs.History as port
+use Rattle.afdx_port.specs.Held as held
+use Rattle.afdx_port.specs.Schedule.{Turn, IsSchedule}
+use Rattle.afdx_port.specs.declared.left.Left.{Left}
+use Rattle.afdx_send.specs.declared.fault.SendFault.{SendFault}
+use Rattle.afdx_send.specs.declared.fault.SendFault.TheVariants.{NotMyLink, NoSuchSub, Empty, TooLarge, QueueFull, Memory}
+use Rattle.afdx_send.specs.declared.line.Line.{Line}
+use Rattle.afdx_send.specs.declared.sender.Emission.{Emission}
+use Rattle.afdx_send.specs.declared.working.Working.{Working}
+use Rattle.afdx_send.specs.Agenda.{NoneBefore, IsPlayed, nexts}
+use Rattle.afdx_send.specs.Emissions.{LinkRelease, own, own_submissions, AreAllReleases, AreReleasedBefore, entries_of, IsNextEmission, IsSending}
+use Rattle.afdx_send.specs.Frames.{Frame, facts, address_with}
+use Rattle.afdx_send.specs.Lines.{LineStands, held_by}
+use Rattle.afdx_send.specs.Regulator.{next_time_of}
+use Rattle.afdx_send.specs.Releases.{Submission, has_release, count_without}
+
+-- the calls of a sender so far: its system, the links that it sends in the order of the tables, what each link took,
+-- the emissions, the latest first, and the last time used
+pub record History : Type 0 where
+  pub system : SystemRow
+  pub links : List LinkRow
+  pub taken : List (List Submission)
+  pub emitted : List (Turn Frame)
+  pub time : ℕ
+
+-- a new sender's
+abbrev pub no_calls : Rows → ℕ → SystemRow → History
+no_calls t place s = record { system = s; links = links_from t.links place; taken = replicate (length (links_from t.links place)) []; emitted = []; time = 0 }
+
+-- after a call that takes and emits nothing
+abbrev pub at : History → ℕ → History
+at h t = record { system = h.system; links = h.links; taken = h.taken; emitted = h.emitted; time = t }
+
+-- after a submission to the link at this place
+abbrev pub with_submission : History → ℕ → Submission → History
+with_submission h place s = record { system = h.system; links = h.links; taken = slice_set h.taken place (own_submissions h.taken place ++ s ∷ []); emitted = h.emitted; time = s.time }
+
+-- after an emission
+abbrev pub with_emission : History → Turn Frame → ℕ → History
+with_emission h s until = record { system = h.system; links = h.links; taken = h.taken; emitted = s ∷ h.emitted; time = until }
+
+-- a message for a sub-VL
+abbrev pub submission : ℕ → ℕ → ℕ → List ℕ → Submission
+submission time sub udp payload = record { time = time; sub = sub; message = record { udp = udp; payload = payload } }
+
+-- the slot is that of the next emission
+abbrev pub IsNextIn : History → Turn Frame → Type 0
+IsNextIn h s = IsNextEmission (byte_ns h.system) h.links h.taken h.emitted s
+
+-- the system's links, as its own port sees them
+abbrev pub flows_of : SystemRow → List LinkRow → List Flow
+flows_of s links = map (sent_flow (byte_ns s) Low links) links
+
+-- when each link's next release is
+abbrev pub nexts_of : Working → List (Option ℕ)
+nexts_of w = map (λ l. next_time_of l.regulator) w.lines.items
+
+-- how many messages are not released yet
+abbrev pub messages_held : Working → ℕ
+messages_held w = sum_by (λ l. held_by l.regulator) w.lines.items
+
+abbrev pub ready_count : Option (Left Frame) → ℕ
+ready_count None = 0
+ready_count (Some left) = 1
+
+-- how many messages the sender holds
+abbrev pub frames_held : Working → ℕ
+frames_held w = messages_held w + held.frames_held w.output + ready_count w.ready
+
+-- one message more
+pub record HoldsMore (old new : Working) : Type 0 where
+  pub more : frames_held new ≡ frames_held old + 1
+
+-- or as many
+pub record HoldsSame (old new : Working) : Type 0 where
+  pub same : frames_held new ≡ frames_held old
+
+abbrev pub last_time : Working → ℕ
+last_time w = w.clock
+
+-- the slots that the port gave are the emissions, and that of the frame that is ready
+abbrev pub HasGiven : Option (Left Frame) → List (Turn Frame) → List (Turn Frame) → Type 0
+HasGiven None emitted given = given ≡ emitted
+HasGiven (Some left) emitted given = (s : Turn Frame) × (given ≡ s ∷ emitted) × (left ≡ port.left_of s)
+
+-- the place of the link with this identifier, or none if no link has it
+abbrev pub IsPlaceOf : List LinkRow → ℕ → Option ℕ → Type 0
+IsPlaceOf links vl None = (i : ℕ) (l : LinkRow) → slice_get links i ≡ Some l → l.vl ≡ vl → ⊥
+IsPlaceOf links vl (Some place) = (l : LinkRow) × (slice_get links place ≡ Some l) × (l.vl ≡ vl)
+
+-- a sender of this system can have these links
+pub record AreSent (s : SystemRow) (links : List LinkRow) : Type 0 where
+  pub is_sender : IsSender (byte_ns s) Low (flows_of s links)
+  pub lawful : (i : ℕ) (l : LinkRow) → slice_get links i ≡ Some l → (n : ℕ) × IsLink n l
+  pub distinct : AreDistinct (λ l. l.vl) links
+  pub jitters : (i : ℕ) (l : LinkRow) → slice_get links i ≡ Some l → one_of_each (byte_ns s) (flows_of s links) ≤ jitter (regulation_of l)
+
+-- the port's calls
+abbrev pub port_history : History → List LinkRelease → List (Turn Frame) → ℕ → port.History Frame
+port_history h released given time = record { byte_ns = byte_ns h.system; buffer = 65536; entries = entries_of released; taken = given; time = time }
+
+-- the sender is what these calls leave
+pub record StandsFor (w : Working) (h : History) : Type 0 where
+  pub system_id : w.system_id ≡ h.system.id
+  pub partition : w.partition ≡ h.system.partition
+  pub clock : w.clock ≡ h.time
+  pub are_sent : AreSent h.system h.links
+  pub place_count : length w.places.items ≡ 65536
+  pub places : (vl : ℕ) (place : Option ℕ) → slice_get w.places.items vl ≡ Some place → IsPlaceOf h.links vl place
+  pub released : List LinkRelease
+  pub are_releases : AreAllReleases h.links h.taken released
+  pub before : AllByRecursion (λ x. x.release.time < h.time) released
+  pub count : length w.lines.items ≡ length h.links
+  pub lists : length h.taken ≡ length h.links
+  pub lines : (i : ℕ) (line : Line) (l : LinkRow) → slice_get w.lines.items i ≡ Some line → slice_get h.links i ≡ Some l → LineStands line l (own_submissions h.taken i) (own i released)
+  pub come : (i place : ℕ) (s : Submission) → slice_get (own_submissions h.taken i) place ≡ Some s → s.time ≤ h.time
+  pub played : IsPlayed w.agenda
+  pub agenda : nexts w.agenda ≡ nexts_of w
+  pub agenda_count : w.agenda.count ≡ length w.lines.items
+  pub given : List (Turn Frame)
+  pub has_given : HasGiven w.ready h.emitted given
+  -- what is ready left by the last time used
+  pub in_time : (left : Left Frame) → w.ready ≡ Some left → left.end ≤ w.output.clock
+  pub output : port.StandsFor facts w.output (port_history h released given w.output.clock)
+  -- no release is left that the port is past, and the port isn't past the last time used
+  pub timely : NoneBefore (nexts_of w) w.output.clock
+  pub port_clock : w.output.clock ≤ h.time
+
+-- what is true of every sender
+abbrev pub IsSound : Working → Type 0
+IsSound w = (h : History) × StandsFor w h
+
+-- no emission that ends at or before t is left
+abbrev pub IsQuiet : Working → ℕ → Type 0
+IsQuiet w t = (h : History) × StandsFor w h × ((s : Turn Frame) → IsNextIn h s → t < s.end)
+
+-- nothing that is released before the last time used is left to enter the port, and the port gives nothing by then
+pub record IsIdle (w : Working) : Type 0 where
+  pub ready : w.ready ≡ None
+  pub quiet : held.IsQuiet facts w.output w.clock
+  pub none : NoneBefore (nexts_of w) w.clock
+
+-- an emission as what is sent
+abbrev pub sending_of : Emission → Sending
+sending_of e = record { time = e.time; a = e.a.items; b = e.b.items }
+
+-- the next emission ends at or before `until`, and is given
+pub record Emits (h : History) (until : ℕ) (e : Emission) (new : Working) : Type 0 where
+  pub slot : Turn Frame
+  pub next : IsNextIn h slot
+  pub in_time : slot.end ≤ until
+  pub time : e.time ≡ slot.end
+  pub vl : e.vl.0 ≡ slot.entry.item.vl
+  pub a : e.a.items ≡ built_frame (address_with h.system.id h.system.partition slot.entry.item) slot.entry.item.number A slot.entry.item.message.payload
+  pub b : e.b.items ≡ built_frame (address_with h.system.id h.system.partition slot.entry.item) slot.entry.item.number B slot.entry.item.message.payload
+  pub sending : IsSending h.system.id h.system.partition slot.end slot.entry.item (sending_of e)
+  pub stands : StandsFor new (with_emission h slot until)
+
+-- nothing is left: each message that was taken is released, and each release has had its slot
+pub record AreAllEmitted (h : History) : Type 0 where
+  pub released : List LinkRelease
+  pub are_releases : AreAllReleases h.links h.taken released
+  pub all_released : (i place : ℕ) (l : LinkRow) → slice_get h.links i ≡ Some l → place < length (own_submissions h.taken i) → has_release (own i released) place ≡ true
+  pub schedule : IsSchedule (byte_ns h.system) (entries_of released) h.emitted
+
+-- the link with this identifier
+abbrev pub HasLink : History → ℕ → ℕ → LinkRow → Type 0
+HasLink h vl place l = (slice_get h.links place ≡ Some l) × (l.vl ≡ vl)
+
+abbrev pub IsSub : LinkRow → ℕ → Type 0
+IsSub l sub = (1 ≤ sub) × (sub ≤ l.subs)
+
+-- so many messages of the sub-VL of the link at this place aren't released before t
+abbrev pub AreUnreleased : History → ℕ → ℕ → ℕ → ℕ → Type 0
+AreUnreleased h t place sub n = (released : List LinkRelease) × AreReleasedBefore h.links h.taken t released ×
+    (count_without (own place released) sub 0 (own_submissions h.taken place) ≡ n)
+
+-- why a message of n bytes isn't taken at t: the first of these that is true
+abbrev pub IsRefused : History → ℕ → ℕ → ℕ → ℕ → SendFault → Type 0
+IsRefused h t vl sub n NotMyLink = (i : ℕ) (l : LinkRow) → slice_get h.links i ≡ Some l → l.vl ≡ vl → ⊥
+IsRefused h t vl sub n NoSuchSub = (i : ℕ) × (l : LinkRow) × HasLink h vl i l × ((sub ≡ 0) ⊎ (l.subs < sub))
+IsRefused h t vl sub n Empty = (i : ℕ) × (l : LinkRow) × HasLink h vl i l × IsSub l sub × (n ≡ 0)
+IsRefused h t vl sub n TooLarge = (i : ℕ) × (l : LinkRow) × HasLink h vl i l × IsSub l sub × (1 ≤ n) × (l.lmax < n + 47)
+IsRefused h t vl sub n QueueFull = (i : ℕ) × (l : LinkRow) × HasLink h vl i l × IsSub l sub × (1 ≤ n) × (n + 47 ≤ l.lmax) ×
+    ((count : ℕ) × AreUnreleased h t i sub count × (64 ≤ count))
+IsRefused h t vl sub n Memory = Unit {0}
+
+-- a message is taken by the link at this place
+pub record IsTaken (h : History) (place : ℕ) (vl : ℕ) (m : Submission) : Type 0 where
+  pub row : LinkRow
+  pub link : HasLink h vl place row
+  pub sub : IsSub row m.sub
+  pub some : 1 ≤ length m.message.payload
+  pub fits : length m.message.payload + 47 ≤ row.lmax
+  pub count : ℕ
+  pub unreleased : AreUnreleased h m.time place m.sub count
+  pub room : count < 64

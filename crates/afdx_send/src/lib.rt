@@ -1,0 +1,17 @@
+//! The sending end system: for each link one message in each gap, round robin over its sub-VLs, and one output port.
+#![tactic(auto)]
+
+mod agenda;
+mod build;
+mod fault;
+pub mod laws;
+mod line;
+mod regulator;
+mod released;
+mod sender;
+#[cfg(test)]
+mod tests;
+mod working;
+
+pub use fault::SendFault;
+pub use sender::{Emission, Sender};

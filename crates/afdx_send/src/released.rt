@@ -1,0 +1,98 @@
+ghost use Rattle.std.specs.Prelude.{◌≡◌, ◌≤◌, length, IfOk};
+
+use afdx_frame::{Address, Side, VlId, build};
+use afdx_port::HasLength;
+use std::alloc::{AllocError, Global};
+use std::marker::Model;
+
+/// The bytes of a frame beside its payload.
+pub(crate) const OVERHEAD: usize = 47;
+
+/// A released message on its way through the output port: what its frames are built from.
+#[derive(Drop)]
+pub struct Released {
+    vl: VlId,
+    /// The least length of the link's frames.
+    least: u16,
+    number: u8,
+    udp: u16,
+    payload: Vec<u8>,
+}
+
+impl Model for Released {
+    ghost use Rattle.std.specs.Prelude.{◌≤◌, length};
+    ghost use Rattle.afdx_send.specs.Frames.{Frame};
+
+    ghost Value = { Frame };
+
+    ghost view = { λ r. record { vl = r.vl.0; least = r.least; number = r.number; message = record { udp = r.udp; payload = r.payload.items } } };
+
+    ghost invariant = { λ r. (64 ≤ r.least) × (r.least ≤ 1518) × (1 ≤ length r.payload.items) × (length r.payload.items ≤ 1471) };
+}
+
+impl Released {
+    ghost use Rattle.std.specs.Prelude.{◌≡◌, ℕ};
+    ghost use Rattle.afdx_frame.specs.Grammar.{Built, built_length, built_frame};
+    ghost use Rattle.afdx_send.specs.Frames.{Frame, frame_with, address_with};
+
+    pub(crate) fn new(vl: VlId, least: u16, number: u8, udp: u16, payload: Vec<u8>) -> Released
+        requires least { (64 ≤ least) × (least ≤ 1518) }
+        requires payload { (1 ≤ length payload.items) × (length payload.items ≤ 1471) }
+        ensures { result ≡ frame_with vl.0 least number udp payload.items }
+    {
+        Released {
+            vl,
+            least,
+            number,
+            udp,
+            payload,
+        }
+    }
+
+    pub(crate) fn vl(&self) -> VlId
+        ensures { result.0 ≡ self.now.vl }
+    {
+        self.vl
+    }
+
+    /// The frame for one of the networks.
+    pub(crate) fn frame(
+        &self,
+        alloc: Global,
+        system_id: u16,
+        partition: u8,
+        side: Side,
+    ) -> Result<Vec<u8>, AllocError>
+        ensures built { IfOk result (λ v. Built (address_with system_id partition self.now) self.now.number side self.now.message.payload v.items) }
+        ensures long { IfOk result (λ v. length v.items ≡ built_length (address_with system_id partition self.now) (length self.now.message.payload)) }
+        ensures computed { IfOk result (λ v. v.items ≡ built_frame (address_with system_id partition self.now) self.now.number side self.now.message.payload) }
+    {
+        let address = Address {
+            vl: self.vl,
+            system_id,
+            partition,
+            from_udp: self.udp,
+            to_udp: self.udp,
+            least: self.least,
+        };
+        build(alloc, &address, self.number, side, self.payload.as_slice())
+    }
+}
+
+impl HasLength for Released {
+    ghost use Rattle.afdx_send.specs.Frames.{facts, facts-lawful};
+
+    ghost facts = { facts };
+
+    fn length(&self) -> u64 {
+        (self.payload.len() + OVERHEAD)
+            .max(64)
+            .max(usize::from(self.least)) as u64
+    }
+
+    fn longest_wait(&self) -> Option<u64> {
+        None
+    }
+
+    ghost lawful = { facts-lawful };
+}

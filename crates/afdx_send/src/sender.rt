@@ -1,0 +1,105 @@
+ghost use Rattle.std.specs.Prelude.{◌≡◌, ℕ, ◌+◌, ◌<◌, ◌≤◌, IfOk, IfErr, OnOk, OnErr, IfSome, IfNone, MatchOption, length, slice_get, Some};
+
+use crate::build::build;
+use crate::fault::SendFault;
+use crate::working::Working;
+use afdx_admit::Admitted;
+use afdx_config::SystemId;
+use afdx_frame::VlId;
+use std::alloc::{AllocError, Global};
+use std::marker::Model;
+
+/// The two frames of a message, one for each network, and when their slot ends, in ns.
+#[derive(Drop)]
+pub struct Emission {
+    pub time: u64,
+    pub vl: VlId,
+    pub a: Vec<u8>,
+    pub b: Vec<u8>,
+}
+
+/// A sending end system (ARINC 664 Part 7). Each of its links releases one message in each gap, round robin over its
+/// sub-VLs; what is released goes through one output port. It keeps only the messages that still have to be emitted.
+#[derive(Drop)]
+pub struct Sender {
+    working: Working,
+}
+
+impl Model for Sender {
+    ghost use Rattle.afdx_send.specs.declared.working.Working.{Working};
+    ghost use Rattle.afdx_send.specs.Sender.{IsSound};
+
+    ghost Value = { Working };
+
+    ghost view = { λ s. s.working };
+
+    ghost invariant = { λ s. IsSound s.working };
+}
+
+impl Sender {
+    ghost use Rattle.afdx_config.specs.Rows.{SystemRow};
+    ghost use Rattle.afdx_port.specs.Schedule.{Turn};
+    ghost use Rattle.afdx_send.specs.Frames.{Frame};
+    ghost use Rattle.afdx_send.specs.Releases.{Submission};
+    ghost use Rattle.afdx_send.specs.Sender.{History, no_calls, at, with_submission, IsNextIn, IsQuiet, StandsFor, Emits, AreAllEmitted, IsTaken, IsRefused, frames_held, last_time, submission};
+
+    /// The sender of a system of these tables, with nothing submitted, at time 0.
+    /// The error says that memory was refused.
+    pub fn new(alloc: Global, tables: &Admitted, system: SystemId) -> Result<Sender, AllocError>
+        requires system { system.0 < length tables.now.systems }
+        ensures stands { (s : SystemRow) → slice_get tables.now.systems system.0 ≡ Some s → IfOk result (λ w. StandsFor w (no_calls tables.now system.0 s)) }
+        ensures quiet { (t : ℕ) → IfOk result (λ w. IsQuiet w t) }
+        ensures clock { IfOk result (λ w. last_time w ≡ 0) }
+        ensures held { IfOk result (λ w. frames_held w ≡ 0) }
+    {
+        Ok(Sender {
+            working: build(alloc, tables, system)?,
+        })
+    }
+
+    /// Takes a message for a sub-VL, from 1 on, of a link. Both UDP ports of its frames are `udp`.
+    ///
+    /// `time`, in ns, isn't before the last time used and is at most 10^15, and no emission that ends at or before it is left
+    /// to be taken. A refused message changes nothing but the last time used.
+    pub fn submit(
+        &mut self,
+        time: u64,
+        vl: VlId,
+        sub: u8,
+        udp: u16,
+        payload: &[u8],
+    ) -> Result<(), SendFault>
+        requires clock { last_time self.old ≤ time }
+        requires limit { time ≤ 1000000000000000 }
+        requires quiet { IsQuiet self.old time }
+        ensures ok { (h : History) → StandsFor self.old h →
+            OnOk result ((place : ℕ) × IsTaken h place vl.0 (submission time sub udp payload.now) × StandsFor self.new (with_submission h place (submission time sub udp payload.now))) }
+        ensures refused { (h : History) → StandsFor self.old h → IfErr result (λ fault. IsRefused h time vl.0 sub (length payload.now) fault) }
+        ensures unchanged { (h : History) → StandsFor self.old h → OnErr result (StandsFor self.new (at h time)) }
+        ensures quiet { IsQuiet self.new time }
+        ensures clock { last_time self.new ≡ time }
+        ensures held { OnOk result (frames_held self.new ≡ frames_held self.old + 1) }
+        ensures kept { OnErr result (frames_held self.new ≡ frames_held self.old) }
+    {
+        self.working.submit(time, vl, sub, udp, payload)
+    }
+
+    /// The next emission, if it ends at or before `until`, in ns, which isn't before the last time used.
+    /// If `until` is 1.2e15 or later, None says that each message that was taken has been emitted.
+    ///
+    /// The error says that memory was refused; then the emission is left to be taken again.
+    pub fn emit(&mut self, until: u64) -> Result<Option<Emission>, AllocError>
+        requires clock { last_time self.old ≤ until }
+        ensures given { (h : History) → StandsFor self.old h → IfOk result (λ o. IfSome o (λ e. Emits h until e self.new)) }
+        ensures none { (h : History) → StandsFor self.old h → IfOk result (λ o. IfNone o (StandsFor self.new (at h until))) }
+        ensures no_more { (h : History) (s : Turn Frame) → StandsFor self.old h → IsNextIn h s → IfOk result (λ o. IfNone o (until < s.end)) }
+        ensures all_done { (h : History) → StandsFor self.old h → 1200000000000000 ≤ until → IfOk result (λ o. IfNone o (AreAllEmitted h)) }
+        ensures again { (h : History) → StandsFor self.old h → OnErr result (StandsFor self.new (at h until)) }
+        ensures quiet { IfOk result (λ o. IfNone o (IsQuiet self.new until)) }
+        ensures clock { last_time self.new ≡ until }
+        ensures held { IfOk result (λ o. MatchOption o (frames_held self.new ≡ frames_held self.old) (λ _. frames_held self.new + 1 ≡ frames_held self.old)) }
+        ensures kept { OnErr result (frames_held self.new ≡ frames_held self.old) }
+    {
+        self.working.emit(until)
+    }
+}

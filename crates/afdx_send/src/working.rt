@@ -1,0 +1,276 @@
+ghost use Rattle.std.specs.Prelude.{◌≡◌, ℕ, ◌+◌, ◌^◌, ◌<◌, ◌≤◌, ◌↔◌, Option, Some, None, IfSome, IfNone, IfOk, IfErr, OnOk, OnErr, MatchOption, length, slice_get, sum_by, vec_len};
+
+use crate::agenda::Agenda;
+use crate::fault::SendFault;
+use crate::line::Line;
+use crate::regulator::Queued;
+use crate::released::Released;
+use crate::sender::Emission;
+use afdx_bounds::laws::sender_is_bounded;
+use afdx_frame::{Priority, Side, VlId};
+use afdx_port::laws::{due_is_next, one_schedule, taken_are_on_schedule};
+use afdx_port::{Left, Port};
+use std::alloc::{AllocError, Global};
+
+/// What a sender works with.
+#[derive(Drop)]
+pub(crate) struct Working {
+    pub(crate) alloc: Global,
+    pub(crate) system_id: u16,
+    pub(crate) partition: u8,
+    /// The last time used.
+    pub(crate) clock: u64,
+    /// The system's links, in the order of the tables.
+    pub(crate) lines: Vec<Line>,
+    /// By identifier, the place of its link.
+    pub(crate) places: Vec<Option<u16>>,
+    /// When each link's next release is.
+    pub(crate) agenda: Agenda,
+    pub(crate) output: Port<Released>,
+    /// What left the port and isn't emitted yet.
+    pub(crate) ready: Option<Left<Released>>,
+}
+
+impl Working {
+    ghost use Rattle.afdx_frame.specs.declared.link.Side.TheVariants.{A, B};
+    ghost use Rattle.afdx_frame.specs.Grammar.{built_frame};
+    ghost use Rattle.afdx_port.specs.Schedule.{Turn};
+    ghost use Rattle.afdx_port.specs.Held as held;
+    ghost use Rattle.afdx_send.specs.declared.line.Line.{Line};
+    ghost use Rattle.afdx_send.specs.Agenda.{NoneBefore, IsPlayed, IsSoonest, nexts};
+    ghost use Rattle.afdx_send.specs.Emissions.{IsSending};
+    ghost use Rattle.afdx_send.specs.Frames.{Frame, facts, address_with};
+    ghost use Rattle.afdx_send.specs.Lines.{CanTake};
+    ghost use Rattle.afdx_send.specs.Regulator.{sub_count, submission_of, next_time_of};
+    ghost use Rattle.afdx_send.specs.Sender.{History, at, with_submission, submission, sending_of, IsNextIn, IsPlaceOf, IsTaken, IsRefused, IsSound, IsQuiet, IsIdle, StandsFor, Emits, AreAllEmitted, nexts_of, messages_held, frames_held, ready_count, HoldsMore, HoldsSame, last_time};
+
+    /// The next release before this time, and its link's place.
+    fn next_release(&self, until: u64) -> Option<(u64, usize)>
+        requires played { IsPlayed self.now.agenda }
+        ensures some { IfSome result (λ x. (x.0 < until) × IsSoonest (nexts self.now.agenda) x.0 x.1) }
+        ensures none { IfNone result (NoneBefore (nexts self.now.agenda) until) }
+    {
+        let Some(next) = self.agenda.first() else {
+            return None;
+        };
+        if next.time < until {
+            Some((next.time, usize::from(next.place)))
+        } else {
+            None
+        }
+    }
+
+    /// Takes what leaves the port next, if it leaves by this time.
+    fn take(&mut self, until: u64)
+        requires port_clock { held.last_time self.old.output ≤ until }
+        requires clock { until ≤ self.old.clock }
+        requires idle { self.old.ready ≡ None }
+        requires timely { NoneBefore (nexts_of self.old) until }
+        ensures stands { (h : History) → StandsFor self.old h → StandsFor self.new h }
+        ensures quiet { self.new.ready ≡ None → held.IsQuiet facts self.new.output until }
+        ensures port_clock { held.last_time self.new.output ≡ until }
+        ensures held { held.frames_held self.new.output + ready_count self.new.ready ≡ held.frames_held self.old.output }
+        ensures done { (h : History) → StandsFor self.old h → 1200000000000000 ≤ until → self.new.ready ≡ None → AreAllEmitted h }
+        ensures rest { self.new ≡ record self.old { output = self.new.output; ready = self.new.ready } }
+    {
+        self.ready = self.output.take(until);
+    }
+
+    /// Puts the next release of all into the port.
+    fn release(&mut self, place: usize, time: u64)
+        requires sound { IsSound self.old }
+        requires soonest { IsSoonest (nexts_of self.old) time place }
+        requires early { time < self.old.clock }
+        requires port_clock { held.last_time self.old.output ≡ time }
+        requires quiet { held.IsQuiet facts self.old.output time }
+        requires idle { self.old.ready ≡ None }
+        ensures stands { (h : History) → StandsFor self.old h → StandsFor self.new h }
+        ensures idle { self.new.ready ≡ None }
+        ensures held { messages_held self.new + 1 ≡ messages_held self.old }
+        ensures port_held { held.frames_held self.new.output ≡ held.frames_held self.old.output + 1 }
+        ensures clock { self.new.clock ≡ self.old.clock }
+    {
+        sender_is_bounded::<Released>();
+        one_schedule::<Released>();
+        let released = self.lines[place].release(time);
+        let next = self.lines[place].regulator.next_time();
+        self.agenda.set(place, next);
+        let Ok(()) = self.output.put(time, Priority::Low, released) else {
+            unreachable!();
+        };
+    }
+
+    /// Puts all that is released before the last time used into the port, until a frame has left it.
+    fn advance(&mut self)
+        requires sound { IsSound self.old }
+        requires idle { self.old.ready ≡ None }
+        ensures stands { (h : History) → StandsFor self.old h → StandsFor self.new h }
+        ensures idle { self.new.ready ≡ None → IsIdle self.new }
+        ensures done { (h : History) → StandsFor self.old h → 1200000000000000 ≤ self.old.clock → self.new.ready ≡ None → AreAllEmitted h }
+        ensures clock { self.new.clock ≡ self.old.clock }
+        ensures held { frames_held self.new ≡ frames_held self.old }
+    {
+        let until = self.clock;
+        while let Some((time, place)) = self.next_release(until) {
+            self.take(time);
+            if self.ready.is_some() {
+                return;
+            }
+            self.release(place, time);
+        }
+        self.take(until);
+    }
+
+    /// Makes ready what leaves the port next, if it leaves by this time.
+    fn prepare(&mut self, until: u64)
+        requires sound { IsSound self.old }
+        requires clock { self.old.clock ≤ until }
+        ensures stands { (h : History) → StandsFor self.old h → StandsFor self.new (at h until) }
+        ensures idle { self.new.ready ≡ None → IsIdle self.new }
+        ensures done { (h : History) → StandsFor self.old h → 1200000000000000 ≤ until → self.new.ready ≡ None → AreAllEmitted h }
+        ensures clock { self.new.clock ≡ until }
+        ensures held { frames_held self.new ≡ frames_held self.old }
+    {
+        self.clock = until;
+        if self.ready.is_none() {
+            self.advance();
+        }
+    }
+
+    /// The two frames of a message that has left the port.
+    fn emission(&self, left: &Left<Released>) -> Result<Emission, AllocError>
+        ensures time { IfOk result (λ e. e.time ≡ left.now.end) }
+        ensures vl { IfOk result (λ e. e.vl.0 ≡ left.now.item.vl) }
+        ensures sending { IfOk result (λ e. IsSending self.now.system_id self.now.partition left.now.end left.now.item (sending_of e)) }
+        ensures a { IfOk result (λ e. e.a.items ≡ built_frame (address_with self.now.system_id self.now.partition left.now.item) left.now.item.number A left.now.item.message.payload) }
+        ensures b { IfOk result (λ e. e.b.items ≡ built_frame (address_with self.now.system_id self.now.partition left.now.item) left.now.item.number B left.now.item.message.payload) }
+    {
+        let (system_id, partition) = (self.system_id, self.partition);
+        let item = &left.item;
+        Ok(Emission {
+            time: left.end,
+            vl: item.vl(),
+            a: item.frame(self.alloc, system_id, partition, Side::A)?,
+            b: item.frame(self.alloc, system_id, partition, Side::B)?,
+        })
+    }
+
+    pub(crate) fn emit(&mut self, until: u64) -> Result<Option<Emission>, AllocError>
+        requires sound { IsSound self.old }
+        requires clock { self.old.clock ≤ until }
+        ensures sound { IsSound self.new }
+        ensures given { (h : History) → StandsFor self.old h → IfOk result (λ o. IfSome o (λ e. Emits h until e self.new)) }
+        ensures none { (h : History) → StandsFor self.old h → IfOk result (λ o. IfNone o (StandsFor self.new (at h until))) }
+        ensures no_more { (h : History) (s : Turn Frame) → StandsFor self.old h → IsNextIn h s → IfOk result (λ o. IfNone o (until < s.end)) }
+        ensures all_done { (h : History) → StandsFor self.old h → 1200000000000000 ≤ until → IfOk result (λ o. IfNone o (AreAllEmitted h)) }
+        ensures again { (h : History) → StandsFor self.old h → OnErr result (StandsFor self.new (at h until)) }
+        ensures quiet { IfOk result (λ o. IfNone o (IsQuiet self.new until)) }
+        ensures clock { last_time self.new ≡ until }
+        ensures held { IfOk result (λ o. MatchOption o (frames_held self.new ≡ frames_held self.old) (λ _. frames_held self.new + 1 ≡ frames_held self.old)) }
+        ensures kept { OnErr result (frames_held self.new ≡ frames_held self.old) }
+    {
+        taken_are_on_schedule::<Released>();
+        due_is_next::<Released>();
+        self.prepare(until);
+        let Some(left) = self.ready.take() else {
+            return Ok(None);
+        };
+        match self.emission(&left) {
+            Ok(emission) => Ok(Some(emission)),
+            Err(refused) => {
+                self.ready = Some(left);
+                Err(refused)
+            }
+        }
+    }
+
+    /// The place of the link with this identifier.
+    fn place_of(&self, vl: VlId) -> Option<usize>
+        requires sound { IsSound self.now }
+        ensures { (h : History) → StandsFor self.now h → IsPlaceOf h.links vl.0 result }
+    {
+        match self.places[usize::from(vl.0)] {
+            Some(place) => Some(usize::from(place)),
+            None => None,
+        }
+    }
+
+    /// Adds a message to a queue of the link at this place.
+    fn add(&mut self, place: usize, index: usize, message: Queued) -> Result<(), AllocError>
+        requires sound { IsSound self.old }
+        requires place { place < length self.old.lines.items }
+        requires queue { (line : Line) → slice_get self.old.lines.items place ≡ Some line → CanTake line index message }
+        requires limit { message.time ≤ 1000000000000000 }
+        requires clock { self.old.clock ≡ message.time }
+        requires idle { IsIdle self.old }
+        ensures ok { (h : History) → StandsFor self.old h → OnOk result (StandsFor self.new (with_submission h place (submission_of (index + 1) message))) }
+        ensures err { (h : History) → StandsFor self.old h → OnErr result (StandsFor self.new h) }
+        ensures idle { IsIdle self.new }
+        ensures clock { self.new.clock ≡ self.old.clock }
+        ensures held { OnOk result (HoldsMore self.old self.new) }
+        ensures kept { OnErr result (HoldsSame self.old self.new) }
+    {
+        self.lines[place].regulator.push(index, message)?;
+        let next = self.lines[place].regulator.next_time();
+        self.agenda.set(place, next);
+        Ok(())
+    }
+
+    /// Takes a message at the last time used.
+    fn accept(&mut self, vl: VlId, sub: u8, udp: u16, payload: &[u8]) -> Result<(), SendFault>
+        requires sound { IsSound self.old }
+        requires limit { self.old.clock ≤ 1000000000000000 }
+        requires idle { IsIdle self.old }
+        ensures ok { (h : History) → StandsFor self.old h →
+            OnOk result ((place : ℕ) × IsTaken h place vl.0 (submission self.old.clock sub udp payload.now) × StandsFor self.new (with_submission h place (submission self.old.clock sub udp payload.now))) }
+        ensures refused { (h : History) → StandsFor self.old h → IfErr result (λ fault. IsRefused h self.old.clock vl.0 sub (length payload.now) fault) }
+        ensures unchanged { (h : History) → StandsFor self.old h → OnErr result (StandsFor self.new h) }
+        ensures idle { IsIdle self.new }
+        ensures clock { self.new.clock ≡ self.old.clock }
+        ensures held { OnOk result (HoldsMore self.old self.new) }
+        ensures kept { OnErr result (HoldsSame self.old self.new) }
+    {
+        let Some(place) = self.place_of(vl) else {
+            return Err(SendFault::NotMyLink);
+        };
+        if let Err(fault) = self.lines[place].check(sub, payload.len()) {
+            return Err(fault);
+        }
+        let Ok(payload) = Vec::from_slice(self.alloc, payload) else {
+            return Err(SendFault::Memory);
+        };
+        let message = Queued::new(self.clock, udp, payload);
+        match self.add(place, usize::from(sub) - 1, message) {
+            Ok(()) => Ok(()),
+            Err(_) => Err(SendFault::Memory),
+        }
+    }
+
+    pub(crate) fn submit(
+        &mut self,
+        time: u64,
+        vl: VlId,
+        sub: u8,
+        udp: u16,
+        payload: &[u8],
+    ) -> Result<(), SendFault>
+        requires sound { IsSound self.old }
+        requires clock { self.old.clock ≤ time }
+        requires limit { time ≤ 1000000000000000 }
+        requires quiet { IsQuiet self.old time }
+        ensures sound { IsSound self.new }
+        ensures ok { (h : History) → StandsFor self.old h →
+            OnOk result ((place : ℕ) × IsTaken h place vl.0 (submission time sub udp payload.now) × StandsFor self.new (with_submission h place (submission time sub udp payload.now))) }
+        ensures refused { (h : History) → StandsFor self.old h → IfErr result (λ fault. IsRefused h time vl.0 sub (length payload.now) fault) }
+        ensures unchanged { (h : History) → StandsFor self.old h → OnErr result (StandsFor self.new (at h time)) }
+        ensures quiet { IsQuiet self.new time }
+        ensures clock { last_time self.new ≡ time }
+        ensures held { OnOk result (frames_held self.new ≡ frames_held self.old + 1) }
+        ensures kept { OnErr result (frames_held self.new ≡ frames_held self.old) }
+    {
+        taken_are_on_schedule::<Released>();
+        due_is_next::<Released>();
+        self.prepare(time);
+        self.accept(vl, sub, udp, payload)
+    }
+}
