@@ -3,3 +3,5 @@ pub mod LineLemmas
 pub mod ReaderLemmas
 pub mod TakingLemmas
 pub mod WholeLemmas
+pub mod SubmissionLemmas
+mod TextLemmas

@@ -3,3 +3,5 @@ pub mod Faults
 pub mod Lines
 pub mod Fields
 pub mod FrameLines
+pub mod SubmissionLines
+pub mod Texts

@@ -1,10 +1,12 @@
 //! The fields of a line: text between spaces, numbers, and bytes in hexadecimal digits.
-ghost use Rattle.std.specs.Prelude.{◌≡◌, ◌∷◌, ◌⊎◌, ◌^◌, ◌-◌, min, Some, None, OnOk, IfErr, option_map};
+ghost use Rattle.hex.specs.Hex.{hex_digit_value, decode_pairs, decode_sized};
+ghost use Rattle.std.specs.Prelude.{nat_le, length, true, MatchResult, Err, ◌*◌, Ok, if◌then◌else◌, ◌≡◌, ◌∷◌, ◌⊎◌, ◌^◌, ◌-◌, min, Some, None, OnOk, IfErr, option_map};
 ghost use Rattle.std.specs.Str.Lines.{strip_carriage_return};
 ghost use Rattle.afdx_lists.specs.Fields.{between_spaces, fields_after, number_of, bytes_of_digits, is_skipped};
 ghost use Rattle.afdx_lists.specs.declared.fault.LineFault.TheVariants.{Memory, BadHex};
 
 use crate::fault::LineFault;
+use hex::FromHexError;
 
 /// The line without the one carriage return at its end.
 pub(crate) fn trim_line(line: &[u8]) -> &[u8]
@@ -52,6 +54,43 @@ pub(crate) fn read_number(text: &[u8]) -> Option<u64>
     Some(value)
 }
 
+/// The value of a hexadecimal digit, or a number over 15.
+fn digit_value(digit: u8) -> u8
+    ensures { hex_digit_value digit ≡ (if nat_le result 15 then Some result else None) }
+{
+    match digit {
+        b'A'..=b'F' => digit - b'A' + 10,
+        b'a'..=b'f' => digit - b'a' + 10,
+        b'0'..=b'9' => digit - b'0',
+        _ => 255,
+    }
+}
+
+/// Puts the bytes of pairs of digits in the place of `bytes`. False: not all were digits.
+fn read_pairs(digits: &[u8], bytes: &mut [u8]) -> bool
+    requires { length digits.now ≡ 2 * length bytes.old }
+    ensures { result ≡ true → decode_pairs 0 digits.now ≡ Ok bytes.new }
+{
+    let mut greatest = 0u8;
+    'bytes: for i in 0..bytes.len() {
+        let high = digit_value(digits[2 * i]);
+        let low = digit_value(digits[2 * i + 1]);
+        greatest = greatest.max(high).max(low);
+        bytes[i] = high.wrapping_mul(16).wrapping_add(low);
+    }
+    greatest < 16
+}
+
+/// Reads digits as the crate `hex` does, but without a branch for each of them where all are sound.
+fn decode_to_slice(digits: &[u8], out: &mut [u8]) -> Result<(), FromHexError>
+    ensures value { MatchResult (decode_sized digits.now (length out.old)) (λ bytes. (result ≡ Ok tt) × (out.new ≡ bytes)) (λ e. result ≡ Err e) }
+{
+    if digits.len() == 2 * out.len() && read_pairs(digits, out) {
+        return Ok(());
+    }
+    hex::decode_to_slice(digits, out)
+}
+
 /// Puts the bytes that hexadecimal digits write, or `-` for none, in the place of `bytes`.
 pub(crate) fn read_bytes(digits: &[u8], bytes: &mut Vec<u8>) -> Result<(), LineFault>
     ensures ok { OnOk result (bytes_of_digits digits.now ≡ Some bytes.new.items) }
@@ -62,7 +101,7 @@ pub(crate) fn read_bytes(digits: &[u8], bytes: &mut Vec<u8>) -> Result<(), LineF
         return Ok(());
     }
     bytes.resize(digits.len() / 2, 0)?;
-    match hex::decode_to_slice(digits, bytes.as_mut_slice()) {
+    match decode_to_slice(digits, bytes.as_mut_slice()) {
         Ok(()) => Ok(()),
         Err(_) => Err(LineFault::BadHex),
     }

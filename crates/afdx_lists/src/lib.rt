@@ -6,12 +6,16 @@ mod fields;
 mod frame_line;
 pub mod laws;
 mod line_reader;
+mod submission_line;
+mod text;
 mod watched;
 mod writing;
 
 pub use fault::{LineFault, RunFault};
 pub use frame_line::{Heading, read_frame_line};
 pub use line_reader::LineReader;
+pub use submission_line::{Handed, read_submission_line};
+pub use text::Text;
 pub use watched::Watched;
 pub use writing::write_text;
 

@@ -1,7 +1,10 @@
 //! Lines, faults and devices that move little at a time and fail.
 ghost use Rattle.std.specs.Prelude.{◌<◌, ◌≤◌, ◌^◌};
 
-use crate::{Heading, LineFault, LineReader, RunFault, Watched, read_frame_line, write_text};
+use crate::{
+    Handed, Heading, LineFault, LineReader, RunFault, Text, Watched, read_frame_line,
+    read_submission_line, write_text,
+};
 use afdx_frame::Side;
 use std::alloc::Global;
 use std::io;
@@ -418,5 +421,73 @@ fn faults_are_told(rt: HostRuntime) -> Result<(), Fail> {
     ] {
         assert_eq!(rt; line_of(rt.alloc(), fault)?.as_str(), wanted);
     }
+    Ok(())
+}
+
+/// What a submission line says after one at 5 ns, and the bytes.
+fn handed(alloc: Global, line: &str) -> (Result<Option<Handed>, LineFault>, Vec<u8>) {
+    let mut payload = Vec::new(alloc);
+    let said = read_submission_line(line.as_bytes(), 5, &mut payload);
+    (said, payload)
+}
+
+#[test]
+fn submission_lines(rt: HostRuntime) {
+    let alloc = rt.alloc();
+    let (said, payload) = handed(alloc, "006 65535 255 0 0aFF\r");
+    let wanted = Handed {
+        time: 6,
+        vl: 65535,
+        sub: 255,
+        udp: 0,
+    };
+    assert_eq!(rt; said, Ok(Some(wanted)));
+    assert_eq!(rt; payload.as_slice(), [0x0a, 0xff].as_slice());
+    for (line, fault) in [
+        ("6 1 1 1000", LineFault::BadLine),
+        ("6 1 1 1000 00 00", LineFault::BadLine),
+        ("6 65536 1 1000 00", LineFault::BadLine),
+        ("6 1 256 1000 00", LineFault::BadLine),
+        ("6 1 1 18446744073709551617 00", LineFault::BadLine),
+        ("4 1 x 1000 0", LineFault::BadLine),
+        ("1000000000000001 1 1 1000 0", LineFault::TimeTooLarge),
+        ("4 1 1 1000 0", LineFault::TimeBack),
+        ("6 1 1 1000 0", LineFault::BadHex),
+    ] {
+        let (said, _) = handed(alloc, line);
+        assert_eq!(rt; said, Err(fault), "{line}");
+    }
+    for line in ["", "# 6 1 1 1000 00"] {
+        let (said, _) = handed(alloc, line);
+        assert_eq!(rt; said, Ok(None));
+    }
+}
+
+#[test]
+fn a_text_grows_by_pieces(rt: HostRuntime) -> Result<(), Fail> {
+    let mut text = Text::new(rt.alloc());
+    assert_eq!(rt; text.as_bytes(), b"".as_slice());
+    for _ in 0..3u32 {
+        text.clear();
+        text.put(b"D ")?;
+        text.put_number(0)?;
+        text.put(b" ")?;
+        text.put_number(u64::MAX)?;
+        text.put(b" ")?;
+        text.put_digits(&[0, 0x9a, 0xff])?;
+        text.put_digits(&[])?;
+        text.put(b"\n")?;
+        assert_eq!(rt;
+            text.as_bytes(),
+            b"D 0 18446744073709551615 009aff\n".as_slice()
+        );
+    }
+    // Longer than the first room.
+    text.clear();
+    for n in 0..1000u64 {
+        text.put_number(1_000_000_000 + n)?;
+    }
+    assert_eq!(rt; text.as_bytes().len(), 10_000usize);
+    assert_eq!(rt; &text.as_bytes()[9_990..], b"1000000999".as_slice());
     Ok(())
 }

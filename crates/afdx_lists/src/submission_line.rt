@@ -1,0 +1,172 @@
+//! One line of a submission list.
+ghost use Rattle.std.specs.Prelude.{◌≡◌, ◌⊎◌, ◌^◌, ◌-◌, ◌<◌, ◌≤◌, min, None, Ok, Err, IfOk, IfSome, IfErr, option_map};
+ghost use Rattle.afdx_lists.specs.Fields.{number_of};
+ghost use Rattle.afdx_lists.specs.SubmissionLines.{at_most, submission_fields, submission_of, submission_said, saturated, fields_of, fields_with, time_fault};
+ghost use Rattle.afdx_lists.specs.declared.fault.LineFault.TheVariants.{Memory};
+
+use crate::fault::LineFault;
+use crate::fields::{read_bytes, read_number, says_nothing, split_field, trim_line};
+
+/// When a message is handed to a sender, and for what.
+#[derive(Clone, Copy, Debug, PartialEq, Eq)]
+pub struct Handed {
+    /// In ns, at most 10^15.
+    pub time: u64,
+    /// The identifier of its link.
+    pub vl: u16,
+    /// The sub-VL.
+    pub sub: u8,
+    /// The UDP port that it goes to.
+    pub udp: u16,
+}
+
+/// The fields of a line, read as far as their form goes.
+#[derive(Drop)]
+struct Fields<'a> {
+    time: u64,
+    vl: u16,
+    sub: u8,
+    udp: u16,
+    digits: &'a [u8],
+}
+
+const LAST_TIME: u64 = 1_000_000_000_000_000;
+
+/// A number that isn't over its limit.
+fn read_small(text: &[u8], limit: u64) -> Option<u64>
+    requires { limit < 2 ^ 64 - 1 }
+    ensures is { result ≡ at_most limit (number_of text.now) }
+    ensures small { IfSome result (λ n. n ≤ limit) }
+{
+    match read_number(text) {
+        Some(n) if n <= limit => Some(n),
+        _ => None,
+    }
+}
+
+fn read_port(text: &[u8]) -> Option<u16>
+    ensures { result ≡ at_most 65535 (number_of text.now) }
+{
+    match read_small(text, 65535) {
+        Some(n) => Some(n as u16),
+        None => None,
+    }
+}
+
+fn read_sub(text: &[u8]) -> Option<u8>
+    ensures { result ≡ at_most 255 (number_of text.now) }
+{
+    match read_small(text, 255) {
+        Some(n) => Some(n as u8),
+        None => None,
+    }
+}
+
+/// The fields, where each could be read.
+fn fields_from<'a>(
+    time: Option<u64>,
+    vl: Option<u16>,
+    sub: Option<u8>,
+    udp: Option<u16>,
+    digits: &'a [u8],
+) -> Option<Fields<'a>>
+    ensures { option_map fields_of result ≡ fields_with time vl sub udp digits.entry.now }
+{
+    if digits.is_empty() {
+        return None;
+    }
+    Some(Fields {
+        time: time?,
+        vl: vl?,
+        sub: sub?,
+        udp: udp?,
+        digits,
+    })
+}
+
+fn read_fields(text: &[u8]) -> Option<Fields<'_>>
+    ensures { option_map fields_of result ≡ option_map saturated (submission_fields text.now) }
+{
+    let (time, rest) = split_field(text);
+    let Some(text) = rest else {
+        return None;
+    };
+    let (vl, rest) = split_field(text);
+    let Some(text) = rest else {
+        return None;
+    };
+    let (sub, rest) = split_field(text);
+    let Some(text) = rest else {
+        return None;
+    };
+    let (udp, rest) = split_field(text);
+    let Some(text) = rest else {
+        return None;
+    };
+    let (digits, rest) = split_field(text);
+    if rest.is_some() {
+        return None;
+    }
+    fields_from(
+        read_number(time),
+        read_port(vl),
+        read_sub(sub),
+        read_port(udp),
+        digits,
+    )
+}
+
+/// The first false check of a line's time.
+fn fault_of_time(time: u64, latest: u64) -> Option<LineFault>
+    ensures fault { result ≡ time_fault time latest }
+    ensures time { result ≡ None → time ≤ 10 ^ 15 }
+    ensures order { result ≡ None → latest ≤ time }
+{
+    if time > LAST_TIME {
+        Some(LineFault::TimeTooLarge)
+    } else if time < latest {
+        Some(LineFault::TimeBack)
+    } else {
+        None
+    }
+}
+
+/// What a line says that comes after one of this time: a message, whose bytes are put in the place of
+/// `payload`, or nothing if it is to be skipped.
+///
+/// The line stands without its line feed. An error is the first check of the line that is false; want
+/// of memory comes where `payload` can't grow. After an error, and after a line that is skipped, `payload`
+/// holds any bytes.
+pub fn read_submission_line(
+    line: &[u8],
+    latest: u64,
+    payload: &mut Vec<u8>,
+) -> Result<Option<Handed>, LineFault>
+    requires { latest ≤ 10 ^ 15 }
+    ensures time { IfOk result (λ handed. IfSome handed (λ h. h.time ≤ 10 ^ 15)) }
+    ensures order { IfOk result (λ handed. IfSome handed (λ h. latest ≤ h.time)) }
+    ensures ok { IfOk result (λ handed. submission_said latest line.now ≡ Ok (option_map (λ h. submission_of h payload.new.items) handed)) }
+    ensures err { IfErr result (λ fault. (fault ≡ Memory) ⊎ (submission_said latest line.now ≡ Err fault)) }
+{
+    let text = trim_line(line);
+    if says_nothing(text) {
+        return Ok(None);
+    }
+    let fields = match read_fields(text) {
+        Some(fields) => fields,
+        None => return Err(LineFault::BadLine),
+    };
+    if let Some(fault) = fault_of_time(fields.time, latest) {
+        return Err(fault);
+    }
+    match read_bytes(fields.digits, payload) {
+        Ok(()) => {}
+        Err(fault) => return Err(fault),
+    }
+    Ok(Some(Handed {
+        time: fields.time,
+        vl: fields.vl,
+        sub: fields.sub,
+        udp: fields.udp,
+    }))
+}

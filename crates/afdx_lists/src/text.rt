@@ -1,0 +1,162 @@
+//! Text that is put together piece by piece.
+ghost use Rattle.std.specs.Prelude.{◌≡◌, ◌≤◌, ◌<◌, ◌+◌, ◌*◌, ◌++◌, [], OnOk, length, take, drop, vec_len, slice_index, decimal};
+ghost use Rattle.hex.specs.Hex.{encode_lower, lower_digits};
+
+use std::alloc::{AllocError, Global};
+
+/// The most digits of a `u64`.
+const MOST_DIGITS: usize = 20;
+
+/// Bytes that grow at their end, in memory that is used again after each `clear`.
+///
+/// Where a piece finds no memory, what stands in the text is open, until it is cleared.
+#[derive(Debug, Drop)]
+pub struct Text {
+    room: Vec<u8>,
+    end: usize,
+    ghost within: { end ≤ vec_len room },
+}
+
+/// Puts a piece at a place of the room.
+#[inline(always)]
+fn put_at(room: &mut [u8], at: usize, piece: &[u8])
+    requires { at + length piece.now ≤ length room.old }
+    ensures { room.new ≡ take at room.old ++ piece.now ++ drop (at + length piece.now) room.old }
+{
+    room[at..at + piece.len()].copy_from_slice(piece);
+}
+
+/// The lower-case digit of a number.
+fn digit_of(number: u8) -> u8
+    requires { number < 16 }
+    ensures { result ≡ slice_index lower_digits number }
+{
+    if number < 10 {
+        number + b'0'
+    } else {
+        number + (b'a' - 10)
+    }
+}
+
+/// Puts the digits of all bytes in the place of `digits`. It has no branches and reads no table, so that it is done for several bytes at once.
+fn encode_to(bytes: &[u8], digits: &mut [u8])
+    requires { length digits.old ≡ 2 * length bytes.now }
+    ensures { digits.new ≡ encode_lower bytes.now }
+{
+    'bytes: for i in 0..bytes.len() {
+        let byte = bytes[i];
+        let high = digit_of(byte >> 4);
+        let low = digit_of(byte & 0x0f);
+        digits[2 * i] = high;
+        digits[2 * i + 1] = low;
+    }
+}
+
+/// Puts the digits of all bytes at a place of the room.
+fn encode_at(room: &mut [u8], at: usize, bytes: &[u8])
+    requires { at + 2 * length bytes.now ≤ length room.old }
+    ensures { room.new ≡ take at room.old ++ encode_lower bytes.now ++ drop (at + 2 * length bytes.now) room.old }
+{
+    encode_to(bytes, &mut room[at..at + 2 * bytes.len()]);
+}
+
+impl Text {
+    ghost use Rattle.afdx_lists.specs.Texts.{text_bytes};
+
+    /// No text. It takes no memory yet.
+    pub fn new(alloc: Global) -> Text
+        ensures { text_bytes result ≡ [] }
+    {
+        Text {
+            room: Vec::new(alloc),
+            end: 0,
+        }
+    }
+
+    /// Takes all of the text away, and keeps its memory.
+    #[inline]
+    pub fn clear(&mut self)
+        ensures { text_bytes self.new ≡ [] }
+    {
+        self.end = 0;
+    }
+
+    /// The text.
+    #[inline]
+    pub fn as_bytes(&self) -> &[u8]
+        ensures { result.now ≡ text_bytes self.now }
+    {
+        &self.room[..self.end]
+    }
+
+    /// Adds a piece. A literal piece is one store.
+    #[inline(always)]
+    pub fn put(&mut self, piece: &[u8]) -> Result<(), AllocError>
+        ensures { OnOk result (text_bytes self.new ≡ text_bytes self.old ++ piece.now) }
+    {
+        self.make_room(piece.len())?;
+        let at = self.end;
+        put_at(self.room.as_mut_slice(), at, piece);
+        self.end = at + piece.len();
+        Ok(())
+    }
+
+    /// Adds a number in decimal digits.
+    #[inline(always)]
+    pub fn put_number(&mut self, n: u64) -> Result<(), AllocError>
+        ensures { OnOk result (text_bytes self.new ≡ text_bytes self.old ++ decimal n) }
+    {
+        self.make_room(MOST_DIGITS)?;
+        let mut digits = [0u8; 40];
+        let start = itoa::write_digits(n, &mut digits, MOST_DIGITS);
+        let at = self.end;
+        // Always as many bytes, so that it is no loop: those behind the digits count for nothing.
+        put_at(
+            self.room.as_mut_slice(),
+            at,
+            &digits[start..start + MOST_DIGITS],
+        );
+        self.end = at + (MOST_DIGITS - start);
+        Ok(())
+    }
+
+    /// Adds bytes in hexadecimal digits, in lower case.
+    pub fn put_digits(&mut self, bytes: &[u8]) -> Result<(), AllocError>
+        ensures { OnOk result (text_bytes self.new ≡ text_bytes self.old ++ encode_lower bytes.now) }
+    {
+        self.make_room(2 * bytes.len())?;
+        let at = self.end;
+        encode_at(self.room.as_mut_slice(), at, bytes);
+        self.end = at + 2 * bytes.len();
+        Ok(())
+    }
+
+    /// Makes room for so many more bytes.
+    #[inline(always)]
+    fn make_room(&mut self, more: usize) -> Result<(), AllocError>
+        ensures end { self.new.end ≡ self.old.end }
+        ensures bytes { text_bytes self.new ≡ text_bytes self.old }
+        ensures room { OnOk result (self.new.end + more ≤ vec_len self.new.room) }
+    {
+        if more <= self.room.len() - self.end {
+            return Ok(());
+        }
+        self.grow(more)
+    }
+
+    /// Makes the room longer.
+    #[cold]
+    #[inline(never)]
+    fn grow(&mut self, more: usize) -> Result<(), AllocError>
+        requires { vec_len self.old.room < self.old.end + more }
+        ensures end { self.new.end ≡ self.old.end }
+        ensures bytes { text_bytes self.new ≡ text_bytes self.old }
+        ensures room { OnOk result (self.new.end + more ≤ vec_len self.new.room) }
+    {
+        let length = match self.end.checked_add(more) {
+            Some(least) => least.saturating_add(256),
+            None => return Err(AllocError),
+        };
+        self.room.resize(length, 0)
+    }
+}
