@@ -6,3 +6,9 @@ pub mod Policed
 pub mod Policers
 pub mod Commands
 pub mod CheckText
+pub mod ReplayText
+pub mod Replayed
+pub mod ReplayPromises
+pub mod PromisedRun
+pub mod ReplayCommand
+pub mod SendText

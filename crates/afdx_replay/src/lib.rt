@@ -1,16 +1,26 @@
 //! Runs over lists of frames, what they write, and the commands of the program.
 #![tactic(auto)]
 
+mod admitted_run;
 mod check_command;
+pub mod laws;
 mod police_command;
 mod police_run;
+mod replay_command;
+mod replay_lines;
+mod replay_run;
+mod send_run;
 mod summary;
 mod verdict;
 
+pub use admitted_run::run;
 pub use afdx_lists::{RunFault, Watched};
 pub use check_command::check;
 pub use police_command::police;
 pub use police_run::run_police;
+pub use replay_command::replay;
+pub use replay_run::run_unadmitted;
+pub use send_run::run_send;
 pub use summary::Summary;
 
 #[cfg(test)]

@@ -1,10 +1,11 @@
 //! A run that polices the frames of one link.
-ghost use Rattle.std.specs.Prelude.{◌≡◌, ◌<◌, ◌≤◌, ◌+◌, ◌-◌, ◌^◌, if◌then◌else◌, ◌∷◌, [], ℕ, List, IfSome, OnOk, true, false, string_bytes};
+ghost use Rattle.std.specs.Prelude.{◌≡◌, ◌<◌, ◌≤◌, ◌+◌, ◌-◌, ◌^◌, if◌then◌else◌, ◌∷◌, [], ℕ, List, IfSome, OnOk, true, false};
 ghost use Rattle.afdx_frame.specs.Sealing.{is_sealed};
 ghost use Rattle.afdx_police.specs.Arrival.{Arrival};
 ghost use Rattle.afdx_police.specs.Rule.{Rule};
 ghost use Rattle.afdx_police.specs.RuleOf.{rule_of};
 ghost use Rattle.afdx_police.specs.Verdicts.{verdict_in};
+ghost use Rattle.afdx_lists.specs.Texts.{text_bytes};
 ghost use Rattle.afdx_lists.specs.Calls.{is_failed_read, is_failed_write};
 ghost use Rattle.afdx_replay.specs.PoliceText.{verdict_line};
 ghost use Rattle.afdx_replay.specs.Policed.{Answers};
@@ -12,7 +13,7 @@ ghost use Rattle.afdx_replay.specs.Policed.{Answers};
 use crate::summary::Summary;
 use crate::verdict::{side_letter, verdict_words};
 use afdx_frame::Side;
-use afdx_lists::{Heading, LineReader, RunFault, Watched, read_frame_line, write_text};
+use afdx_lists::{Heading, LineReader, RunFault, Text, Watched, read_frame_line, write_text};
 use afdx_police::{LinkAccount, LinkRule, Reason};
 use std::alloc::{AllocError, Global};
 use std::io::{Read, Write};
@@ -70,17 +71,23 @@ fn count_if(count: u64, is_one_more: bool) -> u64
 
 /// Puts the line of a verdict in the place of `text`.
 fn put_verdict(
-    text: &mut String,
+    text: &mut Text,
     n: u64,
     side: Side,
     reason: Option<Reason>,
 ) -> Result<(), AllocError>
-    ensures { OnOk result (string_bytes text.new ≡ verdict_line n side reason) }
+    ensures { OnOk result (text_bytes text.new ≡ verdict_line n side reason) }
 {
     let side = side_letter(side);
     let words = verdict_words(reason);
     text.clear();
-    write!(text, "V {n} {side} {words}\n")
+    text.put(b"V ")?;
+    text.put_number(n)?;
+    text.put(b" ")?;
+    text.put(side.as_bytes())?;
+    text.put(b" ")?;
+    text.put(words.as_bytes())?;
+    text.put(b"\n")
 }
 
 /// Polices the frames of a list for one virtual link, and writes a line for each.
@@ -111,7 +118,7 @@ pub fn run_police<R: Read, W: Write>(
     let mut reader = LineReader::new(alloc)?;
     let mut policers = Policers::new(rule);
     let mut frame = Vec::new(alloc);
-    let mut text = String::new(alloc);
+    let mut text = Text::new(alloc);
     let mut latest = 0u64;
     let mut accepted = 0u64;
     let mut dropped = 0u64;
@@ -128,7 +135,7 @@ pub fn run_police<R: Read, W: Write>(
         accepted = count_if(accepted, is_accepted);
         dropped = count_if(dropped, !is_accepted);
         put_verdict(&mut text, n, heading.side, reason)?;
-        write_text(output, text.as_str().as_bytes())?;
+        write_text(output, text.as_bytes())?;
     }
     Ok(Summary {
         lines: reader.lines(),

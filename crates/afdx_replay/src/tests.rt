@@ -3,6 +3,8 @@
 mod checks;
 mod devices;
 mod refusals;
+mod replays;
+mod sends;
 
 use crate::{RunFault, Summary, Watched, police, run_police};
 use afdx_frame::{Policing, VlId};

@@ -75,7 +75,12 @@ depth = 4
 pub(super) const BASE_PORTS: &str = "P 1 0 0 0\nP 2 0 0 0\nP 3 16800 20297 252\n";
 
 /// The text with `new` in the place of the first `old`.
-fn changed(alloc: Global, text: &str, old: &str, new: &str) -> Result<String, AllocError> {
+pub(super) fn changed(
+    alloc: Global,
+    text: &str,
+    old: &str,
+    new: &str,
+) -> Result<String, AllocError> {
     let mut result = String::new(alloc);
     match text.split_once(old) {
         Some((front, back)) => {

@@ -81,7 +81,7 @@ pub loop-text-preserved : goal.loop-text-preserved
 loop-text-preserved g c =
     let lines = c.next_line.ensures.lines (search rules) in
     let counts = counts_if c.verdict-reason.result c.loop-text.accepted c.loop-text.dropped _ _ c.is_none-is_accepted.result c.is_none-is_accepted.ensures c.count_if-accepted.ensures c.count_if-dropped.ensures in
-    let text = c.as_bytes.ensures.value ∙ c.as_str.ensures.value ∙ c.in_ok-put_verdict.ensures ∙ ap (λ n. verdict_line n c.in-Ok-Some.heading.side c.verdict-reason.result) c.lines-n.ensures in
+    let text = c.as_bytes.ensures ∙ c.in_ok-put_verdict.ensures ∙ ap (λ n. verdict_line n c.in-Ok-Some.heading.side c.verdict-reason.result) c.lines-n.ensures in
     record {
       sound_input = search rules;
       sound_output = search rules;
@@ -107,7 +107,7 @@ returns-in_err-write_text-clause-answer g c =
     let rule = rule_of c.args.rule.now in
     let old = g.W.Write.contents c.args.output.now.inner in
     let new = g.W.Write.contents c.write_text.new.output.inner in
-    let text = c.as_bytes.ensures.value ∙ c.as_str.ensures.value ∙ c.in_ok-put_verdict.ensures ∙ ap (λ n. verdict_line n c.in-Ok-Some.heading.side c.verdict-reason.result) c.lines-n.ensures in
+    let text = c.as_bytes.ensures ∙ c.in_ok-put_verdict.ensures ∙ ap (λ n. verdict_line n c.in-Ok-Some.heading.side c.verdict-reason.result) c.lines-n.ensures in
     let come = HasCome-frame _ (WritesBeginning rule old new) _ _ _ _ _ _ _ (frame_of c.in-Ok-Some.heading c.read_frame_line.new.frame.items) lines.0
     (record { few = omega (arith, lines.0, lines.1); short = c.next_line.ensures.short (search rules); takes = c.next_line.ensures.line (search rules) })
     c.loop-text.invariant.come (rw (c.line.ensures, c.in-Ok-Some.field-0-is) at c.in-Ok-Some.ensures.ok)

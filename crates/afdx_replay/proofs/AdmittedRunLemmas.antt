@@ -1,0 +1,142 @@
+-- A replay of admitted tables tells what is promised.
+use Rattle.std.proofs.Common.{◌≡◌, ℕ, zero, suc, ◌^◌, ◌≤◌, ◌||◌, Bool, true, false, nat_lt, List, [], ◌∷◌, length, refl, ap, ◌∙◌, subst, arith, inl, inr}
+use Rattle.std.specs.Prelude.{Option, Some, None, Result, Ok, Err, All, IfSome, slice_index_or, if◌then◌else◌, ◌⊎◌}
+use Rattle.std.specs.Str.Lines.{strip_carriage_return}
+use Rattle.std.specs.Io.KnownBytes.{Appends}
+use Rattle.std.proofs.lemmas.Bool.{ltb-false}
+use Rattle.afdx_config.specs.Admission.{IsAdmitted}
+use Rattle.afdx_config.specs.Lawful.{IsLawful}
+use Rattle.afdx_config.specs.Rows.{Rows}
+use Rattle.afdx_police.specs.Arrival.{Arrival}
+use Rattle.afdx_bounds.specs.Outputs.{AreTimed}
+use Rattle.afdx_switch.specs.Admitted.{IsAdmittedRun}
+use Rattle.afdx_lists.specs.Calls.{AppendsFront}
+use Rattle.afdx_lists.specs.Fields.{bytes_of_digits, is_skipped}
+use Rattle.afdx_lists.specs.FrameLines.{Frame, FrameFields, frame_fields, frame_with, numbers_fault, fields_say_with, fields_say, line_says}
+use Rattle.afdx_lists.specs.Lines.{lines_of}
+use Rattle.afdx_lists.specs.declared.fault.LineFault.{LineFault}
+use Rattle.afdx_lists.specs.declared.fault.LineFault.TheVariants.{TimeTooLarge, TimeBack, BadPort}
+use Rattle.afdx_lists.specs.declared.fault.RunFault.{RunFault}
+use Rattle.afdx_lists.specs.declared.fault.RunFault.TheVariants.{Read, Write, Memory}
+use Rattle.afdx_replay.specs.Listed.{latest_time, with_said, said_after, arrivals_of}
+use Rattle.afdx_config.specs.Reading.{Spells}
+use Rattle.afdx_replay.specs.ReplayCommand.{ReplaysIn, Replays}
+use Rattle.afdx_replay.specs.PromisedRun.{WritesPromisedSoFar, WritesPromisedSome, PromisedAnswers}
+use Rattle.afdx_replay.specs.Replayed.{WritesSoFar, WritesSome, Answers}
+use Rattle.afdx_replay.specs.Stops.{IsToldOf, StopsAt}
+use Rattle.afdx_replay.specs.declared.summary.Summary.{Summary}
+use Rattle.afdx_replay.proofs.PromisedLemmas.{tells, so-far-told}
+
+-- ---- the times of a list's arrivals don't decrease
+
+numbers-later : (time port latest : ℕ) → numbers_fault time port latest ≡ None → latest ≤ time
+numbers-later time port latest none = by (nat_lt (10 ^ 15) time) (nat_lt time latest) (nat_lt port 1 || nat_lt 24 port) refl none
+  where
+    by : (a b c : Bool) → nat_lt time latest ≡ b → (if a then Some TimeTooLarge else if b then Some TimeBack else if c then Some BadPort else None) ≡ None → latest ≤ time
+    by true b c is h = absurd (cc h)
+    by false true c is h = absurd (cc h)
+    by false false c is h = ltb-false time latest is
+
+time_in : Result (Option Frame) LineFault → ℕ
+time_in (Ok (Some frame)) = frame.time
+time_in (Ok None) = 0
+time_in (Err fault) = 0
+
+with-time : (fields : FrameFields) (bytes : Option (List ℕ)) (frame : Frame) → frame_with fields bytes ≡ Ok (Some frame) → fields.time ≡ frame.time
+unfolding time_in
+with-time fields None frame h = absurd (cc h)
+with-time fields (Some bytes) frame h = ap time_in h
+
+fields-later : (latest : ℕ) (o : Option FrameFields) (frame : Frame) → fields_say latest o ≡ Ok (Some frame) → latest ≤ frame.time
+fields-later latest None frame h = absurd (cc h)
+fields-later latest (Some fields) frame h = by (numbers_fault fields.time fields.port latest) refl h
+  where
+    by : (n : Option LineFault) → numbers_fault fields.time fields.port latest ≡ n → fields_say_with fields n ≡ Ok (Some frame) → latest ≤ frame.time
+    by (Some fault) some is = absurd (cc is)
+    by None none is =
+        let later = numbers-later fields.time fields.port latest none in
+        let same = with-time fields (bytes_of_digits fields.digits) frame is in
+        omega (arith, later, same)
+
+says-later : (latest : ℕ) (line : List ℕ) (frame : Frame) → line_says latest line ≡ Ok (Some frame) → latest ≤ frame.time
+unfolding line_says
+says-later latest line frame h = by (is_skipped (strip_carriage_return line)) h
+  where
+    by : (b : Bool) → (if b then Ok None else fields_say latest (frame_fields (strip_carriage_return line))) ≡ Ok (Some frame) → latest ≤ frame.time
+    by true is = absurd (cc is)
+    by false is = fields-later latest (frame_fields (strip_carriage_return line)) frame is
+
+latest-most : (past : List Arrival) → AreTimed past → All (λ y. y.time ≤ latest_time past) past
+latest-most [] timed k d lt = absurd (omega (arith, lt))
+latest-most (x ∷ past) timed zero d lt = omega arith
+latest-most (x ∷ past) timed (suc k) d lt = timed.0 k d (omega (arith, lt))
+
+pub arrivals-timed : (lines : List (List ℕ)) (n : ℕ) → AreTimed (arrivals_of lines n)
+unfolding arrivals_of
+arrivals-timed lines zero = tt
+arrivals-timed lines (suc n) = by (said_after (arrivals_of lines n) (slice_index_or lines n [])) refl (arrivals-timed lines n)
+  where
+    by : (r : Result (Option Frame) LineFault) → said_after (arrivals_of lines n) (slice_index_or lines n []) ≡ r → AreTimed (arrivals_of lines n) → AreTimed (with_said (suc n) r (arrivals_of lines n))
+    by (Err fault) is timed = timed
+    by (Ok None) is timed = timed
+    by (Ok (Some frame)) is timed =
+        let later = says-later (latest_time (arrivals_of lines n)) (slice_index_or lines n []) frame is in
+        ((λ k d lt. let most = latest-most (arrivals_of lines n) timed k d lt in omega (arith, most, later)), timed)
+
+-- ---- what is told
+
+module _ (t : Rows) (bytes : List ℕ) (old new : Option (List ℕ)) (lawful : IsLawful t) (admitted : IsAdmitted t) where
+  run-of : (n : ℕ) → IsAdmittedRun t (arrivals_of (lines_of bytes) n)
+  run-of n = record { lawful = lawful; admitted = admitted; timed = arrivals-timed (lines_of bytes) n }
+
+  all-told : (n : ℕ) → WritesSoFar t old new (arrivals_of (lines_of bytes) n) → WritesPromisedSoFar t old new (arrivals_of (lines_of bytes) n)
+  all-told n written =
+      let promised = so-far-told t (arrivals_of (lines_of bytes) n) (run-of n) in
+      record { written = subst (Appends old new) promised.text written; promised = promised }
+
+  some-told : (n : ℕ) → WritesSome t old new (arrivals_of (lines_of bytes) n) → WritesPromisedSome t old new (arrivals_of (lines_of bytes) n)
+  some-told n written =
+      let promised = tells t (arrivals_of (lines_of bytes) n) (run-of n) in
+      record { written = subst (AppendsFront old new) promised.text written; promised = promised }
+
+  told-all : (n : ℕ) → IsToldOf (WritesSoFar t old new) (lines_of bytes) n → IsToldOf (WritesPromisedSoFar t old new) (lines_of bytes) n
+  told-all n told = record { within = told.within; sound = told.sound; are_told = all-told n told.are_told }
+
+  told-some : (n : ℕ) → IsToldOf (WritesSome t old new) (lines_of bytes) n → IsToldOf (WritesPromisedSome t old new) (lines_of bytes) n
+  told-some n told = record { within = told.within; sound = told.sound; are_told = some-told n told.are_told }
+
+  stops-promised : (rest : Option (List ℕ)) (fault : RunFault) → StopsAt (WritesSoFar t old new) (WritesSome t old new) bytes rest fault →
+      StopsAt (WritesPromisedSoFar t old new) (WritesPromisedSome t old new) bytes rest fault
+  stops-promised rest Read h = (h.0, h.1, told-all h.0 h.2)
+  stops-promised rest Write h = (h.0, told-some h.0 h.1)
+  stops-promised rest Memory h = (h.0, told-some h.0 h.1)
+  stops-promised rest fault h = (h.0, h.1, all-told h.0 h.2)
+
+  pub promised-answers : (rest : Option (List ℕ)) (r : Result Summary RunFault) → Answers t bytes rest old new r → PromisedAnswers t bytes rest old new r
+  promised-answers rest (Err fault) stops = stops-promised rest fault stops
+  promised-answers rest (Ok summary) all =
+      let promised = tells t (arrivals_of (lines_of bytes) (length (lines_of bytes))) (run-of (length (lines_of bytes))) in
+      record {
+        sound = all.sound;
+        written = subst (Appends old new) promised.text all.written;
+        promised = promised;
+        none_lost = ap (λ (s : Summary). s.lost) all.counted ∙ promised.none_lost;
+        none_old = ap (λ (s : Summary). s.too_old) all.counted ∙ promised.none_old;
+      }
+
+-- where the input's bytes are known
+pub if-known : (t : Rows) (o rest old new : Option (List ℕ)) (r : Result Summary RunFault) → IsLawful t → IsAdmitted t → IfSome o (λ bytes. Answers t bytes rest old new r) → IfSome o (λ bytes. PromisedAnswers t bytes rest old new r)
+if-known t None rest old new r lawful admitted h = tt
+if-known t (Some bytes) rest old new r lawful admitted h = promised-answers t bytes old new lawful admitted rest r h
+
+-- ---- the command
+
+pub replays-admitted : (config : List ℕ) (admission : Bool) (t : Rows) (o rest old new : Option (List ℕ)) (status : ℕ) → Spells config t → IsLawful t → IsAdmitted t →
+    IfSome o (λ bytes. ReplaysIn t bytes rest old new status) → IfSome o (λ bytes. Replays config admission bytes rest old new status)
+replays-admitted config admission t None rest old new status spelled lawful admitted h = tt
+replays-admitted config admission t (Some bytes) rest old new status spelled lawful admitted h =
+    record { tables = t; spelled = spelled; admitted = λ asked. admitted; replays = h; promised = λ asked. promised-answers t bytes old new lawful admitted rest h.answer h.answers }
+
+pub if-left : (o : Option (List ℕ)) (P Q : List ℕ → Type 0) → IfSome o P → IfSome o (λ bytes. P bytes ⊎ Q bytes)
+if-left None P Q h = tt
+if-left (Some bytes) P Q h = inl h

@@ -1,0 +1,44 @@
+//! A run of an admitted network: a replay that keeps the promises.
+ghost use Rattle.std.specs.Prelude.{◌≡◌, ℕ, ◌+◌, ◌≤◌, OnOk, IfSome, true, false};
+ghost use Rattle.afdx_lists.specs.Calls.{is_failed_read, is_failed_write};
+ghost use Rattle.afdx_replay.specs.Replayed.{Answers};
+ghost use Rattle.afdx_replay.specs.PromisedRun.{PromisedAnswers};
+
+use crate::replay_run::run_unadmitted;
+use crate::summary::Summary;
+use afdx_admit::Admitted;
+use afdx_lists::{RunFault, Watched};
+use std::alloc::Global;
+use std::io::{Read, Write};
+
+/// Replays a list of frames through the switches of both sides and the systems behind them, of tables that were admitted.
+///
+/// Each virtual link's verdicts, and its frames that leave each switch port, in order, are the window rule's answer on that link's
+/// own arrivals alone; every accepted frame leaves each of its ports within the link's configured latency; and what a receiver
+/// delivers on a link is the integrity and redundancy rules' answer on that link's arrivals there alone. So no line tells of a
+/// loss, or of a frame that is too old; and of a link's lawful stream on both sides each receiver gets exactly the messages to its
+/// UDP ports, each once and in order. It is `run_unadmitted` otherwise.
+pub fn run<R: Read, W: Write>(
+    alloc: Global,
+    admitted: &Admitted,
+    input: &mut Watched<R>,
+    output: &mut Watched<W>,
+) -> Result<Summary, RunFault>
+    requires sound_input { input.old.failed ≡ false }
+    requires unended { input.old.ended ≡ false }
+    requires sound_output { output.old.failed ≡ false }
+    ensures ended { OnOk result (input.new.ended ≡ true) }
+    ensures read { input.new.failed ≡ is_failed_read result }
+    ensures write { output.new.failed ≡ is_failed_write result }
+    ensures calls { input.new.calls ≤ input.old.calls + 4201000001 }
+
+    // Where the input's bytes are known: what is answered and written for the list that they are.
+    ensures answer { IfSome (R.remaining input.old.inner) (λ bytes.
+        Answers admitted.now bytes (R.remaining input.new.inner) (W.contents output.old.inner) (W.contents output.new.inner) result) }
+
+    // And it is as promised.
+    ensures promised { IfSome (R.remaining input.old.inner) (λ bytes.
+        PromisedAnswers admitted.now bytes (R.remaining input.new.inner) (W.contents output.old.inner) (W.contents output.new.inner) result) }
+{
+    run_unadmitted(alloc, admitted.tables(), input, output)
+}

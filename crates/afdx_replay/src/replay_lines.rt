@@ -1,0 +1,93 @@
+//! The lines of the events of a replay.
+ghost use Rattle.std.specs.Prelude.{◌≡◌, ℕ, ◌++◌, ◌≤◌, [], if◌then◌else◌, OnOk, IfOk, length, string_bytes};
+ghost use Rattle.afdx_network.specs.Network.{reason_in, ports_in, lost_in};
+ghost use Rattle.afdx_replay.specs.PoliceText.{verdict_line};
+ghost use Rattle.afdx_replay.specs.ReplayText.{loss_line, loss_lines, departure_line};
+
+use crate::verdict::{side_letter, verdict_words};
+use afdx_frame::Side;
+use afdx_network::Departed;
+use afdx_police::Reason;
+use afdx_switch::{PortSet, Verdict};
+use std::alloc::AllocError;
+
+/// Why the frame was dropped, if it was.
+pub(crate) fn reason_of(verdict: &Verdict) -> Option<Reason>
+    ensures { result ≡ reason_in verdict.now }
+{
+    match verdict {
+        Verdict::Dropped(reason) => Some(*reason),
+        Verdict::Accepted { .. } => None,
+    }
+}
+
+/// Adds the line of a copy that was lost at a port, if it was, and counts it.
+fn add_loss(
+    text: &mut String,
+    n: u64,
+    side: Side,
+    port: u8,
+    is_lost: bool,
+) -> Result<u64, AllocError>
+    ensures lines { OnOk result (string_bytes text.new ≡ string_bytes text.old ++ (if is_lost then loss_line n side port else [])) }
+    ensures count { IfOk result (λ count. count ≡ (if is_lost then 1 else 0)) }
+{
+    if !is_lost {
+        return Ok(0);
+    }
+    let side = side_letter(side);
+    write!(text, "L {n} {side} {port}\n")?;
+    Ok(1)
+}
+
+/// Adds the lines of the copies that were lost, and counts them.
+fn add_losses(text: &mut String, n: u64, side: Side, lost: &PortSet) -> Result<u64, AllocError>
+    ensures lines { OnOk result (string_bytes text.new ≡ string_bytes text.old ++ loss_lines n side (ports_in lost.now)) }
+    ensures count { IfOk result (λ count. count ≡ length (ports_in lost.now)) }
+    ensures few { IfOk result (λ count. count ≤ 24) }
+{
+    let mut count = 0u64;
+    for place in 0..24_u8 {
+        let port = place + 1;
+        let more = add_loss(text, n, side, port, lost.holds(port))?;
+        count += more;
+    }
+    Ok(count)
+}
+
+/// Puts the V line and the L lines of an arrival in the place of `text`, and counts the copies that were lost.
+pub(crate) fn put_admission(
+    text: &mut String,
+    n: u64,
+    side: Side,
+    verdict: &Verdict,
+) -> Result<u64, AllocError>
+    ensures lines { OnOk result (string_bytes text.new ≡ verdict_line n side (reason_in verdict.now) ++ loss_lines n side (lost_in verdict.now)) }
+    ensures count { IfOk result (λ count. count ≡ length (lost_in verdict.now)) }
+    ensures few { IfOk result (λ count. count ≤ 24) }
+{
+    let letter = side_letter(side);
+    let words = verdict_words(reason_of(verdict));
+    text.clear();
+    write!(text, "V {n} {letter} {words}\n")?;
+    match verdict {
+        Verdict::Accepted { lost } => add_losses(text, n, side, lost),
+        Verdict::Dropped(_) => Ok(0),
+    }
+}
+
+/// Puts the D or T line of a departure in the place of `text`.
+pub(crate) fn put_departure(text: &mut String, departed: &Departed) -> Result<(), AllocError>
+    ensures { OnOk result (string_bytes text.new ≡ departure_line departed.now.departure.left.too_old departed.now.departure.left.item.tag departed.now.departure.left.end departed.now.side departed.now.departure.port) }
+{
+    let side = side_letter(departed.side);
+    let n = departed.departure.tag();
+    let time = departed.departure.time();
+    let port = departed.departure.port();
+    text.clear();
+    if departed.departure.too_old() {
+        write!(text, "T {n} {time} {side} {port}\n")
+    } else {
+        write!(text, "D {n} {time} {side} {port}\n")
+    }
+}
