@@ -3,7 +3,7 @@
 
 mod words;
 
-use afdx_replay::{Watched, check, police};
+use afdx_replay::{Watched, check, police, replay};
 use clap::error::ErrorKind;
 use clap::{ArgMatches, Error};
 use std::alloc::AllocError;
@@ -114,10 +114,59 @@ fn police_list(rt: &HostRuntime, matches: &ArgMatches<'_>) -> u8 {
     }
 }
 
+/// Replays what `input` gives in the tables of a configuration, and hands all lines to standard output.
+fn replay_from<R: Read + Drop>(rt: &HostRuntime, admission: bool, config: &[u8], input: R) -> u8 {
+    let Ok(buffered) = BufWriter::with_capacity(rt.alloc(), OUTPUT_BUFFER, rt.stdout()) else {
+        return memory(rt);
+    };
+    let mut input = Watched::new(input);
+    let mut output = Watched::new(buffered);
+    let mut errors = Watched::new(rt.stderr());
+    let status = replay(
+        rt.alloc(),
+        admission,
+        config,
+        &mut input,
+        &mut output,
+        &mut errors,
+    );
+    if output.flush().is_err() && status == DONE {
+        complain(rt, "device Write");
+        return NO_DEVICE_OR_MEMORY;
+    }
+    status
+}
+
+fn replay_list(rt: &HostRuntime, matches: &ArgMatches<'_>) -> u8 {
+    let (Some(config), Some(list)) = (matches.get_str("CONFIG"), matches.get_str("LIST")) else {
+        return WRONG_WORDS;
+    };
+    let admission = !matches.get_flag("no-admission");
+    let config = match read_config(rt, config) {
+        Ok(config) => config,
+        Err(NoConfig::Memory) => return memory(rt),
+        Err(NoConfig::Device) => {
+            complain(rt, "device Config");
+            return NO_DEVICE_OR_MEMORY;
+        }
+    };
+    if list == "-" {
+        return replay_from(rt, admission, config.as_slice(), rt.stdin());
+    }
+    match File::open(rt, list) {
+        Ok(file) => replay_from(rt, admission, config.as_slice(), file),
+        Err(_) => {
+            complain(rt, "device List");
+            NO_DEVICE_OR_MEMORY
+        }
+    }
+}
+
 fn run_matches(rt: &HostRuntime, matches: &ArgMatches<'_>) -> u8 {
     match matches.subcommand() {
         Some(("check", matches)) => check_config(rt, matches),
         Some(("police", matches)) => police_list(rt, matches),
+        Some(("replay", matches)) => replay_list(rt, matches),
         _ => WRONG_WORDS,
     }
 }

@@ -1,6 +1,6 @@
 //! The words of a command line.
 
-use clap::{Arg, Command, value_parser};
+use clap::{Arg, ArgAction, Command, value_parser};
 use std::alloc::{AllocError, Global};
 
 const ABOUT: &str = "A proved simulator of aircraft networks (AFDX, ARINC 664 Part 7)";
@@ -70,6 +70,49 @@ fn check_command<'a>(alloc: Global) -> Result<Command<'a>, AllocError> {
         .arg(config)
 }
 
+const REPLAY_ABOUT: &str = "Replays a list of frames through both switches to the systems";
+
+const REPLAY_AFTER: &str = "\
+A line is printed for each event, in the order of time:
+
+  V n side accept         the frame of line n was accepted
+  V n side drop WORD      it was dropped: too-short, too-long, bad-fcs,
+                          bad-address, unknown-link, wrong-port, over-lmax,
+                          under-lmin or over-rate
+  L n side port           its copy for this output port was lost: no room
+  D n time side port      its copy left this output port
+  T n time side port      its copy was dropped there: it had waited too long
+  M time system vl HEX    the system delivered this message
+  X time system n WORD    the system dropped the frame of line n: sequence,
+                          redundant, no-port and others
+
+At one time the frames that leave come first, side A before B, then by port; then
+the frames that arrive, line by line; then those that are dropped as too old.
+LIST is as for 'police'. The tables of CONFIG have to be admitted, as 'check' says,
+but for the option --no-admission.
+
+Example:
+  afdx replay examples/base.toml examples/babbling.list";
+
+fn replay_command<'a>(alloc: Global) -> Result<Command<'a>, AllocError> {
+    let freely = Arg::new(alloc, "no-admission")
+        .long("no-admission")
+        .help("Replays also in tables that are not admitted")
+        .action(ArgAction::SetTrue);
+    let config = Arg::new(alloc, "CONFIG")
+        .help("The path of a configuration (TOML), at most 4,194,304 bytes")
+        .required(true);
+    let list = Arg::new(alloc, "LIST")
+        .help("The path of a frame list, or - for standard input")
+        .required(true);
+    Command::new(alloc, "replay")
+        .about(REPLAY_ABOUT)
+        .after_help(REPLAY_AFTER)
+        .arg(freely)?
+        .arg(config)?
+        .arg(list)
+}
+
 fn police_command<'a>(alloc: Global) -> Result<Command<'a>, AllocError> {
     let bag = Arg::new(alloc, "BAG_MS")
         .help("The bandwidth allocation gap in ms: 1, 2, 4, 8, 16, 32, 64 or 128")
@@ -104,5 +147,6 @@ pub fn afdx_command<'a>(alloc: Global) -> Result<Command<'a>, AllocError> {
         .subcommand_required(true)
         .arg_required_else_help(true)
         .subcommand(check_command(alloc)?)?
-        .subcommand(police_command(alloc)?)
+        .subcommand(police_command(alloc)?)?
+        .subcommand(replay_command(alloc)?)
 }
