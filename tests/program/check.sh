@@ -1,0 +1,53 @@
+# Cases of `check`; tests/program.sh reads this file.
+
+check_with() { # NAME STATUS OUT ERR SED_SCRIPT : `check` on base.toml as the script changes it
+    sed -E "$5" examples/base.toml >"$work/changed.toml"
+    case_of "$1" "$2" "$3" "$4" check "$work/changed.toml"
+}
+
+idle=$'P 1 0 0 0\nP 2 0 0 0\n'
+base=$idle$'P 3 16800 20297 252\n'
+case_of 'check base.toml' 0 "$base"$'ok\n' '' check examples/base.toml
+network='P 1 242910 284033 3350
+P 2 242910 284033 3350
+P 3 17600 67678 846
+P 4 17600 67678 846
+P 5 41576 95304 1190
+P 6 41576 95304 1190
+P 7 267995 684331 8462
+P 8 267995 684331 8462
+P 9 93216 305336 3803
+P 10 76878 112199 1391
+P 11 76878 112199 1391
+P 12 97600 1003517 12544
+'
+case_of 'check network.toml' 0 "$network"$'ok\n' '' check examples/network.toml
+case_of 'check refused.toml' 1 "$network"$'no A3 7 104 267995\n' '' check examples/refused.toml
+
+check_with 'A2' 1 "$base"$'no A2 3 252\n' '' 's/^buffer = 252/buffer = 251/'
+check_with 'A3' 1 "$base"$'no A3 3 1 16800\n' '' 's/^latency_us = 17/latency_us = 16/'
+check_with 'A4' 1 "$base"$'no A4 3 2 20297\n' '' 's/^latency_us = 21/latency_us = 20/'
+check_with 'profile 2 at 1000 Mbit/s' 0 "$idle"$'P 3 1680 2018 252\nok\n' '' \
+    's/^profile = 1/profile = 2/; s/^rate = 100/rate = 1000/'
+check_with 'profile 1 at 1000 Mbit/s' 1 '' $'config OutOfRange system 1 key 5\n' '0,/^rate = 100/s//rate = 1000/'
+check_with 'no TOML' 1 '' $'config NotToml\n' '1s/^/=\n/'
+check_with 'a key twice' 1 '' $'config NotToml\n' 's/^buffer = 252/buffer = 252\nbuffer = 252/'
+check_with 'profile 3' 1 '' $'config BadProfile\n' 's/^profile = 1/profile = 3/'
+check_with 'no buffer' 1 '' $'config Missing top 0 key 2\n' '/^buffer/d'
+check_with 'a buffer too small' 1 '' $'config OutOfRange top 0 key 2\n' 's/^buffer = 252/buffer = 63/'
+check_with 'a buffer that is no whole number' 1 '' $'config WrongKind top 0 key 2\n' 's/^buffer = 252/buffer = 252.0/'
+check_with 'an identifier that is text' 1 '' $'config WrongKind link 1 key 1\n' 's/^vl = 1/vl = "1"/'
+check_with 'an identifier below 0' 1 '' $'config OutOfRange link 1 key 1\n' 's/^vl = 1/vl = -1/'
+check_with 'an unknown key' 1 '' $'config UnknownKey system 2 key 0\n' 's/^name = "s2"/name = "s2"\nx = 1/'
+check_with 'BAG 3 in a link' 1 '' $'config OutOfRange link 1 key 4\n' '0,/^bag_ms = 1/s//bag_ms = 3/'
+check_with 'a port twice' 1 '' $'config Twice system 2 key 2\n' 's/^port = 2/port = 1/'
+check_with 'a receiver that is not there' 1 '' $'config NoSuchSystem link 2 key 3\n' '/^from = "s2"/,/^to/s/"s3"/"s9"/'
+check_with 'no receivers' 1 '' $'config OutOfRange link 1 key 3\n' '/^from = "s1"/,/^to/s/\["s3"\]/[]/'
+check_with 'a sender that receives' 1 '' $'config Twice link 1 key 3\n' '/^from = "s1"/,/^to/s/\["s3"\]/["s1"]/'
+check_with 'a port entry of no link' 1 '' $'config OutOfRange port 2 key 2\n' 's/^link = 2/link = 3/'
+
+case_of 'a configuration that is not there' 4 '' $'device Config\n' check "$work/none"
+case_of 'a configuration that is a folder' 4 '' $'device Config\n' check "$work"
+head -c 4194305 /dev/zero | tr '\0' '#' >"$work/long.toml"
+case_of 'a configuration that is too long' 4 '' $'device Config\n' check "$work/long.toml"
+full_case 'check on a full device' 4 $'device Write\n' check examples/base.toml

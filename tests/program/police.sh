@@ -1,0 +1,178 @@
+# Cases of `police`; tests/program.sh reads this file.
+
+# ---- police: the examples ------------------------------------------------------------------
+
+three=$'V 1 A accept\nV 2 A drop over-rate\nV 3 A accept\n'
+case_of 'police one_link.list' 0 "$three" '' police 1 64 500 examples/one_link.list
+input=examples/one_link.list
+case_of 'police one_link.list on standard input' 0 "$three" '' police 1 64 500 -
+input=/dev/null
+
+babbling=
+while read -r line word; do babbling+="V $line A $word"$'\n'; done <<'LINES'
+8 accept
+9 drop over-rate
+10 drop over-rate
+11 drop over-rate
+12 drop over-rate
+13 accept
+15 drop wrong-port
+16 drop over-rate
+17 drop over-rate
+18 drop over-rate
+19 drop over-rate
+20 drop over-rate
+21 drop over-rate
+22 drop over-rate
+24 drop bad-fcs
+25 drop over-rate
+26 drop over-rate
+27 accept
+28 drop over-rate
+29 drop over-rate
+30 drop over-rate
+31 drop over-rate
+32 drop over-rate
+34 drop too-short
+35 drop over-rate
+36 drop over-rate
+37 drop over-rate
+38 drop over-rate
+39 accept
+40 drop over-rate
+41 drop over-rate
+42 drop over-rate
+43 drop over-rate
+44 drop over-rate
+LINES
+case_of 'police babbling.list' 0 "$babbling" '' police 1 64 500 examples/babbling.list
+
+# ---- police: verdicts ----------------------------------------------------------------------
+
+listed ''
+case_of 'an empty list' 0 '' '' police 1 64 500 -
+
+listed "$(cat examples/one_link.list)
+F 1499999 A 1 $frame
+F 1500000 A 1 $frame
+"
+case_of 'every window counts' 0 "$three"$'V 4 A drop over-rate\nV 5 A accept\n' '' police 1 64 500 -
+
+listed "F 0 A 1 $frame
+F 0 A 1 $frame
+F 0 A 1 $frame
+F 0 A 1 $frame
+"
+case_of 'an account of more than one frame' 0 \
+    $'V 1 A accept\nV 2 A accept\nV 3 A accept\nV 4 A drop over-rate\n' '' police 1 200 500 -
+
+listed "B 0 A 1 $frame
+R 0 A 1 $(zeros 126)
+R 0 A 1 $(zeros 3038)
+R 0 A 1 0300000000
+F 0 A 1 $(zeros 120)
+F 0 A 1 ${frame:0:11}9${frame:12}
+F 0 A 1 ${frame}00
+R 0 A 1 -
+F 0 A 1 $frame
+"
+case_of 'one frame of each wrong kind' 0 "V 1 A drop bad-fcs
+V 2 A drop too-short
+V 3 A drop too-long
+V 4 A drop too-short
+V 5 A drop bad-address
+V 6 A drop unknown-link
+V 7 A drop over-lmax
+V 8 A drop too-short
+V 9 A accept
+" '' police 1 64 500 -
+
+listed "F 0 A 2 $frame
+F 0 B 1 $frame
+F 0 A 1 $frame
+F 0 A 1 $frame
+"
+case_of 'a wrong port, and an account for each side' 0 \
+    $'V 1 A drop wrong-port\nV 2 B accept\nV 3 A accept\nV 4 A drop over-rate\n' '' police 1 64 500 -
+
+listed "F 0 A 1 $frame
+F 1000000000000000 A 1 $frame
+F 1000000000000001 A 1 $frame
+"
+case_of 'a time over 10^15' 3 $'V 1 A accept\nV 2 A accept\n' $'list TimeTooLarge 3\n' police 1 64 500 -
+
+listed "F 000 A 01 ${frame^^}"
+case_of 'leading zeros, upper-case digits, no last line feed' 0 "$accept1" '' police 1 64 500 -
+
+# ---- police: lines -------------------------------------------------------------------------
+
+listed "# a comment"$'\r'"
+"$'\r'"
+F 0 A 1 $frame"$'\r'"
+"
+case_of 'lines that end in carriage return and line feed' 0 $'V 3 A accept\n' '' police 1 64 500 -
+
+fault_at_2() { # NAME LINE FAULT : the line comes second, after a good one
+    listed "F 5 A 1 $frame
+$2
+F 5 A 1 $frame
+"
+    case_of "$1" 3 "$accept1" "list $3 2"$'\n' police 1 64 500 -
+}
+fault_at_2 'too few fields' 'F 5 A' BadLine
+fault_at_2 'an empty field' "F  5 A 1 $frame" BadLine
+fault_at_2 'an empty last field' 'F 5 A 1 ' BadLine
+fault_at_2 'a sixth field' 'F 5 A 1 0300 00' BadLine
+fault_at_2 'an unknown kind' 'G 5 A 1 00' BadLine
+fault_at_2 'a side that is neither A nor B' 'F 5 C 1 00' BadLine
+fault_at_2 'a time that is no number' 'F -5 A 1 00' BadLine
+fault_at_2 'a port that is no number' 'F 5 A x 00' BadLine
+fault_at_2 'a line of one space' ' ' BadLine
+fault_at_2 'an odd number of digits' 'F 5 A 1 030' BadHex
+fault_at_2 'a digit that is none' 'F 5 A 1 0g' BadHex
+fault_at_2 'port 25' 'F 5 A 25 00' BadPort
+fault_at_2 'port 0' 'F 5 A 0 00' BadPort
+fault_at_2 'a time that goes back' 'F 4 A 1 00' TimeBack
+fault_at_2 'a time beyond 64 bits' 'F 99999999999999999999999 A 1 00' TimeTooLarge
+fault_at_2 'a port beyond 64 bits' 'F 5 A 99999999999999999999999 00' BadPort
+fault_at_2 'the line before its numbers' 'F 4 C 25 0' BadLine
+fault_at_2 'the time before the port' 'F 4 A 25 0' TimeBack
+fault_at_2 'the port before the digits' 'F 5 A 25 0' BadPort
+fault_at_2 'a long line' "#$(zeros 4200)" LineTooLong
+
+listed "#$(zeros 4199)"
+case_of 'a line of 4,200 bytes' 0 '' '' police 1 64 500 -
+listed "#$(zeros 4200)"
+case_of 'a line of 4,201 bytes' 3 '' $'list LineTooLong 1\n' police 1 64 500 -
+listed "#$(zeros 4199)"$'\r\n'
+case_of 'the carriage return counts' 3 '' $'list LineTooLong 1\n' police 1 64 500 -
+
+head -c 1000000 /dev/zero | tr '\0' '\n' >"$work/list"
+input=$work/list
+case_of '1,000,000 line feeds' 0 '' '' police 1 64 500 -
+printf '\n' >>"$work/list"
+case_of '1,000,001 line feeds' 3 '' $'list TooManyLines\n' police 1 64 500 -
+input=/dev/null
+
+# ---- police: files, words, devices ---------------------------------------------------------
+
+case_of 'a list that is not there' 4 '' $'device List\n' police 1 64 500 "$work/none"
+case_of 'a list that is a folder' 4 '' $'device Read\n' police 1 64 500 "$work"
+case_of 'a list that is not there, before a bad rule' 4 '' $'device List\n' police 3 64 500 "$work/none"
+case_of 'BAG 3' 2 '' $'words BadRule\n' police 3 64 500 -
+case_of 'BAG 256' 2 '' $'words BadRule\n' police 256 64 500 -
+case_of 'Lmax 63' 2 '' $'words BadRule\n' police 1 63 500 -
+case_of 'Lmax 1519' 2 '' $'words BadRule\n' police 1 1519 500 -
+case_of 'jitter over the BAG' 2 '' $'words BadRule\n' police 1 64 1001 -
+case_of 'jitter as great as the BAG' 0 '' '' police 1 64 1000 -
+case_of 'an argument that is no text' 2 '' $'words NotText\n' police 1 64 500 $'\xff'
+
+full_case 'a full device' 4 $'device Write\n' police 1 64 500 examples/one_link.list
+for ((k = 0; k < 10000; k++)); do echo "F $k A 1 $frame"; done >"$work/long"
+full_case 'a full device, many lines' 4 $'device Write\n' police 1 64 500 "$work/long"
+listed "F 0 A 1 $frame
+F 0 A
+"
+full_case 'a full device and a list fault' 3 $'list BadLine 2\n' police 1 64 500 -
+input=/dev/null
+full_case 'a full device and no output' 0 '' police 1 64 500 -

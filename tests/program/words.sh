@@ -1,0 +1,12 @@
+# Cases of words, help and the version; tests/program.sh reads this file.
+
+text_case 'help' 0 out police --help
+text_case 'version' 0 out afdx --version
+text_case 'help of police' 0 out 'police 1 64 500' police --help
+text_case 'no words' 2 err ''
+text_case 'an unknown command' 2 err nonsense nonsense
+text_case 'missing words' 2 err LIST police 1 64 500
+text_case 'a word too many' 2 err more police 1 64 500 - more
+text_case 'a number that is none' 2 err x police x 64 500 -
+text_case 'a number below 0' 2 err -1 police -1 64 500 -
+text_case 'a number beyond 64 bits' 2 err 99999999999999999999999 police 99999999999999999999999 64 500 -
