@@ -1,4 +1,5 @@
 //! The bounds of an output port.
+
 ghost use Rattle.std.specs.Prelude.{◌≡◌};
 ghost use Rattle.afdx_admit.specs.Lines.{high_bound_at, low_bound_at, buffer_need_at};
 

@@ -1,4 +1,5 @@
 //! What is summed over the links that go to one output port.
+
 ghost use Rattle.std.specs.Prelude.{◌≡◌, ◌*◌, ◌≤◌, ◌<◌, ◌∷◌, [], length, slice_get, Some};
 ghost use Rattle.afdx_frame.specs.Regulation.{cap, fill_rate};
 ghost use Rattle.afdx_config.specs.Rows.{SystemRow, link_row};
@@ -147,7 +148,8 @@ fn load(byte_ns: u64, link: &Link) -> u64
 /// The ns of a byte on a system's line.
 pub(crate) fn byte_ns_of(tables: &Tables, id: SystemId) -> u64
     requires { id.0 < length tables.now.systems }
-    ensures time { (s : SystemRow) → slice_get tables.now.systems id.0 ≡ Some s → result ≡ byte_ns s }
+    ensures time { (s : SystemRow) → slice_get tables.now.systems id.0 ≡ Some s →
+        result ≡ byte_ns s }
     ensures some { 1 ≤ result }
     ensures small { result ≤ 800 }
 {

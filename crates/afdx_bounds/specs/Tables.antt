@@ -1,5 +1,6 @@
 -- The output ports of a switch, and a sender's own, as the tables have them.
-use Rattle.std.specs.Prelude.{◌≡◌, ℕ, ◌+◌, ◌*◌, ◌==◌, if◌then◌else◌, Option, Some, None, List, map, slice_get, sum_by}
+use Rattle.std.specs.Prelude.{◌≡◌, ℕ, ◌+◌, ◌*◌, ◌==◌, if◌then◌else◌, Option, Some, None, List, map}
+use Rattle.std.specs.Prelude.{slice_get, sum_by}
 use Rattle.std.specs.Option.{option_map_or}
 use Rattle.afdx_frame.specs.declared.link.Priority.{Priority}
 use Rattle.afdx_frame.specs.declared.link.Side.{Side}
@@ -18,7 +19,15 @@ port_of t system = option_map_or (λ s. s.port) (slice_get t.systems system) 0
 
 -- how a link is filtered and policed: its frames come in from its sender
 abbrev pub rule_of : Rows → LinkRow → Rule
-rule_of t l = record { vl = l.vl; port = port_of t l.from; bag_ms = l.bag_ms; lmin = l.lmin; lmax = l.lmax; jitter_us = l.jitter_us; policing = l.policing }
+rule_of t l = record {
+  vl = l.vl;
+  port = port_of t l.from;
+  bag_ms = l.bag_ms;
+  lmin = l.lmin;
+  lmax = l.lmax;
+  jitter_us = l.jitter_us;
+  policing = l.policing;
+}
 
 -- how long its frames may wait for a turn: in profile 2 as long as its latency, in ns
 abbrev pub longest_wait_of : Rows → LinkRow → Option ℕ
@@ -39,7 +48,8 @@ rows_of t = map (row_of t) t.links
 
 -- the output port to a system on a side
 abbrev pub output_to : Rows → Side → ℕ → SystemRow → Output
-output_to t side system s = record { side = side; number = system; byte_ns = byte_ns s; buffer = t.buffer }
+output_to t side system s =
+    record { side = side; number = system; byte_ns = byte_ns s; buffer = t.buffer }
 
 -- where the tables are admitted, each output port is, with the flows that they say go there
 pub record ServesTables (t : Rows) (side : Side) (system : ℕ) (s : SystemRow) : Type 0 where

@@ -1,3 +1,5 @@
+//! Why a port doesn't take a message.
+
 use std::alloc::AllocError;
 
 /// Why a port didn't take a message.

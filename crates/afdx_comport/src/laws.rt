@@ -1,6 +1,7 @@
 //! Laws over the definitions.
 
-ghost use Rattle.afdx_comport.specs.Laws.{PutIsReadBack, AllIsReadAtFirst, FoundIsConfigured, FoundStays};
+ghost use Rattle.afdx_comport.specs.Laws.{PutIsReadBack, AllIsReadAtFirst, FoundIsConfigured};
+ghost use Rattle.afdx_comport.specs.Laws.{FoundStays};
 
 /// A message that is put to a port of which all was read is what is read next.
 pub fn put_is_read_back()

@@ -10,4 +10,9 @@ regulation_of l = record { bag_ms = l.bag_ms; jitter_us = l.jitter_us; smax = l.
 
 -- with its class, and its latency in ns
 abbrev pub flow_of : LinkRow → Flow
-flow_of l = record { vl = l.vl; link = regulation_of l; priority = l.priority; latency = 1000 * l.latency_us }
+flow_of l = record {
+  vl = l.vl;
+  link = regulation_of l;
+  priority = l.priority;
+  latency = 1000 * l.latency_us;
+}

@@ -1,5 +1,6 @@
 -- Every rule of the format, as a fact of the rows.
-use Rattle.std.specs.Prelude.{◌≡◌, ℕ, ◌*◌, ◌<◌, ◌≤◌, true, List, [], ◌∷◌, length, nat_eq, slice_get, Some}
+use Rattle.std.specs.Prelude.{◌≡◌, ℕ, ◌*◌, ◌<◌, ◌≤◌, true, List, [], ◌∷◌, length, nat_eq, slice_get}
+use Rattle.std.specs.Prelude.{Some}
 use Rattle.std.specs.List.{list_any, AllByRecursion}
 use Rattle.afdx_config.specs.declared.read_links.Traffic.{Traffic}
 use Rattle.afdx_config.specs.declared.read_links.Treatment.{Treatment}
@@ -14,7 +15,8 @@ IsOneOf ns n = list_any (λ m. nat_eq m n) ns ≡ true
 
 -- two rows that agree in this are one row
 unfoldable pub AreDistinct : {R A : Type 0} → (R → A) → List R → Type 0
-AreDistinct {R} f rows = (i j : ℕ) (a b : R) → slice_get rows i ≡ Some a → slice_get rows j ≡ Some b → f a ≡ f b → i ≡ j
+AreDistinct {R} f rows =
+    (i j : ℕ) (a b : R) → slice_get rows i ≡ Some a → slice_get rows j ≡ Some b → f a ≡ f b → i ≡ j
 
 -- the gaps that a link may have, in ms
 abbrev pub gaps : List ℕ

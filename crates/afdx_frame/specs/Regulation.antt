@@ -1,4 +1,5 @@
--- How a virtual link is regulated (ARINC 664 Part 7): its gap, its jitter, and the account that both give it.
+-- How a virtual link is regulated (ARINC 664 Part 7): its gap, its jitter, and the account that
+-- both give it.
 use Rattle.std.specs.Prelude.{ℕ, ◌+◌, ◌*◌, ◌/◌}
 
 -- the bandwidth allocation gap in ms, the jitter in us, and the greatest wire size in bytes
@@ -14,7 +15,8 @@ bag link = 1000000 * link.bag_ms
 abbrev pub jitter : Regulation → ℕ
 jitter link = 1000 * link.jitter_us
 
--- the units of an account in one byte: as many as the longest gap has nanoseconds, so that every fill rate is whole
+-- the units of an account in one byte: as many as the longest gap has nanoseconds, so that every
+-- fill rate is whole
 abbrev pub byte_units : ℕ
 byte_units = 128000000
 

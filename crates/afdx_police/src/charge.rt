@@ -4,7 +4,8 @@ ghost use Rattle.std.specs.Prelude.{◌≡◌, ℕ, ◌≤◌};
 
 /// A kind of charge (ARINC 664 Part 7: byte-based or frame-based policing).
 pub trait Charge: Drop {
-    /// What a frame of a wire size is charged, where the first number is the greatest wire size of its link.
+    /// What a frame of a wire size is charged, where the first number is the greatest wire size of
+    /// its link.
     ghost charge_of: { ℕ → ℕ → ℕ };
 
     /// The bytes that a frame of `wire` bytes on the wire is charged, where `smax` is the greatest

@@ -32,8 +32,8 @@ impl LinkRule {
     ghost use Rattle.afdx_frame.specs.Regulation.{bag, jitter, fill_rate, cap};
     ghost use Rattle.std.specs.Prelude.{◌+◌};
 
-    /// The rule of these values; None exactly if one is out of its range: a port of 1 to 24, a gap of
-    /// 1, 2, 4, .. or 128 ms, `64 <= lmin <= lmax <= 1518`, a jitter of at most the gap.
+    /// The rule of these values; None exactly if one is out of its range: a port of 1 to 24, a gap
+    /// of 1, 2, 4, .. or 128 ms, `64 <= lmin <= lmax <= 1518`, a jitter of at most the gap.
     pub fn new(
         vl: VlId,
         port: u8,
@@ -43,7 +43,8 @@ impl LinkRule {
         jitter_us: u64,
         policing: Policing,
     ) -> Option<LinkRule>
-        ensures in_range { IsSome result ↔ IsRule (rule_with vl.0 port bag_ms lmin lmax jitter_us policing) }
+        ensures in_range { IsSome result
+            ↔ IsRule (rule_with vl.0 port bag_ms lmin lmax jitter_us policing) }
         ensures given { IfSome result (λ r.
             rule_of r ≡ rule_with vl.0 port bag_ms lmin lmax jitter_us policing) }
     {

@@ -1,12 +1,13 @@
--- Integrity (ARINC 664 Part 7): which frames of a link are valid, looking back at those that came before. A list of
--- frames that came has the newest first.
+-- Integrity (ARINC 664 Part 7): which frames of a link are valid, looking back at those that came
+-- before. A list of frames that came has the newest first.
 use Rattle.std.specs.Prelude.{ℕ, Bool, true, false, ◌||◌, nat_eq, Option, List, find}
 use Rattle.std.specs.Option.{option_map_or}
 use Rattle.afdx_frame.specs.declared.link.Side.{Side}
 use Rattle.afdx_frame.specs.declared.link.Side.TheVariants.{A, B}
 use Rattle.afdx_receive.specs.Steps.{is_within_steps}
 
--- a frame that came to a receiver: when, in ns, by which network, its link and number, and its bytes
+-- a frame that came to a receiver: when, in ns, by which network, its link and number, and its
+-- bytes
 pub record Incoming : Type 0 where
   pub time : ℕ
   pub side : Side

@@ -1,3 +1,5 @@
+//! What a receiver makes of what arrived.
+
 use afdx_frame::{IpFault, MacFault, VlId};
 
 /// Why a receiver drops what arrived: the first of these, in this order, that is true of it.
@@ -7,11 +9,11 @@ pub enum DropReason {
     Mac(MacFault),
     /// The frame's link doesn't go to this system.
     NotSubscribed,
-    /// The frame isn't the first of its link on its network, its number isn't 0, and isn't one or two steps
-    /// after that of the frame before it there.
+    /// The frame isn't the first of its link on its network, its number isn't 0, and isn't one or
+    /// two steps after that of the frame before it there.
     Sequence,
-    /// A copy that is as new won already: the frame comes at most the link's skew after the last winner, and
-    /// its number isn't 1 to 127 steps after the winner's.
+    /// A copy that is as new won already: the frame comes at most the link's skew after the last
+    /// winner, and its number isn't 1 to 127 steps after the winner's.
     Redundant,
     /// The frame won, but carries no datagram that a receiver takes.
     Ip(IpFault),
@@ -22,7 +24,8 @@ pub enum DropReason {
 /// What a receiver makes of what arrived.
 #[derive(Clone, Copy, Debug, PartialEq, Eq)]
 pub enum Reception<'a> {
-    /// The payload of a frame that won, lent from its bytes, with its link and the UDP port that it goes to.
+    /// The payload of a frame that won, lent from its bytes, with its link and the UDP port that it
+    /// goes to.
     Message { vl: VlId, udp: u16, bytes: &'a [u8] },
     Dropped(DropReason),
 }
