@@ -12,9 +12,9 @@ ghost use Rattle.afdx_admit.specs.Sums.{AreJitters, CanSend, IsFaultAt};
 ghost use Rattle.afdx_admit.specs.Known.{IsKnown};
 
 use crate::fault::AdmitFault;
-use crate::sums::{BYTE_UNITS, byte_ns_of, link_at, sums_to, wire_size};
+use crate::sums::{byte_ns_of, link_at, sums_to, wire_size};
 use afdx_config::{Link, SystemId, Tables};
-use afdx_frame::{Priority, VlId};
+use afdx_frame::{BYTE_UNITS, Priority, VlId};
 
 fn is_class(class: Priority, priority: Priority) -> bool
     ensures { result ≡ is_class class priority }

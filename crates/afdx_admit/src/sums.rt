@@ -8,10 +8,7 @@ ghost use Rattle.afdx_config.specs.Admission.{byte_ns};
 ghost use Rattle.afdx_admit.specs.Sums.{CanSend, IsSums, IsSmall, AreSumsTo};
 
 use afdx_config::{Link, SystemId, Tables};
-use afdx_frame::Priority;
-
-/// The units of a byte in a burst: as many as 128 ms has nanoseconds.
-pub(crate) const BYTE_UNITS: u64 = 128_000_000;
+use afdx_frame::{BYTE_UNITS, Priority, WIRE_EXTRA};
 
 /// Bursts in units of a byte over `BYTE_UNITS`, loads in such units for the time of a byte.
 #[derive(Clone, Copy)]
@@ -123,7 +120,7 @@ pub(crate) fn wire_size(link: &Link) -> u64
     ensures size { result ≡ (regulation_of (link_row link.now)).smax }
     ensures small { result ≤ 1538 }
 {
-    link.lmax + 20
+    link.lmax + WIRE_EXTRA
 }
 
 /// What a link may send at once.

@@ -3,7 +3,7 @@ use Rattle.std.specs.Prelude.{ℕ, ◌+◌, ◌*◌, ◌-◌, ◌≤◌, Bool, �
 use Rattle.std.specs.Prelude.{◌∷◌}
 use Rattle.afdx_frame.specs.declared.link.Priority.{Priority}
 use Rattle.afdx_frame.specs.declared.link.Priority.TheVariants.{High, Low}
-use Rattle.afdx_frame.specs.Regulation.{byte_units}
+use Rattle.afdx_frame.specs.Regulation.{byte_units, wire_of}
 use Rattle.afdx_frame.specs.Flows.{is_class}
 use Rattle.afdx_port.specs.Schedule.{Entry, Turn, has_turn, end_of, begun_before}
 
@@ -13,9 +13,9 @@ pub record Curve : Type 0 where
   pub rate : ℕ
 
 module _ {X : Type 0} where
-  -- the bytes of an entry on the wire: for preamble, delimiter and gap, 20 more than its own
+  -- the bytes of an entry on the wire
   abbrev pub wire : Entry X → ℕ
-  wire e = e.bytes + 20
+  wire e = wire_of e.bytes
 
   -- the entry is of this class and comes from `since` to `until`
   abbrev pub comes_between : Priority → ℕ → ℕ → Entry X → Bool

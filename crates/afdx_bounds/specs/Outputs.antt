@@ -104,7 +104,7 @@ module _ {X : Type 0} where
   -- what its row charges for an entry
   abbrev pub charge_in : (X → List ℕ) → List Row → Entry X → ℕ
   charge_in bytes_of rows e =
-      option_map_or (λ r. charge_by r.rule.policing (r.rule.lmax + 20) (wire e))
+      option_map_or (λ r. charge_by r.rule.policing (wire_of r.rule.lmax) (wire e))
       (find (λ r. r.rule.vl == link_in bytes_of e.item) rows) 0
 
 -- an item that keeps the frame's bytes does

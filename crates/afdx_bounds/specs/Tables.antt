@@ -5,6 +5,7 @@ use Rattle.std.specs.Option.{option_map_or}
 use Rattle.afdx_frame.specs.declared.link.Priority.{Priority}
 use Rattle.afdx_frame.specs.declared.link.Side.{Side}
 use Rattle.afdx_frame.specs.Flows.{Flow}
+use Rattle.afdx_frame.specs.Regulation.{regulation_with, wire_of}
 use Rattle.afdx_config.specs.Admission.{IsAdmitted, byte_ns, flows_to, links_from}
 use Rattle.afdx_config.specs.Lawful.{IsLawful}
 use Rattle.afdx_config.specs.Rows.{SystemRow, LinkRow, Rows, is_to}
@@ -65,9 +66,9 @@ EachOutputIsServed =
 abbrev pub sent_flow : ℕ → Priority → List LinkRow → LinkRow → Flow
 sent_flow byte_ns class own l = record {
   vl = l.vl;
-  link = record { bag_ms = l.bag_ms; jitter_us = 0; smax = l.lmax + 20 };
+  link = regulation_with l.bag_ms 0 l.lmax;
   priority = class;
-  latency = sum_by (λ k. (k.lmax + 20) * byte_ns) own;
+  latency = sum_by (λ k. wire_of k.lmax * byte_ns) own;
 }
 
 abbrev pub sent_flows : Rows → Priority → ℕ → SystemRow → List Flow

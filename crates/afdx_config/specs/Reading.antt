@@ -12,6 +12,7 @@ use Rattle.afdx_frame.specs.declared.link.Priority.TheVariants.{High, Low}
 use Rattle.afdx_frame.specs.declared.link.Policing.TheVariants.{Byte, Frame}
 use Rattle.toml.specs.Parse.{parse_document}
 use Rattle.toml.specs.Data.{Members}
+use Rattle.afdx_frame.specs.Regulation.{gaps}
 use Rattle.afdx_config.specs.declared.fault.Part.TheVariants as part
 use Rattle.afdx_config.specs.declared.fault.Place.{Place}
 use Rattle.afdx_config.specs.declared.fault.ConfigFault.{ConfigFault}
@@ -111,7 +112,7 @@ link_of links vl = position (λ l. nat_eq vl l.vl) links
 -- how much a link may send, and how its frames are treated
 unfoldable pub traffic_at : (ℕ → Place) → Members → Result Traffic ConfigFault
 traffic_at at t = do
-  bag_ms ← one_of (at 4) (codes "bag_ms") (1 ∷ 2 ∷ 4 ∷ 8 ∷ 16 ∷ 32 ∷ 64 ∷ 128 ∷ []) t
+  bag_ms ← one_of (at 4) (codes "bag_ms") gaps t
   lmin ← whole (at 5) (codes "lmin") 64 1518 t
   lmax ← whole (at 6) (codes "lmax") lmin 1518 t
   jitter_us ← whole (at 7) (codes "jitter_us") 0 (1000 * bag_ms) t
@@ -183,7 +184,7 @@ port_at systems links before t =
       udp ← whole (at 3) (codes "udp") 1 65535 t
       check (not (has_port before system link udp)) (Twice (at 3))
       kind ← word (at 4) (codes "kind")
-      ((codes "sampling", Sampling) ∷ (codes "queuing", Queuing) ∷ []) t
+        ((codes "sampling", Sampling) ∷ (codes "queuing", Queuing) ∷ []) t
       depth ← whole (at 5) (codes "depth") 1 (deepest kind) t
       only_port_keys (at 0) t
       Ok (record { system = system; link = link; udp = udp; kind = kind; depth = depth })

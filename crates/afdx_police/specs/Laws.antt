@@ -1,7 +1,7 @@
 -- Laws over the definitions.
 use Rattle.std.specs.Prelude.{◌≡◌, ℕ, ◌+◌, ◌*◌, ◌-◌, ◌<◌, ◌≤◌, ◌↔◌, All, IsTrue, IsSome, true}
 use Rattle.std.specs.Prelude.{false, Some, None, List, [], ◌∷◌, length}
-use Rattle.afdx_frame.specs.Regulation.{Regulation, byte_units, fill_rate, cap}
+use Rattle.afdx_frame.specs.Regulation.{Regulation, byte_units, fill_rate, cap, wire_of}
 use Rattle.afdx_frame.specs.declared.link.Side.{Side}
 use Rattle.afdx_police.specs.declared.account.LinkAccount.{LinkAccount}
 use Rattle.afdx_police.specs.declared.shape.Reason.{Reason}
@@ -92,7 +92,7 @@ SoundHasNoFault =
 -- such an arrival is charged at least what it takes on the wire, and at most its link's greatest
 -- frame
 pub record IsChargedFor (rule : Rule) (x : Arrival) : Type 0 where
-  pub at_least : length x.bytes + 20 ≤ (charged_by rule x).charge
+  pub at_least : wire_of (length x.bytes) ≤ (charged_by rule x).charge
   pub at_most : (charged_by rule x).charge ≤ (regulation_of rule).smax
 
 abbrev pub SoundIsChargedFor : Type 0

@@ -1,6 +1,6 @@
 -- What a policer's account is after a list of offers, the newest first.
 use Rattle.std.specs.Prelude.{◌≡◌, ℕ, ◌+◌, ◌≤◌, All, Bool, List, map}
-use Rattle.afdx_frame.specs.Regulation.{Regulation, cap}
+use Rattle.afdx_frame.specs.Regulation.{Regulation, cap, wire_of}
 use Rattle.afdx_police.specs.Account.{missing}
 use Rattle.afdx_police.specs.Rule.{Rule, regulation_of}
 use Rattle.afdx_police.specs.Window.{Charged, fits, accepted_of}
@@ -13,7 +13,7 @@ pub record Offer : Type 0 where
 -- as the window rule sees it: `charge_of smax wire` is what a frame of that wire size is charged
 abbrev pub charged_offer : (ℕ → ℕ → ℕ) → Regulation → Offer → Charged
 charged_offer charge_of link offer =
-    record { time = offer.time; charge = charge_of link.smax (offer.length + 20) }
+    record { time = offer.time; charge = charge_of link.smax (wire_of offer.length) }
 
 -- the accepted ones of the offers
 abbrev pub accepted_offers : (ℕ → ℕ → ℕ) → Regulation → List Offer → List Charged

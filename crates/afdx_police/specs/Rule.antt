@@ -1,7 +1,7 @@
 -- The rule of a link: how its frames are filtered and policed.
-use Rattle.std.specs.Prelude.{ℕ, ◌+◌, ◌*◌, ◌≤◌, Bool, ◌==◌, IsTrue, [], ◌∷◌}
-use Rattle.std.specs.List.{list_any}
-use Rattle.afdx_frame.specs.Regulation.{Regulation}
+use Rattle.std.specs.Prelude.{ℕ, ◌*◌, ◌≤◌, IsTrue}
+pub use Rattle.afdx_frame.specs.Regulation.{is_bag}
+use Rattle.afdx_frame.specs.Regulation.{Regulation, regulation_with}
 use Rattle.afdx_frame.specs.declared.link.Policing.{Policing}
 
 -- the link, the one port where its frames come in, its gap in ms, its frames' least and greatest
@@ -28,10 +28,6 @@ rule_with vl port bag_ms lmin lmax jitter_us policing =
       policing = policing;
     }
 
--- a bandwidth allocation gap in milliseconds
-abbrev pub is_bag : ℕ → Bool
-is_bag ms = list_any (λ bag. bag == ms) (1 ∷ 2 ∷ 4 ∷ 8 ∷ 16 ∷ 32 ∷ 64 ∷ 128 ∷ [])
-
 -- each value is in its range
 pub record IsRule (rule : Rule) : Type 0 where
   pub port_first : 1 ≤ rule.port
@@ -42,8 +38,6 @@ pub record IsRule (rule : Rule) : Type 0 where
   pub longest : rule.lmax ≤ 1518
   pub jitter : rule.jitter_us ≤ 1000 * rule.bag_ms
 
--- how the link is regulated: on the wire a frame takes 20 bytes more, for preamble, start delimiter
--- and gap
+-- how the link is regulated
 abbrev pub regulation_of : Rule → Regulation
-regulation_of rule =
-    record { bag_ms = rule.bag_ms; jitter_us = rule.jitter_us; smax = rule.lmax + 20 }
+regulation_of rule = regulation_with rule.bag_ms rule.jitter_us rule.lmax

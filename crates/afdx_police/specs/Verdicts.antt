@@ -1,8 +1,9 @@
 -- Which arrivals of a link are accepted, and why the others are dropped. Lists have the newest
 -- first.
-use Rattle.std.specs.Prelude.{◌+◌, if◌then◌else◌, is_none, Option, Some, None, List, [], ◌∷◌}
+use Rattle.std.specs.Prelude.{if◌then◌else◌, is_none, Option, Some, None, List, [], ◌∷◌}
 use Rattle.std.specs.Prelude.{length}
 use Rattle.std.specs.Option.{option_or}
+use Rattle.afdx_frame.specs.Regulation.{wire_of}
 use Rattle.afdx_police.specs.declared.shape.Reason.{Reason}
 use Rattle.afdx_police.specs.declared.shape.Reason.TheVariants.{OverRate}
 use Rattle.afdx_police.specs.Arrival.{Arrival, own}
@@ -15,7 +16,7 @@ use Rattle.afdx_police.specs.Window.{Charged, fits}
 abbrev pub charged_by : Rule → Arrival → Charged
 charged_by rule x = record {
   time = x.time;
-  charge = charge_by rule.policing (rule.lmax + 20) (length x.bytes + 20);
+  charge = charge_by rule.policing (wire_of rule.lmax) (wire_of (length x.bytes));
 }
 
 -- why an arrival is dropped where these of its link were accepted: for its shape, or else for its

@@ -3,11 +3,7 @@
 ghost use Rattle.std.specs.Prelude.{◌≡◌, ◌↔◌, IsSome, IfSome};
 ghost use Rattle.afdx_police.specs.Rule.{IsRule, rule_with};
 
-use afdx_frame::{Policing, VlId};
-
-/// The bytes that a frame takes on the wire besides its own (IEEE 802.3): 7 of preamble,
-/// 1 start delimiter, 12 of gap.
-pub(crate) const WIRE_EXTRA: u64 = 20;
+use afdx_frame::{GREATEST_FRAME, LEAST_FRAME, Policing, VlId, WIRE_EXTRA};
 
 /// How one virtual link is filtered and policed at a switch (ARINC 664 Part 7).
 ///
@@ -52,9 +48,9 @@ impl LinkRule {
         if port >= 1
             && port <= 24
             && is_bag
-            && lmin >= 64
+            && lmin >= LEAST_FRAME as u64
             && lmin <= lmax
-            && lmax <= 1518
+            && lmax <= GREATEST_FRAME as u64
             && jitter_us <= 1000 * bag_ms
         {
             Some(LinkRule {

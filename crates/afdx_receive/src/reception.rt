@@ -1,6 +1,7 @@
 //! What a receiver makes of what arrived.
 
 use afdx_frame::{IpFault, MacFault, VlId};
+use std::fmt;
 
 /// Why a receiver drops what arrived: the first of these, in this order, that is true of it.
 #[derive(Clone, Copy, Debug, PartialEq, Eq)]
@@ -19,6 +20,36 @@ pub enum DropReason {
     Ip(IpFault),
     /// The frame won, but the system has no communication port for its link and UDP port.
     NoPort,
+}
+
+impl DropReason {
+    ghost use Rattle.std.specs.Prelude.{◌≡◌};
+    ghost use Rattle.afdx_receive.specs.Words.{drop_word};
+
+    /// It in a word.
+    pub fn word(self) -> &'static str
+        ensures { result.now ≡ drop_word self }
+    {
+        match self {
+            DropReason::Mac(fault) => fault.word(),
+            DropReason::NotSubscribed => "not-subscribed",
+            DropReason::Sequence => "sequence",
+            DropReason::Redundant => "redundant",
+            DropReason::Ip(fault) => fault.word(),
+            DropReason::NoPort => "no-port",
+        }
+    }
+}
+
+impl fmt::Display for DropReason {
+    ghost use Rattle.std.specs.Prelude.{Some};
+    ghost use Rattle.afdx_receive.specs.Words.{drop_word};
+
+    ghost output = { λ reason. Some (drop_word reason) };
+
+    fn fmt<W: fmt::Write>(&self, f: &mut fmt::Formatter<W>) -> fmt::Result {
+        f.write_str(self.word())
+    }
 }
 
 /// What a receiver makes of what arrived.
