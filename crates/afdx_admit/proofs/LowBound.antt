@@ -1,4 +1,5 @@
 -- Where a low flow goes through a port, the low bound is a number.
+use Rattle.std.proofs.lemmas.Bool.{lt-ltb}
 use Rattle.std.proofs.Common.{◌≡◌, ℕ, ◌-◌, ◌<◌, true, nat_lt, length, Some, None, if◌then◌else◌, ap, arith}
 use Rattle.std.specs.Int.{div_ceil}
 use Rattle.std.proofs.lemmas.Bool.Decides.{nat_tests}
@@ -11,9 +12,6 @@ use Rattle.afdx_admit.specs.Laws.{LowBoundIsANumber}
 use Rattle.afdx_admit.proofs.OutputLemmas.{left_some_at, rates_some}
 use Rattle.afdx_admit.proofs.Small.{is_rate}
 
-less : (a b : ℕ) → a < b → nat_lt a b ≡ true
-less a b h = grind (arith, nat_tests)
-
 pub low_bound-number : LowBoundIsANumber
 unfolding low_bound_of
 low_bound-number t lawful place s at fits f stands =
@@ -22,5 +20,5 @@ low_bound-number t lawful place s at fits f stands =
     let row = all_at (IsSystem t.profile) t.systems place s lawful.systems.each at in
     let rate = is_rate t.profile s.rate row.rate in
     let left = left_some_at o.byte_ns rate.fast o.flows f (rates_some (length t.systems) place t.links lawful.links.each) fits stands in
-    let below : nat_lt h byte_units ≡ true = less h byte_units (omega (arith, left)) in
+    let below : nat_lt h byte_units ≡ true = lt-ltb h byte_units (omega (arith, left)) in
     ap (λ b. if b then Some (div_ceil (low_wait o.byte_ns o.flows) (byte_units - h)) else None) below

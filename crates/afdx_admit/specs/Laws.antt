@@ -13,9 +13,12 @@ use Rattle.afdx_admit.specs.Lines.{first_false, lines, output_to, low_bound_of}
 abbrev pub LinesAreAdmission : Type 0
 LinesAreAdmission = (t : Rows) → IsLawful t → (first_false (lines t) ≡ None) ↔ IsAdmitted t
 
--- where a low flow goes through a port that isn't overloaded, the low bound is a number: the one that its line answers
+-- where a low flow goes through a port that isn't overloaded, the low bound is a number: the one
+-- that its line answers
 abbrev pub LowBoundIsANumber : Type 0
-LowBoundIsANumber = (t : Rows) → IsLawful t → (place : ℕ) (s : SystemRow) → slice_get t.systems place ≡ Some s →
+LowBoundIsANumber =
+    (t : Rows) → IsLawful t → (place : ℕ) (s : SystemRow) → slice_get t.systems place ≡ Some s →
     let o = output_to t place s in
     load o.byte_ns o.flows ≤ byte_units → (f : Flow) → Contains (of_class Low o.flows) f →
-    low_bound_of o ≡ Some (div_ceil (low_wait o.byte_ns o.flows) (byte_units - high_load o.byte_ns o.flows))
+    low_bound_of o
+    ≡ Some (div_ceil (low_wait o.byte_ns o.flows) (byte_units - high_load o.byte_ns o.flows))

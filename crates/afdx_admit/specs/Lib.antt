@@ -4,3 +4,4 @@ pub mod Late
 pub mod FaultText
 pub mod Known
 pub mod Laws
+pub mod Bounds

@@ -1,6 +1,8 @@
--- The lines of admission in their order, each with the fault that is answered where it is false. Bounds are in ns and
--- buffers in bytes, rounded up.
-use Rattle.std.specs.Prelude.{ℕ, zero, suc, ◌+◌, ◌-◌, ◌*◌, Bool, nat_le, nat_lt, List, [], ◌∷◌, ◌++◌, length, map, Option, Some, None, slice_get, option_map, option_and_then, if◌then◌else◌}
+-- The lines of admission in their order, each with the fault that is answered where it is false.
+-- Bounds are in ns and buffers in bytes, rounded up.
+use Rattle.std.specs.Prelude.{ℕ, zero, suc, ◌+◌, ◌-◌, ◌*◌, Bool, nat_le, nat_lt, List, [], ◌∷◌}
+use Rattle.std.specs.Prelude.{◌++◌, length, map, Option, Some, None, slice_get, option_map}
+use Rattle.std.specs.Prelude.{option_and_then, if◌then◌else◌}
 use Rattle.std.specs.Int.{div_ceil}
 use Rattle.std.specs.Option.{option_map_or}
 use Rattle.afdx_frame.specs.declared.link.Priority.TheVariants.{High, Low}
@@ -10,7 +12,9 @@ use Rattle.afdx_config.specs.Reading.{system_at_port}
 use Rattle.afdx_frame.specs.Flows.{Flow, of_class, burst, load, high_wait, low_wait, high_load}
 use Rattle.afdx_config.specs.Admission.{byte_ns, links_from, flows_to, sender_jitter}
 use Rattle.afdx_admit.specs.declared.fault.AdmitFault.{AdmitFault}
-use Rattle.afdx_admit.specs.declared.fault.AdmitFault.TheVariants.{Overload, Buffer, HighLatency, LowLatency, SenderJitter, LinkJitter, Skew}
+use Rattle.afdx_admit.specs.declared.fault.AdmitFault.TheVariants.{Overload, Buffer, HighLatency}
+use Rattle.afdx_admit.specs.declared.fault.AdmitFault.TheVariants.{LowLatency, SenderJitter}
+use Rattle.afdx_admit.specs.declared.fault.AdmitFault.TheVariants.{LinkJitter, Skew}
 
 pub record Line : Type 0 where
   pub holds : Bool
@@ -31,23 +35,29 @@ pub record Output : Type 0 where
   pub byte_ns : ℕ
   pub flows : List Flow
 
--- the longest that a high frame takes; a low one, where the high ones leave it some of the line; the bytes that wait
+-- the longest that a high frame takes; a low one, where the high ones leave it some of the line;
+-- the bytes that wait
 unfoldable pub high_bound_of : Output → ℕ
 high_bound_of o = div_ceil (high_wait o.byte_ns o.flows) byte_units
 
 unfoldable pub low_bound_of : Output → Option ℕ
 low_bound_of o =
-    if nat_lt (high_load o.byte_ns o.flows) byte_units then Some (div_ceil (low_wait o.byte_ns o.flows) (byte_units - high_load o.byte_ns o.flows)) else None
+    if nat_lt (high_load o.byte_ns o.flows) byte_units
+    then Some (div_ceil (low_wait o.byte_ns o.flows) (byte_units - high_load o.byte_ns o.flows))
+    else None
 
 unfoldable pub buffer_need_of : Output → ℕ
 buffer_need_of o = div_ceil (burst o.flows) byte_units
 
--- the output port to the system at a place, and the one at a port of the switch, if a system is there
+-- the output port to the system at a place, and the one at a port of the switch, if a system is
+-- there
 abbrev pub output_to : Rows → ℕ → SystemRow → Output
 output_to t place s = record { byte_ns = byte_ns s; flows = flows_to t.links place }
 
 unfoldable pub output_at : Rows → ℕ → Option Output
-output_at t port = option_and_then (λ place. option_map (output_to t place) (slice_get t.systems place)) (system_at_port t.systems port)
+output_at t port =
+    option_and_then (λ place. option_map (output_to t place) (slice_get t.systems place))
+    (system_at_port t.systems port)
 
 -- the bounds at a port of the switch
 abbrev pub high_bound_at : Rows → ℕ → ℕ
@@ -62,18 +72,22 @@ buffer_need_at t port = option_map_or buffer_need_of (output_at t port) 0
 -- ---- the lines of an output port
 
 abbrev pub high_line : ℕ → Output → Flow → Line
-high_line port o f = line (nat_le (high_wait o.byte_ns o.flows) (f.latency * byte_units)) (HighLatency port (record { 0 = f.vl }) (high_bound_of o))
+high_line port o f =
+    line (nat_le (high_wait o.byte_ns o.flows) (f.latency * byte_units))
+    (HighLatency port (record { 0 = f.vl }) (high_bound_of o))
 
 abbrev pub low_line : ℕ → Output → Flow → Line
 low_line port o f =
     let left = byte_units - high_load o.byte_ns o.flows in
-    line (nat_le (low_wait o.byte_ns o.flows) (f.latency * left)) (LowLatency port (record { 0 = f.vl }) (div_ceil (low_wait o.byte_ns o.flows) left))
+    line (nat_le (low_wait o.byte_ns o.flows) (f.latency * left))
+    (LowLatency port (record { 0 = f.vl }) (div_ceil (low_wait o.byte_ns o.flows) left))
 
 unfoldable pub output_lines : ℕ → ℕ → Output → List Line
 output_lines buffer port o =
     line (nat_le (load o.byte_ns o.flows) byte_units) (Overload port)
     ∷ line (nat_le (burst o.flows) (buffer * byte_units)) (Buffer port (buffer_need_of o))
-    ∷ (map (high_line port o) (of_class High o.flows) ++ map (low_line port o) (of_class Low o.flows))
+    ∷ (map (high_line port o) (of_class High o.flows)
+    ++ map (low_line port o) (of_class Low o.flows))
 
 unfoldable pub port_lines : Rows → ℕ → List Line
 port_lines t port = option_map_or (output_lines t.buffer port) (output_at t port) []
@@ -82,14 +96,19 @@ port_lines t port = option_map_or (output_lines t.buffer port) (output_at t port
 
 -- the jitter at the output of the system at this place, in ns
 unfoldable pub jitter_at : Rows → ℕ → ℕ
-jitter_at t place = option_map_or (λ s. sender_jitter (byte_ns s) (links_from t.links place)) (slice_get t.systems place) 0
+jitter_at t place =
+    option_map_or (λ s. sender_jitter (byte_ns s) (links_from t.links place))
+    (slice_get t.systems place) 0
 
 unfoldable pub sender_lines : Rows → ℕ → List Line
-sender_lines t place = line (nat_le (jitter_at t place) 500000) (SenderJitter (record { 0 = place }) (jitter_at t place)) ∷ []
+sender_lines t place =
+    line (nat_le (jitter_at t place) 500000)
+    (SenderJitter (record { 0 = place }) (jitter_at t place)) ∷ []
 
 abbrev pub lines_of_link : Rows → LinkRow → List Line
 lines_of_link t l =
-    line (nat_le (jitter_at t l.from) (1000 * l.jitter_us)) (LinkJitter (record { 0 = l.vl }) (jitter_at t l.from))
+    line (nat_le (jitter_at t l.from) (1000 * l.jitter_us))
+    (LinkJitter (record { 0 = l.vl }) (jitter_at t l.from))
     ∷ line (nat_le l.latency_us l.skew_us) (Skew (record { 0 = l.vl }))
     ∷ []
 
@@ -105,4 +124,7 @@ each_from lines_of from (suc count) = lines_of from ++ each_from lines_of (from 
 
 -- ports ascending, then systems and then links in file order
 unfoldable pub lines : Rows → List Line
-lines t = each_from (port_lines t) 1 24 ++ (each_from (sender_lines t) 0 (length t.systems) ++ each_from (link_lines t) 0 (length t.links))
+lines t =
+    each_from (port_lines t) 1 24
+    ++ (each_from (sender_lines t) 0 (length t.systems)
+    ++ each_from (link_lines t) 0 (length t.links))

@@ -1,5 +1,6 @@
 -- The sums that are kept of an output port's links.
-use Rattle.std.specs.Prelude.{◌≡◌, ℕ, ◌+◌, ◌*◌, ◌≤◌, ◌<◌, max, List, length, slice_index, slice_get, Option, Some, if◌then◌else◌}
+use Rattle.std.specs.Prelude.{◌≡◌, ℕ, ◌+◌, ◌*◌, ◌≤◌, ◌<◌, max, List, length, slice_index, slice_get}
+use Rattle.std.specs.Prelude.{Option, Some, if◌then◌else◌}
 use Rattle.afdx_frame.specs.declared.link.Priority.TheVariants.{High, Low}
 use Rattle.afdx_frame.specs.Regulation.{fill_rate, cap}
 use Rattle.afdx_config.specs.Rows.{SystemRow, LinkRow, Rows}
@@ -39,9 +40,14 @@ pub record Adds (f : Flow) (old new : Sums) : Type 0 where
   pub byte_ns : new.byte_ns ≡ old.byte_ns
   pub burst : new.burst ≡ old.burst + cap f.link
   pub load : new.load ≡ old.load + fill_rate f.link * old.byte_ns
-  pub high_burst : new.high_burst ≡ old.high_burst + (if is_class High f.priority then cap f.link else 0)
-  pub high_load : new.high_load ≡ old.high_load + (if is_class High f.priority then fill_rate f.link * old.byte_ns else 0)
-  pub longest_low : new.longest_low ≡ (if is_class Low f.priority then max old.longest_low f.link.smax else old.longest_low)
+  pub high_burst :
+      new.high_burst ≡ old.high_burst + (if is_class High f.priority then cap f.link else 0)
+  pub high_load :
+      new.high_load
+      ≡ old.high_load + (if is_class High f.priority then fill_rate f.link * old.byte_ns else 0)
+  pub longest_low :
+      new.longest_low
+      ≡ (if is_class Low f.priority then max old.longest_low f.link.smax else old.longest_low)
 
 -- the rules that bound what a link sends
 abbrev pub CanSend : LinkRow → Type 0

@@ -1,4 +1,5 @@
 //! Admission.
+
 ghost use Rattle.std.specs.Prelude.{◌≡◌, ◌↔◌, IsOk, IfOk, OnOk, IfErr, Some, None};
 ghost use Rattle.afdx_config.specs.Admission.{IsAdmitted};
 ghost use Rattle.afdx_admit.specs.Lines.{first_false, lines};

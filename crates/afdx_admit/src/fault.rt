@@ -1,4 +1,5 @@
 //! Why tables are not admitted.
+
 use afdx_config::{SystemId, Tables};
 use afdx_frame::VlId;
 use std::fmt;

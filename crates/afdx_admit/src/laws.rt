@@ -1,4 +1,5 @@
 //! Laws over the definitions.
+
 ghost use Rattle.afdx_admit.specs.Laws.{LinesAreAdmission, LowBoundIsANumber};
 
 /// In lawful tables no line is false exactly where they are admitted.

@@ -1,5 +1,7 @@
 //! The lines of admission: the first that is false of a port, a system, a link, and of all.
-ghost use Rattle.std.specs.Prelude.{◌≡◌, ◌<◌, ◌≤◌, length, option_map, IfSome, slice_get, Some, IfNone};
+
+ghost use Rattle.std.specs.Prelude.{◌≡◌, ◌<◌, ◌≤◌, length, option_map, IfSome, slice_get, Some};
+ghost use Rattle.std.specs.Prelude.{IfNone};
 ghost use Rattle.afdx_config.specs.Rows.{link_row};
 ghost use Rattle.afdx_config.specs.Lawful.{IsLawful};
 ghost use Rattle.afdx_frame.specs.Flows.{is_class, of_class};
@@ -10,9 +12,9 @@ ghost use Rattle.afdx_admit.specs.Sums.{AreJitters, CanSend, IsFaultAt};
 ghost use Rattle.afdx_admit.specs.Known.{IsKnown};
 
 use crate::fault::AdmitFault;
-use crate::sums::{BYTE_UNITS, byte_ns_of, link_at, sums_to, wire_size};
+use crate::sums::{byte_ns_of, link_at, sums_to, wire_size};
 use afdx_config::{Link, SystemId, Tables};
-use afdx_frame::{Priority, VlId};
+use afdx_frame::{BYTE_UNITS, Priority, VlId};
 
 fn is_class(class: Priority, priority: Priority) -> bool
     ensures { result ≡ is_class class priority }
@@ -39,7 +41,8 @@ fn first_late(
     left: u64,
 ) -> Option<VlId>
     requires { left ≤ 128000000 }
-    ensures { option_map (λ vl. vl.0) result ≡ late.first_late wait left (of_class class (flows_to tables.now.links system.0)) }
+    ensures { option_map (λ vl. vl.0) result
+        ≡ late.first_late wait left (of_class class (flows_to tables.now.links system.0)) }
 {
     let count = tables.link_count();
     for i in 0..count {
@@ -133,7 +136,9 @@ fn sender_jitters(tables: &Tables) -> [u64; 24]
 /// The first false line of all systems.
 fn senders_fault(tables: &Tables, jitters: &[u64]) -> Option<AdmitFault>
     requires { AreJitters tables.now jitters.now }
-    ensures fault { result ≡ spec.first_false (spec.each_from (spec.sender_lines tables.now) 0 (length tables.now.systems)) }
+    ensures fault { result
+        ≡ spec.first_false
+        (spec.each_from (spec.sender_lines tables.now) 0 (length tables.now.systems)) }
     ensures known { IfSome result (IsKnown tables.now) }
 {
     let count = tables.system_count();
@@ -167,7 +172,9 @@ fn link_fault(tables: &Tables, jitters: &[u64], index: usize) -> Option<AdmitFau
 /// The first false line of all links.
 fn links_fault(tables: &Tables, jitters: &[u64]) -> Option<AdmitFault>
     requires { AreJitters tables.now jitters.now }
-    ensures fault { result ≡ spec.first_false (spec.each_from (spec.link_lines tables.now) 0 (length tables.now.links)) }
+    ensures fault { result
+        ≡ spec.first_false
+        (spec.each_from (spec.link_lines tables.now) 0 (length tables.now.links)) }
     ensures known { IfSome result (IsKnown tables.now) }
 {
     let count = tables.link_count();

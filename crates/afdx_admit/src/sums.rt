@@ -1,4 +1,5 @@
 //! What is summed over the links that go to one output port.
+
 ghost use Rattle.std.specs.Prelude.{◌≡◌, ◌*◌, ◌≤◌, ◌<◌, ◌∷◌, [], length, slice_get, Some};
 ghost use Rattle.afdx_frame.specs.Regulation.{cap, fill_rate};
 ghost use Rattle.afdx_config.specs.Rows.{SystemRow, link_row};
@@ -7,10 +8,7 @@ ghost use Rattle.afdx_config.specs.Admission.{byte_ns};
 ghost use Rattle.afdx_admit.specs.Sums.{CanSend, IsSums, IsSmall, AreSumsTo};
 
 use afdx_config::{Link, SystemId, Tables};
-use afdx_frame::Priority;
-
-/// The units of a byte in a burst: as many as 128 ms has nanoseconds.
-pub(crate) const BYTE_UNITS: u64 = 128_000_000;
+use afdx_frame::{BYTE_UNITS, Priority, WIRE_EXTRA};
 
 /// Bursts in units of a byte over `BYTE_UNITS`, loads in such units for the time of a byte.
 #[derive(Clone, Copy)]
@@ -122,7 +120,7 @@ pub(crate) fn wire_size(link: &Link) -> u64
     ensures size { result ≡ (regulation_of (link_row link.now)).smax }
     ensures small { result ≤ 1538 }
 {
-    link.lmax + 20
+    link.lmax + WIRE_EXTRA
 }
 
 /// What a link may send at once.
@@ -147,7 +145,8 @@ fn load(byte_ns: u64, link: &Link) -> u64
 /// The ns of a byte on a system's line.
 pub(crate) fn byte_ns_of(tables: &Tables, id: SystemId) -> u64
     requires { id.0 < length tables.now.systems }
-    ensures time { (s : SystemRow) → slice_get tables.now.systems id.0 ≡ Some s → result ≡ byte_ns s }
+    ensures time { (s : SystemRow) → slice_get tables.now.systems id.0 ≡ Some s →
+        result ≡ byte_ns s }
     ensures some { 1 ≤ result }
     ensures small { result ≤ 800 }
 {

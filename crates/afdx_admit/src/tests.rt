@@ -1,6 +1,7 @@
 //! Networks with known bounds and known answers.
 //!
 //! Each reading that lacks memory is made again, so the tests pass where any one growth is refused.
+
 use crate::{AdmitFault, AdmitText, admit, buffer_need, high_bound, low_bound};
 use afdx_config::{ConfigFault, SystemId, Tables, read_tables};
 use afdx_frame::VlId;

@@ -2,13 +2,13 @@
 use Rattle.std.proofs.Common.{◌≡◌, ◌≢◌, ℕ, ◌+◌, ◌*◌, ◌<◌, ◌≤◌, ◌==◌, ◌||◌, max, Bool, true, false, List, [], ◌∷◌, inl, inr, refl, sym, arith}
 use Rattle.std.specs.List.{AllByRecursion}
 use Rattle.std.proofs.Math.Nat.{mul-le-mul_right}
-use Rattle.std.proofs.lemmas.Bool.{cases_lt}
+use Rattle.std.proofs.lemmas.Bool.{cases_Bool, cases_lt}
 use Rattle.afdx_frame.specs.declared.link.Priority.{Priority}
 use Rattle.afdx_frame.specs.declared.link.Priority.TheVariants.{High, Low}
 use Rattle.afdx_frame.specs.Flows.{is_class}
 use Rattle.afdx_port.specs.Schedule.{Entry, Turn, has_turn, end_of, lasting, IsWithoutTurn, IsNext, AreTurns}
 use Rattle.afdx_bounds.specs.Curve.{left_over}
-use Rattle.afdx_bounds.proofs.WorkLemmas.{bool_cases, or-false, served}
+use Rattle.afdx_bounds.proofs.WorkLemmas.{or-false, served}
 
 -- the frames that count: those of both classes, or the high ones
 abbrev pub counts : Bool → Priority → Bool
@@ -90,7 +90,7 @@ module _ {X : Type 0} where
       let lasts : s.end ≤ s.moment + (s.entry.bytes + 20) * byte_ns = (lasts-of byte_ns entries rest s next).most in
       let after : end_of rest ≤ s.moment = next.after in
       let taken = served weight s rest 0 s.place s.entry entries next.own.stands (omega arith) next.own.without in
-      elim (bool_cases (counts both s.entry.priority)) [
+      elim (cases_Bool (counts both s.entry.priority)) [
         | inr other ↦ (let small : s.entry.bytes + 20 ≤ extra = w.0.small other in
             let short : (s.entry.bytes + 20) * byte_ns ≤ extra * byte_ns = mul-le-mul_right byte_ns small in
             record {
@@ -99,14 +99,16 @@ module _ {X : Type 0} where
               come = λ place e free class. elim (cases_lt s.moment e.time) [
                 | inl late ↦ omega arith
                 | inr early ↦ absurd (let apart = counts-high both e.priority s.entry.priority class other in
-                    apart.1 (next.high_first place e (record { stands = free.stands; without = or-false (s.place == place) (has_turn rest place) free.without }) early apart.0))
+                    apart.1 (next.high_first place e
+                        (record { stands = free.stands; without = or-false (s.place == place) (has_turn rest place) free.without }) early apart.0))
               ];
               still = λ place free. free;
               begins = λ t idle started. (let first : s.moment < t = started.0 in omega arith);
               balance = omega (arith, short, lasts);
             })
         | inl class ↦ (let full : weight s.entry ≡ s.entry.bytes + 20 = w.0.full class in
-            let work : byte_ns * left_over weight (s ∷ rest) 0 entries + (s.entry.bytes + 20) * byte_ns ≡ byte_ns * left_over weight rest 0 entries = rw (sym taken, full) (grind arith) in
+            let work : byte_ns * left_over weight (s ∷ rest) 0 entries + (s.entry.bytes + 20) * byte_ns
+                    ≡ byte_ns * left_over weight rest 0 entries = rw (sym taken, full) (grind arith) in
             elim (cases_lt (end_of rest) s.moment) [
               | inl gap ↦ record {
                 since = s.moment;
@@ -145,5 +147,6 @@ module _ {X : Type 0} where
           balance = omega arith;
         }
         | inr line ↦ (let r = busy byte_ns weight both extra entries turns h w in
-            record { since = r.since; earlier = r.earlier; come = r.come; still = r.still; begins = λ t idle started. r.begins t (λ lt. absurd (omega arith)) started; balance = omega (arith, r.balance) })
+            record { since = r.since; earlier = r.earlier; come = r.come; still = r.still;
+                begins = λ t idle started. r.begins t (λ lt. absurd (omega arith)) started; balance = omega (arith, r.balance) })
       ]

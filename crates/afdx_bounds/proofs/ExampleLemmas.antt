@@ -30,7 +30,8 @@ rising-least : (low : ℕ) (flows : List Flow) (i : ℕ) (f : Flow) → Rising l
 unfolding Rising
 rising-least low [] i f h lt at = absurd (omega (arith, lt))
 rising-least low (d ∷ ds) zero f h lt at = let same : d.vl ≡ f.vl = ap (λ z. z.vl) at in let least = h.0 in omega (arith, same, least)
-rising-least low (d ∷ ds) (suc i) f h lt at = let least = h.0 in let rest = rising-least (d.vl + 1) ds i f h.1 (omega (arith, lt)) at in omega (arith, least, rest)
+rising-least low (d ∷ ds) (suc i) f h lt at =
+    let least = h.0 in let rest = rising-least (d.vl + 1) ds i f h.1 (omega (arith, lt)) at in omega (arith, least, rest)
 
 rising-distinct : (low : ℕ) (flows : List Flow) → Rising low flows → (i j : ℕ) (f g : Flow) → i < length flows →
     j < length flows → slice_index_or flows i f ≡ f → slice_index_or flows j g ≡ g → f.vl ≡ g.vl → f ≡ g
@@ -38,10 +39,13 @@ unfolding Rising
 rising-distinct low [] h i j f g lt below at there same = absurd (omega (arith, lt))
 rising-distinct low (d ∷ ds) h zero zero f g lt below at there same = sym at ∙ there
 rising-distinct low (d ∷ ds) h zero (suc j) f g lt below at there same =
-    absurd (let own : d.vl ≡ f.vl = ap (λ z. z.vl) at in let later = rising-least (d.vl + 1) ds j g h.1 (omega (arith, below)) there in omega (arith, own, later, same))
+    absurd (let own : d.vl ≡ f.vl = ap (λ z. z.vl) at in let later = rising-least (d.vl + 1) ds j g h.1 (omega (arith, below)) there in
+        omega (arith, own, later, same))
 rising-distinct low (d ∷ ds) h (suc i) zero f g lt below at there same =
-    absurd (let own : d.vl ≡ g.vl = ap (λ z. z.vl) there in let later = rising-least (d.vl + 1) ds i f h.1 (omega (arith, lt)) at in omega (arith, own, later, same))
-rising-distinct low (d ∷ ds) h (suc i) (suc j) f g lt below at there same = rising-distinct (d.vl + 1) ds h.1 i j f g (omega (arith, lt)) (omega (arith, below)) at there same
+    absurd (let own : d.vl ≡ g.vl = ap (λ z. z.vl) there in let later = rising-least (d.vl + 1) ds i f h.1 (omega (arith, lt)) at in
+        omega (arith, own, later, same))
+rising-distinct low (d ∷ ds) h (suc i) (suc j) f g lt below at there same =
+    rising-distinct (d.vl + 1) ds h.1 i j f g (omega (arith, lt)) (omega (arith, below)) at there same
 
 distinct : (flows : List Flow) → Rising 0 flows → (f g : Flow) → Contains flows f → Contains flows g → f.vl ≡ g.vl →
     f ≡ g
@@ -56,7 +60,8 @@ LowLine f = f.priority ≡ Low → low_wait 80 (pair 17000 21000) ≤ f.latency 
 pub pair-admitted : PairIsAdmitted
 unfolding Rising
 pair-admitted = record {
-  flows_are = record { gaps = all-two (λ f. IsTrue (is_bag f.link.bag_ms)) (first 17000) (second 21000) refl refl; distinct = distinct (pair 17000 21000) (omega arith, (omega arith, tt)) };
+  flows_are = record { gaps = all-two (λ f. IsTrue (is_bag f.link.bag_ms)) (first 17000) (second 21000) refl refl;
+      distinct = distinct (pair 17000 21000) (omega arith, (omega arith, tt)) };
   admitted = record {
     no_overload = omega arith;
     fits_buffer = omega arith;
@@ -82,7 +87,8 @@ three-sent = record {
     };
     jitter = omega arith;
     each = all-three (λ f. IsSent 80 High three f) (long 1 369120) (long 2 369120) (long 3 369120)
-        (record { own_class = refl; regular = refl; waits = refl }) (record { own_class = refl; regular = refl; waits = refl }) (record { own_class = refl; regular = refl; waits = refl });
+        (record { own_class = refl; regular = refl; waits = refl }) (record { own_class = refl; regular = refl; waits = refl })
+            (record { own_class = refl; regular = refl; waits = refl });
   };
   four = λ h. (let line = h.jitter in omega (arith, line));
 }
@@ -91,8 +97,10 @@ two-rows : (r s : Row) (i j : ℕ) → i < 2 → j < 2 → slice_index_or rows i
     r.rule.vl ≡ s.rule.vl → r ≡ s
 two-rows r s zero zero lt below at there same = sym at ∙ there
 two-rows r s (suc zero) (suc zero) lt below at there same = sym at ∙ there
-two-rows r s zero (suc zero) lt below at there same = absurd (let a : 1 ≡ r.rule.vl = ap (λ z. z.rule.vl) at in let b : 2 ≡ s.rule.vl = ap (λ z. z.rule.vl) there in omega (arith, a, b, same))
-two-rows r s (suc zero) zero lt below at there same = absurd (let a : 2 ≡ r.rule.vl = ap (λ z. z.rule.vl) at in let b : 1 ≡ s.rule.vl = ap (λ z. z.rule.vl) there in omega (arith, a, b, same))
+two-rows r s zero (suc zero) lt below at there same =
+    absurd (let a : 1 ≡ r.rule.vl = ap (λ z. z.rule.vl) at in let b : 2 ≡ s.rule.vl = ap (λ z. z.rule.vl) there in omega (arith, a, b, same))
+two-rows r s (suc zero) zero lt below at there same =
+    absurd (let a : 2 ≡ r.rule.vl = ap (λ z. z.rule.vl) at in let b : 1 ≡ s.rule.vl = ap (λ z. z.rule.vl) there in omega (arith, a, b, same))
 two-rows r s (suc (suc i)) j lt below at there same = absurd (omega (arith, lt))
 two-rows r s i (suc (suc j)) lt below at there same = absurd (omega (arith, below))
 

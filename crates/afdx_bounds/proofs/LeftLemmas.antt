@@ -1,8 +1,9 @@
 -- What has left a port when no further turn is given.
-use Rattle.std.proofs.Common.{◌≡◌, ℕ, ◌+◌, ◌<◌, ◌≤◌, ◌==◌, Bool, true, false, List, [], ◌∷◌, ◌++◌, Some, inl, inr, refl, sym, ap, subst, arith, ◌∙◌, suc, if◌then◌else◌}
+use Rattle.std.proofs.Common.{◌≡◌, ℕ, ◌+◌, ◌<◌, ◌≤◌, ◌==◌, Bool, true, false, List, [], ◌∷◌, ◌++◌, Some, inl, inr, refl, sym, ap, subst, arith, ◌∙◌, suc}
+use Rattle.std.proofs.Common.{if◌then◌else◌}
 use Rattle.std.specs.List.{slice_get}
 use Rattle.std.proofs.lemmas.Option.{slice_get_within}
-use Rattle.std.proofs.lemmas.Bool.{eqb-true}
+use Rattle.std.proofs.lemmas.Bool.{cases_Bool, eqb-true}
 use Rattle.afdx_port.specs.Due.{IsAfter}
 use Rattle.afdx_port.specs.History.{due_at}
 use Rattle.afdx_port.specs.Schedule.{Entry, Turn, has_turn, lasting, IsNext, AreTurns}
@@ -12,7 +13,6 @@ use Rattle.afdx_port.proofs.ScheduleLemmas.{schedule_of_is}
 use Rattle.afdx_police.specs.Laws.{EachAccountMoves}
 use Rattle.afdx_bounds.specs.Admitted.{EachHasLeft}
 use Rattle.afdx_bounds.specs.Policed.{MayWait}
-use Rattle.afdx_bounds.proofs.WorkLemmas.{bool_cases}
 use Rattle.afdx_bounds.proofs.BoundLemmas.{turn_at}
 use Rattle.afdx_bounds.proofs.AdmittedLemmas.{product-positive, turn-in-time, turn-not-old}
 
@@ -48,7 +48,7 @@ module _ {X : Type 0} where
       has_turn (later ++ turns) place ≡ true → Later later turns place until
   later-given byte_ns entries turns [] until place some are next out has = absurd (cc (out, has))
   later-given byte_ns entries turns (s ∷ later) until place some are next out has =
-      elim (bool_cases (s.place == place)) [
+      elim (cases_Bool (s.place == place)) [
         | inl same ↦ record { i = 0; s = s; at = refl; own = eqb-true s.place place same; after = first later s are }
         | inr other ↦ (let r = later-given byte_ns entries turns later until place some are.1 next out (rw other at has) in
             record { i = suc r.i; s = r.s; at = r.at; own = r.own; after = r.after })
@@ -64,14 +64,15 @@ module _ {X : Type 0} where
 
   pub each-left : EachAccountMoves → EachHasLeft X
   each-left moves byte_ns buffer flows vl_of charge_of entries turns f until place e regulated are flow next stands named waits over =
-      elim (bool_cases (has_turn turns place)) [
+      elim (cases_Bool (has_turn turns place)) [
         | inl has ↦ has
         | inr out ↦ absurd (
             let all = schedule_of_is byte_ns entries regulated.in_order in
             let r = schedule_begins byte_ns entries (schedule_of byte_ns entries) turns all are in
             let P : List (Turn X) → Type 0 = λ zs. AreTurns byte_ns entries zs in
             let longer : AreTurns byte_ns entries (r.0 ++ turns) = subst P r.1 all.each_next in
-            let has : has_turn (r.0 ++ turns) place ≡ true = subst (λ (zs : List (Turn X)). has_turn zs place ≡ true) r.1 (all.all_have_turns place (slice_get_within entries place e stands)) in
+            let has : has_turn (r.0 ++ turns) place ≡ true = subst (λ (zs : List (Turn X)). has_turn zs place ≡ true) r.1 (all.all_have_turns place
+                    (slice_get_within entries place e stands)) in
             let l = later-given byte_ns entries turns r.0 until place regulated.line longer next out has in
             let own = turn_at byte_ns entries (r.0 ++ turns) l.i l.s longer l.at in
             let at-place : slice_get entries place ≡ Some l.s.entry = subst (λ (n : ℕ). slice_get entries n ≡ Some l.s.entry) l.own own.next.own.stands in
@@ -80,7 +81,8 @@ module _ {X : Type 0} where
             let time : e.time ≡ l.s.entry.time = ap (λ z. z.time) same in
             let Q : Entry X → Type 0 = λ z. MayWait f.latency z in
             let end = turn-in-time moves byte_ns buffer flows vl_of charge_of entries (r.0 ++ turns) f l.i l.s regulated longer flow l.at names in
-            let kept = turn-not-old moves byte_ns buffer flows vl_of charge_of entries (r.0 ++ turns) f l.i l.s regulated longer flow l.at names (subst Q same waits) in
+            let kept = turn-not-old moves byte_ns buffer flows vl_of charge_of entries (r.0 ++ turns) f l.i l.s regulated longer flow l.at names
+                    (subst Q same waits) in
             let late = slot-after until l.s.end l.s.too_old kept l.after in
             omega (arith, end, late, time, over))
       ]

@@ -2,7 +2,7 @@
 use Rattle.std.proofs.Common.{◌≡◌, ℕ, ◌+◌, ◌<◌, ◌≤◌, ◌==◌, nat_lt, true, false, List, [], ◌∷◌, ◌++◌, inl, inr, refl, sym, ap, subst, arith, ◌∙◌}
 use Rattle.std.specs.Prelude.{All, IsTrue, reverse}
 use Rattle.std.proofs.lemmas.Option.{slice_get_within}
-use Rattle.std.proofs.lemmas.Bool.{cases_lt, eqb-true, cond-true, cond-false}
+use Rattle.std.proofs.lemmas.Bool.{cases_Bool, cases_lt, eqb-true, cond-true, cond-false}
 use Rattle.std.proofs.lemmas.List.{reverse-append}
 use Rattle.std.proofs.lemmas.List.Elements.{All-push}
 use Rattle.afdx_frame.specs.Regulation.{Regulation}
@@ -20,7 +20,6 @@ use Rattle.afdx_bounds.specs.Admitted.{Joins}
 use Rattle.afdx_bounds.specs.Offered.{is_lost, with_offer}
 use Rattle.afdx_bounds.proofs.AdmittedLemmas.{none-lost}
 use Rattle.afdx_bounds.proofs.ListLemmas.{get_all, all_get}
-use Rattle.afdx_bounds.proofs.WorkLemmas.{bool_cases}
 use Rattle.afdx_bounds.proofs.SumLemmas.{charged-push}
 
 -- what fits is accepted
@@ -37,7 +36,7 @@ older : (link : Regulation) (x : Charged) (xs came : List Charged) → x ∷ xs 
 unfolding accepted_of
 older link x xs [] h = absurd (cc h)
 older link x xs (y ∷ past) h =
-    elim (bool_cases (fits link (accepted_of link past) y)) [
+    elim (cases_Bool (fits link (accepted_of link past) y)) [
       | inl fit ↦ (let k = rw fit at h in (past, cc k))
       | inr refused ↦ older link x xs past (rw refused at h)
     ]
@@ -52,9 +51,10 @@ module _ {X : Type 0} where
       AreInOrder entries → IsRegulated byte_ns buffer flows vl_of charge_of (entries ++ new ∷ []) →
       is_lost byte_ns buffer entries new ≡ false
   offer-kept moves byte_ns buffer flows vl_of charge_of entries new order regulated =
-      elim (bool_cases (is_lost byte_ns buffer entries new)) [
+      elim (cases_Bool (is_lost byte_ns buffer entries new)) [
         | inr stays ↦ stays
-        | inl lost ↦ absurd (none-lost moves byte_ns buffer flows vl_of charge_of entries (schedule_of byte_ns entries) new regulated (schedule_of_is byte_ns entries order)
+        | inl lost ↦ absurd (none-lost moves byte_ns buffer flows vl_of charge_of entries (schedule_of byte_ns entries) new regulated
+              (schedule_of_is byte_ns entries order)
             (true-less buffer (waiting_bytes entries (schedule_of byte_ns entries) new.time + new.bytes) lost))
       ]
 
@@ -75,7 +75,8 @@ module _ {X : Type 0} where
 
   joins-charged : (vl_of : X → ℕ) (charge_of : Entry X → ℕ) (flows : List Flow) (entries : List (Entry X)) (f : Flow)
       (new : Entry X) → Joins vl_of charge_of flows entries f new → IsCharged vl_of charge_of flows new
-  joins-charged vl_of charge_of flows entries f new h = record { flow = f; stands = h.stands; named = sym h.named; class = h.class; at_least = h.at_least; at_most = h.at_most }
+  joins-charged vl_of charge_of flows entries f new h =
+      record { flow = f; stands = h.stands; named = sym h.named; class = h.class; at_least = h.at_least; at_most = h.at_most }
 
   next-policed : (flows : List Flow) (vl_of : X → ℕ) (charge_of : Entry X → ℕ) (entries : List (Entry X)) (f : Flow)
       (new : Entry X) →
@@ -85,12 +86,13 @@ module _ {X : Type 0} where
     charged = All-push (λ e. IsCharged vl_of charge_of flows e) entries new policed.charged (joins-charged vl_of charge_of flows entries f new h);
     accepted = λ g k. (let own = policed.accepted g k in
         let push = charged-push vl_of charge_of g.vl entries new in
-        elim (bool_cases (vl_of new.item == g.vl)) [
+        elim (cases_Bool (vl_of new.item == g.vl)) [
           | inr other ↦ (own.0, rw other at push ∙ own.1)
           | inl is ↦ (let same : f ≡ g = links.distinct f g h.stands k (sym h.named ∙ eqb-true (vl_of new.item) g.vl is) in
               let P : Flow → Type 0 = λ d. IsTrue (fits d.link (charged_to vl_of charge_of d.vl entries) (charged_as charge_of new)) in
               let fit = subst P same h.fits_in in
-              (charged_as charge_of new ∷ own.0, rw is at push ∙ joins g.link own.0 (charged_to vl_of charge_of g.vl entries) (charged_as charge_of new) own.1 fit))
+              (charged_as charge_of new ∷ own.0, rw is at push ∙ joins g.link own.0 (charged_to vl_of charge_of g.vl entries)
+                  (charged_as charge_of new) own.1 fit))
         ]);
   }
 
@@ -114,10 +116,11 @@ module _ {X : Type 0} where
     admitted = regulated.admitted;
     in_order = λ i j d e le g k. regulated.in_order i j d e le (get_longer entries last i d g) (get_longer entries last j e k);
     policed = record {
-      charged = all_get (λ e. IsCharged vl_of charge_of flows e) entries (λ i e g. get_all (λ d. IsCharged vl_of charge_of flows d) (entries ++ last ∷ []) i e regulated.policed.charged (get_longer entries last i e g));
+      charged = all_get (λ e. IsCharged vl_of charge_of flows e) entries
+          (λ i e g. get_all (λ d. IsCharged vl_of charge_of flows d) (entries ++ last ∷ []) i e regulated.policed.charged (get_longer entries last i e g));
       accepted = λ f k. (let own = regulated.policed.accepted f k in
           let push = charged-push vl_of charge_of f.vl entries last in
-          elim (bool_cases (vl_of last.item == f.vl)) [
+          elim (cases_Bool (vl_of last.item == f.vl)) [
             | inr other ↦ (own.0, sym (rw other at push) ∙ own.1)
             | inl is ↦ older f.link (charged_as charge_of last) (charged_to vl_of charge_of f.vl entries) own.0 (sym (rw is at push) ∙ own.1)
           ]);
@@ -130,13 +133,15 @@ module _ {X : Type 0} where
       let last : reverse (new ∷ offers) ≡ reverse offers ++ new ∷ [] = reverse-append (new ∷ []) offers in
       let P : List (Entry X) → Type 0 = λ es. IsRegulated byte_ns buffer flows vl_of charge_of es in
       let all = subst P last regulated in
-      let rest = offers-entries moves byte_ns buffer flows vl_of charge_of offers (earlier-regulated byte_ns buffer flows vl_of charge_of (reverse offers) new all) in
+      let rest = offers-entries moves byte_ns buffer flows vl_of charge_of offers
+              (earlier-regulated byte_ns buffer flows vl_of charge_of (reverse offers) new all) in
       ap (λ es. with_offer byte_ns buffer es new) rest ∙ kept all ∙ sym last
     where
       kept : IsRegulated byte_ns buffer flows vl_of charge_of (reverse offers ++ new ∷ []) →
           with_offer byte_ns buffer (reverse offers) new ≡ reverse offers ++ new ∷ []
       kept all = cond-false (is_lost byte_ns buffer (reverse offers) new) (reverse offers) (reverse offers ++ new ∷ [])
-          (offer-kept moves byte_ns buffer flows vl_of charge_of (reverse offers) new (earlier-regulated byte_ns buffer flows vl_of charge_of (reverse offers) new all).in_order all)
+          (offer-kept moves byte_ns buffer flows vl_of charge_of (reverse offers) new
+              (earlier-regulated byte_ns buffer flows vl_of charge_of (reverse offers) new all).in_order all)
 
   pub start-regulated : StartIsRegulated X
   unfolding accepted_of

@@ -1,8 +1,9 @@
 -- The entries of a port over a list of arrivals.
-use Rattle.std.proofs.Common.{◌≡◌, ℕ, ◌+◌, ◌≤◌, ◌==◌, ◌&&◌, Bool, true, false, List, [], ◌∷◌, ◌++◌, length, map, Option, Some, None, inl, inr, refl, sym, ap, subst, arith, ◌∙◌, suc, if◌then◌else◌}
+use Rattle.std.proofs.Common.{◌≡◌, ℕ, ◌+◌, ◌≤◌, ◌==◌, ◌&&◌, Bool, true, false, List, [], ◌∷◌, ◌++◌, length, map, Option, Some, None, inl, inr, refl, sym, ap}
+use Rattle.std.proofs.Common.{subst, arith, ◌∙◌, suc, if◌then◌else◌}
 use Rattle.std.specs.Prelude.{All, Contains, IfSome, find, reverse}
 use Rattle.std.specs.List.{slice_get}
-use Rattle.std.proofs.lemmas.Bool.{eqb-true, and_parts, cond-false}
+use Rattle.std.proofs.lemmas.Bool.{cases_Bool, eqb-true, and_parts, cond-false}
 use Rattle.std.proofs.lemmas.List.{reverse-append}
 use Rattle.std.proofs.lemmas.List.Elements.{All-push}
 use Rattle.afdx_frame.specs.Flows.{Flow}
@@ -17,12 +18,12 @@ use Rattle.afdx_police.specs.Window.{Charged, fits, accepted_of}
 use Rattle.afdx_port.specs.Schedule.{Entry}
 use Rattle.afdx_port.specs.ScheduleOf.{AreInOrder}
 use Rattle.afdx_port.proofs.TurnLemmas.{eqb-same}
-use Rattle.afdx_bounds.specs.OutputLaws.{IsServed, SentIsOffered, UnsentIsNot, EntriesAreRegulated, EntriesAreAccepted, OffersEnter, ArrivalIsKept, ArrivalsAreInTime, ArrivalsAreNotOld, ArrivalsHaveLeft}
+use Rattle.afdx_bounds.specs.OutputLaws.{IsServed, SentIsOffered, UnsentIsNot, EntriesAreRegulated, EntriesAreAccepted, OffersEnter, ArrivalIsKept}
+use Rattle.afdx_bounds.specs.OutputLaws.{ArrivalsAreInTime, ArrivalsAreNotOld, ArrivalsHaveLeft}
 use Rattle.afdx_bounds.specs.Policed.{charged_as, charged_to, MayWait, IsCharged, ArePoliced, IsRegulated}
 use Rattle.afdx_bounds.specs.Admitted.{Joins}
 use Rattle.afdx_bounds.specs.Outputs.{Row, Output, AreRows, flow_of, flows_at, AreTimed, accepts, sends, entry_of, with_sent, offers_at, entries_at, Carries}
 use Rattle.afdx_bounds.specs.Offered.{is_lost, entries_of}
-use Rattle.afdx_bounds.proofs.WorkLemmas.{bool_cases}
 use Rattle.afdx_bounds.proofs.SumLemmas.{charged-push}
 use Rattle.afdx_bounds.proofs.AdmittedLemmas.{in-time, turn-not-old}
 use Rattle.afdx_bounds.proofs.LeftLemmas.{each-left}
@@ -73,7 +74,8 @@ module _ {X : Type 0} where
     charged = inv.charged;
     accepted = λ f k. (let w = flow-from o.number rows k.0 f k.1 k.2 in
         let came = map (charged_offer (charge_by w.row.rule.policing) (regulation_of w.row.rule)) (offers_of w.row.rule (own w.row.rule.vl o.side past)) in
-        let is : charged_to vl_of charge_of w.row.rule.vl entries ≡ accepted_of (regulation_of w.row.rule) came = inv.owned w.row w.stands w.goes ∙ offers w.row.rule (own w.row.rule.vl o.side past) in
+        let is : charged_to vl_of charge_of w.row.rule.vl entries
+                ≡ accepted_of (regulation_of w.row.rule) came = inv.owned w.row w.stands w.goes ∙ offers w.row.rule (own w.row.rule.vl o.side past) in
         let P : Flow → Type 0 = λ d. (xs : List Charged) × (charged_to vl_of charge_of d.vl entries ≡ accepted_of d.link xs) in
         subst P w.is (came, is));
   }
@@ -128,7 +130,8 @@ module _ {X : Type 0} where
       is_lost o.byte_ns o.buffer entries (entry_of item_of r x) ≡ false
   kept moves offers item_of vl_of charge_of rows o past entries x r served carries inv times stands s =
       offer-kept moves o.byte_ns o.buffer (flows_at o.number rows) vl_of charge_of entries (entry_of item_of r x) inv.order
-      (next-regulated o.byte_ns o.buffer (flows_at o.number rows) vl_of charge_of entries (flow_of r) (entry_of item_of r x) (regulated offers vl_of charge_of rows o past entries served inv)
+      (next-regulated o.byte_ns o.buffer (flows_at o.number rows) vl_of charge_of entries (flow_of r) (entry_of item_of r x)
+          (regulated offers vl_of charge_of rows o past entries served inv)
       (arrival-joins item_of vl_of charge_of rows o past entries x r carries inv times stands s))
 
   -- no row sends the arrival there
@@ -140,7 +143,8 @@ module _ {X : Type 0} where
     charged = inv.charged;
     waits = inv.waits;
     come = λ t times. inv.come t (λ k d lt. times (suc k) d (omega (arith, lt)));
-    owned = λ r k goes. inv.owned r k goes ∙ sym (accepted-more r o.side past x ∙ unsent (accepts past x r) (is_side o.side x.side) (r.goes_to o.number) (charged_by r.rule x ∷ accepted_own r.rule (own r.rule.vl o.side past)) (accepted_own r.rule (own r.rule.vl o.side past)) goes (none r k));
+    owned = λ r k goes. inv.owned r k goes ∙ sym (accepted-more r o.side past x ∙ unsent (accepts past x r) (is_side o.side x.side) (r.goes_to o.number)
+        (charged_by r.rule x ∷ accepted_own r.rule (own r.rule.vl o.side past)) (accepted_own r.rule (own r.rule.vl o.side past)) goes (none r k));
   }
     where
       unsent : (a s g : Bool) (xs ys : List Charged) → g ≡ true → (a && (s && g)) ≡ false →
@@ -163,18 +167,20 @@ module _ {X : Type 0} where
         charged = All-push (λ e. IsCharged vl_of charge_of (flows_at o.number rows) e) entries (entry_of item_of r x) inv.charged
             (record { flow = flow_of r; stands = j.stands; named = sym j.named; class = refl; at_least = j.at_least; at_most = j.at_most });
         waits = All-push (λ e. Waits vl_of rows e) entries (entry_of item_of r x) inv.waits (record { row = r; stands = stands; named = j.named; is = refl });
-        come = λ t all. All-push (λ e. e.time ≤ t) entries (entry_of item_of r x) (inv.come t (λ k d lt. all (suc k) d (omega (arith, lt)))) (all 0 x (omega arith));
+        come = λ t all. All-push (λ e. e.time ≤ t) entries (entry_of item_of r x) (inv.come t (λ k d lt. all (suc k) d (omega (arith, lt))))
+            (all 0 x (omega arith));
         owned = λ q k goes. (let push = charged-push vl_of charge_of q.rule.vl entries (entry_of item_of r x) in
             let more = accepted-more q o.side past x in
             let old = inv.owned q k goes in
-            elim (bool_cases (vl_of (item_of x) == q.rule.vl)) [
+            elim (cases_Bool (vl_of (item_of x) == q.rule.vl)) [
               | inl is ↦ (let same : r ≡ q = are.distinct r q stands k (sym j.named ∙ eqb-true (vl_of (item_of x)) q.rule.vl is) in
                   let P : Row → Type 0 = λ z. accepts past x z ≡ true in
                   let accepted = subst P same s.accepted in
                   let charge = same-charged charge_of item_of r x (carries.charge r x stands l.named) ∙ ap (λ z. charged_by z.rule x) same in
                   rw is at push ∙ ap (λ a. a ∷ charged_to vl_of charge_of q.rule.vl entries) charge ∙ ap (λ xs. charged_by q.rule x ∷ xs) old
-                  ∙ both-then (accepts past x q) (is_side o.side x.side) (charged_by q.rule x ∷ accepted_own q.rule (own q.rule.vl o.side past)) (accepted_own q.rule (own q.rule.vl o.side past)) accepted s.side ∙ sym more)
-              | inr other ↦ rw other at push ∙ old ∙ sym (elim (bool_cases (accepts past x q)) [
+                  ∙ both-then (accepts past x q) (is_side o.side x.side) (charged_by q.rule x ∷ accepted_own q.rule (own q.rule.vl o.side past))
+                      (accepted_own q.rule (own q.rule.vl o.side past)) accepted s.side ∙ sym more)
+              | inr other ↦ rw other at push ∙ old ∙ sym (elim (cases_Bool (accepts past x q)) [
                 | inr refused ↦ rw refused at more
                 | inl both ↦ absurd (let same = one-row rows past x r q are stands k s.accepted both in
                     let vls : vl_of (item_of x) ≡ q.rule.vl = j.named ∙ ap (λ z. z.rule.vl) same in
@@ -197,7 +203,8 @@ module _ {X : Type 0} where
       by_find (Some r) h =
           let found = find-some (sends o past x) rows r h in
           let s = sends-parts o past x r found.holds in
-          let fits-in = kept moves offers item_of vl_of charge_of rows o past (entries_of o.byte_ns o.buffer earlier) x r served carries inv times found.stands s in
+          let fits-in = kept moves offers item_of vl_of charge_of rows o past
+                  (entries_of o.byte_ns o.buffer earlier) x r served carries inv times found.stands s in
           rw fits-in (grows item_of vl_of charge_of rows o past (entries_of o.byte_ns o.buffer earlier) x r served.rows_are carries inv times found.stands s)
 
   all-of : EachAccountMoves → ArrivalsAreOffers → (item_of : Arrival → X) (vl_of : X → ℕ) (charge_of : Entry X → ℕ)
@@ -213,11 +220,13 @@ module _ {X : Type 0} where
     owned = λ r k goes. refl;
   }
   all-of moves offers item_of vl_of charge_of rows o (x ∷ past) served carries timed =
-      next moves offers item_of vl_of charge_of rows o past (offers_at item_of rows o past) x served carries (all-of moves offers item_of vl_of charge_of rows o past served carries timed.1) timed.0
+      next moves offers item_of vl_of charge_of rows o past (offers_at item_of rows o past) x served carries
+          (all-of moves offers item_of vl_of charge_of rows o past served carries timed.1) timed.0
 
   pub entries-regulated : EachAccountMoves → ArrivalsAreOffers → EntriesAreRegulated X
   entries-regulated moves offers item_of vl_of charge_of rows o arrivals served carries timed =
-      regulated offers vl_of charge_of rows o arrivals (entries_at item_of rows o arrivals) served (all-of moves offers item_of vl_of charge_of rows o arrivals served carries timed)
+      regulated offers vl_of charge_of rows o arrivals (entries_at item_of rows o arrivals) served
+          (all-of moves offers item_of vl_of charge_of rows o arrivals served carries timed)
 
   pub entries-accepted : EachAccountMoves → ArrivalsAreOffers → EntriesAreAccepted X
   entries-accepted moves offers item_of vl_of charge_of rows o arrivals r served carries timed stands goes =
@@ -225,7 +234,8 @@ module _ {X : Type 0} where
 
   pub arrival-kept : EachAccountMoves → ArrivalsAreOffers → ArrivalIsKept X
   arrival-kept moves offers item_of vl_of charge_of rows o past x r served carries timed stands h =
-      kept moves offers item_of vl_of charge_of rows o past (entries_at item_of rows o past) x r served carries (all-of moves offers item_of vl_of charge_of rows o past served carries timed.1) timed.0 stands (sends-parts o past x r h)
+      kept moves offers item_of vl_of charge_of rows o past (entries_at item_of rows o past) x r served carries
+          (all-of moves offers item_of vl_of charge_of rows o past served carries timed.1) timed.0 stands (sends-parts o past x r h)
 
   entry-waits : EachAccountMoves → ArrivalsAreOffers →
       (item_of : Arrival → X) (vl_of : X → ℕ) (charge_of : Entry X → ℕ) (rows : List Row) (o : Output)
@@ -243,20 +253,25 @@ module _ {X : Type 0} where
 
   pub arrivals-in-time : EachAccountMoves → ArrivalsAreOffers → ArrivalsAreInTime X
   arrivals-in-time moves offers item_of vl_of charge_of rows o arrivals turns r served carries timed stands goes are =
-      in-time moves o.byte_ns o.buffer (flows_at o.number rows) vl_of charge_of (entries_at item_of rows o arrivals) turns (flow_of r) (entries-regulated moves offers item_of vl_of charge_of rows o arrivals served carries timed) are
+      in-time moves o.byte_ns o.buffer (flows_at o.number rows) vl_of charge_of (entries_at item_of rows o arrivals) turns (flow_of r)
+          (entries-regulated moves offers item_of vl_of charge_of rows o arrivals served carries timed) are
       (flow-to o.number rows r stands goes)
 
   pub arrivals-not-old : EachAccountMoves → ArrivalsAreOffers → ArrivalsAreNotOld X
   arrivals-not-old moves offers item_of vl_of charge_of rows o arrivals turns r served carries timed stands goes are waits =
       all_get (λ s. vl_of s.entry.item ≡ r.rule.vl → s.too_old ≡ false) turns
       (λ i s g named. let own = turn_at o.byte_ns (entries_at item_of rows o arrivals) turns i s are g in
-      turn-not-old moves o.byte_ns o.buffer (flows_at o.number rows) vl_of charge_of (entries_at item_of rows o arrivals) turns (flow_of r) i s (entries-regulated moves offers item_of vl_of charge_of rows o arrivals served carries timed) are
-      (flow-to o.number rows r stands goes) g named (entry-waits moves offers item_of vl_of charge_of rows o arrivals r s.place s.entry served carries timed stands waits own.next.own.stands named))
+      turn-not-old moves o.byte_ns o.buffer (flows_at o.number rows) vl_of charge_of (entries_at item_of rows o arrivals) turns (flow_of r) i s
+          (entries-regulated moves offers item_of vl_of charge_of rows o arrivals served carries timed) are
+      (flow-to o.number rows r stands goes) g named
+          (entry-waits moves offers item_of vl_of charge_of rows o arrivals r s.place s.entry served carries timed stands waits own.next.own.stands named))
 
   pub arrivals-left : EachAccountMoves → ArrivalsAreOffers → ArrivalsHaveLeft X
   arrivals-left moves offers item_of vl_of charge_of rows o arrivals turns r until place e served carries timed stands goes are waits next at named over =
-      each-left moves o.byte_ns o.buffer (flows_at o.number rows) vl_of charge_of (entries_at item_of rows o arrivals) turns (flow_of r) until place e (entries-regulated moves offers item_of vl_of charge_of rows o arrivals served carries timed) are
-      (flow-to o.number rows r stands goes) next at named (entry-waits moves offers item_of vl_of charge_of rows o arrivals r place e served carries timed stands waits at named) over
+      each-left moves o.byte_ns o.buffer (flows_at o.number rows) vl_of charge_of (entries_at item_of rows o arrivals) turns (flow_of r) until place e
+          (entries-regulated moves offers item_of vl_of charge_of rows o arrivals served carries timed) are
+      (flow-to o.number rows r stands goes) next at named
+          (entry-waits moves offers item_of vl_of charge_of rows o arrivals r place e served carries timed stands waits at named) over
 
   -- nothing is lost
   pub offers-enter : EachAccountMoves → ArrivalsAreOffers → OffersEnter X
@@ -267,12 +282,14 @@ module _ {X : Type 0} where
     where
       by_find : (w : Option Row) → find (sends o past x) rows ≡ w →
           entries_at item_of rows o past ≡ reverse (offers_at item_of rows o past) →
-          entries_of o.byte_ns o.buffer (with_sent item_of x w (offers_at item_of rows o past)) ≡ reverse (with_sent item_of x w (offers_at item_of rows o past))
+          entries_of o.byte_ns o.buffer (with_sent item_of x w (offers_at item_of rows o past))
+              ≡ reverse (with_sent item_of x w (offers_at item_of rows o past))
       by_find None h rest = rest
       by_find (Some r) h rest =
           let found = find-some (sends o past x) rows r h in
           let fits-in = arrival-kept moves offers item_of vl_of charge_of rows o past x r served carries timed found.stands found.holds in
-          cond-false (is_lost o.byte_ns o.buffer (entries_at item_of rows o past) (entry_of item_of r x)) (entries_at item_of rows o past) (entries_at item_of rows o past ++ entry_of item_of r x ∷ []) fits-in
+          cond-false (is_lost o.byte_ns o.buffer (entries_at item_of rows o past) (entry_of item_of r x)) (entries_at item_of rows o past)
+              (entries_at item_of rows o past ++ entry_of item_of r x ∷ []) fits-in
           ∙ ap (λ es. es ++ entry_of item_of r x ∷ []) rest ∙ sym (reverse-append (entry_of item_of r x ∷ []) (offers_at item_of rows o past))
 
   with-found : (item_of : Arrival → X) (x : Arrival) (p : Row → Bool) (rows : List Row) (offers : List (Entry X))

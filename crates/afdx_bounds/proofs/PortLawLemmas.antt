@@ -20,19 +20,24 @@ module _ {X : Type 0} where
 
   -- a port is quiet where its next turn is given later
   abbrev QuietIsNext : (X → Facts) → Type 0
-  QuietIsNext facts = (p : Pending X) (h : History X) (t : ℕ) → StandsFor facts p h → (IsQuiet facts p t ↔ ((s : Turn X) → IsNext h.byte_ns h.entries h.taken s → IsAfter t (due_at s)))
+  QuietIsNext facts = (p : Pending X) (h : History X) (t : ℕ) → StandsFor facts p h →
+      (IsQuiet facts p t ↔ ((s : Turn X) → IsNext h.byte_ns h.entries h.taken s → IsAfter t (due_at s)))
 
   pub put-kept : EachAccountMoves → (facts : X → Facts) → PutIsKept facts
   put-kept moves facts p h flows vl_of charge_of new port more =
-      none-lost moves h.byte_ns h.buffer flows vl_of charge_of h.entries (schedule_of h.byte_ns h.entries) new more (schedule_of_is h.byte_ns h.entries port.regulated.in_order)
+      none-lost moves h.byte_ns h.buffer flows vl_of charge_of h.entries (schedule_of h.byte_ns h.entries) new more
+          (schedule_of_is h.byte_ns h.entries port.regulated.in_order)
 
   pub taken-in-time : EachAccountMoves → (facts : X → Facts) → TakenAreTurns facts → TakenAreInTime facts
-  taken-in-time moves facts are p h flows vl_of charge_of f port flow = in-time moves h.byte_ns h.buffer flows vl_of charge_of h.entries h.taken f port.regulated (are p h port.stands) flow
+  taken-in-time moves facts are p h flows vl_of charge_of f port flow =
+      in-time moves h.byte_ns h.buffer flows vl_of charge_of h.entries h.taken f port.regulated (are p h port.stands) flow
 
   pub taken-not-old : EachAccountMoves → (facts : X → Facts) → TakenAreTurns facts → TakenAreNotOld facts
-  taken-not-old moves facts are p h flows vl_of charge_of f port flow = none-too-old moves h.byte_ns h.buffer flows vl_of charge_of h.entries h.taken f port.regulated (are p h port.stands) flow
+  taken-not-old moves facts are p h flows vl_of charge_of f port flow =
+      none-too-old moves h.byte_ns h.buffer flows vl_of charge_of h.entries h.taken f port.regulated (are p h port.stands) flow
 
   pub all-taken : EachAccountMoves → (facts : X → Facts) → TakenAreTurns facts → QuietIsNext facts →
       AllWereTaken facts
   all-taken moves facts are next p h flows vl_of charge_of f t place e port flow quiet =
-      each-left moves h.byte_ns h.buffer flows vl_of charge_of h.entries h.taken f t place e port.regulated (are p h port.stands) flow ((next p h t port.stands).0 quiet)
+      each-left moves h.byte_ns h.buffer flows vl_of charge_of h.entries h.taken f t place e port.regulated (are p h port.stands) flow
+          ((next p h t port.stands).0 quiet)

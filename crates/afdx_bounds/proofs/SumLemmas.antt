@@ -1,10 +1,11 @@
 -- The sums over the flows at a port.
-use Rattle.std.proofs.Common.{◌≡◌, ℕ, ◌+◌, ◌*◌, ◌-◌, ◌<◌, ◌≤◌, ◌==◌, ◌&&◌, ◌||◌, Bool, true, false, List, [], ◌∷◌, ◌++◌, length, map, filter, inl, inr, refl, sym, ap, arith, ◌∙◌, suc, zero, if◌then◌else◌}
+use Rattle.std.proofs.Common.{◌≡◌, ℕ, ◌+◌, ◌*◌, ◌-◌, ◌<◌, ◌≤◌, ◌==◌, ◌&&◌, ◌||◌, Bool, true, false, List, [], ◌∷◌, ◌++◌, length, map, filter, inl, inr, refl}
+use Rattle.std.proofs.Common.{sym, ap, arith, ◌∙◌, suc, zero, if◌then◌else◌}
 use Rattle.std.specs.Prelude.{nat_le, IsTrue, sum_by, All, Contains, slice_index_or, reverse}
 use Rattle.std.specs.List.{list_any}
 use Rattle.std.proofs.lemmas.List.{reverse-append, map-append, append-nil}
 use Rattle.std.proofs.lemmas.List.Elements.{All-contains, filter-append}
-use Rattle.std.proofs.lemmas.Bool.{eqb-true}
+use Rattle.std.proofs.lemmas.Bool.{cases_Bool, eqb-true}
 use Rattle.std.proofs.lemmas.List.Sums.{sum_by-cons}
 use Rattle.afdx_frame.specs.declared.link.Priority.{Priority}
 use Rattle.afdx_frame.specs.declared.link.Priority.TheVariants.{High, Low}
@@ -17,7 +18,6 @@ use Rattle.afdx_police.specs.Laws.{EachAccountMoves}
 use Rattle.afdx_police.specs.Rule.{is_bag}
 use Rattle.afdx_bounds.specs.Curve.{Curve, KeepsCurve, wire_in, wire_between}
 use Rattle.afdx_bounds.specs.Policed.{AreFlows, charged_as, charged_to, IsCharged, ArePoliced}
-use Rattle.afdx_bounds.proofs.WorkLemmas.{bool_cases}
 use Rattle.afdx_bounds.proofs.FlowLemmas.{charged_in, charged_between, between-append, window-missing, accepted-keeps}
 use Rattle.afdx_bounds.proofs.ListLemmas.{contains_head, contains_tail}
 
@@ -104,8 +104,9 @@ sum-bound g h r gap class [] each = omega arith
 sum-bound g h r gap class (f ∷ fs) each =
     let rest = sum-bound g h r gap class fs (λ d k. each d (contains_tail f fs d k)) in
     let first = each f (contains_head f fs) in
-    elim (bool_cases (is_class class f.priority)) [
-      | inl is ↦ rw (is, sum_by-cons g f (of_class class fs), sum_by-cons h f (of_class class fs), sum_by-cons r f (of_class class fs)) (omega (arith, rest, first))
+    elim (cases_Bool (is_class class f.priority)) [
+      | inl is ↦ rw (is, sum_by-cons g f (of_class class fs), sum_by-cons h f (of_class class fs), sum_by-cons r f (of_class class fs))
+            (omega (arith, rest, first))
       | inr is ↦ rw is rest
     ]
 
@@ -134,7 +135,8 @@ module _ {X : Type 0} where
   -- the wire bytes of the entries of these flows
   abbrev wire_among : (X → ℕ) → Priority → ℕ → ℕ → List Flow → List (Entry X) → ℕ
   wire_among vl_of class since until fs [] = 0
-  wire_among vl_of class since until fs (e ∷ es) = (if among fs (vl_of e.item) then wire_in class since until e else 0) + wire_among vl_of class since until fs es
+  wire_among vl_of class since until fs (e ∷ es) =
+      (if among fs (vl_of e.item) then wire_in class since until e else 0) + wire_among vl_of class since until fs es
 
   among-all : (vl_of : X → ℕ) (charge_of : Entry X → ℕ) (flows : List Flow) (class : Priority) (since until : ℕ)
       (es : List (Entry X)) → All (λ e. IsCharged vl_of charge_of flows e) es →
@@ -154,14 +156,15 @@ module _ {X : Type 0} where
   -- what is charged from `since` to `until` for the entries of one link
   abbrev charged_own : (X → ℕ) → (Entry X → ℕ) → ℕ → ℕ → ℕ → List (Entry X) → ℕ
   charged_own vl_of charge_of since until vl [] = 0
-  charged_own vl_of charge_of since until vl (e ∷ es) = (if vl_of e.item == vl then charged_in since until (charged_as charge_of e) else 0) + charged_own vl_of charge_of since until vl es
+  charged_own vl_of charge_of since until vl (e ∷ es) =
+      (if vl_of e.item == vl then charged_in since until (charged_as charge_of e) else 0) + charged_own vl_of charge_of since until vl es
 
   own-is : (vl_of : X → ℕ) (charge_of : Entry X → ℕ) (since until vl : ℕ) (es : List (Entry X)) →
       charged_own vl_of charge_of since until vl es ≡ charged_between since until (charged_to vl_of charge_of vl es)
   own-is vl_of charge_of since until vl [] = refl
   own-is vl_of charge_of since until vl (e ∷ es) =
       let rest = own-is vl_of charge_of since until vl es in
-      elim (bool_cases (vl_of e.item == vl)) [
+      elim (cases_Bool (vl_of e.item == vl)) [
         | inr other ↦ rw other (omega (arith, rest))
         | inl own ↦ (let last = reverse-append (charged_as charge_of e ∷ []) (map (charged_as charge_of) (filter (λ d. vl_of d.item == vl) es)) in
             let append = between-append since until (charged_to vl_of charge_of vl es) (charged_as charge_of e ∷ []) in
@@ -172,9 +175,9 @@ module _ {X : Type 0} where
   part-charged : (charge_of : Entry X → ℕ) (class : Priority) (since until : ℕ) (e : Entry X) →
       e.bytes + 20 ≤ charge_of e → wire_in class since until e ≤ charged_in since until (charged_as charge_of e)
   part-charged charge_of class since until e least =
-      elim (bool_cases (is_class class e.priority)) [
+      elim (cases_Bool (is_class class e.priority)) [
         | inr other ↦ rw other (omega arith)
-        | inl own ↦ elim (bool_cases (nat_le since e.time && nat_le e.time until)) [
+        | inl own ↦ elim (cases_Bool (nat_le since e.time && nat_le e.time until)) [
           | inl counted ↦ rw (own, counted) (omega (arith, least))
           | inr out ↦ rw (own, out) (omega arith)
         ]
@@ -184,16 +187,17 @@ module _ {X : Type 0} where
   step : (vl_of : X → ℕ) (charge_of : Entry X → ℕ) (flows : List Flow) (class : Priority) (since until : ℕ)
       (f : Flow) (fs : List Flow) → AreFlows flows → Contains flows f → (es : List (Entry X)) →
       All (λ e. IsCharged vl_of charge_of flows e) es →
-      wire_among vl_of class since until (f ∷ fs) es ≤ (if is_class class f.priority then charged_own vl_of charge_of since until f.vl es else 0) + wire_among vl_of class since until fs es
+      wire_among vl_of class since until (f ∷ fs) es ≤ (if is_class class f.priority then charged_own vl_of charge_of since until f.vl es else 0)
+          + wire_among vl_of class since until fs es
   step vl_of charge_of flows class since until f fs links own [] each = omega arith
   step vl_of charge_of flows class since until f fs links own (e ∷ es) each =
       let rest = step vl_of charge_of flows class since until f fs links own es (λ k d lt. each (suc k) d (omega (arith, lt))) in
       let here : IsCharged vl_of charge_of flows e = each 0 e (omega arith) in
-      elim (bool_cases (vl_of e.item == f.vl)) [
+      elim (cases_Bool (vl_of e.item == f.vl)) [
         | inl same ↦ (let named : vl_of e.item ≡ f.vl = eqb-true (vl_of e.item) f.vl same in
             let is-own : here.flow ≡ f = links.distinct here.flow f here.stands own (here.named ∙ named) in
             let classes : e.priority ≡ f.priority = here.class ∙ ap (λ z. z.priority) is-own in
-            elim (bool_cases (is_class class f.priority)) [
+            elim (cases_Bool (is_class class f.priority)) [
               | inl is ↦ (let charge = part-charged charge_of class since until e here.at_least in
                   let old = rw is at rest in
                   rw (same, is) (omega (arith, charge, old)))
@@ -201,7 +205,7 @@ module _ {X : Type 0} where
                   let none : is_class class e.priority ≡ false = rw classes is in
                   rw (same, is, none) (omega (arith, old)))
             ])
-        | inr other ↦ elim (bool_cases (is_class class f.priority)) [
+        | inr other ↦ elim (cases_Bool (is_class class f.priority)) [
           | inl is ↦ (let old = rw is at rest in rw (other, is) (omega (arith, old)))
           | inr is ↦ (let old = rw is at rest in rw (other, is) (omega (arith, old)))
         ]
@@ -216,7 +220,7 @@ module _ {X : Type 0} where
   among-flows vl_of charge_of flows class since until es links each (f ∷ fs) part =
       let rest = among-flows vl_of charge_of flows class since until es links each fs (λ d k. part d (contains_tail f fs d k)) in
       let first = step vl_of charge_of flows class since until f fs links (part f (contains_head f fs)) es each in
-      elim (bool_cases (is_class class f.priority)) [
+      elim (cases_Bool (is_class class f.priority)) [
         | inl is ↦ (let split = rw is at first in
             rw (is, sum_by-cons (λ d. charged_own vl_of charge_of since until d.vl es) f (of_class class fs)) (omega (arith, split, rest)))
         | inr is ↦ (let split = rw is at first in rw is (omega (arith, split, rest)))
@@ -256,16 +260,18 @@ module _ {X : Type 0} where
       let g : Flow → ℕ = λ f. charged_own vl_of charge_of since now f.vl entries in
       let all = wire-charged vl_of charge_of flows class since now entries links each in
       let sum = sum-bound g (λ f. missing f.link (charged_to vl_of charge_of f.vl entries) now) (λ f. fill_rate f.link) (now - since) class flows
-      (λ f k. let is = own-is vl_of charge_of since now f.vl entries in omega (arith, is, window-missing f.link since now now (charged_to vl_of charge_of f.vl entries))) in
+      (λ f k. let is = own-is vl_of charge_of since now f.vl entries in
+          omega (arith, is, window-missing f.link since now now (charged_to vl_of charge_of f.vl entries))) in
       omega (arith, all, sum)
 
   -- a further entry is the newest of its link
   pub charged-push : (vl_of : X → ℕ) (charge_of : Entry X → ℕ) (vl : ℕ) (es : List (Entry X)) (e : Entry X) →
-      charged_to vl_of charge_of vl (es ++ e ∷ []) ≡ (if vl_of e.item == vl then charged_as charge_of e ∷ charged_to vl_of charge_of vl es else charged_to vl_of charge_of vl es)
+      charged_to vl_of charge_of vl (es ++ e ∷ []) ≡ (if vl_of e.item == vl then charged_as charge_of e ∷ charged_to vl_of charge_of vl es
+          else charged_to vl_of charge_of vl es)
   charged-push vl_of charge_of vl es e =
       let own = filter-append (λ d. vl_of d.item == vl) es (e ∷ []) in
       let split = ap (λ ds. reverse (map (charged_as charge_of) ds)) own in
-      elim (bool_cases (vl_of e.item == vl)) [
+      elim (cases_Bool (vl_of e.item == vl)) [
         | inl is ↦ (let seen = map-append (charged_as charge_of) (filter (λ d. vl_of d.item == vl) es) (e ∷ []) in
             let back = reverse-append (map (charged_as charge_of) (filter (λ d. vl_of d.item == vl) es)) (charged_as charge_of e ∷ []) in
             rw is at split ∙ rw is (ap reverse seen ∙ back))

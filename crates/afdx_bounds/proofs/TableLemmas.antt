@@ -1,8 +1,9 @@
 -- The ports of admitted tables.
-use Rattle.std.proofs.Common.{◌≡◌, ℕ, ◌+◌, ◌*◌, ◌/◌, ◌<◌, ◌≤◌, ◌==◌, Bool, true, false, ◌||◌, List, [], ◌∷◌, length, map, filter, Some, inl, inr, refl, sym, ap, subst, arith, ◌∙◌, suc, zero, if◌then◌else◌}
+use Rattle.std.proofs.Common.{◌≡◌, ℕ, ◌+◌, ◌*◌, ◌/◌, ◌<◌, ◌≤◌, ◌==◌, Bool, true, false, ◌||◌, List, [], ◌∷◌, length, map, filter, Some, inl, inr, refl, sym, ap}
+use Rattle.std.proofs.Common.{subst, arith, ◌∙◌, suc, zero, if◌then◌else◌}
 use Rattle.std.specs.Prelude.{All, Contains, IsTrue, nat_eq, slice_index_or, sum_by}
 use Rattle.std.specs.List.{slice_get, AllByRecursion}
-use Rattle.std.proofs.lemmas.Bool.{eqb-true}
+use Rattle.std.proofs.lemmas.Bool.{cases_Bool, eqb-true}
 use Rattle.std.proofs.lemmas.List.Sums.{sum_by-cons}
 use Rattle.afdx_frame.specs.declared.link.Priority.{Priority}
 use Rattle.afdx_frame.specs.Flows.{Flow, IsPortAdmitted}
@@ -14,7 +15,6 @@ use Rattle.afdx_police.specs.Rule.{is_bag}
 use Rattle.afdx_bounds.specs.Outputs.{AreRows, flows_at}
 use Rattle.afdx_bounds.specs.Sender.{one_of_each, IsSent}
 use Rattle.afdx_bounds.specs.Tables.{row_of, rows_of, EachOutputIsServed, sent_flow, sent_flows, EachSystemIsSender}
-use Rattle.afdx_bounds.proofs.WorkLemmas.{bool_cases}
 
 is-bag : (ms : ℕ) → IsOneOf gaps ms → IsTrue (is_bag ms)
 is-bag ms h = h
@@ -25,11 +25,13 @@ rate-line profile s is = by_profile (profile == 2) s.rate is.rate
   where
     one-of : (n rate : ℕ) (rest : Bool) → (nat_eq n rate || rest) ≡ true → 8 ≤ 8000 / n →
         (rest ≡ true → 8 ≤ 8000 / rate) → 8 ≤ 8000 / rate
-    one-of n rate rest h here other = elim (bool_cases (nat_eq n rate)) [ inl is ↦ subst (λ (m : ℕ). 8 ≤ 8000 / m) (eqb-true n rate is) here | inr isnt ↦ other (rw isnt at h) ]
+    one-of n rate rest h here other =
+        elim (cases_Bool (nat_eq n rate)) [ inl is ↦ subst (λ (m : ℕ). 8 ≤ 8000 / m) (eqb-true n rate is) here | inr isnt ↦ other (rw isnt at h) ]
 
     by_profile : (second : Bool) (rate : ℕ) → IsOneOf (if second then 10 ∷ 100 ∷ 1000 ∷ [] else 10 ∷ 100 ∷ []) rate →
         8 ≤ 8000 / rate
-    by_profile true rate h = one-of 10 rate _ h (omega arith) (λ k. one-of 100 rate _ k (omega arith) (λ m. one-of 1000 rate _ m (omega arith) (λ none. absurd (cc none))))
+    by_profile true rate h =
+        one-of 10 rate _ h (omega arith) (λ k. one-of 100 rate _ k (omega arith) (λ m. one-of 1000 rate _ m (omega arith) (λ none. absurd (cc none))))
     by_profile false rate h = one-of 10 rate _ h (omega arith) (λ k. one-of 100 rate _ k (omega arith) (λ none. absurd (cc none)))
 
 pub each-at : {Y : Type 0} (P : Y → Type 0) (xs : List Y) (i : ℕ) (y : Y) → AllByRecursion P xs →
@@ -49,7 +51,8 @@ mapped-at : {Y Z : Type 0} (f : Y → Z) (xs : List Y) (i : ℕ) (z : Z) → i <
     slice_index_or (map f xs) i z ≡ z → Mapped f xs z
 mapped-at f [] i z lt at = absurd (omega (arith, lt))
 mapped-at f (x ∷ xs) zero z lt at = record { place = 0; own = x; stands = refl; is = at }
-mapped-at f (x ∷ xs) (suc i) z lt at = let rest = mapped-at f xs i z (omega (arith, lt)) at in record { place = suc rest.place; own = rest.own; stands = rest.stands; is = rest.is }
+mapped-at f (x ∷ xs) (suc i) z lt at =
+    let rest = mapped-at f xs i z (omega (arith, lt)) at in record { place = suc rest.place; own = rest.own; stands = rest.stands; is = rest.is }
 
 mapped : {Y Z : Type 0} (f : Y → Z) (xs : List Y) (z : Z) → Contains (map f xs) z → Mapped f xs z
 mapped f xs z h = mapped-at f xs h.0 z h.1 h.2
@@ -65,7 +68,7 @@ filtered : {Y : Type 0} (p : Y → Bool) (xs : List Y) (i : ℕ) (y : Y) → sli
     (j : ℕ) × (slice_get xs j ≡ Some y)
 filtered p [] i y at = absurd (cc at)
 filtered p (x ∷ xs) i y at =
-    elim (bool_cases (p x)) [
+    elim (cases_Bool (p x)) [
       | inr out ↦ (let rest = filtered p xs i y (rw out at at) in (suc rest.0, rest.1))
       | inl kept ↦ by_place i (rw kept at at) (λ k h. filtered p xs k y h)
     ]
@@ -87,7 +90,8 @@ one-link links i j k l distinct at there same =
 
 pub rows-are : (t : Rows) → IsLawful t → AreRows (rows_of t)
 rows-are t lawful = record {
-  gaps = all-mapped (λ r. IsTrue (is_bag r.rule.bag_ms)) (row_of t) t.links (λ i l at. is-bag l.bag_ms (each-at (IsLink (length t.systems)) t.links i l lawful.links.each at).bag_ms);
+  gaps = all-mapped (λ r. IsTrue (is_bag r.rule.bag_ms)) (row_of t) t.links
+      (λ i l at. is-bag l.bag_ms (each-at (IsLink (length t.systems)) t.links i l lawful.links.each at).bag_ms);
   distinct = λ r s k l same. (let a = mapped (row_of t) t.links r k in
       let b = mapped (row_of t) t.links s l in
       let vls : a.own.vl ≡ b.own.vl = ap (λ z. z.rule.vl) a.is ∙ same ∙ sym (ap (λ z. z.rule.vl) b.is) in
@@ -99,7 +103,7 @@ flows-same : (t : Rows) (system : ℕ) (links : List LinkRow) →
 flows-same t system [] = refl
 flows-same t system (l ∷ ls) =
     let rest = flows-same t system ls in
-    elim (bool_cases (is_to system l)) [ inl goes ↦ rw goes (ap (λ fs. flow_of l ∷ fs) rest) | inr stays ↦ rw stays rest ]
+    elim (cases_Bool (is_to system l)) [ inl goes ↦ rw goes (ap (λ fs. flow_of l ∷ fs) rest) | inr stays ↦ rw stays rest ]
 
 pub output-served : EachOutputIsServed
 output-served t side system s lawful admitted at =
@@ -116,7 +120,8 @@ sent-sum : (b : ℕ) (class : Priority) (own links : List LinkRow) →
 sent-sum b class own [] = refl
 sent-sum b class own (l ∷ ls) =
     let rest = sent-sum b class own ls in
-    rw (sum_by-cons (λ f. f.link.smax * b) (sent_flow b class own l) (map (sent_flow b class own) ls), sum_by-cons (λ k. (k.lmax + 20) * b) l ls) (omega (arith, rest))
+    rw (sum_by-cons (λ f. f.link.smax * b) (sent_flow b class own l) (map (sent_flow b class own) ls), sum_by-cons (λ k. (k.lmax + 20) * b) l ls)
+        (omega (arith, rest))
 
 pub system-sender : EachSystemIsSender
 system-sender t class system s lawful admitted at =
@@ -134,8 +139,10 @@ system-sender t class system s lawful admitted at =
             let a-in = filtered (λ m. nat_eq m.from system) t.links a.place a.own a.stands in
             let b-in = filtered (λ m. nat_eq m.from system) t.links b.place b.own b.stands in
             let vls : a.own.vl ≡ b.own.vl = ap (λ z. z.vl) a.is ∙ same ∙ sym (ap (λ z. z.vl) b.is) in
-            sym a.is ∙ ap (λ z. sent_flow (byte_ns s) class own z) (one-link t.links a-in.0 b-in.0 a.own b.own lawful.links.identifiers a-in.1 b-in.1 vls) ∙ b.is);
+            sym a.is ∙ ap (λ z. sent_flow (byte_ns s) class own z)
+                (one-link t.links a-in.0 b-in.0 a.own b.own lawful.links.identifiers a-in.1 b-in.1 vls) ∙ b.is);
       };
       jitter = omega (arith, sum, jitter);
-      each = all-mapped (λ f. IsSent (byte_ns s) class (sent_flows t class system s) f) (sent_flow (byte_ns s) class own) own (λ i l k. record { own_class = refl; regular = refl; waits = sym sum });
+      each = all-mapped (λ f. IsSent (byte_ns s) class (sent_flows t class system s) f) (sent_flow (byte_ns s) class own) own
+          (λ i l k. record { own_class = refl; regular = refl; waits = sym sum });
     }

@@ -1,9 +1,10 @@
 -- What an accepted arrival looks like, and what it adds to its link's accepted ones.
-use Rattle.std.proofs.Common.{◌≡◌, ℕ, ◌≤◌, ◌==◌, ◌&&◌, Bool, true, false, List, [], ◌∷◌, length, Option, Some, None, inl, inr, refl, sym, subst, arith, ◌∙◌, if◌then◌else◌}
+use Rattle.std.proofs.Common.{◌≡◌, ℕ, ◌≤◌, ◌==◌, ◌&&◌, Bool, true, false, List, [], ◌∷◌, length, Option, Some, None, inl, inr, refl, sym, subst, arith, ◌∙◌}
+use Rattle.std.proofs.Common.{if◌then◌else◌}
 use Rattle.std.specs.Prelude.{find, not, nat_lt, is_none, option_map}
 use Rattle.std.specs.Option.{option_map_or, option_or}
 use Rattle.std.specs.List.{AllByRecursion}
-use Rattle.std.proofs.lemmas.Bool.{cases_lt, eqb-true}
+use Rattle.std.proofs.lemmas.Bool.{not-false, cases_Bool, cases_lt, eqb-true}
 use Rattle.afdx_frame.specs.Layout.{link_named_by}
 use Rattle.afdx_frame.specs.declared.link.Policing.{Policing}
 use Rattle.afdx_frame.specs.declared.link.Policing.TheVariants.{Byte, Frame}
@@ -20,11 +21,11 @@ use Rattle.afdx_police.specs.Verdicts.{charged_by, drop_reason, accepted_own, re
 use Rattle.afdx_police.specs.Window.{Charged, fits}
 use Rattle.afdx_port.proofs.TurnLemmas.{nat_lt-true}
 use Rattle.afdx_bounds.specs.Outputs.{Row, accepts}
-use Rattle.afdx_bounds.proofs.WorkLemmas.{bool_cases}
 
 find-none : (xs : List (Bool × Reason)) → find (λ f. f.0) xs ≡ None → AllByRecursion (λ f. f.0 ≡ false) xs
 find-none [] h = tt
-find-none (x ∷ xs) h = elim (bool_cases x.0) [ inl found ↦ absurd (let k = rw found at h in cc k) | inr not-found ↦ (not-found, find-none xs (rw not-found at h)) ]
+find-none (x ∷ xs) h =
+    elim (cases_Bool x.0) [ inl found ↦ absurd (let k = rw found at h in cc k) | inr not-found ↦ (not-found, find-none xs (rw not-found at h)) ]
 
 map-none : {Y Z : Type 0} (f : Y → Z) (o : Option Y) → option_map f o ≡ None → o ≡ None
 map-none f None h = refl
@@ -39,10 +40,6 @@ clean-from : (fault : Option Reason) (fit : Bool) →
 clean-from None true h = record { clean = refl; fits-in = refl }
 clean-from None false h = absurd (cc h)
 clean-from (Some r) fit h = absurd (cc h)
-
-not-false : (b : Bool) → not b ≡ false → b ≡ true
-not-false true h = refl
-not-false false h = absurd (cc h)
 
 not-less : (a b : ℕ) → nat_lt a b ≡ false → b ≤ a
 not-less a b h = elim (cases_lt a b) [ inl lt ↦ absurd (let k = nat_lt-true a b lt in cc (h, k)) | inr ge ↦ ge ]
@@ -94,7 +91,8 @@ one-name a b bytes h k = same-named (link_named_by bytes) a b h k
 own-more : (rule : Rule) (side : Side) (past : List Arrival) (x : Arrival) (accepted : Bool) → side ≡ x.side →
     is_none (reason_after rule (own rule.vl x.side past) x) ≡ accepted → names rule.vl x.bytes ≡ true →
     is_side side x.side ≡ true →
-    accepted_own rule (own rule.vl side (x ∷ past)) ≡ (if accepted then charged_by rule x ∷ accepted_own rule (own rule.vl side past) else accepted_own rule (own rule.vl side past))
+    accepted_own rule (own rule.vl side (x ∷ past)) ≡ (if accepted then charged_by rule x ∷ accepted_own rule (own rule.vl side past) else accepted_own rule
+        (own rule.vl side past))
 unfolding reason_after accepted_own
 own-more rule side past x accepted same is named on =
     let P : Side → Type 0 = λ s. is_none (drop_reason rule (accepted_own rule (own rule.vl s past)) x) ≡ accepted in
@@ -108,15 +106,17 @@ both-then false b xs ys h k = absurd (cc h)
 
 -- one more arrival is among the accepted ones of its link on its side, if it is accepted
 pub accepted-more : (r : Row) (side : Side) (past : List Arrival) (x : Arrival) →
-    accepted_own r.rule (own r.rule.vl side (x ∷ past)) ≡ (if accepts past x r && is_side side x.side then charged_by r.rule x ∷ accepted_own r.rule (own r.rule.vl side past) else accepted_own r.rule (own r.rule.vl side past))
+    accepted_own r.rule (own r.rule.vl side (x ∷ past)) ≡ (if accepts past x r && is_side side x.side then charged_by r.rule x ∷ accepted_own r.rule
+        (own r.rule.vl side past) else accepted_own r.rule (own r.rule.vl side past))
 accepted-more r side past x =
-    elim (bool_cases (is_side side x.side)) [
-      | inr other ↦ elim (bool_cases (accepts past x r)) [ inl is ↦ rw (other, is) refl | inr isnt ↦ rw (other, isnt) refl ]
-      | inl on ↦ elim (bool_cases (accepts past x r)) [
+    elim (cases_Bool (is_side side x.side)) [
+      | inr other ↦ elim (cases_Bool (accepts past x r)) [ inl is ↦ rw (other, is) refl | inr isnt ↦ rw (other, isnt) refl ]
+      | inl on ↦ elim (cases_Bool (accepts past x r)) [
         | inl is ↦ (let l = looks r past x is in
             own-more r.rule side past x true (same-side side x.side on) is l.named on
-            ∙ both-then (accepts past x r) (is_side side x.side) (charged_by r.rule x ∷ accepted_own r.rule (own r.rule.vl side past)) (accepted_own r.rule (own r.rule.vl side past)) is on)
-        | inr isnt ↦ elim (bool_cases (names r.rule.vl x.bytes)) [
+            ∙ both-then (accepts past x r) (is_side side x.side) (charged_by r.rule x ∷ accepted_own r.rule (own r.rule.vl side past))
+                (accepted_own r.rule (own r.rule.vl side past)) is on)
+        | inr isnt ↦ elim (cases_Bool (names r.rule.vl x.bytes)) [
           | inl named ↦ (let more = own-more r.rule side past x false (same-side side x.side on) isnt named on in rw isnt more)
           | inr other ↦ rw (isnt, on, other) refl
         ]

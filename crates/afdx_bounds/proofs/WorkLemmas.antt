@@ -1,18 +1,15 @@
 -- The weights of the entries without a turn.
-use Rattle.std.proofs.Common.{◌≡◌, ◌≢◌, ℕ, ◌+◌, ◌<◌, ◌≤◌, ◌&&◌, ◌||◌, Bool, true, false, List, [], ◌∷◌, ◌++◌, Some, ◌⊎◌, inl, inr, refl, ap, subst, arith, if◌then◌else◌, suc, zero}
+use Rattle.std.proofs.Common.{◌≡◌, ◌≢◌, ℕ, ◌+◌, ◌<◌, ◌≤◌, ◌&&◌, ◌||◌, Bool, true, false, List, [], ◌∷◌, ◌++◌, Some, ◌⊎◌, inl, inr, refl, ap, subst, arith}
+use Rattle.std.proofs.Common.{if◌then◌else◌, suc, zero}
 use Rattle.std.specs.Prelude.{nat_le}
 use Rattle.std.specs.List.{slice_get}
-use Rattle.std.proofs.lemmas.Bool.{le-leb, leb-true}
+use Rattle.std.proofs.lemmas.Bool.{cases_Bool, le-leb, leb-true}
 use Rattle.afdx_frame.specs.declared.link.Priority.{Priority}
 use Rattle.afdx_frame.specs.declared.link.Priority.TheVariants.{High, Low}
 use Rattle.afdx_port.specs.Schedule.{Entry, Turn, has_turn, bytes_without_turn}
 use Rattle.afdx_frame.specs.Flows.{is_class}
 use Rattle.afdx_port.proofs.TurnLemmas.{eqb-same, eqb-other}
 use Rattle.afdx_bounds.specs.Curve.{comes_between, wire_in, wire_between, left_over}
-
-pub bool_cases : (b : Bool) → (b ≡ true) ⊎ (b ≡ false)
-bool_cases true = inl refl
-bool_cases false = inr refl
 
 pub or-false : (a b : Bool) → (a || b) ≡ false → b ≡ false
 or-false true b h = absurd (cc h)
@@ -66,8 +63,9 @@ module _ {X : Type 0} where
       left_over weight turns place es ≤ wire_between High since u es + wire_between Low since v es
   both_classes weight turns since u v place [] each = omega arith
   both_classes weight turns since u v place (e ∷ es) each =
-      let rest = both_classes weight turns since u v (place + 1) es (λ i d g free. each (suc i) d g (subst (λ (p : ℕ). has_turn turns p ≡ false) (omega arith) free)) in
-      elim (bool_cases (has_turn turns place)) [
+      let rest = both_classes weight turns since u v (place + 1) es
+              (λ i d g free. each (suc i) d g (subst (λ (p : ℕ). has_turn turns p ≡ false) (omega arith) free)) in
+      elim (cases_Bool (has_turn turns place)) [
         | inl has ↦ rw has (omega (arith, rest))
         | inr free ↦ (let here = each 0 e refl (subst (λ (p : ℕ). has_turn turns p ≡ false) (omega arith) free) in rw free (omega (arith, rest, here)))
       ]
@@ -79,8 +77,9 @@ module _ {X : Type 0} where
       left_over weight turns place es ≤ wire_between class since until es
   one_class weight turns class since until place [] each = omega arith
   one_class weight turns class since until place (e ∷ es) each =
-      let rest = one_class weight turns class since until (place + 1) es (λ i d g free. each (suc i) d g (subst (λ (p : ℕ). has_turn turns p ≡ false) (omega arith) free)) in
-      elim (bool_cases (has_turn turns place)) [
+      let rest = one_class weight turns class since until (place + 1) es
+              (λ i d g free. each (suc i) d g (subst (λ (p : ℕ). has_turn turns p ≡ false) (omega arith) free)) in
+      elim (cases_Bool (has_turn turns place)) [
         | inl has ↦ rw has (omega (arith, rest))
         | inr free ↦ (let here = each 0 e refl (subst (λ (p : ℕ). has_turn turns p ≡ false) (omega arith) free) in rw free (omega (arith, rest, here)))
       ]
@@ -93,7 +92,7 @@ module _ {X : Type 0} where
   bytes_weigh weight turns place (e ∷ es) each =
       let rest = bytes_weigh weight turns (place + 1) es (λ i d g. each (suc i) d g) in
       let here = each 0 e refl in
-      elim (bool_cases (has_turn turns place)) [ inl has ↦ rw has (omega (arith, rest)) | inr free ↦ rw free (omega (arith, rest, here)) ]
+      elim (cases_Bool (has_turn turns place)) [ inl has ↦ rw has (omega (arith, rest)) | inr free ↦ rw free (omega (arith, rest, here)) ]
 
   pub same_left : (v w : Entry X → ℕ) (turns : List (Turn X)) (place : ℕ) (es : List (Entry X)) →
       ((i : ℕ) (e : Entry X) → slice_get es i ≡ Some e → v e ≡ w e) →
@@ -109,7 +108,7 @@ module _ {X : Type 0} where
   left_add v w turns place [] = refl
   left_add v w turns place (e ∷ es) =
       let rest = left_add v w turns (place + 1) es in
-      elim (bool_cases (has_turn turns place)) [ inl has ↦ rw has (omega (arith, rest)) | inr free ↦ rw free (omega (arith, rest)) ]
+      elim (cases_Bool (has_turn turns place)) [ inl has ↦ rw has (omega (arith, rest)) | inr free ↦ rw free (omega (arith, rest)) ]
 
   -- a further entry
   pub between_push : (class : Priority) (since until : ℕ) (es : List (Entry X)) (e : Entry X) →
@@ -126,7 +125,7 @@ module _ {X : Type 0} where
   pub wire_later : (class : Priority) (since until : ℕ) (e : Entry X) → (e.priority ≡ class → since ≤ e.time) →
       wire_in class 0 until e ≤ wire_in class since until e
   wire_later class since until e later =
-      elim (bool_cases (comes_between class 0 until e)) [
+      elim (cases_Bool (comes_between class 0 until e)) [
         | inr out ↦ rw out (omega arith)
         | inl counted ↦ (let both = and_split (is_class class e.priority) (nat_le 0 e.time && nat_le e.time until) counted in
             let same : e.priority ≡ class = class_other e.priority class both.0 in

@@ -12,10 +12,20 @@ use Rattle.afdx_bounds.specs.Sender.{IsSender}
 
 -- a high and a low link of 64-byte frames, with their latencies in ns
 abbrev pub first : ℕ → Flow
-first latency = record { vl = 1; link = record { bag_ms = 1; jitter_us = 500; smax = 84 }; priority = High; latency = latency }
+first latency = record {
+  vl = 1;
+  link = record { bag_ms = 1; jitter_us = 500; smax = 84 };
+  priority = High;
+  latency = latency;
+}
 
 abbrev pub second : ℕ → Flow
-second latency = record { vl = 2; link = record { bag_ms = 1; jitter_us = 500; smax = 84 }; priority = Low; latency = latency }
+second latency = record {
+  vl = 2;
+  link = record { bag_ms = 1; jitter_us = 500; smax = 84 };
+  priority = Low;
+  latency = latency;
+}
 
 abbrev pub pair : ℕ → ℕ → List Flow
 pair high_ns low_ns = first high_ns ∷ second low_ns ∷ []
@@ -31,7 +41,9 @@ pub record PairIsAdmitted : Type 0 where
 -- the same as rows of the tables: links of input ports 1 and 2 that go to output port 3
 abbrev pub row : ℕ → Priority → ℕ → Row
 row vl class latency = record {
-  rule = record { vl = vl; port = vl; bag_ms = 1; lmin = 64; lmax = 64; jitter_us = 500; policing = Byte };
+  rule =
+      record { vl = vl; port = vl; bag_ms = 1; lmin = 64; lmax = 64; jitter_us = 500;
+      policing = Byte };
   priority = class;
   latency = latency;
   longest_wait = Some latency;
@@ -43,13 +55,20 @@ rows = row 1 High 17000 ∷ row 2 Low 21000 ∷ []
 
 -- output port 3 on a side, of 252 bytes at 100 Mbit/s, is admitted with these rows
 abbrev pub PairIsServed : Type 0
-PairIsServed = (side : Side) → IsServed rows (record { side = side; number = 3; byte_ns = 80; buffer = 252 })
+PairIsServed =
+    (side : Side) → IsServed rows (record { side = side; number = 3; byte_ns = 80; buffer = 252 })
 
 -- a link of the longest frames at the longest gap, as its sender's own port sees it
 abbrev pub long : ℕ → ℕ → Flow
-long vl latency = record { vl = vl; link = record { bag_ms = 128; jitter_us = 0; smax = 1538 }; priority = High; latency = latency }
+long vl latency = record {
+  vl = vl;
+  link = record { bag_ms = 128; jitter_us = 0; smax = 1538 };
+  priority = High;
+  latency = latency;
+}
 
 -- at 100 Mbit/s a sender may have three such links, and not four
 pub record ThreeAreSent : Type 0 where
   pub three : IsSender 80 High (long 1 369120 ∷ long 2 369120 ∷ long 3 369120 ∷ [])
-  pub four : IsSender 80 High (long 1 492160 ∷ long 2 492160 ∷ long 3 492160 ∷ long 4 492160 ∷ []) → ⊥
+  pub four : IsSender 80 High (long 1 492160 ∷ long 2 492160 ∷ long 3 492160 ∷ long 4 492160 ∷ []) →
+      ⊥

@@ -1,5 +1,6 @@
 -- The entries of a port that is offered frames. A list of offers has the newest first.
-use Rattle.std.specs.Prelude.{◌≡◌, ℕ, ◌+◌, Bool, nat_lt, if◌then◌else◌, List, [], ◌∷◌, ◌++◌, reverse}
+use Rattle.std.specs.Prelude.{◌≡◌, ℕ, ◌+◌, Bool, nat_lt, if◌then◌else◌, List, [], ◌∷◌, ◌++◌}
+use Rattle.std.specs.Prelude.{reverse}
 use Rattle.afdx_frame.specs.Flows.{Flow}
 use Rattle.afdx_port.specs.Schedule.{Entry, waiting_bytes}
 use Rattle.afdx_port.specs.ScheduleOf.{schedule_of}
@@ -13,15 +14,18 @@ module _ {X : Type 0} where
 
   -- the entries, by adding the last offer unless it is lost
   abbrev pub with_offer : ℕ → ℕ → List (Entry X) → Entry X → List (Entry X)
-  with_offer byte_ns buffer entries new = if is_lost byte_ns buffer entries new then entries else entries ++ new ∷ []
+  with_offer byte_ns buffer entries new =
+      if is_lost byte_ns buffer entries new then entries else entries ++ new ∷ []
 
   abbrev pub entries_of : ℕ → ℕ → List (Entry X) → List (Entry X)
   entries_of byte_ns buffer [] = []
-  entries_of byte_ns buffer (new ∷ offers) = with_offer byte_ns buffer (entries_of byte_ns buffer offers) new
+  entries_of byte_ns buffer (new ∷ offers) =
+      with_offer byte_ns buffer (entries_of byte_ns buffer offers) new
 
 -- where the port is admitted, and all offers are policed and in order, each of them is an entry
 abbrev pub OffersAreEntries : Type 0 → Type 0
 OffersAreEntries X =
-    (byte_ns buffer : ℕ) (flows : List Flow) (vl_of : X → ℕ) (charge_of : Entry X → ℕ) (offers : List (Entry X)) →
+    (byte_ns buffer : ℕ) (flows : List Flow) (vl_of : X → ℕ) (charge_of : Entry X → ℕ)
+    (offers : List (Entry X)) →
     IsRegulated byte_ns buffer flows vl_of charge_of (reverse offers) →
     entries_of byte_ns buffer offers ≡ reverse offers

@@ -1,6 +1,7 @@
--- The entries of an output port of a switch, from the tables and from all that arrives. A list of arrivals has the
--- newest first.
-use Rattle.std.specs.Prelude.{◌≡◌, ℕ, ◌+◌, ◌≤◌, ◌==◌, ◌&&◌, Bool, true, is_none, All, Contains, IsTrue, Option, Some, None, List, [], ◌∷◌, length, filter, map, find}
+-- The entries of an output port of a switch, from the tables and from all that arrives. A list of
+-- arrivals has the newest first.
+use Rattle.std.specs.Prelude.{◌≡◌, ℕ, ◌+◌, ◌≤◌, ◌==◌, ◌&&◌, Bool, true, is_none, All, Contains}
+use Rattle.std.specs.Prelude.{IsTrue, Option, Some, None, List, [], ◌∷◌, length, filter, map, find}
 use Rattle.std.specs.Option.{option_map_or}
 use Rattle.afdx_frame.specs.declared.link.Priority.{Priority}
 use Rattle.afdx_frame.specs.declared.link.Side.{Side}
@@ -14,8 +15,8 @@ use Rattle.afdx_port.specs.Schedule.{Entry}
 use Rattle.afdx_bounds.specs.Curve.{wire}
 use Rattle.afdx_bounds.specs.Offered.{entries_of}
 
--- a link of the tables: its rule, its class, its latency in ns, how long its frames may wait for a turn if there is a
--- limit, and the output ports that it goes to
+-- a link of the tables: its rule, its class, its latency in ns, how long its frames may wait for a
+-- turn if there is a limit, and the output ports that it goes to
 pub record Row : Type 0 where
   pub rule : Rule
   pub priority : Priority
@@ -23,7 +24,8 @@ pub record Row : Type 0 where
   pub longest_wait : Option ℕ
   pub goes_to : ℕ → Bool
 
--- an output port: the side of its switch, its number, the time of a byte on its line in ns, and its buffer in bytes
+-- an output port: the side of its switch, its number, the time of a byte on its line in ns, and its
+-- buffer in bytes
 pub record Output : Type 0 where
   pub side : Side
   pub number : ℕ
@@ -37,7 +39,12 @@ pub record AreRows (rows : List Row) : Type 0 where
 
 -- a row as a flow of the ports that it goes to
 abbrev pub flow_of : Row → Flow
-flow_of r = record { vl = r.rule.vl; link = regulation_of r.rule; priority = r.priority; latency = r.latency }
+flow_of r = record {
+  vl = r.rule.vl;
+  link = regulation_of r.rule;
+  priority = r.priority;
+  latency = r.latency;
+}
 
 abbrev pub flows_at : ℕ → List Row → List Flow
 flows_at number rows = map flow_of (filter (λ r. r.goes_to number) rows)
@@ -58,7 +65,13 @@ sends o past x r = accepts past x r && (is_side o.side x.side && r.goes_to o.num
 module _ {X : Type 0} where
   -- the entry of a frame that arrived: `item_of` is what a port holds of it
   abbrev pub entry_of : (Arrival → X) → Row → Arrival → Entry X
-  entry_of item_of r x = record { time = x.time; priority = r.priority; bytes = length x.bytes; longest_wait = r.longest_wait; item = item_of x }
+  entry_of item_of r x = record {
+    time = x.time;
+    priority = r.priority;
+    bytes = length x.bytes;
+    longest_wait = r.longest_wait;
+    item = item_of x;
+  }
 
   -- what the port is offered, with an arrival that this row sends there, if one does
   abbrev pub with_sent : (Arrival → X) → Arrival → Option Row → List (Entry X) → List (Entry X)
@@ -73,7 +86,8 @@ module _ {X : Type 0} where
 
   -- its entries then
   abbrev pub entries_at : (Arrival → X) → List Row → Output → List Arrival → List (Entry X)
-  entries_at item_of rows o arrivals = entries_of o.byte_ns o.buffer (offers_at item_of rows o arrivals)
+  entries_at item_of rows o arrivals =
+      entries_of o.byte_ns o.buffer (offers_at item_of rows o arrivals)
 
   -- what a port holds of a frame tells its link and its charge
   pub record Carries (item_of : Arrival → X) (vl_of : X → ℕ) (charge_of : Entry X → ℕ)
@@ -90,7 +104,7 @@ module _ {X : Type 0} where
   -- what its row charges for an entry
   abbrev pub charge_in : (X → List ℕ) → List Row → Entry X → ℕ
   charge_in bytes_of rows e =
-      option_map_or (λ r. charge_by r.rule.policing (r.rule.lmax + 20) (wire e))
+      option_map_or (λ r. charge_by r.rule.policing (wire_of r.rule.lmax) (wire e))
       (find (λ r. r.rule.vl == link_in bytes_of e.item) rows) 0
 
 -- an item that keeps the frame's bytes does

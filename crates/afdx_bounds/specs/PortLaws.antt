@@ -1,5 +1,6 @@
 -- What is true of a port that stands for calls, where its entries regulate it.
-use Rattle.std.specs.Prelude.{◌≡◌, ℕ, ◌+◌, ◌≤◌, true, false, All, Contains, List, [], ◌∷◌, ◌++◌, Some, slice_get}
+use Rattle.std.specs.Prelude.{◌≡◌, ℕ, ◌+◌, ◌≤◌, true, false, All, Contains, List, [], ◌∷◌, ◌++◌}
+use Rattle.std.specs.Prelude.{Some, slice_get}
 use Rattle.afdx_frame.specs.Flows.{Flow}
 use Rattle.afdx_port.specs.declared.pending.Pending.{Pending}
 use Rattle.afdx_port.specs.Facts.{Facts}
@@ -11,16 +12,19 @@ use Rattle.afdx_bounds.specs.Policed.{MayWait, IsRegulated}
 
 module _ {X : Type 0} where
   -- the port stands for these calls, and is regulated by what was put
-  pub record StandsRegulated (facts : X → Facts) (p : Pending X) (h : History X) (flows : List Flow) (vl_of : X → ℕ)
+  pub record StandsRegulated (facts : X → Facts) (p : Pending X) (h : History X) (flows : List Flow)
+      (vl_of : X → ℕ)
       (charge_of : Entry X → ℕ) : Type 0 where
     pub stands : StandsFor facts p h
     pub regulated : IsRegulated h.byte_ns h.buffer flows vl_of charge_of h.entries
 
   -- a frame that leaves it so isn't lost
   abbrev pub PutIsKept : (X → Facts) → Type 0
-  PutIsKept facts = (p : Pending X) (h : History X) (flows : List Flow) (vl_of : X → ℕ) (charge_of : Entry X → ℕ)
+  PutIsKept facts =
+      (p : Pending X) (h : History X) (flows : List Flow) (vl_of : X → ℕ) (charge_of : Entry X → ℕ)
       (new : Entry X) →
-      StandsRegulated facts p h flows vl_of charge_of → IsRegulated h.byte_ns h.buffer flows vl_of charge_of
+      StandsRegulated facts p h flows vl_of charge_of →
+      IsRegulated h.byte_ns h.buffer flows vl_of charge_of
       (h.entries ++ new ∷ []) →
       IsLost h.buffer h.entries (schedule_of h.byte_ns h.entries) new.time new.bytes → ⊥
 
@@ -40,8 +44,10 @@ module _ {X : Type 0} where
 
   -- and where the port gives nothing at t, each such frame whose latency is over by then was taken
   abbrev pub AllWereTaken : (X → Facts) → Type 0
-  AllWereTaken facts = (p : Pending X) (h : History X) (flows : List Flow) (vl_of : X → ℕ) (charge_of : Entry X → ℕ)
+  AllWereTaken facts =
+      (p : Pending X) (h : History X) (flows : List Flow) (vl_of : X → ℕ) (charge_of : Entry X → ℕ)
       (f : Flow) (t place : ℕ) (e : Entry X) →
       StandsRegulated facts p h flows vl_of charge_of → Contains flows f → IsQuiet facts p t →
-      slice_get h.entries place ≡ Some e → vl_of e.item ≡ f.vl → MayWait f.latency e → e.time + f.latency ≤ t →
+      slice_get h.entries place ≡ Some e → vl_of e.item ≡ f.vl → MayWait f.latency e →
+      e.time + f.latency ≤ t →
       has_turn h.taken place ≡ true

@@ -11,14 +11,15 @@ use Rattle.afdx_bounds.specs.Policed.{AreFlows, charged_to, IsCharged, IsRegulat
 abbrev pub one_of_each : ℕ → List Flow → ℕ
 one_of_each byte_ns flows = sum_by (λ f. f.link.smax * byte_ns) flows
 
--- a link as its sender's own port sees it: of the port's one class, released with no jitter, and in time if one frame
--- of each link has been sent since its release
+-- a link as its sender's own port sees it: of the port's one class, released with no jitter, and in
+-- time if one frame of each link has been sent since its release
 pub record IsSent (byte_ns : ℕ) (class : Priority) (flows : List Flow) (f : Flow) : Type 0 where
   pub own_class : f.priority ≡ class
   pub regular : f.link.jitter_us ≡ 0
   pub waits : f.latency ≡ one_of_each byte_ns flows
 
--- these are the links of a sender, whose jitter, 40 us and the time of one frame of each, is at most 500 us
+-- these are the links of a sender, whose jitter, 40 us and the time of one frame of each, is at
+-- most 500 us
 pub record IsSender (byte_ns : ℕ) (class : Priority) (flows : List Flow) : Type 0 where
   pub line : 8 ≤ byte_ns
   pub flows_are : AreFlows flows
@@ -32,16 +33,19 @@ SenderIsAdmitted =
     IsPortAdmitted byte_ns 65536 flows
 
 -- the entries of each link are a stream that keeps the link's gap
-abbrev pub AreReleased : {X : Type 0} → (X → ℕ) → (Entry X → ℕ) → List Flow → List (Entry X) → Type 0
+abbrev pub AreReleased : {X : Type 0} → (X → ℕ) → (Entry X → ℕ) → List Flow → List (Entry X) →
+    Type 0
 AreReleased vl_of charge_of flows entries =
-    (f : Flow) → Contains flows f → (next : ℕ) × IsRegular f.link (charged_to vl_of charge_of f.vl entries) next
+    (f : Flow) → Contains flows f →
+    (next : ℕ) × IsRegular f.link (charged_to vl_of charge_of f.vl entries) next
 
 -- so what such streams release there is policed
 abbrev pub SenderIsRegulated : Type 0 → Type 0
 SenderIsRegulated X =
     (byte_ns : ℕ) (class : Priority) (flows : List Flow) (vl_of : X → ℕ) (charge_of : Entry X → ℕ)
     (entries : List (Entry X)) →
-    IsSender byte_ns class flows → AreInOrder entries → All (λ e. IsCharged vl_of charge_of flows e) entries →
+    IsSender byte_ns class flows → AreInOrder entries →
+    All (λ e. IsCharged vl_of charge_of flows e) entries →
     AreReleased vl_of charge_of flows entries →
     IsRegulated byte_ns 65536 flows vl_of charge_of entries
 
@@ -60,6 +64,8 @@ abbrev pub SenderIsInTime : Type 0 → Type 0
 SenderIsInTime X =
     (byte_ns : ℕ) (class : Priority) (flows : List Flow) (vl_of : X → ℕ) (charge_of : Entry X → ℕ)
     (entries : List (Entry X)) (turns : List (Turn X)) →
-    IsSender byte_ns class flows → AreInOrder entries → All (λ e. IsCharged vl_of charge_of flows e) entries →
+    IsSender byte_ns class flows → AreInOrder entries →
+    All (λ e. IsCharged vl_of charge_of flows e) entries →
     AreReleased vl_of charge_of flows entries →
-    AreTurns byte_ns entries turns → All (λ s. s.end ≤ s.entry.time + one_of_each byte_ns flows) turns
+    AreTurns byte_ns entries turns →
+    All (λ s. s.end ≤ s.entry.time + one_of_each byte_ns flows) turns

@@ -1,5 +1,6 @@
 -- What admitted tables promise of each output port, whatever arrives.
-use Rattle.std.specs.Prelude.{◌≡◌, ℕ, ◌+◌, ◌*◌, ◌≤◌, true, false, All, List, Some, reverse, slice_get}
+use Rattle.std.specs.Prelude.{◌≡◌, ℕ, ◌+◌, ◌*◌, ◌≤◌, true, false, All, List, Some, reverse}
+use Rattle.std.specs.Prelude.{slice_get}
 use Rattle.afdx_frame.specs.declared.link.Side.{Side}
 use Rattle.afdx_config.specs.Admission.{IsAdmitted}
 use Rattle.afdx_config.specs.Lawful.{IsLawful}
@@ -12,10 +13,10 @@ use Rattle.afdx_bounds.specs.Outputs.{AreTimed, offers_at, entries_at, link_in}
 use Rattle.afdx_bounds.specs.Tables.{rows_of, output_to}
 
 module _ {X : Type 0} where
-  -- the output port to a system on a side, of lawful and admitted tables, to which all of these came; what it holds
-  -- of a frame keeps the bytes
-  pub record IsOutputOf (item_of : Arrival → X) (bytes_of : X → List ℕ) (t : Rows) (system : ℕ) (s : SystemRow)
-      (arrivals : List Arrival) : Type 0 where
+  -- the output port to a system on a side, of lawful and admitted tables, to which all of these
+  -- came; what it holds of a frame keeps the bytes
+  pub record IsOutputOf (item_of : Arrival → X) (bytes_of : X → List ℕ) (t : Rows) (system : ℕ)
+      (s : SystemRow) (arrivals : List Arrival) : Type 0 where
     pub lawful : IsLawful t
     pub admitted : IsAdmitted t
     pub stands : slice_get t.systems system ≡ Some s
@@ -23,14 +24,16 @@ module _ {X : Type 0} where
     pub timed : AreTimed arrivals
 
   -- its entries
-  abbrev pub entries_to : (Arrival → X) → Rows → Side → ℕ → SystemRow → List Arrival → List (Entry X)
-  entries_to item_of t side system s arrivals = entries_at item_of (rows_of t) (output_to t side system s) arrivals
+  abbrev pub entries_to : (Arrival → X) → Rows → Side → ℕ → SystemRow → List Arrival →
+      List (Entry X)
+  entries_to item_of t side system s arrivals =
+      entries_at item_of (rows_of t) (output_to t side system s) arrivals
 
 -- nothing is lost: its entries are all that is accepted of the links that go there
 abbrev pub NothingIsLost : Type 0 → Type 0
 NothingIsLost X =
-    (item_of : Arrival → X) (bytes_of : X → List ℕ) (t : Rows) (side : Side) (system : ℕ) (s : SystemRow)
-    (arrivals : List Arrival) →
+    (item_of : Arrival → X) (bytes_of : X → List ℕ) (t : Rows) (side : Side) (system : ℕ)
+    (s : SystemRow) (arrivals : List Arrival) →
     IsOutputOf item_of bytes_of t system s arrivals →
     entries_to item_of t side system s arrivals ≡ reverse
     (offers_at item_of (rows_of t) (output_to t side system s) arrivals)
@@ -38,19 +41,30 @@ NothingIsLost X =
 -- each frame of a link has a slot that ends within the link's latency
 abbrev pub EachHasItsSlot : Type 0 → Type 0
 EachHasItsSlot X =
-    (item_of : Arrival → X) (bytes_of : X → List ℕ) (t : Rows) (side : Side) (system : ℕ) (s : SystemRow)
-    (arrivals : List Arrival) (turns : List (Turn X)) (place : ℕ) (l : LinkRow) →
-    IsOutputOf item_of bytes_of t system s arrivals → slice_get t.links place ≡ Some l → is_to system l ≡ true →
-    AreTurns (output_to t side system s).byte_ns (entries_to item_of t side system s arrivals) turns →
-    All (λ z. link_in bytes_of z.entry.item ≡ l.vl → (z.too_old ≡ false) × (z.end ≤ z.entry.time + 1000 * l.latency_us)) turns
+    (item_of : Arrival → X) (bytes_of : X → List ℕ) (t : Rows) (side : Side) (system : ℕ)
+    (s : SystemRow) (arrivals : List Arrival) (turns : List (Turn X)) (place : ℕ) (l : LinkRow) →
+    IsOutputOf item_of bytes_of t system s arrivals → slice_get t.links place ≡ Some l →
+    is_to system l ≡ true →
+    AreTurns (output_to t side system s).byte_ns
+    (entries_to item_of t side system s arrivals) turns →
+    All
+    (λ z. link_in bytes_of z.entry.item ≡ l.vl →
+    (z.too_old ≡ false) × (z.end ≤ z.entry.time + 1000 * l.latency_us)) turns
 
 -- and has had it when no further turn is given by `until` and the latency is over by then
 abbrev pub EachSlotHasCome : Type 0 → Type 0
 EachSlotHasCome X =
-    (item_of : Arrival → X) (bytes_of : X → List ℕ) (t : Rows) (side : Side) (system : ℕ) (s : SystemRow)
-    (arrivals : List Arrival) (turns : List (Turn X)) (place : ℕ) (l : LinkRow) (until entry : ℕ) (e : Entry X) →
-    IsOutputOf item_of bytes_of t system s arrivals → slice_get t.links place ≡ Some l → is_to system l ≡ true →
-    AreTurns (output_to t side system s).byte_ns (entries_to item_of t side system s arrivals) turns →
-    ((z : Turn X) → IsNext (output_to t side system s).byte_ns (entries_to item_of t side system s arrivals) turns z → IsAfter until (due_at z)) →
-    slice_get (entries_to item_of t side system s arrivals) entry ≡ Some e → link_in bytes_of e.item ≡ l.vl →
+    (item_of : Arrival → X) (bytes_of : X → List ℕ) (t : Rows) (side : Side) (system : ℕ)
+    (s : SystemRow)
+    (arrivals : List Arrival) (turns : List (Turn X)) (place : ℕ) (l : LinkRow) (until entry : ℕ)
+    (e : Entry X) →
+    IsOutputOf item_of bytes_of t system s arrivals → slice_get t.links place ≡ Some l →
+    is_to system l ≡ true →
+    AreTurns (output_to t side system s).byte_ns
+    (entries_to item_of t side system s arrivals) turns →
+    ((z : Turn X) →
+    IsNext (output_to t side system s).byte_ns
+    (entries_to item_of t side system s arrivals) turns z → IsAfter until (due_at z)) →
+    slice_get (entries_to item_of t side system s arrivals) entry ≡ Some e →
+    link_in bytes_of e.item ≡ l.vl →
     e.time + 1000 * l.latency_us ≤ until → has_turn turns entry ≡ true

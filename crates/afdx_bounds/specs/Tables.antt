@@ -1,9 +1,11 @@
 -- The output ports of a switch, and a sender's own, as the tables have them.
-use Rattle.std.specs.Prelude.{◌≡◌, ℕ, ◌+◌, ◌*◌, ◌==◌, if◌then◌else◌, Option, Some, None, List, map, slice_get, sum_by}
+use Rattle.std.specs.Prelude.{◌≡◌, ℕ, ◌+◌, ◌*◌, ◌==◌, if◌then◌else◌, Option, Some, None, List, map}
+use Rattle.std.specs.Prelude.{slice_get, sum_by}
 use Rattle.std.specs.Option.{option_map_or}
 use Rattle.afdx_frame.specs.declared.link.Priority.{Priority}
 use Rattle.afdx_frame.specs.declared.link.Side.{Side}
 use Rattle.afdx_frame.specs.Flows.{Flow}
+use Rattle.afdx_frame.specs.Regulation.{regulation_with, wire_of}
 use Rattle.afdx_config.specs.Admission.{IsAdmitted, byte_ns, flows_to, links_from}
 use Rattle.afdx_config.specs.Lawful.{IsLawful}
 use Rattle.afdx_config.specs.Rows.{SystemRow, LinkRow, Rows, is_to}
@@ -18,7 +20,15 @@ port_of t system = option_map_or (λ s. s.port) (slice_get t.systems system) 0
 
 -- how a link is filtered and policed: its frames come in from its sender
 abbrev pub rule_of : Rows → LinkRow → Rule
-rule_of t l = record { vl = l.vl; port = port_of t l.from; bag_ms = l.bag_ms; lmin = l.lmin; lmax = l.lmax; jitter_us = l.jitter_us; policing = l.policing }
+rule_of t l = record {
+  vl = l.vl;
+  port = port_of t l.from;
+  bag_ms = l.bag_ms;
+  lmin = l.lmin;
+  lmax = l.lmax;
+  jitter_us = l.jitter_us;
+  policing = l.policing;
+}
 
 -- how long its frames may wait for a turn: in profile 2 as long as its latency, in ns
 abbrev pub longest_wait_of : Rows → LinkRow → Option ℕ
@@ -39,7 +49,8 @@ rows_of t = map (row_of t) t.links
 
 -- the output port to a system on a side
 abbrev pub output_to : Rows → Side → ℕ → SystemRow → Output
-output_to t side system s = record { side = side; number = system; byte_ns = byte_ns s; buffer = t.buffer }
+output_to t side system s =
+    record { side = side; number = system; byte_ns = byte_ns s; buffer = t.buffer }
 
 -- where the tables are admitted, each output port is, with the flows that they say go there
 pub record ServesTables (t : Rows) (side : Side) (system : ℕ) (s : SystemRow) : Type 0 where
@@ -55,9 +66,9 @@ EachOutputIsServed =
 abbrev pub sent_flow : ℕ → Priority → List LinkRow → LinkRow → Flow
 sent_flow byte_ns class own l = record {
   vl = l.vl;
-  link = record { bag_ms = l.bag_ms; jitter_us = 0; smax = l.lmax + 20 };
+  link = regulation_with l.bag_ms 0 l.lmax;
   priority = class;
-  latency = sum_by (λ k. (k.lmax + 20) * byte_ns) own;
+  latency = sum_by (λ k. wire_of k.lmax * byte_ns) own;
 }
 
 abbrev pub sent_flows : Rows → Priority → ℕ → SystemRow → List Flow

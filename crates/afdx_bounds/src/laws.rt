@@ -1,17 +1,25 @@
 //! What is true of admitted ports, over definitions alone. Times are in ns.
 //!
-//! A port is regulated (specs `IsRegulated`) if it is admitted with the links that send there, and its entries stand in
-//! order and are what the window rule accepts of each link (ARINC 664 Part 7, traffic policing).
+//! A port is regulated (specs `IsRegulated`) if it is admitted with the links that send there, and
+//! its entries stand in order and are what the window rule accepts of each link (ARINC 664 Part 7,
+//! traffic policing).
 
-ghost use Rattle.afdx_bounds.specs.Admitted.{WorkIsMissing, HighWorkIsMissing, LowWorkFalls, StartIsRegulated, NextIsRegulated, NoneIsLost, EachIsInTime, NoneIsTooOld, EachHasLeft};
+ghost use Rattle.afdx_bounds.specs.Admitted.{WorkIsMissing, HighWorkIsMissing, LowWorkFalls};
+ghost use Rattle.afdx_bounds.specs.Admitted.{StartIsRegulated, NextIsRegulated, NoneIsLost};
+ghost use Rattle.afdx_bounds.specs.Admitted.{EachIsInTime, NoneIsTooOld, EachHasLeft};
 ghost use Rattle.afdx_bounds.specs.CurveLaws.{WaitingIsBounded, HighIsBounded, LowIsBounded};
 ghost use Rattle.afdx_bounds.specs.Examples.{PairIsAdmitted, PairIsServed, ThreeAreSent};
 ghost use Rattle.afdx_bounds.specs.Needed.{EachLineIsNeeded};
 ghost use Rattle.afdx_bounds.specs.Offered.{OffersAreEntries};
 ghost use Rattle.afdx_bounds.specs.Outputs.{BytesCarry};
-ghost use Rattle.afdx_bounds.specs.OutputLaws.{SentIsOffered, UnsentIsNot, EntriesAreRegulated, EntriesAreAccepted, OffersEnter, ArrivalIsKept, ArrivalsAreInTime, ArrivalsAreNotOld, ArrivalsHaveLeft};
-ghost use Rattle.afdx_bounds.specs.PortLaws.{PutIsKept, TakenAreInTime, TakenAreNotOld, AllWereTaken};
-ghost use Rattle.afdx_bounds.specs.Sender.{SenderIsAdmitted, SenderIsRegulated, SenderIsNeverFull, SenderIsInTime};
+ghost use Rattle.afdx_bounds.specs.OutputLaws.{SentIsOffered, UnsentIsNot, EntriesAreRegulated};
+ghost use Rattle.afdx_bounds.specs.OutputLaws.{EntriesAreAccepted, OffersEnter, ArrivalIsKept};
+ghost use Rattle.afdx_bounds.specs.OutputLaws.{ArrivalsAreInTime, ArrivalsAreNotOld};
+ghost use Rattle.afdx_bounds.specs.OutputLaws.{ArrivalsHaveLeft};
+ghost use Rattle.afdx_bounds.specs.PortLaws.{PutIsKept, TakenAreInTime, TakenAreNotOld};
+ghost use Rattle.afdx_bounds.specs.PortLaws.{AllWereTaken};
+ghost use Rattle.afdx_bounds.specs.Sender.{SenderIsAdmitted, SenderIsRegulated, SenderIsNeverFull};
+ghost use Rattle.afdx_bounds.specs.Sender.{SenderIsInTime};
 ghost use Rattle.afdx_bounds.specs.Tables.{EachOutputIsServed, EachSystemIsSender};
 ghost use Rattle.afdx_bounds.specs.TableLaws.{NothingIsLost, EachHasItsSlot, EachSlotHasCome};
 
@@ -19,8 +27,8 @@ use afdx_police::laws::{accounts_move, arrivals_are_offers, regular_is_accepted}
 use afdx_port::HasLength;
 use afdx_port::laws::{due_is_next, taken_are_on_schedule};
 
-/// Where what comes of each class keeps a burst and a rate, and the line carries both rates, no more bytes wait than the
-/// two bursts.
+/// Where what comes of each class keeps a burst and a rate, and the line carries both rates, no
+/// more bytes wait than the two bursts.
 pub fn waiting_is_bounded<T>()
     ensures { WaitingIsBounded T }
 {}
@@ -31,8 +39,9 @@ pub fn turns_end_soon<T>()
     ensures low { LowIsBounded T }
 {}
 
-/// The balances: the work left at a port is at most what is missing in its links' accounts together; so is the high work
-/// left in those of the high links, but for one low frame; and along the wait of a low frame the bound falls.
+/// The balances: the work left at a port is at most what is missing in its links' accounts
+/// together; so is the high work left in those of the high links, but for one low frame; and along
+/// the wait of a low frame the bound falls.
 pub fn work_is_missing<T>()
     ensures all { WorkIsMissing T }
     ensures high { HighWorkIsMissing T }
@@ -41,7 +50,8 @@ pub fn work_is_missing<T>()
     accounts_move()
 }
 
-/// An admitted port with no entries is regulated, and stays so with a further frame that fits by the window rule.
+/// An admitted port with no entries is regulated, and stays so with a further frame that fits by
+/// the window rule.
 pub fn stays_regulated<T>()
     ensures start { StartIsRegulated T }
     ensures next { NextIsRegulated T }
@@ -56,8 +66,8 @@ pub fn none_is_lost<T>()
 
 /// At a regulated port each frame's turn is over within its link's latency.
 ///
-/// So none is dropped for its age that may wait as long as that, and when no further turn is given by a time, each of
-/// them whose latency is over by then has had its turn.
+/// So none is dropped for its age that may wait as long as that, and when no further turn is given
+/// by a time, each of them whose latency is over by then has had its turn.
 pub fn each_is_in_time<T>()
     ensures within { EachIsInTime T }
     ensures not_old { NoneIsTooOld T }
@@ -66,8 +76,8 @@ pub fn each_is_in_time<T>()
     accounts_move()
 }
 
-/// A port that stands for calls by which it is regulated keeps each frame that leaves it so, and gives each in time.
-/// Where it gives nothing, each frame whose latency is over was taken.
+/// A port that stands for calls by which it is regulated keeps each frame that leaves it so, and
+/// gives each in time. Where it gives nothing, each frame whose latency is over was taken.
 pub fn ports_are_in_time<T: HasLength>()
     ensures kept { PutIsKept T.facts }
     ensures within { TakenAreInTime T.facts }
@@ -79,8 +89,9 @@ pub fn ports_are_in_time<T: HasLength>()
     due_is_next::<T>()
 }
 
-/// A sender's own port of 65,536 bytes is regulated by streams that keep their gaps. So it is never full, and each frame
-/// has been sent when one frame of each link could have been since its release.
+/// A sender's own port of 65,536 bytes is regulated by streams that keep their gaps. So it is never
+/// full, and each frame has been sent when one frame of each link could have been since its
+/// release.
 pub fn sender_is_bounded<T>()
     ensures admitted { SenderIsAdmitted }
     ensures regulated { SenderIsRegulated T }
@@ -109,8 +120,8 @@ pub fn bytes_carry<T>()
     ensures { BytesCarry T }
 {}
 
-/// An admitted output port, over all that arrives at the switches: its entries regulate it, are exactly what is accepted
-/// of each link's own arrivals on its side, and none of that is lost.
+/// An admitted output port, over all that arrives at the switches: its entries regulate it, are
+/// exactly what is accepted of each link's own arrivals on its side, and none of that is lost.
 pub fn arrivals_are_kept<T>()
     ensures regulated { EntriesAreRegulated T }
     ensures accepted { EntriesAreAccepted T }
@@ -121,7 +132,8 @@ pub fn arrivals_are_kept<T>()
     arrivals_are_offers()
 }
 
-/// And each of them has its turn within its link's latency: a slot, if the link's frames may wait as long as that.
+/// And each of them has its turn within its link's latency: a slot, if the link's frames may wait
+/// as long as that.
 pub fn arrivals_are_in_time<T>()
     ensures within { ArrivalsAreInTime T }
     ensures not_old { ArrivalsAreNotOld T }
@@ -131,15 +143,16 @@ pub fn arrivals_are_in_time<T>()
     arrivals_are_offers()
 }
 
-/// Where the tables are admitted, each output port is admitted with the flows that they say go there, and each system's
-/// own port with the links that it sends.
+/// Where the tables are admitted, each output port is admitted with the flows that they say go
+/// there, and each system's own port with the links that it sends.
 pub fn tables_are_served()
     ensures outputs { EachOutputIsServed }
     ensures senders { EachSystemIsSender }
 {}
 
-/// Admitted tables, whatever arrives: no output port loses anything, and each frame of a link that goes there has a slot
-/// that ends within the link's latency. So it has been sent when the port gives nothing more by then.
+/// Admitted tables, whatever arrives: no output port loses anything, and each frame of a link that
+/// goes there has a slot that ends within the link's latency. So it has been sent when the port
+/// gives nothing more by then.
 pub fn admitted_tables_keep_all<T>()
     ensures nothing_lost { NothingIsLost T }
     ensures slot { EachHasItsSlot T }
@@ -149,15 +162,16 @@ pub fn admitted_tables_keep_all<T>()
     arrivals_are_offers()
 }
 
-/// Examples: a pair of links is admitted with 252 bytes, 17 us and 21 us and with no less of any, and a sender with three
-/// links of the longest frames at 100 Mbit/s and not with four.
+/// Examples: a pair of links is admitted with 252 bytes, 17 us and 21 us and with no less of any,
+/// and a sender with three links of the longest frames at 100 Mbit/s and not with four.
 pub fn examples_are_admitted()
     ensures pair { PairIsAdmitted }
     ensures served { PairIsServed }
     ensures sender { ThreeAreSent }
 {}
 
-/// With an overload, a latency one ns short, a smaller buffer or no policing, the promises are false.
+/// With an overload, a latency one ns short, a smaller buffer or no policing, the promises are
+/// false.
 pub fn each_line_is_needed()
     ensures { EachLineIsNeeded }
 {}

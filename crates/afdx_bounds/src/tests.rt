@@ -1,4 +1,6 @@
-//! The promises at a real port: kept where its links are admitted, and broken without a line of admission.
+//! The promises at a real port: kept where its links are admitted, and broken without a line of
+//! admission.
+
 ghost use Rattle.std.specs.Prelude.{◌≡◌, ℕ, ◌≤◌, None, IfOk, IsTrue};
 ghost use Rattle.afdx_port.specs.Held.{IsByteTime, IsQuiet, last_time};
 
@@ -56,7 +58,8 @@ fn end<T: HasLength>(port: &mut Port<T>, until: u64) -> Option<u64>
 
 #[test]
 fn a_high_and_a_low_link_are_in_time(rt: HostRuntime) -> Result<(), AllocError> {
-    // Each may send 84 bytes on the wire a millisecond, at most half a one late: 252 bytes, 17 us and 21 us will do.
+    // Each may send 84 bytes on the wire a millisecond, at most half a one late: 252 bytes, 17 us
+    // and 21 us will do.
     laws::examples_are_admitted();
     let mut port = idle_port(rt.alloc(), 80, 252)?;
     assert!(rt; port.put(0, Priority::Low, frame_of(64)).is_ok());
@@ -108,7 +111,8 @@ fn with_a_latency_one_ns_short_a_frame_is_late(rt: HostRuntime) -> Result<(), Al
 
 #[test]
 fn a_sender_sends_one_frame_of_each_link_in_time(rt: HostRuntime) -> Result<(), AllocError> {
-    // Three links of the longest frames, all released at once: 369,120 ns, and 40,000 of jitter besides.
+    // Three links of the longest frames, all released at once: 369,120 ns, and 40,000 of jitter
+    // besides.
     let mut port = idle_port(rt.alloc(), 80, 65536)?;
     assert!(rt; port.put(0, Priority::Low, frame_of(1518)).is_ok());
     assert!(rt; port.put(0, Priority::Low, frame_of(1518)).is_ok());

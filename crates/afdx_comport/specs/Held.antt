@@ -13,7 +13,8 @@ is_full (Queuing line) = nat_eq (length line.messages) line.depth
 -- one more message: the newest takes the place of the one before, or goes behind the others
 abbrev pub with_message : ℕ → List ℕ → Held → Held
 with_message time bytes (Sampling sample) = Sampling (Some (record { time = time; bytes = bytes }))
-with_message time bytes (Queuing line) = Queuing (record line { messages = line.messages ++ bytes ∷ [] })
+with_message time bytes (Queuing line) =
+    Queuing (record line { messages = line.messages ++ bytes ∷ [] })
 
 -- the newest message of a sampling port
 abbrev pub sample_of : Held → Option Message

@@ -16,7 +16,8 @@ pub record IsPutAndRead (held : Held) (time : ℕ) (bytes : List ℕ) : Type 0 w
   pub all : IsRead (without_first (with_message time bytes held))
 
 abbrev pub PutIsReadBack : Type 0
-PutIsReadBack = (held : Held) (time : ℕ) (bytes : List ℕ) → IsRead held → IsPutAndRead held time bytes
+PutIsReadBack =
+    (held : Held) (time : ℕ) (bytes : List ℕ) → IsRead held → IsPutAndRead held time bytes
 
 -- a new system's ports have nothing to read
 abbrev pub AllIsReadAtFirst : Type 0
@@ -27,7 +28,8 @@ AllIsReadAtFirst = (systems system : ℕ) (links : List LinkRow) (rows : List Po
 -- a port is found exactly where the tables have it
 abbrev pub FoundIsConfigured : Type 0
 FoundIsConfigured = (rows : List PortRow) (system link udp : ℕ) →
-    is_some (position (is_for link udp) (ports_at_first system rows)) ≡ has_port rows system link udp
+    is_some (position (is_for link udp) (ports_at_first system rows))
+    ≡ has_port rows system link udp
 
 -- what a port holds doesn't change where a port is found
 abbrev pub FoundStays : Type 0

@@ -16,7 +16,8 @@ empty_of kind.Sampling depth = Sampling None
 empty_of kind.Queuing depth = Queuing (record { depth = depth; messages = [] })
 
 abbrev pub port_at_first : PortRow → ComPort
-port_at_first row = record { link = record { 0 = row.link }; udp = row.udp; held = empty_of row.kind row.depth }
+port_at_first row =
+    record { link = record { 0 = row.link }; udp = row.udp; held = empty_of row.kind row.depth }
 
 -- the ports of the system
 abbrev pub ports_at_first : ℕ → List PortRow → List ComPort

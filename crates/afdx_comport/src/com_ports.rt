@@ -1,8 +1,10 @@
 //! The ports of one end system.
 
-ghost use Rattle.std.specs.Prelude.{◌≡◌, ◌↔◌, ◌<◌, Some, Err, IfOk, IfSome, OnOk, OnErr, IsTrue, length};
+ghost use Rattle.std.specs.Prelude.{◌≡◌, ◌↔◌, ◌<◌, Some, Err, IfOk, IfSome, OnOk, OnErr, IsTrue};
+ghost use Rattle.std.specs.Prelude.{length};
 ghost use Rattle.std.specs.Prelude.{position, slice_get, slice_set, option_map};
-ghost use Rattle.afdx_comport.specs.Held.{is_full, with_message, sample_of, first_of, without_first};
+ghost use Rattle.afdx_comport.specs.Held.{is_full, with_message, sample_of, first_of};
+ghost use Rattle.afdx_comport.specs.Held.{without_first};
 ghost use Rattle.afdx_comport.specs.declared.fault.PutFault.TheVariants.{Full};
 
 use crate::fault::PutFault;
@@ -41,8 +43,9 @@ impl ComPort {
     }
 }
 
-/// The communication ports of an end system (ARINC 664 Part 7). A contract sees them as a list of ports in the
-/// order of the tables, each with its link, its UDP port and the messages that it holds.
+/// The communication ports of an end system (ARINC 664 Part 7). A contract sees them as a list of
+/// ports in the order of the tables, each with its link, its UDP port and the messages that it
+/// holds.
 #[derive(Drop)]
 pub struct ComPorts {
     alloc: Global,
@@ -66,8 +69,9 @@ impl ComPorts {
     ghost use Rattle.afdx_comport.specs.Ports.{ports_at_first, is_for};
     ghost use Rattle.afdx_comport.specs.declared.com_ports.ComPort.{ComPort};
 
-    /// The communication ports that the tables give the system, in the order of the tables. They hold nothing.
-    /// Room is taken for each queue's depth, and for looking ports up. The error is want of memory alone.
+    /// The communication ports that the tables give the system, in the order of the tables. They
+    /// hold nothing. Room is taken for each queue's depth, and for looking ports up. The error is
+    /// want of memory alone.
     pub fn new(alloc: Global, tables: &Tables, system: SystemId) -> Result<ComPorts, AllocError>
         ensures ports { IfOk result (λ ports. ports ≡ ports_at_first system.0 tables.now.ports) }
     {
@@ -88,8 +92,8 @@ impl ComPorts {
         })
     }
 
-    /// The place of the port of a link and a UDP port, or `None` if the system has no such port. It is a
-    /// look-up, and takes no memory.
+    /// The place of the port of a link and a UDP port, or `None` if the system has no such port. It
+    /// is a look-up, and takes no memory.
     pub fn find(&self, link: VlId, udp: u16) -> Option<usize>
         ensures place { result ≡ position (is_for link.0 udp) self.now }
         ensures known { IfSome result (λ place. place < length self.now) }
@@ -97,19 +101,20 @@ impl ComPorts {
         self.places.get(&(link, udp)).copied()
     }
 
-    /// Puts a message that comes at `time`, in ns, to the port at this place. A sampling port keeps it in place
-    /// of the one before, a queuing port puts it behind the others.
+    /// Puts a message that comes at `time`, in ns, to the port at this place. A sampling port keeps
+    /// it in place of the one before, a queuing port puts it behind the others.
     ///
-    /// `Full` comes exactly where a queue holds as many messages as its depth, and before any memory is asked
-    /// for; else `Memory` comes where the room for the message's bytes is refused. After an error every port is
-    /// as it was, and after `Ok` every other port.
+    /// `Full` comes exactly where a queue holds as many messages as its depth, and before any
+    /// memory is asked for; else `Memory` comes where the room for the message's bytes is refused.
+    /// After an error every port is as it was, and after `Ok` every other port.
     pub fn put(&mut self, port: usize, time: u64, message: &[u8]) -> Result<(), PutFault>
         requires { port < length self.old }
         ensures full { (p : ComPort) → slice_get self.old port ≡ Some p →
             (result ≡ Err Full) ↔ IsTrue (is_full p.held) }
         ensures ok { (p : ComPort) → slice_get self.old port ≡ Some p →
             OnOk result
-            (self.new ≡ slice_set self.old port (record p { held = with_message time message.now p.held })) }
+            (self.new
+            ≡ slice_set self.old port (record p { held = with_message time message.now p.held })) }
         ensures err { OnErr result (self.new ≡ self.old) }
         ensures count { length self.new ≡ length self.old }
     {
@@ -117,8 +122,8 @@ impl ComPorts {
         self.ports[port].held.put(alloc, time, message)
     }
 
-    /// The newest message of the sampling port at this place, and the time at which it came, in ns. It stays.
-    /// `None` if nothing came yet, and at a queuing port. It takes no memory.
+    /// The newest message of the sampling port at this place, and the time at which it came, in ns.
+    /// It stays. `None` if nothing came yet, and at a queuing port. It takes no memory.
     pub fn read_sample(&self, port: usize) -> Option<(u64, &[u8])>
         requires { port < length self.now }
         ensures sample { (p : ComPort) → slice_get self.now port ≡ Some p →
@@ -127,8 +132,8 @@ impl ComPorts {
         self.ports[port].held.sample()
     }
 
-    /// Takes the oldest message out of the queuing port at this place. `None` if the queue is empty, and at a
-    /// sampling port. Every other port stays as it was. It takes no memory.
+    /// Takes the oldest message out of the queuing port at this place. `None` if the queue is
+    /// empty, and at a sampling port. Every other port stays as it was. It takes no memory.
     pub fn take_queued(&mut self, port: usize) -> Option<Vec<u8>>
         requires { port < length self.old }
         ensures first { (p : ComPort) → slice_get self.old port ≡ Some p →

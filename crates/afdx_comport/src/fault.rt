@@ -1,4 +1,7 @@
+//! Why a port doesn't take a message.
+
 use std::alloc::AllocError;
+use std::fmt;
 
 /// Why a port didn't take a message.
 #[derive(Clone, Copy, Debug, PartialEq, Eq)]
@@ -8,6 +11,34 @@ pub enum PutFault {
     /// There was no memory for the message.
     Memory,
 }
+
+impl PutFault {
+    ghost use Rattle.std.specs.Prelude.{◌≡◌};
+    ghost use Rattle.afdx_comport.specs.Words.{put_word};
+
+    /// It in a word.
+    pub fn word(self) -> &'static str
+        ensures { result.now ≡ put_word self }
+    {
+        match self {
+            PutFault::Full => "full",
+            PutFault::Memory => "memory",
+        }
+    }
+}
+
+impl fmt::Display for PutFault {
+    ghost use Rattle.std.specs.Prelude.{Some};
+    ghost use Rattle.afdx_comport.specs.Words.{put_word};
+
+    ghost output = { λ fault. Some (put_word fault) };
+
+    fn fmt<W: fmt::Write>(&self, f: &mut fmt::Formatter<W>) -> fmt::Result {
+        f.write_str(self.word())
+    }
+}
+
+impl std::error::Error for PutFault {}
 
 impl From<AllocError> for PutFault {
     ghost use Rattle.std.specs.Prelude.{◌≡◌};

@@ -2,7 +2,8 @@
 
 ghost use Rattle.std.specs.Prelude.{◌≡◌, ◌↔◌, ◌≤◌, ◌<◌, [], ◌∷◌, ◌++◌, length, nat_eq, IsTrue, Err};
 ghost use Rattle.std.specs.Prelude.{IfOk, OnOk, OnErr, MatchOption, option_map};
-ghost use Rattle.afdx_comport.specs.Held.{is_full, with_message, sample_of, first_of, without_first};
+ghost use Rattle.afdx_comport.specs.Held.{is_full, with_message, sample_of, first_of};
+ghost use Rattle.afdx_comport.specs.Held.{without_first};
 ghost use Rattle.afdx_comport.specs.declared.fault.PutFault.TheVariants.{Full};
 
 use crate::fault::PutFault;
@@ -56,9 +57,11 @@ impl Model for Queue {
 
     ghost Value = { Line };
 
-    ghost view = { λ q. record { depth = q.depth; messages = map (λ m. m.items) q.messages.items } };
+    ghost view =
+        { λ q. record { depth = q.depth; messages = map (λ m. m.items) q.messages.items } };
 
-    ghost invariant = { λ q. (deque_len q.messages ≤ q.depth) × (q.depth ≤ deque_capacity q.messages) };
+    ghost invariant =
+        { λ q. (deque_len q.messages ≤ q.depth) × (q.depth ≤ deque_capacity q.messages) };
 }
 
 impl Queue {
@@ -81,7 +84,8 @@ impl Queue {
     /// Puts a message behind the others. The room is there.
     pub(crate) fn push(&mut self, message: Vec<u8>)
         requires { length self.old.messages < self.old.depth }
-        ensures { self.new ≡ record self.old { messages = self.old.messages ++ message.items ∷ [] } }
+        ensures { self.new
+            ≡ record self.old { messages = self.old.messages ++ message.items ∷ [] } }
     {
         self.messages.push_back_reserved(message);
     }
@@ -127,7 +131,8 @@ impl Held {
 
     /// The newest message and its time, if this is a sampling port and one came.
     pub(crate) fn sample(&self) -> Option<(u64, &[u8])>
-        ensures { option_map (λ s. record { time = s.0; bytes = s.1.now }) result ≡ sample_of self.now }
+        ensures { option_map (λ s. record { time = s.0; bytes = s.1.now }) result
+            ≡ sample_of self.now }
     {
         match self {
             Held::Sampling(Some(sample)) => Some((sample.time, sample.bytes.as_slice())),

@@ -1,5 +1,5 @@
-//! Communication ports of an end system (ARINC 664 Part 7): a sampling port keeps the newest message, a
-//! queuing port gives its messages first in, first out.
+//! Communication ports of an end system (ARINC 664 Part 7): a sampling port keeps the newest
+//! message, a queuing port gives its messages first in, first out.
 #![tactic(auto)]
 
 mod com_ports;

@@ -1,3 +1,5 @@
+//! Ports of a small network, filled and read.
+
 use crate::{ComPorts, PutFault};
 use afdx_config::{ConfigFault, SystemId, Tables, read_tables};
 use afdx_frame::VlId;
@@ -47,7 +49,8 @@ kind = \"queuing\"
 depth = 4
 ";
 
-// Of all growths one alone may be refused in these tests: a call that is refused memory is made again.
+// Of all growths one alone may be refused in these tests: a call that is refused memory is made
+// again.
 fn read(alloc: Global, text: &str) -> Result<Tables, ConfigFault> {
     match read_tables(alloc, text.as_bytes()) {
         Err(ConfigFault::Memory) => read_tables(alloc, text.as_bytes()),

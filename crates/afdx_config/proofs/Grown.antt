@@ -1,4 +1,5 @@
 -- Lawful rows stay lawful when a new one is added.
+use Rattle.std.proofs.lemmas.Bool.{eq-eqb}
 use Rattle.std.proofs.Common.{◌≡◌, ℕ, ◌<◌, Bool, true, false, ◌&&◌, ◌==◌, List, [], ◌∷◌, ◌++◌, length, None, nat_eq, refl, sym, ap, arith, length-append}
 use Rattle.std.specs.Str.{bytes_eq}
 use Rattle.std.proofs.lemmas.Bool.Decides.{nat_tests}
@@ -13,9 +14,6 @@ use Rattle.afdx_config.proofs.Distinct.{distinct-nil, distinct-push, none_found}
 nat_eq-same : (a b : ℕ) → a ≡ b → nat_eq a b ≡ true
 nat_eq-same a b h = grind (arith, nat_tests)
 
-eqb-same : (a b : ℕ) → a ≡ b → (a == b) ≡ true
-eqb-same a b h = grind (arith, nat_tests)
-
 bytes_eq-same : (xs ys : List ℕ) → xs ≡ ys → bytes_eq ys xs ≡ true
 bytes_eq-same xs ys h = (bytes_eq-Decides ys xs).1 (sym h)
 
@@ -28,8 +26,8 @@ systems_push profile rows new old room lawful fresh = record {
   count = omega (arith, length-append rows (new ∷ []));
   each = all_push (IsSystem profile) rows new old.each lawful;
   names = distinct-push (λ s. s.name) (λ s. bytes_eq new.name s.name) rows new old.names (none_found (λ s. bytes_eq new.name s.name) rows fresh.name) (λ a e. bytes_eq-same a.name new.name e);
-  ports = distinct-push (λ s. s.port) (λ s. s.port == new.port) rows new old.ports (none_found (λ s. s.port == new.port) rows fresh.port) (λ a e. eqb-same a.port new.port e);
-  ids = distinct-push (λ s. s.id) (λ s. s.id == new.id) rows new old.ids fresh.id (λ a e. eqb-same a.id new.id e);
+  ports = distinct-push (λ s. s.port) (λ s. s.port == new.port) rows new old.ports (none_found (λ s. s.port == new.port) rows fresh.port) (λ a e. eq-eqb a.port new.port e);
+  ids = distinct-push (λ s. s.id) (λ s. s.id == new.id) rows new old.ids fresh.id (λ a e. eq-eqb a.id new.id e);
 }
 
 pub no_links : (systems : ℕ) → AreLinks systems []

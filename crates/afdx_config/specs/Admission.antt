@@ -1,6 +1,7 @@
--- Admission: what a configuration satisfies in which every frame keeps its link's latency. It has seven lines: four
--- at each output port, one for each system, and two for each link.
-use Rattle.std.specs.Prelude.{◌≡◌, ℕ, ◌+◌, ◌*◌, ◌/◌, ◌≤◌, List, filter, map, nat_eq, slice_get, Some}
+-- Admission: what a configuration satisfies in which every frame keeps its link's latency. It has
+-- seven lines: four at each output port, one for each system, and two for each link.
+use Rattle.std.specs.Prelude.{◌≡◌, ℕ, ◌+◌, ◌*◌, ◌/◌, ◌≤◌, List, filter, map, nat_eq, slice_get}
+use Rattle.std.specs.Prelude.{Some}
 use Rattle.std.specs.List.{sum_by}
 use Rattle.afdx_config.specs.Rows.{SystemRow, LinkRow, Rows, is_to}
 use Rattle.afdx_frame.specs.Flows.{Flow, IsPortAdmitted}
@@ -21,17 +22,21 @@ links_from links system = filter (λ l. nat_eq l.from system) links
 abbrev pub flows_to : List LinkRow → ℕ → List Flow
 flows_to links system = map flow_of (links_to links system)
 
--- the jitter at the output of a system that sends these links, in ns: 40 us, and one frame of each link
+-- the jitter at the output of a system that sends these links, in ns: 40 us, and one frame of each
+-- link
 abbrev pub sender_jitter : ℕ → List LinkRow → ℕ
 sender_jitter byte_ns own = 40000 + sum_by (λ l. (regulation_of l).smax * byte_ns) own
 
 pub record IsAdmitted (t : Rows) : Type 0 where
   -- no overload, buffer, and the latency of high and of low frames
-  pub ports : (i : ℕ) (s : SystemRow) → slice_get t.systems i ≡ Some s → IsPortAdmitted (byte_ns s) t.buffer (flows_to t.links i)
+  pub ports : (i : ℕ) (s : SystemRow) → slice_get t.systems i ≡ Some s →
+      IsPortAdmitted (byte_ns s) t.buffer (flows_to t.links i)
   -- a system's jitter is at most 500 us
-  pub senders : (i : ℕ) (s : SystemRow) → slice_get t.systems i ≡ Some s → sender_jitter (byte_ns s) (links_from t.links i) ≤ 500000
+  pub senders : (i : ℕ) (s : SystemRow) → slice_get t.systems i ≡ Some s →
+      sender_jitter (byte_ns s) (links_from t.links i) ≤ 500000
   -- a link's jitter allows for that of its sender
-  pub jitters : (i : ℕ) (l : LinkRow) (s : SystemRow) → slice_get t.links i ≡ Some l → slice_get t.systems l.from ≡ Some s →
+  pub jitters : (i : ℕ) (l : LinkRow) (s : SystemRow) → slice_get t.links i ≡ Some l →
+      slice_get t.systems l.from ≡ Some s →
       sender_jitter (byte_ns s) (links_from t.links l.from) ≤ 1000 * l.jitter_us
   -- the copies of a frame are no further apart than the link's skew
   pub skews : (i : ℕ) (l : LinkRow) → slice_get t.links i ≡ Some l → l.latency_us ≤ l.skew_us

@@ -4,12 +4,14 @@ use Rattle.afdx_config.specs.declared.fault.ConfigFault.{ConfigFault}
 use Rattle.afdx_config.specs.declared.fault.ConfigFault.TheVariants.{Memory}
 
 infixl 10 ◌>>=◌
-abbrev pub ◌>>=◌ : {A B : Type 0} → Result A ConfigFault → (A → Result B ConfigFault) → Result B ConfigFault
+abbrev pub ◌>>=◌ : {A B : Type 0} → Result A ConfigFault → (A → Result B ConfigFault) →
+    Result B ConfigFault
 (Ok x) >>= f = f x
 (Err e) >>= f = Err e
 
 infixl 10 ◌>>◌
-abbrev pub ◌>>◌ : {A B : Type 0} → Result A ConfigFault → Result B ConfigFault → Result B ConfigFault
+abbrev pub ◌>>◌ : {A B : Type 0} → Result A ConfigFault → Result B ConfigFault →
+    Result B ConfigFault
 (Ok x) >> r = r
 (Err e) >> r = Err e
 

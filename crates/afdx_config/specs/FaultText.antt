@@ -4,7 +4,10 @@ use Rattle.afdx_config.specs.declared.fault.Part.{Part}
 use Rattle.afdx_config.specs.declared.fault.Part.TheVariants as part
 use Rattle.afdx_config.specs.declared.fault.Place.{Place}
 use Rattle.afdx_config.specs.declared.fault.ConfigFault.{ConfigFault}
-use Rattle.afdx_config.specs.declared.fault.ConfigFault.TheVariants.{NotToml, BadProfile, Missing, WrongKind, UnknownKey, OutOfRange, Twice, NoSuchSystem, Memory}
+use Rattle.afdx_config.specs.declared.fault.ConfigFault.TheVariants.{NotToml, BadProfile, Missing}
+use Rattle.afdx_config.specs.declared.fault.ConfigFault.TheVariants.{WrongKind, UnknownKey}
+use Rattle.afdx_config.specs.declared.fault.ConfigFault.TheVariants.{OutOfRange, Twice}
+use Rattle.afdx_config.specs.declared.fault.ConfigFault.TheVariants.{NoSuchSystem, Memory}
 
 abbrev pub part_text : Part → List ℕ
 part_text part.Top = codes "top"

@@ -1,13 +1,17 @@
--- One key of a table: whether it is there, of its kind, and in its range. Each reading is refused by the first
--- of these checks that is false.
-use Rattle.std.specs.Prelude.{ℕ, ◌-◌, ◌^◌, ℤ, pos, negsuc, Bool, true, ◌&&◌, nat_le, nat_eq, List, [], ◌∷◌, length, codes, Option, Some, None, option_map, option_and_then, Result, Ok, Err, if◌then◌else◌}
+-- One key of a table: whether it is there, of its kind, and in its range. Each reading is refused
+-- by the first of these checks that is false.
+use Rattle.std.specs.Prelude.{ℕ, ◌-◌, ◌^◌, ℤ, pos, negsuc, Bool, true, ◌&&◌, nat_le, nat_eq, List}
+use Rattle.std.specs.Prelude.{[], ◌∷◌, length, codes, Option, Some, None, option_map}
+use Rattle.std.specs.Prelude.{option_and_then, Result, Ok, Err, if◌then◌else◌}
 use Rattle.std.specs.List.{list_any}
 use Rattle.std.specs.Str.{bytes_eq}
-use Rattle.toml.specs.Data.{Data, Items, no_items, item, Members, no_members, member, get_member, as_str, as_integer, as_table, as_array}
+use Rattle.toml.specs.Data.{Data, Items, no_items, item, Members, no_members, member, get_member}
+use Rattle.toml.specs.Data.{as_str, as_integer, as_table, as_array}
 use Rattle.afdx_config.specs.declared.fault.Part.{Part}
 use Rattle.afdx_config.specs.declared.fault.Place.{Place}
 use Rattle.afdx_config.specs.declared.fault.ConfigFault.{ConfigFault}
-use Rattle.afdx_config.specs.declared.fault.ConfigFault.TheVariants.{Missing, WrongKind, UnknownKey, OutOfRange}
+use Rattle.afdx_config.specs.declared.fault.ConfigFault.TheVariants.{Missing, WrongKind, UnknownKey}
+use Rattle.afdx_config.specs.declared.fault.ConfigFault.TheVariants.{OutOfRange}
 use Rattle.afdx_config.specs.Fault.{◌>>=◌, ◌>>◌, check}
 
 -- where a check looks: the part, the table's place in it, and the key's number
@@ -59,7 +63,8 @@ abbrev pub or_out_of_range : {A : Type 0} → Place → Option A → Result A Co
 or_out_of_range at None = Err (OutOfRange at)
 or_out_of_range at (Some x) = Ok x
 
-unfoldable pub word : {A : Type 0} → Place → List ℕ → List (List ℕ × A) → Members → Result A ConfigFault
+unfoldable pub word : {A : Type 0} → Place → List ℕ → List (List ℕ × A) → Members →
+    Result A ConfigFault
 word at key words t = do
   s ← text at key t
   or_out_of_range at (meaning words s)
@@ -100,13 +105,20 @@ only at known t = check (are_among known t) (UnknownKey at)
 
 -- the keys of each part
 unfoldable pub only_system_keys : Place → Members → Result (Unit {0}) ConfigFault
-only_system_keys at t = only at (codes "name" ∷ codes "port" ∷ codes "id" ∷ codes "partition" ∷ codes "rate" ∷ []) t
+only_system_keys at t =
+    only at (codes "name" ∷ codes "port" ∷ codes "id" ∷ codes "partition" ∷ codes "rate" ∷ []) t
 
 unfoldable pub only_link_keys : Place → Members → Result (Unit {0}) ConfigFault
-only_link_keys at t = only at (codes "vl" ∷ codes "from" ∷ codes "to" ∷ codes "bag_ms" ∷ codes "lmin" ∷ codes "lmax" ∷ codes "jitter_us" ∷ codes "priority" ∷ codes "policing" ∷ codes "latency_us" ∷ codes "skew_us" ∷ codes "subs" ∷ []) t
+only_link_keys at t =
+    only at
+    (codes "vl" ∷ codes "from" ∷ codes "to" ∷ codes "bag_ms" ∷ codes "lmin" ∷ codes "lmax" ∷
+    codes "jitter_us" ∷ codes "priority" ∷ codes "policing" ∷ codes "latency_us" ∷ codes "skew_us" ∷
+    codes "subs" ∷ []) t
 
 unfoldable pub only_port_keys : Place → Members → Result (Unit {0}) ConfigFault
-only_port_keys at t = only at (codes "system" ∷ codes "link" ∷ codes "udp" ∷ codes "kind" ∷ codes "depth" ∷ []) t
+only_port_keys at t =
+    only at (codes "system" ∷ codes "link" ∷ codes "udp" ∷ codes "kind" ∷ codes "depth" ∷ []) t
 
 unfoldable pub only_top_keys : Place → Members → Result (Unit {0}) ConfigFault
-only_top_keys at t = only at (codes "profile" ∷ codes "buffer" ∷ codes "system" ∷ codes "link" ∷ codes "port" ∷ []) t
+only_top_keys at t =
+    only at (codes "profile" ∷ codes "buffer" ∷ codes "system" ∷ codes "link" ∷ codes "port" ∷ []) t

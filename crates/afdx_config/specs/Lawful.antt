@@ -1,6 +1,8 @@
 -- Every rule of the format, as a fact of the rows.
-use Rattle.std.specs.Prelude.{◌≡◌, ℕ, ◌*◌, ◌<◌, ◌≤◌, true, List, [], ◌∷◌, length, nat_eq, slice_get, Some}
+use Rattle.std.specs.Prelude.{◌≡◌, ℕ, ◌*◌, ◌<◌, ◌≤◌, true, List, length, nat_eq, slice_get}
+use Rattle.std.specs.Prelude.{Some}
 use Rattle.std.specs.List.{list_any, AllByRecursion}
+pub use Rattle.afdx_frame.specs.Regulation.{gaps}
 use Rattle.afdx_config.specs.declared.read_links.Traffic.{Traffic}
 use Rattle.afdx_config.specs.declared.read_links.Treatment.{Treatment}
 use Rattle.afdx_config.specs.Rows.{SystemRow, LinkRow, PortRow, Rows}
@@ -14,11 +16,8 @@ IsOneOf ns n = list_any (λ m. nat_eq m n) ns ≡ true
 
 -- two rows that agree in this are one row
 unfoldable pub AreDistinct : {R A : Type 0} → (R → A) → List R → Type 0
-AreDistinct {R} f rows = (i j : ℕ) (a b : R) → slice_get rows i ≡ Some a → slice_get rows j ≡ Some b → f a ≡ f b → i ≡ j
-
--- the gaps that a link may have, in ms
-abbrev pub gaps : List ℕ
-gaps = 1 ∷ 2 ∷ 4 ∷ 8 ∷ 16 ∷ 32 ∷ 64 ∷ 128 ∷ []
+AreDistinct {R} f rows =
+    (i j : ℕ) (a b : R) → slice_get rows i ≡ Some a → slice_get rows j ≡ Some b → f a ≡ f b → i ≡ j
 
 pub record IsSystem (profile : ℕ) (s : SystemRow) : Type 0 where
   pub name : is_name s.name ≡ true

@@ -17,7 +17,14 @@ pub record Sending : Type 0 where
 
 -- where the builder takes a link's frames from and to: both UDP ports are the message's
 abbrev pub address_of : SystemRow → LinkRow → Message → Address
-address_of s l m = record { vl = record { 0 = l.vl }; system_id = s.id; partition = s.partition; from_udp = m.udp; to_udp = m.udp; least = l.lmin }
+address_of s l m = record {
+  vl = record { 0 = l.vl };
+  system_id = s.id;
+  partition = s.partition;
+  from_udp = m.udp;
+  to_udp = m.udp;
+  least = l.lmin;
+}
 
 -- the two frames are built of one message of the sent list, and of a length that the link may have
 pub record IsSent (s : SystemRow) (l : LinkRow) (x : Sent) (y : Sending) : Type 0 where
@@ -26,12 +33,16 @@ pub record IsSent (s : SystemRow) (l : LinkRow) (x : Sent) (y : Sending) : Type 
   pub a_length : IsWithin l.lmin l.lmax (length y.a)
   pub b_length : IsWithin l.lmin l.lmax (length y.b)
 
--- There are moments, each a gap or more after the one before. The k-th frame is sent at or after the k-th moment,
--- at most the link's jitter later, and carries the k-th message of the sent list.
-pub record IsLawfulStream (s : SystemRow) (l : LinkRow) (messages : List Message) (stream : List Sending) : Type 0 where
+-- There are moments, each a gap or more after the one before. The k-th frame is sent at or after
+-- the k-th moment, at most the link's jitter later, and carries the k-th message of the sent list.
+pub record IsLawfulStream (s : SystemRow) (l : LinkRow) (messages : List Message)
+    (stream : List Sending) : Type 0 where
   pub moments : List ℕ
   pub moment_count : length moments ≡ length stream
   pub message_count : length messages ≡ length stream
-  pub apart : (k r later : ℕ) → slice_get moments k ≡ Some r → slice_get moments (k + 1) ≡ Some later → r + bag (regulation_of l) ≤ later
-  pub shaped : (k r : ℕ) (y : Sending) → slice_get moments k ≡ Some r → slice_get stream k ≡ Some y → (r ≤ y.time) × (y.time ≤ r + jitter (regulation_of l))
-  pub sent : (k : ℕ) (x : Sent) (y : Sending) → sent_at messages k ≡ Some x → slice_get stream k ≡ Some y → IsSent s l x y
+  pub apart : (k r later : ℕ) → slice_get moments k ≡ Some r →
+      slice_get moments (k + 1) ≡ Some later → r + bag (regulation_of l) ≤ later
+  pub shaped : (k r : ℕ) (y : Sending) → slice_get moments k ≡ Some r →
+      slice_get stream k ≡ Some y → (r ≤ y.time) × (y.time ≤ r + jitter (regulation_of l))
+  pub sent : (k : ℕ) (x : Sent) (y : Sending) → sent_at messages k ≡ Some x →
+      slice_get stream k ≡ Some y → IsSent s l x y

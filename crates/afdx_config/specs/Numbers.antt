@@ -1,4 +1,5 @@
--- Sequence numbers (ARINC 664 Part 7): 0 after a reset of the sender, then 1 to 255, and 255 is followed by 1.
+-- Sequence numbers (ARINC 664 Part 7): 0 after a reset of the sender, then 1 to 255, and 255 is
+-- followed by 1.
 use Rattle.std.specs.Prelude.{ℕ, zero, suc, ◌+◌, nat_eq, if◌then◌else◌}
 
 -- one step leads from a number to the next

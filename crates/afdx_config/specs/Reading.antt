@@ -1,6 +1,9 @@
--- The one order of the checks, over the tree that TOML reads: the top, then each system, each link and each port
--- entry in file order. A table is read key by key, in the order of the keys' numbers.
-use Rattle.std.specs.Prelude.{◌≡◌, ℕ, ◌+◌, ◌*◌, Bool, false, not, ◌&&◌, ◌||◌, ◌==◌, nat_le, nat_eq, List, [], ◌∷◌, ◌++◌, length, codes, position, find, Option, Some, None, is_some, option_map, option_and_then, Result, Ok, Err, IsUtf8, ◌⊎◌, if◌then◌else◌}
+-- The one order of the checks, over the tree that TOML reads: the top, then each system, each link
+-- and each port entry in file order. A table is read key by key, in the order of the keys' numbers.
+use Rattle.std.specs.Prelude.{◌≡◌, ℕ, ◌+◌, ◌*◌, Bool, false, not, ◌&&◌, ◌||◌, ◌==◌, nat_le, nat_eq}
+use Rattle.std.specs.Prelude.{List, [], ◌∷◌, ◌++◌, length, codes, position, find, Option, Some}
+use Rattle.std.specs.Prelude.{None, is_some, option_map, option_and_then, Result, Ok, Err, IsUtf8}
+use Rattle.std.specs.Prelude.{◌⊎◌, if◌then◌else◌}
 use Rattle.std.specs.List.{list_any, list_all}
 use Rattle.std.specs.Option.{option_map_or}
 use Rattle.std.specs.Str.{bytes_eq}
@@ -9,17 +12,21 @@ use Rattle.afdx_frame.specs.declared.link.Priority.TheVariants.{High, Low}
 use Rattle.afdx_frame.specs.declared.link.Policing.TheVariants.{Byte, Frame}
 use Rattle.toml.specs.Parse.{parse_document}
 use Rattle.toml.specs.Data.{Members}
+use Rattle.afdx_frame.specs.Regulation.{gaps}
 use Rattle.afdx_config.specs.declared.fault.Part.TheVariants as part
 use Rattle.afdx_config.specs.declared.fault.Place.{Place}
 use Rattle.afdx_config.specs.declared.fault.ConfigFault.{ConfigFault}
-use Rattle.afdx_config.specs.declared.fault.ConfigFault.TheVariants.{NotToml, BadProfile, OutOfRange, Twice, NoSuchSystem}
+use Rattle.afdx_config.specs.declared.fault.ConfigFault.TheVariants.{NotToml, BadProfile}
+use Rattle.afdx_config.specs.declared.fault.ConfigFault.TheVariants.{OutOfRange, Twice}
+use Rattle.afdx_config.specs.declared.fault.ConfigFault.TheVariants.{NoSuchSystem}
 use Rattle.afdx_config.specs.declared.rows.Kind.{Kind}
 use Rattle.afdx_config.specs.declared.rows.Kind.TheVariants.{Sampling, Queuing}
 use Rattle.afdx_config.specs.declared.read_links.Traffic.{Traffic}
 use Rattle.afdx_config.specs.declared.read_links.Treatment.{Treatment}
 use Rattle.afdx_config.specs.Rows.{SystemRow, LinkRow, PortRow, Rows, is_to}
 use Rattle.afdx_config.specs.Fault.{◌>>=◌, ◌>>◌, check}
-use Rattle.afdx_config.specs.Keys.{place, whole, one_of, text, word, tables, texts, only_system_keys, only_link_keys, only_port_keys, only_top_keys}
+use Rattle.afdx_config.specs.Keys.{place, whole, one_of, text, word, tables, texts}
+use Rattle.afdx_config.specs.Keys.{only_system_keys, only_link_keys, only_port_keys, only_top_keys}
 
 -- ---- look-ups among the rows
 
@@ -105,7 +112,7 @@ link_of links vl = position (λ l. nat_eq vl l.vl) links
 -- how much a link may send, and how its frames are treated
 unfoldable pub traffic_at : (ℕ → Place) → Members → Result Traffic ConfigFault
 traffic_at at t = do
-  bag_ms ← one_of (at 4) (codes "bag_ms") (1 ∷ 2 ∷ 4 ∷ 8 ∷ 16 ∷ 32 ∷ 64 ∷ 128 ∷ []) t
+  bag_ms ← one_of (at 4) (codes "bag_ms") gaps t
   lmin ← whole (at 5) (codes "lmin") 64 1518 t
   lmax ← whole (at 6) (codes "lmax") lmin 1518 t
   jitter_us ← whole (at 7) (codes "jitter_us") 0 (1000 * bag_ms) t
@@ -118,7 +125,13 @@ treatment_at at t = do
   latency_us ← whole (at 10) (codes "latency_us") 1 100000 t
   skew_us ← whole (at 11) (codes "skew_us") 1 100000 t
   subs ← whole (at 12) (codes "subs") 1 4 t
-  Ok (record { priority = priority; policing = policing; latency_us = latency_us; skew_us = skew_us; subs = subs })
+  Ok (record {
+    priority = priority;
+    policing = policing;
+    latency_us = latency_us;
+    skew_us = skew_us;
+    subs = subs;
+  })
 
 -- a link, whose identifier no link before has
 unfoldable pub link_at : List SystemRow → List LinkRow → Members → Result LinkRow ConfigFault
@@ -131,7 +144,20 @@ link_at systems before t =
       traffic ← traffic_at at t
       treatment ← treatment_at at t
       only_link_keys (at 0) t
-      Ok (record { vl = vl; from = from; to = to; bag_ms = traffic.bag_ms; lmin = traffic.lmin; lmax = traffic.lmax; jitter_us = traffic.jitter_us; priority = treatment.priority; policing = treatment.policing; latency_us = treatment.latency_us; skew_us = treatment.skew_us; subs = treatment.subs })
+      Ok (record {
+        vl = vl;
+        from = from;
+        to = to;
+        bag_ms = traffic.bag_ms;
+        lmin = traffic.lmin;
+        lmax = traffic.lmax;
+        jitter_us = traffic.jitter_us;
+        priority = treatment.priority;
+        policing = treatment.policing;
+        latency_us = treatment.latency_us;
+        skew_us = treatment.skew_us;
+        subs = treatment.subs;
+      })
 
 -- there is a link of this identifier, and it goes to the system
 unfoldable pub goes_to : List LinkRow → ℕ → ℕ → Bool
@@ -139,7 +165,8 @@ goes_to links vl system = option_map_or (is_to system) (find (λ l. nat_eq vl l.
 
 -- an entry for this system, link and UDP port
 unfoldable pub has_port : List PortRow → ℕ → ℕ → ℕ → Bool
-has_port ports system link udp = list_any (λ p. (nat_eq p.system system && nat_eq p.link link) && nat_eq p.udp udp) ports
+has_port ports system link udp =
+    list_any (λ p. (nat_eq p.system system && nat_eq p.link link) && nat_eq p.udp udp) ports
 
 -- how many messages a port of a kind may hold
 abbrev pub deepest : Kind → ℕ
@@ -147,7 +174,8 @@ deepest Sampling = 1
 deepest Queuing = 64
 
 -- a port entry, for a link that goes to its system, and a triple that no entry before has
-unfoldable pub port_at : List SystemRow → List LinkRow → List PortRow → Members → Result PortRow ConfigFault
+unfoldable pub port_at : List SystemRow → List LinkRow → List PortRow → Members →
+    Result PortRow ConfigFault
 port_at systems links before t =
     let at : ℕ → Place = place part.Port (length before + 1) in do
       system ← named (at 1) (codes "system") systems t
@@ -155,13 +183,15 @@ port_at systems links before t =
       check (goes_to links link system) (OutOfRange (at 2))
       udp ← whole (at 3) (codes "udp") 1 65535 t
       check (not (has_port before system link udp)) (Twice (at 3))
-      kind ← word (at 4) (codes "kind") ((codes "sampling", Sampling) ∷ (codes "queuing", Queuing) ∷ []) t
+      kind ← word (at 4) (codes "kind")
+        ((codes "sampling", Sampling) ∷ (codes "queuing", Queuing) ∷ []) t
       depth ← whole (at 5) (codes "depth") 1 (deepest kind) t
       only_port_keys (at 0) t
       Ok (record { system = system; link = link; udp = udp; kind = kind; depth = depth })
 
 -- the rows of some tables, each read after those before it
-abbrev pub each : {R : Type 0} → (List R → Members → Result R ConfigFault) → List R → List Members → Result (List R) ConfigFault
+abbrev pub each : {R : Type 0} → (List R → Members → Result R ConfigFault) → List R → List Members →
+    Result (List R) ConfigFault
 each row_at before [] = Ok before
 each row_at before (t ∷ ts) = do
   row ← row_at before t
@@ -186,12 +216,23 @@ tables_at t = do
   systems ← each (system_at profile) [] systems
   links ← each (link_at systems) [] links
   ports ← each (port_at systems links) [] ports
-  Ok (record { profile = profile; buffer = buffer; systems = systems; links = links; ports = ports })
+  Ok (record {
+    profile = profile;
+    buffer = buffer;
+    systems = systems;
+    links = links;
+    ports = ports;
+  })
 
 -- what is wrong with a text: it is no TOML, or its tree has this first fault
 abbrev pub IsFaultOf : List ℕ → ConfigFault → Type 0
-IsFaultOf text e = ((e ≡ NotToml) × (IsUtf8 text → parse_document text ≡ None)) ⊎ (IsUtf8 text × ((tree : Members) × (parse_document text ≡ Some tree) × (tables_at tree ≡ Err e)))
+IsFaultOf text e =
+    ((e ≡ NotToml) × (IsUtf8 text → parse_document text ≡ None))
+    ⊎ (IsUtf8 text
+    × ((tree : Members) × (parse_document text ≡ Some tree) × (tables_at tree ≡ Err e)))
 
 -- the text spells a tree that states the rows
 abbrev pub Spells : List ℕ → Rows → Type 0
-Spells text rows = IsUtf8 text × ((tree : Members) × (parse_document text ≡ Some tree) × (tables_at tree ≡ Ok rows))
+Spells text rows =
+    IsUtf8 text
+    × ((tree : Members) × (parse_document text ≡ Some tree) × (tables_at tree ≡ Ok rows))

@@ -9,7 +9,8 @@ use Rattle.afdx_config.specs.declared.rows.System.{System}
 use Rattle.afdx_config.specs.declared.rows.Link.{Link}
 use Rattle.afdx_config.specs.declared.rows.ComRow.{ComRow}
 
--- an end system: its port of the switch, its number in addresses, and the rate of its line in Mbit/s
+-- an end system: its port of the switch, its number in addresses, and the rate of its line in
+-- Mbit/s
 pub record SystemRow : Type 0 where
   pub name : List ℕ
   pub port : ℕ
@@ -17,7 +18,8 @@ pub record SystemRow : Type 0 where
   pub partition : ℕ
   pub rate : ℕ
 
--- a virtual link. A system is named by its place, from 0. Frame lengths are in bytes, with the check sequence
+-- a virtual link. A system is named by its place, from 0. Frame lengths are in bytes, with the
+-- check sequence
 pub record LinkRow : Type 0 where
   pub vl : ℕ
   pub from : ℕ
@@ -54,7 +56,13 @@ is_to system link = list_any (λ place. nat_eq place system) link.to
 
 -- the rows that the structs of the code stand for
 abbrev pub system_row : System → SystemRow
-system_row s = record { name = string_bytes s.name; port = s.port; id = s.id; partition = s.partition; rate = s.rate }
+system_row s = record {
+  name = string_bytes s.name;
+  port = s.port;
+  id = s.id;
+  partition = s.partition;
+  rate = s.rate;
+}
 
 abbrev pub system_places : List SystemId → List ℕ
 system_places ids = map (λ i. i.0) ids
@@ -76,7 +84,8 @@ link_row l = record {
 }
 
 abbrev pub port_row : ComRow → PortRow
-port_row c = record { system = c.system.0; link = c.link.0; udp = c.udp; kind = c.kind; depth = c.depth }
+port_row c =
+    record { system = c.system.0; link = c.link.0; udp = c.udp; kind = c.kind; depth = c.depth }
 
 abbrev pub port_rows : List ComRow → List PortRow
 port_rows cs = map port_row cs

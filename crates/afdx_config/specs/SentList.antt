@@ -15,4 +15,5 @@ pub record Sent : Type 0 where
 
 -- the k-th message, counted from 0, has the number to which k steps lead from 0
 abbrev pub sent_at : List Message → ℕ → Option Sent
-sent_at messages k = option_map (λ m. record { message = m; number = after_steps k 0 }) (slice_get messages k)
+sent_at messages k =
+    option_map (λ m. record { message = m; number = after_steps k 0 }) (slice_get messages k)

@@ -1,4 +1,5 @@
 //! Why a configuration is refused.
+
 use std::alloc::{AllocError, AllocFailed};
 use std::fmt;
 

@@ -1,5 +1,8 @@
 //! The reading of one key of a table.
-ghost use Rattle.std.specs.Prelude.{◌≡◌, ◌≢◌, IfErr, ◌≤◌, ◌<◌, ◌∷◌, [], ◌^◌, length, map, codes, None, Some, option_map, string_bytes, nat_eq, true, IfOk, pos, ℤ};
+
+ghost use Rattle.std.specs.Prelude.{◌≡◌, ◌≢◌, IfErr, ◌≤◌, ◌<◌, ◌∷◌, [], ◌^◌, length, map, codes};
+ghost use Rattle.std.specs.Prelude.{None, Some, option_map, string_bytes, nat_eq, true, IfOk, pos};
+ghost use Rattle.std.specs.Prelude.{ℤ};
 ghost use Rattle.std.specs.BTreeMap.{keys};
 ghost use Rattle.toml.specs.Data.{get_member, as_table, as_array, as_str};
 ghost use Rattle.toml.specs.View.{view, table_view, items_view};
@@ -28,7 +31,8 @@ fn member<'a>(table: &'a Table, key: &str) -> Option<&'a Value>
 
 /// The value at a key that has to be there.
 fn required<'a>(table: &'a Table, place: Place, key: &str) -> Result<&'a Value, ConfigFault>
-    ensures value { Gives (λ v. view v.now) result (spec.required place (get_member key.now (table_view table.now))) }
+    ensures value { Gives (λ v. view v.now) result
+        (spec.required place (get_member key.now (table_view table.now))) }
     ensures fault { IfErr result (λ e. e ≢ ConfigFault.Memory) }
 {
     match member(table, key) {
@@ -62,7 +66,8 @@ pub(crate) fn whole(
     low: u64,
     high: u64,
 ) -> Result<u64, ConfigFault>
-    ensures value { Gives (λ n. n) result (spec.whole place key.now low high (table_view table.now)) }
+    ensures value { Gives (λ n. n) result
+        (spec.whole place key.now low high (table_view table.now)) }
     ensures within { IfOk result (IsWithin low high) }
     ensures fault { IfErr result (λ e. e ≢ ConfigFault.Memory) }
 {
@@ -81,7 +86,8 @@ pub(crate) fn one_of(
     key: &str,
     values: &[u64],
 ) -> Result<u64, ConfigFault>
-    ensures value { Gives (λ n. n) result (spec.one_of place key.now values.now (table_view table.now)) }
+    ensures value { Gives (λ n. n) result
+        (spec.one_of place key.now values.now (table_view table.now)) }
     ensures among { IfOk result (IsOneOf values.now) }
 {
     let number = whole(table, place, key, 0, u64::MAX)?;
@@ -108,7 +114,8 @@ fn tables_in<'a>(
     items: &'a [Value],
     place: Place,
 ) -> Result<Vec<&'a Table>, ConfigFault>
-    ensures { Gives (λ v. trees v.items) result (spec.of_kind place (spec.all_as as_table (items_view items.now))) }
+    ensures { Gives (λ v. trees v.items) result
+        (spec.of_kind place (spec.all_as as_table (items_view items.now))) }
 {
     let mut tables = Vec::new(alloc);
     for item in items {
@@ -121,7 +128,8 @@ fn tables_in<'a>(
 }
 
 fn array<'a>(value: &'a Value, place: Place) -> Result<&'a [Value], ConfigFault>
-    ensures { Gives (λ items. items_view items.now) result (spec.of_kind place (as_array (view value.now))) }
+    ensures { Gives (λ items. items_view items.now) result
+        (spec.of_kind place (as_array (view value.now))) }
 {
     match value.as_array() {
         Some(items) => Ok(items.as_slice()),
@@ -135,7 +143,8 @@ fn tables_or_none<'a>(
     place: Place,
     key: &str,
 ) -> Result<Vec<&'a Table>, ConfigFault>
-    ensures { Gives (λ v. trees v.items) result (spec.tables_or_none place (get_member key.now (table_view table.now))) }
+    ensures { Gives (λ v. trees v.items) result
+        (spec.tables_or_none place (get_member key.now (table_view table.now))) }
 {
     match member(table, key) {
         None => Ok(Vec::new(alloc)),
@@ -155,7 +164,8 @@ pub(crate) fn tables<'a>(
     key: &str,
     most: usize,
 ) -> Result<Vec<&'a Table>, ConfigFault>
-    ensures value { Gives (λ v. trees v.items) result (spec.tables place key.now most (table_view table.now)) }
+    ensures value { Gives (λ v. trees v.items) result
+        (spec.tables place key.now most (table_view table.now)) }
     ensures within { IfOk result (λ v. length v.items ≤ most) }
 {
     let tables = tables_or_none(alloc, table, place, key)?;
@@ -171,7 +181,8 @@ fn texts_in<'a>(
     items: &'a [Value],
     place: Place,
 ) -> Result<Vec<&'a str>, ConfigFault>
-    ensures { Gives (λ v. lent_texts v.items) result (spec.of_kind place (spec.all_as as_str (items_view items.now))) }
+    ensures { Gives (λ v. lent_texts v.items) result
+        (spec.of_kind place (spec.all_as as_str (items_view items.now))) }
 {
     let mut texts = Vec::new(alloc);
     for item in items {
@@ -191,7 +202,8 @@ pub(crate) fn texts<'a>(
     place: Place,
     key: &str,
 ) -> Result<Vec<&'a str>, ConfigFault>
-    ensures { Gives (λ v. lent_texts v.items) result (spec.texts place key.now (table_view table.now)) }
+    ensures { Gives (λ v. lent_texts v.items) result
+        (spec.texts place key.now (table_view table.now)) }
 {
     let value = required(table, place, key)?;
     let items = array(value, place)?;
@@ -201,7 +213,8 @@ pub(crate) fn texts<'a>(
 /// Refuses a key that isn't known.
 #[tactic(auto, unfolding(crate::specs::Keys::only))]
 fn only(table: &Table, place: Place, known: &[&str]) -> Result<(), ConfigFault>
-    ensures { Gives (λ _. tt) result (spec.only place (lent_texts known.now) (table_view table.now)) }
+    ensures { Gives (λ _. tt) result
+        (spec.only place (lent_texts known.now) (table_view table.now)) }
 {
     if are_among(known, table) {
         Ok(())
@@ -211,7 +224,9 @@ fn only(table: &Table, place: Place, known: &[&str]) -> Result<(), ConfigFault>
 }
 
 fn are_among(known: &[&str], table: &Table) -> bool
-    ensures { result ≡ list_all (λ k. list_any (λ s. bytes_eq s.now (string_bytes k)) known.now) (keys table.now) }
+    ensures { result
+        ≡ list_all (λ k. list_any (λ s. bytes_eq s.now (string_bytes k)) known.now)
+        (keys table.now) }
 {
     table.keys().all(|key| is_among(known, key.as_str()))
 }

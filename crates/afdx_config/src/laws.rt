@@ -1,4 +1,5 @@
 //! Laws over the definitions.
+
 ghost use Rattle.afdx_config.specs.Laws.{EachRowIsFound};
 
 /// In lawful tables a look-up by name, by port or by identifier gives the row's own place.

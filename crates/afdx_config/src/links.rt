@@ -1,5 +1,7 @@
 //! The links of a network, by identifier.
-ghost use Rattle.std.specs.Prelude.{◌≡◌, ◌<◌, ◌≤◌, ◌++◌, [], ◌∷◌, length, slice_get, None, Some, OnOk, IfSome};
+
+ghost use Rattle.std.specs.Prelude.{◌≡◌, ◌<◌, ◌≤◌, ◌++◌, [], ◌∷◌, length, slice_get, None, Some};
+ghost use Rattle.std.specs.Prelude.{OnOk, IfSome};
 ghost use Rattle.afdx_config.specs.Rows.{link_row};
 ghost use Rattle.afdx_config.specs.Reading.{link_of, goes_to};
 
@@ -25,7 +27,9 @@ impl Model for Links {
 
     ghost view = { λ l. link_rows l.by_vl.entries };
 
-    ghost invariant = { λ l. (length l.by_vl.entries ≤ 4096) × AllByRecursion IsUnderItsIdentifier l.by_vl.entries };
+    ghost invariant =
+        { λ l.
+        (length l.by_vl.entries ≤ 4096) × AllByRecursion IsUnderItsIdentifier l.by_vl.entries };
 }
 
 impl Links {

@@ -1,4 +1,5 @@
 //! The reading of a configuration.
+
 ghost use Rattle.std.specs.Prelude.{◌≡◌, ◌≢◌, IfOk, IfErr, codes};
 ghost use Rattle.toml.specs.View.{table_view};
 ghost use Rattle.afdx_config.specs.Lawful.{IsLawful, IsWithin};
@@ -17,7 +18,9 @@ use toml::Table;
 
 fn profile_of(tree: &Table) -> Result<u64, ConfigFault>
     ensures known { IfOk result (IsWithin 1 2) }
-    ensures value { Gives (λ n. n) result (spec.or_bad_profile (keys.whole (keys.place Part.Top 0 1) (codes "profile") 1 2 (table_view tree.now))) }
+    ensures value { Gives (λ n. n) result
+        (spec.or_bad_profile
+        (keys.whole (keys.place Part.Top 0 1) (codes "profile") 1 2 (table_view tree.now))) }
 {
     match whole(tree, place(Part::Top, 0, 1), "profile", 1, 2) {
         Ok(profile) => Ok(profile),

@@ -1,5 +1,7 @@
 //! The reading of links.
-ghost use Rattle.std.specs.Prelude.{◌≡◌, ◌≤◌, ◌<◌, ◌∷◌, [], length, None, IfOk, codes, true, nat_eq};
+
+ghost use Rattle.std.specs.Prelude.{◌≡◌, ◌≤◌, ◌<◌, ◌∷◌, [], length, None, IfOk, codes, true};
+ghost use Rattle.std.specs.Prelude.{nat_eq};
 ghost use Rattle.std.specs.List.{list_any, AllByRecursion};
 ghost use Rattle.toml.specs.View.{table_view};
 ghost use Rattle.afdx_frame.specs.declared.link.Priority.TheVariants.{High, Low};
@@ -28,9 +30,12 @@ fn all_named(
     names: &[&str],
     systems: &Systems,
 ) -> Result<Vec<SystemId>, ConfigFault>
-    ensures known { IfOk result (λ v. AllByRecursion (λ i. i < length systems.now) (system_places v.items)) }
+    ensures known { IfOk result
+        (λ v. AllByRecursion (λ i. i < length systems.now) (system_places v.items)) }
     ensures count { IfOk result (λ v. length v.items ≡ length names.now) }
-    ensures value { Gives (λ v. system_places v.items) result (spec.or_no_such place (spec.all_of (spec.system_named systems.now) (lent_texts names.now))) }
+    ensures value { Gives (λ v. system_places v.items) result
+        (spec.or_no_such place
+        (spec.all_of (spec.system_named systems.now) (lent_texts names.now))) }
 {
     let mut ids = Vec::new(alloc);
     for name in names {
@@ -74,10 +79,12 @@ fn destinations(
     systems: &Systems,
     from: SystemId,
 ) -> Result<Vec<SystemId>, ConfigFault>
-    ensures known { IfOk result (λ v. AllByRecursion (λ i. i < length systems.now) (system_places v.items)) }
+    ensures known { IfOk result
+        (λ v. AllByRecursion (λ i. i < length systems.now) (system_places v.items)) }
     ensures count { IfOk result (λ v. IsWithin 1 24 (length v.items)) }
     ensures apart { IfOk result (λ v. spec.are_apart from.0 (system_places v.items) ≡ true) }
-    ensures value { Gives (λ v. system_places v.items) result (spec.destinations place systems.now from.0 (table_view table.now)) }
+    ensures value { Gives (λ v. system_places v.items) result
+        (spec.destinations place systems.now from.0 (table_view table.now)) }
 {
     let names = texts(alloc, table, place, "to")?;
     if names.len() < 1 || 24 < names.len() {
@@ -93,7 +100,9 @@ fn destinations(
 
 #[tactic(auto, unfolding(crate::specs::Keys::word))]
 fn priority(table: &Table, place: Place) -> Result<Priority, ConfigFault>
-    ensures { Gives (λ p. p) result (keys.word place (codes "priority") ((codes "high", High) ∷ (codes "low", Low) ∷ []) (table_view table.now)) }
+    ensures { Gives (λ p. p) result
+        (keys.word place (codes "priority") ((codes "high", High) ∷ (codes "low", Low) ∷ [])
+        (table_view table.now)) }
 {
     match text(table, place, "priority")? {
         "high" => Ok(Priority::High),
@@ -104,7 +113,9 @@ fn priority(table: &Table, place: Place) -> Result<Priority, ConfigFault>
 
 #[tactic(auto, unfolding(crate::specs::Keys::word))]
 fn policing(table: &Table, place: Place) -> Result<Policing, ConfigFault>
-    ensures { Gives (λ p. p) result (keys.word place (codes "policing") ((codes "byte", Byte) ∷ (codes "frame", Frame) ∷ []) (table_view table.now)) }
+    ensures { Gives (λ p. p) result
+        (keys.word place (codes "policing") ((codes "byte", Byte) ∷ (codes "frame", Frame) ∷ [])
+        (table_view table.now)) }
 {
     let word = text(table, place, "policing")?;
     if word == "byte" {
@@ -138,7 +149,8 @@ struct Treatment {
 #[tactic(auto, unfolding(crate::specs::Reading::traffic_at))]
 fn traffic_of(table: &Table, index: usize) -> Result<Traffic, ConfigFault>
     ensures lawful { IfOk result IsTraffic }
-    ensures value { Gives (λ x. x) result (spec.traffic_at (keys.place Part.Link index) (table_view table.now)) }
+    ensures value { Gives (λ x. x) result
+        (spec.traffic_at (keys.place Part.Link index) (table_view table.now)) }
 {
     let bag_ms = one_of(
         table,
@@ -166,7 +178,8 @@ fn traffic_of(table: &Table, index: usize) -> Result<Traffic, ConfigFault>
 #[tactic(auto, unfolding(crate::specs::Reading::treatment_at))]
 fn treatment_of(table: &Table, index: usize) -> Result<Treatment, ConfigFault>
     ensures lawful { IfOk result IsTreatment }
-    ensures value { Gives (λ x. x) result (spec.treatment_at (keys.place Part.Link index) (table_view table.now)) }
+    ensures value { Gives (λ x. x) result
+        (spec.treatment_at (keys.place Part.Link index) (table_view table.now)) }
 {
     let priority = priority(table, place(Part::Link, index, 8))?;
     let policing = policing(table, place(Part::Link, index, 9))?;
@@ -196,7 +209,8 @@ fn link_of(
     systems: &Systems,
     before: &Links,
 ) -> Result<Link, ConfigFault>
-    ensures value { Gives link_row result (spec.link_at systems.now before.now (table_view table.now)) }
+    ensures value { Gives link_row result
+        (spec.link_at systems.now before.now (table_view table.now)) }
     ensures fresh { IfOk result (λ l. spec.link_of before.now l.vl.0 ≡ None) }
     ensures lawful { IfOk result (λ l. IsLink (length systems.now) (link_row l)) }
 {
@@ -235,7 +249,8 @@ pub(crate) fn links_of(
 ) -> Result<Links, ConfigFault>
     requires { length tables.now ≤ 4096 }
     ensures lawful { IfOk result (AreLinks (length systems.now)) }
-    ensures value { Gives (λ l. l) result (spec.each (spec.link_at systems.now) [] (trees tables.now)) }
+    ensures value { Gives (λ l. l) result
+        (spec.each (spec.link_at systems.now) [] (trees tables.now)) }
 {
     let mut links = Links::new(alloc);
     for table in tables {

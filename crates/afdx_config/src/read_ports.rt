@@ -1,5 +1,7 @@
 //! The reading of communication ports.
-ghost use Rattle.std.specs.Prelude.{◌≡◌, ◌≤◌, ◌<◌, ◌∷◌, [], length, IfOk, codes, nat_eq, ◌&&◌, false};
+
+ghost use Rattle.std.specs.Prelude.{◌≡◌, ◌≤◌, ◌<◌, ◌∷◌, [], length, IfOk, codes, nat_eq, ◌&&◌};
+ghost use Rattle.std.specs.Prelude.{false};
 ghost use Rattle.std.specs.List.{list_any};
 ghost use Rattle.toml.specs.View.{table_view};
 ghost use Rattle.afdx_config.specs.Lawful.{IsPort, ArePorts};
@@ -20,7 +22,10 @@ use std::alloc::Global;
 use toml::Table;
 
 fn has_port(before: &[ComRow], system: SystemId, link: VlId, udp: u16) -> bool
-    ensures { result ≡ list_any (λ p. (nat_eq p.system.0 system.0 && nat_eq p.link.0 link.0) && nat_eq p.udp udp) before.now }
+    ensures { result
+        ≡ list_any
+        (λ p.
+        (nat_eq p.system.0 system.0 && nat_eq p.link.0 link.0) && nat_eq p.udp udp) before.now }
 {
     before.iter().any(|com| com.system == system && com.link == link && com.udp == udp)
 }
@@ -41,9 +46,11 @@ fn com_of(
     before: &[ComRow],
 ) -> Result<ComRow, ConfigFault>
     requires { length before.now < 4096 }
-    ensures fresh { IfOk result (λ p. spec.has_port (port_rows before.now) p.system.0 p.link.0 p.udp ≡ false) }
+    ensures fresh { IfOk result
+        (λ p. spec.has_port (port_rows before.now) p.system.0 p.link.0 p.udp ≡ false) }
     ensures lawful { IfOk result (λ p. IsPort (length systems.now) links.now (port_row p)) }
-    ensures value { Gives port_row result (spec.port_at systems.now links.now (port_rows before.now) (table_view table.now)) }
+    ensures value { Gives port_row result
+        (spec.port_at systems.now links.now (port_rows before.now) (table_view table.now)) }
 {
     let index = before.len() + 1;
     let system = named(table, place(Part::Port, index, 1), "system", systems)?;
@@ -86,7 +93,10 @@ fn deepest(kind: Kind) -> u64
 
 #[tactic(auto, unfolding(crate::specs::Keys::word))]
 fn kind(table: &Table, place: Place) -> Result<Kind, ConfigFault>
-    ensures { Gives (λ k. k) result (keys.word place (codes "kind") ((codes "sampling", Kind.Sampling) ∷ (codes "queuing", Kind.Queuing) ∷ []) (table_view table.now)) }
+    ensures { Gives (λ k. k) result
+        (keys.word place (codes "kind")
+        ((codes "sampling", Kind.Sampling) ∷ (codes "queuing", Kind.Queuing) ∷ [])
+        (table_view table.now)) }
 {
     match text(table, place, "kind")? {
         "sampling" => Ok(Kind::Sampling),
@@ -103,8 +113,10 @@ pub(crate) fn coms_of(
     links: &Links,
 ) -> Result<Vec<ComRow>, ConfigFault>
     requires { length tables.now ≤ 4096 }
-    ensures lawful { IfOk result (λ v. ArePorts (length systems.now) links.now (port_rows v.items)) }
-    ensures value { Gives (λ v. port_rows v.items) result (spec.each (spec.port_at systems.now links.now) [] (trees tables.now)) }
+    ensures lawful { IfOk result
+        (λ v. ArePorts (length systems.now) links.now (port_rows v.items)) }
+    ensures value { Gives (λ v. port_rows v.items) result
+        (spec.each (spec.port_at systems.now links.now) [] (trees tables.now)) }
 {
     let mut coms = Vec::new(alloc);
     for table in tables {

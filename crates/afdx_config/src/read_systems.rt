@@ -1,4 +1,5 @@
 //! The reading of systems.
+
 ghost use Rattle.std.specs.Prelude.{◌≡◌, ◌≤◌, ◌<◌, [], length, None, IfOk, true, string_bytes};
 ghost use Rattle.std.specs.List.{list_all};
 ghost use Rattle.std.specs.Char.{is_ascii_alphanumeric};
@@ -26,7 +27,8 @@ pub(crate) fn named(
     systems: &Systems,
 ) -> Result<SystemId, ConfigFault>
     ensures known { IfOk result (λ i. i.0 < length systems.now) }
-    ensures value { Gives (λ i. i.0) result (spec.named place key.now systems.now (table_view table.now)) }
+    ensures value { Gives (λ i. i.0) result
+        (spec.named place key.now systems.now (table_view table.now)) }
 {
     let name = text(table, place, key)?;
     match systems.named(name) {
@@ -51,7 +53,8 @@ fn is_alphanumeric(text: &str) -> bool
 
 #[tactic(auto, unfolding(crate::specs::Reading::new_name))]
 fn new_name<'a>(table: &'a Table, place: Place, before: &Systems) -> Result<&'a str, ConfigFault>
-    ensures value { Gives (λ s. s.now) result (spec.new_name place before.now (table_view table.now)) }
+    ensures value { Gives (λ s. s.now) result
+        (spec.new_name place before.now (table_view table.now)) }
     ensures fresh { IfOk result (λ s. spec.system_named before.now s.now ≡ None) }
     ensures lawful { IfOk result (λ s. spec.is_name s.now ≡ true) }
 {
@@ -84,7 +87,8 @@ fn system_of(
     profile: u64,
     before: &Systems,
 ) -> Result<System, ConfigFault>
-    ensures value { Gives system_row result (spec.system_at profile before.now (table_view table.now)) }
+    ensures value { Gives system_row result
+        (spec.system_at profile before.now (table_view table.now)) }
     ensures fresh { IfOk result (λ s. IsNewSystem before.now (system_row s)) }
     ensures lawful { IfOk result (λ s. IsSystem profile (system_row s)) }
 {
@@ -120,7 +124,8 @@ pub(crate) fn systems_of(
 ) -> Result<Systems, ConfigFault>
     requires { length tables.now ≤ 24 }
     ensures lawful { IfOk result (AreSystems profile) }
-    ensures value { Gives (λ s. s) result (spec.each (spec.system_at profile) [] (trees tables.now)) }
+    ensures value { Gives (λ s. s) result
+        (spec.each (spec.system_at profile) [] (trees tables.now)) }
 {
     let mut systems = Systems::new(alloc);
     for table in tables {

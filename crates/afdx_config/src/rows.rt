@@ -1,4 +1,5 @@
 //! The rows of the tables, with the keys of the format as fields.
+
 use afdx_frame::{Policing, Priority, VlId};
 
 /// The place of a system in the configuration, from 0.

@@ -1,5 +1,7 @@
 //! The systems of a network, by name.
-ghost use Rattle.std.specs.Prelude.{◌≡◌, ◌<◌, ◌≤◌, ◌++◌, [], ◌∷◌, length, slice_get, string_bytes, option_map, None, Some, OnOk, IfSome, position, ◌==◌};
+
+ghost use Rattle.std.specs.Prelude.{◌≡◌, ◌<◌, ◌≤◌, ◌++◌, [], ◌∷◌, length, slice_get, string_bytes};
+ghost use Rattle.std.specs.Prelude.{option_map, None, Some, OnOk, IfSome, position, ◌==◌};
 ghost use Rattle.std.specs.List.{list_any};
 ghost use Rattle.indexmap.specs.IndexMap.{values};
 ghost use Rattle.afdx_config.specs.Rows.{system_row};
@@ -26,7 +28,8 @@ impl Model for Systems {
 
     ghost view = { λ s. system_rows s.by_name.entries };
 
-    ghost invariant = { λ s. (length s.by_name.entries ≤ 24) × AllByRecursion IsUnderItsName s.by_name.entries };
+    ghost invariant =
+        { λ s. (length s.by_name.entries ≤ 24) × AllByRecursion IsUnderItsName s.by_name.entries };
 }
 
 impl Systems {

@@ -1,4 +1,5 @@
 //! The tables of a network.
+
 use crate::links::Links;
 use crate::rows::{ComRow, Link, System, SystemId};
 use crate::systems::Systems;

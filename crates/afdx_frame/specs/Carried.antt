@@ -1,7 +1,10 @@
--- What the datagram in a frame carries, as a function of the frame's bytes: the tests in their order, over the words at their places (RFC 791, RFC 768).
-use Rattle.std.specs.Prelude.{◌≡◌, ℕ, ◌+◌, ◌-◌, ◌%◌, ◌^◌, ◌↔◌, ◌==◌, ◌&&◌, Bool, not, nat_le, if◌then◌else◌, Result, Ok, Err, List, length, take, drop, slice_index}
+-- What the datagram in a frame carries, as a function of the frame's bytes: the tests in their
+-- order, over the words at their places (RFC 791, RFC 768).
+use Rattle.std.specs.Prelude.{◌≡◌, ℕ, ◌+◌, ◌-◌, ◌%◌, ◌^◌, ◌↔◌, ◌==◌, ◌&&◌, Bool, not, nat_le}
+use Rattle.std.specs.Prelude.{if◌then◌else◌, Result, Ok, Err, List, length, take, drop, slice_index}
 use Rattle.afdx_frame.specs.declared.fault.IpFault.{IpFault}
-use Rattle.afdx_frame.specs.declared.fault.IpFault.TheVariants.{NotIpv4, BadIpHeader, Fragment, NotUdp, BadUdpLength}
+use Rattle.afdx_frame.specs.declared.fault.IpFault.TheVariants.{NotIpv4, BadIpHeader, Fragment}
+use Rattle.afdx_frame.specs.declared.fault.IpFault.TheVariants.{NotUdp, BadUdpLength}
 use Rattle.afdx_frame.specs.declared.datagram.Datagram.{Datagram}
 use Rattle.afdx_frame.specs.Sealing.{AreBytes}
 use Rattle.afdx_frame.specs.Datagrams.{words, ones_sum, Carries, DatagramFault}
@@ -15,7 +18,11 @@ pub record Carried : Type 0 where
 
 -- what a view of a datagram shows
 abbrev pub carried_in : Datagram → Carried
-carried_in datagram = record { from_port = datagram.from_port; to_port = datagram.to_port; payload = datagram.payload.now }
+carried_in datagram = record {
+  from_port = datagram.from_port;
+  to_port = datagram.to_port;
+  payload = datagram.payload.now;
+}
 
 -- the length of header and data that the IPv4 header tells
 abbrev pub total_length : List ℕ → ℕ
@@ -47,11 +54,16 @@ carried_in_body body =
     else (if not (is_whole body) then Err Fragment
     else (if not (is_udp body) then Err NotUdp
     else (if not (is_right_udp_length body) then Err BadUdpLength
-    else Ok (record { from_port = word_at body 20; to_port = word_at body 22; payload = take (total_length body - 28) (drop 28 body) }))))
+    else Ok (record {
+      from_port = word_at body 20;
+      to_port = word_at body 22;
+      payload = take (total_length body - 28) (drop 28 body);
+    }))))
 
 -- what the datagram in a frame carries, or its first fault
 unfoldable pub carried_by : List ℕ → Result Carried IpFault
-carried_by bytes = if type_of_frame bytes == 0x0800 then carried_in_body (body_of_frame bytes) else Err NotIpv4
+carried_by bytes =
+    if type_of_frame bytes == 0x0800 then carried_in_body (body_of_frame bytes) else Err NotIpv4
 
 -- a frame with these parts carries this
 abbrev pub FrameCarries : FrameParts → Carried → Type 0
@@ -59,7 +71,9 @@ FrameCarries p c = (p.kind ≡ 0x0800) × Carries p.body c.from_port c.to_port c
 
 -- what is computed of a frame is what its body carries, or its first fault
 pub record DatagramIsComputed : Type 0 where
-  pub carried : (bytes : List ℕ) (p : FrameParts) (c : Carried) → AreBytes bytes → IsFrameOf bytes p →
+  pub carried : (bytes : List ℕ) (p : FrameParts) (c : Carried) → AreBytes bytes →
+      IsFrameOf bytes p →
       (carried_by bytes ≡ Ok c) ↔ FrameCarries p c
-  pub fault : (bytes : List ℕ) (p : FrameParts) (fault : IpFault) → AreBytes bytes → IsFrameOf bytes p →
+  pub fault : (bytes : List ℕ) (p : FrameParts) (fault : IpFault) → AreBytes bytes →
+      IsFrameOf bytes p →
       (carried_by bytes ≡ Err fault) ↔ DatagramFault p.kind p.body fault

@@ -1,11 +1,14 @@
--- The links that send to one output port, and what is admitted there. A burst is counted in units of one byte over
--- 128,000,000, and a load in such units for the time of one byte; so whole numbers serve throughout.
-use Rattle.std.specs.Prelude.{◌≡◌, ℕ, ◌+◌, ◌*◌, ◌-◌, ◌≤◌, Bool, true, false, max, All, List, [], ◌∷◌, filter, sum_by}
+-- The links that send to one output port, and what is admitted there. A burst is counted in units
+-- of one byte over 128,000,000, and a load in such units for the time of one byte; so whole numbers
+-- serve throughout.
+use Rattle.std.specs.Prelude.{◌≡◌, ℕ, ◌+◌, ◌*◌, ◌-◌, ◌≤◌, Bool, true, false, max, All, List, []}
+use Rattle.std.specs.Prelude.{◌∷◌, filter, sum_by}
 use Rattle.afdx_frame.specs.declared.link.Priority.{Priority}
 use Rattle.afdx_frame.specs.declared.link.Priority.TheVariants.{High, Low}
 use Rattle.afdx_frame.specs.Regulation.{Regulation, byte_units, fill_rate, cap}
 
--- a link that sends to the port: its identifier, how it is regulated, its class, and its latency in ns
+-- a link that sends to the port: its identifier, how it is regulated, its class, and its latency in
+-- ns
 pub record Flow : Type 0 where
   pub vl : ℕ
   pub link : Regulation
@@ -34,9 +37,11 @@ abbrev pub longest : List Flow → ℕ
 longest [] = 0
 longest (f ∷ fs) = max f.link.smax (longest fs)
 
--- what a high frame waits for at most, in ns over `byte_units`: all high frames, and the low one that holds the line
+-- what a high frame waits for at most, in ns over `byte_units`: all high frames, and the low one
+-- that holds the line
 abbrev pub high_wait : ℕ → List Flow → ℕ
-high_wait byte_ns flows = (burst (of_class High flows) + byte_units * longest (of_class Low flows)) * byte_ns
+high_wait byte_ns flows =
+    (burst (of_class High flows) + byte_units * longest (of_class Low flows)) * byte_ns
 
 -- and a low frame, over what the high ones leave of `byte_units`
 abbrev pub low_wait : ℕ → List Flow → ℕ
@@ -45,10 +50,14 @@ low_wait byte_ns flows = burst flows * byte_ns
 abbrev pub high_load : ℕ → List Flow → ℕ
 high_load byte_ns flows = load byte_ns (of_class High flows)
 
--- The port is admitted with these flows: no more than the line carries, no more at once than the buffer holds, and
--- no frame waits longer than its link's latency.
+-- The port is admitted with these flows: no more than the line carries, no more at once than the
+-- buffer holds, and no frame waits longer than its link's latency.
 pub record IsPortAdmitted (byte_ns buffer : ℕ) (flows : List Flow) : Type 0 where
   pub no_overload : load byte_ns flows ≤ byte_units
   pub fits_buffer : burst flows ≤ buffer * byte_units
-  pub high_in_time : All (λ f. f.priority ≡ High → high_wait byte_ns flows ≤ f.latency * byte_units) flows
-  pub low_in_time : All (λ f. f.priority ≡ Low → low_wait byte_ns flows ≤ f.latency * (byte_units - high_load byte_ns flows)) flows
+  pub high_in_time :
+      All (λ f. f.priority ≡ High → high_wait byte_ns flows ≤ f.latency * byte_units) flows
+  pub low_in_time :
+      All
+      (λ f. f.priority ≡ Low →
+      low_wait byte_ns flows ≤ f.latency * (byte_units - high_load byte_ns flows)) flows

@@ -1,8 +1,11 @@
--- The parts of a frame as functions of its bytes, each read at its place, and what a view shows of them.
-use Rattle.std.specs.Prelude.{◌≡◌, ℕ, ◌+◌, ◌-◌, ◌*◌, ◌↔◌, not, nat_lt, if◌then◌else◌, Option, Some, None, Result, Ok, Err, List, length, take, drop, slice_index}
+-- The parts of a frame as functions of its bytes, each read at its place, and what a view shows of
+-- them.
+use Rattle.std.specs.Prelude.{◌≡◌, ℕ, ◌+◌, ◌-◌, ◌*◌, ◌↔◌, not, nat_lt, if◌then◌else◌, Option, Some}
+use Rattle.std.specs.Prelude.{None, Result, Ok, Err, List, length, take, drop, slice_index}
 use Rattle.afdx_frame.specs.declared.link.VlId.{VlId}
 use Rattle.afdx_frame.specs.declared.fault.MacFault.{MacFault}
-use Rattle.afdx_frame.specs.declared.fault.MacFault.TheVariants.{TooShort, TooLong, BadFcs, BadAddress}
+use Rattle.afdx_frame.specs.declared.fault.MacFault.TheVariants.{TooShort, TooLong, BadFcs}
+use Rattle.afdx_frame.specs.declared.fault.MacFault.TheVariants.{BadAddress}
 use Rattle.afdx_frame.specs.declared.mac.MacView.{MacView}
 use Rattle.afdx_frame.specs.Sealing.{AreBytes, is_sealed}
 use Rattle.afdx_frame.specs.Layout.{IsFrame, FrameFault, link_named_by}
@@ -16,7 +19,8 @@ pub record FrameParts : Type 0 where
 
 -- what a view shows
 abbrev pub parts_of : MacView → FrameParts
-parts_of view = record { link = view.vl; kind = view.ether_type; body = view.body.now; number = view.sequence }
+parts_of view =
+    record { link = view.vl; kind = view.ether_type; body = view.body.now; number = view.sequence }
 
 -- the word of 16 bits at a place, the high byte first
 abbrev pub word_at : List ℕ → ℕ → ℕ
@@ -37,7 +41,13 @@ number_of_frame bytes = slice_index bytes (length bytes - 5)
 -- the frame of this link, if there is one
 abbrev pub frame_with : List ℕ → Option VlId → Result FrameParts MacFault
 frame_with bytes None = Err BadAddress
-frame_with bytes (Some vl) = Ok (record { link = vl; kind = type_of_frame bytes; body = body_of_frame bytes; number = number_of_frame bytes })
+frame_with bytes (Some vl) =
+    Ok (record {
+      link = vl;
+      kind = type_of_frame bytes;
+      body = body_of_frame bytes;
+      number = number_of_frame bytes;
+    })
 
 -- the frame of a link that the bytes are, or the first fault
 unfoldable pub frame_of : List ℕ → Result FrameParts MacFault
@@ -59,8 +69,11 @@ pub record AreAtPlaces (bytes : List ℕ) (p : FrameParts) : Type 0 where
   pub number : p.number ≡ number_of_frame bytes
   pub long : length bytes ≡ length p.body + 19
 
--- a frame has its parts at their places, and the frame or the fault that is computed is the one that the layout gives
+-- a frame has its parts at their places, and the frame or the fault that is computed is the one
+-- that the layout gives
 pub record FrameIsComputed : Type 0 where
   pub at_places : (bytes : List ℕ) (p : FrameParts) → IsFrameOf bytes p → AreAtPlaces bytes p
-  pub frame : (bytes : List ℕ) (p : FrameParts) → AreBytes bytes → (frame_of bytes ≡ Ok p) ↔ IsFrameOf bytes p
-  pub fault : (bytes : List ℕ) (fault : MacFault) → AreBytes bytes → (frame_of bytes ≡ Err fault) ↔ FrameFault bytes fault
+  pub frame : (bytes : List ℕ) (p : FrameParts) → AreBytes bytes →
+      (frame_of bytes ≡ Ok p) ↔ IsFrameOf bytes p
+  pub fault : (bytes : List ℕ) (fault : MacFault) → AreBytes bytes →
+      (frame_of bytes ≡ Err fault) ↔ FrameFault bytes fault

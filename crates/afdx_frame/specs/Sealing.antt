@@ -1,13 +1,16 @@
 -- The check sequence as a function of a message, and what is sealed by it.
-use Rattle.std.specs.Prelude.{◌≡◌, ◌↔◌, ℕ, ◌-◌, ◌*◌, ◌<◌, ◌^◌, Bool, false, ◌&&◌, nat_le, IsTrue, List, ◌++◌, length, take, drop, slice_index, bit_xor}
+use Rattle.std.specs.Prelude.{◌≡◌, ◌↔◌, ℕ, ◌-◌, ◌*◌, ◌<◌, ◌^◌, Bool, false, ◌&&◌, nat_le, IsTrue}
+use Rattle.std.specs.Prelude.{List, ◌++◌, length, take, drop, slice_index, bit_xor}
 use Rattle.std.specs.Int.{w32, to_le_bytes}
 use Rattle.std.specs.Str.{bytes_eq}
 use Rattle.afdx_frame.specs.Sequence.{IsSequence, IsSealed}
 use Rattle.afdx_frame.specs.Register.{number, shift}
 
--- the sequence of a message: what the message, its first 32 bits complemented, leaves in the register, complemented
+-- the sequence of a message: what the message, its first 32 bits complemented, leaves in the
+-- register, complemented
 unfoldable pub sequence_of : List ℕ → ℕ
-sequence_of message = 0xffff_ffff - shift (8 * length message) (bit_xor 0xffff_ffff (number message))
+sequence_of message =
+    0xffff_ffff - shift (8 * length message) (bit_xor 0xffff_ffff (number message))
 
 -- these bytes and their sequence
 abbrev pub sealed : List ℕ → List ℕ
@@ -21,7 +24,8 @@ sealed_wrongly bytes = bytes ++ to_le_bytes w32 (0xffff_ffff - sequence_of bytes
 unfoldable pub is_sealed : List ℕ → Bool
 is_sealed bytes =
     nat_le 4 (length bytes)
-    && bytes_eq (drop (length bytes - 4) bytes) (to_le_bytes w32 (sequence_of (take (length bytes - 4) bytes)))
+    && bytes_eq (drop (length bytes - 4) bytes)
+    (to_le_bytes w32 (sequence_of (take (length bytes - 4) bytes)))
 
 -- each is a byte
 abbrev pub AreBytes : List ℕ → Type 0
@@ -32,7 +36,8 @@ pub record SequenceIsComputed : Type 0 where
   pub computed : (message : List ℕ) → AreBytes message → IsSequence message (sequence_of message)
   pub only_one : (message : List ℕ) (m n : ℕ) → IsSequence message m → IsSequence message n → m ≡ n
 
--- sealed bytes are those that the test finds sealed: those that were sealed are, those that were sealed wrongly are not
+-- sealed bytes are those that the test finds sealed: those that were sealed are, those that were
+-- sealed wrongly are not
 pub record SealingIsComputed : Type 0 where
   pub tested : (bytes : List ℕ) → AreBytes bytes → IsTrue (is_sealed bytes) ↔ IsSealed bytes
   pub sealed : (bytes : List ℕ) → IsTrue (is_sealed (sealed bytes))

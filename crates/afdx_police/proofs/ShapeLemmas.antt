@@ -2,7 +2,7 @@
 use Rattle.std.proofs.Common.{◌≡◌, ℕ, ◌+◌, ◌≤◌, ◌↔◌, Bool, true, false, List, [], ◌∷◌, length, refl, arith}
 use Rattle.std.specs.Prelude.{not, nat_lt, ◌==◌, ◌&&◌, is_none, IsSome, Option, Some, None, find, option_map}
 use Rattle.std.specs.Option.{option_map_or}
-use Rattle.std.proofs.lemmas.Bool.{ltb-false, le-ltb, eqb-true, eq-eqb, not_from_true}
+use Rattle.std.proofs.lemmas.Bool.{not-false, ltb-false, le-ltb, eqb-true, eq-eqb, not_from_true}
 use Rattle.afdx_frame.specs.declared.link.Policing.{Policing}
 use Rattle.afdx_frame.specs.declared.link.Policing.TheVariants.{Byte, Frame}
 use Rattle.afdx_frame.specs.declared.link.VlId.{VlId}
@@ -73,10 +73,6 @@ false-none (fault ∷ faults) h = at fault.0 fault.1 h.0 (false-none faults h.1)
     at : (b : Bool) (r : Reason) → b ≡ false → first_of faults ≡ None → first_of ((b, r) ∷ faults) ≡ None
     at true r e rest = absurd (cc)
     at false r e rest = rest
-
-not-false : (b : Bool) → not b ≡ false → b ≡ true
-not-false true h = refl
-not-false false h = absurd (cc)
 
 -- the least length counts only where frames are charged by bytes
 least-of : (policing : Policing) (short : Bool) → (is_byte_based policing && short) ≡ false → policing ≡ Byte → short ≡ false

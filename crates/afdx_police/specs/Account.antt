@@ -3,11 +3,13 @@ use Rattle.std.specs.Prelude.{ℕ, ◌+◌, ◌-◌, ◌*◌, max, List, [], ◌
 use Rattle.afdx_frame.specs.Regulation.{Regulation, byte_units, fill_rate, cap}
 use Rattle.afdx_police.specs.Window.{Charged}
 
--- the most that a window which begins with one of these was charged beyond its fill, if frames of `taken` bytes came after them
+-- the most that a window which begins with one of these was charged beyond its fill, if frames of
+-- `taken` bytes came after them
 unfoldable pub overdrawn : Regulation → List Charged → ℕ → ℕ → ℕ
 overdrawn link [] taken time = 0
 overdrawn link (first ∷ before) taken time =
-    max (byte_units * (taken + first.charge) - fill_rate link * (time - first.time)) (overdrawn link before (taken + first.charge) time)
+    max (byte_units * (taken + first.charge) - fill_rate link * (time - first.time))
+    (overdrawn link before (taken + first.charge) time)
 
 -- what is missing in the account at `time`
 abbrev pub missing : Regulation → List Charged → ℕ → ℕ

@@ -1,11 +1,13 @@
--- What arrives at the switches, and which of it is a link's own. A list of arrivals has the newest first.
-use Rattle.std.specs.Prelude.{ℕ, Bool, true, false, ◌&&◌, ◌==◌, List, filter}
+-- What arrives at the switches, and which of it is a link's own. A list of arrivals has the newest
+-- first.
+use Rattle.std.specs.Prelude.{ℕ, Bool, false, ◌&&◌, ◌==◌, List, filter}
 use Rattle.std.specs.Option.{option_map_or}
 use Rattle.afdx_frame.specs.Layout.{link_named_by}
 use Rattle.afdx_frame.specs.declared.link.Side.{Side}
-use Rattle.afdx_frame.specs.declared.link.Side.TheVariants.{A, B}
+pub use Rattle.afdx_frame.specs.Sides.{is_side}
 
--- a frame that arrives: the caller's tag, the time in nanoseconds, the switch, its input port, and all bytes
+-- a frame that arrives: the caller's tag, the time in nanoseconds, the switch, its input port, and
+-- all bytes
 pub record Arrival : Type 0 where
   pub tag : ℕ
   pub time : ℕ
@@ -15,13 +17,8 @@ pub record Arrival : Type 0 where
 
 -- in this order
 abbrev pub arrival_with : ℕ → ℕ → Side → ℕ → List ℕ → Arrival
-arrival_with tag time side port bytes = record { tag = tag; time = time; side = side; port = port; bytes = bytes }
-
-abbrev pub is_side : Side → Side → Bool
-is_side A A = true
-is_side A B = false
-is_side B A = false
-is_side B B = true
+arrival_with tag time side port bytes =
+    record { tag = tag; time = time; side = side; port = port; bytes = bytes }
 
 -- the destination address of the bytes names the link
 unfoldable pub names : ℕ → List ℕ → Bool

@@ -11,3 +11,4 @@ pub mod Shape
 pub mod Stream
 pub mod Verdicts
 pub mod Window
+pub mod Words

@@ -1,6 +1,6 @@
 -- What a policer's account is after a list of offers, the newest first.
 use Rattle.std.specs.Prelude.{◌≡◌, ℕ, ◌+◌, ◌≤◌, All, Bool, List, map}
-use Rattle.afdx_frame.specs.Regulation.{Regulation, cap}
+use Rattle.afdx_frame.specs.Regulation.{Regulation, cap, wire_of}
 use Rattle.afdx_police.specs.Account.{missing}
 use Rattle.afdx_police.specs.Rule.{Rule, regulation_of}
 use Rattle.afdx_police.specs.Window.{Charged, fits, accepted_of}
@@ -12,7 +12,8 @@ pub record Offer : Type 0 where
 
 -- as the window rule sees it: `charge_of smax wire` is what a frame of that wire size is charged
 abbrev pub charged_offer : (ℕ → ℕ → ℕ) → Regulation → Offer → Charged
-charged_offer charge_of link offer = record { time = offer.time; charge = charge_of link.smax (offer.length + 20) }
+charged_offer charge_of link offer =
+    record { time = offer.time; charge = charge_of link.smax (wire_of offer.length) }
 
 -- the accepted ones of the offers
 abbrev pub accepted_offers : (ℕ → ℕ → ℕ) → Regulation → List Offer → List Charged
@@ -20,7 +21,8 @@ accepted_offers charge_of link offers = accepted_of link (map (charged_offer cha
 
 -- whether one more offer is accepted after these
 abbrev pub is_accepted : (ℕ → ℕ → ℕ) → Regulation → List Offer → Offer → Bool
-is_accepted charge_of link offers offer = fits link (accepted_offers charge_of link offers) (charged_offer charge_of link offer)
+is_accepted charge_of link offers offer =
+    fits link (accepted_offers charge_of link offers) (charged_offer charge_of link offer)
 
 -- an account: its link's rule, its level in units, and the time of that level
 pub record Account : Type 0 where
@@ -29,6 +31,13 @@ pub record Account : Type 0 where
   pub time : ℕ
 
 -- the account is the one that these offers leave
-pub record StandsFor (charge_of : ℕ → ℕ → ℕ) (account : Account) (offers : List Offer) : Type 0 where
-  pub came : All (λ x. x.time ≤ account.time) (accepted_offers charge_of (regulation_of account.rule) offers)
-  pub level : account.level + missing (regulation_of account.rule) (accepted_offers charge_of (regulation_of account.rule) offers) account.time ≡ cap (regulation_of account.rule)
+pub record StandsFor (charge_of : ℕ → ℕ → ℕ) (account : Account)
+    (offers : List Offer) : Type 0 where
+  pub came :
+      All (λ x. x.time ≤ account.time)
+      (accepted_offers charge_of (regulation_of account.rule) offers)
+  pub level :
+      account.level
+      + missing (regulation_of account.rule)
+      (accepted_offers charge_of (regulation_of account.rule) offers) account.time
+      ≡ cap (regulation_of account.rule)

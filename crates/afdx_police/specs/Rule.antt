@@ -1,10 +1,11 @@
 -- The rule of a link: how its frames are filtered and policed.
-use Rattle.std.specs.Prelude.{ℕ, ◌+◌, ◌*◌, ◌≤◌, Bool, ◌==◌, IsTrue, [], ◌∷◌}
-use Rattle.std.specs.List.{list_any}
-use Rattle.afdx_frame.specs.Regulation.{Regulation}
+use Rattle.std.specs.Prelude.{ℕ, ◌*◌, ◌≤◌, IsTrue}
+pub use Rattle.afdx_frame.specs.Regulation.{is_bag}
+use Rattle.afdx_frame.specs.Regulation.{Regulation, regulation_with}
 use Rattle.afdx_frame.specs.declared.link.Policing.{Policing}
 
--- the link, the one port where its frames come in, its gap in ms, its frames' least and greatest length in bytes, its jitter in us
+-- the link, the one port where its frames come in, its gap in ms, its frames' least and greatest
+-- length in bytes, its jitter in us
 pub record Rule : Type 0 where
   pub vl : ℕ
   pub port : ℕ
@@ -17,11 +18,15 @@ pub record Rule : Type 0 where
 -- in this order
 abbrev pub rule_with : ℕ → ℕ → ℕ → ℕ → ℕ → ℕ → Policing → Rule
 rule_with vl port bag_ms lmin lmax jitter_us policing =
-    record { vl = vl; port = port; bag_ms = bag_ms; lmin = lmin; lmax = lmax; jitter_us = jitter_us; policing = policing }
-
--- a bandwidth allocation gap in milliseconds
-abbrev pub is_bag : ℕ → Bool
-is_bag ms = list_any (λ bag. bag == ms) (1 ∷ 2 ∷ 4 ∷ 8 ∷ 16 ∷ 32 ∷ 64 ∷ 128 ∷ [])
+    record {
+      vl = vl;
+      port = port;
+      bag_ms = bag_ms;
+      lmin = lmin;
+      lmax = lmax;
+      jitter_us = jitter_us;
+      policing = policing;
+    }
 
 -- each value is in its range
 pub record IsRule (rule : Rule) : Type 0 where
@@ -33,6 +38,6 @@ pub record IsRule (rule : Rule) : Type 0 where
   pub longest : rule.lmax ≤ 1518
   pub jitter : rule.jitter_us ≤ 1000 * rule.bag_ms
 
--- how the link is regulated: on the wire a frame takes 20 bytes more, for preamble, start delimiter and gap
+-- how the link is regulated
 abbrev pub regulation_of : Rule → Regulation
-regulation_of rule = record { bag_ms = rule.bag_ms; jitter_us = rule.jitter_us; smax = rule.lmax + 20 }
+regulation_of rule = regulation_with rule.bag_ms rule.jitter_us rule.lmax

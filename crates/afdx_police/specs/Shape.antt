@@ -1,5 +1,6 @@
 -- What is wrong with one arrival, from its bytes, its port and its link's rule alone.
-use Rattle.std.specs.Prelude.{◌≡◌, ◌≤◌, ℕ, IsTrue, Bool, false, true, not, ◌&&◌, ◌==◌, nat_lt, is_none, Option, List, [], ◌∷◌, length, find, option_map}
+use Rattle.std.specs.Prelude.{◌≡◌, ◌≤◌, ℕ, IsTrue, Bool, false, true, not, ◌&&◌, ◌==◌, nat_lt}
+use Rattle.std.specs.Prelude.{is_none, Option, List, [], ◌∷◌, length, find, option_map}
 use Rattle.std.specs.Option.{option_map_or}
 use Rattle.afdx_frame.specs.declared.link.Policing.{Policing}
 use Rattle.afdx_frame.specs.declared.link.Policing.TheVariants.{Byte, Frame}
@@ -8,13 +9,16 @@ use Rattle.afdx_frame.specs.Sealing.{is_sealed}
 use Rattle.afdx_police.specs.Arrival.{names}
 use Rattle.afdx_police.specs.Rule.{Rule}
 use Rattle.afdx_police.specs.declared.shape.Reason.{Reason}
-use Rattle.afdx_police.specs.declared.shape.Reason.TheVariants.{TooShort, TooLong, BadFcs, BadAddress, UnknownLink, WrongPort, OverLmax, UnderLmin}
+use Rattle.afdx_police.specs.declared.shape.Reason.TheVariants.{TooShort, TooLong, BadFcs}
+use Rattle.afdx_police.specs.declared.shape.Reason.TheVariants.{BadAddress, UnknownLink, WrongPort}
+use Rattle.afdx_police.specs.declared.shape.Reason.TheVariants.{OverLmax, UnderLmin}
 
 abbrev pub is_byte_based : Policing → Bool
 is_byte_based Byte = true
 is_byte_based Frame = false
 
--- each fault beside the test of it, in the order in which they are answered; no rule: no link of the tables is named
+-- each fault beside the test of it, in the order in which they are answered; no rule: no link of
+-- the tables is named
 abbrev pub faults : Option Rule → ℕ → List ℕ → List (Bool × Reason)
 faults rule port bytes =
     (nat_lt (length bytes) 64, TooShort) ∷
@@ -24,11 +28,13 @@ faults rule port bytes =
     (not (option_map_or (λ r. names r.vl bytes) rule false), UnknownLink) ∷
     (not (option_map_or (λ r. r.port == port) rule false), WrongPort) ∷
     (option_map_or (λ r. nat_lt r.lmax (length bytes)) rule false, OverLmax) ∷
-    (option_map_or (λ r. is_byte_based r.policing && nat_lt (length bytes) r.lmin) rule false, UnderLmin) ∷ []
+    (option_map_or (λ r. is_byte_based r.policing && nat_lt (length bytes) r.lmin) rule false,
+    UnderLmin) ∷ []
 
 -- the first fault of the arrival, if it has one
 unfoldable pub fault_of : Option Rule → ℕ → List ℕ → Option Reason
-fault_of rule port bytes = option_map (λ fault. fault.1) (find (λ fault. fault.0) (faults rule port bytes))
+fault_of rule port bytes =
+    option_map (λ fault. fault.1) (find (λ fault. fault.0) (faults rule port bytes))
 
 -- an arrival of the rule's link in which nothing is wrong
 pub record IsSound (rule : Rule) (port : ℕ) (bytes : List ℕ) : Type 0 where

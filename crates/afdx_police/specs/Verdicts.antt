@@ -1,6 +1,9 @@
--- Which arrivals of a link are accepted, and why the others are dropped. Lists have the newest first.
-use Rattle.std.specs.Prelude.{◌+◌, if◌then◌else◌, is_none, Option, Some, None, List, [], ◌∷◌, length}
+-- Which arrivals of a link are accepted, and why the others are dropped. Lists have the newest
+-- first.
+use Rattle.std.specs.Prelude.{if◌then◌else◌, is_none, Option, Some, None, List, [], ◌∷◌}
+use Rattle.std.specs.Prelude.{length}
 use Rattle.std.specs.Option.{option_or}
+use Rattle.afdx_frame.specs.Regulation.{wire_of}
 use Rattle.afdx_police.specs.declared.shape.Reason.{Reason}
 use Rattle.afdx_police.specs.declared.shape.Reason.TheVariants.{OverRate}
 use Rattle.afdx_police.specs.Arrival.{Arrival, own}
@@ -11,9 +14,13 @@ use Rattle.afdx_police.specs.Window.{Charged, fits}
 
 -- an arrival as the window rule sees it
 abbrev pub charged_by : Rule → Arrival → Charged
-charged_by rule x = record { time = x.time; charge = charge_by rule.policing (rule.lmax + 20) (length x.bytes + 20) }
+charged_by rule x = record {
+  time = x.time;
+  charge = charge_by rule.policing (wire_of rule.lmax) (wire_of (length x.bytes));
+}
 
--- why an arrival is dropped where these of its link were accepted: for its shape, or else for its link's rate
+-- why an arrival is dropped where these of its link were accepted: for its shape, or else for its
+-- link's rate
 abbrev pub drop_reason : Rule → List Charged → Arrival → Option Reason
 drop_reason rule accepted x =
     option_or (fault_of (Some rule) x.port x.bytes)

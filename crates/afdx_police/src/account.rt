@@ -1,4 +1,5 @@
-//! The account of a link, charged by the link's own kind of policing, and the verdicts on its arrivals.
+//! The account of a link, charged by the link's own kind of policing, and the verdicts on its
+//! arrivals.
 
 ghost use Rattle.std.specs.Prelude.{◌≡◌, ℕ, ◌≤◌, if◌then◌else◌, List, [], ◌∷◌};
 ghost use Rattle.afdx_police.specs.Shape.{fault_of};
@@ -24,7 +25,8 @@ pub enum LinkAccount {
 }
 
 impl LinkAccount {
-    ghost use Rattle.afdx_police.specs.LinkAccounts.{IsOfferedAs, StandsForOwn, account_of, last_time};
+    ghost use Rattle.afdx_police.specs.LinkAccounts.{IsOfferedAs, StandsForOwn, account_of};
+    ghost use Rattle.afdx_police.specs.LinkAccounts.{last_time};
 
     /// A full account.
     pub fn new(rule: &LinkRule) -> LinkAccount
@@ -75,8 +77,8 @@ impl LinkAccount {
 
     /// Why an arrival is dropped, if it is: for its shape, or else for its link's rate.
     ///
-    /// `time` is in nanoseconds, `port` the input port, `frame` all bytes, and `sealed` says whether
-    /// they end with their check sequence. Only an arrival that is accepted is charged.
+    /// `time` is in nanoseconds, `port` the input port, `frame` all bytes, and `sealed` says
+    /// whether they end with their check sequence. Only an arrival that is accepted is charged.
     pub fn police(&mut self, time: u64, port: u8, frame: &[u8], sealed: bool) -> Option<Reason>
         requires in_time { last_time self.old ≤ time }
         requires sealed { sealed ≡ is_sealed frame.now }
@@ -92,7 +94,8 @@ impl LinkAccount {
             StandsForOwn rule self.old past →
             StandsForOwn rule self.new (arrival_with tag time side port frame.now ∷ past) }
 
-        // The same where arrivals of any link and side led here, and this one need not name the link.
+        // The same where arrivals of any link and side led here, and this one need not name the
+        // link.
         ensures verdict { (rule : Rule) (all : List Arrival) (tag : ℕ) (side : Side) →
             StandsForOwn rule self.old (own rule.vl side all) →
             result ≡ verdict_in rule all (arrival_with tag time side port frame.now) }

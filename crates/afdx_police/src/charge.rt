@@ -4,7 +4,8 @@ ghost use Rattle.std.specs.Prelude.{◌≡◌, ℕ, ◌≤◌};
 
 /// A kind of charge (ARINC 664 Part 7: byte-based or frame-based policing).
 pub trait Charge: Drop {
-    /// What a frame of a wire size is charged, where the first number is the greatest wire size of its link.
+    /// What a frame of a wire size is charged, where the first number is the greatest wire size of
+    /// its link.
     ghost charge_of: { ℕ → ℕ → ℕ };
 
     /// The bytes that a frame of `wire` bytes on the wire is charged, where `smax` is the greatest
@@ -22,11 +23,11 @@ pub trait Charge: Drop {
 pub struct ByteCharge;
 
 impl Charge for ByteCharge {
-    ghost use Rattle.std.proofs.Common.{arith};
+    ghost use Rattle.std.proofs.Math.Nat.{le_refl};
 
     ghost charge_of = { λ smax wire. wire };
 
-    ghost bounded = { λ smax wire low high. (Prim.omega arith, high) };
+    ghost bounded = { λ smax wire low high. (le_refl wire, high) };
 
     fn charge(_smax: u64, wire: u64) -> u64 {
         wire
@@ -38,11 +39,11 @@ impl Charge for ByteCharge {
 pub struct FrameCharge;
 
 impl Charge for FrameCharge {
-    ghost use Rattle.std.proofs.Common.{arith};
+    ghost use Rattle.std.proofs.Math.Nat.{le_refl};
 
     ghost charge_of = { λ smax wire. smax };
 
-    ghost bounded = { λ smax wire low high. (high, Prim.omega arith) };
+    ghost bounded = { λ smax wire low high. (high, le_refl smax) };
 
     fn charge(smax: u64, _wire: u64) -> u64 {
         smax

@@ -1,6 +1,9 @@
 //! Laws over the definitions, for the crates that stand on them.
 
-ghost use Rattle.afdx_police.specs.Laws.{FitsIsEachWindow, FitsIsAccountTest, EachAccountMoves, ArrivalsAreOffers, EachOwnSteps, StrangersAreRefused, FaultsChangeNothing, SoundHasNoFault, SoundIsChargedFor, VerdictsDecide};
+ghost use Rattle.afdx_police.specs.Laws.{FitsIsEachWindow, FitsIsAccountTest, EachAccountMoves};
+ghost use Rattle.afdx_police.specs.Laws.{ArrivalsAreOffers, EachOwnSteps, StrangersAreRefused};
+ghost use Rattle.afdx_police.specs.Laws.{FaultsChangeNothing, SoundHasNoFault, SoundIsChargedFor};
+ghost use Rattle.afdx_police.specs.Laws.{VerdictsDecide};
 ghost use Rattle.afdx_police.specs.Stream.{RegularIsAccepted};
 
 /// The window rule's test is that of each window.

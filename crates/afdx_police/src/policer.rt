@@ -3,11 +3,9 @@
 ghost use Rattle.std.specs.Prelude.{◌≡◌, ◌≤◌, List, [], ◌∷◌};
 
 use crate::charge::Charge;
-use crate::rule::{LinkRule, WIRE_EXTRA};
+use crate::rule::LinkRule;
+use afdx_frame::{BYTE_UNITS, WIRE_EXTRA};
 use std::marker::{Model, PhantomData};
-
-// The units of an account in one byte.
-const BYTE_UNITS: u64 = 128_000_000;
 
 /// The account of one link at one switch, charged by `C` whatever the rule's own policing is.
 ///

@@ -3,11 +3,7 @@
 ghost use Rattle.std.specs.Prelude.{◌≡◌, ◌↔◌, IsSome, IfSome};
 ghost use Rattle.afdx_police.specs.Rule.{IsRule, rule_with};
 
-use afdx_frame::{Policing, VlId};
-
-/// The bytes that a frame takes on the wire besides its own (IEEE 802.3): 7 of preamble,
-/// 1 start delimiter, 12 of gap.
-pub(crate) const WIRE_EXTRA: u64 = 20;
+use afdx_frame::{GREATEST_FRAME, LEAST_FRAME, Policing, VlId, WIRE_EXTRA};
 
 /// How one virtual link is filtered and policed at a switch (ARINC 664 Part 7).
 ///
@@ -32,8 +28,8 @@ impl LinkRule {
     ghost use Rattle.afdx_frame.specs.Regulation.{bag, jitter, fill_rate, cap};
     ghost use Rattle.std.specs.Prelude.{◌+◌};
 
-    /// The rule of these values; None exactly if one is out of its range: a port of 1 to 24, a gap of
-    /// 1, 2, 4, .. or 128 ms, `64 <= lmin <= lmax <= 1518`, a jitter of at most the gap.
+    /// The rule of these values; None exactly if one is out of its range: a port of 1 to 24, a gap
+    /// of 1, 2, 4, .. or 128 ms, `64 <= lmin <= lmax <= 1518`, a jitter of at most the gap.
     pub fn new(
         vl: VlId,
         port: u8,
@@ -43,7 +39,8 @@ impl LinkRule {
         jitter_us: u64,
         policing: Policing,
     ) -> Option<LinkRule>
-        ensures in_range { IsSome result ↔ IsRule (rule_with vl.0 port bag_ms lmin lmax jitter_us policing) }
+        ensures in_range { IsSome result
+            ↔ IsRule (rule_with vl.0 port bag_ms lmin lmax jitter_us policing) }
         ensures given { IfSome result (λ r.
             rule_of r ≡ rule_with vl.0 port bag_ms lmin lmax jitter_us policing) }
     {
@@ -51,9 +48,9 @@ impl LinkRule {
         if port >= 1
             && port <= 24
             && is_bag
-            && lmin >= 64
+            && lmin >= LEAST_FRAME as u64
             && lmin <= lmax
-            && lmax <= 1518
+            && lmax <= GREATEST_FRAME as u64
             && jitter_us <= 1000 * bag_ms
         {
             Some(LinkRule {

@@ -7,7 +7,8 @@ ghost use Rattle.afdx_police.specs.RuleOf.{rule_of};
 ghost use Rattle.afdx_police.specs.Shape.{fault_of};
 
 use crate::rule::LinkRule;
-use afdx_frame::{Policing, is_sealed, vl_of};
+use afdx_frame::{GREATEST_FRAME, LEAST_FRAME, Policing, is_sealed, vl_of};
+use std::fmt;
 
 /// Why an arrival is dropped.
 #[derive(Clone, Copy, Debug, PartialEq, Eq)]
@@ -30,6 +31,39 @@ pub enum Reason {
     UnderLmin,
     /// Its link sends more than its account holds.
     OverRate,
+}
+
+impl Reason {
+    ghost use Rattle.std.specs.Prelude.{◌≡◌};
+    ghost use Rattle.afdx_police.specs.Words.{reason_word};
+
+    /// It in a word.
+    pub fn word(self) -> &'static str
+        ensures { result.now ≡ reason_word self }
+    {
+        match self {
+            Reason::TooShort => "too-short",
+            Reason::TooLong => "too-long",
+            Reason::BadFcs => "bad-fcs",
+            Reason::BadAddress => "bad-address",
+            Reason::UnknownLink => "unknown-link",
+            Reason::WrongPort => "wrong-port",
+            Reason::OverLmax => "over-lmax",
+            Reason::UnderLmin => "under-lmin",
+            Reason::OverRate => "over-rate",
+        }
+    }
+}
+
+impl fmt::Display for Reason {
+    ghost use Rattle.std.specs.Prelude.{Some};
+    ghost use Rattle.afdx_police.specs.Words.{reason_word};
+
+    ghost output = { λ reason. Some (reason_word reason) };
+
+    fn fmt<W: fmt::Write>(&self, f: &mut fmt::Formatter<W>) -> fmt::Result {
+        f.write_str(self.word())
+    }
 }
 
 /// The first fault of an arrival, in the order of `Reason`, but for its link's rate.
@@ -64,10 +98,10 @@ pub fn judge_checked(
     ensures longest { IfNone result
         (IfSome (option_copied rule.entry) (λ r. length frame.now ≤ r.lmax)) }
 {
-    if frame.len() < 64 {
+    if frame.len() < LEAST_FRAME {
         return Some(Reason::TooShort);
     }
-    if frame.len() > 1518 {
+    if frame.len() > GREATEST_FRAME {
         return Some(Reason::TooLong);
     }
     if !sealed {

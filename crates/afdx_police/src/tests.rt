@@ -1,3 +1,5 @@
+//! Rules, shapes and accounts with known answers.
+
 ghost use Rattle.std.specs.Prelude.{◌≤◌};
 ghost use Rattle.afdx_police.specs.LinkAccounts.{last_time};
 

@@ -1,5 +1,6 @@
 -- The copies of a lawful stream are two streams in order.
-use Rattle.std.proofs.Common.{◌≡◌, ℕ, zero, suc, ◌+◌, ◌-◌, ◌*◌, ◌<◌, ◌≤◌, ◌⊎◌, inl, inr, Bool, true, false, Option, Some, None, List, [], ◌∷◌, length, refl, sym, ◌∙◌, ap, arith}
+use Rattle.std.proofs.Common.{◌≡◌, ℕ, zero, suc, ◌+◌, ◌-◌, ◌*◌, ◌<◌, ◌≤◌, ◌⊎◌, inl, inr, Bool, true, false, Option, Some, None, List, [], ◌∷◌, length, refl}
+use Rattle.std.proofs.Common.{sym, ◌∙◌, ap, arith}
 use Rattle.std.specs.Prelude.{MatchOption, IfSome, filter, slice_get, max}
 use Rattle.std.proofs.Math.ListN.{get_or}
 use Rattle.std.proofs.Math.Nat.{mul-suc, mul-le-mul_left}
@@ -36,7 +37,8 @@ add_none j = omega arith
 add_more : (j d : ℕ) → j + d + 1 ≡ j + suc d
 add_more j d = omega arith
 
-spread : (gap : ℕ) (moments : List ℕ) → Apart gap moments → (j d r late : ℕ) → slice_get moments j ≡ Some r → slice_get moments (j + d) ≡ Some late → r + gap * d ≤ late
+spread : (gap : ℕ) (moments : List ℕ) → Apart gap moments → (j d r late : ℕ) → slice_get moments j ≡ Some r → slice_get moments (j + d) ≡ Some late →
+    r + gap * d ≤ late
 spread gap moments apart j zero r late here there = let same : r ≡ late = one_value moments j (j + 0) r late (add_none j) here there in omega (arith, same)
 spread gap moments apart j (suc d) r late here there =
     let last : slice_get moments (j + d + 1) ≡ Some late = ap (slice_get moments) (add_more j d) ∙ there in
@@ -54,7 +56,8 @@ record HasMoment (shift : ℕ) (moments : List ℕ) (k : ℕ) (y : Sending) : Ty
   pub low : moment ≤ y.time
   pub high : y.time ≤ moment + shift
 
-moment_at : (gap shift : ℕ) (moments : List ℕ) (stream : List Sending) → IsSpaced gap shift moments stream → (k : ℕ) (y : Sending) → slice_get stream k ≡ Some y → HasMoment shift moments k y
+moment_at : (gap shift : ℕ) (moments : List ℕ) (stream : List Sending) → IsSpaced gap shift moments stream → (k : ℕ) (y : Sending) →
+    slice_get stream k ≡ Some y → HasMoment shift moments k y
 moment_at gap shift moments stream spaced k y here =
     let within : k < length stream = slice_get_within stream k y here in
     let at_place : slice_get moments k ≡ Some (get_or moments k 0) = slice_get-get_or moments k 0 (omega (arith, within, spaced.counts)) in
@@ -78,13 +81,17 @@ sent_in_order gap shift moments stream spaced small j (suc d) y z here there =
 if_upto : (o : Option Incoming) (m n : ℕ) → IfSome o (λ f. f.time ≤ m) → m ≤ n → IfSome o (λ f. f.time ≤ n)
 if_upto o m n h le = IfSome_then o h (λ f below. omega (arith, below, le))
 
-count_more : (side : Side) (frame : Incoming) (before : List Incoming) → is_same_side frame.side side ≡ true → count_of side (frame ∷ before) ≡ suc (count_of side before)
+count_more : (side : Side) (frame : Incoming) (before : List Incoming) → is_same_side frame.side side ≡ true →
+    count_of side (frame ∷ before) ≡ suc (count_of side before)
 count_more side frame before e =
-    ap length (cond-true (is_same_side frame.side side) (frame ∷ filter (λ (f : Incoming). is_same_side f.side side) before) (filter (λ (f : Incoming). is_same_side f.side side) before) e)
+    ap length (cond-true (is_same_side frame.side side) (frame ∷ filter (λ (f : Incoming). is_same_side f.side side) before)
+        (filter (λ (f : Incoming). is_same_side f.side side) before) e)
 
-count_same : (side : Side) (frame : Incoming) (before : List Incoming) → is_same_side frame.side side ≡ false → count_of side (frame ∷ before) ≡ count_of side before
+count_same : (side : Side) (frame : Incoming) (before : List Incoming) → is_same_side frame.side side ≡ false →
+    count_of side (frame ∷ before) ≡ count_of side before
 count_same side frame before e =
-    ap length (cond-false (is_same_side frame.side side) (frame ∷ filter (λ (f : Incoming). is_same_side f.side side) before) (filter (λ (f : Incoming). is_same_side f.side side) before) e)
+    ap length (cond-false (is_same_side frame.side side) (frame ∷ filter (λ (f : Incoming). is_same_side f.side side) before)
+        (filter (λ (f : Incoming). is_same_side f.side side) before) e)
 
 -- the last one of a side was sent before the newest came
 record WasSent (stream : List Sending) (place : ℕ) (came : List Incoming) : Type 0 where
@@ -92,11 +99,14 @@ record WasSent (stream : List Sending) (place : ℕ) (came : List Incoming) : Ty
   pub at_place : slice_get stream place ≡ Some sending
   pub before : (t : ℕ) → IfSome (newest came) (λ last. last.time ≤ t) → sending.time ≤ t
 
-last_sent : (latency : ℕ) (stream : List Sending) (came : List Incoming) → AreCopies latency stream came → (side : Side) (place : ℕ) → count_of side came ≡ suc place → WasSent stream place came
+last_sent : (latency : ℕ) (stream : List Sending) (came : List Incoming) → AreCopies latency stream came → (side : Side) (place : ℕ) →
+    count_of side came ≡ suc place → WasSent stream place came
 last_sent latency stream [] copies side place count = absurd (omega (arith, count))
-last_sent latency stream (frame ∷ before) copies side place count = at (is_same_side frame.side side) refl (λ h. last_sent latency stream before copies.1 side place h)
+last_sent latency stream (frame ∷ before) copies side place count =
+    at (is_same_side frame.side side) refl (λ h. last_sent latency stream before copies.1 side place h)
   where
-    at : (b : Bool) → is_same_side frame.side side ≡ b → (count_of side before ≡ suc place → WasSent stream place before) → WasSent stream place (frame ∷ before)
+    at : (b : Bool) → is_same_side frame.side side ≡ b → (count_of side before ≡ suc place → WasSent stream place before) →
+        WasSent stream place (frame ∷ before)
     at true e older =
         let same : count_of frame.side before ≡ place =
         ap (λ s. count_of s before) (same_side-eq frame.side side e) ∙ suc_same (count_of side before) place (sym (count_more side frame before e) ∙ count) in
@@ -123,19 +133,24 @@ NewestSent stream first n = MatchOption first (n ≡ 0) (λ frame. (k : ℕ) × 
 newest_at : (stream : List Sending) (o p : Option Incoming) (m n : ℕ) → o ≡ p → m ≡ n → NewestSent stream p n → NewestSent stream o m
 newest_at stream o p m n e f h = rw (e, f) h
 
-newest_sent : (latency : ℕ) (stream : List Sending) (came : List Incoming) → AreCopies latency stream came → NewestSent stream (newest (first_copies came)) (length (first_copies came))
+newest_sent : (latency : ℕ) (stream : List Sending) (came : List Incoming) → AreCopies latency stream came →
+    NewestSent stream (newest (first_copies came)) (length (first_copies came))
 newest_sent latency stream [] copies = refl
 newest_sent latency stream (frame ∷ before) copies = at (is_first_copy before frame) refl (newest_sent latency stream before copies.1)
   where
     at : (b : Bool) → is_first_copy before frame ≡ b → NewestSent stream (newest (first_copies before)) (length (first_copies before)) →
         NewestSent stream (newest (first_copies (frame ∷ before))) (length (first_copies (frame ∷ before)))
     at true e so_far =
-        let now : first_copies (frame ∷ before) ≡ frame ∷ first_copies before = cond-true (is_first_copy before frame) (frame ∷ first_copies before) (first_copies before) e in
-        newest_at stream (newest (first_copies (frame ∷ before))) (Some frame) (length (first_copies (frame ∷ before))) (suc (length (first_copies before))) (ap newest now) (ap length now)
+        let now : first_copies (frame ∷ before) ≡ frame ∷ first_copies before = cond-true (is_first_copy before frame) (frame ∷ first_copies before)
+                (first_copies before) e in
+        newest_at stream (newest (first_copies (frame ∷ before))) (Some frame) (length (first_copies (frame ∷ before))) (suc (length (first_copies before)))
+            (ap newest now) (ap length now)
         (length (first_copies before), refl, copies.0.sending, ap (slice_get stream) (sym (own_place before frame e)) ∙ copies.0.at_place, copies.0.sent_before)
     at false e so_far =
-        let now : first_copies (frame ∷ before) ≡ first_copies before = cond-false (is_first_copy before frame) (frame ∷ first_copies before) (first_copies before) e in
-        newest_at stream (newest (first_copies (frame ∷ before))) (newest (first_copies before)) (length (first_copies (frame ∷ before))) (length (first_copies before)) (ap newest now) (ap length now) so_far
+        let now : first_copies (frame ∷ before) ≡ first_copies before = cond-false (is_first_copy before frame) (frame ∷ first_copies before)
+                (first_copies before) e in
+        newest_at stream (newest (first_copies (frame ∷ before))) (newest (first_copies before)) (length (first_copies (frame ∷ before)))
+            (length (first_copies before)) (ap newest now) (ap length now) so_far
 
 -- ---- a late copy comes soon, and is near
 
@@ -146,9 +161,12 @@ too_far gap shift latency d r late y last t far apart low came in_time high smal
     let many : gap * 128 ≤ gap * d = mul-le-mul_left gap far in
     omega (arith, many, apart, low, came, in_time, high, small, fast, wide)
 
-pub near : (gap shift latency : ℕ) (moments : List ℕ) (stream : List Sending) → IsSpaced gap shift moments stream → shift ≤ gap → latency ≤ 100000000 → 1000000 ≤ gap →
-    (before : List Incoming) (frame : Incoming) → AreCopies latency stream (frame ∷ before) → count_of (other_side frame.side) before ≤ count_of frame.side before + 128
-near gap shift latency moments stream spaced small fast wide before frame copies = at (cases_lt (count_of frame.side before + 128) (count_of (other_side frame.side) before))
+pub near : (gap shift latency : ℕ) (moments : List ℕ) (stream : List Sending) → IsSpaced gap shift moments stream → shift ≤ gap → latency ≤ 100000000 →
+    1000000 ≤ gap →
+    (before : List Incoming) (frame : Incoming) → AreCopies latency stream (frame ∷ before) →
+        count_of (other_side frame.side) before ≤ count_of frame.side before + 128
+near gap shift latency moments stream spaced small fast wide before frame copies =
+    at (cases_lt (count_of frame.side before + 128) (count_of (other_side frame.side) before))
   where
     far_off : (place : ℕ) → count_of (other_side frame.side) before ≡ suc place → (d : ℕ) → place ≡ count_of frame.side before + d → 128 ≤ d → ⊥
     far_off place count d apart far =
@@ -163,15 +181,18 @@ near gap shift latency moments stream spaced small fast wide before frame copies
     split : (m n : ℕ) → n + 128 < m → (place : ℕ) × (m ≡ suc place) × ((d : ℕ) × (place ≡ n + d) × (128 ≤ d))
     split m n h = (n + (m - (n + 1)), omega (arith, h), (m - (n + 1), refl, omega (arith, h)))
 
-    at : (count_of frame.side before + 128 < count_of (other_side frame.side) before) ⊎ (count_of (other_side frame.side) before ≤ count_of frame.side before + 128) →
+    at : (count_of frame.side before + 128 < count_of (other_side frame.side) before)
+        ⊎ (count_of (other_side frame.side) before ≤ count_of frame.side before + 128) →
         count_of (other_side frame.side) before ≤ count_of frame.side before + 128
-    at (inl beyond) = let parts = split (count_of (other_side frame.side) before) (count_of frame.side before) beyond in absurd (far_off parts.0 parts.1 parts.2.0 parts.2.1 parts.2.2)
+    at (inl beyond) = let parts = split (count_of (other_side frame.side) before) (count_of frame.side before) beyond in
+        absurd (far_off parts.0 parts.1 parts.2.0 parts.2.1 parts.2.2)
     at (inr close) = close
 
 pub soon : (gap shift latency skew : ℕ) (moments : List ℕ) (stream : List Sending) → IsSpaced gap shift moments stream → shift ≤ gap → latency ≤ skew →
     (before : List Incoming) (frame : Incoming) → AreCopies latency stream (frame ∷ before) → is_first_copy before frame ≡ false →
     IfSome (newest (first_copies before)) (λ first. frame.time ≤ first.time + skew)
-soon gap shift latency skew moments stream spaced small fast before frame copies late = at (newest (first_copies before)) (newest_sent latency stream before copies.1)
+soon gap shift latency skew moments stream spaced small fast before frame copies late =
+    at (newest (first_copies before)) (newest_sent latency stream before copies.1)
   where
     behind : count_of frame.side before < count_of (other_side frame.side) before
     behind = leb-false (count_of (other_side frame.side) before) (count_of frame.side before) late

@@ -30,7 +30,8 @@ gap_some : (n : ℕ) → IsOneOf gaps n → 1 ≤ n
 gap_some zero h = absurd (cc)
 gap_some (suc n) h = omega arith
 
-spaced : (s : SystemRow) (l : LinkRow) (messages : List Message) (stream : List Sending) (lawful : IsLawfulStream s l messages stream) → IsSpaced (bag (regulation_of l)) (jitter (regulation_of l)) lawful.moments stream
+spaced : (s : SystemRow) (l : LinkRow) (messages : List Message) (stream : List Sending) (lawful : IsLawfulStream s l messages stream) →
+    IsSpaced (bag (regulation_of l)) (jitter (regulation_of l)) lawful.moments stream
 spaced s l messages stream lawful = record { counts = lawful.moment_count; apart = lawful.apart; shaped = lawful.shaped }
 
 -- ---- what a copy carries
@@ -40,7 +41,8 @@ record IsCopyOf (messages : List Message) (place : ℕ) (frame : Incoming) : Typ
   pub number : frame.number ≡ after_steps place 0
   pub carries : CarriesSent messages place frame
 
-built_copy : (s : SystemRow) (l : LinkRow) (x : Sent) (y : Sending) (side : Side) → IsSent s l x y → Built (address_of s l x.message) x.number side x.message.payload (copy_on side y)
+built_copy : (s : SystemRow) (l : LinkRow) (x : Sent) (y : Sending) (side : Side) → IsSent s l x y →
+    Built (address_of s l x.message) x.number side x.message.payload (copy_on side y)
 built_copy s l x y A sent = sent.a
 built_copy s l x y B sent = sent.b
 
@@ -50,7 +52,8 @@ same_parts p q bytes e f = ap (λ (r : FrameParts). r.number) (same (frame_of by
     same : (r : Result FrameParts MacFault) (p q : FrameParts) → r ≡ Ok p → r ≡ Ok q → p ≡ q
     same r p q h k = cc
 
-copy_of : BuiltIsComputed → (s : SystemRow) (l : LinkRow) (messages : List Message) (stream : List Sending) → IsLawfulStream s l messages stream → AreSendable s l messages →
+copy_of : BuiltIsComputed → (s : SystemRow) (l : LinkRow) (messages : List Message) (stream : List Sending) → IsLawfulStream s l messages stream →
+    AreSendable s l messages →
     (latency : ℕ) (before : List Incoming) (frame : Incoming) → IsNextCopy latency stream before frame → IsCopyOf messages (count_of frame.side before) frame
 copy_of computed s l messages stream lawful sendable latency before frame copy =
     let place : ℕ = count_of frame.side before in
@@ -61,7 +64,8 @@ copy_of computed s l messages stream lawful sendable latency before frame copy =
     let number : ℕ = after_steps place 0 in
     let low : number < 2 ^ 8 = omega (arith, steps_low place 0 (omega arith)) in
     let sent : IsSent s l (record { message = m; number = number }) copy.sending =
-    lawful.sent place (record { message = m; number = number }) copy.sending (ap (option_map (λ (o : Message). record { message = o; number = number })) at_place) copy.at_place in
+    lawful.sent place (record { message = m; number = number }) copy.sending
+        (ap (option_map (λ (o : Message). record { message = o; number = number })) at_place) copy.at_place in
     let the : IsTheFrame (address_of s l m) number frame.side m.payload (built_frame (address_of s l m) number frame.side m.payload) =
     computed (address_of s l m) number frame.side m.payload (sendable.buildable place m at_place) (sendable.bytes place m at_place) low in
     let bytes : frame.bytes ≡ built_frame (address_of s l m) number frame.side m.payload =
@@ -73,8 +77,10 @@ copy_of computed s l messages stream lawful sendable latency before frame copy =
 
 -- ---- the whole
 
-two_streams : BuiltIsComputed → (systems : ℕ) (s : SystemRow) (l : LinkRow) (messages : List Message) (stream : List Sending) → IsLink systems l → l.latency_us ≤ l.skew_us → AreSendable s l messages →
-    IsLawfulStream s l messages stream → (came : List Incoming) → AreCopies (1000 * l.latency_us) stream came → AreTwoStreams (1000 * l.skew_us) came × AllCarrySent messages came
+two_streams : BuiltIsComputed → (systems : ℕ) (s : SystemRow) (l : LinkRow) (messages : List Message) (stream : List Sending) → IsLink systems l →
+    l.latency_us ≤ l.skew_us → AreSendable s l messages →
+    IsLawfulStream s l messages stream → (came : List Incoming) → AreCopies (1000 * l.latency_us) stream came →
+        AreTwoStreams (1000 * l.skew_us) came × AllCarrySent messages came
 two_streams computed systems s l messages stream link fast sendable lawful [] copies = (tt, tt)
 two_streams computed systems s l messages stream link fast sendable lawful (frame ∷ before) copies =
     let older = two_streams computed systems s l messages stream link fast sendable lawful before copies.1 in
@@ -87,15 +93,18 @@ two_streams computed systems s l messages stream link fast sendable lawful (fram
       (
         record {
           number = this.number;
-          soon = soon (bag (regulation_of l)) (jitter (regulation_of l)) (1000 * l.latency_us) (1000 * l.skew_us) lawful.moments stream moments small skew before frame copies;
-          near = near (bag (regulation_of l)) (jitter (regulation_of l)) (1000 * l.latency_us) lawful.moments stream moments small short wide before frame copies;
+          soon = soon (bag (regulation_of l)) (jitter (regulation_of l)) (1000 * l.latency_us)
+              (1000 * l.skew_us) lawful.moments stream moments small skew before frame copies;
+          near = near (bag (regulation_of l)) (jitter (regulation_of l))
+              (1000 * l.latency_us) lawful.moments stream moments small short wide before frame copies;
         },
         older.0,
       ),
       (this.carries, older.1),
     )
 
-pub stream_delivered_once : BuiltIsComputed → (systems : ℕ) (s : SystemRow) (l : LinkRow) (messages : List Message) (stream : List Sending) (is_open : ℕ → Bool) (came : List Incoming) →
+pub stream_delivered_once : BuiltIsComputed → (systems : ℕ) (s : SystemRow) (l : LinkRow) (messages : List Message) (stream : List Sending) (is_open : ℕ → Bool)
+    (came : List Incoming) →
     IsLink systems l → l.latency_us ≤ l.skew_us → AreSendable s l messages → IsLawfulStream s l messages stream → AreCopies (1000 * l.latency_us) stream came →
     reverse (delivered (1000 * l.skew_us) is_open came) ≡ filter (λ (m : Message). is_open m.udp) (take (max (count_of A came) (count_of B came)) messages)
 stream_delivered_once computed systems s l messages stream is_open came link fast sendable lawful copies =

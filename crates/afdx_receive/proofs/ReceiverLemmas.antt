@@ -48,7 +48,8 @@ unsubscribed_at tables system past links vl stands missing = rw (← missing) at
 stays : (tables : Rows) (system : ℕ) (past after : List Arrived) (vl : ℕ) (held : Option LinkMemory) → LinkStandsFor tables system past vl held →
     (IsSome held → frames_of vl after ≡ frames_of vl past) → LinkStandsFor tables system after vl held
 stays tables system past after vl None stands same = stands
-stays tables system past after vl (Some memory) stands same = (stands.0, stands.1, stands.2, subst (λ (came : List Incoming). Remembers memory came) (sym (same refl)) stands.3)
+stays tables system past after vl (Some memory) stands same =
+    (stands.0, stands.1, stands.2, subst (λ (came : List Incoming). Remembers memory came) (sym (same refl)) stands.3)
 
 -- bytes that are no frame change no link's frames
 pub all_stay : {S : Type 0} (tables : Rows) (system : ℕ) (past after : List Arrived) (links : HashMap VlId LinkMemory S) →
@@ -61,8 +62,10 @@ none_some (Some memory) some none = cc
 
 -- a frame of a link that the system doesn't receive changes no memory
 pub others_stay : {S : Type 0} (tables : Rows) (system : ℕ) (past : List Arrived) (x : Arrived) (frame : FrameParts) (links : HashMap VlId LinkMemory S) →
-    LinksStandFor tables system past links → frame_of x.bytes ≡ Ok frame → None ≡ hash.get is_same_link links frame.link → LinksStandFor tables system (x ∷ past) links
-others_stay tables system past x frame links stands is-frame missing vl = stays tables system past (x ∷ past) vl.0 (hash.get is_same_link links vl) (stands vl) (λ some. frames_other x past frame vl.0 is-frame (apart some))
+    LinksStandFor tables system past links → frame_of x.bytes ≡ Ok frame → None ≡ hash.get is_same_link links frame.link →
+        LinksStandFor tables system (x ∷ past) links
+others_stay tables system past x frame links stands is-frame missing vl =
+    stays tables system past (x ∷ past) vl.0 (hash.get is_same_link links vl) (stands vl) (λ some. frames_other x past frame vl.0 is-frame (apart some))
   where
     same_key : eqb frame.link.0 vl.0 ≡ true → hash.get is_same_link links frame.link ≡ hash.get is_same_link links vl
     same_key e = ap (λ (n : ℕ). hash.get is_same_link links (record { 0 = n })) (eqb-true frame.link.0 vl.0 e)
@@ -71,7 +74,8 @@ others_stay tables system past x frame links stands is-frame missing vl = stays 
     apart some = false_from_ne_true (eqb frame.link.0 vl.0) (λ e. none_some (hash.get is_same_link links vl) some (missing ∙ same_key e))
 
 -- a frame changes its own link's memory alone
-pub link_joins : {S : Type 0} (tables : Rows) (system : ℕ) (past : List Arrived) (x : Arrived) (frame : FrameParts) (links after : HashMap VlId LinkMemory S) (memory moved : LinkMemory) →
+pub link_joins : {S : Type 0} (tables : Rows) (system : ℕ) (past : List Arrived) (x : Arrived) (frame : FrameParts) (links after : HashMap VlId LinkMemory S)
+    (memory moved : LinkMemory) →
     LinksStandFor tables system past links → frame_of x.bytes ≡ Ok frame → Subscribed tables system past frame.link.0 memory →
     moved.skew_ns ≡ memory.skew_ns → Remembers moved (incoming x frame ∷ frames_of frame.link.0 past) →
     ((q : VlId) → hash.get is_same_link after q ≡ cond (is_same_link frame.link q) (Some moved) (hash.get is_same_link links q)) →
@@ -85,10 +89,12 @@ link_joins tables system past x frame links after memory moved stands is-frame h
     at true e =
         let same : frame.link.0 ≡ q.0 = eqb-true frame.link.0 q.0 e in
         let found : hash.get is_same_link after q ≡ Some moved = updates q ∙ ap (λ b. cond b (Some moved) (hash.get is_same_link links q)) e in
-        let own : frames_of q.0 (x ∷ past) ≡ incoming x frame ∷ frames_of q.0 past = joined ∙ ap (λ b. cond b (incoming x frame ∷ frames_of q.0 past) (frames_of q.0 past)) e in
+        let own : frames_of q.0 (x ∷ past) ≡ incoming x frame ∷ frames_of q.0 past = joined ∙ ap (λ b. cond b (incoming x frame ∷ frames_of q.0 past)
+                (frames_of q.0 past)) e in
         rw (found, own, ← same) (here.link, here.subscribed, skew ∙ here.skew, remembers)
     at false e =
-        let found : hash.get is_same_link after q ≡ hash.get is_same_link links q = updates q ∙ ap (λ b. cond b (Some moved) (hash.get is_same_link links q)) e in
+        let found : hash.get is_same_link after q ≡ hash.get is_same_link links q = updates q ∙ ap (λ b. cond b (Some moved)
+                (hash.get is_same_link links q)) e in
         let other : frames_of q.0 (x ∷ past) ≡ frames_of q.0 past = joined ∙ ap (λ b. cond b (incoming x frame ∷ frames_of q.0 past) (frames_of q.0 past)) e in
         rw found (stays tables system past (x ∷ past) q.0 (hash.get is_same_link links q) (stands q) (λ some. other))
 
@@ -97,13 +103,16 @@ found_some None x e = absurd (cc)
 found_some (Some y) x e = refl
 
 -- a frame that its link's memory took in: how it stands, what that answers, and what the memories stand for then
-pub record Taken {S : Type 0} (tables : Rows) (system : ℕ) (past : List Arrived) (x : Arrived) (frame : FrameParts) (how : Standing) (after : HashMap VlId LinkMemory S) : Type 0 where
+pub record Taken {S : Type 0} (tables : Rows) (system : ℕ) (past : List Arrived) (x : Arrived) (frame : FrameParts) (how : Standing)
+    (after : HashMap VlId LinkMemory S) : Type 0 where
   pub received : IsReceived tables system past x frame how
   pub answers : answer_by how (answer_to_carried frame.link.0 (has_port tables.ports system frame.link.0) (carried_by x.bytes)) ≡ answer_to tables system past x
   pub links : LinksStandFor tables system (x ∷ past) after
 
-pub taken : {S : Type 0} (tables : Rows) (system : ℕ) (past : List Arrived) (x : Arrived) (frame : FrameParts) (links after : HashMap VlId LinkMemory S) (memory moved : LinkMemory) (how : Standing) →
-    LinksStandFor tables system past links → IsFrameOf x.bytes frame → frame_of x.bytes ≡ Ok frame → Some memory ≡ hash.get is_same_link links frame.link → moved.skew_ns ≡ memory.skew_ns →
+pub taken : {S : Type 0} (tables : Rows) (system : ℕ) (past : List Arrived) (x : Arrived) (frame : FrameParts) (links after : HashMap VlId LinkMemory S)
+    (memory moved : LinkMemory) (how : Standing) →
+    LinksStandFor tables system past links → IsFrameOf x.bytes frame → frame_of x.bytes ≡ Ok frame → Some memory ≡ hash.get is_same_link links frame.link →
+        moved.skew_ns ≡ memory.skew_ns →
     (Remembers memory (frames_of frame.link.0 past) → how ≡ standing memory.skew_ns (frames_of frame.link.0 past) (incoming x frame)) →
     (Remembers memory (frames_of frame.link.0 past) → Remembers moved (incoming x frame ∷ frames_of frame.link.0 past)) →
     ((q : VlId) → hash.get is_same_link after q ≡ cond (is_same_link frame.link q) (Some moved) (hash.get is_same_link links q)) →
@@ -119,7 +128,8 @@ taken tables system past x frame links after memory moved how stands is-frame co
     }
 
 -- what is kept of a link to begin with
-pub link_at_first : (tables : Rows) (system vl : ℕ) (o : Option LinkRow) → subscription tables system vl ≡ o → LinkStandsFor tables system [] vl (option_map memory_at_first o)
+pub link_at_first : (tables : Rows) (system vl : ℕ) (o : Option LinkRow) → subscription tables system vl ≡ o →
+    LinkStandsFor tables system [] vl (option_map memory_at_first o)
 unfolding frames_of
 link_at_first tables system vl None e = e
 link_at_first tables system vl (Some link) e = (link, e, refl, record { numbers = numbers; winner = refl })

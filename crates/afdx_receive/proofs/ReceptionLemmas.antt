@@ -9,7 +9,8 @@ use Rattle.afdx_frame.specs.declared.link.VlId.{VlId}
 use Rattle.afdx_config.specs.Rows.{Rows, LinkRow}
 use Rattle.afdx_config.specs.Reading.{has_port}
 use Rattle.afdx_receive.specs.Standing.{standing}
-use Rattle.afdx_receive.specs.Answers.{Answer, Message, Dropped, subscription, answer_to_carried, answer_by, answer_after, answer_on, answer_to_frame, answer_to}
+use Rattle.afdx_receive.specs.Answers.{Answer, Message, Dropped, subscription, answer_to_carried, answer_by, answer_after, answer_on, answer_to_frame}
+use Rattle.afdx_receive.specs.Answers.{answer_to}
 use Rattle.afdx_receive.specs.Reception.{IsReceived, IsReadAs, IsAnswer}
 use Rattle.afdx_receive.specs.declared.memory.Standing.{Standing}
 use Rattle.afdx_receive.specs.declared.memory.Standing.TheVariants as stands
@@ -23,20 +24,26 @@ pub frames_with : (x : Arrived) (past : List Arrived) (frame : FrameParts) (vl :
 unfolding frames_of
 frames_with x past frame vl e = ap (λ (r : Result FrameParts MacFault). with_frame vl x r (frames_of vl past)) e
 
-pub frames_own : (x : Arrived) (past : List Arrived) (frame : FrameParts) → frame_of x.bytes ≡ Ok frame → frames_of frame.link.0 (x ∷ past) ≡ incoming x frame ∷ frames_of frame.link.0 past
+pub frames_own : (x : Arrived) (past : List Arrived) (frame : FrameParts) → frame_of x.bytes ≡ Ok frame →
+    frames_of frame.link.0 (x ∷ past) ≡ incoming x frame ∷ frames_of frame.link.0 past
 frames_own x past frame e =
-    frames_with x past frame frame.link.0 e ∙ cond-true (eqb frame.link.0 frame.link.0) (incoming x frame ∷ frames_of frame.link.0 past) (frames_of frame.link.0 past) (eq-eqb frame.link.0 frame.link.0 refl)
+    frames_with x past frame frame.link.0 e ∙ cond-true (eqb frame.link.0 frame.link.0) (incoming x frame ∷ frames_of frame.link.0 past)
+        (frames_of frame.link.0 past) (eq-eqb frame.link.0 frame.link.0 refl)
 
-pub frames_other : (x : Arrived) (past : List Arrived) (frame : FrameParts) (vl : ℕ) → frame_of x.bytes ≡ Ok frame → nat_eq frame.link.0 vl ≡ false → frames_of vl (x ∷ past) ≡ frames_of vl past
-frames_other x past frame vl e apart = frames_with x past frame vl e ∙ cond-false (eqb frame.link.0 vl) (incoming x frame ∷ frames_of vl past) (frames_of vl past) apart
+pub frames_other : (x : Arrived) (past : List Arrived) (frame : FrameParts) (vl : ℕ) → frame_of x.bytes ≡ Ok frame → nat_eq frame.link.0 vl ≡ false →
+    frames_of vl (x ∷ past) ≡ frames_of vl past
+frames_other x past frame vl e apart =
+    frames_with x past frame vl e ∙ cond-false (eqb frame.link.0 vl) (incoming x frame ∷ frames_of vl past) (frames_of vl past) apart
 
-pub frames_damaged : (x : Arrived) (past : List Arrived) (fault : MacFault) (vl : ℕ) → frame_of x.bytes ≡ Err fault → frames_of vl (x ∷ past) ≡ frames_of vl past
+pub frames_damaged : (x : Arrived) (past : List Arrived) (fault : MacFault) (vl : ℕ) → frame_of x.bytes ≡ Err fault →
+    frames_of vl (x ∷ past) ≡ frames_of vl past
 unfolding frames_of
 frames_damaged x past fault vl e = ap (λ (r : Result FrameParts MacFault). with_frame vl x r (frames_of vl past)) e
 
 -- ---- answers
 
-pub answer_damaged : (tables : Rows) (system : ℕ) (past : List Arrived) (x : Arrived) (fault : MacFault) → frame_of x.bytes ≡ Err fault → Dropped (Mac fault) ≡ answer_to tables system past x
+pub answer_damaged : (tables : Rows) (system : ℕ) (past : List Arrived) (x : Arrived) (fault : MacFault) → frame_of x.bytes ≡ Err fault →
+    Dropped (Mac fault) ≡ answer_to tables system past x
 unfolding answer_to
 answer_damaged tables system past x fault e = sym (ap (answer_to_frame tables system past x) e)
 
@@ -46,15 +53,18 @@ unfolding answer_to
 answer_of_others tables system past x frame e other = sym (ap (answer_to_frame tables system past x) e ∙ ap (answer_on tables system past x frame) other)
 
 pub answer_received : (tables : Rows) (system : ℕ) (past : List Arrived) (x : Arrived) (frame : FrameParts) (link : LinkRow) (how : Standing) →
-    frame_of x.bytes ≡ Ok frame → subscription tables system frame.link.0 ≡ Some link → standing (1000 * link.skew_us) (frames_of frame.link.0 past) (incoming x frame) ≡ how →
+    frame_of x.bytes ≡ Ok frame → subscription tables system frame.link.0 ≡ Some link →
+        standing (1000 * link.skew_us) (frames_of frame.link.0 past) (incoming x frame) ≡ how →
     answer_by how (answer_to_carried frame.link.0 (has_port tables.ports system frame.link.0) (carried_by x.bytes)) ≡ answer_to tables system past x
 unfolding answer_to
 answer_received tables system past x frame link how e subscribed stood =
     ap (λ (s : Standing). answer_by s (answer_to_carried frame.link.0 (has_port tables.ports system frame.link.0) (carried_by x.bytes))) (sym stood)
     ∙ sym (ap (answer_to_frame tables system past x) e ∙ ap (answer_on tables system past x frame) subscribed)
 
-pub answer_own : (tables : Rows) (system : ℕ) (past : List Arrived) (x : Arrived) (frame : FrameParts) (link : LinkRow) → frame_of x.bytes ≡ Ok frame → subscription tables system frame.link.0 ≡ Some link →
-    answer_to tables system past x ≡ answer_after (1000 * link.skew_us) (has_port tables.ports system frame.link.0) (frames_of frame.link.0 past) (incoming x frame)
+pub answer_own : (tables : Rows) (system : ℕ) (past : List Arrived) (x : Arrived) (frame : FrameParts) (link : LinkRow) → frame_of x.bytes ≡ Ok frame →
+    subscription tables system frame.link.0 ≡ Some link →
+    answer_to tables system past x ≡ answer_after (1000 * link.skew_us) (has_port tables.ports system frame.link.0) (frames_of frame.link.0 past)
+        (incoming x frame)
 unfolding answer_to
 answer_own tables system past x frame link e subscribed = ap (answer_to_frame tables system past x) e ∙ ap (answer_on tables system past x frame) subscribed
 
@@ -81,7 +91,8 @@ read_right tables system past x frame (Dropped NoPort) read received = (frame, r
 
 -- ---- a UDP port of the system
 
-pub port_known : (tables : Rows) (system : ℕ) (link vl : VlId) (udp port : ℕ) (known : Bool) → known ≡ has_port tables.ports system link.0 udp → link ≡ vl → udp ≡ port → has_port tables.ports system vl.0 port ≡ known
+pub port_known : (tables : Rows) (system : ℕ) (link vl : VlId) (udp port : ℕ) (known : Bool) → known ≡ has_port tables.ports system link.0 udp → link ≡ vl →
+    udp ≡ port → has_port tables.ports system vl.0 port ≡ known
 port_known tables system link vl udp port known e named to =
     sym (e ∙ ap (λ (v : VlId). has_port tables.ports system v.0 udp) named ∙ ap (λ (n : ℕ). has_port tables.ports system vl.0 n) to)
 

@@ -1,4 +1,5 @@
-use Rattle.std.proofs.Common.{◌≡◌, ℕ, zero, suc, ◌+◌, ◌-◌, ◌<◌, ◌≤◌, ◌⊎◌, inl, inr, Bool, true, false, cond, ◌&&◌, Option, Some, None, List, [], ◌∷◌, ◌++◌, length, take, map, reverse, eqb, leb, refl, sym, ◌∙◌, ap, arith, zero-add}
+use Rattle.std.proofs.Common.{◌≡◌, ℕ, zero, suc, ◌+◌, ◌-◌, ◌<◌, ◌≤◌, ◌⊎◌, inl, inr, Bool, true, false, cond, ◌&&◌, Option, Some, None, List, [], ◌∷◌, ◌++◌}
+use Rattle.std.proofs.Common.{length, take, map, reverse, eqb, leb, refl, sym, ◌∙◌, ap, arith, zero-add}
 use Rattle.std.specs.Prelude.{MatchOption, max, nat_lt, filter, slice_get, IfSome}
 use Rattle.std.specs.Option.{option_map_or}
 use Rattle.std.proofs.lemmas.Bool.{cond-true, cond-false, cases_lt, or_right, or_from, le-leb, lt-leb, leb-true, leb-false, le-ltb, false_from_ne_true}
@@ -59,7 +60,8 @@ not_behind place late before near = false_from_ne_true (is_within_steps 127 (aft
 
 -- the number of the next place is one step after
 pub next_place : (most place : ℕ) → 1 ≤ most → is_within_steps most (after_steps place 0) (after_steps (suc place) 0) ≡ true
-next_place most place some = some_within most (after_steps place 0) (after_steps (suc place) 0) 1 (omega arith) some (sym (steps_add 1 place 0) ∙ ap (λ k. after_steps k 0) (one place))
+next_place most place some =
+    some_within most (after_steps place 0) (after_steps (suc place) 0) 1 (omega arith) some (sym (steps_add 1 place 0) ∙ ap (λ k. after_steps k 0) (one place))
   where
     one : (n : ℕ) → 1 + n ≡ suc n
     one n = omega arith
@@ -75,10 +77,15 @@ other_not A = refl
 other_not B = refl
 
 count_own : (frame : Incoming) (before : List Incoming) → count_of frame.side (frame ∷ before) ≡ suc (count_of frame.side before)
-count_own frame before = ap length (cond-true (is_same_side frame.side frame.side) (frame ∷ filter (λ (f : Incoming). is_same_side f.side frame.side) before) (filter (λ (f : Incoming). is_same_side f.side frame.side) before) (same_self frame.side))
+count_own frame before =
+    ap length (cond-true (is_same_side frame.side frame.side) (frame ∷ filter (λ (f : Incoming). is_same_side f.side frame.side) before)
+    (filter (λ (f : Incoming). is_same_side f.side frame.side) before) (same_self frame.side))
 
 count_other : (frame : Incoming) (before : List Incoming) → count_of (other_side frame.side) (frame ∷ before) ≡ count_of (other_side frame.side) before
-count_other frame before = ap length (cond-false (is_same_side frame.side (other_side frame.side)) (frame ∷ filter (λ (f : Incoming). is_same_side f.side (other_side frame.side)) before) (filter (λ (f : Incoming). is_same_side f.side (other_side frame.side)) before) (other_not frame.side))
+count_other frame before =
+    ap length (cond-false (is_same_side frame.side (other_side frame.side))
+    (frame ∷ filter (λ (f : Incoming). is_same_side f.side (other_side frame.side)) before)
+    (filter (λ (f : Incoming). is_same_side f.side (other_side frame.side)) before) (other_not frame.side))
 
 -- the greater count, seen from either side
 abbrev pub most_of : Side → List Incoming → ℕ
@@ -98,21 +105,27 @@ max_first own other h = omega arith
 max_late : (own other : ℕ) → own < other → max (suc own) other ≡ max own other
 max_late own other h = omega arith
 
-most_step : (frame : Incoming) (before : List Incoming) → most_of frame.side (frame ∷ before) ≡ max (suc (count_of frame.side before)) (count_of (other_side frame.side) before)
-most_step frame before = ap (λ n. max n (count_of (other_side frame.side) (frame ∷ before))) (count_own frame before) ∙ ap (λ n. max (suc (count_of frame.side before)) n) (count_other frame before)
+most_step : (frame : Incoming) (before : List Incoming) →
+    most_of frame.side (frame ∷ before) ≡ max (suc (count_of frame.side before)) (count_of (other_side frame.side) before)
+most_step frame before =
+    ap (λ n. max n (count_of (other_side frame.side) (frame ∷ before))) (count_own frame before) ∙ ap (λ n. max (suc (count_of frame.side before)) n)
+    (count_other frame before)
 
 pub counted : (came : List Incoming) → length (first_copies came) ≡ max (count_of A came) (count_of B came)
 counted [] = refl
 counted (frame ∷ before) = at (is_first_copy before frame) refl (counted before ∙ sym (most_any frame.side before))
   where
-    at : (b : Bool) → is_first_copy before frame ≡ b → length (first_copies before) ≡ most_of frame.side before → length (first_copies (frame ∷ before)) ≡ max (count_of A (frame ∷ before)) (count_of B (frame ∷ before))
+    at : (b : Bool) → is_first_copy before frame ≡ b → length (first_copies before) ≡ most_of frame.side before →
+        length (first_copies (frame ∷ before)) ≡ max (count_of A (frame ∷ before)) (count_of B (frame ∷ before))
     at true e so_far =
         ap (λ b. length (cond b (frame ∷ first_copies before) (first_copies before))) e ∙ ap suc so_far
-        ∙ sym (max_first (count_of frame.side before) (count_of (other_side frame.side) before) (leb-true (count_of (other_side frame.side) before) (count_of frame.side before) e))
+        ∙ sym (max_first (count_of frame.side before) (count_of (other_side frame.side) before)
+            (leb-true (count_of (other_side frame.side) before) (count_of frame.side before) e))
         ∙ sym (most_step frame before) ∙ most_any frame.side (frame ∷ before)
     at false e so_far =
         ap (λ b. length (cond b (frame ∷ first_copies before) (first_copies before))) e ∙ so_far
-        ∙ sym (max_late (count_of frame.side before) (count_of (other_side frame.side) before) (leb-false (count_of (other_side frame.side) before) (count_of frame.side before) e))
+        ∙ sym (max_late (count_of frame.side before) (count_of (other_side frame.side) before)
+            (leb-false (count_of (other_side frame.side) before) (count_of frame.side before) e))
         ∙ sym (most_step frame before) ∙ most_any frame.side (frame ∷ before)
 
 -- ---- the last ones
@@ -137,7 +150,8 @@ last_number skew (frame ∷ before) streams side = at (is_same_side frame.side s
     ours : List Incoming
     ours = filter (λ (f : Incoming). is_same_side f.side side) before
 
-    at : (b : Bool) → is_same_side frame.side side ≡ b → LastOf (previous side before) (count_of side before) → LastOf (previous side (frame ∷ before)) (count_of side (frame ∷ before))
+    at : (b : Bool) → is_same_side frame.side side ≡ b → LastOf (previous side before) (count_of side before) →
+        LastOf (previous side (frame ∷ before)) (count_of side (frame ∷ before))
     at true e so_far =
         last_at (previous side (frame ∷ before)) (Some frame) (count_of side (frame ∷ before)) (suc (count_of side before))
         (cond-true (is_same_side frame.side side) (Some frame) (previous side before) e)
@@ -153,21 +167,25 @@ last_number skew (frame ∷ before) streams side = at (is_same_side frame.side s
 pub own_place : (before : List Incoming) (frame : Incoming) → is_first_copy before frame ≡ true → count_of frame.side before ≡ length (first_copies before)
 own_place before frame first =
     let all : length (first_copies before) ≡ most_of frame.side before = counted before ∙ sym (most_any frame.side before) in
-    let ahead : count_of (other_side frame.side) before ≤ count_of frame.side before = leb-true (count_of (other_side frame.side) before) (count_of frame.side before) first in
+    let ahead : count_of (other_side frame.side) before ≤ count_of frame.side before = leb-true (count_of (other_side frame.side) before)
+            (count_of frame.side before) first in
     omega (arith, all, ahead)
 
 newest_number : (skew : ℕ) (came : List Incoming) → AreTwoStreams skew came → LastOf (newest (first_copies came)) (length (first_copies came))
 newest_number skew [] streams = refl
 newest_number skew (frame ∷ before) streams = at (is_first_copy before frame) refl (newest_number skew before streams.1)
   where
-    at : (b : Bool) → is_first_copy before frame ≡ b → LastOf (newest (first_copies before)) (length (first_copies before)) → LastOf (newest (first_copies (frame ∷ before))) (length (first_copies (frame ∷ before)))
+    at : (b : Bool) → is_first_copy before frame ≡ b → LastOf (newest (first_copies before)) (length (first_copies before)) →
+        LastOf (newest (first_copies (frame ∷ before))) (length (first_copies (frame ∷ before)))
     at true e so_far =
-        let now : first_copies (frame ∷ before) ≡ frame ∷ first_copies before = cond-true (is_first_copy before frame) (frame ∷ first_copies before) (first_copies before) e in
+        let now : first_copies (frame ∷ before) ≡ frame ∷ first_copies before = cond-true (is_first_copy before frame) (frame ∷ first_copies before)
+                (first_copies before) e in
         last_at (newest (first_copies (frame ∷ before))) (Some frame) (length (first_copies (frame ∷ before))) (suc (length (first_copies before)))
         (ap newest now) (ap length now)
         (length (first_copies before), refl, streams.0.number ∙ ap (λ k. after_steps k 0) (own_place before frame e))
     at false e so_far =
-        let now : first_copies (frame ∷ before) ≡ first_copies before = cond-false (is_first_copy before frame) (frame ∷ first_copies before) (first_copies before) e in
+        let now : first_copies (frame ∷ before) ≡ first_copies before = cond-false (is_first_copy before frame) (frame ∷ first_copies before)
+                (first_copies before) e in
         last_at (newest (first_copies (frame ∷ before))) (newest (first_copies before)) (length (first_copies (frame ∷ before))) (length (first_copies before))
         (ap newest now) (ap length now) so_far
 
@@ -178,7 +196,8 @@ valid_next None n frame last number = refl
 valid_next (Some g) n frame last number =
     or_right (eqb frame.number 0) (is_within_steps 2 g.number frame.number) (rw (last.2, number, last.1) (next_place 2 last.0 (omega arith)))
 
-wins_first : (skew : ℕ) (o : Option Incoming) (m own other : ℕ) (frame : Incoming) → LastOf o m → m ≡ max own other → frame.number ≡ after_steps own 0 → other ≤ own + 128 →
+wins_first : (skew : ℕ) (o : Option Incoming) (m own other : ℕ) (frame : Incoming) → LastOf o m → m ≡ max own other → frame.number ≡ after_steps own 0 →
+    other ≤ own + 128 →
     (leb other own ≡ false → IfSome o (λ first. frame.time ≤ first.time + skew)) → option_map_or (is_newer skew frame) o true ≡ leb other own
 wins_first skew None m own other frame last most number near soon = sym (le-leb other own (omega (arith, last, most)))
 wins_first skew (Some w) m own other frame last most number near soon = at (cases_lt own other)
@@ -192,14 +211,16 @@ wins_first skew (Some w) m own other frame last most number near soon = at (case
         ∙ sym behind
     at (inr first) =
         let place : own ≡ suc last.0 = omega (arith, last.1, most) in
-        or_right (nat_lt (w.time + skew) frame.time) (is_within_steps 127 w.number frame.number) (rw (last.2, number, place) (next_place 127 last.0 (omega arith)))
+        or_right (nat_lt (w.time + skew) frame.time) (is_within_steps 127 w.number frame.number)
+            (rw (last.2, number, place) (next_place 127 last.0 (omega arith)))
         ∙ sym (le-leb other own first)
 
 next_is_valid : (skew : ℕ) (before : List Incoming) (frame : Incoming) → AreTwoStreams skew (frame ∷ before) → is_valid before frame ≡ true
 next_is_valid skew before frame streams =
     valid_next (previous frame.side before) (count_of frame.side before) frame (last_number skew before streams.1 frame.side) streams.0.number
 
-first_wins : (skew : ℕ) (before : List Incoming) (frame : Incoming) → AreTwoStreams skew (frame ∷ before) → wins skew (first_copies before) frame ≡ is_first_copy before frame
+first_wins : (skew : ℕ) (before : List Incoming) (frame : Incoming) → AreTwoStreams skew (frame ∷ before) →
+    wins skew (first_copies before) frame ≡ is_first_copy before frame
 first_wins skew before frame streams =
     wins_first skew (newest (first_copies before)) (length (first_copies before)) (count_of frame.side before) (count_of (other_side frame.side) before) frame
     (newest_number skew before streams.1) (counted before ∙ sym (most_any frame.side before)) streams.0.number streams.0.near streams.0.soon
@@ -213,7 +234,8 @@ win skew (frame ∷ before) streams =
 
 -- how the next frame stands, and where
 pub stand : (skew : ℕ) (before : List Incoming) (frame : Incoming) → AreTwoStreams skew (frame ∷ before) →
-    (standing skew before frame ≡ cond (is_first_copy before frame) Winner Redundant) × (is_first_copy before frame ≡ true → count_of frame.side before ≡ length (winners skew before))
+    (standing skew before frame ≡ cond (is_first_copy before frame) Winner Redundant)
+        × (is_first_copy before frame ≡ true → count_of frame.side before ≡ length (winners skew before))
 stand skew before frame streams = (
   ap (λ b. cond b (cond (wins skew (winners skew before) frame) Winner Redundant) OutOfSequence) (next_is_valid skew before frame streams)
       ∙ ap (λ ws. cond (wins skew ws frame) Winner Redundant) (win skew before streams.1)
@@ -234,13 +256,15 @@ carried_first carried sent (frame ∷ before) all = at (is_first_copy before fra
     at : (b : Bool) → is_first_copy before frame ≡ b → reverse (map carried (first_copies before)) ≡ take (length (first_copies before)) sent →
         reverse (map carried (first_copies (frame ∷ before))) ≡ take (length (first_copies (frame ∷ before))) sent
     at true e so_far =
-        let now : first_copies (frame ∷ before) ≡ frame ∷ first_copies before = cond-true (is_first_copy before frame) (frame ∷ first_copies before) (first_copies before) e in
+        let now : first_copies (frame ∷ before) ≡ frame ∷ first_copies before = cond-true (is_first_copy before frame) (frame ∷ first_copies before)
+                (first_copies before) e in
         let here : slice_get sent (length (first_copies before)) ≡ Some (carried frame) = ap (slice_get sent) (sym (own_place before frame e)) ∙ all.0 in
         ap (λ fs. reverse (map carried fs)) now ∙ reverse-cons (carried frame) (map carried (first_copies before))
         ∙ ap (λ xs. xs ++ carried frame ∷ []) so_far ∙ sym (one_more sent (length (first_copies before)) (carried frame) here)
         ∙ ap (λ n. take n sent) (plus_one (length (first_copies before)) ∙ sym (ap length now))
     at false e so_far =
-        let now : first_copies (frame ∷ before) ≡ first_copies before = cond-false (is_first_copy before frame) (frame ∷ first_copies before) (first_copies before) e in
+        let now : first_copies (frame ∷ before) ≡ first_copies before = cond-false (is_first_copy before frame) (frame ∷ first_copies before)
+                (first_copies before) e in
         ap (λ fs. reverse (map carried fs)) now ∙ so_far ∙ ap (λ n. take n sent) (sym (ap length now))
 
 pub won_once : (skew : ℕ) (carried : Incoming → List ℕ) (sent : List (List ℕ)) (came : List Incoming) → AreTwoStreams skew came → CarrySent carried sent came →

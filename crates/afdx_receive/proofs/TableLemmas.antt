@@ -1,4 +1,5 @@
-use Rattle.std.proofs.Common.{◌≡◌, ℕ, zero, suc, ◌+◌, ◌<◌, inl, inr, Bool, true, false, cond, ◌||◌, ◌&&◌, Option, Some, None, List, [], ◌∷◌, ◌++◌, take, eqb, nat_eq, refl, sym, ◌∙◌, ap, arith}
+use Rattle.std.proofs.Common.{◌≡◌, ℕ, zero, suc, ◌+◌, ◌<◌, inl, inr, Bool, true, false, cond, ◌||◌, ◌&&◌, Option, Some, None, List, [], ◌∷◌, ◌++◌, take, eqb}
+use Rattle.std.proofs.Common.{nat_eq, refl, sym, ◌∙◌, ap, arith}
 use Rattle.std.specs.Prelude.{find, slice_get, option_map}
 use Rattle.std.specs.List.{list_any}
 use Rattle.std.specs.Option.{option_or}
@@ -22,7 +23,8 @@ pub one_more : {X : Type 0} (xs : List X) (i : ℕ) (x : X) → slice_get xs i �
 one_more xs i x here = take_more xs i x (slice_get_within xs i x here) ∙ ap (λ y. take i xs ++ y ∷ []) (get_or_from_slice_get xs i x x here)
 
 -- one before a place that passes a test
-found_before : {X : Type 0} (p : X → Bool) (xs : List X) (i : ℕ) → list_any p (take i xs) ≡ true → (j : ℕ) × (x : X) × (j < i) × (slice_get xs j ≡ Some x) × (p x ≡ true)
+found_before : {X : Type 0} (p : X → Bool) (xs : List X) (i : ℕ) → list_any p (take i xs) ≡ true →
+    (j : ℕ) × (x : X) × (j < i) × (slice_get xs j ≡ Some x) × (p x ≡ true)
 found_before p [] zero h = absurd (cc)
 found_before p [] (suc i) h = absurd (cc)
 found_before p (x ∷ xs) zero h = absurd (cc)
@@ -43,29 +45,35 @@ abbrev pub is_for : ℕ → ℕ → LinkRow → Bool
 is_for system vl link = nat_eq link.vl vl && is_to system link
 
 -- the links are distinct: none before one has its identifier
-none_before : (system vl : ℕ) (links : List LinkRow) (i : ℕ) (link : LinkRow) → AreDistinct (λ (l : LinkRow). l.vl) links → slice_get links i ≡ Some link → link.vl ≡ vl → find (is_for system vl) (take i links) ≡ None
+none_before : (system vl : ℕ) (links : List LinkRow) (i : ℕ) (link : LinkRow) → AreDistinct (λ (l : LinkRow). l.vl) links → slice_get links i ≡ Some link →
+    link.vl ≡ vl → find (is_for system vl) (take i links) ≡ None
 unfolding AreDistinct
-none_before system vl links i link distinct here named = none_found (is_for system vl) (take i links) (false_from_ne_true (list_any (is_for system vl) (take i links)) (λ h.
+none_before system vl links i link distinct here named =
+    none_found (is_for system vl) (take i links) (false_from_ne_true (list_any (is_for system vl) (take i links)) (λ h.
     let found = found_before (is_for system vl) links i h in
     let both : (nat_eq found.1.vl vl ≡ true) × (is_to system found.1 ≡ true) = and_parts (nat_eq found.1.vl vl) (is_to system found.1) found.4 in
     let same : found.0 ≡ i = distinct found.0 i found.1 link found.3 here (eqb-true found.1.vl vl both.0 ∙ sym named) in
     omega (arith, found.2, same)))
 
 -- the first that passes a test, where some does
-first_found : {X : Type 0} (p : X → Bool) (xs : List X) (i : ℕ) (x : X) → slice_get xs i ≡ Some x → p x ≡ true → (j : ℕ) × (y : X) × (slice_get xs j ≡ Some y) × (p y ≡ true) × (find p xs ≡ Some y)
+first_found : {X : Type 0} (p : X → Bool) (xs : List X) (i : ℕ) (x : X) → slice_get xs i ≡ Some x → p x ≡ true →
+    (j : ℕ) × (y : X) × (slice_get xs j ≡ Some y) × (p y ≡ true) × (find p xs ≡ Some y)
 first_found p [] i x here holds = absurd (cc)
 first_found p (y ∷ ys) zero x here holds = let same : y ≡ x = (cc) in (0, y, refl, ap p same ∙ holds, cond-true (p y) (Some y) (find p ys) (ap p same ∙ holds))
 first_found {X = X} p (y ∷ ys) (suc i) x here holds = by (p y) refl (first_found p ys i x here holds)
   where
-    by : (b : Bool) → p y ≡ b → (j : ℕ) × (z : X) × (slice_get ys j ≡ Some z) × (p z ≡ true) × (find p ys ≡ Some z) → (j : ℕ) × (z : X) × (slice_get (y ∷ ys) j ≡ Some z) × (p z ≡ true) × (find p (y ∷ ys) ≡ Some z)
+    by : (b : Bool) → p y ≡ b → (j : ℕ) × (z : X) × (slice_get ys j ≡ Some z) × (p z ≡ true) × (find p ys ≡ Some z) →
+        (j : ℕ) × (z : X) × (slice_get (y ∷ ys) j ≡ Some z) × (p z ≡ true) × (find p (y ∷ ys) ≡ Some z)
     by true e later = (0, y, refl, e, cond-true (p y) (Some y) (find p ys) e)
     by false e later = (suc later.0, later.1, later.2, later.3, cond-false (p y) (Some y) (find p ys) e ∙ later.4)
 
 -- a link that goes to the system is found under its identifier
-pub received : (system : ℕ) (links : List LinkRow) (i : ℕ) (link : LinkRow) → AreDistinct (λ (l : LinkRow). l.vl) links → slice_get links i ≡ Some link → is_to system link ≡ true → find (is_for system link.vl) links ≡ Some link
+pub received : (system : ℕ) (links : List LinkRow) (i : ℕ) (link : LinkRow) → AreDistinct (λ (l : LinkRow). l.vl) links → slice_get links i ≡ Some link →
+    is_to system link ≡ true → find (is_for system link.vl) links ≡ Some link
 unfolding AreDistinct
 received system links i link distinct here goes =
-    let found = first_found (is_for system link.vl) links i link here (and_from (nat_eq link.vl link.vl) (is_to system link) (eq-eqb link.vl link.vl refl) goes) in
+    let found = first_found (is_for system link.vl) links i link here
+            (and_from (nat_eq link.vl link.vl) (is_to system link) (eq-eqb link.vl link.vl refl) goes) in
     let both : (nat_eq found.1.vl link.vl ≡ true) × (is_to system found.1 ≡ true) = and_parts (nat_eq found.1.vl link.vl) (is_to system found.1) found.3 in
     let same : found.0 ≡ i = distinct found.0 i found.1 link found.2 here (eqb-true found.1.vl link.vl both.0) in
     let one : Some found.1 ≡ Some link = sym found.2 ∙ ap (slice_get links) same ∙ here in
@@ -75,7 +83,8 @@ received system links i link distinct here goes =
 abbrev pub LinksSoFar : {S : Type 0} → ℕ → List LinkRow → ℕ → HashMap VlId LinkMemory S → Type 0
 LinksSoFar system links i held = (vl : VlId) → hash.get is_same_link held vl ≡ option_map memory_at_first (find (is_for system vl.0) (take i links))
 
-find_one : (p : LinkRow → Bool) (links : List LinkRow) (i : ℕ) (link : LinkRow) → slice_get links i ≡ Some link → find p (take (i + 1) links) ≡ option_or (find p (take i links)) (cond (p link) (Some link) None)
+find_one : (p : LinkRow → Bool) (links : List LinkRow) (i : ℕ) (link : LinkRow) → slice_get links i ≡ Some link →
+    find p (take (i + 1) links) ≡ option_or (find p (take i links)) (cond (p link) (Some link) None)
 find_one p links i link here = ap (find p) (one_more links i link here) ∙ find-append p (take i links) (link ∷ [])
 
 or_none : {X : Type 0} (o : Option X) → option_or o None ≡ o
@@ -97,7 +106,8 @@ pub link_added : {S : Type 0} (system : ℕ) (links : List LinkRow) (i : ℕ) (l
     LinksSoFar system links (i + 1) after
 link_added system links i link key held after so_far distinct here named goes updates vl = at (eqb key.0 vl.0) refl
   where
-    step : find (is_for system vl.0) (take (i + 1) links) ≡ option_or (find (is_for system vl.0) (take i links)) (cond (is_for system vl.0 link) (Some link) None)
+    step : find (is_for system vl.0) (take (i + 1) links) ≡ option_or (find (is_for system vl.0) (take i links)) (cond (is_for system vl.0 link)
+        (Some link) None)
     step = find_one (is_for system vl.0) links i link here
 
     at : (b : Bool) → eqb key.0 vl.0 ≡ b → hash.get is_same_link after vl ≡ option_map memory_at_first (find (is_for system vl.0) (take (i + 1) links))
@@ -110,7 +120,9 @@ link_added system links i link key held after so_far distinct here named goes up
     at false e =
         let apart : is_for system vl.0 link ≡ false = and_left (nat_eq link.vl vl.0) (is_to system link) (ap (λ n. eqb n vl.0) (sym named) ∙ e) in
         updates vl ∙ ap (λ b. cond b (Some (memory_at_first link)) (hash.get is_same_link held vl)) e ∙ so_far vl
-        ∙ ap (option_map memory_at_first) (sym (step ∙ ap (λ b. option_or (find (is_for system vl.0) (take i links)) (cond b (Some link) None)) apart ∙ or_none (find (is_for system vl.0) (take i links))))
+        ∙ ap (option_map memory_at_first) (sym
+            (step ∙ ap (λ b. option_or (find (is_for system vl.0) (take i links)) (cond b (Some link) None)) apart ∙ or_none
+            (find (is_for system vl.0) (take i links))))
 
 -- whether a port is the system's, for a link and a UDP port
 abbrev pub is_at : ℕ → Endpoint → PortRow → Bool
@@ -123,7 +135,8 @@ configured : (ports : List PortRow) (system : ℕ) (to : Endpoint) → has_port 
 unfolding has_port
 configured ports system to = refl
 
-any_one : (p : PortRow → Bool) (ports : List PortRow) (i : ℕ) (port : PortRow) → slice_get ports i ≡ Some port → list_any p (take (i + 1) ports) ≡ (list_any p (take i ports) || (p port || false))
+any_one : (p : PortRow → Bool) (ports : List PortRow) (i : ℕ) (port : PortRow) → slice_get ports i ≡ Some port →
+    list_any p (take (i + 1) ports) ≡ (list_any p (take i ports) || (p port || false))
 any_one p ports i port here = ap (list_any p) (one_more ports i port here) ∙ list_any-append p (take i ports) (port ∷ [])
 
 or_no : (a : Bool) → (a || (false || false)) ≡ a
@@ -139,7 +152,8 @@ pub port_passed : {S : Type 0} (system : ℕ) (ports : List PortRow) (i : ℕ) (
 port_passed system ports i port held so_far here other to =
     let apart : is_at system to port ≡ false = rw other refl in
     so_far to ∙ configured (take i ports) system to
-    ∙ sym (configured (take (i + 1) ports) system to ∙ any_one (is_at system to) ports i port here ∙ ap (λ b. list_any (is_at system to) (take i ports) || (b || false)) apart ∙ or_no (list_any (is_at system to) (take i ports)))
+    ∙ sym (configured (take (i + 1) ports) system to ∙ any_one (is_at system to) ports i port here ∙ ap
+        (λ b. list_any (is_at system to) (take i ports) || (b || false)) apart ∙ or_no (list_any (is_at system to) (take i ports)))
 
 pub port_added : {S : Type 0} (system : ℕ) (ports : List PortRow) (i : ℕ) (port : PortRow) (key : Endpoint) (held after : HashSet Endpoint S) →
     PortsSoFar system ports i held → slice_get ports i ≡ Some port → eqb port.system system ≡ true → key.link.0 ≡ port.link → key.udp ≡ port.udp →
@@ -154,5 +168,7 @@ port_added system ports i port key held after so_far here own link udp updates t
     step = configured (take (i + 1) ports) system to ∙ any_one (is_at system to) ports i port here
 
     at : (b : Bool) → is_at system to port ≡ b → bag.contains is_same_endpoint after to ≡ has_port (take (i + 1) ports) system to.link.0 to.udp
-    at true e = updates to ∙ ap (λ b. cond b true (bag.contains is_same_endpoint held to)) (same ∙ e) ∙ sym (step ∙ ap (λ b. list_any (is_at system to) (take i ports) || (b || false)) e ∙ or_yes (list_any (is_at system to) (take i ports)))
-    at false e = updates to ∙ ap (λ b. cond b true (bag.contains is_same_endpoint held to)) (same ∙ e) ∙ so_far to ∙ configured (take i ports) system to ∙ sym (step ∙ ap (λ b. list_any (is_at system to) (take i ports) || (b || false)) e ∙ or_no (list_any (is_at system to) (take i ports)))
+    at true e = updates to ∙ ap (λ b. cond b true (bag.contains is_same_endpoint held to)) (same ∙ e) ∙ sym
+        (step ∙ ap (λ b. list_any (is_at system to) (take i ports) || (b || false)) e ∙ or_yes (list_any (is_at system to) (take i ports)))
+    at false e = updates to ∙ ap (λ b. cond b true (bag.contains is_same_endpoint held to)) (same ∙ e) ∙ so_far to ∙ configured (take i ports) system to ∙ sym
+        (step ∙ ap (λ b. list_any (is_at system to) (take i ports) || (b || false)) e ∙ or_no (list_any (is_at system to) (take i ports)))

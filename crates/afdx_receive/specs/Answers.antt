@@ -1,5 +1,6 @@
 -- What a receiver answers, as a function of what arrived before and of the bytes that arrive.
-use Rattle.std.specs.Prelude.{ℕ, ◌*◌, ◌&&◌, Bool, true, false, nat_eq, Option, None, Some, Result, Ok, Err, List, find, if◌then◌else◌}
+use Rattle.std.specs.Prelude.{ℕ, ◌*◌, ◌&&◌, Bool, true, false, nat_eq, Option, None, Some, Result}
+use Rattle.std.specs.Prelude.{Ok, Err, List, find, if◌then◌else◌}
 use Rattle.afdx_frame.specs.declared.fault.MacFault.{MacFault}
 use Rattle.afdx_frame.specs.declared.fault.IpFault.{IpFault}
 use Rattle.afdx_frame.specs.Parts.{FrameParts, frame_of}
@@ -12,11 +13,14 @@ use Rattle.afdx_receive.specs.Arrivals.{Arrived, incoming, frames_of}
 use Rattle.afdx_receive.specs.declared.memory.Standing.{Standing}
 use Rattle.afdx_receive.specs.declared.memory.Standing.TheVariants as stands
 use Rattle.afdx_receive.specs.declared.reception.DropReason.{DropReason}
-use Rattle.afdx_receive.specs.declared.reception.DropReason.TheVariants.{Mac, NotSubscribed, Sequence, Redundant, Ip, NoPort}
+use Rattle.afdx_receive.specs.declared.reception.DropReason.TheVariants.{Mac, NotSubscribed}
+use Rattle.afdx_receive.specs.declared.reception.DropReason.TheVariants.{Sequence, Redundant, Ip}
+use Rattle.afdx_receive.specs.declared.reception.DropReason.TheVariants.{NoPort}
 use Rattle.afdx_receive.specs.declared.reception.Reception.{Reception}
 use Rattle.afdx_receive.specs.declared.reception.Reception.TheVariants as reception
 
--- a message of a link to a UDP port, with its payload, or the reason for which the bytes are dropped
+-- a message of a link to a UDP port, with its payload, or the reason for which the bytes are
+-- dropped
 pub data Answer : Type 0 where
   Message : ℕ → ℕ → List ℕ → Answer
   Dropped : DropReason → Answer
@@ -32,7 +36,8 @@ is_ignored (Dropped (Mac fault)) = true
 is_ignored (Dropped NotSubscribed) = true
 is_ignored answer = false
 
--- to a frame that won, from what it carries, and the test whether the system has a UDP port for its link
+-- to a frame that won, from what it carries, and the test whether the system has a UDP port for its
+-- link
 abbrev pub answer_to_carried : ℕ → (ℕ → Bool) → Result Carried IpFault → Answer
 answer_to_carried vl is_open (Ok carried) =
     if is_open carried.to_port then Message vl carried.to_port carried.payload else Dropped NoPort
@@ -47,7 +52,8 @@ answer_by stands.Redundant read = Dropped Redundant
 -- to a frame of a link that the system receives, from that link's frames before it alone
 abbrev pub answer_after : ℕ → (ℕ → Bool) → List Incoming → Incoming → Answer
 answer_after skew is_open before frame =
-    answer_by (standing skew before frame) (answer_to_carried frame.vl is_open (carried_by frame.bytes))
+    answer_by (standing skew before frame)
+    (answer_to_carried frame.vl is_open (carried_by frame.bytes))
 
 -- the link of an identifier that goes to the system
 abbrev pub subscription : Rows → ℕ → ℕ → Option LinkRow

@@ -1,5 +1,6 @@
 -- Exactly once: the copies of a link's lawful stream that come to a receiver by the two networks.
-use Rattle.std.specs.Prelude.{◌≡◌, ℕ, ◌+◌, ◌*◌, ◌≤◌, Bool, max, Some, Ok, List, [], ◌∷◌, filter, reverse, slice_get, take, IfSome}
+use Rattle.std.specs.Prelude.{◌≡◌, ℕ, ◌+◌, ◌*◌, ◌≤◌, Bool, max, Some, Ok, List, [], ◌∷◌, filter}
+use Rattle.std.specs.Prelude.{reverse, slice_get, take, IfSome}
 use Rattle.afdx_frame.specs.declared.link.Side.{Side}
 use Rattle.afdx_frame.specs.declared.link.Side.TheVariants.{A, B}
 use Rattle.afdx_frame.specs.Sealing.{AreBytes}
@@ -19,9 +20,10 @@ abbrev pub copy_on : Side → Sending → List ℕ
 copy_on A sending = sending.a
 copy_on B sending = sending.b
 
--- the frame is the copy of the next sending on its side: it comes after it was sent, at most the latency later, and
--- not before those that came
-pub record IsNextCopy (latency : ℕ) (stream : List Sending) (before : List Incoming) (frame : Incoming) : Type 0 where
+-- the frame is the copy of the next sending on its side: it comes after it was sent, at most the
+-- latency later, and not before those that came
+pub record IsNextCopy (latency : ℕ) (stream : List Sending) (before : List Incoming)
+    (frame : Incoming) : Type 0 where
   pub sending : Sending
   pub at_place : slice_get stream (count_of frame.side before) ≡ Some sending
   pub bytes : frame.bytes ≡ copy_on frame.side sending
@@ -35,19 +37,23 @@ pub record IsNextCopy (latency : ℕ) (stream : List Sending) (before : List Inc
 -- all that came are copies of the stream, on each side in order and with none left out
 abbrev pub AreCopies : ℕ → List Sending → List Incoming → Type 0
 AreCopies latency stream [] = Unit {0}
-AreCopies latency stream (frame ∷ before) = IsNextCopy latency stream before frame × AreCopies latency stream before
+AreCopies latency stream (frame ∷ before) =
+    IsNextCopy latency stream before frame × AreCopies latency stream before
 
 -- the builder takes each message of the link
 pub record AreSendable (s : SystemRow) (l : LinkRow) (messages : List Message) : Type 0 where
-  pub buildable : (place : ℕ) (m : Message) → slice_get messages place ≡ Some m → Buildable (address_of s l m) m.payload
+  pub buildable : (place : ℕ) (m : Message) → slice_get messages place ≡ Some m →
+      Buildable (address_of s l m) m.payload
   pub bytes : (place : ℕ) (m : Message) → slice_get messages place ≡ Some m → AreBytes m.payload
 
--- Where a link's latency is at most its skew, exactly the messages of its stream to an open UDP port are delivered, each
--- once and in order, as far as one of the sides has come.
+-- Where a link's latency is at most its skew, exactly the messages of its stream to an open UDP
+-- port are delivered, each once and in order, as far as one of the sides has come.
 abbrev pub StreamIsDeliveredOnce : Type 0
-StreamIsDeliveredOnce = (systems : ℕ) (s : SystemRow) (l : LinkRow) (messages : List Message) (stream : List Sending)
+StreamIsDeliveredOnce =
+    (systems : ℕ) (s : SystemRow) (l : LinkRow) (messages : List Message) (stream : List Sending)
     (is_open : ℕ → Bool) (came : List Incoming) →
-    IsLink systems l → l.latency_us ≤ l.skew_us → AreSendable s l messages → IsLawfulStream s l messages stream →
+    IsLink systems l → l.latency_us ≤ l.skew_us → AreSendable s l messages →
+    IsLawfulStream s l messages stream →
     AreCopies (1000 * l.latency_us) stream came →
     reverse (delivered (1000 * l.skew_us) is_open came)
     ≡ filter (λ m. is_open m.udp) (take (max (count_of A came) (count_of B came)) messages)

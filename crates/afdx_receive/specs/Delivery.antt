@@ -1,5 +1,6 @@
 -- What a receiver delivers of a link's frames, and of what was sent.
-use Rattle.std.specs.Prelude.{◌≡◌, ℕ, Bool, max, Some, Ok, List, [], ◌∷◌, filter, reverse, slice_get, take}
+use Rattle.std.specs.Prelude.{◌≡◌, ℕ, Bool, max, Some, Ok, List, [], ◌∷◌, filter, reverse}
+use Rattle.std.specs.Prelude.{slice_get, take}
 use Rattle.afdx_frame.specs.declared.link.Side.TheVariants.{A, B}
 use Rattle.afdx_frame.specs.Carried.{carried_by}
 use Rattle.afdx_config.specs.SentList as sent
@@ -24,7 +25,11 @@ pub record CarriesSent (messages : List sent.Message) (place : ℕ) (frame : Inc
   pub at_place : slice_get messages place ≡ Some message
   pub from_port : ℕ
   pub carried :
-      carried_by frame.bytes ≡ Ok (record { from_port = from_port; to_port = message.udp; payload = message.payload })
+      carried_by frame.bytes ≡ Ok (record {
+        from_port = from_port;
+        to_port = message.udp;
+        payload = message.payload;
+      })
 
 -- each frame carries the message that was sent at its place in its side's stream
 abbrev pub AllCarrySent : List sent.Message → List Incoming → Type 0
@@ -32,10 +37,11 @@ AllCarrySent messages [] = Unit {0}
 AllCarrySent messages (frame ∷ before) =
     CarriesSent messages (count_of frame.side before) frame × AllCarrySent messages before
 
--- of two streams in order exactly the messages that were sent to an open UDP port are delivered, each once and in
--- order, as far as one of the sides has come
+-- of two streams in order exactly the messages that were sent to an open UDP port are delivered,
+-- each once and in order, as far as one of the sides has come
 abbrev pub SentIsDeliveredOnce : Type 0
-SentIsDeliveredOnce = (skew : ℕ) (is_open : ℕ → Bool) (messages : List sent.Message) (came : List Incoming) →
+SentIsDeliveredOnce =
+    (skew : ℕ) (is_open : ℕ → Bool) (messages : List sent.Message) (came : List Incoming) →
     AreTwoStreams skew came → AllCarrySent messages came →
     reverse (delivered skew is_open came)
     ≡ filter (λ m. is_open m.udp) (take (max (count_of A came) (count_of B came)) messages)

@@ -1,24 +1,19 @@
--- Integrity (ARINC 664 Part 7): which frames of a link are valid, looking back at those that came before. A list of
--- frames that came has the newest first.
-use Rattle.std.specs.Prelude.{ℕ, Bool, true, false, ◌||◌, nat_eq, Option, List, find}
+-- Integrity (ARINC 664 Part 7): which frames of a link are valid, looking back at those that came
+-- before. A list of frames that came has the newest first.
+use Rattle.std.specs.Prelude.{ℕ, Bool, true, ◌||◌, nat_eq, Option, List, find}
 use Rattle.std.specs.Option.{option_map_or}
 use Rattle.afdx_frame.specs.declared.link.Side.{Side}
-use Rattle.afdx_frame.specs.declared.link.Side.TheVariants.{A, B}
+pub use Rattle.afdx_frame.specs.Sides.{is_side as is_same_side}
 use Rattle.afdx_receive.specs.Steps.{is_within_steps}
 
--- a frame that came to a receiver: when, in ns, by which network, its link and number, and its bytes
+-- a frame that came to a receiver: when, in ns, by which network, its link and number, and its
+-- bytes
 pub record Incoming : Type 0 where
   pub time : ℕ
   pub side : Side
   pub vl : ℕ
   pub number : ℕ
   pub bytes : List ℕ
-
-abbrev pub is_same_side : Side → Side → Bool
-is_same_side A A = true
-is_same_side B B = true
-is_same_side A B = false
-is_same_side B A = false
 
 -- the last one before that came by this side
 abbrev pub previous : Side → List Incoming → Option Incoming

@@ -11,3 +11,4 @@ pub mod TwoStreams
 pub mod Delivery
 pub mod Copies
 pub mod Laws
+pub mod Words

@@ -22,13 +22,15 @@ is_same_endpoint a b = is_same_link a.link b.link && nat_eq a.udp b.udp
 
 -- what is kept of a link to begin with
 abbrev pub memory_at_first : LinkRow → LinkMemory
-memory_at_first link = record { skew_ns = 1000 * link.skew_us; previous_a = None; previous_b = None; winner = None }
+memory_at_first link =
+    record { skew_ns = 1000 * link.skew_us; previous_a = None; previous_b = None; winner = None }
 
 -- what is kept of a link: nothing if the system doesn't receive it, else what its own frames leave
 abbrev pub LinkStandsFor : Rows → ℕ → List Arrived → ℕ → Option LinkMemory → Type 0
 LinkStandsFor tables system past vl None = subscription tables system vl ≡ None
 LinkStandsFor tables system past vl (Some memory) =
-    (link : LinkRow) × (subscription tables system vl ≡ Some link) × (memory.skew_ns ≡ 1000 * link.skew_us)
+    (link : LinkRow) × (subscription tables system vl ≡ Some link)
+    × (memory.skew_ns ≡ 1000 * link.skew_us)
     × Remembers memory (frames_of vl past)
 
 -- the ports of the system
@@ -37,13 +39,16 @@ PortsStandFor tables system ports = (to : Endpoint) →
     bag.contains is_same_endpoint ports to ≡ has_port tables.ports system to.link.0 to.udp
 
 -- a receiver of the system, after what arrived
-pub record StandsFor (tables : Rows) (system : ℕ) (receiver : Receiver) (past : List Arrived) : Type 0 where
-  pub links : (vl : VlId) → LinkStandsFor tables system past vl.0 (hash.get is_same_link receiver.links vl)
+pub record StandsFor (tables : Rows) (system : ℕ) (receiver : Receiver)
+    (past : List Arrived) : Type 0 where
+  pub links : (vl : VlId) →
+      LinkStandsFor tables system past vl.0 (hash.get is_same_link receiver.links vl)
   pub ports : PortsStandFor tables system receiver.ports
 
--- what arrives after what arrived before has this answer, which is computed and right, and joins what arrived
-pub record Receives (tables : Rows) (system : ℕ) (past : List Arrived) (x : Arrived) (answer : Answer)
-    (new : Receiver) : Type 0 where
+-- what arrives after what arrived before has this answer, which is computed and right, and joins
+-- what arrived
+pub record Receives (tables : Rows) (system : ℕ) (past : List Arrived) (x : Arrived)
+    (answer : Answer) (new : Receiver) : Type 0 where
   pub computed : answer ≡ answer_to tables system past x
   pub right : IsAnswer tables system past x answer
   pub stands : StandsFor tables system new (x ∷ past)

@@ -1,8 +1,10 @@
 //! Laws over the definitions.
 
-ghost use Rattle.afdx_receive.specs.Laws.{WithinIsSomeSteps, FramesAreOwn, AnswerIsOwn, LinksAreReceived};
+ghost use Rattle.afdx_receive.specs.Laws.{WithinIsSomeSteps, FramesAreOwn, AnswerIsOwn};
+ghost use Rattle.afdx_receive.specs.Laws.{LinksAreReceived};
 ghost use Rattle.afdx_receive.specs.Laws.{AnswerIsComputed};
-ghost use Rattle.afdx_receive.specs.TwoStreams.{StandsByPlace, FirstCopiesWin, FirstCopiesAreCounted, SentIsWonOnce};
+ghost use Rattle.afdx_receive.specs.TwoStreams.{StandsByPlace, FirstCopiesWin};
+ghost use Rattle.afdx_receive.specs.TwoStreams.{FirstCopiesAreCounted, SentIsWonOnce};
 ghost use Rattle.afdx_receive.specs.Delivery.{SentIsDeliveredOnce};
 ghost use Rattle.afdx_receive.specs.Copies.{StreamIsDeliveredOnce};
 
@@ -59,14 +61,14 @@ pub fn next_stands_by_place()
     ensures { StandsByPlace }
 {}
 
-/// Of two streams in order exactly the messages that were sent to an open UDP port are delivered, each once and in
-/// order.
+/// Of two streams in order exactly the messages that were sent to an open UDP port are delivered,
+/// each once and in order.
 pub fn sent_is_delivered_once()
     ensures { SentIsDeliveredOnce }
 {}
 
-/// Of a lawful stream, whose copies come by each network in order and within a latency of at most the skew, exactly
-/// the messages to an open UDP port are delivered, each once and in order.
+/// Of a lawful stream, whose copies come by each network in order and within a latency of at most
+/// the skew, exactly the messages to an open UDP port are delivered, each once and in order.
 pub fn stream_is_delivered_once()
     ensures { StreamIsDeliveredOnce }
 {

@@ -1,5 +1,5 @@
-//! What an end system receives on its virtual links (ARINC 664 Part 7): integrity checking, redundancy
-//! management, and the datagram of each frame that wins.
+//! What an end system receives on its virtual links (ARINC 664 Part 7): integrity checking,
+//! redundancy management, and the datagram of each frame that wins.
 #![tactic(auto)]
 
 pub mod laws;

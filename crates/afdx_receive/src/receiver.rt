@@ -9,9 +9,11 @@ ghost use Rattle.afdx_frame.specs.Carried.{carried_by};
 ghost use Rattle.afdx_config.specs.Rows.{Rows};
 ghost use Rattle.afdx_config.specs.Reading.{has_port};
 ghost use Rattle.afdx_receive.specs.Arrivals.{Arrived, arrived};
-ghost use Rattle.afdx_receive.specs.Answers.{subscription, answer_of, answer_to_carried, is_ignored};
+ghost use Rattle.afdx_receive.specs.Answers.{subscription, answer_of, answer_to_carried};
+ghost use Rattle.afdx_receive.specs.Answers.{is_ignored};
 ghost use Rattle.afdx_receive.specs.Reception.{IsReadAs};
-ghost use Rattle.afdx_receive.specs.StandsFor.{StandsFor, Receives, PortsStandFor, is_same_link, memory_at_first};
+ghost use Rattle.afdx_receive.specs.StandsFor.{StandsFor, Receives, PortsStandFor, is_same_link};
+ghost use Rattle.afdx_receive.specs.StandsFor.{memory_at_first};
 
 use crate::memory::{LinkMemory, Standing};
 use crate::reception::{DropReason, Reception};
@@ -27,9 +29,10 @@ pub(crate) struct Endpoint {
     pub(crate) udp: u16,
 }
 
-/// The receiving side of an end system (ARINC 664 Part 7). Of each link that goes to the system it keeps the
-/// number of the frame that came last on each network, valid or not, and the number and time of the frame that
-/// won last. A contract speaks of it as what it stands for: a list of all that arrived, the newest first.
+/// The receiving side of an end system (ARINC 664 Part 7). Of each link that goes to the system it
+/// keeps the number of the frame that came last on each network, valid or not, and the number and
+/// time of the frame that won last. A contract speaks of it as what it stands for: a list of all
+/// that arrived, the newest first.
 #[derive(Drop)]
 pub struct Receiver {
     links: HashMap<VlId, LinkMemory>,
@@ -43,7 +46,8 @@ fn links_of(
     system: SystemId,
 ) -> Result<HashMap<VlId, LinkMemory>, AllocError>
     ensures { IfOk result (λ links. (vl : VlId) →
-        hash.get is_same_link links vl ≡ option_map memory_at_first (subscription tables.now system.0 vl.0)) }
+        hash.get is_same_link links vl
+        ≡ option_map memory_at_first (subscription tables.now system.0 vl.0)) }
 {
     let mut links = HashMap::new(alloc);
     let count = tables.link_count();
@@ -79,8 +83,8 @@ fn ports_of(
 }
 
 impl Receiver {
-    /// A receiver of the system, to which nothing arrived. It takes room for all that it will keep. The error is
-    /// want of memory alone.
+    /// A receiver of the system, to which nothing arrived. It takes room for all that it will keep.
+    /// The error is want of memory alone.
     pub fn new(alloc: Global, tables: &Tables, system: SystemId) -> Result<Receiver, AllocError>
         ensures stands { IfOk result (λ receiver. StandsFor tables.now system.0 receiver []) }
     {
@@ -89,14 +93,14 @@ impl Receiver {
         Ok(Receiver { links, ports })
     }
 
-    /// Takes in what arrives at `time`, in ns, by one of the two networks: the payload of a frame that wins, lent
-    /// from the bytes, or the first reason of `DropReason` that is true of it.
+    /// Takes in what arrives at `time`, in ns, by one of the two networks: the payload of a frame
+    /// that wins, lent from the bytes, or the first reason of `DropReason` that is true of it.
     ///
-    /// The network is the one by which the frame came, whatever its source address says. The answer comes from
-    /// the frames of the same link that arrived before, and from nothing else. Bytes that are no frame, and
-    /// frames of links that don't go to the system, leave the receiver as it was. A frame that wins counts as the
-    /// last winner also where its datagram or its UDP port is refused. It takes no memory: a frame costs one
-    /// check sequence and two look-ups.
+    /// The network is the one by which the frame came, whatever its source address says. The answer
+    /// comes from the frames of the same link that arrived before, and from nothing else. Bytes
+    /// that are no frame, and frames of links that don't go to the system, leave the receiver as it
+    /// was. A frame that wins counts as the last winner also where its datagram or its UDP port is
+    /// refused. It takes no memory: a frame costs one check sequence and two look-ups.
     pub fn receive<'a>(&mut self, time: u64, side: Side, bytes: &'a [u8]) -> Reception<'a>
         ensures received { (tables : Rows) (system : ℕ) (past : List Arrived) →
             StandsFor tables system self.old past →
@@ -106,8 +110,8 @@ impl Receiver {
         self.receive_checked(time, side, bytes, is_sealed(bytes))
     }
 
-    /// Takes in bytes of which it is known whether they are sealed, and doesn't read their check sequence again:
-    /// `sealed` is what `is_sealed` answers. It is `receive` otherwise.
+    /// Takes in bytes of which it is known whether they are sealed, and doesn't read their check
+    /// sequence again: `sealed` is what `is_sealed` answers. It is `receive` otherwise.
     pub fn receive_checked<'a>(
         &mut self,
         time: u64,
@@ -141,7 +145,8 @@ impl Receiver {
         ensures answer { (tables : Rows) (system : ℕ) (bytes : List ℕ) →
             PortsStandFor tables system self.now.ports → IsFrameOf bytes (parts_of frame.entry) →
             let vl = (parts_of frame.entry).link.0 in
-            answer_of result ≡ answer_to_carried vl (has_port tables.ports system vl) (carried_by bytes) }
+            answer_of result
+            ≡ answer_to_carried vl (has_port tables.ports system vl) (carried_by bytes) }
         ensures won { is_ignored (answer_of result) ≡ false }
         ensures right { (tables : Rows) (system : ℕ) (bytes : List ℕ) →
             PortsStandFor tables system self.now.ports → IsFrameOf bytes (parts_of frame.entry) →

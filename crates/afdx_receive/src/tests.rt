@@ -1,3 +1,5 @@
+//! Receptions with known answers, on real frames.
+
 use crate::{DropReason, Receiver, Reception};
 use afdx_config::{ConfigFault, SystemId, Tables, read_tables};
 use afdx_frame::{Address, IpFault, MacFault, Side, VlId, build, fcs, is_sealed};
@@ -51,7 +53,8 @@ const SECOND: SystemId = SystemId(1);
 
 const THIRD: SystemId = SystemId(2);
 
-// A frame of link 1 on side A without its check sequence: `hello` from UDP port 1000 to UDP port 1000, number 0.
+// A frame of link 1 on side A without its check sequence: `hello` from UDP port 1000 to UDP port
+// 1000, number 0.
 const HELLO: [u8; 60] = [
     3, 0, 0, 0, 0, 1, 2, 0, 0, 0, 1, 0x20, 8, 0, 0x45, 0, 0, 0x21, 0, 0, 0, 0, 1, 0x11, 0xcd, 0xea,
     0x0a, 0, 1, 1, 0xe0, 0xe0, 0, 1, 3, 0xe8, 3, 0xe8, 0, 0x0d, 0, 0, 0x68, 0x65, 0x6c, 0x6c, 0x6f,
@@ -64,7 +67,8 @@ const LOW_OF_LINK: usize = 5;
 
 const NUMBER: usize = 59;
 
-// Of all growths one alone may be refused in these tests: a call that is refused memory is made again.
+// Of all growths one alone may be refused in these tests: a call that is refused memory is made
+// again.
 fn read(alloc: Global, text: &str) -> Result<Tables, ConfigFault> {
     match read_tables(alloc, text.as_bytes()) {
         Err(ConfigFault::Memory) => read_tables(alloc, text.as_bytes()),
@@ -154,7 +158,8 @@ fn is_answer(reception: Reception<'_>, wanted: Option<DropReason>) -> bool {
     }
 }
 
-// Three frames that come to a new receiver of the third system by side A: when, the number and the answer.
+// Three frames that come to a new receiver of the third system by side A: when, the number and the
+// answer.
 fn receive_three(
     rt: &impl Abort,
     alloc: Global,

@@ -3,10 +3,12 @@ ghost use Rattle.std.specs.Prelude.{◌≡◌, ◌⊎◌, ◌++◌, OnOk, IfOk, 
 ghost use Rattle.std.specs.Io.KnownBytes.{Appends};
 ghost use Rattle.afdx_lists.specs.Calls.{is_failed_write};
 ghost use Rattle.afdx_config.specs.Admission.{IsAdmitted};
+ghost use Rattle.afdx_admit.specs.Bounds.{IsBounds};
 ghost use Rattle.afdx_admit.specs.Lines.{first_false, lines};
+ghost use Rattle.afdx_config.specs.Rows.{Rows};
 ghost use Rattle.afdx_replay.specs.CheckText.{port_line, port_lines, answer_line, check_text, IsChecked, IsRefused};
 
-use afdx_admit::{admit, buffer_need, high_bound, low_bound};
+use afdx_admit::{PortBounds, admit, bounds_of};
 use afdx_config::{ConfigFault, Tables, read_tables};
 use afdx_lists::{RunFault, Watched, write_text};
 use std::alloc::{AllocError, Global};
@@ -17,12 +19,13 @@ const ADMITTED: u8 = 0;
 const REFUSED: u8 = 1;
 
 /// Adds the line of an output port's bounds.
-fn put_port(text: &mut String, tables: &Tables, port: u8) -> Result<(), AllocError>
-    ensures { OnOk result (string_bytes text.new ≡ string_bytes text.old ++ port_line tables.now port) }
+fn put_bounds(text: &mut String, port: u8, bounds: &PortBounds) -> Result<(), AllocError>
+    ensures { (t : Rows) → IsBounds t port bounds.now →
+        OnOk result (string_bytes text.new ≡ string_bytes text.old ++ port_line t port) }
 {
-    let high = high_bound(tables, port);
-    let buffer = buffer_need(tables, port);
-    match low_bound(tables, port) {
+    let high = bounds.high;
+    let buffer = bounds.buffer;
+    match bounds.low {
         Some(low) => write!(text, "P {port} {high} {low} {buffer}\n"),
         None => write!(text, "P {port} {high} - {buffer}\n"),
     }
@@ -34,8 +37,8 @@ fn put_ports(text: &mut String, tables: &Tables) -> Result<(), AllocError>
 {
     for count in 0..24_u8 {
         let port = count + 1;
-        if tables.system_at(port).is_some() {
-            put_port(text, tables, port)?;
+        if let Some(bounds) = bounds_of(tables, port) {
+            put_bounds(text, port, &bounds)?;
         }
     }
     Ok(())

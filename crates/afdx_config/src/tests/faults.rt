@@ -1,4 +1,5 @@
 //! Each fault of the one order of checks.
+
 use super::{BASE, Text, at, first, last, read};
 use crate::{ConfigFault, Part, SystemId};
 use std::alloc::{AllocError, Global};
@@ -154,8 +155,9 @@ fn prefixes(rt: HostRuntime) -> Result<(), Fail> {
             lawful = lawful.saturating_add(1);
         }
     }
-    // A cut between two tables leaves lawful tables, with no, one or two line feeds after the last value: one of 7 places,
-    // and the last with no line feed alone. So does one within a rate of 100, behind 10.
+    // A cut between two tables leaves lawful tables, with no, one or two line feeds after the last
+    // value: one of 7 places, and the last with no line feed alone. So does one within a rate of
+    // 100, behind 10.
     assert_eq!(rt; lawful, 3 * 7 + 1 + 3);
     Ok(())
 }

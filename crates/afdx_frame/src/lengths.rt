@@ -1,0 +1,14 @@
+//! The lengths of frames in bytes, and what accounts count them in.
+
+/// The least length of a frame, with its check sequence (IEEE 802.3).
+pub const LEAST_FRAME: usize = 64;
+
+/// The greatest length of a frame, with its check sequence (IEEE 802.3).
+pub const GREATEST_FRAME: usize = 1518;
+
+/// The bytes that a frame takes on the wire besides its own (IEEE 802.3): 7 of preamble,
+/// 1 start delimiter, 12 of gap.
+pub const WIRE_EXTRA: u64 = 20;
+
+/// The units of a byte in an account: as many as the longest gap, 128 ms, has nanoseconds.
+pub const BYTE_UNITS: u64 = 128_000_000;
