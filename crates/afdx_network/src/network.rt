@@ -1,4 +1,4 @@
-ghost use Rattle.std.specs.Prelude.{◌≡◌, ℕ, ◌+◌, ◌≤◌, ◌∷◌, [], List, Option, IfSome, IfNone, IfOk, OnOk, OnErr, MatchOption};
+ghost use Rattle.std.specs.Prelude.{◌≡◌, ℕ, ◌+◌, ◌≤◌, ◌∷◌, [], List, Option, IfSome, IfNone, IfOk, OnOk, OnErr, MatchOption, None};
 ghost use Rattle.afdx_network.specs.First.{IsFirstSide, IsOrder};
 
 use afdx_config::Tables;
@@ -47,6 +47,7 @@ impl Network {
     ghost use Rattle.afdx_config.specs.Rows.{Rows};
     ghost use Rattle.afdx_frame.specs.Sealing.{is_sealed};
     ghost use Rattle.afdx_police.specs.Arrival.{arrival_with};
+    ghost use Rattle.afdx_switch.specs.Verdicts.{shape_fault};
     ghost use Rattle.afdx_network.specs.Events.{Event, Came, admission_after, arrivals_in};
     ghost use Rattle.afdx_network.specs.Order.{AreEvents};
     ghost use Rattle.afdx_network.specs.Network.{IsUntil, IsQuiet, StandsFor, Tells, Gives, frames_held};
@@ -69,7 +70,7 @@ impl Network {
     ///
     /// `time` isn't before the last time used and is at most 1,000,032,768,000,000; `take(time)` would give nothing.
     /// `tag` is handed back with the frame's departures; `sealed` is what `is_sealed` answers.
-    /// The error says that memory was refused: then nothing has changed.
+    /// The error says that memory was refused: then nothing has changed. A frame that is dropped for its shape needs none.
     pub fn arrive(
         &mut self,
         side: Side,
@@ -87,6 +88,8 @@ impl Network {
             IfOk result (λ verdict. Tells verdict (admission_after t (arrivals_in events) (arrival_with tag time side port bytes.now))) }
         ensures stands { (t : Rows) (events : List Event) → StandsFor t self.old events →
             OnOk result (StandsFor t self.new (Came (admission_after t (arrivals_in events) (arrival_with tag time side port bytes.now)) ∷ events)) }
+        ensures judged { (t : Rows) (events : List Event) → StandsFor t self.old events →
+            OnErr result (shape_fault t (arrival_with tag time side port bytes.now) ≡ None) }
         ensures refused { OnErr result (self.new ≡ self.old) }
         ensures quiet { IsQuiet self.new time }
         ensures held { frames_held self.new ≤ frames_held self.old + 24 }

@@ -20,6 +20,14 @@ reason_on past x (Some r) = verdict_in r.rule past x
 unfoldable pub reason_of : Rows → List Arrival → Arrival → Option Reason
 reason_of t past x = reason_on past x (row_named t x.bytes)
 
+-- what is wrong with the shape of an arrival that names this link, if something is
+abbrev pub fault_on : Arrival → Option Row → Option Reason
+fault_on x None = fault_of None x.port x.bytes
+fault_on x (Some r) = fault_of (Some r.rule) x.port x.bytes
+
+unfoldable pub shape_fault : Rows → Arrival → Option Reason
+shape_fault t x = fault_on x (row_named t x.bytes)
+
 -- a frame that its link's row sends to this port is lost there: what waits leaves no room for it
 abbrev pub is_share_lost : Rows → List Arrival → Arrival → ℕ → Option Row → Bool
 is_share_lost t past x port None = false

@@ -1,4 +1,4 @@
-ghost use Rattle.std.specs.Prelude.{◌≡◌, ◌↔◌, ℕ, ◌≤◌, ◌+◌, IfOk, OnOk, OnErr, IfSome, IfNone, MatchOption, ◌∷◌, Some, slice_get, true};
+ghost use Rattle.std.specs.Prelude.{◌≡◌, ◌↔◌, ℕ, ◌≤◌, ◌+◌, IfOk, OnOk, OnErr, IfSome, IfNone, MatchOption, ◌∷◌, Some, slice_get, true, None};
 
 use crate::build::build;
 use crate::frame::Frame;
@@ -88,7 +88,7 @@ impl Switch {
     ghost use Rattle.afdx_switch.specs.Admitted.{IsAdmittedRun, LosesNothing, IsInTime, HaveLeft};
     ghost use Rattle.afdx_switch.specs.Tables.{rule_of, entries_at};
     ghost use Rattle.afdx_switch.specs.Regular.{IsRegularAt, IsAccepted};
-    ghost use Rattle.afdx_switch.specs.Verdicts.{IsVerdict};
+    ghost use Rattle.afdx_switch.specs.Verdicts.{IsVerdict, shape_fault};
     ghost use Rattle.afdx_switch.specs.Switching.{History, StandsFor, IsQuiet, IsNextAt, IsDue, IsDone, Gives, no_calls, with_arrival, at, taken_at, frames_held, last_time};
 
     /// A switch of these tables at time 0, with full accounts and idle ports.
@@ -109,7 +109,7 @@ impl Switch {
     ///
     /// `time` isn't before the last time used and is at most 1,000,032,768,000,000; `take(time)` would give nothing.
     /// `tag` is handed back with the frame's departures.
-    /// The error says that memory was refused: then nothing has changed.
+    /// The error says that memory was refused: then nothing has changed. A frame that is dropped for its shape needs none.
     pub fn arrive(
         &mut self,
         time: u64,
@@ -128,6 +128,8 @@ impl Switch {
             IfOk result LosesNothing }
         ensures regular { (t : Rows) (side : Side) (h : History) (place : ℕ) (l : LinkRow) → StandsFor t side self.old h → IsLawful t → slice_get t.links place ≡ Some l → names l.vl bytes.now ≡ true →
             (rule_of t l).port ≡ port → IsRegularAt (rule_of t l) (own l.vl side (arrival_with tag time side port bytes.now ∷ h.arrivals)) → IfOk result IsAccepted }
+        ensures judged { (t : Rows) (side : Side) (h : History) → StandsFor t side self.old h →
+            OnErr result (shape_fault t (arrival_with tag time side port bytes.now) ≡ None) }
         ensures refused { OnErr result (self.new ≡ self.old) }
         ensures quiet { IsQuiet self.new time }
         ensures held { frames_held self.new ≤ frames_held self.old + 24 }
@@ -158,6 +160,8 @@ impl Switch {
             IfOk result LosesNothing }
         ensures regular { (t : Rows) (side : Side) (h : History) (place : ℕ) (l : LinkRow) → StandsFor t side self.old h → IsLawful t → slice_get t.links place ≡ Some l → names l.vl bytes.now ≡ true →
             (rule_of t l).port ≡ port → IsRegularAt (rule_of t l) (own l.vl side (arrival_with tag time side port bytes.now ∷ h.arrivals)) → IfOk result IsAccepted }
+        ensures judged { (t : Rows) (side : Side) (h : History) → StandsFor t side self.old h →
+            OnErr result (shape_fault t (arrival_with tag time side port bytes.now) ≡ None) }
         ensures refused { OnErr result (self.new ≡ self.old) }
         ensures quiet { IsQuiet self.new time }
         ensures held { frames_held self.new ≤ frames_held self.old + 24 }

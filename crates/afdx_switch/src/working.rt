@@ -103,7 +103,7 @@ impl Working {
     ghost use Rattle.afdx_police.specs.Arrival.{arrival_with};
     ghost use Rattle.afdx_port.specs.Due.{given_at, IsAfter};
     ghost use Rattle.afdx_port.specs.Schedule.{Turn};
-    ghost use Rattle.afdx_switch.specs.Verdicts.{IsVerdict};
+    ghost use Rattle.afdx_switch.specs.Verdicts.{IsVerdict, shape_fault};
     ghost use Rattle.afdx_switch.specs.Tables.{rows_of};
     ghost use Rattle.afdx_switch.specs.Switching.{History, StandsFor, IsSound, IsQuiet, IsNextAt, IsDue, IsDone, Gives, IsNamed, with_arrival, at, frames_held, last_time};
 
@@ -137,6 +137,8 @@ impl Working {
             IfOk result (IsVerdict t h.arrivals (arrival_with tag time side port bytes.now)) }
         ensures stands { (t : Rows) (side : Side) (h : History) → StandsFor t side self.old h →
             OnOk result (StandsFor t side self.new (with_arrival h (arrival_with tag time side port bytes.now))) }
+        ensures judged { (t : Rows) (side : Side) (h : History) → StandsFor t side self.old h →
+            OnErr result (shape_fault t (arrival_with tag time side port bytes.now) ≡ None) }
         ensures refused { OnErr result (self.new ≡ self.old) }
         ensures sound { IsSound self.new }
         ensures quiet { IsQuiet self.new time }
