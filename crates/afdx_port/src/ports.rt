@@ -7,11 +7,14 @@ use crate::has_length::HasLength;
 use crate::left::Due;
 use crate::port::Port;
 
-/// The port whose turn is given first, as its place, if one is given by `until`: by time, at one time slots before drops, then by place.
-/// It takes nothing; `take(until)` of that port then gives the turn. If `until` is 1.2e15 or later, None says that each frame that was put and not lost has had its turn.
+/// The port whose turn is given first, as its place, if one is given by `until`: by time, at one
+/// time slots before drops, then by place. It takes nothing; `take(until)` of that port then gives
+/// the turn. If `until` is 1.2e15 or later, None says that each frame that was put and not lost has
+/// had its turn.
 pub fn first_due<T: HasLength>(ports: &[Port<T>], until: u64) -> Option<usize>
     ensures none { IfNone result (AreQuiet T.facts ports.now until (length ports.now)) }
-    ensures first { IfSome result (λ place. IsFirstDue T.facts ports.now until (length ports.now) place) }
+    ensures first { IfSome result
+        (λ place. IsFirstDue T.facts ports.now until (length ports.now) place) }
     ensures limit { AreLimited T.facts ports.now (length ports.now) }
 {
     let mut first = None;
@@ -33,7 +36,8 @@ fn order_after(until: u64) -> u64
     2 * until.min(LATEST) + 1
 }
 
-/// What goes first so far, after the port at a further place was seen, and its order, or else the one above which no turn counts.
+/// What goes first so far, after the port at a further place was seen, and its order, or else the
+/// one above which no turn counts.
 fn earlier(first: Option<usize>, bound: u64, place: usize, due: Option<Due>) -> (Option<usize>, u64)
     requires { IfSome due (λ d. given_at d ≤ 1200000000000000) }
     ensures place { result.0 ≡ place_after first bound place due }

@@ -45,7 +45,9 @@ impl HasLength for Aging {
         Some(self.wait)
     }
 
-    ghost lawful = { λ f. record { least = Prim.omega arith; most = Prim.omega arith; wait = f.lawful } };
+    ghost lawful = {
+        λ f. record { least = Prim.omega arith; most = Prim.omega arith; wait = f.lawful }
+    };
 }
 
 fn waits_on(bytes: u64) -> Patient

@@ -20,7 +20,8 @@ use Rattle.afdx_bounds.proofs.VerdictLemmas.{looks}
 use Rattle.afdx_switch.specs.Carried.{carried_with}
 use Rattle.afdx_switch.specs.Tables.{rows_of, output_at, byte_ns_at, row_named, wait_of, carried, entries_at}
 use Rattle.afdx_switch.specs.Verdicts.{fault_on, shape_fault, reason_on, reason_of, is_share_lost, is_lost_at}
-use Rattle.afdx_switch.specs.Switching.{IsNamed, IsNamedAt, share_of, share_entry, with_share, loses_share}
+use Rattle.afdx_switch.specs.Lines.{IsNamed, IsNamedAt}
+use Rattle.afdx_switch.specs.Shares.{share_of, share_entry, with_share, loses_share}
 use Rattle.afdx_switch.proofs.ListLemmas.{find-none, find-one, bool_cases}
 
 pub same-side : (s : Side) → is_side s s ≡ true

@@ -10,7 +10,9 @@ use Rattle.afdx_police.specs.declared.shape.Reason.TheVariants.{UnknownLink, Ove
 use Rattle.afdx_switch.specs.Carried.{carried_with}
 use Rattle.afdx_switch.specs.declared.line.Line.{Line}
 use Rattle.afdx_switch.specs.Tables.{rows_of}
-use Rattle.afdx_switch.specs.Switching.{IsNamedAt, IsLineSound, share_of}
+use Rattle.afdx_switch.specs.Lines.{IsNamedAt}
+use Rattle.afdx_switch.specs.Sound.{IsLineSound}
+use Rattle.afdx_switch.specs.Shares.{share_of}
 use Rattle.afdx_switch.proofs.ArrivalLemmas.{reason-named, shape-named, on-err}
 use Rattle.afdx_switch.proofs.ListLemmas.{all-at, all-set, items-are}
 use Rattle.afdx_switch.proofs.TakeLemmas.{lines-later}

@@ -2,7 +2,8 @@ use Rattle.std.proofs.Common.{◌≡◌, ◌+◌, arith, refl, subst, length}
 use Rattle.std.proofs.lemmas.Option.{slice_get_read, slice_get-get_or}
 use Rattle.afdx_port.specs.Ports.{IsFirstDue, AreQuiet, AreLimited}
 use Rattle.afdx_switch.specs.Carried.{facts}
-use Rattle.afdx_switch.specs.Switching.{IsPortSound, calls_at}
+use Rattle.afdx_switch.specs.Sound.{IsPortSound}
+use Rattle.afdx_switch.specs.Switching.{calls_at}
 use Rattle.afdx_switch.proofs.ListLemmas.{all-at}
 use Rattle.afdx_switch.proofs.TakeLemmas.{must-give, none-next, all-done, next-of, stands-after, taken-sound, lines-later, gone}
 use Rattle.afdx_switch.proofs.working.Working.take.Goals as goal
