@@ -34,13 +34,23 @@ module _ {X : Type 0} where
 
   -- after a put
   abbrev pub with_put : History X → Entry X → History X
-  with_put h e = record { byte_ns = h.byte_ns; buffer = h.buffer; entries = h.entries ++ e ∷ [];
-      taken = h.taken; time = e.time }
+  with_put h e = record {
+    byte_ns = h.byte_ns;
+    buffer = h.buffer;
+    entries = h.entries ++ e ∷ [];
+    taken = h.taken;
+    time = e.time;
+  }
 
   -- after a take
   abbrev pub with_take : History X → Turn X → ℕ → History X
-  with_take h s until = record { byte_ns = h.byte_ns; buffer = h.buffer; entries = h.entries;
-      taken = s ∷ h.taken; time = until }
+  with_take h s until = record {
+    byte_ns = h.byte_ns;
+    buffer = h.buffer;
+    entries = h.entries;
+    taken = s ∷ h.taken;
+    time = until;
+  }
 
   -- the entry of a frame that is put
   abbrev pub entry_of : (X → Facts) → ℕ → Priority → X → Entry X
@@ -79,7 +89,7 @@ module _ {X : Type 0} where
       (q : ℕ) (d : Entry X) → from ≤ q → IsWithoutTurn entries turns q d → d.priority ≡ priority → ⊥
   IsQueue facts entries turns priority from (w ∷ ws) =
       (place : ℕ) × IsFirst entries turns priority from place (waiting_entry facts priority w)
-          × IsQueue facts entries turns priority (place + 1) ws
+      × IsQueue facts entries turns priority (place + 1) ws
 
   -- the turns that have begun are those that were taken, and that of the frame that is being sent
   abbrev pub HasBegun : Option (Left X) → List (Turn X) → List (Turn X) → Type 0

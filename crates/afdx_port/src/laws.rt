@@ -52,7 +52,7 @@ pub fn due_is_next<T: HasLength>()
         IsNext h.byte_ns h.entries h.taken s → due_of T.facts p ≡ Some (due_at s) }
     ensures quiet { (p : Pending T) (h : History T) (t : ℕ) → StandsFor T.facts p h →
         (IsQuiet T.facts p t ↔ ((s : Turn T) → IsNext h.byte_ns h.entries h.taken s →
-            IsAfter t (due_at s))) }
+        IsAfter t (due_at s))) }
     ensures all_done { (p : Pending T) (h : History T) → StandsFor T.facts p h →
         due_of T.facts p ≡ None → IsSchedule h.byte_ns h.entries h.taken }
     ensures empty { (p : Pending T) (t : ℕ) → frames_held p ≡ 0 → IsQuiet T.facts p t }

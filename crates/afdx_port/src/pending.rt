@@ -212,7 +212,7 @@ impl<T: HasLength> Pending<T> {
             (λ _. frames_held self.new ≡ frames_held self.old) }
         ensures ok { (h : History T) → StandsFor T.facts self.old h →
             OnOk result (StandsFor T.facts self.new
-                (with_put h (entry_of T.facts time priority item))) }
+            (with_put h (entry_of T.facts time priority item))) }
         ensures err { (h : History T) → StandsFor T.facts self.old h →
             OnErr result (StandsFor T.facts self.new (at h time)) }
         ensures back { IfErr result (λ back. back ≡ item) }

@@ -2,6 +2,8 @@
 ghost use Rattle.std.specs.Prelude.{◌≡◌, ℕ, ◌+◌, ◌<◌, ◌≤◌, ◌↔◌, ◌++◌, List, Some, None, IfOk, IfErr, OnOk, OnErr, IsErr, IsTrue, IfSome, IfNone, MatchOption, MatchResult};
 ghost use Rattle.afdx_port.specs.Schedule.{Turn, IsNext, AreTurns, IsSchedule, IsLost};
 ghost use Rattle.afdx_port.specs.ScheduleOf.{AreInOrder, schedule_of};
+ghost use Rattle.afdx_port.specs.Due.{given_at};
+ghost use Rattle.afdx_port.specs.Ports.{order_at};
 
 use crate::has_length::HasLength;
 use crate::left::{Due, Left};
@@ -18,6 +20,19 @@ pub struct Port<T: HasLength> {
     pending: Pending<T>,
     /// The next turn.
     due: Option<Due>,
+    /// Its place in the order in which ports are served together.
+    order: u64,
+}
+
+/// The place of a turn in the order in which ports are served together.
+fn order(due: Option<Due>) -> u64
+    requires { IfSome due (λ d. given_at d ≤ 1200000000000000) }
+    ensures { result ≡ order_at due }
+{
+    match due {
+        Some(due) => due.order(),
+        None => u64::MAX,
+    }
 }
 
 impl<T: HasLength> Model for Port<T> {
@@ -31,11 +46,15 @@ impl<T: HasLength> Model for Port<T> {
 
     ghost view = { λ p. p.pending };
 
-    ghost invariant = { λ p. IsSound T.facts p.pending × (p.due ≡ due_of T.facts p.pending) };
+    ghost use Rattle.afdx_port.specs.Ports.{order_at};
+
+    ghost invariant = { λ p. IsSound T.facts p.pending × (p.due ≡ due_of T.facts p.pending)
+        × (p.order ≡ order_at (due_of T.facts p.pending)) };
 }
 
 impl<T: HasLength> Port<T> {
     ghost use Rattle.afdx_port.specs.Due.{given_at, IsAfter};
+    ghost use Rattle.afdx_port.specs.Ports.{order_at};
     ghost use Rattle.afdx_port.specs.Held.{IsByteTime, due_of, IsQuiet, last_time, frames_held};
     ghost use Rattle.afdx_port.specs.History.{History, no_calls, at, with_put, entry_of, due_at, StandsFor, Gives};
 
@@ -53,6 +72,7 @@ impl<T: HasLength> Port<T> {
         Ok(Port {
             pending: Pending::new(alloc, byte_ns, buffer)?,
             due: None,
+            order: order(None),
         })
     }
 
@@ -67,13 +87,13 @@ impl<T: HasLength> Port<T> {
         requires quiet { IsQuiet T.facts self.old time }
         ensures ok { (h : History T) → StandsFor T.facts self.old h →
             OnOk result (StandsFor T.facts self.new
-                (with_put h (entry_of T.facts time priority item))) }
+            (with_put h (entry_of T.facts time priority item))) }
         ensures err { (h : History T) → StandsFor T.facts self.old h →
             OnErr result (StandsFor T.facts self.new (at h time)) }
         ensures back { IfErr result (λ back. back ≡ item) }
         ensures lost { (h : History T) → StandsFor T.facts self.old h →
             (IsErr result ↔ IsLost h.buffer h.entries (schedule_of h.byte_ns h.entries) time
-                (T.facts item).bytes) }
+            (T.facts item).bytes) }
         ensures lost_by_any { (h : History T) (turns : List (Turn T)) →
             StandsFor T.facts self.old h → IsSchedule h.byte_ns h.entries turns →
             (IsErr result ↔ IsLost h.buffer h.entries turns time (T.facts item).bytes) }
@@ -84,6 +104,7 @@ impl<T: HasLength> Port<T> {
     {
         let taken = self.pending.put(time, priority, item);
         self.due = self.pending.due();
+        self.order = order(self.due);
         taken
     }
 
@@ -101,6 +122,15 @@ impl<T: HasLength> Port<T> {
         ensures limit { IfSome result (λ due. given_at due ≤ 1200000000000000) }
     {
         self.due
+    }
+
+    /// The place of the next turn in the order in which ports are served together; the greatest
+    /// number if the port holds nothing.
+    pub(crate) fn order(&self) -> u64
+        ensures is { result ≡ order_at (due_of T.facts self.now) }
+        ensures limit { IfSome (due_of T.facts self.now) (λ due. given_at due ≤ 1200000000000000) }
+    {
+        self.order
     }
 
     /// Whether `take(time)` would give nothing.
@@ -134,6 +164,7 @@ impl<T: HasLength> Port<T> {
         }
         let left = self.pending.take(until);
         self.due = self.pending.due();
+        self.order = order(self.due);
         left
     }
 }

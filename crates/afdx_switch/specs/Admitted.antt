@@ -82,7 +82,7 @@ abbrev pub AcceptedEnter : Type 0
 AcceptedEnter = (t : Rows) (arrivals : List Arrival) (side : Side) (port place : ℕ) (l : LinkRow) →
     IsAdmittedRun t arrivals → slice_get t.links place ≡ Some l →
     frames_among l.vl (entries_at t side port arrivals)
-        ≡ (if goes_to t l port then accepted_frames t l side arrivals else [])
+    ≡ (if goes_to t l port then accepted_frames t l side arrivals else [])
 
 -- the turns of a link's frames are slots, which end within its latency
 abbrev pub AreInTime : LinkRow → List (Turn Carried) → Type 0
@@ -93,7 +93,7 @@ abbrev pub TurnsAreInTime : Type 0
 TurnsAreInTime = (t : Rows) (arrivals : List Arrival) (side : Side) (port place : ℕ) (l : LinkRow)
     (turns : List (Turn Carried)) →
     IsAdmittedRun t arrivals → slice_get t.links place ≡ Some l →
-        AreTurns (byte_ns_at t port) (entries_at t side port arrivals) turns → AreInTime l turns
+    AreTurns (byte_ns_at t port) (entries_at t side port arrivals) turns → AreInTime l turns
 
 -- each entry of a link whose latency is over by then has had its turn
 abbrev pub HaveLeft : LinkRow → ℕ → List (Entry Carried) → List (Turn Carried) → Type 0
@@ -106,9 +106,9 @@ abbrev pub AllHaveLeft : Type 0
 AllHaveLeft = (t : Rows) (arrivals : List Arrival) (side : Side) (port place : ℕ) (l : LinkRow)
     (turns : List (Turn Carried)) (until : ℕ) →
     IsAdmittedRun t arrivals → slice_get t.links place ≡ Some l →
-        AreTurns (byte_ns_at t port) (entries_at t side port arrivals) turns →
+    AreTurns (byte_ns_at t port) (entries_at t side port arrivals) turns →
     ((s : Turn Carried) → IsNext (byte_ns_at t port) (entries_at t side port arrivals) turns s →
-        IsAfter until (due_at s)) →
+    IsAfter until (due_at s)) →
     HaveLeft l until (entries_at t side port arrivals) turns
 
 -- a turn is a slot, which ends within the latency of the link whose frame it is

@@ -24,7 +24,7 @@ use Rattle.afdx_switch.specs.declared.working.Working.{Working}
 abbrev pub VerdictsAreOwn : Type 0
 VerdictsAreOwn = (t : Rows) (past other : List Arrival) (x : Arrival) →
     IfSome (row_named t x.bytes) (λ r. own r.rule.vl x.side past ≡ own r.rule.vl x.side other) →
-        reason_of t past x ≡ reason_of t other x
+    reason_of t past x ≡ reason_of t other x
 
 -- what one more arrival adds to the entries of a port
 pub record EntriesStep (t : Rows) (side : Side) (port : ℕ) (x : Arrival)
@@ -43,7 +43,7 @@ pub record EntriesStep (t : Rows) (side : Side) (port : ℕ) (x : Arrival)
   pub entered : (r : Row) → reason_of t past x ≡ None → row_named t x.bytes ≡ Some r →
       r.goes_to port ≡ true → is_lost_at t past x port ≡ false →
       entries_at t x.side port (x ∷ past) ≡ entries_at t x.side port past
-          ++ entry_of (carried t) r x ∷ []
+      ++ entry_of (carried t) r x ∷ []
 
 abbrev pub EntriesGrow : Type 0
 EntriesGrow = (t : Rows) (side : Side) (port : ℕ) (x : Arrival) (past : List Arrival) → IsLawful t →

@@ -3,6 +3,7 @@ use Rattle.std.specs.Prelude.{All, ◌≡◌, ℕ, ◌<◌, ◌≤◌, Some, IfS
 use Rattle.afdx_police.specs.LinkAccounts as accounts
 use Rattle.afdx_port.specs.Held as held
 use Rattle.afdx_port.specs.History as queue
+use Rattle.afdx_port.specs.Ports.{AreServed}
 use Rattle.afdx_port.specs.declared.pending.Pending.{Pending}
 use Rattle.afdx_switch.specs.Carried.{Carried, facts}
 use Rattle.afdx_switch.specs.declared.line.Line.{Line}
@@ -26,3 +27,4 @@ pub record IsSound (w : Working) : Type 0 where
       place < vec_len w.lines
   pub port_count : vec_len w.ports ≡ 24
   pub ports : All (IsPortSound w.clock) w.ports.items
+  pub served : AreServed facts w.ports.items w.first

@@ -51,8 +51,13 @@ taken_at port (gone ∷ earlier) =
 -- the calls of a port, of which the last was at this time
 abbrev pub calls_at : Rows → Side → ℕ → History → ℕ → queue.History Carried
 calls_at t side port h time =
-    record { byte_ns = byte_ns_at t port; buffer = t.buffer;
-        entries = entries_at t side port h.arrivals; taken = taken_at port h.taken; time = time }
+    record {
+      byte_ns = byte_ns_at t port;
+      buffer = t.buffer;
+      entries = entries_at t side port h.arrivals;
+      taken = taken_at port h.taken;
+      time = time;
+    }
 
 -- the next turn of a port
 abbrev pub IsNextAt : Rows → Side → History → ℕ → Turn Carried → Type 0
@@ -63,7 +68,7 @@ IsNextAt t side h port s =
 abbrev pub GoesBefore : PortTurn → ℕ → Turn Carried → Type 0
 GoesBefore gone port s =
     (order_of (queue.due_at gone.turn) < order_of (queue.due_at s))
-        ⊎ ((order_of (queue.due_at gone.turn) ≡ order_of (queue.due_at s)) × (gone.port ≤ port))
+    ⊎ ((order_of (queue.due_at gone.turn) ≡ order_of (queue.due_at s)) × (gone.port ≤ port))
 
 -- the next turn of the switch: by time, at one time slots before drops, then by port
 pub record IsNextOf (t : Rows) (side : Side) (h : History) (gone : PortTurn) : Type 0 where

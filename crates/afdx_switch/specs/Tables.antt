@@ -30,8 +30,13 @@ unfoldable pub goes_to : Rows → LinkRow → ℕ → Bool
 goes_to t l port = option_map_or (λ system. is_to system l) (system_at_port t.systems port) false
 
 abbrev pub row_of : Rows → LinkRow → Row
-row_of t l = record { rule = rule_of t l; priority = l.priority; latency = 1000 * l.latency_us;
-    longest_wait = longest_wait_of t l; goes_to = goes_to t l }
+row_of t l = record {
+  rule = rule_of t l;
+  priority = l.priority;
+  latency = 1000 * l.latency_us;
+  longest_wait = longest_wait_of t l;
+  goes_to = goes_to t l;
+}
 
 unfoldable pub rows_of : Rows → List Row
 rows_of t = map (row_of t) t.links

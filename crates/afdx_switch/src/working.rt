@@ -17,7 +17,7 @@ use crate::switch::Departure;
 use crate::verdict::Verdict;
 use afdx_frame::{Priority, vl_of};
 use afdx_police::{Reason, judge_checked};
-use afdx_port::{Due, Port, first_due};
+use afdx_port::{Due, Port, first_due, first_of};
 use arrayvec::ArrayVec;
 use std::alloc::{AllocError, Global};
 
@@ -33,6 +33,8 @@ pub(crate) struct Working {
     pub(crate) places: Vec<Option<u16>>,
     /// The output ports, from port 1 on.
     pub(crate) ports: Vec<Port<Frame>>,
+    /// The place of the port whose turn goes first.
+    pub(crate) first: usize,
 }
 
 /// The shares of a frame, one for each port that its link goes to.
@@ -178,6 +180,7 @@ impl Working {
             return Ok(Verdict::Dropped(Reason::OverRate));
         }
         let lost = forward(&mut self.ports, shares.as_mut_slice(), time, line.priority);
+        self.first = first_of(&self.ports);
         Ok(Verdict::Accepted { lost })
     }
 
@@ -193,7 +196,7 @@ impl Working {
             IfSome result (λ due. IsAfter time due) }
         ensures limit { IfSome result (λ due. given_at due ≤ 1200000000000000) }
     {
-        let place = first_due(&self.ports, u64::MAX)?;
+        let place = first_due(&self.ports, self.first, u64::MAX)?;
         self.ports[place].due()
     }
 
@@ -218,10 +221,11 @@ impl Working {
         ensures clock { last_time self.new ≡ until }
     {
         self.clock = until;
-        let place = first_due(&self.ports, until)?;
+        let place = first_due(&self.ports, self.first, until)?;
         let Some(left) = self.ports[place].take(until) else {
             unreachable!();
         };
+        self.first = first_of(&self.ports);
         Some(Departure {
             port: place as u8 + 1,
             left,

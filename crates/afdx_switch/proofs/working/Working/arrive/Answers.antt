@@ -7,7 +7,8 @@ use Rattle.afdx_police.specs.RuleOf.{rule_of}
 use Rattle.afdx_police.specs.Shape.{fault_of}
 use Rattle.afdx_police.specs.Verdicts.{reason_after}
 use Rattle.afdx_police.specs.declared.shape.Reason.TheVariants.{UnknownLink, OverRate}
-use Rattle.afdx_switch.specs.Carried.{carried_with}
+use Rattle.afdx_port.specs.Ports.{AreServed}
+use Rattle.afdx_switch.specs.Carried.{carried_with, facts}
 use Rattle.afdx_switch.specs.declared.line.Line.{Line}
 use Rattle.afdx_switch.specs.Tables.{rows_of}
 use Rattle.afdx_switch.specs.Lines.{IsNamedAt}
@@ -157,6 +158,7 @@ returns-clause-sound c =
       ports = rw same_ports (ports-sound c.args.time c.args.self.now.clock c.index_mut-line.result.now.priority c.args.self.now.ports.items c.forward-lost.new.ports c.in_ok-shares.shares.items c.forward-lost.result old_count c.forward-lost.ensures.count share_count
           (λ i o p share at_o at_p at_s. c.forward-lost.ensures.offered i o p share (ap (λ ps. slice_get ps i) c.deref_mut.ensures.value ∙ at_o) at_p (ap (λ ss. slice_get ss i) c.as_mut_slice.ensures.value ∙ at_s))
           c.requires.sound.ports);
+      served = subst (λ ps. AreServed facts ps c.first_of-self.result) c.deref.ensures.value c.first_of-self.ensures;
     }
 
 pub returns-clause-quiet : goal.returns-clause-quiet
