@@ -24,7 +24,8 @@ use Rattle.afdx_network.specs.declared.network.Network.{Network}
 -- the event is what becomes of an arrival after these, or the next turn of a port
 abbrev pub Follows : Rows → List Event → Event → Type 0
 Follows t before (Came c) = c ≡ admission_after t (arrivals_in before) c.arrival
-Follows t before (Left d) = (1 ≤ d.port) × (d.port ≤ 24) × (d.place ≡ length (taken_at d.port (turns_on d.side before)))
+Follows t before (Left d) =
+    (1 ≤ d.port) × (d.port ≤ 24) × (d.place ≡ length (taken_at d.port (turns_on d.side before)))
 
 abbrev pub EachFollows : Rows → List Event → Type 0
 EachFollows t [] = Unit {0}
@@ -63,7 +64,8 @@ frames_held n = switch.frames_held n.a + switch.frames_held n.b
 
 -- the turn of a port as the event that it is after these
 abbrev pub departure_after : List Event → Side → ℕ → Turn Carried → Departure
-departure_after before side port s = departure_with side port (length (taken_at port (turns_on side before))) s
+departure_after before side port s =
+    departure_with side port (length (taken_at port (turns_on side before))) s
 
 -- the next turn of a port of a side, after these events
 abbrev pub IsNextOn : Rows → List Event → Side → ℕ → Turn Carried → Type 0
@@ -77,10 +79,12 @@ pub record StandsFor (t : Rows) (n : Network) (events : List Event) : Type 0 whe
   pub in_order : AreInOrder events
   pub follows : EachFollows t events
   -- they come before what arrives next, at any time that isn't past
-  pub past : (time : ℕ) → IsUntil n time → (e : Event) → IsAmong e events → is_below (key e) (time ∷ 1 ∷ length (arrivals_in events) ∷ []) ≡ true
+  pub past : (time : ℕ) → IsUntil n time → (e : Event) → IsAmong e events →
+      is_below (key e) (time ∷ 1 ∷ length (arrivals_in events) ∷ []) ≡ true
   -- and before the next turn of each port
-  pub next : (side : Side) (port : ℕ) (s : Turn Carried) → 1 ≤ port → port ≤ 24 → IsNextOn t events side port s →
-      (e : Event) → IsAmong e events → is_before e (Left (departure_after events side port s)) ≡ true
+  pub next : (side : Side) (port : ℕ) (s : Turn Carried) → 1 ≤ port → port ≤ 24 →
+      IsNextOn t events side port s → (e : Event) → IsAmong e events →
+      is_before e (Left (departure_after events side port s)) ≡ true
 
 -- what is handed out for a departure
 pub record Hands (value : Departed) (d : Departure) : Type 0 where
@@ -89,7 +93,8 @@ pub record Hands (value : Departed) (d : Departure) : Type 0 where
   pub left : value.departure.left ≡ left_of d.turn
 
 -- the next event is a departure, it is given by then, and its frame is handed out
-pub record Gives (t : Rows) (events : List Event) (until : ℕ) (value : Departed) (new : Network) : Type 0 where
+pub record Gives (t : Rows) (events : List Event) (until : ℕ) (value : Departed)
+    (new : Network) : Type 0 where
   pub departure : Departure
   pub in_time : IsBy until (due_at departure.turn)
   pub hands : Hands value departure

@@ -11,12 +11,14 @@ abbrev pub side_number : Side → ℕ
 side_number A = 0
 side_number B = 1
 
--- what happens at one time: frames leave, then the list's frames arrive, then frames are dropped as too old
+-- what happens at one time: frames leave, then the list's frames arrive, then frames are dropped as
+-- too old
 abbrev pub phase_of : (is_too_old : Bool) → ℕ
 phase_of false = 0
 phase_of true = 2
 
--- an arrival stands before the next one of its time, frames that leave or are dropped at one time go by side, then by port
+-- an arrival stands before the next one of its time, frames that leave or are dropped at one time
+-- go by side, then by port
 abbrev pub key : Event → List ℕ
 key (Came c) = c.arrival.time ∷ 1 ∷ c.place ∷ []
 key (Left d) = d.turn.end ∷ phase_of d.turn.too_old ∷ side_number d.side ∷ d.port ∷ d.place ∷ []
@@ -26,7 +28,8 @@ abbrev pub is_below : List ℕ → List ℕ → Bool
 is_below [] [] = false
 is_below [] (n ∷ ns) = true
 is_below (m ∷ ms) [] = false
-is_below (m ∷ ms) (n ∷ ns) = if nat_lt m n then true else if nat_lt n m then false else is_below ms ns
+is_below (m ∷ ms) (n ∷ ns) =
+    if nat_lt m n then true else if nat_lt n m then false else is_below ms ns
 
 abbrev pub is_before : Event → Event → Bool
 is_before d e = is_below (key d) (key e)
@@ -58,13 +61,15 @@ is_told_by (x ∷ past) e = not (is_below (x.time ∷ 1 ∷ length past ∷ []) 
 
 -- these are the events of these arrivals up to the last of them
 abbrev pub AreEventsSoFar : Rows → List Arrival → List Event → Type 0
-AreEventsSoFar t arrivals events = AreThose (λ e. IsAmong e (all_events t arrivals) × IsTrue (is_told_by arrivals e)) events
+AreEventsSoFar t arrivals events =
+    AreThose (λ e. IsAmong e (all_events t arrivals) × IsTrue (is_told_by arrivals e)) events
 
 -- these events are the first of all events of their arrivals: all others come after them
 pub record AreFirst (t : Rows) (events : List Event) : Type 0 where
   pub in_order : AreInOrder events
   pub own : (e : Event) → IsAmong e events → IsAmong e (all_events t (arrivals_in events))
-  pub rest : (e : Event) → IsAmong e (all_events t (arrivals_in events)) → IsAmong e events ⊎ AllByRecursion (λ d. IsTrue (is_before d e)) events
+  pub rest : (e : Event) → IsAmong e (all_events t (arrivals_in events)) → IsAmong e events
+      ⊎ AllByRecursion (λ d. IsTrue (is_before d e)) events
 
 -- the latest event is an arrival, if there is any
 abbrev pub IsAtArrival : List Event → Type 0

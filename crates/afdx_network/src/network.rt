@@ -1,4 +1,5 @@
-ghost use Rattle.std.specs.Prelude.{◌≡◌, ℕ, ◌+◌, ◌≤◌, ◌∷◌, [], List, Option, IfSome, IfNone, IfOk, OnOk, OnErr, MatchOption};
+//! The switches of both sides as one.
+ghost use Rattle.std.specs.Prelude.{◌≡◌, ℕ, ◌+◌, ◌≤◌, ◌∷◌, [], List, Option, IfSome, IfNone, IfOk, OnOk, OnErr, MatchOption, None};
 ghost use Rattle.afdx_network.specs.First.{IsFirstSide, IsOrder};
 
 use afdx_config::Tables;
@@ -25,7 +26,8 @@ fn is_a_first(a: Option<Due>, b: Option<Due>) -> bool
     }
 }
 
-/// The side whose turn goes first, if it is given by `until`: by time, at one time slots before drops, then side A.
+/// The side whose turn goes first, if it is given by `until`: by time, at one time slots before
+/// drops, then side A.
 fn first_side(a: Option<Due>, b: Option<Due>, until: u64) -> Option<Side>
     ensures { IsFirstSide until a b result }
 {
@@ -47,6 +49,7 @@ impl Network {
     ghost use Rattle.afdx_config.specs.Rows.{Rows};
     ghost use Rattle.afdx_frame.specs.Sealing.{is_sealed};
     ghost use Rattle.afdx_police.specs.Arrival.{arrival_with};
+    ghost use Rattle.afdx_switch.specs.Verdicts.{shape_fault};
     ghost use Rattle.afdx_network.specs.Events.{Event, Came, admission_after, arrivals_in};
     ghost use Rattle.afdx_network.specs.Order.{AreEvents};
     ghost use Rattle.afdx_network.specs.Network.{IsUntil, IsQuiet, StandsFor, Tells, Gives, frames_held};
@@ -64,12 +67,13 @@ impl Network {
         Ok(Network { a, b })
     }
 
-    /// A frame arrives at `time`, in ns, at an input port of one side's switch, which filters and polices it and offers it to the
-    /// output ports of its link.
+    /// A frame arrives at `time`, in ns, at an input port of one side's switch, which filters and
+    /// polices it and offers it to the output ports of its link.
     ///
-    /// `time` isn't before the last time used and is at most 1,000,032,768,000,000; `take(time)` would give nothing.
-    /// `tag` is handed back with the frame's departures; `sealed` is what `is_sealed` answers.
-    /// The error says that memory was refused: then nothing has changed.
+    /// `time` isn't before the last time used and is at most 1,000,032,768,000,000; `take(time)`
+    /// would give nothing. `tag` is handed back with the frame's departures; `sealed` is what
+    /// `is_sealed` answers. The error says that memory was refused: then nothing has changed. A
+    /// frame that is dropped for its shape needs none.
     pub fn arrive(
         &mut self,
         side: Side,
@@ -84,9 +88,15 @@ impl Network {
         requires clock { IsUntil self.old time }
         requires quiet { IsQuiet self.old time }
         ensures verdict { (t : Rows) (events : List Event) → StandsFor t self.old events →
-            IfOk result (λ verdict. Tells verdict (admission_after t (arrivals_in events) (arrival_with tag time side port bytes.now))) }
+            let arrival = arrival_with tag time side port bytes.now in
+            let admission = admission_after t (arrivals_in events) arrival in
+            IfOk result (λ verdict. Tells verdict admission) }
         ensures stands { (t : Rows) (events : List Event) → StandsFor t self.old events →
-            OnOk result (StandsFor t self.new (Came (admission_after t (arrivals_in events) (arrival_with tag time side port bytes.now)) ∷ events)) }
+            let arrival = arrival_with tag time side port bytes.now in
+            let admission = admission_after t (arrivals_in events) arrival in
+            OnOk result (StandsFor t self.new (Came admission ∷ events)) }
+        ensures judged { (t : Rows) (events : List Event) → StandsFor t self.old events →
+            OnErr result (shape_fault t (arrival_with tag time side port bytes.now) ≡ None) }
         ensures refused { OnErr result (self.new ≡ self.old) }
         ensures quiet { IsQuiet self.new time }
         ensures held { frames_held self.new ≤ frames_held self.old + 24 }
@@ -98,16 +108,20 @@ impl Network {
         }
     }
 
-    /// The next departure of both sides by `until`, in ns: a slot that ends at or before `until`, or a drop whose moment is before `until`.
-    /// They go by time, at one time those that leave before those too old, then side A before side B, then by port.
-    /// If `until` is 1.2e15 or later, None says that these were all events.
+    /// The next departure of both sides by `until`, in ns: a slot that ends at or before `until`,
+    /// or a drop whose moment is before `until`. They go by time, at one time those that leave
+    /// before those too old, then side A before side B, then by port. If `until` is 1.2e15 or
+    /// later, None says that these were all events.
     pub fn take(&mut self, until: u64) -> Option<Departed>
         requires clock { IsUntil self.old until }
-        ensures given { (t : Rows) (events : List Event) → StandsFor t self.old events → IfSome result (λ value. Gives t events until value self.new) }
+        ensures given { (t : Rows) (events : List Event) → StandsFor t self.old events →
+            IfSome result (λ value. Gives t events until value self.new) }
         ensures none { IfNone result (self.new ≡ self.old) }
         ensures quiet { IfNone result (IsQuiet self.new until) }
-        ensures all_done { (t : Rows) (events : List Event) → StandsFor t self.old events → 1200000000000000 ≤ until → IfNone result (AreEvents t (arrivals_in events) events) }
-        ensures held { MatchOption result (frames_held self.new ≡ frames_held self.old) (λ _. frames_held self.new + 1 ≡ frames_held self.old) }
+        ensures all_done { (t : Rows) (events : List Event) → StandsFor t self.old events →
+            1200000000000000 ≤ until → IfNone result (AreEvents t (arrivals_in events) events) }
+        ensures held { MatchOption result (frames_held self.new ≡ frames_held self.old)
+            (λ _. frames_held self.new + 1 ≡ frames_held self.old) }
         ensures clock { IsUntil self.new until }
     {
         match first_side(self.a.due(), self.b.due(), until)? {

@@ -12,12 +12,19 @@ module _ {X : Type 0} where
   -- the entries that have none of these turns. The first entry stands at this place
   abbrev pub without_turn : List (Turn X) → ℕ → List (Entry X) → List (Entry X)
   without_turn turns place [] = []
-  without_turn turns place (e ∷ es) = if has_turn turns place then without_turn turns (place + 1) es else e ∷ without_turn turns (place + 1) es
+  without_turn turns place (e ∷ es) =
+      if has_turn turns place then without_turn turns (place + 1) es
+      else e ∷ without_turn turns (place + 1) es
 
   -- those of the entries that pass a test, as the frames of one link, are all of one class
   abbrev pub AreOfOneClass : (Entry X → Bool) → List (Entry X) → Type 0
-  AreOfOneClass test entries = (c : Priority) × ((place : ℕ) (e : Entry X) → slice_get entries place ≡ Some e → test e ≡ true → e.priority ≡ c)
+  AreOfOneClass test entries = (c : Priority)
+      × ((place : ℕ) (e : Entry X) → slice_get entries place ≡ Some e → test e ≡ true →
+      e.priority ≡ c)
 
-  -- frames of one class have their turns in the order in which they came: those with a turn first, then those without
+  -- frames of one class have their turns in the order in which they came: those with a turn first,
+  -- then those without
   abbrev pub GoInOrder : (Entry X → Bool) → List (Entry X) → List (Turn X) → Type 0
-  GoInOrder test entries turns = filter test entries ≡ filter test (entries_in turns) ++ filter test (without_turn turns 0 entries)
+  GoInOrder test entries turns =
+      filter test entries ≡ filter test (entries_in turns)
+      ++ filter test (without_turn turns 0 entries)

@@ -14,7 +14,8 @@ use Rattle.afdx_port.specs.Schedule.{is_past, lasting}
 abbrev pub IsByteTime : ℕ → Type 0
 IsByteTime byte_ns = (byte_ns ≡ 8) ⊎ ((byte_ns ≡ 80) ⊎ (byte_ns ≡ 800))
 
--- the class that goes next, and its moment, from the moments at which the first frame of each class could go
+-- the class that goes next, and its moment, from the moments at which the first frame of each class
+-- could go
 abbrev pub choice : Option ℕ → Option ℕ → Option (Priority × ℕ)
 choice None None = None
 choice None (Some low) = Some (Low, low)
@@ -42,12 +43,16 @@ module _ {X : Type 0} where
 
   -- the turn of a frame at t
   abbrev pub due_from : (X → Facts) → ℕ → Waiting X → ℕ → Due
-  due_from facts byte_ns w t = record { time = t + lasting byte_ns (is_too_old facts w t) (facts w.item).bytes; too_old = is_too_old facts w t }
+  due_from facts byte_ns w t = record {
+    time = t + lasting byte_ns (is_too_old facts w t) (facts w.item).bytes;
+    too_old = is_too_old facts w t;
+  }
 
   -- the turn of the first frame of the class that goes next
   abbrev pub due_next : (X → Facts) → Pending X → Option (Priority × ℕ) → Option Due
   due_next facts p None = None
-  due_next facts p (Some (priority, moment)) = option_map (λ w. due_from facts p.byte_ns w moment) (slice_get (queue_of priority p) 0)
+  due_next facts p (Some (priority, moment)) =
+      option_map (λ w. due_from facts p.byte_ns w moment) (slice_get (queue_of priority p) 0)
 
   -- the turn that has begun, or else the next one
   abbrev pub due_first : ℕ → Option (Left X) → Option Due → Option Due

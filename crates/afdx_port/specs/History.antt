@@ -1,4 +1,5 @@
--- What a port, which keeps only the frames that still have a turn to come, has to do with all that was put and taken.
+-- What a port, which keeps only the frames that still have a turn to come, has to do with all that
+-- was put and taken.
 use Rattle.std.specs.Prelude.{◌≡◌, ℕ, ◌+◌, ◌<◌, ◌≤◌, List, [], ◌∷◌, ◌++◌, Option, Some, None, slice_get}
 use Rattle.std.specs.List.{AllByRecursion}
 use Rattle.afdx_frame.specs.declared.link.Priority.{Priority}
@@ -24,27 +25,47 @@ pub record History (X : Type 0) : Type 0 where
 module _ {X : Type 0} where
   -- a new port's
   abbrev pub no_calls : ℕ → ℕ → History X
-  no_calls byte_ns buffer = record { byte_ns = byte_ns; buffer = buffer; entries = []; taken = []; time = 0 }
+  no_calls byte_ns buffer =
+      record { byte_ns = byte_ns; buffer = buffer; entries = []; taken = []; time = 0 }
 
   -- after a call that puts or takes no frame
   abbrev pub at : History X → ℕ → History X
-  at h t = record { byte_ns = h.byte_ns; buffer = h.buffer; entries = h.entries; taken = h.taken; time = t }
+  at h t = record h { time = t }
 
   -- after a put
   abbrev pub with_put : History X → Entry X → History X
-  with_put h e = record { byte_ns = h.byte_ns; buffer = h.buffer; entries = h.entries ++ e ∷ []; taken = h.taken; time = e.time }
+  with_put h e = record {
+    byte_ns = h.byte_ns;
+    buffer = h.buffer;
+    entries = h.entries ++ e ∷ [];
+    taken = h.taken;
+    time = e.time;
+  }
 
   -- after a take
   abbrev pub with_take : History X → Turn X → ℕ → History X
-  with_take h s until = record { byte_ns = h.byte_ns; buffer = h.buffer; entries = h.entries; taken = s ∷ h.taken; time = until }
+  with_take h s until = record {
+    byte_ns = h.byte_ns;
+    buffer = h.buffer;
+    entries = h.entries;
+    taken = s ∷ h.taken;
+    time = until;
+  }
 
   -- the entry of a frame that is put
   abbrev pub entry_of : (X → Facts) → ℕ → Priority → X → Entry X
-  entry_of facts time priority x = record { time = time; priority = priority; bytes = (facts x).bytes; longest_wait = (facts x).longest_wait; item = x }
+  entry_of facts time priority x = record {
+    time = time;
+    priority = priority;
+    bytes = (facts x).bytes;
+    longest_wait = (facts x).longest_wait;
+    item = x;
+  }
 
   -- what a turn hands out
   abbrev pub left_of : Turn X → Left X
-  left_of s = record { item = s.entry.item; priority = s.entry.priority; end = s.end; too_old = s.too_old }
+  left_of s =
+      record { item = s.entry.item; priority = s.entry.priority; end = s.end; too_old = s.too_old }
 
   abbrev pub due_at : Turn X → Due
   due_at s = record { time = s.end; too_old = s.too_old }
@@ -54,16 +75,21 @@ module _ {X : Type 0} where
   waiting_entry facts priority w = entry_of facts w.time priority w.item
 
   -- the first entry of a class without a turn, from a place on
-  pub record IsFirst (entries : List (Entry X)) (turns : List (Turn X)) (priority : Priority) (from place : ℕ) (e : Entry X) : Type 0 where
+  pub record IsFirst (entries : List (Entry X)) (turns : List (Turn X)) (priority : Priority)
+      (from place : ℕ) (e : Entry X) : Type 0 where
     pub from_on : from ≤ place
     pub own : IsWithoutTurn entries turns place e
-    pub first : (q : ℕ) (d : Entry X) → from ≤ q → IsWithoutTurn entries turns q d → d.priority ≡ priority → place ≤ q
+    pub first : (q : ℕ) (d : Entry X) → from ≤ q → IsWithoutTurn entries turns q d →
+        d.priority ≡ priority → place ≤ q
 
   -- these frames are, in order, the entries of a class without a turn, from a place on
-  abbrev pub IsQueue : (X → Facts) → List (Entry X) → List (Turn X) → Priority → ℕ → List (Waiting X) → Type 0
-  IsQueue facts entries turns priority from [] = (q : ℕ) (d : Entry X) → from ≤ q → IsWithoutTurn entries turns q d → d.priority ≡ priority → ⊥
+  abbrev pub IsQueue : (X → Facts) → List (Entry X) → List (Turn X) → Priority → ℕ →
+      List (Waiting X) → Type 0
+  IsQueue facts entries turns priority from [] =
+      (q : ℕ) (d : Entry X) → from ≤ q → IsWithoutTurn entries turns q d → d.priority ≡ priority → ⊥
   IsQueue facts entries turns priority from (w ∷ ws) =
-      (place : ℕ) × IsFirst entries turns priority from place (waiting_entry facts priority w) × IsQueue facts entries turns priority (place + 1) ws
+      (place : ℕ) × IsFirst entries turns priority from place (waiting_entry facts priority w)
+      × IsQueue facts entries turns priority (place + 1) ws
 
   -- the turns that have begun are those that were taken, and that of the frame that is being sent
   abbrev pub HasBegun : Option (Left X) → List (Turn X) → List (Turn X) → Type 0
@@ -87,7 +113,8 @@ module _ {X : Type 0} where
     pub come : (i : ℕ) (e : Entry X) → slice_get h.entries i ≡ Some e → e.time ≤ h.time
 
   -- the next turn is given by `until`, and its frame is handed out
-  pub record Gives (facts : X → Facts) (h : History X) (until : ℕ) (left : Left X) (new : Pending X) : Type 0 where
+  pub record Gives (facts : X → Facts) (h : History X) (until : ℕ) (left : Left X)
+      (new : Pending X) : Type 0 where
     pub turn : Turn X
     pub next : IsNext h.byte_ns h.entries h.taken turn
     pub in_time : IsBy until (due_at turn)

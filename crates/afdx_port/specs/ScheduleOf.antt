@@ -18,7 +18,8 @@ module _ {X : Type 0} where
   first_of free p None = Some p
   first_of free p (Some q) = if nat_lt (rank free q.1) (rank free p.1) then Some q else Some p
 
-  -- of those entries that have none of these turns, the one that goes first, with its place. The first entry stands at this place
+  -- of those entries that have none of these turns, the one that goes first, with its place. The
+  -- first entry stands at this place
   abbrev pub first_without : ℕ → List (Turn X) → ℕ → List (Entry X) → Option (ℕ × Entry X)
   first_without free turns place [] = None
   first_without free turns place (e ∷ es) =
@@ -31,20 +32,30 @@ module _ {X : Type 0} where
 
   -- the turn of an entry at a moment
   abbrev pub turn_at : ℕ → ℕ → Entry X → ℕ → Turn X
-  turn_at byte_ns place e t = record { place = place; entry = e; moment = t; end = t + lasting byte_ns (is_old_at t e) e.bytes; too_old = is_old_at t e }
+  turn_at byte_ns place e t = record {
+    place = place;
+    entry = e;
+    moment = t;
+    end = t + lasting byte_ns (is_old_at t e) e.bytes;
+    too_old = is_old_at t e;
+  }
 
   abbrev pub with_turn_of : ℕ → List (Turn X) → Option (ℕ × Entry X) → List (Turn X)
   with_turn_of byte_ns turns None = turns
-  with_turn_of byte_ns turns (Some (place, e)) = turn_at byte_ns place e (max e.time (end_of turns)) ∷ turns
+  with_turn_of byte_ns turns (Some (place, e)) =
+      turn_at byte_ns place e (max e.time (end_of turns)) ∷ turns
 
   -- the first n turns
   abbrev pub first_turns : ℕ → List (Entry X) → ℕ → List (Turn X)
   first_turns byte_ns entries zero = []
-  first_turns byte_ns entries (suc n) = let turns = first_turns byte_ns entries n in with_turn_of byte_ns turns (first_without (end_of turns) turns 0 entries)
+  first_turns byte_ns entries (suc n) =
+      let turns = first_turns byte_ns entries n in
+      with_turn_of byte_ns turns (first_without (end_of turns) turns 0 entries)
 
   abbrev pub schedule_of : ℕ → List (Entry X) → List (Turn X)
   schedule_of byte_ns entries = first_turns byte_ns entries (length entries)
 
   -- the entries come in the order of the list
   abbrev pub AreInOrder : List (Entry X) → Type 0
-  AreInOrder entries = (i j : ℕ) (d e : Entry X) → i ≤ j → slice_get entries i ≡ Some d → slice_get entries j ≡ Some e → d.time ≤ e.time
+  AreInOrder entries = (i j : ℕ) (d e : Entry X) → i ≤ j → slice_get entries i ≡ Some d →
+      slice_get entries j ≡ Some e → d.time ≤ e.time

@@ -9,8 +9,10 @@ use Rattle.afdx_port.specs.Facts.{Facts}
 module _ {X : Type 0} where
   -- all else stays, but for the queue of one class, which keeps its room
   abbrev pub ChangesQueue : Priority → Pending X → Pending X → Type 0
-  ChangesQueue High old new = (new ≡ record old { high = new.high }) × (new.high.capacity ≡ old.high.capacity)
-  ChangesQueue Low old new = (new ≡ record old { low = new.low }) × (new.low.capacity ≡ old.low.capacity)
+  ChangesQueue High old new =
+      (new ≡ record old { high = new.high }) × (new.high.capacity ≡ old.high.capacity)
+  ChangesQueue Low old new =
+      (new ≡ record old { low = new.low }) × (new.low.capacity ≡ old.low.capacity)
 
   -- a further frame of the class fits into the memory that was reserved
   abbrev pub HasRoom : Priority → Pending X → Type 0
@@ -21,7 +23,8 @@ module _ {X : Type 0} where
   pub record IsSound (facts : X → Facts) (p : Pending X) : Type 0 where
     pub rate : (1 ≤ p.byte_ns) × (p.byte_ns ≤ 800)
     pub buffer : p.buffer ≤ 4194304
-    pub waiting : p.waiting ≡ sum_by (λ w. (facts w.item).bytes) p.high.items + sum_by (λ w. (facts w.item).bytes) p.low.items
+    pub waiting : p.waiting ≡ sum_by (λ w. (facts w.item).bytes) p.high.items
+        + sum_by (λ w. (facts w.item).bytes) p.low.items
     pub within : p.waiting ≤ p.buffer
     pub high_room : p.buffer < 64 * (p.high.capacity + 1)
     pub low_room : p.buffer < 64 * (p.low.capacity + 1)

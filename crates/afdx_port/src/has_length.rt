@@ -1,3 +1,4 @@
+//! What a port has to know of a frame.
 ghost use Rattle.std.specs.Prelude.{◌≡◌};
 
 /// What a port can send: a frame of 64 to 1518 bytes with its check sequence (IEEE 802.3, 4.4.2).
@@ -10,8 +11,8 @@ pub trait HasLength: Drop {
     fn length(&self) -> u64
         ensures { result ≡ (facts self.now).bytes };
 
-    /// How long the frame may wait for its turn, in ns: at most 100,000,000, and always the same for a value.
-    /// None if it may wait for ever.
+    /// How long the frame may wait for its turn, in ns: at most 100,000,000, and always the same
+    /// for a value. None if it may wait for ever.
     fn longest_wait(&self) -> Option<u64>
         ensures { result ≡ (facts self.now).longest_wait };
 

@@ -1,3 +1,4 @@
+//! What leaves a port, and when.
 ghost use Rattle.std.specs.Prelude.{◌<◌, ◌↔◌, IsTrue};
 
 use afdx_frame::Priority;
@@ -24,7 +25,8 @@ impl Due {
     ghost use Rattle.std.specs.Prelude.{◌≡◌, ◌≤◌};
     ghost use Rattle.afdx_port.specs.Due.{given_at, order_of, IsBy};
 
-    /// Whether the turn is given by `until`: a slot if it ends at or before, a drop if its moment is before.
+    /// Whether the turn is given by `until`: a slot if it ends at or before, a drop if its moment
+    /// is before.
     pub fn is_by(&self, until: u64) -> bool
         ensures { IsTrue result ↔ IsBy until self.now }
     {
@@ -35,7 +37,8 @@ impl Due {
         }
     }
 
-    /// The place of the turn in the order in which ports are served together: by time, and at one time slots before drops.
+    /// The place of the turn in the order in which ports are served together: by time, and at one
+    /// time slots before drops.
     pub(crate) fn order(&self) -> u64
         requires { given_at self.now ≤ 1200000000000000 }
         ensures { result ≡ order_of self.now }
@@ -47,7 +50,8 @@ impl Due {
         }
     }
 
-    /// Whether this turn goes before the other one, where ports are served together: by time, and at one time slots before drops.
+    /// Whether this turn goes before the other one, where ports are served together: by time, and
+    /// at one time slots before drops.
     pub fn is_before(&self, other: &Due) -> bool
         ensures { IsTrue result ↔ order_of self.now < order_of other.now }
     {

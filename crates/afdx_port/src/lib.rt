@@ -13,4 +13,4 @@ mod tests;
 pub use has_length::HasLength;
 pub use left::{Due, Left};
 pub use port::Port;
-pub use ports::first_due;
+pub use ports::{first_due, first_of};

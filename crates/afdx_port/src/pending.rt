@@ -1,3 +1,4 @@
+//! What a port still has to do: its two queues, and the frame that is being sent.
 ghost use Rattle.std.specs.Prelude.{◌≡◌, ℕ, ◌+◌, ◌-◌, ◌*◌, ◌/◌, ◌<◌, ◌≤◌, ◌^◌, ◌⊎◌, ◌↔◌, [], ◌∷◌, ◌++◌, List, Some, None, IfOk, IfErr, OnOk, OnErr, IsErr, IfSome, OnSome, IfNone, MatchOption, MatchResult, option_copied, slice_get};
 ghost use Rattle.afdx_frame.specs.declared.link.Priority.{Priority};
 ghost use Rattle.afdx_port.specs.Schedule.{Entry, Turn, is_past, IsNext, IsSchedule, IsLost};
@@ -8,7 +9,8 @@ use afdx_frame::Priority;
 use circular_buffer::HeapCircularBuffer;
 use std::alloc::{AllocError, Global};
 
-/// The bytes on the wire beside a frame: preamble, start delimiter and gap (IEEE 802.3, 3.1.1 and 4.4.2).
+/// The bytes on the wire beside a frame: preamble, start delimiter and gap (IEEE 802.3, 3.1.1 and
+/// 4.4.2).
 const GAP: u64 = 20;
 
 /// A frame that waits, and when it came.
@@ -135,7 +137,8 @@ impl<T: HasLength> Pending<T> {
 
     /// Takes the first frame of a class.
     fn pop(&mut self, priority: Priority) -> Option<Waiting<T>>
-        ensures first { MatchOption result (queue_of priority self.old ≡ []) (λ w. queue_of priority self.old ≡ w ∷ queue_of priority self.new) }
+        ensures first { MatchOption result (queue_of priority self.old ≡ [])
+            (λ w. queue_of priority self.old ≡ w ∷ queue_of priority self.new) }
         ensures others { ChangesQueue priority self.old self.new }
     {
         match priority {
@@ -164,8 +167,10 @@ impl<T: HasLength> Pending<T> {
         requires sound { IsSound T.facts self.old }
         ensures sound { IsSound T.facts self.new }
         ensures clock { self.new.clock ≡ time }
-        ensures stands { (h : History T) → StandsFor T.facts self.old h → StandsFor T.facts self.new (at h time) }
-        ensures chosen { (c : Priority) (moment : ℕ) → self.new.sending ≡ None → choice_of self.new ≡ Some (c, moment) → time ≤ moment }
+        ensures stands { (h : History T) → StandsFor T.facts self.old h →
+            StandsFor T.facts self.new (at h time) }
+        ensures chosen { (c : Priority) (moment : ℕ) → self.new.sending ≡ None →
+            choice_of self.new ≡ Some (c, moment) → time ≤ moment }
         ensures due { due_of T.facts self.new ≡ due_of T.facts self.old }
         ensures held { frames_held self.new ≡ frames_held self.old }
     {
@@ -203,13 +208,16 @@ impl<T: HasLength> Pending<T> {
         ensures sound { IsSound T.facts self.new }
         ensures quiet { IsQuiet T.facts self.new time }
         ensures clock { self.new.clock ≡ time }
-        ensures held { MatchResult result (λ _. frames_held self.new ≡ frames_held self.old + 1) (λ _. frames_held self.new ≡ frames_held self.old) }
+        ensures held { MatchResult result (λ _. frames_held self.new ≡ frames_held self.old + 1)
+            (λ _. frames_held self.new ≡ frames_held self.old) }
         ensures ok { (h : History T) → StandsFor T.facts self.old h →
-            OnOk result (StandsFor T.facts self.new (with_put h (entry_of T.facts time priority item))) }
+            OnOk result (StandsFor T.facts self.new
+            (with_put h (entry_of T.facts time priority item))) }
         ensures err { (h : History T) → StandsFor T.facts self.old h →
             OnErr result (StandsFor T.facts self.new (at h time)) }
         ensures back { IfErr result (λ back. back ≡ item) }
-        ensures lost { (h : History T) (turns : List (Turn T)) → StandsFor T.facts self.old h → IsSchedule h.byte_ns h.entries turns →
+        ensures lost { (h : History T) (turns : List (Turn T)) → StandsFor T.facts self.old h →
+            IsSchedule h.byte_ns h.entries turns →
             (IsErr result ↔ IsLost h.buffer h.entries turns time (T.facts item).bytes) }
     {
         self.advance(time);
@@ -235,11 +243,16 @@ impl<T: HasLength> Pending<T> {
         ensures sound { IsSound T.facts self.new }
         ensures clock { self.new.clock ≡ until }
         ensures quiet { IfNone result (IsQuiet T.facts self.new until) }
-        ensures held { MatchOption result (frames_held self.new ≡ frames_held self.old) (λ _. frames_held self.new + 1 ≡ frames_held self.old) }
-        ensures given { (h : History T) → StandsFor T.facts self.old h → IfSome result (λ left. Gives T.facts h until left self.new) }
-        ensures none { (h : History T) → StandsFor T.facts self.old h → IfNone result (StandsFor T.facts self.new (at h until)) }
-        ensures no_more { (h : History T) (s : Turn T) → StandsFor T.facts self.old h → IsNext h.byte_ns h.entries h.taken s → IfNone result (IsAfter until (due_at s)) }
-        ensures all_done { (h : History T) → StandsFor T.facts self.old h → 1200000000000000 ≤ until → IfNone result (IsSchedule h.byte_ns h.entries h.taken) }
+        ensures held { MatchOption result (frames_held self.new ≡ frames_held self.old)
+            (λ _. frames_held self.new + 1 ≡ frames_held self.old) }
+        ensures given { (h : History T) → StandsFor T.facts self.old h →
+            IfSome result (λ left. Gives T.facts h until left self.new) }
+        ensures none { (h : History T) → StandsFor T.facts self.old h →
+            IfNone result (StandsFor T.facts self.new (at h until)) }
+        ensures no_more { (h : History T) (s : Turn T) → StandsFor T.facts self.old h →
+            IsNext h.byte_ns h.entries h.taken s → IfNone result (IsAfter until (due_at s)) }
+        ensures all_done { (h : History T) → StandsFor T.facts self.old h →
+            1200000000000000 ≤ until → IfNone result (IsSchedule h.byte_ns h.entries h.taken) }
     {
         self.advance(until);
         let is_over = self.free <= until;

@@ -1,6 +1,9 @@
+//! An output port.
 ghost use Rattle.std.specs.Prelude.{◌≡◌, ℕ, ◌+◌, ◌<◌, ◌≤◌, ◌↔◌, ◌++◌, List, Some, None, IfOk, IfErr, OnOk, OnErr, IsErr, IsTrue, IfSome, IfNone, MatchOption, MatchResult};
 ghost use Rattle.afdx_port.specs.Schedule.{Turn, IsNext, AreTurns, IsSchedule, IsLost};
 ghost use Rattle.afdx_port.specs.ScheduleOf.{AreInOrder, schedule_of};
+ghost use Rattle.afdx_port.specs.Due.{given_at};
+ghost use Rattle.afdx_port.specs.Ports.{order_at};
 
 use crate::has_length::HasLength;
 use crate::left::{Due, Left};
@@ -9,14 +12,27 @@ use afdx_frame::Priority;
 use std::alloc::{AllocError, Global};
 use std::marker::Model;
 
-/// An output port (ARINC 664 Part 7): two queues of frames, high before low, that share a buffer and a line.
-/// No frame is interrupted, and the next frame is chosen after all that came by that moment.
-/// It keeps the frames that still have a turn to come, and nothing of those that left.
+/// An output port (ARINC 664 Part 7): two queues of frames, high before low, that share a buffer
+/// and a line. No frame is interrupted, and the next frame is chosen after all that came by that
+/// moment. It keeps the frames that still have a turn to come, and nothing of those that left.
 #[derive(Drop)]
 pub struct Port<T: HasLength> {
     pending: Pending<T>,
     /// The next turn.
     due: Option<Due>,
+    /// Its place in the order in which ports are served together.
+    order: u64,
+}
+
+/// The place of a turn in the order in which ports are served together.
+fn order(due: Option<Due>) -> u64
+    requires { IfSome due (λ d. given_at d ≤ 1200000000000000) }
+    ensures { result ≡ order_at due }
+{
+    match due {
+        Some(due) => due.order(),
+        None => u64::MAX,
+    }
 }
 
 impl<T: HasLength> Model for Port<T> {
@@ -30,17 +46,21 @@ impl<T: HasLength> Model for Port<T> {
 
     ghost view = { λ p. p.pending };
 
-    ghost invariant = { λ p. IsSound T.facts p.pending × (p.due ≡ due_of T.facts p.pending) };
+    ghost use Rattle.afdx_port.specs.Ports.{order_at};
+
+    ghost invariant = { λ p. IsSound T.facts p.pending × (p.due ≡ due_of T.facts p.pending)
+        × (p.order ≡ order_at (due_of T.facts p.pending)) };
 }
 
 impl<T: HasLength> Port<T> {
     ghost use Rattle.afdx_port.specs.Due.{given_at, IsAfter};
+    ghost use Rattle.afdx_port.specs.Ports.{order_at};
     ghost use Rattle.afdx_port.specs.Held.{IsByteTime, due_of, IsQuiet, last_time, frames_held};
     ghost use Rattle.afdx_port.specs.History.{History, no_calls, at, with_put, entry_of, due_at, StandsFor, Gives};
 
     /// An idle port at time 0, whose line takes `byte_ns` for a byte: 8, 80 or 800 ns.
-    /// The frames that wait may have `buffer` bytes together, 64 to 4,194,304; there is room for `buffer / 64` of them in each class.
-    /// The error says that memory was refused.
+    /// The frames that wait may have `buffer` bytes together, 64 to 4,194,304; there is room for
+    /// `buffer / 64` of them in each class. The error says that memory was refused.
     pub fn new(alloc: Global, byte_ns: u64, buffer: u64) -> Result<Port<T>, AllocError>
         requires rate { IsByteTime byte_ns }
         requires buffer { (64 ≤ buffer) × (buffer ≤ 4194304) }
@@ -52,31 +72,39 @@ impl<T: HasLength> Port<T> {
         Ok(Port {
             pending: Pending::new(alloc, byte_ns, buffer)?,
             due: None,
+            order: order(None),
         })
     }
 
-    /// Offers a frame at `time`, in ns, which isn't before the last time used and is at most 1,000,032,768,000,000; `take(time)` would give nothing.
-    /// The frame is lost, and handed back, exactly if the lengths of the frames that wait, with its own, sum to more than the buffer.
-    /// A frame whose turn comes at `time` or later still waits. A lost frame changes nothing but the last time used.
+    /// Offers a frame at `time`, in ns, which isn't before the last time used and is at most
+    /// 1,000,032,768,000,000; `take(time)` would give nothing. The frame is lost, and handed back,
+    /// exactly if the lengths of the frames that wait, with its own, sum to more than the buffer. A
+    /// frame whose turn comes at `time` or later still waits. A lost frame changes nothing but the
+    /// last time used.
     pub fn put(&mut self, time: u64, priority: Priority, item: T) -> Result<(), T>
         requires clock { last_time self.old ≤ time }
         requires limit { time ≤ 1000032768000000 }
         requires quiet { IsQuiet T.facts self.old time }
         ensures ok { (h : History T) → StandsFor T.facts self.old h →
-            OnOk result (StandsFor T.facts self.new (with_put h (entry_of T.facts time priority item))) }
+            OnOk result (StandsFor T.facts self.new
+            (with_put h (entry_of T.facts time priority item))) }
         ensures err { (h : History T) → StandsFor T.facts self.old h →
             OnErr result (StandsFor T.facts self.new (at h time)) }
         ensures back { IfErr result (λ back. back ≡ item) }
         ensures lost { (h : History T) → StandsFor T.facts self.old h →
-            (IsErr result ↔ IsLost h.buffer h.entries (schedule_of h.byte_ns h.entries) time (T.facts item).bytes) }
-        ensures lost_by_any { (h : History T) (turns : List (Turn T)) → StandsFor T.facts self.old h → IsSchedule h.byte_ns h.entries turns →
+            (IsErr result ↔ IsLost h.buffer h.entries (schedule_of h.byte_ns h.entries) time
+            (T.facts item).bytes) }
+        ensures lost_by_any { (h : History T) (turns : List (Turn T)) →
+            StandsFor T.facts self.old h → IsSchedule h.byte_ns h.entries turns →
             (IsErr result ↔ IsLost h.buffer h.entries turns time (T.facts item).bytes) }
         ensures quiet { IsQuiet T.facts self.new time }
-        ensures held { MatchResult result (λ _. frames_held self.new ≡ frames_held self.old + 1) (λ _. frames_held self.new ≡ frames_held self.old) }
+        ensures held { MatchResult result (λ _. frames_held self.new ≡ frames_held self.old + 1)
+            (λ _. frames_held self.new ≡ frames_held self.old) }
         ensures clock { last_time self.new ≡ time }
     {
         let taken = self.pending.put(time, priority, item);
         self.due = self.pending.due();
+        self.order = order(self.due);
         taken
     }
 
@@ -84,12 +112,25 @@ impl<T: HasLength> Port<T> {
     /// None if the port holds nothing: then each frame that was put and not lost has had its turn.
     pub fn due(&self) -> Option<Due>
         ensures due { result ≡ due_of T.facts self.now }
-        ensures is_next { (h : History T) (s : Turn T) → StandsFor T.facts self.now h → IsNext h.byte_ns h.entries h.taken s → result ≡ Some (due_at s) }
-        ensures comes { (h : History T) → StandsFor T.facts self.now h → IfSome result (λ due. (s : Turn T) × IsNext h.byte_ns h.entries h.taken s × (due ≡ due_at s)) }
-        ensures all_done { (h : History T) → StandsFor T.facts self.now h → IfNone result (IsSchedule h.byte_ns h.entries h.taken) }
+        ensures is_next { (h : History T) (s : Turn T) → StandsFor T.facts self.now h →
+            IsNext h.byte_ns h.entries h.taken s → result ≡ Some (due_at s) }
+        ensures comes { (h : History T) → StandsFor T.facts self.now h →
+            IfSome result (λ due. (s : Turn T) × IsNext h.byte_ns h.entries h.taken s
+            × (due ≡ due_at s)) }
+        ensures all_done { (h : History T) → StandsFor T.facts self.now h →
+            IfNone result (IsSchedule h.byte_ns h.entries h.taken) }
         ensures limit { IfSome result (λ due. given_at due ≤ 1200000000000000) }
     {
         self.due
+    }
+
+    /// The place of the next turn in the order in which ports are served together; the greatest
+    /// number if the port holds nothing.
+    pub(crate) fn order(&self) -> u64
+        ensures is { result ≡ order_at (due_of T.facts self.now) }
+        ensures limit { IfSome (due_of T.facts self.now) (λ due. given_at due ≤ 1200000000000000) }
+    {
+        self.order
     }
 
     /// Whether `take(time)` would give nothing.
@@ -99,16 +140,22 @@ impl<T: HasLength> Port<T> {
         self.due().is_none_or(|due| !due.is_by(time))
     }
 
-    /// The next turn, if it is over by `until`, in ns: a slot that ends at or before `until`, or a drop whose moment is before `until`.
-    /// `until` isn't before the last time used. If it is 1.2e15 or later, None says that each frame that was put and not lost has had its turn.
+    /// The next turn, if it is over by `until`, in ns: a slot that ends at or before `until`, or a
+    /// drop whose moment is before `until`. `until` isn't before the last time used. If it is
+    /// 1.2e15 or later, None says that each frame that was put and not lost has had its turn.
     pub fn take(&mut self, until: u64) -> Option<Left<T>>
         requires clock { last_time self.old ≤ until }
-        ensures given { (h : History T) → StandsFor T.facts self.old h → IfSome result (λ left. Gives T.facts h until left self.new) }
-        ensures none { (h : History T) → StandsFor T.facts self.old h → IfNone result (StandsFor T.facts self.new (at h until)) }
-        ensures no_more { (h : History T) (s : Turn T) → StandsFor T.facts self.old h → IsNext h.byte_ns h.entries h.taken s → IfNone result (IsAfter until (due_at s)) }
-        ensures all_done { (h : History T) → StandsFor T.facts self.old h → 1200000000000000 ≤ until → IfNone result (IsSchedule h.byte_ns h.entries h.taken) }
+        ensures given { (h : History T) → StandsFor T.facts self.old h →
+            IfSome result (λ left. Gives T.facts h until left self.new) }
+        ensures none { (h : History T) → StandsFor T.facts self.old h →
+            IfNone result (StandsFor T.facts self.new (at h until)) }
+        ensures no_more { (h : History T) (s : Turn T) → StandsFor T.facts self.old h →
+            IsNext h.byte_ns h.entries h.taken s → IfNone result (IsAfter until (due_at s)) }
+        ensures all_done { (h : History T) → StandsFor T.facts self.old h →
+            1200000000000000 ≤ until → IfNone result (IsSchedule h.byte_ns h.entries h.taken) }
         ensures quiet { IfNone result (IsQuiet T.facts self.new until) }
-        ensures held { MatchOption result (frames_held self.new ≡ frames_held self.old) (λ _. frames_held self.new + 1 ≡ frames_held self.old) }
+        ensures held { MatchOption result (frames_held self.new ≡ frames_held self.old)
+            (λ _. frames_held self.new + 1 ≡ frames_held self.old) }
         ensures clock { last_time self.new ≡ until }
     {
         if self.is_quiet(until) {
@@ -117,6 +164,7 @@ impl<T: HasLength> Port<T> {
         }
         let left = self.pending.take(until);
         self.due = self.pending.due();
+        self.order = order(self.due);
         left
     }
 }

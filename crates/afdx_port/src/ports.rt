@@ -1,51 +1,49 @@
 //! Several ports that are served together.
-ghost use Rattle.std.specs.Prelude.{◌≡◌, ℕ, ◌≤◌, IfSome, IfNone, length};
-ghost use Rattle.afdx_port.specs.Due.{given_at};
-ghost use Rattle.afdx_port.specs.Ports.{bound_at, bound_after, place_after, AreQuiet, AreLimited, IsFirstDue};
+ghost use Rattle.std.specs.Prelude.{◌≡◌, ℕ, ◌≤◌, ◌<◌, IfSome, IfNone, length};
+ghost use Rattle.afdx_port.specs.Ports.{earlier_of, AreQuiet, AreServed, IsFirstDue};
 
 use crate::has_length::HasLength;
-use crate::left::Due;
 use crate::port::Port;
 
-/// The port whose turn is given first, as its place, if one is given by `until`: by time, at one time slots before drops, then by place.
-/// It takes nothing; `take(until)` of that port then gives the turn. If `until` is 1.2e15 or later, None says that each frame that was put and not lost has had its turn.
-pub fn first_due<T: HasLength>(ports: &[Port<T>], until: u64) -> Option<usize>
-    ensures none { IfNone result (AreQuiet T.facts ports.now until (length ports.now)) }
-    ensures first { IfSome result (λ place. IsFirstDue T.facts ports.now until (length ports.now) place) }
-    ensures limit { AreLimited T.facts ports.now (length ports.now) }
+/// The port whose turn goes first if no frame is put before, as its place: by time, at one time
+/// slots before drops, then by place. The first port, if none has a turn to come.
+pub fn first_of<T: HasLength>(ports: &[Port<T>]) -> usize
+    requires { 1 ≤ length ports.now }
+    ensures { AreServed T.facts ports.now result }
 {
-    let mut first = None;
-    let mut bound = order_after(until);
+    let mut first = 0;
+    let mut least = u64::MAX;
     for place in 0..ports.len() {
-        let due = ports[place].due();
-        (first, bound) = earlier(first, bound, place, due);
+        (first, least) = earlier(first, least, place, ports[place].order());
     }
     first
 }
 
-/// The latest time of a turn, in ns.
-const LATEST: u64 = 1_200_000_000_000_000;
-
-/// Above the order of each turn that is given by `until`, and of no other one.
-fn order_after(until: u64) -> u64
-    ensures { result ≡ bound_at until }
+/// What goes first so far, and its order, after the port at a further place was seen.
+fn earlier(first: usize, least: u64, place: usize, order: u64) -> (usize, u64)
+    ensures { result ≡ earlier_of first least place order }
 {
-    2 * until.min(LATEST) + 1
+    if order < least {
+        (place, order)
+    } else {
+        (first, least)
+    }
 }
 
-/// What goes first so far, after the port at a further place was seen, and its order, or else the one above which no turn counts.
-fn earlier(first: Option<usize>, bound: u64, place: usize, due: Option<Due>) -> (Option<usize>, u64)
-    requires { IfSome due (λ d. given_at d ≤ 1200000000000000) }
-    ensures place { result.0 ≡ place_after first bound place due }
-    ensures bound { result.1 ≡ bound_after bound due }
+/// The port whose turn is given first, as its place, if one is given by `until`. `first` is the
+/// place of the port whose turn goes first, as `first_of` answers it: no other port is looked at.
+/// It takes nothing; `take(until)` of that port then gives the turn. If `until` is 1.2e15 or later,
+/// None says that each frame that was put and not lost has had its turn.
+pub fn first_due<T: HasLength>(ports: &[Port<T>], first: usize, until: u64) -> Option<usize>
+    requires { AreServed T.facts ports.now first }
+    ensures none { IfNone result (AreQuiet T.facts ports.now until (length ports.now)) }
+    ensures first { IfSome result
+        (λ place. IsFirstDue T.facts ports.now until (length ports.now) place) }
+    ensures same { IfSome result (λ place. place ≡ first) }
 {
-    let Some(due) = due else {
-        return (first, bound);
-    };
-    let order = due.order();
-    if order < bound {
-        (Some(place), order)
+    if ports[first].is_quiet(until) {
+        None
     } else {
-        (first, bound)
+        Some(first)
     }
 }

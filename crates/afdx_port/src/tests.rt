@@ -3,7 +3,7 @@ ghost use Rattle.std.specs.Prelude.{◌≡◌, ℕ, ◌≤◌, Some, None, IfOk,
 ghost use Rattle.std.proofs.Common.{arith};
 ghost use Rattle.afdx_port.specs.Held.{IsByteTime, IsQuiet, last_time};
 
-use crate::{Due, HasLength, Port, first_due};
+use crate::{Due, HasLength, Port, first_due, first_of};
 use afdx_frame::Priority;
 use std::alloc::{AllocError, Global};
 
@@ -225,7 +225,9 @@ fn the_first_of_several_ports(rt: HostRuntime) -> Result<(), AllocError> {
     assert!(rt; short.put(0, Priority::Low, waits_on(64)).is_ok());
     assert!(rt; last.put(0, Priority::High, waits_on(64)).is_ok());
     let ports = [slow, long, short, idle, last];
-    assert_eq!(rt; first_due(&ports, 6719), None);
-    assert_eq!(rt; first_due(&ports, 1000000), Some(2));
+    let first = first_of(&ports);
+    assert_eq!(rt; first, 2);
+    assert_eq!(rt; first_due(&ports, first, 6719), None);
+    assert_eq!(rt; first_due(&ports, first, 1000000), Some(2));
     Ok(())
 }

@@ -1,6 +1,6 @@
 -- What one more arrival is, and what it adds to the entries of the output ports.
 use Rattle.std.proofs.Common.{◌≡◌, ℕ, ◌≤◌, ◌&&◌, Bool, true, false, not, List, [], ◌∷◌, length, refl, sym, ap, ◌∙◌, arith, inl, inr}
-use Rattle.std.specs.Prelude.{Option, Some, None, IfSome, is_none, nat_lt, find, min, max, option_map, if◌then◌else◌}
+use Rattle.std.specs.Prelude.{Result, Ok, Err, OnErr, Option, Some, None, IfSome, is_none, nat_lt, find, min, max, option_map, if◌then◌else◌}
 use Rattle.std.specs.Option.{unwrap_or}
 use Rattle.std.proofs.lemmas.Bool.{and_parts}
 use Rattle.afdx_frame.specs.Layout.{link_named_by}
@@ -19,13 +19,19 @@ use Rattle.afdx_bounds.specs.Outputs.{Row, Output, accepts, sends, entry_of, wit
 use Rattle.afdx_bounds.proofs.VerdictLemmas.{looks}
 use Rattle.afdx_switch.specs.Carried.{carried_with}
 use Rattle.afdx_switch.specs.Tables.{rows_of, output_at, byte_ns_at, row_named, wait_of, carried, entries_at}
-use Rattle.afdx_switch.specs.Verdicts.{reason_on, reason_of, is_share_lost, is_lost_at}
-use Rattle.afdx_switch.specs.Switching.{IsNamed, IsNamedAt, share_of, share_entry, with_share, loses_share}
+use Rattle.afdx_switch.specs.Verdicts.{fault_on, shape_fault, reason_on, reason_of, is_share_lost, is_lost_at}
+use Rattle.afdx_switch.specs.Lines.{IsNamed, IsNamedAt}
+use Rattle.afdx_switch.specs.Shares.{share_of, share_entry, with_share, loses_share}
 use Rattle.afdx_switch.proofs.ListLemmas.{find-none, find-one, bool_cases}
 
 pub same-side : (s : Side) → is_side s s ≡ true
 same-side A = refl
 same-side B = refl
+
+-- what holds anyway holds after an error
+pub on-err : {X E P : Type 0} (r : Result X E) → P → OnErr r P
+on-err (Ok x) p = tt
+on-err (Err e) p = p
 
 -- a link's own arrivals
 pub own-other : (vl : ℕ) (side : Side) (x : Arrival) (past : List Arrival) → names vl x.bytes ≡ false → own vl side (x ∷ past) ≡ own vl side past
@@ -77,6 +83,10 @@ module _ (t : Rows) (x : Arrival) (past : List Arrival) where
   pub reason-named : (place : ℕ) (n : IsNamedAt (rows_of t) x.bytes place) → reason_of t past x ≡ reason_after n.row.rule (own n.row.rule.vl x.side past) x
   unfolding reason_of
   reason-named place n = ap (reason_on past x) (row-named place n)
+
+  pub shape-named : (place : ℕ) (n : IsNamedAt (rows_of t) x.bytes place) → shape_fault t x ≡ fault_of (Some n.row.rule) x.port x.bytes
+  unfolding shape_fault
+  shape-named place n = ap (fault_on x) (row-named place n)
 
   sent-none : (o : Output) → IsNamed (rows_of t) x.bytes None → find (sends o past x) (rows_of t) ≡ None
   sent-none o none = find-none (sends o past x) (rows_of t) (λ j r at. elim (bool_cases (sends o past x r)) [

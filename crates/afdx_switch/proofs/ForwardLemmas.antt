@@ -9,7 +9,7 @@ use Rattle.afdx_port.specs.declared.pending.Pending.{Pending}
 use Rattle.afdx_switch.specs.declared.ports.PortSet.{PortSet}
 use Rattle.afdx_switch.specs.Carried.{Carried, facts}
 use Rattle.afdx_switch.specs.Ports.{holds}
-use Rattle.afdx_switch.specs.Switching.{IsOffered}
+use Rattle.afdx_switch.specs.Shares.{IsOffered}
 use Rattle.afdx_switch.proofs.ListLemmas.{slice_get-set_here, slice_get-set_there, all-set, bool_cases}
 
 -- the ports before a place have been offered their shares

@@ -25,7 +25,8 @@ use Rattle.afdx_switch.specs.Tables.{rows_of, output_at, byte_ns_at, row_named, 
 use Rattle.afdx_switch.specs.Verdicts.{reason_on, reason_of, is_share_lost, is_lost_at, numbers, lost_ports}
 use Rattle.afdx_switch.specs.Ports.{holds}
 use Rattle.std.specs.List.{AllByRecursion}
-use Rattle.afdx_switch.specs.Switching.{IsPlaceOf, IsNamed, calls_at, taken_at}
+use Rattle.afdx_switch.specs.Lines.{IsPlaceOf, IsNamed}
+use Rattle.afdx_switch.specs.Switching.{calls_at, taken_at}
 use Rattle.afdx_switch.proofs.ListLemmas.{find-none, find-found}
 use Rattle.afdx_switch.proofs.NamedLemmas.{unnamed, no-row, row-at}
 use Rattle.afdx_switch.proofs.ArrivalLemmas.{sends-named, row-named, dropped-sent, accepted-sent, entries-with, entries-kept}

@@ -1,5 +1,5 @@
 -- Lists that are set at one place, searched, or lent.
-use Rattle.std.proofs.Common.{◌≡◌, ◌≢◌, ℕ, zero, suc, ◌<◌, ◌≤◌, Bool, true, false, List, [], ◌∷◌, ◌++◌, length, take, drop, set, get_or, refl, sym, ap, subst, arith, ◌∙◌, inl, inr, true≢false}
+use Rattle.std.proofs.Common.{◌≡◌, ◌≢◌, ℕ, zero, suc, ◌<◌, ◌≤◌, Bool, true, false, List, [], ◌∷◌, ◌++◌, length, take, drop, set, get_or, refl, sym, ap, subst, arith, ◌∙◌, inl, inr, true≢false, IsTrue, not, ◌↔◌}
 use Rattle.std.specs.Prelude.{All, Some, None, slice_get, find, if◌then◌else◌, ◌⊎◌}
 use Rattle.std.specs.List.{list_any}
 use Rattle.std.proofs.lemmas.Bool.{cases_eq}
@@ -86,3 +86,13 @@ module _ {X : Type 0} where
       at : (p y ≡ true) ⊎ (p y ≡ false) → (find p ys ≡ Some x → (j : ℕ) × (slice_get ys j ≡ Some x) × (p x ≡ true)) → (j : ℕ) × (slice_get (y ∷ ys) j ≡ Some x) × (p x ≡ true)
       at (inl passes) later = let here : Some y ≡ Some x = rw passes at is in let same : y ≡ x = cc in (0, here, sym (ap p same) ∙ passes)
       at (inr fails) later = let w = later (rw fails at is) in (suc w.0, w.1, w.2)
+
+-- a list of flags has none set exactly if each place has it unset
+any-none : (bs : List Bool) → ((p : ℕ) → get_or bs p false ≡ false) → list_any (λ b. b) bs ≡ false
+any-none [] unset = refl
+any-none (true ∷ bs) unset = absurd (let first : true ≡ false = unset 0 in cc)
+any-none (false ∷ bs) unset = any-none bs (λ p. unset (suc p))
+
+pub none-set : (any : Bool) (bs : List Bool) → any ≡ list_any (λ b. b) bs → IsTrue (not any) ↔ ((p : ℕ) → get_or bs p false ≡ false)
+none-set true bs is = (λ t. absurd cc, λ unset. absurd (let none = any-none bs unset in cc))
+none-set false bs is = (λ t. none_held bs (sym is), λ unset. refl)

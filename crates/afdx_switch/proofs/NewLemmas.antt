@@ -19,7 +19,8 @@ use Rattle.afdx_port.specs.History as queue
 use Rattle.afdx_port.specs.declared.pending.Pending.{Pending}
 use Rattle.afdx_switch.specs.Carried.{Carried, facts}
 use Rattle.afdx_switch.specs.New.{IsNewPort}
-use Rattle.afdx_switch.specs.Switching.{IsPlaceOf, no_calls, calls_at, taken_at}
+use Rattle.afdx_switch.specs.Lines.{IsPlaceOf}
+use Rattle.afdx_switch.specs.Switching.{no_calls, calls_at, taken_at}
 use Rattle.afdx_switch.specs.Tables.{row_of, rows_of, rule_of, port_of}
 
 -- so many elements, each with what is asked at its place

@@ -21,7 +21,10 @@ use Rattle.afdx_switch.specs.Carried.{Carried, carried_with, facts}
 use Rattle.afdx_switch.specs.Ports.{holds}
 use Rattle.afdx_switch.specs.Tables.{rows_of, output_at, byte_ns_at}
 use Rattle.afdx_switch.specs.Verdicts.{reason_of, is_lost_at}
-use Rattle.afdx_switch.specs.Switching.{History, StandsFor, IsLine, IsPortSound, IsNamed, IsNamedAt, IsOffered, calls_at, calls_after, taken_at, with_arrival, share_of}
+use Rattle.afdx_switch.specs.Switching.{History, StandsFor, calls_at, taken_at, with_arrival}
+use Rattle.afdx_switch.specs.Lines.{IsLine, IsNamed, IsNamedAt}
+use Rattle.afdx_switch.specs.Sound.{IsPortSound}
+use Rattle.afdx_switch.specs.Shares.{IsOffered, calls_after, share_of}
 use Rattle.afdx_switch.specs.declared.line.Line.{Line}
 use Rattle.afdx_switch.specs.declared.ports.PortSet.{PortSet}
 use Rattle.afdx_switch.specs.declared.working.Working.{Working}

@@ -18,7 +18,8 @@ use Rattle.afdx_port.proofs.DueLemmas.{next_due, quiet_after, after_quiet}
 use Rattle.afdx_port.proofs.TakeLemmas as port
 use Rattle.afdx_port.proofs.TurnLemmas.{eqb-same}
 use Rattle.afdx_switch.specs.Carried.{Carried, facts}
-use Rattle.afdx_switch.specs.Switching.{History, PortTurn, StandsFor, IsNextAt, IsNextOf, IsDue, IsDone, GoesBefore, IsPortSound, IsLineSound, calls_at, taken_at, with_take}
+use Rattle.afdx_switch.specs.Switching.{History, PortTurn, StandsFor, IsNextAt, IsNextOf, IsDue, IsDone, GoesBefore, calls_at, taken_at, with_take}
+use Rattle.afdx_switch.specs.Sound.{IsPortSound, IsLineSound}
 use Rattle.afdx_switch.specs.Tables.{byte_ns_at, entries_at}
 use Rattle.afdx_switch.specs.declared.line.Line.{Line}
 use Rattle.afdx_switch.specs.declared.working.Working.{Working}

@@ -1,4 +1,5 @@
--- What admitted tables promise of a switch, whatever arrives. A list of arrivals has the newest first.
+-- What admitted tables promise of a switch, whatever arrives. A list of arrivals has the newest
+-- first.
 use Rattle.std.specs.Prelude.{◌≡◌, ℕ, ◌+◌, ◌*◌, ◌≤◌, true, false, not, is_none, if◌then◌else◌, All, Some, List, [], ◌∷◌, filter, map, reverse, slice_get}
 use Rattle.afdx_frame.specs.declared.link.Side.{Side}
 use Rattle.afdx_config.specs.Admission.{IsAdmitted}
@@ -41,7 +42,9 @@ passing_in e = record { tag = e.item.tag; time = e.time; bytes = e.item.bytes }
 -- those of a link's own arrivals that are accepted
 unfoldable pub accepted_arrivals : Rule → List Arrival → List Arrival
 accepted_arrivals rule [] = []
-accepted_arrivals rule (x ∷ past) = if is_none (reason_after rule past x) then x ∷ accepted_arrivals rule past else accepted_arrivals rule past
+accepted_arrivals rule (x ∷ past) =
+    if is_none (reason_after rule past x) then x ∷ accepted_arrivals rule past
+    else accepted_arrivals rule past
 
 -- of these arrivals, those that the switch of a side accepts of a link
 abbrev pub accepted_on : Rows → LinkRow → Side → List Arrival → List Arrival
@@ -65,35 +68,47 @@ frames_left vl turns = frames_among vl (entries_in (slots turns))
 
 -- an accepted arrival is lost nowhere
 abbrev pub AcceptedIsKept : Type 0
-AcceptedIsKept = (t : Rows) (past : List Arrival) (x : Arrival) (port : ℕ) → IsAdmittedRun t (x ∷ past) → is_lost_at t past x port ≡ false
+AcceptedIsKept = (t : Rows) (past : List Arrival) (x : Arrival) (port : ℕ) →
+    IsAdmittedRun t (x ∷ past) → is_lost_at t past x port ≡ false
 
 -- an answer names no port at which the frame is lost
 abbrev pub LosesNothing : Verdict → Type 0
 LosesNothing (Dropped reason) = Unit {0}
 LosesNothing (Accepted lost) = (port : ℕ) → holds lost port ≡ false
 
--- at each port that a link goes to exactly its accepted frames enter, in the order in which they came, and at others none
+-- at each port that a link goes to exactly its accepted frames enter, in the order in which they
+-- came, and at others none
 abbrev pub AcceptedEnter : Type 0
-AcceptedEnter = (t : Rows) (arrivals : List Arrival) (side : Side) (port place : ℕ) (l : LinkRow) → IsAdmittedRun t arrivals → slice_get t.links place ≡ Some l →
-    frames_among l.vl (entries_at t side port arrivals) ≡ (if goes_to t l port then accepted_frames t l side arrivals else [])
+AcceptedEnter = (t : Rows) (arrivals : List Arrival) (side : Side) (port place : ℕ) (l : LinkRow) →
+    IsAdmittedRun t arrivals → slice_get t.links place ≡ Some l →
+    frames_among l.vl (entries_at t side port arrivals)
+    ≡ (if goes_to t l port then accepted_frames t l side arrivals else [])
 
 -- the turns of a link's frames are slots, which end within its latency
 abbrev pub AreInTime : LinkRow → List (Turn Carried) → Type 0
-AreInTime l turns = All (λ s. is_of l.vl s.entry ≡ true → (s.too_old ≡ false) × (s.end ≤ s.entry.time + 1000 * l.latency_us)) turns
+AreInTime l turns = All (λ s. is_of l.vl s.entry ≡ true → (s.too_old ≡ false)
+    × (s.end ≤ s.entry.time + 1000 * l.latency_us)) turns
 
 abbrev pub TurnsAreInTime : Type 0
-TurnsAreInTime = (t : Rows) (arrivals : List Arrival) (side : Side) (port place : ℕ) (l : LinkRow) (turns : List (Turn Carried)) →
-    IsAdmittedRun t arrivals → slice_get t.links place ≡ Some l → AreTurns (byte_ns_at t port) (entries_at t side port arrivals) turns → AreInTime l turns
+TurnsAreInTime = (t : Rows) (arrivals : List Arrival) (side : Side) (port place : ℕ) (l : LinkRow)
+    (turns : List (Turn Carried)) →
+    IsAdmittedRun t arrivals → slice_get t.links place ≡ Some l →
+    AreTurns (byte_ns_at t port) (entries_at t side port arrivals) turns → AreInTime l turns
 
 -- each entry of a link whose latency is over by then has had its turn
 abbrev pub HaveLeft : LinkRow → ℕ → List (Entry Carried) → List (Turn Carried) → Type 0
-HaveLeft l until entries turns = (place : ℕ) (e : Entry Carried) → slice_get entries place ≡ Some e → is_of l.vl e ≡ true → e.time + 1000 * l.latency_us ≤ until → has_turn turns place ≡ true
+HaveLeft l until entries turns =
+    (place : ℕ) (e : Entry Carried) → slice_get entries place ≡ Some e → is_of l.vl e ≡ true →
+    e.time + 1000 * l.latency_us ≤ until → has_turn turns place ≡ true
 
 -- so it is where no further turn is given by then
 abbrev pub AllHaveLeft : Type 0
-AllHaveLeft = (t : Rows) (arrivals : List Arrival) (side : Side) (port place : ℕ) (l : LinkRow) (turns : List (Turn Carried)) (until : ℕ) →
-    IsAdmittedRun t arrivals → slice_get t.links place ≡ Some l → AreTurns (byte_ns_at t port) (entries_at t side port arrivals) turns →
-    ((s : Turn Carried) → IsNext (byte_ns_at t port) (entries_at t side port arrivals) turns s → IsAfter until (due_at s)) →
+AllHaveLeft = (t : Rows) (arrivals : List Arrival) (side : Side) (port place : ℕ) (l : LinkRow)
+    (turns : List (Turn Carried)) (until : ℕ) →
+    IsAdmittedRun t arrivals → slice_get t.links place ≡ Some l →
+    AreTurns (byte_ns_at t port) (entries_at t side port arrivals) turns →
+    ((s : Turn Carried) → IsNext (byte_ns_at t port) (entries_at t side port arrivals) turns s →
+    IsAfter until (due_at s)) →
     HaveLeft l until (entries_at t side port arrivals) turns
 
 -- a turn is a slot, which ends within the latency of the link whose frame it is

@@ -1,7 +1,6 @@
 -- What the output ports of a switch hold of a frame.
-use Rattle.std.specs.Prelude.{ℕ, ◌≤◌, max, min, Option, Some, None, IfSome, option_map, List, length}
-use Rattle.std.proofs.Common.{arith}
-use Rattle.afdx_port.specs.Facts.{Facts, AreLawful}
+use Rattle.std.specs.Prelude.{ℕ, max, min, Option, option_map, List, length}
+use Rattle.afdx_port.specs.Facts.{Facts}
 
 -- the caller's tag, how long it may wait for its turn in ns if there is a limit, and all bytes
 pub record Carried : Type 0 where
@@ -11,16 +10,13 @@ pub record Carried : Type 0 where
 
 -- in this order
 abbrev pub carried_with : ℕ → Option ℕ → List ℕ → Carried
-carried_with tag longest_wait bytes = record { tag = tag; longest_wait = longest_wait; bytes = bytes }
+carried_with tag longest_wait bytes =
+    record { tag = tag; longest_wait = longest_wait; bytes = bytes }
 
--- what a port knows of it. A frame that is accepted has 64 to 1518 bytes, and its limit, if there is one, is at most 100 ms
+-- what a port knows of it. A frame that is accepted has 64 to 1518 bytes, and its limit, if there
+-- is one, is at most 100 ms
 abbrev pub facts : Carried → Facts
-facts c = record { bytes = max 64 (min 1518 (length c.bytes)); longest_wait = option_map (λ wait. min 100000000 wait) c.longest_wait }
-
-limit-wait : (w : Option ℕ) → IfSome (option_map (λ wait. min 100000000 wait) w) (λ wait. wait ≤ 100000000)
-limit-wait None = tt
-limit-wait (Some wait) = omega arith
-
--- it is lawful
-pub facts-lawful : (c : Carried) → AreLawful (facts c)
-facts-lawful c = record { least = omega arith; most = omega arith; wait = limit-wait c.longest_wait }
+facts c = record {
+  bytes = max 64 (min 1518 (length c.bytes));
+  longest_wait = option_map (λ wait. min 100000000 wait) c.longest_wait;
+}

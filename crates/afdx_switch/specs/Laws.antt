@@ -19,39 +19,52 @@ use Rattle.afdx_switch.specs.declared.verdict.Verdict.TheVariants.{Accepted}
 use Rattle.afdx_switch.specs.Switching.{History, StandsFor, taken_at}
 use Rattle.afdx_switch.specs.declared.working.Working.{Working}
 
--- a verdict comes from the own arrivals of the link that the frame names: where those are equal, it is
+-- a verdict comes from the own arrivals of the link that the frame names: where those are equal, it
+-- is
 abbrev pub VerdictsAreOwn : Type 0
 VerdictsAreOwn = (t : Rows) (past other : List Arrival) (x : Arrival) →
-    IfSome (row_named t x.bytes) (λ r. own r.rule.vl x.side past ≡ own r.rule.vl x.side other) → reason_of t past x ≡ reason_of t other x
+    IfSome (row_named t x.bytes) (λ r. own r.rule.vl x.side past ≡ own r.rule.vl x.side other) →
+    reason_of t past x ≡ reason_of t other x
 
 -- what one more arrival adds to the entries of a port
-pub record EntriesStep (t : Rows) (side : Side) (port : ℕ) (x : Arrival) (past : List Arrival) : Type 0 where
+pub record EntriesStep (t : Rows) (side : Side) (port : ℕ) (x : Arrival)
+    (past : List Arrival) : Type 0 where
   -- nothing if it came to the other side, or is dropped
-  pub other_side : is_side side x.side ≡ false → entries_at t side port (x ∷ past) ≡ entries_at t side port past
-  pub dropped : (reason : Reason) → reason_of t past x ≡ Some reason → entries_at t x.side port (x ∷ past) ≡ entries_at t x.side port past
+  pub other_side : is_side side x.side ≡ false →
+      entries_at t side port (x ∷ past) ≡ entries_at t side port past
+  pub dropped : (reason : Reason) → reason_of t past x ≡ Some reason →
+      entries_at t x.side port (x ∷ past) ≡ entries_at t x.side port past
   -- or if its link doesn't go there, or it is lost there
-  pub elsewhere : (r : Row) → reason_of t past x ≡ None → row_named t x.bytes ≡ Some r → r.goes_to port ≡ false → entries_at t x.side port (x ∷ past) ≡ entries_at t x.side port past
-  pub lost : is_lost_at t past x port ≡ true → entries_at t x.side port (x ∷ past) ≡ entries_at t x.side port past
+  pub elsewhere : (r : Row) → reason_of t past x ≡ None → row_named t x.bytes ≡ Some r →
+      r.goes_to port ≡ false → entries_at t x.side port (x ∷ past) ≡ entries_at t x.side port past
+  pub lost : is_lost_at t past x port ≡ true →
+      entries_at t x.side port (x ∷ past) ≡ entries_at t x.side port past
   -- otherwise its own entry
-  pub entered : (r : Row) → reason_of t past x ≡ None → row_named t x.bytes ≡ Some r → r.goes_to port ≡ true → is_lost_at t past x port ≡ false →
-      entries_at t x.side port (x ∷ past) ≡ entries_at t x.side port past ++ entry_of (carried t) r x ∷ []
+  pub entered : (r : Row) → reason_of t past x ≡ None → row_named t x.bytes ≡ Some r →
+      r.goes_to port ≡ true → is_lost_at t past x port ≡ false →
+      entries_at t x.side port (x ∷ past) ≡ entries_at t x.side port past
+      ++ entry_of (carried t) r x ∷ []
 
 abbrev pub EntriesGrow : Type 0
-EntriesGrow = (t : Rows) (side : Side) (port : ℕ) (x : Arrival) (past : List Arrival) → IsLawful t → EntriesStep t side port x past
+EntriesGrow = (t : Rows) (side : Side) (port : ℕ) (x : Arrival) (past : List Arrival) → IsLawful t →
+    EntriesStep t side port x past
 
 -- the entry is of a frame of this link
 abbrev pub is_of : ℕ → Entry Carried → Bool
 is_of vl e = names vl e.item.bytes
 
--- the turns that a switch gave at a port are the first of the port's schedule, each next after those before it
+-- the turns that a switch gave at a port are the first of the port's schedule, each next after
+-- those before it
 abbrev pub TakenAreTurns : Type 0
-TakenAreTurns = (t : Rows) (side : Side) (w : Working) (h : History) (port : ℕ) → StandsFor t side w h → 1 ≤ port → port ≤ 24 →
+TakenAreTurns = (t : Rows) (side : Side) (w : Working) (h : History) (port : ℕ) →
+    StandsFor t side w h → 1 ≤ port → port ≤ 24 →
     AreTurns (byte_ns_at t port) (entries_at t side port h.arrivals) (taken_at port h.taken)
 
--- the frames of a link leave a port, or are dropped there as too old, in the order in which they came: those that have had
--- their turns, and then those that haven't, are its entries
+-- the frames of a link leave a port, or are dropped there as too old, in the order in which they
+-- came: those that have had their turns, and then those that haven't, are its entries
 abbrev pub LinksGoInOrder : Type 0
-LinksGoInOrder = (t : Rows) (side : Side) (w : Working) (h : History) (port vl : ℕ) → IsLawful t → StandsFor t side w h → 1 ≤ port → port ≤ 24 →
+LinksGoInOrder = (t : Rows) (side : Side) (w : Working) (h : History) (port vl : ℕ) → IsLawful t →
+    StandsFor t side w h → 1 ≤ port → port ≤ 24 →
     GoInOrder (is_of vl) (entries_at t side port h.arrivals) (taken_at port h.taken)
 
 -- an arrival on the other side changes nothing
@@ -59,16 +72,22 @@ abbrev pub with_other : History → Arrival → History
 with_other h x = record { arrivals = x ∷ h.arrivals; taken = h.taken; time = h.time }
 
 abbrev pub OtherSideIsApart : Type 0
-OtherSideIsApart = (t : Rows) (side : Side) (w : Working) (h : History) (x : Arrival) → StandsFor t side w h → is_side side x.side ≡ false → StandsFor t side w (with_other h x)
+OtherSideIsApart = (t : Rows) (side : Side) (w : Working) (h : History) (x : Arrival) →
+    StandsFor t side w h → is_side side x.side ≡ false → StandsFor t side w (with_other h x)
 
 -- the ports of an answer's set, in ascending order, are those at which the arrival is lost
 abbrev pub LostPortsAreListed : Type 0
-LostPortsAreListed = (t : Rows) (past : List Arrival) (x : Arrival) (lost : PortSet) → IsVerdict t past x (Accepted lost) → filter (holds lost) numbers ≡ lost_ports t past x
+LostPortsAreListed = (t : Rows) (past : List Arrival) (x : Arrival) (lost : PortSet) →
+    IsVerdict t past x (Accepted lost) → filter (holds lost) numbers ≡ lost_ports t past x
 
--- the output port of this number is that of the system that has it: it has the same line and the same entries
-pub record IsPortOf (t : Rows) (side : Side) (arrivals : List Arrival) (system : ℕ) (s : SystemRow) : Type 0 where
+-- the output port of this number is that of the system that has it: it has the same line and the
+-- same entries
+pub record IsPortOf (t : Rows) (side : Side) (arrivals : List Arrival) (system : ℕ)
+    (s : SystemRow) : Type 0 where
   pub line : byte_ns_at t s.port ≡ byte_ns s
   pub entries : entries_at t side s.port arrivals ≡ entries_to (carried t) t side system s arrivals
 
 abbrev pub PortsAreOfSystems : Type 0
-PortsAreOfSystems = (t : Rows) (side : Side) (arrivals : List Arrival) (system : ℕ) (s : SystemRow) → IsLawful t → slice_get t.systems system ≡ Some s → IsPortOf t side arrivals system s
+PortsAreOfSystems = (t : Rows) (side : Side) (arrivals : List Arrival) (system : ℕ)
+    (s : SystemRow) → IsLawful t → slice_get t.systems system ≡ Some s →
+    IsPortOf t side arrivals system s

@@ -1,8 +1,12 @@
 pub mod Ports
 pub mod Carried
+pub mod CarriedLaw
 pub mod Tables
 pub mod Verdicts
+pub mod Lines
 pub mod Switching
+pub mod Sound
+pub mod Shares
 pub mod New
 pub mod Laws
 pub mod Admitted

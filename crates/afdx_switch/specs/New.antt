@@ -8,7 +8,8 @@ use Rattle.afdx_port.specs.declared.pending.Pending.{Pending}
 use Rattle.afdx_bounds.specs.Outputs.{Row}
 use Rattle.afdx_switch.specs.Carried.{Carried, facts}
 use Rattle.afdx_switch.specs.Tables.{byte_ns_at}
-use Rattle.afdx_switch.specs.Switching.{IsLine, IsLineSound}
+use Rattle.afdx_switch.specs.Lines.{IsLine}
+use Rattle.afdx_switch.specs.Sound.{IsLineSound}
 use Rattle.afdx_switch.specs.declared.line.Line.{Line}
 
 -- of the link of a row, before anything came

@@ -1,4 +1,5 @@
--- A link's stream at its sender's port that keeps the link's gap. A list of arrivals has the newest first.
+-- A link's stream at its sender's port that keeps the link's gap. A list of arrivals has the newest
+-- first.
 use Rattle.std.specs.Prelude.{ℕ, ◌==◌, List, filter, map}
 use Rattle.std.specs.List.{AllByRecursion}
 use Rattle.afdx_police.specs.Arrival.{Arrival}
@@ -17,7 +18,8 @@ at_port rule own = filter (λ x. rule.port == x.port) own
 abbrev pub AreSound : Rule → List Arrival → Type 0
 AreSound rule arrivals = AllByRecursion (λ x. IsSound rule x.port x.bytes) arrivals
 
--- those at its port are sound, and each was released a gap or more after the one before, and came at most the jitter later
+-- those at its port are sound, and each was released a gap or more after the one before, and came
+-- at most the jitter later
 pub record IsRegularAt (rule : Rule) (own : List Arrival) : Type 0 where
   pub sound : AreSound rule (at_port rule own)
   pub next : ℕ

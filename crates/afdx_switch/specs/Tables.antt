@@ -20,7 +20,8 @@ port_of t system = option_map_or (λ s. s.port) (slice_get t.systems system) 0
 unfoldable pub rule_of : Rows → LinkRow → Rule
 rule_of t l = rule_with l.vl (port_of t l.from) l.bag_ms l.lmin l.lmax l.jitter_us l.policing
 
--- how long a frame of the link may wait for its turn, in ns: its link's latency in profile 2, for ever in profile 1
+-- how long a frame of the link may wait for its turn, in ns: its link's latency in profile 2, for
+-- ever in profile 1
 unfoldable pub longest_wait_of : Rows → LinkRow → Option ℕ
 longest_wait_of t l = if t.profile == 2 then Some (1000 * l.latency_us) else None
 
@@ -29,12 +30,19 @@ unfoldable pub goes_to : Rows → LinkRow → ℕ → Bool
 goes_to t l port = option_map_or (λ system. is_to system l) (system_at_port t.systems port) false
 
 abbrev pub row_of : Rows → LinkRow → Row
-row_of t l = record { rule = rule_of t l; priority = l.priority; latency = 1000 * l.latency_us; longest_wait = longest_wait_of t l; goes_to = goes_to t l }
+row_of t l = record {
+  rule = rule_of t l;
+  priority = l.priority;
+  latency = 1000 * l.latency_us;
+  longest_wait = longest_wait_of t l;
+  goes_to = goes_to t l;
+}
 
 unfoldable pub rows_of : Rows → List Row
 rows_of t = map (row_of t) t.links
 
--- the time of a byte in ns on the line of the system at this place; a port that no system has is taken as one of 100 Mbit/s
+-- the time of a byte in ns on the line of the system at this place; a port that no system has is
+-- taken as one of 100 Mbit/s
 abbrev pub byte_ns_of : Rows → Option ℕ → ℕ
 byte_ns_of t None = 80
 byte_ns_of t (Some system) = option_map_or byte_ns (slice_get t.systems system) 80
@@ -44,7 +52,8 @@ byte_ns_at t port = byte_ns_of t (system_at_port t.systems port)
 
 -- an output port of the switch of a side
 abbrev pub output_at : Rows → Side → ℕ → Output
-output_at t side port = record { side = side; number = port; byte_ns = byte_ns_at t port; buffer = t.buffer }
+output_at t side port =
+    record { side = side; number = port; byte_ns = byte_ns_at t port; buffer = t.buffer }
 
 -- the row of the link that the bytes of a frame name
 unfoldable pub row_named : Rows → List ℕ → Option Row
@@ -60,4 +69,5 @@ carried t x = record { tag = x.tag; longest_wait = wait_of (row_named t x.bytes)
 
 -- the entries of an output port, after these arrivals, the newest first
 abbrev pub entries_at : Rows → Side → ℕ → List Arrival → List (Entry Carried)
-entries_at t side port arrivals = output.entries_at (carried t) (rows_of t) (output_at t side port) arrivals
+entries_at t side port arrivals =
+    output.entries_at (carried t) (rows_of t) (output_at t side port) arrivals

@@ -1,4 +1,5 @@
--- What one switch decides of an arrival, after these earlier ones. A list of arrivals has the newest first.
+-- What one switch decides of an arrival, after these earlier ones. A list of arrivals has the
+-- newest first.
 use Rattle.std.specs.Prelude.{◌≡◌, ℕ, ◌≤◌, Bool, true, false, Option, Some, None, List, [], ◌∷◌, filter, find}
 use Rattle.afdx_config.specs.Rows.{Rows}
 use Rattle.afdx_police.specs.Arrival.{Arrival}
@@ -20,18 +21,29 @@ reason_on past x (Some r) = verdict_in r.rule past x
 unfoldable pub reason_of : Rows → List Arrival → Arrival → Option Reason
 reason_of t past x = reason_on past x (row_named t x.bytes)
 
+-- what is wrong with the shape of an arrival that names this link, if something is
+abbrev pub fault_on : Arrival → Option Row → Option Reason
+fault_on x None = fault_of None x.port x.bytes
+fault_on x (Some r) = fault_of (Some r.rule) x.port x.bytes
+
+unfoldable pub shape_fault : Rows → Arrival → Option Reason
+shape_fault t x = fault_on x (row_named t x.bytes)
+
 -- a frame that its link's row sends to this port is lost there: what waits leaves no room for it
 abbrev pub is_share_lost : Rows → List Arrival → Arrival → ℕ → Option Row → Bool
 is_share_lost t past x port None = false
-is_share_lost t past x port (Some r) = is_lost (byte_ns_at t port) t.buffer (entries_at t x.side port past) (entry_of (carried t) r x)
+is_share_lost t past x port (Some r) =
+    is_lost (byte_ns_at t port) t.buffer (entries_at t x.side port past) (entry_of (carried t) r x)
 
 -- the arrival is accepted, goes to this port, and is lost there
 unfoldable pub is_lost_at : Rows → List Arrival → Arrival → ℕ → Bool
-is_lost_at t past x port = is_share_lost t past x port (find (sends (output_at t x.side port) past x) (rows_of t))
+is_lost_at t past x port =
+    is_share_lost t past x port (find (sends (output_at t x.side port) past x) (rows_of t))
 
 -- the ports of a switch
 abbrev pub numbers : List ℕ
-numbers = 1 ∷ 2 ∷ 3 ∷ 4 ∷ 5 ∷ 6 ∷ 7 ∷ 8 ∷ 9 ∷ 10 ∷ 11 ∷ 12 ∷ 13 ∷ 14 ∷ 15 ∷ 16 ∷ 17 ∷ 18 ∷ 19 ∷ 20 ∷ 21 ∷ 22 ∷ 23 ∷ 24 ∷ []
+numbers = 1 ∷ 2 ∷ 3 ∷ 4 ∷ 5 ∷ 6 ∷ 7 ∷ 8 ∷ 9 ∷ 10 ∷ 11 ∷ 12 ∷ 13 ∷ 14 ∷ 15 ∷ 16 ∷ 17 ∷ 18 ∷ 19 ∷ 20 ∷
+    21 ∷ 22 ∷ 23 ∷ 24 ∷ []
 
 -- the ports at which it is lost, in ascending order
 unfoldable pub lost_ports : Rows → List Arrival → Arrival → List ℕ

@@ -9,7 +9,8 @@ ghost use Rattle.afdx_port.specs.Held.{IsByteTime};
 ghost use Rattle.afdx_port.specs.declared.pending.Pending.{Pending};
 ghost use Rattle.afdx_switch.specs.Carried.{Carried};
 ghost use Rattle.afdx_switch.specs.Tables.{row_of, rows_of, goes_to, byte_ns_at, longest_wait_of};
-ghost use Rattle.afdx_switch.specs.Switching.{IsSound, IsQuiet, StandsFor, no_calls, last_time, frames_held};
+ghost use Rattle.afdx_switch.specs.Sound.{IsSound};
+ghost use Rattle.afdx_switch.specs.Switching.{IsQuiet, StandsFor, no_calls, last_time, frames_held};
 ghost use Rattle.afdx_switch.specs.New.{IsNewLine, IsNewPort};
 ghost use Rattle.afdx_switch.specs.declared.line.Line.{Line};
 
@@ -19,7 +20,7 @@ use crate::working::Working;
 use afdx_config::{Link, Tables};
 use afdx_frame::VlId;
 use afdx_police::{LinkAccount, LinkRule};
-use afdx_port::Port;
+use afdx_port::{Port, first_of};
 use arrayvec::ArrayVec;
 use std::alloc::{AllocError, Global};
 
@@ -39,7 +40,8 @@ fn byte_ns(tables: &Tables, port: u8) -> u64
 #[tactic(auto, unfolding(crate::specs::Tables::goes_to))]
 fn goes(tables: &Tables, link: usize, port: u8) -> bool
     requires { link < length tables.now.links }
-    ensures { (l : LinkRow) → slice_get tables.now.links link ≡ Some l → result ≡ goes_to tables.now l port }
+    ensures { (l : LinkRow) → slice_get tables.now.links link ≡ Some l →
+        result ≡ goes_to tables.now l port }
 {
     match tables.system_at(port) {
         Some(system) => tables.goes_to(link, system),
@@ -65,7 +67,8 @@ fn longest_wait(tables: &Tables, link: &Link) -> Option<u64>
 fn ports_of(tables: &Tables, link: usize) -> ArrayVec<bool, 24>
     requires { link < length tables.now.links }
     ensures count { length result.items ≡ 24 }
-    ensures each { (l : LinkRow) (place : ℕ) → slice_get tables.now.links link ≡ Some l → place < 24 → slice_get result.items place ≡ Some (goes_to tables.now l (place + 1)) }
+    ensures each { (l : LinkRow) (place : ℕ) → slice_get tables.now.links link ≡ Some l →
+        place < 24 → slice_get result.items place ≡ Some (goes_to tables.now l (place + 1)) }
 {
     let mut ports = ArrayVec::new();
     for place in 0..24_u8 {
@@ -77,7 +80,8 @@ fn ports_of(tables: &Tables, link: usize) -> ArrayVec<bool, 24>
 /// What the switch keeps of the link at this place.
 fn line(tables: &Tables, place: usize) -> Line
     requires { place < length tables.now.links }
-    ensures { (l : LinkRow) → slice_get tables.now.links place ≡ Some l → IsNewLine (row_of tables.now l) result }
+    ensures { (l : LinkRow) → slice_get tables.now.links place ≡ Some l →
+        IsNewLine (row_of tables.now l) result }
 {
     let link = tables.link(place);
     let sender = tables.system(link.from);
@@ -103,7 +107,9 @@ fn line(tables: &Tables, place: usize) -> Line
 fn lines(alloc: Global, tables: &Tables) -> Result<Vec<Line>, AllocError>
     ensures lawful { IsLawful tables.now }
     ensures count { IfOk result (λ v. vec_len v ≡ length tables.now.links) }
-    ensures each { IfOk result (λ v. (i : ℕ) (l : LinkRow) (line : Line) → slice_get tables.now.links i ≡ Some l → slice_get v.items i ≡ Some line → IsNewLine (row_of tables.now l) line) }
+    ensures each { IfOk result (λ v. (i : ℕ) (l : LinkRow) (line : Line) →
+        slice_get tables.now.links i ≡ Some l → slice_get v.items i ≡ Some line →
+        IsNewLine (row_of tables.now l) line) }
 {
     let mut lines = Vec::new(alloc);
     for place in 0..tables.link_count() {
@@ -127,7 +133,8 @@ fn place(tables: &Tables, vl: u16) -> Option<u16>
 fn places(alloc: Global, tables: &Tables) -> Result<Vec<Option<u16>>, AllocError>
     requires { length tables.now.links ≤ 4096 }
     ensures count { IfOk result (λ v. vec_len v ≡ 65536) }
-    ensures each { IfOk result (λ v. (vl : ℕ) (place : Option ℕ) → slice_get v.items vl ≡ Some place → place ≡ link_of tables.now.links vl) }
+    ensures each { IfOk result (λ v. (vl : ℕ) (place : Option ℕ) →
+        slice_get v.items vl ≡ Some place → place ≡ link_of tables.now.links vl) }
 {
     let mut places = Vec::new(alloc);
     for vl in 0..65536_u32 {
@@ -138,7 +145,8 @@ fn places(alloc: Global, tables: &Tables) -> Result<Vec<Option<u16>>, AllocError
 
 fn ports(alloc: Global, tables: &Tables) -> Result<Vec<Port<Frame>>, AllocError>
     ensures count { IfOk result (λ v. vec_len v ≡ 24) }
-    ensures each { IfOk result (λ v. (i : ℕ) (p : Pending Carried) → slice_get v.items i ≡ Some p → IsNewPort tables.now i p) }
+    ensures each { IfOk result (λ v. (i : ℕ) (p : Pending Carried) → slice_get v.items i ≡ Some p →
+        IsNewPort tables.now i p) }
 {
     let mut ports = Vec::new(alloc);
     for place in 0..24_u8 {
@@ -159,11 +167,13 @@ pub(crate) fn build(alloc: Global, tables: &Tables) -> Result<Working, AllocErro
     let lines = lines(alloc, tables)?;
     let places = places(alloc, tables)?;
     let ports = ports(alloc, tables)?;
+    let first = first_of(&ports);
     Ok(Working {
         alloc,
         clock: 0,
         lines,
         places,
         ports,
+        first,
     })
 }

@@ -1,3 +1,4 @@
+//! The shares of a frame's one copy.
 ghost use Rattle.std.specs.Prelude.{◌≡◌, ◌≤◌, length, IfOk, IfSome};
 
 use afdx_port::HasLength;
@@ -23,7 +24,9 @@ impl Model for Frame {
 
     ghost view = { λ f. record { tag = f.tag; longest_wait = f.longest_wait; bytes = f.bytes.value.items } };
 
-    ghost invariant = { λ f. (64 ≤ length f.bytes.value.items) × (length f.bytes.value.items ≤ 1518) × IfSome f.longest_wait (λ wait. wait ≤ 100000000) × (is_sealed f.bytes.value.items ≡ true) };
+    ghost invariant = { λ f. (64 ≤ length f.bytes.value.items) × (length f.bytes.value.items ≤ 1518)
+        × IfSome f.longest_wait (λ wait. wait ≤ 100000000)
+        × (is_sealed f.bytes.value.items ≡ true) };
 }
 
 impl Frame {
@@ -80,7 +83,8 @@ impl Frame {
 }
 
 impl HasLength for Frame {
-    ghost use Rattle.afdx_switch.specs.Carried.{facts, facts-lawful};
+    ghost use Rattle.afdx_switch.specs.CarriedLaw.{facts-lawful};
+    ghost use Rattle.afdx_switch.specs.Carried.{facts};
 
     ghost facts = { facts };
 

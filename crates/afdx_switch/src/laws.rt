@@ -1,4 +1,5 @@
-//! What is true of the definitions, and of each switch that stands for calls, for the crates that stand on them.
+//! What is true of the definitions, and of each switch that stands for calls, for the crates that
+//! stand on them.
 ghost use Rattle.afdx_switch.specs.Admitted.{AcceptedIsKept, AcceptedEnter, TurnsAreInTime, AllHaveLeft};
 ghost use Rattle.afdx_switch.specs.Laws.{VerdictsAreOwn, EntriesGrow, TakenAreTurns, LinksGoInOrder, OtherSideIsApart, LostPortsAreListed, PortsAreOfSystems};
 
@@ -7,13 +8,14 @@ pub fn verdicts_are_own()
     ensures { VerdictsAreOwn }
 {}
 
-/// What one more arrival adds to the entries of an output port: its own entry exactly if it came to the port's side, is
-/// accepted, goes there and isn't lost there.
+/// What one more arrival adds to the entries of an output port: its own entry exactly if it came to
+/// the port's side, is accepted, goes there and isn't lost there.
 pub fn entries_grow()
     ensures { EntriesGrow }
 {}
 
-/// The turns that a switch gave at a port are turns of the port's entries, each next after those before it.
+/// The turns that a switch gave at a port are turns of the port's entries, each next after those
+/// before it.
 pub fn taken_are_turns()
     ensures { TakenAreTurns }
 {}
@@ -33,14 +35,16 @@ pub fn lost_ports_are_listed()
     ensures { LostPortsAreListed }
 {}
 
-/// An output port by number is that of the system that has it: what is true of the ports of admitted tables is true of a switch's.
+/// An output port by number is that of the system that has it: what is true of the ports of
+/// admitted tables is true of a switch's.
 pub fn ports_are_of_systems()
     ensures { PortsAreOfSystems }
 {}
 
-/// Admitted tables, whatever arrives: an accepted frame is lost nowhere. At each port that a link goes to exactly its accepted
-/// frames enter, in the order in which they came, and at others none. Their turns are slots that end within its latency, and
-/// each whose latency is over has had its turn where no further one is given.
+/// Admitted tables, whatever arrives: an accepted frame is lost nowhere. At each port that a link
+/// goes to exactly its accepted frames enter, in the order in which they came, and at others none.
+/// Their turns are slots that end within its latency, and each whose latency is over has had its
+/// turn where no further one is given.
 pub fn admitted_switch_keeps_all()
     ensures kept { AcceptedIsKept }
     ensures enter { AcceptedEnter }

@@ -1,4 +1,5 @@
-ghost use Rattle.std.specs.Prelude.{◌≡◌, ℕ, ◌<◌, ◌⊎◌, false, true, not, if◌then◌else◌};
+//! Sets of output ports.
+ghost use Rattle.std.specs.Prelude.{◌≡◌, ◌↔◌, ℕ, ◌<◌, ◌⊎◌, false, true, IsTrue};
 ghost use Rattle.std.specs.List.{list_any};
 ghost use Rattle.std.specs.Prelude.{◌==◌};
 
@@ -38,7 +39,7 @@ impl PortSet {
 
     /// Whether no port is.
     pub fn is_empty(&self) -> bool
-        ensures { result ≡ not (list_any (λ held. held) self.now.ports) }
+        ensures { IsTrue result ↔ ((p : ℕ) → holds self.now p ≡ false) }
     {
         !any_held(self.ports.as_slice())
     }

@@ -1,4 +1,5 @@
-ghost use Rattle.std.specs.Prelude.{◌≡◌, ◌↔◌, ℕ, ◌≤◌, ◌+◌, IfOk, OnOk, OnErr, IfSome, IfNone, MatchOption, ◌∷◌, Some, slice_get, true};
+//! One switch, as its callers see it.
+ghost use Rattle.std.specs.Prelude.{◌≡◌, ◌↔◌, ℕ, ◌≤◌, ◌+◌, IfOk, OnOk, OnErr, IfSome, IfNone, MatchOption, ◌∷◌, Some, slice_get, true, None};
 
 use crate::build::build;
 use crate::frame::Frame;
@@ -66,7 +67,7 @@ pub struct Switch {
 
 impl Model for Switch {
     ghost use Rattle.afdx_switch.specs.declared.working.Working.{Working};
-    ghost use Rattle.afdx_switch.specs.Switching.{IsSound};
+    ghost use Rattle.afdx_switch.specs.Sound.{IsSound};
 
     ghost Value = { Working };
 
@@ -88,7 +89,7 @@ impl Switch {
     ghost use Rattle.afdx_switch.specs.Admitted.{IsAdmittedRun, LosesNothing, IsInTime, HaveLeft};
     ghost use Rattle.afdx_switch.specs.Tables.{rule_of, entries_at};
     ghost use Rattle.afdx_switch.specs.Regular.{IsRegularAt, IsAccepted};
-    ghost use Rattle.afdx_switch.specs.Verdicts.{IsVerdict};
+    ghost use Rattle.afdx_switch.specs.Verdicts.{IsVerdict, shape_fault};
     ghost use Rattle.afdx_switch.specs.Switching.{History, StandsFor, IsQuiet, IsNextAt, IsDue, IsDone, Gives, no_calls, with_arrival, at, taken_at, frames_held, last_time};
 
     /// A switch of these tables at time 0, with full accounts and idle ports.
@@ -105,11 +106,13 @@ impl Switch {
         })
     }
 
-    /// Filters and polices a frame that arrives at `time`, in ns, at an input port, and offers it to the output ports of its link.
+    /// Filters and polices a frame that arrives at `time`, in ns, at an input port, and offers it
+    /// to the output ports of its link.
     ///
-    /// `time` isn't before the last time used and is at most 1,000,032,768,000,000; `take(time)` would give nothing.
-    /// `tag` is handed back with the frame's departures.
-    /// The error says that memory was refused: then nothing has changed.
+    /// `time` isn't before the last time used and is at most 1,000,032,768,000,000; `take(time)`
+    /// would give nothing. `tag` is handed back with the frame's departures. The error says that
+    /// memory was refused: then nothing has changed. A frame that is dropped for its shape needs
+    /// none.
     pub fn arrive(
         &mut self,
         time: u64,
@@ -123,11 +126,18 @@ impl Switch {
         ensures verdict { (t : Rows) (side : Side) (h : History) → StandsFor t side self.old h →
             IfOk result (IsVerdict t h.arrivals (arrival_with tag time side port bytes.now)) }
         ensures stands { (t : Rows) (side : Side) (h : History) → StandsFor t side self.old h →
-            OnOk result (StandsFor t side self.new (with_arrival h (arrival_with tag time side port bytes.now))) }
-        ensures kept { (t : Rows) (side : Side) (h : History) → StandsFor t side self.old h → IsAdmittedRun t (arrival_with tag time side port bytes.now ∷ h.arrivals) →
+            let arrival = arrival_with tag time side port bytes.now in
+            OnOk result (StandsFor t side self.new (with_arrival h arrival)) }
+        ensures kept { (t : Rows) (side : Side) (h : History) → StandsFor t side self.old h →
+            IsAdmittedRun t (arrival_with tag time side port bytes.now ∷ h.arrivals) →
             IfOk result LosesNothing }
-        ensures regular { (t : Rows) (side : Side) (h : History) (place : ℕ) (l : LinkRow) → StandsFor t side self.old h → IsLawful t → slice_get t.links place ≡ Some l → names l.vl bytes.now ≡ true →
-            (rule_of t l).port ≡ port → IsRegularAt (rule_of t l) (own l.vl side (arrival_with tag time side port bytes.now ∷ h.arrivals)) → IfOk result IsAccepted }
+        ensures regular { (t : Rows) (side : Side) (h : History) (place : ℕ) (l : LinkRow) →
+            StandsFor t side self.old h → IsLawful t → slice_get t.links place ≡ Some l →
+            names l.vl bytes.now ≡ true → (rule_of t l).port ≡ port →
+            let own = own l.vl side (arrival_with tag time side port bytes.now ∷ h.arrivals) in
+            IsRegularAt (rule_of t l) own → IfOk result IsAccepted }
+        ensures judged { (t : Rows) (side : Side) (h : History) → StandsFor t side self.old h →
+            OnErr result (shape_fault t (arrival_with tag time side port bytes.now) ≡ None) }
         ensures refused { OnErr result (self.new ≡ self.old) }
         ensures quiet { IsQuiet self.new time }
         ensures held { frames_held self.new ≤ frames_held self.old + 24 }
@@ -136,8 +146,8 @@ impl Switch {
         self.arrive_checked(time, port, tag, bytes, is_sealed(bytes))
     }
 
-    /// Takes in a frame of which it is known whether its bytes end with their check sequence, and doesn't read that again:
-    /// `sealed` is what `is_sealed` answers. It is `arrive` otherwise.
+    /// Takes in a frame of which it is known whether its bytes end with their check sequence, and
+    /// doesn't read that again: `sealed` is what `is_sealed` answers. It is `arrive` otherwise.
     pub fn arrive_checked(
         &mut self,
         time: u64,
@@ -153,11 +163,18 @@ impl Switch {
         ensures verdict { (t : Rows) (side : Side) (h : History) → StandsFor t side self.old h →
             IfOk result (IsVerdict t h.arrivals (arrival_with tag time side port bytes.now)) }
         ensures stands { (t : Rows) (side : Side) (h : History) → StandsFor t side self.old h →
-            OnOk result (StandsFor t side self.new (with_arrival h (arrival_with tag time side port bytes.now))) }
-        ensures kept { (t : Rows) (side : Side) (h : History) → StandsFor t side self.old h → IsAdmittedRun t (arrival_with tag time side port bytes.now ∷ h.arrivals) →
+            let arrival = arrival_with tag time side port bytes.now in
+            OnOk result (StandsFor t side self.new (with_arrival h arrival)) }
+        ensures kept { (t : Rows) (side : Side) (h : History) → StandsFor t side self.old h →
+            IsAdmittedRun t (arrival_with tag time side port bytes.now ∷ h.arrivals) →
             IfOk result LosesNothing }
-        ensures regular { (t : Rows) (side : Side) (h : History) (place : ℕ) (l : LinkRow) → StandsFor t side self.old h → IsLawful t → slice_get t.links place ≡ Some l → names l.vl bytes.now ≡ true →
-            (rule_of t l).port ≡ port → IsRegularAt (rule_of t l) (own l.vl side (arrival_with tag time side port bytes.now ∷ h.arrivals)) → IfOk result IsAccepted }
+        ensures regular { (t : Rows) (side : Side) (h : History) (place : ℕ) (l : LinkRow) →
+            StandsFor t side self.old h → IsLawful t → slice_get t.links place ≡ Some l →
+            names l.vl bytes.now ≡ true → (rule_of t l).port ≡ port →
+            let own = own l.vl side (arrival_with tag time side port bytes.now ∷ h.arrivals) in
+            IsRegularAt (rule_of t l) own → IfOk result IsAccepted }
+        ensures judged { (t : Rows) (side : Side) (h : History) → StandsFor t side self.old h →
+            OnErr result (shape_fault t (arrival_with tag time side port bytes.now) ≡ None) }
         ensures refused { OnErr result (self.new ≡ self.old) }
         ensures quiet { IsQuiet self.new time }
         ensures held { frames_held self.new ≤ frames_held self.old + 24 }
@@ -166,33 +183,48 @@ impl Switch {
         self.working.arrive(time, port, tag, bytes, sealed)
     }
 
-    /// When the next turn of all ports will be over if no frame arrives before, and whether it is a drop.
-    /// None if each frame that was accepted and not lost has had its turn at each port.
+    /// When the next turn of all ports will be over if no frame arrives before, and whether it is a
+    /// drop. None if each frame that was accepted and not lost has had its turn at each port.
     pub fn due(&self) -> Option<Due>
-        ensures comes { (t : Rows) (side : Side) (h : History) → StandsFor t side self.now h → IfSome result (λ due. IsDue t side h due) }
-        ensures all_done { (t : Rows) (side : Side) (h : History) (port : ℕ) → StandsFor t side self.now h → 1 ≤ port → port ≤ 24 → IfNone result (IsDone t side h port) }
-        ensures quiet { (time : ℕ) → IsQuiet self.now time ↔ IfSome result (λ due. IsAfter time due) }
+        ensures comes { (t : Rows) (side : Side) (h : History) → StandsFor t side self.now h →
+            IfSome result (λ due. IsDue t side h due) }
+        ensures all_done { (t : Rows) (side : Side) (h : History) (port : ℕ) →
+            StandsFor t side self.now h → 1 ≤ port → port ≤ 24 →
+            IfNone result (IsDone t side h port) }
+        ensures quiet { (time : ℕ) → IsQuiet self.now time ↔
+            IfSome result (λ due. IsAfter time due) }
         ensures limit { IfSome result (λ due. given_at due ≤ 1200000000000000) }
     {
         self.working.due()
     }
 
-    /// The next frame that leaves, or is dropped as too old, by `until`, in ns: a slot that ends at or before `until`,
-    /// or a drop whose moment is before `until`. They go by time, at one time those that leave before those too old, then by port.
-    /// If `until` is 1.2e15 or later, None says that each frame that was accepted and not lost has had its turn at each port.
+    /// The next frame that leaves, or is dropped as too old, by `until`, in ns: a slot that ends at
+    /// or before `until`, or a drop whose moment is before `until`. They go by time, at one time
+    /// those that leave before those too old, then by port. If `until` is 1.2e15 or later, None
+    /// says that each frame that was accepted and not lost has had its turn at each port.
     pub fn take(&mut self, until: u64) -> Option<Departure>
         requires clock { last_time self.old ≤ until }
-        ensures given { (t : Rows) (side : Side) (h : History) → StandsFor t side self.old h → IfSome result (λ d. Gives t side h until d self.new) }
-        ensures none { (t : Rows) (side : Side) (h : History) → StandsFor t side self.old h → IfNone result (StandsFor t side self.new (at h until)) }
-        ensures no_more { (t : Rows) (side : Side) (h : History) (port : ℕ) (s : Turn Carried) → StandsFor t side self.old h → 1 ≤ port → port ≤ 24 → IsNextAt t side h port s →
+        ensures given { (t : Rows) (side : Side) (h : History) → StandsFor t side self.old h →
+            IfSome result (λ d. Gives t side h until d self.new) }
+        ensures none { (t : Rows) (side : Side) (h : History) → StandsFor t side self.old h →
+            IfNone result (StandsFor t side self.new (at h until)) }
+        ensures no_more { (t : Rows) (side : Side) (h : History) (port : ℕ) (s : Turn Carried) →
+            StandsFor t side self.old h → 1 ≤ port → port ≤ 24 → IsNextAt t side h port s →
             IfNone result (IsAfter until (due_at s)) }
-        ensures in_time { (t : Rows) (side : Side) (h : History) → IsAdmittedRun t h.arrivals → IfSome result (λ d. (g : Gives t side h until d self.new) → IsInTime t g.gone.turn) }
-        ensures left { (t : Rows) (side : Side) (h : History) (port place : ℕ) (l : LinkRow) → StandsFor t side self.old h → IsAdmittedRun t h.arrivals → 1 ≤ port → port ≤ 24 →
-            slice_get t.links place ≡ Some l → IfNone result (HaveLeft l until (entries_at t side port h.arrivals) (taken_at port h.taken)) }
-        ensures all_done { (t : Rows) (side : Side) (h : History) (port : ℕ) → StandsFor t side self.old h → 1200000000000000 ≤ until → 1 ≤ port → port ≤ 24 → IfNone result (IsDone t side h port) }
+        ensures in_time { (t : Rows) (side : Side) (h : History) → IsAdmittedRun t h.arrivals →
+            IfSome result (λ d. (g : Gives t side h until d self.new) → IsInTime t g.gone.turn) }
+        ensures left { (t : Rows) (side : Side) (h : History) (port place : ℕ) (l : LinkRow) →
+            StandsFor t side self.old h → IsAdmittedRun t h.arrivals → 1 ≤ port → port ≤ 24 →
+            slice_get t.links place ≡ Some l →
+            let entries = entries_at t side port h.arrivals in
+            IfNone result (HaveLeft l until entries (taken_at port h.taken)) }
+        ensures all_done { (t : Rows) (side : Side) (h : History) (port : ℕ) →
+            StandsFor t side self.old h → 1200000000000000 ≤ until → 1 ≤ port → port ≤ 24 →
+            IfNone result (IsDone t side h port) }
         ensures gives { IfNone result (IsQuiet self.old until) }
         ensures quiet { IfNone result (IsQuiet self.new until) }
-        ensures held { MatchOption result (frames_held self.new ≡ frames_held self.old) (λ _. frames_held self.new + 1 ≡ frames_held self.old) }
+        ensures held { MatchOption result (frames_held self.new ≡ frames_held self.old)
+            (λ _. frames_held self.new + 1 ≡ frames_held self.old) }
         ensures clock { last_time self.new ≡ until }
     {
         self.working.take(until)

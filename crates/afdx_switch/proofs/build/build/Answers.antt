@@ -1,8 +1,10 @@
 use Rattle.std.proofs.Common.{sym, ◌∙◌, subst, arith, refl, Some, []}
 use Rattle.std.proofs.lemmas.Option.{slice_get_within}
 use Rattle.afdx_port.specs.Held as held
+use Rattle.afdx_port.specs.Ports.{AreServed}
 use Rattle.afdx_switch.specs.Carried.{facts}
-use Rattle.afdx_switch.specs.Switching.{IsLine, IsLineSound, IsPortSound}
+use Rattle.afdx_switch.specs.Lines.{IsLine}
+use Rattle.afdx_switch.specs.Sound.{IsLineSound, IsPortSound}
 use Rattle.afdx_switch.proofs.StandsLemmas.{all-from, found-at}
 use Rattle.afdx_switch.proofs.NewLemmas.{row-here, row-is, place-of, port-stands, sum-none, rows-counted}
 use Rattle.afdx_switch.proofs.build.build.Goals as goal
@@ -20,6 +22,7 @@ returns-clause-sound c = record {
   ports = all-from (IsPortSound 0) c.in_ok-ports.ports.items (λ i p at.
       let new = c.in_ok-ports.ensures.each i p at in
       record { in_time = omega (arith, new.clock); calls = _; stands = new.stands });
+  served = subst (λ ps. AreServed facts ps c.first_of-first.result) c.deref.ensures.value c.first_of-first.ensures;
 }
 
 pub returns-clause-stands : goal.returns-clause-stands

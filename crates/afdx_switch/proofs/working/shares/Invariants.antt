@@ -1,7 +1,7 @@
 use Rattle.std.proofs.Common.{◌≡◌, take}
 use Rattle.std.specs.Prelude.{map}
 use Rattle.afdx_switch.specs.Carried.{carried_with}
-use Rattle.afdx_switch.specs.Switching.{share_of}
+use Rattle.afdx_switch.specs.Shares.{share_of}
 use Rattle.afdx_switch.proofs.working.shares.Given as goal
 
 abbrev pub invariant-loop-goes : goal.invariant-loop-goes

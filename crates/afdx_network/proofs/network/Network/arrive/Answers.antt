@@ -23,3 +23,9 @@ returns-in-B-clause-stands c t events st =
     rw c.in-B.is (on-ok c.arrive_checked-in-B.result _ _
     (λ is. stands-came-b t c.args.self.now events st c.arrive_checked-in-B.new.self c.args.tag c.args.time c.args.port c.args.bytes.now c.requires.clock is c.requires.quiet.on_a c.arrive_checked-in-B.ensures.quiet)
     (c.arrive_checked-in-B.ensures.stands t B (calls_on B events (switch.last_time c.args.self.now.b)) st.on_b))
+
+pub returns-in-A-clause-judged : goal.returns-in-A-clause-judged
+returns-in-A-clause-judged c t events st = rw c.in-A.is (c.arrive_checked.ensures.judged t A (calls_on A events (switch.last_time c.args.self.now.a)) st.on_a)
+
+pub returns-in-B-clause-judged : goal.returns-in-B-clause-judged
+returns-in-B-clause-judged c t events st = rw c.in-B.is (c.arrive_checked-in-B.ensures.judged t B (calls_on B events (switch.last_time c.args.self.now.b)) st.on_b)

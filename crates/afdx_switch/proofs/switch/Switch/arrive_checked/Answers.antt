@@ -6,6 +6,9 @@ use Rattle.afdx_switch.proofs.switch.Switch.arrive_checked.Goals as goal
 pub returns-clause-verdict : goal.returns-clause-verdict
 returns-clause-verdict c t side h st = c.arrive.ensures.verdict t side h (rw (← c.self.view_is) at st)
 
+pub returns-clause-judged : goal.returns-clause-judged
+returns-clause-judged c t side h st = c.arrive.ensures.judged t side h (rw (← c.self.view_is) at st)
+
 pub returns-clause-kept : goal.returns-clause-kept
 returns-clause-kept c t side h st run =
     verdict-kept c.arrive.result t h.arrivals (arrival_with c.args.tag c.args.time side c.args.port c.args.bytes.now) run (c.arrive.ensures.verdict t side h (rw (← c.self.view_is) at st))

@@ -7,11 +7,14 @@ use Rattle.afdx_police.specs.RuleOf.{rule_of}
 use Rattle.afdx_police.specs.Shape.{fault_of}
 use Rattle.afdx_police.specs.Verdicts.{reason_after}
 use Rattle.afdx_police.specs.declared.shape.Reason.TheVariants.{UnknownLink, OverRate}
-use Rattle.afdx_switch.specs.Carried.{carried_with}
+use Rattle.afdx_port.specs.Ports.{AreServed}
+use Rattle.afdx_switch.specs.Carried.{carried_with, facts}
 use Rattle.afdx_switch.specs.declared.line.Line.{Line}
 use Rattle.afdx_switch.specs.Tables.{rows_of}
-use Rattle.afdx_switch.specs.Switching.{IsNamedAt, IsLineSound, share_of}
-use Rattle.afdx_switch.proofs.ArrivalLemmas.{reason-named}
+use Rattle.afdx_switch.specs.Lines.{IsNamedAt}
+use Rattle.afdx_switch.specs.Sound.{IsLineSound}
+use Rattle.afdx_switch.specs.Shares.{share_of}
+use Rattle.afdx_switch.proofs.ArrivalLemmas.{reason-named, shape-named, on-err}
 use Rattle.afdx_switch.proofs.ListLemmas.{all-at, all-set, items-are}
 use Rattle.afdx_switch.proofs.TakeLemmas.{lines-later}
 use Rattle.afdx_switch.proofs.StandsLemmas.{unknown-reason, stands-dropped, lines-unknown, lines-faulted, lines-with, line-is, fault-reason, stands-accepted, lost-is, ports-sound, ports-quiet, ports-held}
@@ -155,6 +158,7 @@ returns-clause-sound c =
       ports = rw same_ports (ports-sound c.args.time c.args.self.now.clock c.index_mut-line.result.now.priority c.args.self.now.ports.items c.forward-lost.new.ports c.in_ok-shares.shares.items c.forward-lost.result old_count c.forward-lost.ensures.count share_count
           (λ i o p share at_o at_p at_s. c.forward-lost.ensures.offered i o p share (ap (λ ps. slice_get ps i) c.deref_mut.ensures.value ∙ at_o) at_p (ap (λ ss. slice_get ss i) c.as_mut_slice.ensures.value ∙ at_s))
           c.requires.sound.ports);
+      served = subst (λ ps. AreServed facts ps c.first_of-self.result) c.deref.ensures.value c.first_of-self.ensures;
     }
 
 pub returns-clause-quiet : goal.returns-clause-quiet
@@ -178,3 +182,13 @@ returns-clause-held c =
     let same_ports = items-are c.args.self.now.ports.len c.forward-lost.new.ports c.args.self.now.ports.items (omega (arith, c.forward-lost.ensures.count, c.requires.sound.port_count)) in
     rw same_ports (ports-held c.args.time c.args.self.now.clock c.index_mut-line.result.now.priority c.args.self.now.ports.items c.forward-lost.new.ports c.in_ok-shares.shares.items c.forward-lost.result old_count c.forward-lost.ensures.count share_count
     (λ i o p share at_o at_p at_s. c.forward-lost.ensures.offered i o p share (ap (λ ps. slice_get ps i) c.deref_mut.ensures.value ∙ at_o) at_p (ap (λ ss. slice_get ss i) c.as_mut_slice.ensures.value ∙ at_s)))
+
+pub returns-in_err-shares-clause-judged : goal.returns-in_err-shares-clause-judged
+returns-in_err-shares-clause-judged c t side h st =
+    let x = arrival_with c.args.tag c.args.time side c.args.port c.args.bytes.now in
+    let n : IsNamedAt (rows_of t) c.args.bytes.now c.in-Some.place = c.in-Some.ensures.place t side h st in
+    let at = slice_get_read c.args.self.now.lines.items _ c.in-Some.place c.index-line.result.now c.args.self.now.lines.ok.0 c.in-Some.ensures.within c.index-line.ensures in
+    let is = line-is t x c.args.self.now h st c.in-Some.place n c.index-line.result.now at in
+    let rule : rule_of c.rule.result.now ≡ n.row.rule = c.rule.ensures ∙ is.account.by_rule in
+    let sound : fault_of (Some n.row.rule) c.args.port c.args.bytes.now ≡ None = ap (λ q. fault_of (Some q) c.args.port c.args.bytes.now) (sym rule) ∙ sym c.in_default-judge_checked.ensures.reason in
+    on-err c.from_residual.result (shape-named t x h.arrivals c.in-Some.place n ∙ sound)

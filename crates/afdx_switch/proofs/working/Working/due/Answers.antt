@@ -1,6 +1,6 @@
 use Rattle.std.proofs.Common.{◌≡◌, ◌+◌, ◌∙◌, arith, refl, subst, length}
 use Rattle.std.proofs.lemmas.Option.{slice_get_read}
-use Rattle.afdx_port.specs.Ports.{IsFirstDue, AreQuiet, AreLimited}
+use Rattle.afdx_port.specs.Ports.{IsFirstDue, AreQuiet}
 use Rattle.afdx_switch.specs.Carried.{facts}
 use Rattle.afdx_switch.specs.Switching.{calls_at}
 use Rattle.afdx_switch.proofs.TakeLemmas.{all-done, quiet-ever, due-of-first, quiet-iff, due-comes}
@@ -9,14 +9,14 @@ use Rattle.afdx_switch.proofs.working.Working.due.Goals as goal
 pub returns-in_err-place-clause-all_done : goal.returns-in_err-place-clause-all_done
 returns-in_err-place-clause-all_done c t side h port st low high =
     let quiet : AreQuiet facts c.args.self.now.ports.items 18446744073709551615 (length c.args.self.now.ports.items) = subst (λ ps. AreQuiet facts ps 18446744073709551615 (length ps)) c.deref.ensures.value c.in_err-place.ensures.none in
-    let limited : AreLimited facts c.args.self.now.ports.items (length c.args.self.now.ports.items) = subst (λ ps. AreLimited facts ps (length ps)) c.deref.ensures.value c.first_due.ensures.limit in
+    let limited = c.requires.served.limit in
     let count : length c.args.self.now.ports.items ≡ 24 = omega (arith, c.args.self.now.ports.ok.0, c.requires.port_count) in
     rw c.from_residual.ensures (all-done t side c.args.self.now h st 18446744073709551615 count quiet limited (omega arith) port low high)
 
 pub returns-in_err-place-clause-quiet : goal.returns-in_err-place-clause-quiet
 returns-in_err-place-clause-quiet c time =
     let quiet : AreQuiet facts c.args.self.now.ports.items 18446744073709551615 (length c.args.self.now.ports.items) = subst (λ ps. AreQuiet facts ps 18446744073709551615 (length ps)) c.deref.ensures.value c.in_err-place.ensures.none in
-    let limited : AreLimited facts c.args.self.now.ports.items (length c.args.self.now.ports.items) = subst (λ ps. AreLimited facts ps (length ps)) c.deref.ensures.value c.first_due.ensures.limit in
+    let limited = c.requires.served.limit in
     (λ calm. rw c.from_residual.ensures tt, λ after. quiet-ever c.args.self.now.ports.items 18446744073709551615 time quiet limited (omega arith))
 
 pub returns-clause-comes : goal.returns-clause-comes

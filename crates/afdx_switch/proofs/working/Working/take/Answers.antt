@@ -1,8 +1,9 @@
 use Rattle.std.proofs.Common.{◌≡◌, ◌+◌, arith, refl, subst, length}
 use Rattle.std.proofs.lemmas.Option.{slice_get_read, slice_get-get_or}
-use Rattle.afdx_port.specs.Ports.{IsFirstDue, AreQuiet, AreLimited}
+use Rattle.afdx_port.specs.Ports.{IsFirstDue, AreQuiet, AreServed}
 use Rattle.afdx_switch.specs.Carried.{facts}
-use Rattle.afdx_switch.specs.Switching.{IsPortSound, calls_at}
+use Rattle.afdx_switch.specs.Sound.{IsPortSound}
+use Rattle.afdx_switch.specs.Switching.{calls_at}
 use Rattle.afdx_switch.proofs.ListLemmas.{all-at}
 use Rattle.afdx_switch.proofs.TakeLemmas.{must-give, none-next, all-done, next-of, stands-after, taken-sound, lines-later, gone}
 use Rattle.afdx_switch.proofs.working.Working.take.Goals as goal
@@ -16,7 +17,7 @@ returns-in_err-place-clause-no_more c t side h port s st low high next =
 pub returns-in_err-place-clause-all_done : goal.returns-in_err-place-clause-all_done
 returns-in_err-place-clause-all_done c t side h port st late low high =
     let quiet : AreQuiet facts c.args.self.now.ports.items c.args.until (length c.args.self.now.ports.items) = subst (λ ps. AreQuiet facts ps c.args.until (length ps)) c.deref.ensures.value c.in_err-place.ensures.none in
-    let limited : AreLimited facts c.args.self.now.ports.items (length c.args.self.now.ports.items) = subst (λ ps. AreLimited facts ps (length ps)) c.deref.ensures.value c.first_due.ensures.limit in
+    let limited = c.requires.sound.served.limit in
     let count : length c.args.self.now.ports.items ≡ 24 = omega (arith, c.args.self.now.ports.ok.0, c.requires.sound.port_count) in
     rw c.from_residual.ensures (all-done t side c.args.self.now h st c.args.until count quiet limited late port low high)
 
@@ -48,6 +49,7 @@ returns-clause-sound c =
       port_count = c.requires.sound.port_count;
       ports = taken-sound c.args.self.now.ports.items c.args.self.now.clock c.args.until c.in_ok-place.place c.index_mut.result.now c.take.new.self c.in-Some.left
           c.requires.sound.ports c.requires.clock first.1.below at c.take.ensures.clock c.in-Some.ensures.given;
+      served = subst (λ ps. AreServed facts ps c.first_of-self.result) c.deref-2.ensures.value c.first_of-self.ensures;
     }
 
 pub returns-clause-given : goal.returns-clause-given

@@ -1,0 +1,41 @@
+-- What a switch keeps of its links: their lines, in the order of the tables, and where each is.
+use Rattle.std.specs.Prelude.{◌≡◌, ℕ, ◌+◌, ◌<◌, true, false, Option, Some, None, List, slice_get}
+use Rattle.afdx_frame.specs.declared.link.Side.{Side}
+use Rattle.afdx_police.specs.Arrival.{Arrival, own, names}
+use Rattle.afdx_police.specs.LinkAccounts.{StandsForOwn}
+use Rattle.afdx_bounds.specs.Outputs.{Row}
+use Rattle.afdx_switch.specs.declared.line.Line.{Line}
+
+-- a link's line is the one that its own arrivals leave
+pub record IsLine (side : Side) (arrivals : List Arrival) (r : Row) (line : Line) : Type 0 where
+  pub account : StandsForOwn r.rule line.account (own r.rule.vl side arrivals)
+  pub priority : line.priority ≡ r.priority
+  pub longest_wait : line.longest_wait ≡ r.longest_wait
+  pub goes : (place : ℕ) → place < 24 →
+      slice_get line.goes.items place ≡ Some (r.goes_to (place + 1))
+
+-- the row of this identifier stands here and nowhere else
+pub record IsPlace (rows : List Row) (vl place : ℕ) : Type 0 where
+  pub row : Row
+  pub stands : slice_get rows place ≡ Some row
+  pub named : row.rule.vl ≡ vl
+  pub only : (j : ℕ) (s : Row) → slice_get rows j ≡ Some s → s.rule.vl ≡ vl → j ≡ place
+
+-- where the row of an identifier stands, if there is one
+abbrev pub IsPlaceOf : List Row → ℕ → Option ℕ → Type 0
+IsPlaceOf rows vl None = (j : ℕ) (s : Row) → slice_get rows j ≡ Some s → s.rule.vl ≡ vl → ⊥
+IsPlaceOf rows vl (Some place) = IsPlace rows vl place
+
+-- the row that the bytes of a frame name stands here and nowhere else
+pub record IsNamedAt (rows : List Row) (bytes : List ℕ) (place : ℕ) : Type 0 where
+  pub row : Row
+  pub stands : slice_get rows place ≡ Some row
+  pub named : names row.rule.vl bytes ≡ true
+  pub only : (j : ℕ) (s : Row) → slice_get rows j ≡ Some s → names s.rule.vl bytes ≡ true →
+      j ≡ place
+
+-- where the row stands that the bytes of a frame name, if there is one
+abbrev pub IsNamed : List Row → List ℕ → Option ℕ → Type 0
+IsNamed rows bytes None =
+    (j : ℕ) (s : Row) → slice_get rows j ≡ Some s → names s.rule.vl bytes ≡ false
+IsNamed rows bytes (Some place) = IsNamedAt rows bytes place

@@ -1,0 +1,48 @@
+-- The output ports through the offers of the shares of one frame.
+use Rattle.std.specs.Prelude.{◌≡◌, ℕ, ◌+◌, ◌≤◌, Bool, false, if◌then◌else◌, Option, Some, None, List}
+use Rattle.afdx_frame.specs.declared.link.Priority.{Priority}
+use Rattle.afdx_port.specs.Held as held
+use Rattle.afdx_port.specs.History as queue
+use Rattle.afdx_port.specs.Schedule.{Entry}
+use Rattle.afdx_port.specs.declared.pending.Pending.{Pending}
+use Rattle.afdx_bounds.specs.Offered as offered
+use Rattle.afdx_switch.specs.Carried.{Carried, facts}
+
+-- the share of a frame at a port that its link goes to
+abbrev pub share_of : Carried → Bool → Option Carried
+share_of c goes = if goes then Some c else None
+
+-- a share of a frame as an entry
+abbrev pub share_entry : ℕ → Priority → Carried → Entry Carried
+share_entry time priority c = queue.entry_of facts time priority c
+
+-- the entries of a port that is offered a share, if there is one
+abbrev pub with_share : ℕ → Priority → ℕ → ℕ → List (Entry Carried) → Option Carried →
+    List (Entry Carried)
+with_share time priority byte_ns buffer entries None = entries
+with_share time priority byte_ns buffer entries (Some c) =
+    offered.with_offer byte_ns buffer entries (share_entry time priority c)
+
+-- the share is lost there
+abbrev pub loses_share : ℕ → Priority → ℕ → ℕ → List (Entry Carried) → Option Carried → Bool
+loses_share time priority byte_ns buffer entries None = false
+loses_share time priority byte_ns buffer entries (Some c) =
+    offered.is_lost byte_ns buffer entries (share_entry time priority c)
+
+-- the calls of a port through the offer of a share
+abbrev pub calls_after : ℕ → Priority → Option Carried → queue.History Carried → ℕ →
+    queue.History Carried
+calls_after time priority share h clock =
+    let entries = with_share time priority h.byte_ns h.buffer h.entries share in
+    record { byte_ns = h.byte_ns; buffer = h.buffer; entries = entries; taken = h.taken; time = clock }
+
+-- a port before and after the offer of its share, and whether the share was lost
+pub record IsOffered (time : ℕ) (priority : Priority) (share : Option Carried)
+    (o n : Pending Carried) (is_lost : Bool) : Type 0 where
+  pub clock : n.clock ≤ time
+  pub quiet : held.IsQuiet facts n time
+  pub more : held.frames_held n ≤ held.frames_held o + 1
+  pub stands : (h : queue.History Carried) → queue.StandsFor facts o h →
+      queue.StandsFor facts n (calls_after time priority share h n.clock)
+  pub lost : (h : queue.History Carried) → queue.StandsFor facts o h →
+      is_lost ≡ loses_share time priority h.byte_ns h.buffer h.entries share

@@ -1,0 +1,30 @@
+-- What is true of every switch, whatever the calls.
+use Rattle.std.specs.Prelude.{All, ◌≡◌, ℕ, ◌<◌, ◌≤◌, Some, IfSome, length, slice_get, vec_len}
+use Rattle.afdx_police.specs.LinkAccounts as accounts
+use Rattle.afdx_port.specs.Held as held
+use Rattle.afdx_port.specs.History as queue
+use Rattle.afdx_port.specs.Ports.{AreServed}
+use Rattle.afdx_port.specs.declared.pending.Pending.{Pending}
+use Rattle.afdx_switch.specs.Carried.{Carried, facts}
+use Rattle.afdx_switch.specs.declared.line.Line.{Line}
+use Rattle.afdx_switch.specs.declared.working.Working.{Working}
+
+-- what is true of every switch, whatever the calls
+pub record IsLineSound (time : ℕ) (line : Line) : Type 0 where
+  pub in_time : accounts.last_time line.account ≤ time
+  pub wait : IfSome line.longest_wait (λ wait. wait ≤ 100000000)
+  pub goes : length line.goes.items ≡ 24
+
+pub record IsPortSound (time : ℕ) (p : Pending Carried) : Type 0 where
+  pub in_time : held.last_time p ≤ time
+  pub calls : queue.History Carried
+  pub stands : queue.StandsFor facts p calls
+
+pub record IsSound (w : Working) : Type 0 where
+  pub lines : All (IsLineSound w.clock) w.lines.items
+  pub place_count : vec_len w.places ≡ 65536
+  pub places : (vl place : ℕ) → slice_get w.places.items vl ≡ Some (Some place) →
+      place < vec_len w.lines
+  pub port_count : vec_len w.ports ≡ 24
+  pub ports : All (IsPortSound w.clock) w.ports.items
+  pub served : AreServed facts w.ports.items w.first
