@@ -28,7 +28,8 @@ all_digits (byte ∷ bytes) = is_ascii_digit byte && all_digits bytes
 -- the number that one or more decimal digits write
 abbrev pub number_of : List ℕ → Option ℕ
 number_of [] = None
-number_of (byte ∷ bytes) = if all_digits (byte ∷ bytes) then Some (number_after 0 (byte ∷ bytes)) else None
+number_of (byte ∷ bytes) =
+    if all_digits (byte ∷ bytes) then Some (number_after 0 (byte ∷ bytes)) else None
 
 -- the value of an answer that is one
 abbrev pub ok_of : {A E : Type 0} → Result A E → Option A

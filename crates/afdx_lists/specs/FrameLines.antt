@@ -21,7 +21,11 @@ pub record Frame : Type 0 where
 
 -- `F`, `B` or `R`
 abbrev pub kind_of : List ℕ → Option Kind
-kind_of (letter ∷ []) = if letter == 70 then Some Good else if letter == 66 then Some Bad else if letter == 82 then Some Raw else None
+kind_of (letter ∷ []) =
+    if letter == 70 then Some Good
+    else if letter == 66 then Some Bad
+    else if letter == 82 then Some Raw
+    else None
 kind_of _ = None
 
 -- `A` or `B`
@@ -38,13 +42,16 @@ pub record FrameFields : Type 0 where
   pub digits : List ℕ
 
 -- five fields, where each could be read and the last one has a byte
-abbrev pub fields_with : Option Kind → Option ℕ → Option Side → Option ℕ → List ℕ → Option FrameFields
-fields_with (Some kind) (Some time) (Some side) (Some port) (digit ∷ digits) = Some (record { kind = kind; time = time; side = side; port = port; digits = digit ∷ digits })
+abbrev pub fields_with :
+    Option Kind → Option ℕ → Option Side → Option ℕ → List ℕ → Option FrameFields
+fields_with (Some kind) (Some time) (Some side) (Some port) (digit ∷ digits) =
+    Some (record { kind = kind; time = time; side = side; port = port; digits = digit ∷ digits })
 fields_with _ _ _ _ _ = None
 
 -- the five fields of these parts, if there are five
 abbrev pub fields_of_parts : List (List ℕ) → Option FrameFields
-fields_of_parts (kind ∷ time ∷ side ∷ port ∷ digits ∷ []) = fields_with (kind_of kind) (number_of time) (side_of side) (number_of port) digits
+fields_of_parts (kind ∷ time ∷ side ∷ port ∷ digits ∷ []) =
+    fields_with (kind_of kind) (number_of time) (side_of side) (number_of port) digits
 fields_of_parts _ = None
 
 -- the fields of a text, which stand between spaces
@@ -59,7 +66,12 @@ frame_bytes Raw bytes = bytes
 
 -- what fields say whose digits write these bytes, if any
 abbrev pub frame_with : FrameFields → Option (List ℕ) → Result (Option Frame) LineFault
-frame_with fields (Some bytes) = Ok (Some (record { time = fields.time; side = fields.side; port = fields.port; bytes = frame_bytes fields.kind bytes }))
+frame_with fields (Some bytes) = Ok (Some (record {
+  time = fields.time;
+  side = fields.side;
+  port = fields.port;
+  bytes = frame_bytes fields.kind bytes;
+}))
 frame_with fields None = Err BadHex
 
 -- the first false check of a time and a port, after a frame of the latest time
@@ -78,9 +90,11 @@ fields_say_with fields None = frame_with fields (bytes_of_digits fields.digits)
 -- what fields say after a frame of the latest time
 abbrev pub fields_say : ℕ → Option FrameFields → Result (Option Frame) LineFault
 fields_say latest None = Err BadLine
-fields_say latest (Some fields) = fields_say_with fields (numbers_fault fields.time fields.port latest)
+fields_say latest (Some fields) =
+    fields_say_with fields (numbers_fault fields.time fields.port latest)
 
--- what a line says that comes after a frame of the latest time: a frame, or nothing, or why it can't be read
+-- what a line says that comes after a frame of the latest time: a frame, or nothing, or why it
+-- can't be read
 unfoldable pub line_says : ℕ → List ℕ → Result (Option Frame) LineFault
 line_says latest line =
     let text = strip_carriage_return line in
@@ -88,12 +102,20 @@ line_says latest line =
 
 -- the frame of a heading and its bytes
 abbrev pub frame_of : Heading → List ℕ → Frame
-frame_of heading bytes = record { time = heading.time; side = heading.side; port = heading.port; bytes = bytes }
+frame_of heading bytes =
+    record { time = heading.time; side = heading.side; port = heading.port; bytes = bytes }
 
 -- the fields that the program read
 abbrev pub fields_of : Fields → FrameFields
-fields_of fields = record { kind = fields.kind; time = fields.time; side = fields.side; port = fields.port; digits = fields.digits.now }
+fields_of fields = record {
+  kind = fields.kind;
+  time = fields.time;
+  side = fields.side;
+  port = fields.port;
+  digits = fields.digits.now;
+}
 
 -- as much of the numbers as 64 bits hold
 abbrev pub saturated : FrameFields → FrameFields
-saturated fields = record fields { time = min fields.time (2 ^ 64 - 1); port = min fields.port (2 ^ 64 - 1) }
+saturated fields =
+    record fields { time = min fields.time (2 ^ 64 - 1); port = min fields.port (2 ^ 64 - 1) }

@@ -33,7 +33,8 @@ whole_lines_of bytes = but_last (between_feeds bytes)
 
 -- the whole lines of a beginning are the first of all the lines
 abbrev pub WholeLinesAreFirst : Type 0
-WholeLinesAreFirst = (front rest : List ℕ) → take (length (whole_lines_of front)) (lines_of (front ++ rest)) ≡ whole_lines_of front
+WholeLinesAreFirst = (front rest : List ℕ) →
+    take (length (whole_lines_of front)) (lines_of (front ++ rest)) ≡ whole_lines_of front
 
 -- no byte is a line feed
 abbrev pub HasNoFeed : List ℕ → Type 0
@@ -57,7 +58,8 @@ latest_line reader = slice_range reader.chunk.items reader.line_start reader.lin
 abbrev pub lines_taken : LineReader → ℕ
 lines_taken reader = reader.lines
 
--- what is left of the list, where it is known: what was read and not yet taken, then what the input has left
+-- what is left of the list, where it is known: what was read and not yet taken, then what the input
+-- has left
 abbrev pub left : {R : Type 0} → (R → Option (List ℕ)) → LineReader → Watched R → Option (List ℕ)
 left remaining reader input = prepend_known (unread reader) (remaining input.inner)
 
@@ -71,7 +73,8 @@ TakesLine None new line = ⊤
 TakesLine (Some bytes) None line = ⊥
 TakesLine (Some bytes) (Some rest) line = lines_of bytes ≡ line ∷ lines_of rest
 
--- the input's known bytes went from old to new, and of them and what was unread before, these were taken
+-- the input's known bytes went from old to new, and of them and what was unread before, these were
+-- taken
 pub record TakesBytes (old new : Option (List ℕ)) (before after taken : List ℕ) : Type 0 where
   pub given : List ℕ
   pub consumed : Consumes old new given
@@ -100,6 +103,9 @@ pub record AreWhole (bytes rest : List ℕ) (n : ℕ) : Type 0 where
 -- the taking of a line from what is left, after n others, may stop with this fault
 abbrev pub CanStop : RunFault → ℕ → Option (List ℕ) → Type 0
 CanStop TooManyLines n left = (1000000 ≤ n) × IfSome left (λ bytes. 0 < length (lines_of bytes))
-CanStop (LineTooLong m) n left = (m ≡ n + 1) × (n < 1000000) × IfSome left (λ bytes. (line : List ℕ) × (lines : List (List ℕ)) × (lines_of bytes ≡ line ∷ lines) × (4200 < length line))
+CanStop (LineTooLong m) n left =
+    (m ≡ n + 1) × (n < 1000000)
+    × IfSome left (λ bytes. (line : List ℕ) × (lines : List (List ℕ))
+    × (lines_of bytes ≡ line ∷ lines) × (4200 < length line))
 CanStop Read n left = ⊤
 CanStop _ n left = ⊥

@@ -6,7 +6,8 @@ ghost use Rattle.afdx_lists.specs.declared.fault.RunFault.TheVariants.{Memory};
 use std::alloc::AllocError;
 use thiserror::Error;
 
-/// Why a line says nothing. The first check that is false, in the order below, is the one that is named.
+/// Why a line says nothing. The first check that is false, in the order below, is the one that is
+/// named.
 #[derive(Clone, Copy, Debug, PartialEq, Eq)]
 pub enum LineFault {
     /// It has another number of fields, an empty field, or a field of another form.
@@ -95,7 +96,8 @@ impl LineFault {
 }
 
 impl RunFault {
-    /// The exit status of a command that ends with this fault: 3 for a fault of the list, 4 for a device or memory.
+    /// The exit status of a command that ends with this fault: 3 for a fault of the list, 4 for a
+    /// device or memory.
     pub fn status(&self) -> u8
         ensures { result ≡ status_of self.now }
     {

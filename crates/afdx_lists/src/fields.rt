@@ -83,7 +83,8 @@ fn read_pairs(digits: &[u8], bytes: &mut [u8]) -> bool
 
 /// Reads digits as the crate `hex` does, but without a branch for each of them where all are sound.
 fn decode_to_slice(digits: &[u8], out: &mut [u8]) -> Result<(), FromHexError>
-    ensures value { MatchResult (decode_sized digits.now (length out.old)) (λ bytes. (result ≡ Ok tt) × (out.new ≡ bytes)) (λ e. result ≡ Err e) }
+    ensures value { MatchResult (decode_sized digits.now (length out.old))
+        (λ bytes. (result ≡ Ok tt) × (out.new ≡ bytes)) (λ e. result ≡ Err e) }
 {
     if digits.len() == 2 * out.len() && read_pairs(digits, out) {
         return Ok(());
@@ -94,7 +95,8 @@ fn decode_to_slice(digits: &[u8], out: &mut [u8]) -> Result<(), FromHexError>
 /// Puts the bytes that hexadecimal digits write, or `-` for none, in the place of `bytes`.
 pub(crate) fn read_bytes(digits: &[u8], bytes: &mut Vec<u8>) -> Result<(), LineFault>
     ensures ok { OnOk result (bytes_of_digits digits.now ≡ Some bytes.new.items) }
-    ensures err { IfErr result (λ fault. (fault ≡ Memory) ⊎ ((fault ≡ BadHex) × (bytes_of_digits digits.now ≡ None))) }
+    ensures err { IfErr result (λ fault.
+        (fault ≡ Memory) ⊎ ((fault ≡ BadHex) × (bytes_of_digits digits.now ≡ None))) }
 {
     if digits == b"-".as_slice() {
         bytes.clear();

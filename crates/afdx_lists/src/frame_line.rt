@@ -168,9 +168,9 @@ fn finish_frame(kind: Kind, frame: &mut Vec<u8>) -> Result<bool, AllocError>
 /// What a line says that comes after one of this time: a frame, whose bytes are put in the place of
 /// `frame`, or nothing if it is to be skipped.
 ///
-/// The line stands without its line feed. An error is the first check of the line that is false; want
-/// of memory comes where `frame` can't grow. After an error, and after a line that is skipped, `frame`
-/// holds any bytes.
+/// The line stands without its line feed. An error is the first check of the line that is false;
+/// want of memory comes where `frame` can't grow. After an error, and after a line that is skipped,
+/// `frame` holds any bytes.
 pub fn read_frame_line(
     line: &[u8],
     latest: u64,
@@ -181,9 +181,12 @@ pub fn read_frame_line(
     ensures order { IfOk result (λ heading. IfSome heading (λ h. latest ≤ h.time)) }
     ensures some_port { IfOk result (λ heading. IfSome heading (λ h. 1 ≤ h.port)) }
     ensures port { IfOk result (λ heading. IfSome heading (λ h. h.port ≤ 24)) }
-    ensures sealed { IfOk result (λ heading. IfSome heading (λ h. h.is_sealed ≡ is_sealed frame.new.items)) }
-    ensures ok { IfOk result (λ heading. line_says latest line.now ≡ Ok (option_map (λ h. frame_of h frame.new.items) heading)) }
-    ensures err { IfErr result (λ fault. (fault ≡ Memory) ⊎ (line_says latest line.now ≡ Err fault)) }
+    ensures sealed { IfOk result (λ heading.
+        IfSome heading (λ h. h.is_sealed ≡ is_sealed frame.new.items)) }
+    ensures ok { IfOk result (λ heading. line_says latest line.now
+        ≡ Ok (option_map (λ h. frame_of h frame.new.items) heading)) }
+    ensures err { IfErr result (λ fault.
+        (fault ≡ Memory) ⊎ (line_says latest line.now ≡ Err fault)) }
 {
     let text = trim_line(line);
     if says_nothing(text) {

@@ -65,7 +65,8 @@ impl LineReader {
         self.lines
     }
 
-    /// The line that was taken last, without its line feed. It stands until the next one is asked for.
+    /// The line that was taken last, without its line feed. It stands until the next one is asked
+    /// for.
     pub fn line(&self) -> &[u8]
         ensures { result.now ≡ latest_line self.now }
     {
@@ -74,9 +75,10 @@ impl LineReader {
 
     /// Takes the next line. False: there is none, and the input gave its end.
     ///
-    /// `LineTooLong` comes as soon as 4,201 bytes of a line are held, `TooManyLines` at the first byte
-    /// after 1,000,000 lines, `Read` exactly where the input failed. The input isn't read again after
-    /// its end, nor after a fault. A line of at most 4,200 bytes takes at most 4,201 reads.
+    /// `LineTooLong` comes as soon as 4,201 bytes of a line are held, `TooManyLines` at the first
+    /// byte after 1,000,000 lines, `Read` exactly where the input failed. The input isn't read
+    /// again after its end, nor after a fault. A line of at most 4,200 bytes takes at most 4,201
+    /// reads.
     pub fn next_line<R: Read>(&mut self, input: &mut Watched<R>) -> Result<bool, RunFault>
         requires sound { input.old.failed ≡ false }
         requires honest { IsHonest R.remaining input.old }
@@ -84,18 +86,26 @@ impl LineReader {
         ensures failed { input.new.failed ≡ is_failed_read result }
 
         // What is taken, of what is left of the list.
-        ensures line { result ≡ Ok true → TakesLine (left R.remaining self.old input.old) (left R.remaining self.new input.new) (latest_line self.new) }
+        ensures line { result ≡ Ok true → TakesLine (left R.remaining self.old input.old)
+            (left R.remaining self.new input.new) (latest_line self.new) }
         ensures short { result ≡ Ok true → length (latest_line self.new) ≤ 4200 }
-        ensures lines { result ≡ Ok true → (lines_taken self.new ≡ lines_taken self.old + 1) × (lines_taken self.new ≤ 1000000) }
+        ensures lines { result ≡ Ok true →
+            (lines_taken self.new ≡ lines_taken self.old + 1) × (lines_taken self.new ≤ 1000000) }
         ensures same { result ≢ Ok true → lines_taken self.new ≡ lines_taken self.old }
-        ensures last { result ≡ Ok false → (input.new.ended ≡ true) × IsAtEnd (left R.remaining self.old input.old) }
-        ensures fault { IfErr result (λ fault. CanStop fault (lines_taken self.old) (left R.remaining self.old input.old)) }
+        ensures last { result ≡ Ok false →
+            (input.new.ended ≡ true) × IsAtEnd (left R.remaining self.old input.old) }
+        ensures fault { IfErr result (λ fault.
+            CanStop fault (lines_taken self.old) (left R.remaining self.old input.old)) }
 
         // What is taken, of what the input gave.
-        ensures whole { result ≡ Ok true → input.new.ended ≡ false → (input.old.ended ≡ false) × HasNoFeed (latest_line self.new)
-            × TakesBytes (R.remaining input.old.inner) (R.remaining input.new.inner) (unread self.old) (unread self.new) (latest_line self.new ++ 10 ∷ []) }
-        ensures read { result ≡ Err RunFault.Read → (input.old.ended ≡ false) × HasNoFeed (unread self.new)
-            × TakesBytes (R.remaining input.old.inner) (R.remaining input.new.inner) (unread self.old) (unread self.new) [] }
+        ensures whole { result ≡ Ok true → input.new.ended ≡ false →
+            (input.old.ended ≡ false) × HasNoFeed (latest_line self.new)
+            × TakesBytes (R.remaining input.old.inner) (R.remaining input.new.inner)
+            (unread self.old) (unread self.new) (latest_line self.new ++ 10 ∷ []) }
+        ensures read { result ≡ Err RunFault.Read →
+            (input.old.ended ≡ false) × HasNoFeed (unread self.new)
+            × TakesBytes (R.remaining input.old.inner) (R.remaining input.new.inner)
+            (unread self.old) (unread self.new) [] }
 
         // How often the input is read.
         ensures calls { input.new.calls ≤ input.old.calls + 4201 }
@@ -135,7 +145,8 @@ impl LineReader {
         self.lines >= MOST_LINES && self.start < self.end
     }
 
-    /// How many bytes stand before the first line feed, if one is held. The first `searched` hold none.
+    /// How many bytes stand before the first line feed, if one is held. The first `searched` hold
+    /// none.
     fn find_feed(&self, searched: usize) -> Option<usize>
         requires within { searched ≤ self.now.end - self.now.start }
         requires no_feed { HasNoFeed (take searched (unread self.now)) }
@@ -173,10 +184,16 @@ impl LineReader {
         ensures fault { IfErr result (λ fault. fault ≡ RunFault.Read) }
         ensures failed { input.new.failed ≡ is_failed_read result }
         ensures lines { self.new.lines ≡ self.old.lines }
-        ensures bytes { TakesBytes (R.remaining input.old.inner) (R.remaining input.new.inner) (unread self.old) (unread self.new) [] }
-        ensures more { result ≡ Ok true → (self.old.end - self.old.start < self.new.end - self.new.start) × (input.new.ended ≡ input.old.ended) }
-        ensures last { result ≡ Ok false → (input.new.ended ≡ true) × (unread self.new ≡ unread self.old) × (self.new.end - self.new.start ≡ self.old.end - self.old.start) }
-        ensures err { OnErr result ((input.old.ended ≡ false) × (unread self.new ≡ unread self.old)) }
+        ensures bytes { TakesBytes (R.remaining input.old.inner) (R.remaining input.new.inner)
+            (unread self.old) (unread self.new) [] }
+        ensures more { result ≡ Ok true →
+            (self.old.end - self.old.start < self.new.end - self.new.start)
+            × (input.new.ended ≡ input.old.ended) }
+        ensures last { result ≡ Ok false →
+            (input.new.ended ≡ true) × (unread self.new ≡ unread self.old)
+            × (self.new.end - self.new.start ≡ self.old.end - self.old.start) }
+        ensures err { OnErr result (
+            (input.old.ended ≡ false) × (unread self.new ≡ unread self.old)) }
         ensures calls { input.new.calls ≤ input.old.calls + 1 }
     {
         if input.ended() {

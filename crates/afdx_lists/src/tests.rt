@@ -95,7 +95,8 @@ impl Read for Feeds {
     }
 }
 
-/// Takes the lines of an input until its end or a fault, and puts each with a bar behind it to `text`.
+/// Takes the lines of an input until its end or a fault, and puts each with a bar behind it to
+/// `text`.
 fn take_lines<R: Read>(
     input: &mut Watched<R>,
     reader: &mut LineReader,

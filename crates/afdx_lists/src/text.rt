@@ -38,7 +38,8 @@ fn digit_of(number: u8) -> u8
     }
 }
 
-/// Puts the digits of all bytes in the place of `digits`. It has no branches and reads no table, so that it is done for several bytes at once.
+/// Puts the digits of all bytes in the place of `digits`. It has no branches and reads no table, so
+/// that it is done for several bytes at once.
 fn encode_to(bytes: &[u8], digits: &mut [u8])
     requires { length digits.old ≡ 2 * length bytes.now }
     ensures { digits.new ≡ encode_lower bytes.now }
@@ -55,7 +56,8 @@ fn encode_to(bytes: &[u8], digits: &mut [u8])
 /// Puts the digits of all bytes at a place of the room.
 fn encode_at(room: &mut [u8], at: usize, bytes: &[u8])
     requires { at + 2 * length bytes.now ≤ length room.old }
-    ensures { room.new ≡ take at room.old ++ encode_lower bytes.now ++ drop (at + 2 * length bytes.now) room.old }
+    ensures { room.new
+        ≡ take at room.old ++ encode_lower bytes.now ++ drop (at + 2 * length bytes.now) room.old }
 {
     encode_to(bytes, &mut room[at..at + 2 * bytes.len()]);
 }
@@ -122,7 +124,8 @@ impl Text {
 
     /// Adds bytes in hexadecimal digits, in lower case.
     pub fn put_digits(&mut self, bytes: &[u8]) -> Result<(), AllocError>
-        ensures { OnOk result (text_bytes self.new ≡ text_bytes self.old ++ encode_lower bytes.now) }
+        ensures { OnOk result (text_bytes self.new
+            ≡ text_bytes self.old ++ encode_lower bytes.now) }
     {
         self.make_room(2 * bytes.len())?;
         let at = self.end;

@@ -14,8 +14,10 @@ pub fn write_text<W: Write>(output: &mut Watched<W>, text: &[u8]) -> Result<(), 
     requires { output.old.failed ≡ false }
     ensures failed { output.new.failed ≡ is_failed_write result }
     ensures fault { IfErr result (λ fault. fault ≡ RunFault.Write) }
-    ensures written { OnOk result (Appends (W.contents output.old.inner) (W.contents output.new.inner) text.now) }
-    ensures front { OnErr result (AppendsFront (W.contents output.old.inner) (W.contents output.new.inner) text.now) }
+    ensures written { OnOk result (
+        Appends (W.contents output.old.inner) (W.contents output.new.inner) text.now) }
+    ensures front { OnErr result (
+        AppendsFront (W.contents output.old.inner) (W.contents output.new.inner) text.now) }
 {
     let mut rest = text;
     while !rest.is_empty() {

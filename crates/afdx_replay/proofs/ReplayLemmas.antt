@@ -26,7 +26,7 @@ use Rattle.afdx_network.proofs.FirstLemmas.{are-first, so-far}
 use Rattle.afdx_network.proofs.OrderedLemmas.{one-order, one-order-so-far, begins}
 use Rattle.afdx_replay.specs.PoliceText.{verdict_line}
 use Rattle.afdx_replay.specs.ReplayText.{handed_over, frames_left, departure_line, heard, lines_after, loss_lines, admission_lines, replay_text, no_counts, with_admission, with_departure, replay_counts, with_lines}
-use Rattle.afdx_replay.specs.Replayed.{WritesSoFar, WritesSome, WritesAll, HasTold, AreTold, ToldAll, TellsDeparture, HasRoom}
+use Rattle.afdx_replay.specs.Replayed.{WritesSoFar, WritesSome, WritesAll, HasTold, AreTold, ToldAll, TellsDeparture, HasRoom, IsOutputFault}
 use Rattle.afdx_replay.specs.Listed.{arrival_at, arrivals_of}
 use Rattle.afdx_replay.specs.declared.summary.Summary.{Summary}
 use Rattle.afdx_replay.specs.Progress.{HasRead, HasCome}
@@ -252,22 +252,19 @@ stops-start t (Some bytes) after output = (
   record { within = omega arith; sound = λ k lt. absurd (omega (arith, lt)); are_told = ([], replay_text t (events_of t (arrivals_of (lines_of bytes) 0)), refl, Appends-nil output) },
 )
 
-abbrev pub IsDevice : RunFault → Type 0
-IsDevice fault = (fault ≡ run.Write) ⊎ (fault ≡ run.Memory)
-
-device : (all beginning : List Arrival → Type 0) (bytes : List ℕ) (after : Option (List ℕ)) (fault : RunFault) → IsDevice fault → (n : ℕ) × IsToldOf beginning (lines_of bytes) n → StopsAt all beginning bytes after fault
+device : (all beginning : List Arrival → Type 0) (bytes : List ℕ) (after : Option (List ℕ)) (fault : RunFault) → IsOutputFault fault → (n : ℕ) × IsToldOf beginning (lines_of bytes) n → StopsAt all beginning bytes after fault
 device all beginning bytes after fault (inl e) h = subst (λ (s : RunFault). StopsAt all beginning bytes after s) (sym e) h
 device all beginning bytes after fault (inr e) h = subst (λ (s : RunFault). StopsAt all beginning bytes after s) (sym e) h
 
 -- a device failed, or memory ran out, after all lines were read
-pub stops-device : (told all beginning : List Arrival → Type 0) (latest n : ℕ) (input left after : Option (List ℕ)) (fault : RunFault) → IsDevice fault → HasCome told latest n input left → ((past : List Arrival) → told past → beginning past) →
+pub stops-device : (told all beginning : List Arrival → Type 0) (latest n : ℕ) (input left after : Option (List ℕ)) (fault : RunFault) → IsOutputFault fault → HasCome told latest n input left → ((past : List Arrival) → told past → beginning past) →
     IfSome input (λ bytes. StopsAt all beginning bytes after fault)
 stops-device told all beginning latest n None left after fault is h f = tt
 stops-device told all beginning latest n (Some bytes) None after fault is h f = absurd h
 stops-device told all beginning latest n (Some bytes) (Some rest) after fault is h f = device all beginning bytes after fault is (n, told_so_far told beginning latest n bytes rest h f)
 
 -- or while the frame of a line was told
-pub stops-frame : (told all beginning : List Arrival → Type 0) (latest n m : ℕ) (input before rest after : Option (List ℕ)) (line : List ℕ) (frame : Frame) (fault : RunFault) → IsDevice fault → m ≡ n + 1 → IsTaken n line before rest →
+pub stops-frame : (told all beginning : List Arrival → Type 0) (latest n m : ℕ) (input before rest after : Option (List ℕ)) (line : List ℕ) (frame : Frame) (fault : RunFault) → IsOutputFault fault → m ≡ n + 1 → IsTaken n line before rest →
     HasCome told latest n input before → line_says latest line ≡ Ok (Some frame) → ((past : List Arrival) → told past → beginning past ⊎ beginning (arrival_at m frame ∷ past)) → IfSome input (λ bytes. StopsAt all beginning bytes after fault)
 stops-frame told all beginning latest n m None before rest after line frame fault is place taken h said f = tt
 stops-frame told all beginning latest n m (Some bytes) None rest after line frame fault is place taken h said f = absurd h

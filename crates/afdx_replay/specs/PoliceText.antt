@@ -1,4 +1,5 @@
--- The text of a run that polices one link: a line for each arrival. A list of arrivals has the newest first.
+-- The text of a run that polices one link: a line for each arrival. A list of arrivals has the
+-- newest first.
 use Rattle.std.specs.Prelude.{ℕ, suc, List, [], ◌∷◌, ◌++◌, Option, Some, None, codes, is_none, if◌then◌else◌}
 use Rattle.std.specs.Fmt.{decimal}
 use Rattle.afdx_frame.specs.declared.link.Side.{Side}
@@ -32,7 +33,9 @@ verdict_text (Some reason) = codes "drop " ++ reason_text reason
 
 -- the line of a verdict on the frame of line n
 abbrev pub verdict_line : ℕ → Side → Option Reason → List ℕ
-verdict_line n side reason = codes "V " ++ decimal n ++ codes " " ++ side_text side ++ codes " " ++ verdict_text reason ++ codes "\n"
+verdict_line n side reason =
+    codes "V " ++ decimal n ++ codes " " ++ side_text side ++ codes " " ++ verdict_text reason
+    ++ codes "\n"
 
 -- each arrival's line has the verdict on it after those before it
 unfoldable pub text_of : Rule → List Arrival → List ℕ
@@ -42,11 +45,17 @@ text_of rule (x ∷ past) = text_of rule past ++ verdict_line x.tag x.side (verd
 -- how many of the arrivals are accepted, and how many are dropped
 unfoldable pub accepted_in : Rule → List Arrival → ℕ
 accepted_in rule [] = 0
-accepted_in rule (x ∷ past) = if is_none (verdict_in rule past x) then suc (accepted_in rule past) else accepted_in rule past
+accepted_in rule (x ∷ past) =
+    if is_none (verdict_in rule past x)
+    then suc (accepted_in rule past)
+    else accepted_in rule past
 
 unfoldable pub dropped_in : Rule → List Arrival → ℕ
 dropped_in rule [] = 0
-dropped_in rule (x ∷ past) = if is_none (verdict_in rule past x) then dropped_in rule past else suc (dropped_in rule past)
+dropped_in rule (x ∷ past) =
+    if is_none (verdict_in rule past x)
+    then dropped_in rule past
+    else suc (dropped_in rule past)
 
 -- what a run over n lines counts; nothing departs and nothing is received in it
 abbrev pub counts_of : Rule → ℕ → List Arrival → Summary

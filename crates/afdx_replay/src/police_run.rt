@@ -5,13 +5,13 @@ ghost use Rattle.afdx_police.specs.Arrival.{Arrival};
 ghost use Rattle.afdx_police.specs.Rule.{Rule};
 ghost use Rattle.afdx_police.specs.RuleOf.{rule_of};
 ghost use Rattle.afdx_police.specs.Verdicts.{verdict_in};
-ghost use Rattle.afdx_lists.specs.Texts.{text_bytes};
 ghost use Rattle.afdx_lists.specs.Calls.{is_failed_read, is_failed_write};
-ghost use Rattle.afdx_replay.specs.PoliceText.{verdict_line};
+ghost use Rattle.afdx_lists.specs.FrameLines.{frame_of};
+ghost use Rattle.afdx_replay.specs.Listed.{arrival_at};
 ghost use Rattle.afdx_replay.specs.Policed.{Answers};
 
 use crate::summary::Summary;
-use crate::verdict::{side_letter, verdict_words};
+use crate::verdict::put_verdict;
 use afdx_frame::Side;
 use afdx_lists::{Heading, LineReader, RunFault, Text, Watched, read_frame_line, write_text};
 use afdx_police::{LinkAccount, LinkRule, Reason};
@@ -43,10 +43,12 @@ impl Policers {
         requires until { AreUntil self.old heading.now.time }
         requires sealed { heading.now.is_sealed ≡ is_sealed frame.now }
         ensures until { AreUntil self.new heading.now.time }
-        ensures answer { (rule : Rule) (past : List Arrival) (tag : ℕ) → HaveSeen self.old rule past →
-            result ≡ verdict_in rule past (record { tag = tag; time = heading.now.time; side = heading.now.side; port = heading.now.port; bytes = frame.now }) }
-        ensures seen { (rule : Rule) (past : List Arrival) (tag : ℕ) → HaveSeen self.old rule past →
-            HaveSeen self.new rule (record { tag = tag; time = heading.now.time; side = heading.now.side; port = heading.now.port; bytes = frame.now } ∷ past) }
+        ensures answer { (rule : Rule) (past : List Arrival) (tag : ℕ) →
+            HaveSeen self.old rule past →
+            result ≡ verdict_in rule past (arrival_at tag (frame_of heading.now frame.now)) }
+        ensures seen { (rule : Rule) (past : List Arrival) (tag : ℕ) →
+            HaveSeen self.old rule past →
+            HaveSeen self.new rule (arrival_at tag (frame_of heading.now frame.now) ∷ past) }
     {
         let Heading {
             time,
@@ -67,27 +69,6 @@ fn count_if(count: u64, is_one_more: bool) -> u64
     ensures { result ≡ (if is_one_more then count + 1 else count) }
 {
     if is_one_more { count + 1 } else { count }
-}
-
-/// Puts the line of a verdict in the place of `text`.
-fn put_verdict(
-    text: &mut Text,
-    n: u64,
-    side: Side,
-    reason: Option<Reason>,
-) -> Result<(), AllocError>
-    ensures { OnOk result (text_bytes text.new ≡ verdict_line n side reason) }
-{
-    let side = side_letter(side);
-    let words = verdict_words(reason);
-    text.clear();
-    text.put(b"V ")?;
-    text.put_number(n)?;
-    text.put(b" ")?;
-    text.put(side.as_bytes())?;
-    text.put(b" ")?;
-    text.put(words.as_bytes())?;
-    text.put(b"\n")
 }
 
 /// Polices the frames of a list for one virtual link, and writes a line for each.
@@ -113,7 +94,8 @@ pub fn run_police<R: Read, W: Write>(
 
     // Where the input's bytes are known: what is answered and written for the list that they are.
     ensures answer { IfSome (R.remaining input.old.inner) (λ bytes.
-        Answers (rule_of rule.now) bytes (R.remaining input.new.inner) (W.contents output.old.inner) (W.contents output.new.inner) result) }
+        Answers (rule_of rule.now) bytes (R.remaining input.new.inner)
+        (W.contents output.old.inner) (W.contents output.new.inner) result) }
 {
     let mut reader = LineReader::new(alloc)?;
     let mut policers = Policers::new(rule);

@@ -1,11 +1,13 @@
 //! The lines of the events of a replay.
-ghost use Rattle.std.specs.Prelude.{◌≡◌, ℕ, ◌++◌, ◌≤◌, [], if◌then◌else◌, OnOk, IfOk, length, string_bytes};
+ghost use Rattle.std.specs.Prelude.{◌≡◌, ℕ, ◌++◌, ◌≤◌, [], if◌then◌else◌, OnOk, IfOk, length};
+ghost use Rattle.afdx_lists.specs.Texts.{text_bytes};
 ghost use Rattle.afdx_network.specs.Network.{reason_in, ports_in, lost_in};
 ghost use Rattle.afdx_replay.specs.PoliceText.{verdict_line};
 ghost use Rattle.afdx_replay.specs.ReplayText.{loss_line, loss_lines, departure_line};
 
-use crate::verdict::{side_letter, verdict_words};
+use crate::verdict::{put_verdict, side_letter};
 use afdx_frame::Side;
+use afdx_lists::Text;
 use afdx_network::Departed;
 use afdx_police::Reason;
 use afdx_switch::{PortSet, Verdict};
@@ -22,27 +24,29 @@ pub(crate) fn reason_of(verdict: &Verdict) -> Option<Reason>
 }
 
 /// Adds the line of a copy that was lost at a port, if it was, and counts it.
-fn add_loss(
-    text: &mut String,
-    n: u64,
-    side: Side,
-    port: u8,
-    is_lost: bool,
-) -> Result<u64, AllocError>
-    ensures lines { OnOk result (string_bytes text.new ≡ string_bytes text.old ++ (if is_lost then loss_line n side port else [])) }
+fn add_loss(text: &mut Text, n: u64, side: Side, port: u8, is_lost: bool) -> Result<u64, AllocError>
+    ensures lines { OnOk result (text_bytes text.new
+        ≡ text_bytes text.old ++ (if is_lost then loss_line n side port else [])) }
     ensures count { IfOk result (λ count. count ≡ (if is_lost then 1 else 0)) }
 {
     if !is_lost {
         return Ok(0);
     }
     let side = side_letter(side);
-    write!(text, "L {n} {side} {port}\n")?;
+    text.put(b"L ")?;
+    text.put_number(n)?;
+    text.put(b" ")?;
+    text.put(side.as_bytes())?;
+    text.put(b" ")?;
+    text.put_number(u64::from(port))?;
+    text.put(b"\n")?;
     Ok(1)
 }
 
 /// Adds the lines of the copies that were lost, and counts them.
-fn add_losses(text: &mut String, n: u64, side: Side, lost: &PortSet) -> Result<u64, AllocError>
-    ensures lines { OnOk result (string_bytes text.new ≡ string_bytes text.old ++ loss_lines n side (ports_in lost.now)) }
+fn add_losses(text: &mut Text, n: u64, side: Side, lost: &PortSet) -> Result<u64, AllocError>
+    ensures lines { OnOk result (text_bytes text.new
+        ≡ text_bytes text.old ++ loss_lines n side (ports_in lost.now)) }
     ensures count { IfOk result (λ count. count ≡ length (ports_in lost.now)) }
     ensures few { IfOk result (λ count. count ≤ 24) }
 {
@@ -55,21 +59,20 @@ fn add_losses(text: &mut String, n: u64, side: Side, lost: &PortSet) -> Result<u
     Ok(count)
 }
 
-/// Puts the V line and the L lines of an arrival in the place of `text`, and counts the copies that were lost.
+/// Puts the V line and the L lines of an arrival in the place of `text`, and counts the copies that
+/// were lost.
 pub(crate) fn put_admission(
-    text: &mut String,
+    text: &mut Text,
     n: u64,
     side: Side,
     verdict: &Verdict,
 ) -> Result<u64, AllocError>
-    ensures lines { OnOk result (string_bytes text.new ≡ verdict_line n side (reason_in verdict.now) ++ loss_lines n side (lost_in verdict.now)) }
+    ensures lines { OnOk result (text_bytes text.new
+        ≡ verdict_line n side (reason_in verdict.now) ++ loss_lines n side (lost_in verdict.now)) }
     ensures count { IfOk result (λ count. count ≡ length (lost_in verdict.now)) }
     ensures few { IfOk result (λ count. count ≤ 24) }
 {
-    let letter = side_letter(side);
-    let words = verdict_words(reason_of(verdict));
-    text.clear();
-    write!(text, "V {n} {letter} {words}\n")?;
+    put_verdict(text, n, side, reason_of(verdict))?;
     match verdict {
         Verdict::Accepted { lost } => add_losses(text, n, side, lost),
         Verdict::Dropped(_) => Ok(0),
@@ -77,17 +80,28 @@ pub(crate) fn put_admission(
 }
 
 /// Puts the D or T line of a departure in the place of `text`.
-pub(crate) fn put_departure(text: &mut String, departed: &Departed) -> Result<(), AllocError>
-    ensures { OnOk result (string_bytes text.new ≡ departure_line departed.now.departure.left.too_old departed.now.departure.left.item.tag departed.now.departure.left.end departed.now.side departed.now.departure.port) }
+pub(crate) fn put_departure(text: &mut Text, departed: &Departed) -> Result<(), AllocError>
+    ensures { let d = departed.now.departure in
+        OnOk result (text_bytes text.new
+        ≡ departure_line d.left.too_old d.left.item.tag d.left.end departed.now.side d.port) }
 {
     let side = side_letter(departed.side);
     let n = departed.departure.tag();
     let time = departed.departure.time();
     let port = departed.departure.port();
-    text.clear();
-    if departed.departure.too_old() {
-        write!(text, "T {n} {time} {side} {port}\n")
+    let kind = if departed.departure.too_old() {
+        "T "
     } else {
-        write!(text, "D {n} {time} {side} {port}\n")
-    }
+        "D "
+    };
+    text.clear();
+    text.put(kind.as_bytes())?;
+    text.put_number(n)?;
+    text.put(b" ")?;
+    text.put_number(time)?;
+    text.put(b" ")?;
+    text.put(side.as_bytes())?;
+    text.put(b" ")?;
+    text.put_number(u64::from(port))?;
+    text.put(b"\n")
 }

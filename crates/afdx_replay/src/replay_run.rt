@@ -1,20 +1,24 @@
 //! A run that replays a list through the switches of both sides and the systems behind them.
-ghost use Rattle.std.specs.Prelude.{◌≡◌, ℕ, ◌+◌, ◌*◌, ◌-◌, ◌^◌, ◌≤◌, ◌<◌, ◌⊎◌, ◌++◌, ◌∷◌, [], List, Option, length, OnOk, OnErr, IfErr, IfSome, true, false, string_bytes};
+ghost use Rattle.std.specs.Prelude.{◌≡◌, ℕ, ◌+◌, ◌*◌, ◌-◌, ◌^◌, ◌≤◌, ◌<◌, ◌⊎◌, ◌++◌, ◌∷◌, [], List, Option, length, OnOk, OnErr, IfErr, IfSome, true, false};
 ghost use Rattle.afdx_config.specs.Rows.{Rows};
 ghost use Rattle.afdx_frame.specs.Sealing.{is_sealed};
-ghost use Rattle.afdx_police.specs.Arrival.{Arrival, arrival_with};
+ghost use Rattle.afdx_police.specs.Arrival.{Arrival};
 ghost use Rattle.afdx_police.specs.declared.shape.Reason.{Reason as DropReason};
+ghost use Rattle.afdx_lists.specs.Texts.{text_bytes};
 ghost use Rattle.afdx_lists.specs.Calls.{is_failed_read, is_failed_write};
 ghost use Rattle.afdx_systems.specs.StandsFor as systems;
 ghost use Rattle.afdx_network.specs.Events.{Event, Departure, arrivals_in};
 ghost use Rattle.afdx_network.specs.Network as network;
-ghost use Rattle.afdx_replay.specs.Replayed.{WritesSome, Answers, HasTold, AreTold, ToldMore, ToldAll, TellsDeparture, HasRoom};
+ghost use Rattle.afdx_lists.specs.FrameLines.{frame_of};
+ghost use Rattle.afdx_replay.specs.Listed.{arrival_at};
+ghost use Rattle.afdx_replay.specs.Replayed.{WritesSome, Answers, ToldAll, TellsDeparture, HasRoom};
+ghost use Rattle.afdx_replay.specs.Replayed.{IsOutputFault};
 ghost use Rattle.afdx_replay.specs.ReplayText.{replay_counts, frames_left, with_admission};
 
 use crate::replay_lines::{put_admission, put_departure, reason_of};
 use crate::summary::Summary;
 use afdx_config::Tables;
-use afdx_lists::{Heading, LineReader, RunFault, Watched, read_frame_line, write_text};
+use afdx_lists::{Heading, LineReader, RunFault, Text, Watched, read_frame_line, write_text};
 use afdx_network::{Departed, Network};
 use afdx_police::Reason;
 use afdx_systems::{Handover, Systems};
@@ -26,7 +30,7 @@ use std::io::{Read, Write};
 struct Replay {
     network: Network,
     systems: Systems,
-    text: String,
+    text: Text,
     counts: Summary,
 }
 
@@ -35,7 +39,8 @@ fn count_admission(counts: &mut Summary, reason: Option<Reason>, lost: u64)
     requires room { (n held : ℕ) × (n < 1000000) × HasRoom counts.old held n }
     requires few { lost ≤ 24 }
     ensures counted { counts.new ≡ with_admission counts.old reason lost }
-    ensures room { (n held : ℕ) → HasRoom counts.old held n → HasRoom counts.new (held + 24) (n + 1) }
+    ensures room { (n held : ℕ) →
+        HasRoom counts.old held n → HasRoom counts.new (held + 24) (n + 1) }
 {
     match reason {
         None => {
@@ -47,14 +52,20 @@ fn count_admission(counts: &mut Summary, reason: Option<Reason>, lost: u64)
 }
 
 impl Replay {
-    /// Puts the lines of a departure in the place of the text, hands its frame over to the port's system if it left, and counts it.
+    ghost use Rattle.afdx_replay.specs.Replayed.{Tells, TellsMore, TellsArrivals, HasRoomFor};
+
+    /// Puts the lines of a departure in the place of the text, hands its frame over to the port's
+    /// system if it left, and counts it.
     fn put_lines(&mut self, departed: &Departed) -> Result<(), AllocError>
         requires room { (n held : ℕ) × (n ≤ 1000000) × HasRoom self.old.counts (held + 1) n }
         ensures network { self.new.network ≡ self.old.network }
-        ensures room { (n held : ℕ) → HasRoom self.old.counts (held + 1) n → OnOk result (HasRoom self.new.counts held n) }
-        ensures told { (t : Rows) (before : List Event) (d : Departure) → systems.StandsFor t self.old.systems (frames_left before) → network.Hands departed.now d →
-            self.old.counts ≡ replay_counts t before →
-            OnOk result (TellsDeparture t self.new.systems self.new.counts before d (string_bytes self.new.text)) }
+        ensures room { (n held : ℕ) →
+            HasRoom self.old.counts (held + 1) n → OnOk result (HasRoom self.new.counts held n) }
+        ensures told { (t : Rows) (before : List Event) (d : Departure) →
+            systems.StandsFor t self.old.systems (frames_left before) →
+            network.Hands departed.now d → self.old.counts ≡ replay_counts t before →
+            OnOk result (TellsDeparture t self.new.systems self.new.counts before d
+            (text_bytes self.new.text)) }
     {
         put_departure(&mut self.text, departed)?;
         let departure = &departed.departure;
@@ -86,23 +97,28 @@ impl Replay {
         output: &mut Watched<W>,
     ) -> Result<(), RunFault>
         requires clock { network.IsUntil self.old.network until }
-        requires room { (n : ℕ) × (n ≤ 1000000) × HasRoom self.old.counts (network.frames_held self.old.network) n }
+        requires room { (n : ℕ) × (n ≤ 1000000) × HasRoomFor self.old n }
         requires sound { output.old.failed ≡ false }
         ensures failed { output.new.failed ≡ is_failed_write result }
-        ensures fault { IfErr result (λ fault. (fault ≡ RunFault.Write) ⊎ (fault ≡ RunFault.Memory)) }
+        ensures fault { IfErr result IsOutputFault }
         ensures clock { network.IsUntil self.new.network until }
         ensures quiet { OnOk result (network.IsQuiet self.new.network until) }
-        ensures room { (n : ℕ) → HasRoom self.old.counts (network.frames_held self.old.network) n → OnOk result (HasRoom self.new.counts (network.frames_held self.new.network) n) }
-        ensures told { (t : Rows) (events : List Event) (start : Option (List ℕ)) → HasTold t self.old.network self.old.systems self.old.counts start (W.contents output.old.inner) events →
-            OnOk result (ToldMore t self.new.network self.new.systems self.new.counts start (W.contents output.new.inner) events) }
-        ensures some { (t : Rows) (events : List Event) (start : Option (List ℕ)) → HasTold t self.old.network self.old.systems self.old.counts start (W.contents output.old.inner) events →
+        ensures room { (n : ℕ) → HasRoomFor self.old n → OnOk result (HasRoomFor self.new n) }
+        ensures told { (t : Rows) (events : List Event) (start : Option (List ℕ)) →
+            Tells t self.old start (W.contents output.old.inner) events →
+            OnOk result (TellsMore t self.new start (W.contents output.new.inner) events) }
+        ensures some { (t : Rows) (events : List Event) (start : Option (List ℕ)) →
+            Tells t self.old start (W.contents output.old.inner) events →
             OnErr result (WritesSome t start (W.contents output.new.inner) (arrivals_in events)) }
-        ensures all_done { (t : Rows) (events : List Event) (start : Option (List ℕ)) → HasTold t self.old.network self.old.systems self.old.counts start (W.contents output.old.inner) events → 1200000000000000 ≤ until →
-            OnOk result (ToldAll t self.new.counts start (W.contents output.new.inner) (arrivals_in events)) }
+        ensures all_done { (t : Rows) (events : List Event) (start : Option (List ℕ)) →
+            Tells t self.old start (W.contents output.old.inner) events →
+            1200000000000000 ≤ until →
+            OnOk result (ToldAll t self.new.counts start
+            (W.contents output.new.inner) (arrivals_in events)) }
     {
         while let Some(departed) = self.network.take(until) {
             self.put_lines(&departed)?;
-            write_text(output, self.text.as_str().as_bytes())?;
+            write_text(output, self.text.as_bytes())?;
         }
         Ok(())
     }
@@ -118,18 +134,21 @@ impl Replay {
         requires limit { heading.now.time ≤ 10 ^ 15 }
         requires sealed { heading.now.is_sealed ≡ is_sealed frame.now }
         requires clock { network.IsUntil self.old.network heading.now.time }
-        requires room { (m : ℕ) × (m < 1000000) × HasRoom self.old.counts (network.frames_held self.old.network) m }
+        requires room { (m : ℕ) × (m < 1000000) × HasRoomFor self.old m }
         requires sound { output.old.failed ≡ false }
         ensures failed { output.new.failed ≡ is_failed_write result }
-        ensures fault { IfErr result (λ fault. (fault ≡ RunFault.Write) ⊎ (fault ≡ RunFault.Memory)) }
+        ensures fault { IfErr result IsOutputFault }
         ensures clock { OnOk result (network.IsUntil self.new.network heading.now.time) }
-        ensures room { (m : ℕ) → HasRoom self.old.counts (network.frames_held self.old.network) m → OnOk result (HasRoom self.new.counts (network.frames_held self.new.network) (m + 1)) }
-        ensures told { (t : Rows) (start : Option (List ℕ)) (past : List Arrival) → AreTold t self.old.network self.old.systems self.old.counts start (W.contents output.old.inner) past →
-            OnOk result (AreTold t self.new.network self.new.systems self.new.counts start (W.contents output.new.inner)
-            (arrival_with n heading.now.time heading.now.side heading.now.port frame.now ∷ past)) }
-        ensures some { (t : Rows) (start : Option (List ℕ)) (past : List Arrival) → AreTold t self.old.network self.old.systems self.old.counts start (W.contents output.old.inner) past →
+        ensures room { (m : ℕ) → HasRoomFor self.old m → OnOk result (HasRoomFor self.new (m + 1)) }
+        ensures told { (t : Rows) (start : Option (List ℕ)) (past : List Arrival) →
+            TellsArrivals t self.old start (W.contents output.old.inner) past →
+            OnOk result (TellsArrivals t self.new start (W.contents output.new.inner)
+            (arrival_at n (frame_of heading.now frame.now) ∷ past)) }
+        ensures some { (t : Rows) (start : Option (List ℕ)) (past : List Arrival) →
+            TellsArrivals t self.old start (W.contents output.old.inner) past →
             OnErr result (WritesSome t start (W.contents output.new.inner) past
-            ⊎ WritesSome t start (W.contents output.new.inner) (arrival_with n heading.now.time heading.now.side heading.now.port frame.now ∷ past)) }
+            ⊎ WritesSome t start (W.contents output.new.inner)
+            (arrival_at n (frame_of heading.now frame.now) ∷ past)) }
     {
         self.tell_departures(heading.time, output)?;
         let verdict = self.network.arrive(
@@ -142,16 +161,17 @@ impl Replay {
         )?;
         let lost = put_admission(&mut self.text, n, heading.side, &verdict)?;
         count_admission(&mut self.counts, reason_of(&verdict), lost);
-        write_text(output, self.text.as_str().as_bytes())?;
+        write_text(output, self.text.as_bytes())?;
         Ok(())
     }
 }
 
 /// Replays a list of frames through the switches of both sides and the systems behind them.
 ///
-/// Each line's events are handed to `output` before the next line is read: the frames that leave before its frame arrives,
-/// and then what became of that; at the end, all that is still to leave. A list that can't be read ends the run with its first
-/// fault; the text of the events up to the line before stands written. `RunFault::Read` and `RunFault::Write` come exactly where the
+/// Each line's events are handed to `output` before the next line is read: the frames that leave
+/// before its frame arrives, and then what became of that; at the end, all that is still to leave.
+/// A list that can't be read ends the run with its first fault; the text of the events up to the
+/// line before stands written. `RunFault::Read` and `RunFault::Write` come exactly where the
 /// input's or the output's device failed; neither is tried again.
 pub fn run_unadmitted<R: Read, W: Write>(
     alloc: Global,
@@ -169,7 +189,8 @@ pub fn run_unadmitted<R: Read, W: Write>(
 
     // Where the input's bytes are known: what is answered and written for the list that they are.
     ensures answer { IfSome (R.remaining input.old.inner) (λ bytes.
-        Answers tables.now bytes (R.remaining input.new.inner) (W.contents output.old.inner) (W.contents output.new.inner) result) }
+        Answers tables.now bytes (R.remaining input.new.inner)
+        (W.contents output.old.inner) (W.contents output.new.inner) result) }
 {
     let mut reader = LineReader::new(alloc)?;
     let network = Network::new(alloc, tables)?;
@@ -177,7 +198,7 @@ pub fn run_unadmitted<R: Read, W: Write>(
     let mut replay = Replay {
         network,
         systems,
-        text: String::new(alloc),
+        text: Text::new(alloc),
         counts: Summary {
             lines: 0,
             accepted: 0,

@@ -1,9 +1,12 @@
-//! The words of a verdict.
-ghost use Rattle.std.specs.Prelude.{◌≡◌};
-ghost use Rattle.afdx_replay.specs.PoliceText.{side_text, verdict_text};
+//! The words of a verdict, and its line.
+ghost use Rattle.std.specs.Prelude.{◌≡◌, OnOk};
+ghost use Rattle.afdx_lists.specs.Texts.{text_bytes};
+ghost use Rattle.afdx_replay.specs.PoliceText.{side_text, verdict_text, verdict_line};
 
 use afdx_frame::Side;
+use afdx_lists::Text;
 use afdx_police::Reason;
+use std::alloc::AllocError;
 
 /// What became of a frame at a switch, in words: `accept`, or `drop` and the reason.
 pub(crate) fn verdict_words(reason: Option<Reason>) -> &'static str
@@ -31,4 +34,25 @@ pub(crate) fn side_letter(side: Side) -> &'static str
         Side::A => "A",
         Side::B => "B",
     }
+}
+
+/// Puts the line of a verdict in the place of `text`.
+pub(crate) fn put_verdict(
+    text: &mut Text,
+    n: u64,
+    side: Side,
+    reason: Option<Reason>,
+) -> Result<(), AllocError>
+    ensures { OnOk result (text_bytes text.new ≡ verdict_line n side reason) }
+{
+    let side = side_letter(side);
+    let words = verdict_words(reason);
+    text.clear();
+    text.put(b"V ")?;
+    text.put_number(n)?;
+    text.put(b" ")?;
+    text.put(side.as_bytes())?;
+    text.put(b" ")?;
+    text.put(words.as_bytes())?;
+    text.put(b"\n")
 }

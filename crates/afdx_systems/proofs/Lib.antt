@@ -1,4 +1,3 @@
-mod DigitLemmas
 mod PassLemmas
 mod EndLemmas
 mod SystemsLemmas

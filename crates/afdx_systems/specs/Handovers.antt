@@ -5,8 +5,8 @@ use Rattle.afdx_receive.specs.Integrity.{Incoming}
 use Rattle.afdx_receive.specs.Arrivals.{Arrived, arrived, frames_of}
 use Rattle.afdx_systems.specs.declared.handover.Handover.{Handover}
 
--- a frame that left an output port of the switch of a side: when its slot ended, in ns, the line of the list that it
--- came from, and all its bytes
+-- a frame that left an output port of the switch of a side: when its slot ended, in ns, the line of
+-- the list that it came from, and all its bytes
 pub record HandedOver : Type 0 where
   pub side : Side
   pub port : ℕ
@@ -16,7 +16,8 @@ pub record HandedOver : Type 0 where
 
 -- what the code's struct tells
 abbrev pub handed_over : Handover → HandedOver
-handed_over h = record { side = h.side; port = h.port; time = h.time; line = h.line; bytes = h.bytes.now }
+handed_over h =
+    record { side = h.side; port = h.port; time = h.time; line = h.line; bytes = h.bytes.now }
 
 -- it arrives at the port's system as it leaves
 abbrev pub arrival_of : HandedOver → Arrived
@@ -25,7 +26,8 @@ arrival_of d = arrived d.time d.side d.bytes
 -- what came to the system at a port, by both networks
 unfoldable pub came_to : ℕ → List HandedOver → List Arrived
 came_to port [] = []
-came_to port (d ∷ before) = if d.port == port then arrival_of d ∷ came_to port before else came_to port before
+came_to port (d ∷ before) =
+    if d.port == port then arrival_of d ∷ came_to port before else came_to port before
 
 -- of this, the frames of one link
 abbrev pub frames_to : ℕ → ℕ → List HandedOver → List Incoming

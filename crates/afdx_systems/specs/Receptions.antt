@@ -1,5 +1,6 @@
--- What the systems make of the frames that are handed over to them, and the lines that tell it: `M` for a message that
--- a communication port took and that was read there, `X` for a frame that the receiver dropped.
+-- What the systems make of the frames that are handed over to them, and the lines that tell it: `M`
+-- for a message that a communication port took and that was read there, `X` for a frame that the
+-- receiver dropped.
 use Rattle.std.specs.Prelude.{ℕ, ◌+◌, Bool, true, false, Option, Some, None, List, [], ◌∷◌, ◌++◌, codes, slice_get, if◌then◌else◌}
 use Rattle.std.specs.Option.{option_map_or}
 use Rattle.std.specs.Fmt.{decimal}
@@ -13,11 +14,13 @@ use Rattle.afdx_systems.specs.Words.{drop_word}
 
 abbrev pub message_line : ℕ → List ℕ → ℕ → List ℕ → List ℕ
 message_line time name vl message =
-    codes "M " ++ decimal time ++ codes " " ++ name ++ codes " " ++ decimal vl ++ codes " " ++ encode_lower message ++ codes "\n"
+    codes "M " ++ decimal time ++ codes " " ++ name ++ codes " " ++ decimal vl ++ codes " "
+    ++ encode_lower message ++ codes "\n"
 
 abbrev pub drop_line : ℕ → List ℕ → ℕ → List ℕ → List ℕ
 drop_line time name line word =
-    codes "X " ++ decimal time ++ codes " " ++ name ++ codes " " ++ decimal line ++ codes " " ++ word ++ codes "\n"
+    codes "X " ++ decimal time ++ codes " " ++ name ++ codes " " ++ decimal line ++ codes " "
+    ++ word ++ codes "\n"
 
 -- the line of a system's answer to the frame of a line of the list, which came at this time
 abbrev pub answer_line : ℕ → ℕ → List ℕ → Answer → List ℕ
@@ -39,7 +42,8 @@ answer_at rows past d system = answer_to rows system past (arrival_of d)
 -- the line that tells it, and whether it is a message; nothing where no system has the port
 abbrev pub line_at : Rows → List Arrived → HandedOver → Option ℕ → List ℕ
 line_at rows past d None = []
-line_at rows past d (Some system) = answer_line d.time d.line (name_of rows system) (answer_at rows past d system)
+line_at rows past d (Some system) =
+    answer_line d.time d.line (name_of rows system) (answer_at rows past d system)
 
 abbrev pub is_delivered_at : Rows → List Arrived → HandedOver → Option ℕ → Bool
 is_delivered_at rows past d None = false
@@ -47,11 +51,13 @@ is_delivered_at rows past d (Some system) = is_message (answer_at rows past d sy
 
 -- the line of a frame that is handed over after these
 unfoldable pub reception_line : Rows → List HandedOver → HandedOver → List ℕ
-reception_line rows before d = line_at rows (came_to d.port before) d (system_at_port rows.systems d.port)
+reception_line rows before d =
+    line_at rows (came_to d.port before) d (system_at_port rows.systems d.port)
 
 -- whether it delivered a message
 unfoldable pub is_delivered : Rows → List HandedOver → HandedOver → Bool
-is_delivered rows before d = is_delivered_at rows (came_to d.port before) d (system_at_port rows.systems d.port)
+is_delivered rows before d =
+    is_delivered_at rows (came_to d.port before) d (system_at_port rows.systems d.port)
 
 -- the lines of all frames, those of the oldest first
 unfoldable pub lines_of : Rows → List HandedOver → List ℕ
@@ -61,4 +67,5 @@ lines_of rows (d ∷ before) = lines_of rows before ++ reception_line rows befor
 -- how many messages were delivered
 unfoldable pub delivered_in : Rows → List HandedOver → ℕ
 delivered_in rows [] = 0
-delivered_in rows (d ∷ before) = if is_delivered rows before d then delivered_in rows before + 1 else delivered_in rows before
+delivered_in rows (d ∷ before) =
+    if is_delivered rows before d then delivered_in rows before + 1 else delivered_in rows before

@@ -30,4 +30,5 @@ system_in systems port = option_and_then (λ system. system) (slice_get systems.
 
 -- at each port is the system that the tables put there, after what came to that port
 pub record StandsFor (rows : Rows) (systems : Systems) (all : List HandedOver) : Type 0 where
-  pub each : (port : ℕ) → IsAt rows (came_to port all) (system_at_port rows.systems port) (system_in systems port)
+  pub each : (port : ℕ) →
+      IsAt rows (came_to port all) (system_at_port rows.systems port) (system_in systems port)

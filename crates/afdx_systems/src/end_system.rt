@@ -1,18 +1,19 @@
 //! One end system.
-ghost use Rattle.std.specs.Prelude.{◌≡◌, ℕ, ◌<◌, ◌++◌, ◌∷◌, [], IfOk, OnOk, List, length, position, string_bytes};
+ghost use Rattle.std.specs.Prelude.{◌≡◌, ℕ, ◌<◌, ◌++◌, ◌∷◌, [], IfOk, OnOk, Some, List, length, position};
 ghost use Rattle.afdx_frame.specs.Sealing.{is_sealed};
 ghost use Rattle.afdx_config.specs.Rows.{Rows};
 ghost use Rattle.afdx_receive.specs.Arrivals.{Arrived};
-ghost use Rattle.afdx_receive.specs.Answers.{answer_to};
 ghost use Rattle.afdx_comport.specs.Ports.{is_for};
+ghost use Rattle.afdx_lists.specs.Texts.{text_bytes};
 ghost use Rattle.afdx_systems.specs.Handovers.{handed_over, arrival_of};
 ghost use Rattle.afdx_systems.specs.ReadPorts.{AreRead};
-ghost use Rattle.afdx_systems.specs.Receptions.{message_line, answer_line, is_message, name_of};
+ghost use Rattle.afdx_systems.specs.Receptions.{message_line, line_at, is_delivered_at};
 
 use crate::handover::Handover;
 use crate::lines::{put_drop, put_message};
 use afdx_comport::ComPorts;
 use afdx_config::{SystemId, Tables};
+use afdx_lists::Text;
 use afdx_receive::{Receiver, Reception};
 use std::alloc::{AllocError, Global};
 
@@ -24,7 +25,8 @@ pub(crate) struct EndSystem {
     pub(crate) ports: ComPorts,
 }
 
-/// Puts a message to the port at this place, reads it there at once, and adds the line of what was read.
+/// Puts a message to the port at this place, reads it there at once, and adds the line of what was
+/// read.
 fn pass_on(
     ports: &mut ComPorts,
     place: usize,
@@ -32,13 +34,15 @@ fn pass_on(
     name: &str,
     vl: u16,
     message: &[u8],
-    text: &mut String,
+    text: &mut Text,
 ) -> Result<(), AllocError>
     requires { place < length ports.old }
     ensures read { AreRead ports.old → AreRead ports.new }
-    ensures found { (link udp : ℕ) → position (is_for link udp) ports.new ≡ position (is_for link udp) ports.old }
+    ensures found { (link udp : ℕ) →
+        position (is_for link udp) ports.new ≡ position (is_for link udp) ports.old }
     ensures line { AreRead ports.old →
-        OnOk result (string_bytes text.new ≡ string_bytes text.old ++ message_line time name.now vl message.now) }
+        OnOk result (text_bytes text.new
+        ≡ text_bytes text.old ++ message_line time name.now vl message.now) }
 {
     match ports.put(place, time, message) {
         Ok(()) => {}
@@ -76,22 +80,26 @@ impl EndSystem {
         })
     }
 
-    /// Takes in a frame, adds the line that tells what became of it, and tells whether it is a message. `sealed` is
-    /// what `is_sealed` answers of the frame's bytes.
+    /// Takes in a frame, adds the line that tells what became of it, and tells whether it is a
+    /// message. `sealed` is what `is_sealed` answers of the frame's bytes.
     pub(crate) fn receive(
         &mut self,
         handover: Handover<'_>,
         sealed: bool,
-        text: &mut String,
+        text: &mut Text,
     ) -> Result<bool, AllocError>
         requires { sealed ≡ is_sealed handover.bytes.now }
-        ensures stands { (rows : Rows) (system : ℕ) (past : List Arrived) → IsAfter rows system self.old past →
+        ensures stands { (rows : Rows) (system : ℕ) (past : List Arrived) →
+            IsAfter rows system self.old past →
             IsAfter rows system self.new (arrival_of (handed_over handover.entry) ∷ past) }
-        ensures line { (rows : Rows) (system : ℕ) (past : List Arrived) → IsAfter rows system self.old past →
-            OnOk result (string_bytes text.new ≡ string_bytes text.old
-            ++ answer_line handover.entry.time handover.entry.line (name_of rows system) (answer_to rows system past (arrival_of (handed_over handover.entry)))) }
-        ensures delivered { (rows : Rows) (system : ℕ) (past : List Arrived) → IsAfter rows system self.old past →
-            IfOk result (λ yes. yes ≡ is_message (answer_to rows system past (arrival_of (handed_over handover.entry)))) }
+        ensures line { (rows : Rows) (system : ℕ) (past : List Arrived) →
+            IsAfter rows system self.old past →
+            OnOk result (text_bytes text.new
+            ≡ text_bytes text.old ++ line_at rows past (handed_over handover.entry) (Some system)) }
+        ensures delivered { (rows : Rows) (system : ℕ) (past : List Arrived) →
+            IsAfter rows system self.old past →
+            IfOk result (λ yes.
+            yes ≡ is_delivered_at rows past (handed_over handover.entry) (Some system)) }
     {
         let Handover {
             side,

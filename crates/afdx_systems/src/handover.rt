@@ -1,3 +1,5 @@
+//! What a switch hands over to an end system.
+
 use afdx_frame::Side;
 
 /// A frame that leaves an output port of a switch, and is handed over to the system there.

@@ -1,5 +1,5 @@
-//! The end systems of a network: what each makes of the frames that the switches hand over to it, and the lines that
-//! tell it.
+//! The end systems of a network: what each makes of the frames that the switches hand over to it,
+//! and the lines that tell it.
 #![tactic(auto)]
 
 mod end_system;

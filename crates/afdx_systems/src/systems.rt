@@ -1,25 +1,28 @@
 //! The end systems of a network, by their ports of the switch.
-ghost use Rattle.std.specs.Prelude.{◌≡◌, ℕ, ◌++◌, ◌∷◌, [], IfOk, OnOk, List, Option, string_bytes};
+ghost use Rattle.std.specs.Prelude.{◌≡◌, ℕ, ◌++◌, ◌∷◌, [], IfOk, OnOk, List, Option};
 ghost use Rattle.afdx_frame.specs.Sealing.{is_sealed};
 ghost use Rattle.afdx_config.specs.Rows.{Rows};
 ghost use Rattle.afdx_config.specs.Lawful.{IsLawful};
 ghost use Rattle.afdx_config.specs.Reading.{system_at_port};
 ghost use Rattle.afdx_receive.specs.Arrivals.{Arrived};
+ghost use Rattle.afdx_lists.specs.Texts.{text_bytes};
 ghost use Rattle.afdx_systems.specs.Handovers.{HandedOver, handed_over, arrival_of};
-ghost use Rattle.afdx_systems.specs.Receptions.{line_at, is_delivered_at, reception_line, is_delivered};
+ghost use Rattle.afdx_systems.specs.Receptions.{line_at, is_delivered_at};
+ghost use Rattle.afdx_systems.specs.Receptions.{reception_line, is_delivered};
 ghost use Rattle.afdx_systems.specs.StandsFor.{IsAt};
 
 use crate::end_system::EndSystem;
 use crate::handover::Handover;
 use afdx_config::Tables;
 use afdx_frame::is_sealed;
+use afdx_lists::Text;
 use std::alloc::{AllocError, Global};
 
 /// The greatest number of a port of the switch.
 const LAST_PORT: u8 = 24;
 
-/// The end systems of a network. A contract speaks of them as what they stand for: a list of all frames that were
-/// handed over to them, the newest first.
+/// The end systems of a network. A contract speaks of them as what they stand for: a list of all
+/// frames that were handed over to them, the newest first.
 #[derive(Drop)]
 pub struct Systems {
     /// By number of their ports, from 0.
@@ -42,14 +45,18 @@ fn receive_at(
     at: &mut Option<EndSystem>,
     handover: Handover<'_>,
     sealed: bool,
-    text: &mut String,
+    text: &mut Text,
 ) -> Result<bool, AllocError>
     requires { sealed ≡ is_sealed handover.bytes.now }
-    ensures stands { (rows : Rows) (past : List Arrived) (place : Option ℕ) → IsAt rows past place at.old →
+    ensures stands { (rows : Rows) (past : List Arrived) (place : Option ℕ) →
+        IsAt rows past place at.old →
         IsAt rows (arrival_of (handed_over handover.entry) ∷ past) place at.new }
-    ensures line { (rows : Rows) (past : List Arrived) (place : Option ℕ) → IsAt rows past place at.old →
-        OnOk result (string_bytes text.new ≡ string_bytes text.old ++ line_at rows past (handed_over handover.entry) place) }
-    ensures delivered { (rows : Rows) (past : List Arrived) (place : Option ℕ) → IsAt rows past place at.old →
+    ensures line { (rows : Rows) (past : List Arrived) (place : Option ℕ) →
+        IsAt rows past place at.old →
+        OnOk result (text_bytes text.new
+        ≡ text_bytes text.old ++ line_at rows past (handed_over handover.entry) place) }
+    ensures delivered { (rows : Rows) (past : List Arrived) (place : Option ℕ) →
+        IsAt rows past place at.old →
         IfOk result (λ yes. yes ≡ is_delivered_at rows past (handed_over handover.entry) place) }
 {
     match at {
@@ -61,8 +68,8 @@ fn receive_at(
 impl Systems {
     ghost use Rattle.afdx_systems.specs.StandsFor.{StandsFor};
 
-    /// The systems of the tables, at which nothing arrived. Room is taken for all that receivers and queues will
-    /// keep, but for the messages. The error is want of memory alone.
+    /// The systems of the tables, at which nothing arrived. Room is taken for all that receivers
+    /// and queues will keep, but for the messages. The error is want of memory alone.
     pub fn new(alloc: Global, tables: &Tables) -> Result<Systems, AllocError>
         ensures stands { IfOk result (λ systems. StandsFor tables.now systems []) }
     {
@@ -73,39 +80,49 @@ impl Systems {
         Ok(Systems { at_ports })
     }
 
-    /// Takes in a frame at the system that has its port. It adds the line that tells what the system made of it,
-    /// `M time system vl hex` or `X time system n WORD`, and tells whether a message was delivered: put to its
-    /// communication port and read there at once. Where no system has the port, nothing is added.
+    /// Takes in a frame at the system that has its port. It adds the line that tells what the
+    /// system made of it, `M time system vl hex` or `X time system n WORD`, and tells whether a
+    /// message was delivered: put to its communication port and read there at once. Where no system
+    /// has the port, nothing is added.
     ///
-    /// The answer comes from the frames of the same link that were handed over at the same port before, and from
-    /// nothing else. The error is want of memory: the text may then end with a part of the line. The only memory
-    /// that it takes is that of the message and of the text.
-    pub fn receive(&mut self, handover: Handover<'_>, text: &mut String) -> Result<bool, AllocError>
-        ensures line { (rows : Rows) (before : List HandedOver) → StandsFor rows self.old before →
-            OnOk result (string_bytes text.new ≡ string_bytes text.old ++ reception_line rows before (handed_over handover.entry)) }
-        ensures delivered { (rows : Rows) (before : List HandedOver) → StandsFor rows self.old before →
+    /// The answer comes from the frames of the same link that were handed over at the same port
+    /// before, and from nothing else. The error is want of memory: what then stands in the text is
+    /// open, until it is cleared. The only memory that it takes is that of the message and of the
+    /// text.
+    pub fn receive(&mut self, handover: Handover<'_>, text: &mut Text) -> Result<bool, AllocError>
+        ensures line { (rows : Rows) (before : List HandedOver) →
+            StandsFor rows self.old before →
+            OnOk result (text_bytes text.new
+            ≡ text_bytes text.old ++ reception_line rows before (handed_over handover.entry)) }
+        ensures delivered { (rows : Rows) (before : List HandedOver) →
+            StandsFor rows self.old before →
             IfOk result (λ yes. yes ≡ is_delivered rows before (handed_over handover.entry)) }
-        ensures stands { (rows : Rows) (before : List HandedOver) → StandsFor rows self.old before →
+        ensures stands { (rows : Rows) (before : List HandedOver) →
+            StandsFor rows self.old before →
             StandsFor rows self.new (handed_over handover.entry ∷ before) }
     {
         let sealed = is_sealed(handover.bytes);
         self.receive_checked(handover, sealed, text)
     }
 
-    /// Takes in a frame of which it is known whether its bytes end with their check sequence, and doesn't read
-    /// that again: `sealed` is what `is_sealed` answers. It is `receive` otherwise.
+    /// Takes in a frame of which it is known whether its bytes end with their check sequence, and
+    /// doesn't read that again: `sealed` is what `is_sealed` answers. It is `receive` otherwise.
     pub fn receive_checked(
         &mut self,
         handover: Handover<'_>,
         sealed: bool,
-        text: &mut String,
+        text: &mut Text,
     ) -> Result<bool, AllocError>
         requires { sealed ≡ is_sealed handover.bytes.now }
-        ensures line { (rows : Rows) (before : List HandedOver) → StandsFor rows self.old before →
-            OnOk result (string_bytes text.new ≡ string_bytes text.old ++ reception_line rows before (handed_over handover.entry)) }
-        ensures delivered { (rows : Rows) (before : List HandedOver) → StandsFor rows self.old before →
+        ensures line { (rows : Rows) (before : List HandedOver) →
+            StandsFor rows self.old before →
+            OnOk result (text_bytes text.new
+            ≡ text_bytes text.old ++ reception_line rows before (handed_over handover.entry)) }
+        ensures delivered { (rows : Rows) (before : List HandedOver) →
+            StandsFor rows self.old before →
             IfOk result (λ yes. yes ≡ is_delivered rows before (handed_over handover.entry)) }
-        ensures stands { (rows : Rows) (before : List HandedOver) → StandsFor rows self.old before →
+        ensures stands { (rows : Rows) (before : List HandedOver) →
+            StandsFor rows self.old before →
             StandsFor rows self.new (handed_over handover.entry ∷ before) }
     {
         let place = usize::from(handover.port);

@@ -1,13 +1,17 @@
-//! The worked rows, from the frames that leave the switch on. They pass also where any one growth is refused.
+//! The worked rows, from the frames that leave the switch on. They pass also where any one growth
+//! is refused.
 ghost use Rattle.std.specs.Prelude.{◌≤◌};
 
 use crate::{Handover, Systems};
 use afdx_config::{ConfigFault, Tables, read_tables};
 use afdx_frame::{Address, Side, VlId, build, fcs, is_sealed};
+use afdx_lists::Text;
 use std::alloc::{AllocError, Global};
+use std::str;
 use std::test::Fail;
 
-/// Three systems and two links to the third. There the first link has a sampling port, the second a queuing port.
+/// Three systems and two links to the third. There the first link has a sampling port, the second a
+/// queuing port.
 const BASE: &str = r#"profile = 1
 buffer = 252
 
@@ -75,14 +79,16 @@ kind = "queuing"
 depth = 4
 "#;
 
-/// A frame of link 1 on side A without its check sequence: `hello` from UDP port 1000 to UDP port 1000.
+/// A frame of link 1 on side A without its check sequence: `hello` from UDP port 1000 to UDP port
+/// 1000.
 const HELLO: [u8; 60] = [
     3, 0, 0, 0, 0, 1, 2, 0, 0, 0, 1, 0x20, 8, 0, 0x45, 0, 0, 0x21, 0, 0, 0, 0, 1, 0x11, 0xcd, 0xea,
     0x0a, 0, 1, 1, 0xe0, 0xe0, 0, 1, 3, 0xe8, 3, 0xe8, 0, 0x0d, 0, 0, 0x68, 0x65, 0x6c, 0x6c, 0x6f,
     0, 0, 0, 0, 0, 0, 0, 0, 0, 0, 0, 0, 0,
 ];
 
-/// A frame of link 2 on side A without its check sequence: `world` from UDP port 2000 to UDP port 2000.
+/// A frame of link 2 on side A without its check sequence: `world` from UDP port 2000 to UDP port
+/// 2000.
 const WORLD: [u8; 60] = [
     3, 0, 0, 0, 0, 2, 2, 0, 0, 0, 2, 0x20, 8, 0, 0x45, 0, 0, 0x21, 0, 0, 0, 0, 1, 0x11, 0xcc, 0xe9,
     0x0a, 0, 2, 1, 0xe0, 0xe0, 0, 2, 7, 0xd0, 7, 0xd0, 0, 0x0d, 0, 0, 0x77, 0x6f, 0x72, 0x6c, 0x64,
@@ -127,7 +133,8 @@ fn base_tables(alloc: Global) -> Result<Tables, ConfigFault> {
     }
 }
 
-/// A frame of the list: its side, its time and its bytes. Its line is its place in the test, from 1.
+/// A frame of the list: its side, its time and its bytes. Its line is its place in the test, from
+/// 1.
 #[derive(Clone, Copy)]
 struct Listed {
     side: Side,
@@ -151,15 +158,20 @@ fn on_b(time: u64, bytes: [u8; 64]) -> Listed {
     }
 }
 
+/// The text, to be compared.
+fn shown(text: &Text) -> &str {
+    str::from_utf8(text.as_bytes()).unwrap_or("no text")
+}
+
 /// What new systems tell of frames at a port, and how many messages they delivered.
 fn tell_once(
     alloc: Global,
     tables: &Tables,
     port: u8,
     frames: &[Listed],
-) -> Result<(String, u64), AllocError> {
+) -> Result<(Text, u64), AllocError> {
     let mut systems = Systems::new(alloc, tables)?;
-    let mut text = String::new(alloc);
+    let mut text = Text::new(alloc);
     let mut delivered = 0u64;
     let mut line = 0u64;
     for frame in frames {
@@ -183,7 +195,7 @@ fn tell(
     tables: &Tables,
     port: u8,
     frames: &[Listed],
-) -> Result<(String, u64), AllocError> {
+) -> Result<(Text, u64), AllocError> {
     match tell_once(alloc, tables, port, frames) {
         Err(_) => tell_once(alloc, tables, port, frames),
         told => told,
@@ -196,14 +208,14 @@ fn messages_of_both_kinds_of_port(rt: HostRuntime) -> Result<(), Fail> {
     let frames = [on_a(6720, hello(0)), on_a(13440, world(0))];
     let (text, delivered) = tell(rt.alloc(), &tables, 3, frames.as_slice())?;
     assert_eq!(rt;
-        text.as_str(),
+        shown(&text),
         "M 6720 s3 1 68656c6c6f\nM 13440 s3 2 776f726c64\n"
     );
     assert_eq!(rt; delivered, 2);
     let frames = [on_a(6720, world(0)), on_a(13440, hello(0))];
     let (text, delivered) = tell(rt.alloc(), &tables, 3, frames.as_slice())?;
     assert_eq!(rt;
-        text.as_str(),
+        shown(&text),
         "M 6720 s3 2 776f726c64\nM 13440 s3 1 68656c6c6f\n"
     );
     assert_eq!(rt; delivered, 2);
@@ -221,9 +233,9 @@ fn refused_telling_is_begun_again(rt: HostRuntime) -> Result<(), Fail> {
         on_a(5, world(1)),
     ];
     let (text, delivered) = tell(rt.alloc(), &tables, 3, frames.as_slice())?;
-    let told =
-        "M 1 s3 1 68656c6c6f\nM 2 s3 1 68656c6c6f\nX 3 s3 3 redundant\nM 4 s3 2 776f726c64\nM 5 s3 2 776f726c64\n";
-    assert_eq!(rt; text.as_str(), told);
+    let told = "M 1 s3 1 68656c6c6f\nM 2 s3 1 68656c6c6f\nX 3 s3 3 redundant\n\
+        M 4 s3 2 776f726c64\nM 5 s3 2 776f726c64\n";
+    assert_eq!(rt; shown(&text), told);
     assert_eq!(rt; delivered, 4);
     Ok(())
 }
@@ -234,7 +246,7 @@ fn a_copy_is_redundant(rt: HostRuntime) -> Result<(), Fail> {
     let frames = [on_a(6720, hello(0)), on_b(6720, hello(0))];
     let (text, delivered) = tell(rt.alloc(), &tables, 3, frames.as_slice())?;
     assert_eq!(rt;
-        text.as_str(),
+        shown(&text),
         "M 6720 s3 1 68656c6c6f\nX 6720 s3 2 redundant\n"
     );
     assert_eq!(rt; delivered, 1);
@@ -274,7 +286,7 @@ fn numbers(rt: HostRuntime) -> Result<(), Fail> {
             on_a(last, hello(c)),
         ];
         let (text, _) = tell(rt.alloc(), &tables, 3, frames.as_slice())?;
-        assert_eq!(rt; text.as_str().strip_prefix(first), Some(rest));
+        assert_eq!(rt; shown(&text).strip_prefix(first), Some(rest));
     }
     Ok(())
 }
@@ -310,7 +322,7 @@ fn words_of_frames_that_won(rt: HostRuntime) -> Result<(), Fail> {
     ] {
         let frames = [on_a(6720, changed(HELLO, changes))];
         let (text, delivered) = tell(rt.alloc(), &tables, 3, frames.as_slice())?;
-        assert_eq!(rt; text.as_str(), line);
+        assert_eq!(rt; shown(&text), line);
         assert_eq!(rt; delivered, 0);
     }
     Ok(())
@@ -328,7 +340,7 @@ fn bytes_that_a_switch_drops(rt: HostRuntime) -> Result<(), Fail> {
     ];
     let (text, delivered) = tell(rt.alloc(), &tables, 3, frames.as_slice())?;
     let told = "X 1 s3 1 bad-fcs\nX 2 s3 2 bad-address\nX 3 s3 3 not-subscribed\n";
-    assert_eq!(rt; text.as_str(), told);
+    assert_eq!(rt; shown(&text), told);
     assert_eq!(rt; delivered, 0);
     Ok(())
 }
@@ -348,7 +360,7 @@ fn each_port_has_its_system(rt: HostRuntime) -> Result<(), Fail> {
         (255, ""),
     ] {
         let (text, _) = tell(rt.alloc(), &tables, port, frames.as_slice())?;
-        assert_eq!(rt; text.as_str(), told);
+        assert_eq!(rt; shown(&text), told);
     }
     Ok(())
 }
@@ -373,7 +385,7 @@ fn is_printed(alloc: Global, tables: &Tables, length: usize) -> Result<bool, All
     };
     let frame = build(alloc, &address, 0, Side::A, message)?;
     let mut systems = Systems::new(alloc, tables)?;
-    let mut text = String::new(alloc);
+    let mut text = Text::new(alloc);
     let handover = Handover {
         side: Side::B,
         port: 3,
@@ -389,7 +401,7 @@ fn is_printed(alloc: Global, tables: &Tables, length: usize) -> Result<bool, All
         write!(line, "{byte:02x}")?;
     }
     line.push_str("\n")?;
-    Ok(is_delivered && text.as_str() == line.as_str())
+    Ok(is_delivered && text.as_bytes() == line.as_bytes())
 }
 
 #[test]

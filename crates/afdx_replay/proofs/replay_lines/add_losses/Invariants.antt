@@ -1,5 +1,5 @@
 use Rattle.std.proofs.Common.{◌≡◌, ◌≤◌, ◌++◌, length}
-use Rattle.std.specs.Prelude.{string_bytes}
+use Rattle.afdx_lists.specs.Texts.{text_bytes}
 use Rattle.afdx_switch.specs.Ports.{holds}
 use Rattle.afdx_replay.specs.ReplayText.{loss_lines}
 use Rattle.afdx_replay.proofs.LossLemmas.{lost_below}
@@ -7,7 +7,7 @@ use Rattle.afdx_replay.proofs.replay_lines.add_losses.Given as goal
 
 abbrev pub invariant-loop-place : goal.invariant-loop-place
 invariant-loop-place l = record {
-  lines : string_bytes l.text ≡ string_bytes l.fn.text ++ loss_lines l.n l.side (lost_below (holds l.lost) l.place);
+  lines : text_bytes l.text ≡ text_bytes l.fn.text ++ loss_lines l.n l.side (lost_below (holds l.lost) l.place);
   count : l.count ≡ length (lost_below (holds l.lost) l.place);
   few : l.count ≤ l.place;
 }

@@ -27,7 +27,7 @@ returns-clause-told g c t start past h =
       at_arrival = tt;
       told = told-came t _ _ _ _ _ start _ _ k.0 a c.reason_of.result c.in_ok-lost.lost _ k.2 (c.in_ok-verdict.ensures.stands t k.0 k.2.switches_are)
           (c.reason_of.ensures ∙ v.reason) (c.in_ok-lost.ensures.count ∙ ap length v.lost) c.count_admission.ensures.counted
-          (lines-told c.in_ok-verdict.verdict a _ v c.in_ok-lost.ensures.lines) (rw (c.as_bytes.ensures.value ∙ c.as_str.ensures.value) at c.in_ok-write_text.ensures.written);
+          (lines-told c.in_ok-verdict.verdict a _ v c.in_ok-lost.ensures.lines) (rw c.as_bytes.ensures at c.in_ok-write_text.ensures.written);
     }
 
 pub returns-in_err-verdict-clause-some : goal.returns-in_err-verdict-clause-some
@@ -48,4 +48,4 @@ returns-in_err-write_text-clause-some g c t start past h =
     let v = c.in_ok-verdict.ensures.verdict t k.0 k.2.switches_are in
     on-err c.from_residual-in_err-write_text.result _ (inr (subst (λ (p : List Arrival). WritesSome t start (g.W.Write.contents c.write_text.new.output.inner) (x ∷ p)) (k.1 ∙ h.arrivals_are)
     (begun-came t _ _ _ _ start _ _ k.0 a _ k.2 (c.in_ok-verdict.ensures.stands t k.0 k.2.switches_are)
-    (lines-told c.in_ok-verdict.verdict a _ v c.in_ok-lost.ensures.lines) (rw (c.as_bytes.ensures.value ∙ c.as_str.ensures.value) at c.in_err-write_text.ensures.front))))
+    (lines-told c.in_ok-verdict.verdict a _ v c.in_ok-lost.ensures.lines) (rw c.as_bytes.ensures at c.in_err-write_text.ensures.front))))

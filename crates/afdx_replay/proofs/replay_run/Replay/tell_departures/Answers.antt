@@ -27,7 +27,7 @@ loop-departed-preserved g c =
             k.1,
             told-left t _ _ _ _ _ _ start _ _ k.0 n.departure _ k.2 (subst (λ (w : Network). network.StandsFor t w (Left n.departure ∷ k.0)) (sym c.put_lines.ensures.network) n.stands)
                 (c.in_ok-put_lines.ensures.told t k.0 n.departure k.2.systems_are n.hands k.2.counted)
-                (rw (c.as_bytes.ensures.value ∙ c.as_str.ensures.value) at c.in_ok-write_text.ensures.written),
+                (rw c.as_bytes.ensures at c.in_ok-write_text.ensures.written),
           );
     }
 
@@ -43,7 +43,7 @@ returns-in_err-write_text-clause-some g c t events start h =
     on-err c.from_residual-in_err-write_text.result _ (subst (λ (p : List Arrival). WritesSome t start (g.W.Write.contents c.write_text.new.output.inner) p) k.1
     (begun-left t _ c.put_lines.new.self.network _ _ _ _ start _ _ k.0 n.departure _ k.2 (subst (λ (w : Network). network.StandsFor t w (Left n.departure ∷ k.0)) (sym c.put_lines.ensures.network) n.stands)
     (c.in_ok-put_lines.ensures.told t k.0 n.departure k.2.systems_are n.hands k.2.counted)
-    (rw (c.as_bytes.ensures.value ∙ c.as_str.ensures.value) at c.in_err-write_text.ensures.front)))
+    (rw c.as_bytes.ensures at c.in_err-write_text.ensures.front)))
 
 pub returns-clause-room : goal.returns-clause-room
 returns-clause-room g c n h = subst (λ (k : ℕ). HasRoom c.loop-departed.self.counts k n) (sym c.in_default.ensures.held) (c.loop-departed.invariant.room n h)
