@@ -1,4 +1,4 @@
-use Rattle.std.proofs.Common.{ℕ, ◌≡◌, ◌≤◌, ◌<◌, ◌+◌, ◌*◌, ◌%◌, arith, refl, sym, ap, ◌∙◌, true, nat_le, nat_lt, Some, None, Ok, if◌then◌else◌, slice_index}
+use Rattle.std.proofs.Common.{ℕ, ◌≡◌, ◌≤◌, ◌+◌, ◌*◌, ◌%◌, arith, refl, ap, ◌∙◌, nat_le, Some, None, Ok, if◌then◌else◌, slice_index}
 use Rattle.std.proofs.lemmas.Grind.{common_steps}
 use Rattle.hex.specs.Hex.{hex_digit_value, digit_or_error, value_at, pair_value}
 use Rattle.hex.proofs.Pairs.{decode_start, decode_step, decode_done}
