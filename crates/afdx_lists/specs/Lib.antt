@@ -5,3 +5,4 @@ pub mod Fields
 pub mod FrameLines
 pub mod SubmissionLines
 pub mod Texts
+pub mod Telling

@@ -1,6 +1,6 @@
 //! Why a line says nothing, and why a run ended before the end of its list.
-ghost use Rattle.std.specs.Prelude.{◌≡◌};
-ghost use Rattle.afdx_lists.specs.Faults.{fault_with, status_of};
+ghost use Rattle.std.specs.Prelude.{◌≡◌, ◌++◌};
+ghost use Rattle.afdx_lists.specs.Faults.{fault_text, fault_with, number_text, status_of};
 ghost use Rattle.afdx_lists.specs.declared.fault.RunFault.TheVariants.{Memory};
 
 use std::alloc::AllocError;
@@ -104,6 +104,24 @@ impl RunFault {
         match self {
             RunFault::Read | RunFault::Write | RunFault::Memory => 4,
             _ => 3,
+        }
+    }
+
+    /// Its words, and the number of its line where it has one. One after the other they are its text.
+    pub fn parts(&self) -> (&'static str, Option<u64>)
+        ensures { result.0.now ++ number_text result.1 ≡ fault_text self.now }
+    {
+        match self {
+            RunFault::BadLine(n) => ("list BadLine ", Some(*n)),
+            RunFault::BadHex(n) => ("list BadHex ", Some(*n)),
+            RunFault::TimeBack(n) => ("list TimeBack ", Some(*n)),
+            RunFault::TimeTooLarge(n) => ("list TimeTooLarge ", Some(*n)),
+            RunFault::BadPort(n) => ("list BadPort ", Some(*n)),
+            RunFault::LineTooLong(n) => ("list LineTooLong ", Some(*n)),
+            RunFault::TooManyLines => ("list TooManyLines", None),
+            RunFault::Read => ("device Read", None),
+            RunFault::Write => ("device Write", None),
+            RunFault::Memory => ("memory", None),
         }
     }
 }

@@ -12,3 +12,4 @@ pub mod ReplayPromises
 pub mod PromisedRun
 pub mod ReplayCommand
 pub mod SendText
+pub mod Refusals

@@ -3,9 +3,11 @@
 
 mod admitted_run;
 mod check_command;
+mod ending;
 pub mod laws;
 mod police_command;
 mod police_run;
+mod refusing;
 mod replay_command;
 mod replay_lines;
 mod replay_run;

@@ -1,17 +1,19 @@
 //! The command `police`.
-ghost use Rattle.std.specs.Prelude.{◌≡◌, ℕ, IfSome, false};
-ghost use Rattle.std.specs.Io.KnownBytes.{Keeps};
+ghost use Rattle.std.specs.Prelude.{◌≡◌, ◌≤◌, ◌+◌, ◌||◌, ◌⊎◌, ℕ, Result, IfSome, codes, false, true};
 ghost use Rattle.afdx_police.specs.Rule.{IsRule};
-ghost use Rattle.afdx_replay.specs.Commands.{commanded_rule, Polices};
+ghost use Rattle.afdx_lists.specs.Telling.{Tells};
+ghost use Rattle.afdx_replay.specs.Commands.{commanded_rule, EndsAs};
+ghost use Rattle.afdx_replay.specs.Policed.{Answers};
+ghost use Rattle.afdx_replay.specs.declared.summary.Summary.{Summary};
+ghost use Rattle.afdx_lists.specs.declared.fault.RunFault.{RunFault};
 
+use crate::ending::end;
 use crate::police_run::run_police;
 use afdx_frame::{Policing, VlId};
-use afdx_lists::{RunFault, Watched};
+use afdx_lists::{Watched, tell};
 use afdx_police::LinkRule;
 use std::alloc::Global;
 use std::io::{Read, Write};
-
-const DONE: u8 = 0;
 
 const WRONG_WORDS: u8 = 2;
 
@@ -38,25 +40,31 @@ pub fn police<R: Read, O: Write, E: Write>(
     requires unended { input.old.ended ≡ false }
     requires sound_output { output.old.failed ≡ false }
 
+    // 0 comes only where the list came to its end, 4 wherever a device failed.
+    ensures statuses { (result ≡ 0) ⊎ (result ≡ 2) ⊎ (result ≡ 3) ⊎ (result ≡ 4) }
+    ensures done { result ≡ 0 → (input.new.ended ≡ true) × (input.new.failed ≡ false) × (output.new.failed ≡ false) }
+    ensures device { (input.new.failed || output.new.failed) ≡ true → result ≡ 4 }
+    ensures calls { input.new.calls ≤ input.old.calls + 4201000001 }
+
     // A value out of range: nothing is read and nothing is written.
     ensures out_of_range { (IsRule (commanded_rule bag_ms lmax jitter_us) → ⊥) → result ≡ 2 }
+    ensures words { (IsRule (commanded_rule bag_ms lmax jitter_us) → ⊥) →
+        Tells E.contents errors.old errors.new (codes "words BadRule\n") }
     ensures nothing_read { (IsRule (commanded_rule bag_ms lmax jitter_us) → ⊥) → input.new ≡ input.old }
     ensures nothing_written { (IsRule (commanded_rule bag_ms lmax jitter_us) → ⊥) → output.new ≡ output.old }
 
-    // Else what is written, and the status, are those of the run over the list, where its bytes are known.
-    ensures polices { IsRule (commanded_rule bag_ms lmax jitter_us) → IfSome (R.remaining input.old.inner) (λ bytes.
-        Polices (commanded_rule bag_ms lmax jitter_us) bytes (R.remaining input.new.inner) (O.contents output.old.inner) (O.contents output.new.inner) result) }
+    // Else the command ends as a run over the list answered, and where the list's bytes are known what is written is
+    // what goes with that answer.
+    ensures polices { IsRule (commanded_rule bag_ms lmax jitter_us) → (answer : Result Summary RunFault)
+        × EndsAs E.contents input.new output.new errors.old errors.new result answer
+        × IfSome (R.remaining input.old.inner) (λ bytes.
+            Answers (commanded_rule bag_ms lmax jitter_us) bytes (R.remaining input.new.inner)
+            (O.contents output.old.inner) (O.contents output.new.inner) answer) }
 {
     let Some(rule) = LinkRule::new(LINK, PORT, bag_ms, LMIN, lmax, jitter_us, Policing::Byte) else {
-        let _ = writeln!(errors, "words BadRule");
+        tell(errors, b"words BadRule\n");
         return WRONG_WORDS;
     };
-    match run_police(alloc, &rule, input, output) {
-        Ok(_) => DONE,
-        Err(fault) => {
-            let status = fault.status();
-            let _ = writeln!(errors, "{fault}");
-            status
-        }
-    }
+    let answer = run_police(alloc, &rule, input, output);
+    end(&answer, errors)
 }

@@ -1,0 +1,45 @@
+//! Faults are told, each in one line, without memory.
+ghost use Rattle.std.specs.Prelude.{◌≡◌, false, true};
+ghost use Rattle.afdx_lists.specs.Faults.{fault_line, number_text};
+ghost use Rattle.afdx_lists.specs.Telling.{Tells};
+
+use crate::fault::RunFault;
+use crate::watched::Watched;
+use crate::writing::write_text;
+use itoa::Buffer;
+use std::io::Write;
+
+/// Hands a text to a device, or a beginning of it where that fails. A device that failed before is not asked.
+pub fn tell<W: Write>(device: &mut Watched<W>, text: &[u8])
+    ensures told { Tells W.contents device.old device.new text.now }
+    ensures unasked { device.old.failed ≡ true → device.new ≡ device.old }
+{
+    if !device.failed() {
+        let _ = write_text(device, text);
+    }
+}
+
+/// Hands a number to a device, if there is one.
+fn tell_number<W: Write>(device: &mut Watched<W>, number: Option<u64>)
+    ensures told { Tells W.contents device.old device.new (number_text number) }
+    ensures unasked { device.old.failed ≡ true → device.new ≡ device.old }
+{
+    match number {
+        Some(number) => {
+            let mut digits = Buffer::new();
+            tell(device, digits.format(number).as_bytes());
+        }
+        None => {}
+    }
+}
+
+/// Hands the one line of a fault to a device, or a beginning of it where that fails. A device that failed before is
+/// not asked.
+pub fn tell_fault<W: Write>(device: &mut Watched<W>, fault: &RunFault)
+    ensures { Tells W.contents device.old device.new (fault_line fault.now) }
+{
+    let (words, number) = fault.parts();
+    tell(device, words.as_bytes());
+    tell_number(device, number);
+    tell(device, b"\n");
+}
