@@ -57,7 +57,7 @@ tell 'each beginning of a configuration' "$(
     for ((k = 0; k <= $(wc -l <examples/base.toml); k++)); do
         head -n "$k" examples/base.toml >"$work/changed.toml"
         launch check "$work/changed.toml"
-        if [[ $status -gt 1 || ($status -eq 1 && $(head -n 1 "$work/err") != config\ * && -s $work/err) ]]; then
+        if [[ $status -gt 1 || (-s $work/err && $(<"$work/err") != config\ *) ]]; then
             echo "line $k: status $status"
         fi
     done
