@@ -15,7 +15,7 @@ import sys
 import tempfile
 
 sys.dont_write_bytecode = True
-from run import PROGRAM, timed  # noqa: E402
+from measure import PROGRAM, timed  # noqa: E402
 
 SYSTEMS = 24
 LINKS = 4096

@@ -12,7 +12,7 @@ import sys
 import tempfile
 
 sys.dont_write_bytecode = True
-from run import HERE, timed  # noqa: E402
+from measure import HERE, timed  # noqa: E402
 
 PROGRAM = os.path.join(HERE, "..", "crates", "port_bench", "out", "port_bench")
 

@@ -1,22 +1,22 @@
 #!/usr/bin/env python3
-"""Measures `afdx police` on a long frame list.
+"""Measures `afdx police` and `afdx replay` on long frame lists.
 
-    bench/run.py [PROGRAM] [--lines N] [--times T] [--both-sides] [--baseline]
+    bench/run.py [PROGRAM] [--lines N] [--times T] [--only TEXT] [--baseline] [--scaling]
 
-PROGRAM is the built program, crates/afdx/out/afdx where it isn't given. It polices a list of N
-lines of 64-byte frames (1,000,000 where it isn't given) by `police 1 64 500 LIST`, T times (3 where
-it isn't given) in each of three ways:
+PROGRAM is the built program, crates/afdx/out/afdx where it isn't given. The lists have N lines
+(1,000,000 where it isn't given), but at most about 500 MB, and are made in a temporary folder by
+bench/make_list.py and bench/make_network.py. Each list is run T times (3 where it isn't given) from a
+file into /dev/null. One table in Markdown is printed:
 
-    file to null    LIST is a file, standard output is /dev/null
-    file to file    LIST is a file, standard output is a file
-    pipe to null    LIST is -, and another process writes the list into standard input
+    seconds        user and system seconds together, the least of the runs
+    peak memory    the greatest of the runs
+    instructions   for each line, by valgrind's callgrind, the run of 4,000 lines less that of 2,000;
+                   `-` where valgrind isn't installed
 
-For the first of these also a list that has a tenth as many lines is taken, so that one sees whether
-memory grows with the list. Of each, the best time is printed, with the greatest peak memory of all
-its runs. MB are 1,000,000 bytes of the list.
-
-With --baseline the hand-written C program bench/handwritten/police_baseline.c is compiled by
-`cc -O2`, must print the same, and is measured beside it.
+MB are 1,000,000 bytes of the list. With --baseline the hand-written C program
+bench/handwritten/police_baseline.c is compiled by `cc -O2`, must print the same as `police`, and stands in
+the table beside it. With --only the rows whose name has TEXT in it are measured. With --scaling another
+table is printed: how time and memory grow with the lines of a list and with the links of a network.
 
 Needs Linux and Python 3, no packages; with /usr/bin/time the figure for memory is the program's
 alone. It is a measurement and no test: it fails only where a run fails or the two programs differ.
@@ -27,61 +27,120 @@ import os
 import subprocess
 import sys
 import tempfile
-import time
 
 sys.dont_write_bytecode = True
 from make_list import MOST_LINES, write_list  # noqa: E402
+from make_network import write_network  # noqa: E402
+from measure import HERE, PROGRAM, instructions, timed  # noqa: E402
 
-HERE = os.path.dirname(os.path.abspath(__file__))
-PROGRAM = os.path.join(HERE, "..", "crates", "afdx", "out", "afdx")
 BASELINE = os.path.join(HERE, "handwritten", "police_baseline.c")
-STARTER = "/usr/bin/time"
-RULE = ["police", "1", "64", "500"]
+MOST_BYTES = 500_000_000
+FEW = 2_000  # lines of the shorter list for callgrind
+
+POLICE = [
+    ("police, one frame of 64 bytes, N times", {}),
+    ("police, frames of 64 random bytes", {"length": 64}),
+    ("police, frames of 200 random bytes", {"length": 200}),
+    ("police, frames of 1,518 random bytes", {"length": 1518}),
+    ("police, R lines of 200 random bytes", {"length": 200, "raw": True}),
+]
+REPLAY = [
+    ("replay, 24 systems, 400 links, 100 Mbit/s", "aircraft", True),
+    ("replay, 24 systems, 4,096 links, 1 Gbit/s, profile 2", "gigabit", True),
+    ("replay, an overloaded port, frames lost", "lost", False),
+    ("replay, an overloaded port, frames too old, profile 2", "old", False),
+]
+HEAD = ["run", "lines", "MB", "seconds", "lines a second", "MB a second", "peak memory", "instructions a line"]
 
 
-def timed(words, given, taken, note, statuses=(0,)):
-    """Runs it once: seconds, and peak memory in KiB."""
-    # Linux counts the memory of the process that starts a program to that program's peak, so a
-    # small starter is put between. Without it the figure is at least what Python itself takes.
-    has_starter = os.access(STARTER, os.X_OK)
-    started = [STARTER, "-f", "%M", "-o", note, *words] if has_starter else words
-    began = time.perf_counter()
-    child = subprocess.Popen(started, stdin=given, stdout=taken)
-    _, status, usage = os.wait4(child.pid, 0)
-    seconds = time.perf_counter() - began
-    child.returncode = os.waitstatus_to_exitcode(status)
-    if child.returncode not in statuses:
-        sys.exit(f"{' '.join(words)} ended with status {child.returncode}")
-    if not has_starter:
-        return seconds, usage.ru_maxrss
-    with open(note, encoding="ascii") as text:
-        return seconds, int(text.read().split()[-1])
+class Bench:
+    def __init__(self, given, folder):
+        self.program, self.times, self.folder = os.path.abspath(given.program), given.times, folder
+
+    def path(self, name):
+        return os.path.join(self.folder, name)
+
+    def best(self, words):
+        """The least seconds and the greatest memory of some runs."""
+        with open(os.devnull, "w", encoding="ascii") as nothing:
+            runs = [timed(words, subprocess.DEVNULL, nothing, self.path("note")) for _ in range(self.times)]
+        return min(seconds for seconds, _ in runs), max(memory for _, memory in runs)
+
+    def a_line(self, make, words):
+        """Instructions for each line: a longer list less a shorter one. `make` writes a list of so many lines."""
+        counts = []
+        for count in (FEW, 2 * FEW):
+            make(self.path("few.list"), count)
+            counts.append(instructions([*words, self.path("few.list")], self.folder))
+        return None if None in counts else (counts[1] - counts[0]) / FEW
+
+    def row(self, name, words, count, make):
+        listing = self.path("long.list")
+        size = os.path.getsize(listing)
+        seconds, memory = self.best([*words, listing])
+        each = self.a_line(make, words)
+        return [
+            name,
+            f"{count:,}",
+            f"{size / 1e6:,.0f}",
+            f"{seconds:.2f}",
+            f"{count / seconds:,.0f}",
+            f"{size / seconds / 1e6:,.0f}",
+            f"{memory / 1024:.1f} MiB",
+            "-" if each is None else f"{each:,.0f}",
+        ]
+
+    def police(self, name, options, lines, baseline):
+        length = options.get("length", 64)
+        count = min(lines, MOST_BYTES // (2 * length + 20))
+        make = lambda path, count: write_list(path, count, **options)
+        make(self.path("long.list"), count)
+        rule = ["1", str(max(length, 64)), "500"]
+        words = [self.program, "police", *rule]
+        yield self.row(name, words, count, make)
+        if baseline:
+            other = [baseline, *rule]
+            for program, copy in ((words, "ours"), (other, "theirs")):
+                with open(self.path(copy), "w", encoding="ascii") as out:
+                    subprocess.run([*program, self.path("long.list")], stdout=out, check=True)
+            if not filecmp.cmp(self.path("ours"), self.path("theirs"), shallow=False):
+                sys.exit("the two programs print different verdicts")
+            yield self.row("the same by hand-written C", other, count, make)
+
+    def network(self, kind, is_admitted, lines, links=None):
+        """Writes a network and its list; gives the words that replay it."""
+        config = self.path(f"{kind}.toml")
+        write_network(kind, config, self.path("long.list"), lines, links)
+        if is_admitted:
+            subprocess.run([self.program, "check", config], stdout=subprocess.DEVNULL, check=True)
+        return [self.program, "replay", *([] if is_admitted else ["--no-admission"]), config]
+
+    def replay(self, name, kind, is_admitted, lines):
+        words = self.network(kind, is_admitted, lines)
+        make = lambda path, count: write_network(kind, self.path("few.toml"), path, count)
+        yield self.row(name, words, lines, make)
+
+    def scaling(self, kind, lines, links):
+        words = self.network(kind, True, lines, links)
+        seconds, memory = self.best([*words, self.path("long.list")])
+        empty = self.best([*words, os.devnull])[0]
+        return [
+            f"{links:,}",
+            f"{lines:,}",
+            f"{seconds:.2f}",
+            f"{empty:.2f}",
+            f"{(seconds - empty) / lines * 1e6:.2f}",
+            f"{memory / 1024:.1f} MiB",
+        ]
 
 
-def measure(program, way, listing, copy, times):
-    """The best of some runs: seconds, and the greatest peak memory in KiB."""
-    runs = []
-    note = f"{copy}.peak"
-    for _ in range(times):
-        if way == "pipe to null":
-            with open(os.devnull, "w", encoding="ascii") as taken:
-                feeder = subprocess.Popen(["cat", listing], stdout=subprocess.PIPE)
-                runs.append(timed([*program, "-"], feeder.stdout, taken, note))
-                feeder.stdout.close()
-                feeder.wait()
-        else:
-            target = copy if way == "file to file" else os.devnull
-            with open(target, "w", encoding="ascii") as taken:
-                runs.append(timed([*program, listing], subprocess.DEVNULL, taken, note))
-    return min(seconds for seconds, _ in runs), max(memory for _, memory in runs)
+def show(cells):
+    print("| " + " | ".join(cells) + " |", flush=True)
 
 
-def show(name, way, count, size, seconds, memory):
-    print(
-        f"{name:10} {way:13} {count:9,} lines {seconds:7.3f} s "
-        f"{count / seconds:12,.0f} lines/s {size / seconds / 1e6:8.1f} MB/s {memory / 1024:7.1f} MiB peak",
-        flush=True,
-    )
+def head(cells):
+    show(cells)
+    print("|" + "---|" * len(cells))
 
 
 def main():
@@ -89,10 +148,11 @@ def main():
         description=__doc__, formatter_class=argparse.RawDescriptionHelpFormatter
     )
     words.add_argument("program", metavar="PROGRAM", nargs="?", default=PROGRAM, help="the built program")
-    words.add_argument("--lines", metavar="N", type=int, default=MOST_LINES, help="lines of the list")
+    words.add_argument("--lines", metavar="N", type=int, default=MOST_LINES, help="lines of a list")
     words.add_argument("--times", metavar="T", type=int, default=3, help="runs of each kind")
-    words.add_argument("--both-sides", action="store_true", help="alternate between side A and side B")
+    words.add_argument("--only", metavar="TEXT", default="", help="measure the rows with TEXT in their names")
     words.add_argument("--baseline", action="store_true", help="measure the hand-written C program too")
+    words.add_argument("--scaling", action="store_true", help="print the table of growth")
     given = words.parse_args()
     if not 1 <= given.lines <= MOST_LINES:
         words.error(f"N is 1 to {MOST_LINES}")
@@ -102,33 +162,28 @@ def main():
         words.error(f"there is no program at {given.program}: build it first, by bin/afdx --version")
 
     with tempfile.TemporaryDirectory(prefix="afdx-bench-") as folder:
-        inside = lambda name: os.path.join(folder, name)
-        long_list, short_list = inside("long.list"), inside("short.list")
-        short = max(1, given.lines // 10)
-        write_list(long_list, given.lines, given.both_sides)
-        write_list(short_list, short, given.both_sides)
-        programs = [("afdx", [os.path.abspath(given.program), *RULE])]
+        bench = Bench(given, folder)
+        if given.scaling:
+            head(["links", "lines", "seconds", "of these before the first line", "us a line", "peak memory"])
+            sizes = [given.lines // 100, given.lines // 10, given.lines]
+            for lines in sizes:
+                show(bench.scaling("gigabit", max(1, lines), 400))
+            for links in (1, 64, 1024, 4096):
+                show(bench.scaling("gigabit", max(1, sizes[1]), links))
+            return
+        built = None
         if given.baseline:
-            built = inside("police_baseline")
+            built = bench.path("police_baseline")
             subprocess.run(["cc", "-O2", "-o", built, BASELINE], check=True)
-            programs.append(("baseline", [built, *RULE[1:]]))
-
-        best = {}
-        for name, program in programs:
-            for way, listing, count in (
-                ("file to null", short_list, short),
-                ("file to null", long_list, given.lines),
-                ("file to file", long_list, given.lines),
-                ("pipe to null", long_list, given.lines),
-            ):
-                seconds, memory = measure(program, way, listing, inside(f"{name}.out"), given.times)
-                show(name, way, count, os.path.getsize(listing), seconds, memory)
-                best[name, way] = seconds
-        if given.baseline:
-            if not filecmp.cmp(inside("afdx.out"), inside("baseline.out"), shallow=False):
-                sys.exit("the two programs print different verdicts")
-            for way in ("file to null", "file to file", "pipe to null"):
-                print(f"afdx takes {best['afdx', way] / best['baseline', way]:.2f} times the baseline, {way}")
+        head(HEAD)
+        for name, options in POLICE:
+            if given.only in name:
+                for cells in bench.police(name, options, given.lines, built):
+                    show(cells)
+        for name, kind, is_admitted in REPLAY:
+            if given.only in name:
+                for cells in bench.replay(name, kind, is_admitted, given.lines):
+                    show(cells)
 
 
 if __name__ == "__main__":

@@ -45,25 +45,30 @@ def header_checksum(header):
     return total ^ 0xFFFF
 
 
-def built(system, vl, text, number, side="A", udp=None, least=64, **changes):
+def frame_of(ident, partition, vl, payload, number, side, udp, least=64, **changes):
     """A frame without its check sequence, as a sender builds it, but for the changes.
 
     The changes are values of fields: ether_type, flags, protocol, checksum (added to the right one),
     udp_length, address.
     """
-    _, ident, partition = SYSTEMS[system]
-    payload = text.encode("ascii")
     address = changes.get("address", b"\x03\x00\x00\x00" + two(vl))
     source = b"\x02\x00\x00" + two(ident) + (b"\x20" if side == "A" else b"\x40")
     header = b"\x45\x00" + two(28 + len(payload)) + two(0) + two(changes.get("flags", 0)) + b"\x01"
     header += bytes([changes.get("protocol", 17)]) + two(0)
     header += b"\x0a" + two(ident) + bytes([partition]) + b"\xe0\xe0" + two(vl)
     checksum = header_checksum(header) + changes.get("checksum", 0)
-    header = header[:10] + two(checksum) + header[12:]
-    port = two(20000 + vl if udp is None else udp)
-    datagram = header + port + port + two(changes.get("udp_length", 8 + len(payload))) + two(0) + payload
+    header = header[:10] + two(checksum & 0xFFFF) + header[12:]
+    ports = two(udp) + two(udp)
+    datagram = header + ports + two(changes.get("udp_length", 8 + len(payload))) + two(0) + payload
     frame = address + source + two(changes.get("ether_type", 0x0800)) + datagram
-    return frame + bytes(max(least, 64) - 5 - len(frame)) + bytes([number])
+    return frame + bytes(max(least - 5 - len(frame), 0)) + bytes([number])
+
+
+def built(system, vl, text, number, side="A", udp=None, least=64, **changes):
+    """The frame of a system of the lists with a text as its message."""
+    _, ident, partition = SYSTEMS[system]
+    port = 20000 + vl if udp is None else udp
+    return frame_of(ident, partition, vl, text.encode("ascii"), number, side, port, least, **changes)
 
 
 def sealed(frame):

@@ -1,11 +1,13 @@
-/* Refuses one request for memory of a program, to see what it answers.
+/* Refuses requests for memory of a program, to see what it answers.
  *
  *     cc -shared -fPIC -O1 -o refuse.so refuse.c -ldl
  *     REFUSE_AT=3 LD_PRELOAD=$PWD/refuse.so PROGRAM WORD..
+ *     REFUSE_FROM=3 LD_PRELOAD=$PWD/refuse.so PROGRAM WORD..
  *
  * Loaded before the C library, it counts the calls of malloc and realloc together. The call whose
- * number REFUSE_AT names answers "no memory", and the line `refused` is written to standard error.
- * All other calls go through. With REFUSE_AT absent or 0 none is refused. For one thread.
+ * number REFUSE_AT names answers "no memory", and so does each call from that one on whose number
+ * REFUSE_FROM names. At the first of these the line `refused` is written to standard error. All
+ * other calls go through. Where both are absent or 0 none is refused. For one thread.
  */
 #define _GNU_SOURCE
 #include <dlfcn.h>
@@ -16,12 +18,19 @@
 static void *(*next_malloc)(size_t);
 static void *(*next_realloc)(void *, size_t);
 static long refuse_at;
+static long refuse_from;
 static long calls;
+static int is_told;
+
+static long number_of(const char *name) {
+    const char *number = getenv(name);
+    return number ? atol(number) : 0;
+}
 
 static void find_next(void) {
     if (next_realloc) return;
-    const char *number = getenv("REFUSE_AT");
-    refuse_at = number ? atol(number) : 0;
+    refuse_at = number_of("REFUSE_AT");
+    refuse_from = number_of("REFUSE_FROM");
     next_malloc = (void *(*)(size_t))dlsym(RTLD_NEXT, "malloc");
     next_realloc = (void *(*)(void *, size_t))dlsym(RTLD_NEXT, "realloc");
 }
@@ -29,8 +38,10 @@ static void find_next(void) {
 static int is_refused(void) {
     static const char line[] = "refused\n";
     find_next();
-    if (++calls != refuse_at) return 0;
-    if (write(2, line, sizeof line - 1) < 0) abort();
+    ++calls;
+    if (calls != refuse_at && (refuse_from == 0 || calls < refuse_from)) return 0;
+    if (!is_told && write(2, line, sizeof line - 1) < 0) abort();
+    is_told = 1;
     errno = ENOMEM;
     return 1;
 }

@@ -1,16 +1,19 @@
 #!/usr/bin/env bash
-# Refuses each request for memory in turn, and looks at what the program, or a test, makes of it.
+# Refuses requests for memory, and looks at what the program, or a test, makes of it.
 #
 #     tests/refused_growths.sh PROGRAM             the built program, as crates/afdx/out/afdx
 #     tests/refused_growths.sh --tests RUNNER..    built test runners, as crates/afdx_police/out/afdx_police_tests
 #
-# PROGRAM polices examples/one_link.list on standard input, and checks examples/base.toml, each with
-# the first request refused, then the second, and so on, until a run meets no refusal. Each run must
-# write a beginning of what the undisturbed run writes, and end either with the line `memory` and
-# status 4, or as the undisturbed run does.
+# PROGRAM polices examples/one_link.list on standard input, checks examples/base.toml, replays a frame
+# and its copy in examples/base.toml, and replays examples/gigabit.list. Each of these is run with the
+# first request refused, then the second, and so on, until a run meets no refusal; and again with all
+# requests refused from the first on, from the second on, and so on. Each run must write a beginning of
+# what the undisturbed run writes, and end either with the line `memory` and status 4, or as the
+# undisturbed run does.
 #
-# Of each RUNNER the tests whose names contain `refused` are run in the same way. Such a test makes
-# a call again where it answered want of memory, and asserts what holds then: it must pass each time.
+# Of each RUNNER the tests whose names contain `refused` are run, with one request refused at a time.
+# Such a test makes a call again where it answered want of memory, and asserts what holds then: it must
+# pass each time.
 #
 # The requests are refused by tests/refuse.c, which `cc` compiles. Prints `ok NAME` or `FAILED NAME`
 # for each case (a program's whole row of runs, or one test's), then `N passed, M failed`. Ends with
@@ -18,7 +21,7 @@
 set -euo pipefail
 export LC_ALL=C
 
-most=100000 # refusals in one case, after which something is wrong
+most=100000 # the last request in one case, after which something is wrong
 none='no request came by malloc or realloc, so nothing was tried'
 top=$(dirname "$(dirname "$(readlink -f "${BASH_SOURCE[0]}")")")
 
@@ -49,7 +52,7 @@ failed=0
 tell() { # NAME RUNS FAULT
     if [[ -z $3 ]]; then
         passed=$((passed + 1))
-        echo "ok $1 ($2 refused)"
+        echo "ok $1 ($2 runs with a refusal)"
     else
         failed=$((failed + 1))
         echo "FAILED $1"
@@ -57,65 +60,72 @@ tell() { # NAME RUNS FAULT
     fi
 }
 
-# Runs WORD.. with request number N refused. Leaves its streams in files without the shim's own line,
-# its status in `status`, and in `met` whether a request was refused.
-launch() { # N WORD..
-    local at=$1
-    shift
+# Runs WORD.. with request number N refused (HOW is REFUSE_AT), or all from that one on (REFUSE_FROM).
+# Leaves what it wrote in `out` and, without the shim's own line, in `err`, its status in `status`, and
+# in `met` whether a request was refused.
+launch() { # HOW N WORD..
+    local how=$1 n=$2
+    shift 2
     status=0
-    REFUSE_AT=$at LD_PRELOAD=$work/refuse.so "$@" <"$input" >"$work/out" 2>"$work/all" || status=$?
+    (
+        export "$how=$n" LD_PRELOAD="$work/refuse.so"
+        exec "$@"
+    ) <"$input" >"$work/out" 2>"$work/err" || status=$?
+    IFS= read -r -d '' out <"$work/out" || true
+    IFS= read -r -d '' err <"$work/err" || true
     met=no
-    if grep -qx refused "$work/all"; then met=yes; fi
-    grep -vx refused "$work/all" >"$work/err" || true
+    if [[ $'\n'$err == *$'\nrefused\n'* ]]; then
+        met=yes
+        err=${err/$'refused\n'/}
+    fi
 }
 
-is_beginning() { # FILE WHOLE
-    cmp -s <(head -c "$(stat -c %s "$1")" "$2") "$1"
-}
-
-# What is wrong with the run that `launch` made, compared with the undisturbed one.
-wrong_run() {
-    if ! is_beginning "$work/out" "$work/whole"; then
-        echo 'it wrote what the undisturbed run does not write'
-    elif [[ $status -eq 4 && $met == yes && $(cat "$work/err") == memory ]]; then
+# What is wrong with the run that `launch` made, compared with the undisturbed one; left in `fault`.
+look_at_run() {
+    fault=
+    if [[ $whole != "$out"* ]]; then
+        fault='it wrote what the undisturbed run does not write'
+    elif [[ $status -eq 4 && $met == yes && $err == $'memory\n' ]]; then
         :
     elif [[ $status -ne $whole_status ]]; then
-        echo "status $status; on standard error: $(head -c 300 "$work/err")"
-    elif ! cmp -s "$work/out" "$work/whole"; then
-        echo 'it has the status of the undisturbed run, but wrote less'
-    elif ! cmp -s "$work/err" "$work/whole_err"; then
-        echo "on standard error: $(head -c 300 "$work/err")"
+        fault="status $status; on standard error: ${err:0:300}"
+    elif [[ $out != "$whole" ]]; then
+        fault='it has the status of the undisturbed run, but wrote less'
+    elif [[ $err != "$whole_err" ]]; then
+        fault="on standard error: ${err:0:300}"
     fi
 }
 
 refuse_program() { # NAME WORD..
-    local name=$1 n fault
+    local name=$1 how n runs=0
     shift
-    launch 0 "$@"
-    cp "$work/out" "$work/whole"
-    cp "$work/err" "$work/whole_err"
-    whole_status=$status
-    for ((n = 1; n <= most; n++)); do
-        launch "$n" "$@"
-        fault=$(wrong_run)
-        if [[ -n $fault ]]; then
-            tell "$name" $((n - 1)) "request $n refused: $fault"
-            return
-        fi
-        if [[ $met == no ]]; then
-            if [[ $n -eq 1 ]]; then fault=$none; fi
-            tell "$name" $((n - 1)) "$fault"
+    launch REFUSE_AT 0 "$@"
+    whole=$out whole_err=$err whole_status=$status
+    for how in REFUSE_AT REFUSE_FROM; do
+        for ((n = 1; n <= most; n++)); do
+            launch "$how" "$n" "$@"
+            look_at_run
+            if [[ -n $fault ]]; then
+                tell "$name" "$runs" "$how=$n: $fault"
+                return
+            fi
+            if [[ $met == no ]]; then break; fi
+            runs=$((runs + 1))
+        done
+        if [[ $met == yes ]]; then
+            tell "$name" "$runs" "still refused at request $n"
             return
         fi
     done
-    tell "$name" "$most" "still refused at request $most"
+    if [[ $runs -eq 0 ]]; then fault=$none; fi
+    tell "$name" "$runs" "$fault"
 }
 
 refuse_test() { # RUNNER TEST
     local name n fault=
     name="$(basename "$1") $2"
     for ((n = 1; n <= most; n++)); do
-        launch "$n" "$1" "$2"
+        launch REFUSE_AT "$n" "$1" "$2"
         if [[ $status -ne 0 ]]; then
             fault="request $n refused: status $status"$'\n'"$(tail -n 5 "$work/out" "$work/err")"
             break
@@ -131,6 +141,11 @@ if [[ $tests == no ]]; then
     input=$top/examples/one_link.list
     refuse_program 'police one_link.list' "$1" police 1 64 500 -
     refuse_program 'check base.toml' "$1" check "$top/examples/base.toml"
+    input=$work/copies.list
+    sed -n 's/^F 0 A/&/p; s/^F 0 A/F 0 B/p' "$top/examples/one_link.list" >"$input"
+    refuse_program 'replay a frame and its copy' "$1" replay "$top/examples/base.toml" -
+    input=$top/examples/gigabit.list
+    refuse_program 'replay gigabit.list' "$1" replay --no-admission "$top/examples/gigabit.toml" -
 else
     input=/dev/null
     for runner in "$@"; do

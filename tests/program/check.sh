@@ -46,6 +46,23 @@ check_with 'no receivers' 1 '' $'config OutOfRange link 1 key 3\n' '/^from = "s1
 check_with 'a sender that receives' 1 '' $'config Twice link 1 key 3\n' '/^from = "s1"/,/^to/s/\["s3"\]/["s1"]/'
 check_with 'a port entry of no link' 1 '' $'config OutOfRange port 2 key 2\n' 's/^link = 2/link = 3/'
 
+# Beginnings of a configuration: each is answered, as that of a text that ends there.
+begun_with() { # NAME LAST ERR : base.toml as far as the first line that begins with LAST
+    sed "/^$2/q" examples/base.toml >"$work/changed.toml"
+    case_of "$1" 1 '' "$3" check "$work/changed.toml"
+}
+begun_with 'the first line alone' 'profile' $'config Missing top 0 key 2\n'
+begun_with 'as far as lmin of the first link' 'lmin' $'config Missing link 1 key 6\n'
+tell 'each beginning of a configuration' "$(
+    for ((k = 0; k <= $(wc -l <examples/base.toml); k++)); do
+        head -n "$k" examples/base.toml >"$work/changed.toml"
+        launch check "$work/changed.toml"
+        if [[ $status -gt 1 || (-s $work/err && $(<"$work/err") != config\ *) ]]; then
+            echo "line $k: status $status"
+        fi
+    done
+)"
+
 case_of 'a configuration that is not there' 4 '' $'device Config\n' check "$work/none"
 case_of 'a configuration that is a folder' 4 '' $'device Config\n' check "$work"
 head -c 4194305 /dev/zero | tr '\0' '#' >"$work/long.toml"

@@ -247,6 +247,7 @@ case_of 'no T line of the last moment before a fault' 3 \
     "$(lines_of "V 1 A accept / V 2 A accept / D 1 6720 A 3 / M 6720 s3 1 $hello / V 3 B accept")"$'\n' \
     $'list BadLine 4\n' replay --no-admission "$work/tables.toml" "$work/list"
 tables ''
+replay_of 'the longest remark' "#$(zeros 4199) / F 0 A 1 H1" "V 2 A accept / D 2 6720 A 3 / M 6720 s3 1 $hello"
 head -c 1000000 /dev/zero | tr '\0' '\n' >"$work/list"
 case_of 'replay of 1,000,000 line feeds' 0 '' '' replay "$work/tables.toml" "$work/list"
 printf '\n' >>"$work/list"
@@ -288,6 +289,21 @@ full_case 'replay on a full device, nothing to write' 0 '' replay "$good" /dev/n
 full_case 'replay on a full device, not admitted' 1 $'admit A2 3 252\n' replay "$work/small.toml" "$work/one.list"
 spelled 'F 0 A 1 H1 / F' >"$work/list"
 full_case 'replay on a full device, and a list fault' 3 $'list BadLine 2\n' replay "$good" "$work/list"
+
+# Standard output, or standard input, that is not open at all.
+tell 'replay without standard output' "$(
+    status=0
+    "$program" replay "$good" "$work/one.list" >&- 2>"$work/err" || status=$?
+    has_status 4
+    differs 'standard error' $'device Write\n' "$work/err"
+)"
+tell 'replay without standard input' "$(
+    status=0
+    "$program" replay "$good" - <&- >"$work/out" 2>"$work/err" || status=$?
+    has_status 4
+    differs 'standard output' '' "$work/out"
+    differs 'standard error' $'device Read\n' "$work/err"
+)"
 
 closed_case() { # NAME ERR WORD.. : standard output is a pipe that nobody reads
     local name=$1 err=$2

@@ -1,0 +1,214 @@
+#!/usr/bin/env python3
+"""Tries the program on configurations and lists that are made and changed at random.
+
+    tests/fuzz.py [PROGRAM] [--seconds S] [--seed N] [--first K] [--keep DIR]
+
+PROGRAM is the built program, crates/afdx/out/afdx where it isn't given. For S seconds (20 where it
+isn't given) it tries one case after the other: `check` and `replay` of a configuration and a list,
+`police` of the list, and `send` where the program has it. tests/fuzzing/made.py makes the cases,
+tests/fuzzing/checks.py holds what must be so of any output. Beside that
+
+- each command is run twice, once with the list on standard input, and must answer the same;
+- where a list has a fault, the output is a beginning of that of the lines before it alone;
+- `replay` without its option replays exactly where `check` says `ok`, and then as it does with it;
+- a link's verdicts are the same where all other frames are taken out of the list, and so are the ports
+  that its frames leave, where the network is admitted;
+- `police` gives the verdicts of a replay whose tables have that one link.
+
+The first case that is wrong is written to DIR (a new folder where it isn't given), its seed and number
+are printed, and the status is 1. `--seed N --first K` begins with that case. Needs Python 3, no packages.
+"""
+import argparse
+import os
+import random
+import subprocess
+import sys
+import tempfile
+import time
+
+sys.dont_write_bytecode = True
+sys.path.insert(0, os.path.join(os.path.dirname(os.path.abspath(__file__)), "fuzzing"))
+import checks  # noqa: E402
+import made  # noqa: E402
+from checks import Wrong, must  # noqa: E402
+
+PROGRAM = os.path.join(made.TOP, "crates", "afdx", "out", "afdx")
+LONGEST = 60  # seconds of one run
+
+
+class Runs:
+    """Runs the program in a folder that holds the case."""
+
+    def __init__(self, program, folder):
+        self.program, self.folder, self.count = program, folder, 0
+
+    def path(self, name):
+        return os.path.join(self.folder, name)
+
+    def write(self, name, text):
+        with open(self.path(name), "wb") as file:
+            file.write(text)
+
+    def run(self, words, given=b""):
+        """Status, output and errors; `given` goes to standard input."""
+        self.count += 1
+        try:
+            done = subprocess.run(
+                [self.program, *words], input=given, capture_output=True, cwd=self.folder, timeout=LONGEST, check=False
+            )
+        except subprocess.TimeoutExpired:
+            raise Wrong(f"{' '.join(words)} takes more than {LONGEST} s") from None
+        return done.returncode, done.stdout.decode("ascii"), done.stderr.decode("ascii")
+
+    def run_twice(self, words, text):
+        """The same from a file and from standard input."""
+        self.write("list", text)
+        first = self.run([*words, "list"])
+        second = self.run([*words, "-"], text)
+        must(first == second, f"{' '.join(words)} answers something else on standard input")
+        checks.check_status(words[0], first[0], first[2])
+        return first
+
+
+def try_check(runs, case):
+    status, out, err = runs.run(["check", "config"])
+    checks.check_status("check", status, err)
+    checks.check_check(case.tables, status, out, err)
+    return status, out, err
+
+
+def try_prefix(runs, words, text, answer):
+    """Where the list has a fault: what was written is a beginning of what the lines before it give."""
+    fault = checks.faulty_line(answer[2])
+    if fault is None:
+        return
+    status, out, err = runs.run([*words, "-"], checks.cut(text, fault))
+    must(status == 0, f"the lines before the fault give: {err!r}")
+    must(out.startswith(answer[1]), "what was written before the fault is not what the lines before it give")
+
+
+def copies_left(out, numbers):
+    """The lines, sides and ports of the copies that left."""
+    copies = [line.split(" ") for line in checks.told_of(out, "D", numbers)]
+    return sorted((side, port, int(n)) for _, n, _, side, port in copies)
+
+
+def try_alone(runs, words, case, answer, events, kinds):
+    """A link's frames fare as if they were alone."""
+    links = sorted({frame.vl() for n, frame in events.frames.items() if n in events.accepted})
+    for vl in links[:2]:
+        text = checks.alone(checks.cut(case.text, checks.faulty_line(answer[2])), events.frames, vl)
+        status, out, err = runs.run([*words, "-"], text)
+        must(status == 0, f"link {vl} alone: status {status}, {err!r}")
+        numbers = {n for n, frame in events.frames.items() if frame.bytes[:6] == b"\x03\0\0\0" + vl.to_bytes(2, "big")}
+        must(
+            checks.told_of(out, "V", numbers) == checks.told_of(answer[1], "V", numbers),
+            f"the verdicts of link {vl} are others where it is alone",
+        )
+        if "D" in kinds and answer[0] == 0:
+            must(
+                copies_left(out, numbers) == copies_left(answer[1], numbers),
+                f"other frames of link {vl} leave where it is alone",
+            )
+
+
+def try_replay(runs, case, checked):
+    free = ["replay", "--no-admission", "config"]
+    answer = runs.run_twice(free, case.text)
+    must((answer[0] == 1) == (checked[2] != ""), "replay and check don't agree on the configuration")
+    if answer[0] == 1:
+        must(answer[2] == checked[2], f"replay says {answer[2]!r}, check {checked[2]!r}")
+    events = checks.check_replay(case.tables, case.text, False, *answer)
+    try_prefix(runs, free, case.text, answer)
+    status, out, err = runs.run(["replay", "config", "list"])
+    checks.check_status("replay", status, err)
+    if events is None:
+        must((status, out, err) == answer, "a fault of the configuration depends on the option")
+    elif checked[0] == 1:
+        wanted = "admit" + checked[1].split("\n")[-2][len("no") :] + "\n"
+        must((status, out, err) == (1, "", wanted), f"not admitted, but replay answers {status}, {err!r}")
+        try_alone(runs, free, case, answer, events, "V")
+    else:
+        must((status, out, err) == answer, "the option changes the replay of an admitted network")
+        checks.check_replay(case.tables, case.text, True, *answer)
+        try_alone(runs, free, case, answer, events, "VD")
+
+
+def one_link(bag, lmax, jitter):
+    """Tables with the one link that `police` judges."""
+    system = {"port": 1, "id": 1, "partition": 1, "rate": 100}
+    return {
+        "profile": 1,
+        "buffer": 65536,
+        "system": [system | {"name": "s1"}, system | {"name": "s2", "port": 2, "id": 2}],
+        "link": [
+            {
+                **{"vl": 1, "from": "s1", "to": ["s2"], "bag_ms": bag, "lmin": 64, "lmax": lmax, "jitter_us": jitter},
+                **{"priority": "low", "policing": "byte", "latency_us": 1000, "skew_us": 1000, "subs": 1},
+            }
+        ],
+        "port": [],
+    }
+
+
+def try_police(runs, case, chance):
+    bag = chance.choice(made.BAGS)
+    rule = [bag, chance.choice([64, 80, 200, 1518]), chance.choice([0, 500, 1000 * bag])]
+    words = ["police", *map(str, rule)]
+    answer = runs.run_twice(words, case.text)
+    checks.check_police(case.text, *answer)
+    try_prefix(runs, words, case.text, answer)
+    runs.write("one.toml", made.tables_text(one_link(*rule)))
+    status, out, err = runs.run(["replay", "--no-admission", "one.toml", "list"])
+    verdicts = "".join(f"{line}\n" for line in out.split("\n") if line.startswith("V"))
+    must((status, verdicts, err) == answer, "police and replay give other verdicts of one link")
+
+
+def try_case(runs, seed, number, stored):
+    chance = random.Random(f"{seed}/{number}")
+    case = made.random_case(chance, *stored)
+    runs.write("config", case.config)
+    runs.write("list", case.text)
+    checked = try_check(runs, case)
+    try_replay(runs, case, checked)
+    try_police(runs, case, chance)
+
+
+def keep(runs, folder):
+    """Copies the case to where it stays."""
+    target = folder or tempfile.mkdtemp(prefix="afdx-fuzz-kept-")
+    os.makedirs(target, exist_ok=True)
+    for name in ("config", "list", "one.toml"):
+        if os.path.exists(runs.path(name)):
+            with open(runs.path(name), "rb") as source, open(os.path.join(target, name), "wb") as copy:
+                copy.write(source.read())
+    return target
+
+
+def main():
+    words = argparse.ArgumentParser(description=__doc__, formatter_class=argparse.RawDescriptionHelpFormatter)
+    words.add_argument("program", metavar="PROGRAM", nargs="?", default=PROGRAM)
+    words.add_argument("--seconds", metavar="S", type=float, default=20)
+    words.add_argument("--seed", metavar="N", type=int, default=random.SystemRandom().randrange(10**9))
+    words.add_argument("--first", metavar="K", type=int, default=1, help="the number of the first case")
+    words.add_argument("--keep", metavar="DIR", help="where a case that is wrong is written")
+    given = words.parse_args()
+    if not os.access(given.program, os.X_OK):
+        words.error(f"there is no program at {given.program}: build it first, by bin/afdx --version")
+    stored = made.stored()
+    end = time.monotonic() + given.seconds
+    number = given.first
+    with tempfile.TemporaryDirectory(prefix="afdx-fuzz-") as folder:
+        runs = Runs(os.path.abspath(given.program), folder)
+        while time.monotonic() < end:
+            try:
+                try_case(runs, given.seed, number, stored)
+            except Wrong as wrong:
+                print(f"WRONG: {wrong}\nseed {given.seed}, case {number}, kept in {keep(runs, given.keep)}")
+                sys.exit(1)
+            number += 1
+        print(f"ok: {number - given.first} cases, {runs.count} runs, nothing wrong (seed {given.seed})")
+
+
+if __name__ == "__main__":
+    main()
