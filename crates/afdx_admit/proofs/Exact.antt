@@ -1,5 +1,6 @@
 -- No line is false exactly where the tables are admitted.
-use Rattle.std.proofs.Common.{◌≡◌, inl, inr, ℕ, zero, suc, ◌+◌, ◌-◌, ◌*◌, ◌<◌, ◌≤◌, Bool, true, false, nat_le, List, [], ◌∷◌, ◌++◌, length, map, cond, Option, Some, None, if◌then◌else◌, slice_get, refl, sym, ap, subst, ◌∙◌, arith}
+use Rattle.std.proofs.Common.{◌≡◌, inl, inr, ℕ, zero, suc, ◌+◌, ◌-◌, ◌*◌, ◌<◌, ◌≤◌, Bool, true, false, nat_le, List, [], ◌∷◌, ◌++◌, length, map, cond, Option}
+use Rattle.std.proofs.Common.{Some, None, if◌then◌else◌, slice_get, refl, sym, ap, subst, ◌∙◌, arith}
 use Rattle.std.specs.List.{AllByRecursion}
 use Rattle.std.specs.Option.{option_map_or}
 use Rattle.std.specs.Int.{div_ceil}
@@ -18,7 +19,8 @@ use Rattle.afdx_config.proofs.EachRow.{all_at}
 use Rattle.afdx_config.proofs.LookUps.{each_row-found}
 use Rattle.afdx_admit.specs.declared.fault.AdmitFault.{AdmitFault}
 use Rattle.afdx_admit.specs.declared.fault.AdmitFault.TheVariants.{Overload, Buffer, HighLatency, LowLatency, SenderJitter, LinkJitter, Skew}
-use Rattle.afdx_admit.specs.Lines.{Line, line, first_false, each_from, lines, Output, output_to, output_lines, port_lines, sender_lines, link_lines, lines_of_link, jitter_at, high_line, low_line, high_bound_of, buffer_need_of}
+use Rattle.afdx_admit.specs.Lines.{Line, line, first_false, each_from, lines, Output, output_to, output_lines, port_lines, sender_lines, link_lines}
+use Rattle.afdx_admit.specs.Lines.{lines_of_link, jitter_at, high_line, low_line, high_bound_of, buffer_need_of}
 use Rattle.afdx_admit.proofs.FirstFalse.{first_false-skip, first_false-nil, first_false-append, le-true, true-le}
 use Rattle.afdx_admit.proofs.OutputLemmas.{late_line}
 use Rattle.afdx_admit.proofs.Outputs.{output_at-some, output_at-none, found_within}
@@ -51,7 +53,8 @@ append_holds (x ∷ xs) ys h =
 holds_append : (xs ys : List Line) → first_false xs ≡ None → first_false ys ≡ None → first_false (xs ++ ys) ≡ None
 holds_append xs ys front back = first_false-append xs ys front ∙ back
 
-each_holds : (f : ℕ → List Line) (from count : ℕ) → first_false (each_from f from count) ≡ None → (k : ℕ) → from ≤ k → k < from + count → first_false (f k) ≡ None
+each_holds : (f : ℕ → List Line) (from count : ℕ) → first_false (each_from f from count) ≡ None → (k : ℕ) → from ≤ k → k < from + count →
+    first_false (f k) ≡ None
 unfolding each_from
 each_holds f from zero h k low high = absurd (omega (arith, low, high))
 each_holds f from (suc count) h k low high =
@@ -61,11 +64,13 @@ each_holds f from (suc count) h k low high =
       | inr other ↦ each_holds f (from + 1) count both.1 k (omega (arith, low, other)) (omega (arith, high))
     ]
 
-holds_each : (f : ℕ → List Line) (from count : ℕ) → ((k : ℕ) → from ≤ k → k < from + count → first_false (f k) ≡ None) → first_false (each_from f from count) ≡ None
+holds_each : (f : ℕ → List Line) (from count : ℕ) → ((k : ℕ) → from ≤ k → k < from + count → first_false (f k) ≡ None) →
+    first_false (each_from f from count) ≡ None
 unfolding each_from
 holds_each f from zero h = first_false-nil
 holds_each f from (suc count) h =
-    holds_append (f from) (each_from f (from + 1) count) (h from (omega arith) (omega arith)) (holds_each f (from + 1) count (λ k low high. h k (omega (arith, low)) (omega (arith, high))))
+    holds_append (f from) (each_from f (from + 1) count) (h from (omega arith) (omega arith))
+    (holds_each f (from + 1) count (λ k low high. h k (omega (arith, low)) (omega (arith, high))))
 
 -- ---- the flows of a class
 
@@ -88,7 +93,8 @@ module _ (class : Priority) (wait left : ℕ) (fault : ℕ → AdmitFault) where
   abbrev late_lines_of : List Flow → List Line
   late_lines_of fs = map (late_line wait left fault) fs
 
-  soon_cons : (f : Flow) (fs : List Flow) → (first_false (late_lines_of (of_class class fs)) ≡ None → AllByRecursion IsSoon fs) → (b : Bool) → is_class class f.priority ≡ b →
+  soon_cons : (f : Flow) (fs : List Flow) → (first_false (late_lines_of (of_class class fs)) ≡ None → AllByRecursion IsSoon fs) → (b : Bool) →
+      is_class class f.priority ≡ b →
       first_false (late_lines_of (cond b (f ∷ of_class class fs) (of_class class fs))) ≡ None → IsSoon f × AllByRecursion IsSoon fs
   soon_cons f fs later true e h =
       let both = cons_holds (late_line wait left fault f) (late_lines_of (of_class class fs)) h in
@@ -101,7 +107,8 @@ module _ (class : Priority) (wait left : ℕ) (fault : ℕ → AdmitFault) where
 
   lines_cons : (f : Flow) (fs : List Flow) → IsSoon f → first_false (late_lines_of (of_class class fs)) ≡ None → (b : Bool) → is_class class f.priority ≡ b →
       first_false (late_lines_of (cond b (f ∷ of_class class fs) (of_class class fs))) ≡ None
-  lines_cons f fs here later true e = holds_cons (late_line wait left fault f) (late_lines_of (of_class class fs)) (le-true wait (f.latency * left) (here (is_one class f.priority e))) later
+  lines_cons f fs here later true e =
+      holds_cons (late_line wait left fault f) (late_lines_of (of_class class fs)) (le-true wait (f.latency * left) (here (is_one class f.priority e))) later
   lines_cons f fs here later false e = later
 
   soon_lines : (fs : List Flow) → AllByRecursion IsSoon fs → first_false (late_lines_of (of_class class fs)) ≡ None
@@ -129,8 +136,10 @@ output_admitted buffer port o h =
     record {
       no_overload = true-le (load o.byte_ns o.flows) byte_units first.one;
       fits_buffer = true-le (burst o.flows) (buffer * byte_units) second.one;
-      high_in_time = All-from_recursion (IsSoon High (high_wait o.byte_ns o.flows) byte_units (high_fault port o)) o.flows (soon High (high_wait o.byte_ns o.flows) byte_units (high_fault port o) o.flows classes.0);
-      low_in_time = All-from_recursion (IsSoon Low (low_wait o.byte_ns o.flows) left (low_fault port o)) o.flows (soon Low (low_wait o.byte_ns o.flows) left (low_fault port o) o.flows classes.1);
+      high_in_time = All-from_recursion (IsSoon High (high_wait o.byte_ns o.flows) byte_units (high_fault port o)) o.flows
+          (soon High (high_wait o.byte_ns o.flows) byte_units (high_fault port o) o.flows classes.0);
+      low_in_time = All-from_recursion (IsSoon Low (low_wait o.byte_ns o.flows) left (low_fault port o)) o.flows
+          (soon Low (low_wait o.byte_ns o.flows) left (low_fault port o) o.flows classes.1);
     }
 
 admitted_output : (buffer port : ℕ) (o : Output) → IsPortAdmitted o.byte_ns buffer o.flows → first_false (output_lines buffer port o) ≡ None
@@ -140,11 +149,14 @@ admitted_output buffer port o h =
     let highs = map (high_line port o) (of_class High o.flows) in
     let lows = map (low_line port o) (of_class Low o.flows) in
     let buffer_line = line (nat_le (burst o.flows) (buffer * byte_units)) (Buffer port (buffer_need_of o)) in
-    holds_cons (line (nat_le (load o.byte_ns o.flows) byte_units) (Overload port)) (buffer_line ∷ (highs ++ lows)) (le-true (load o.byte_ns o.flows) byte_units h.no_overload)
+    holds_cons (line (nat_le (load o.byte_ns o.flows) byte_units) (Overload port)) (buffer_line ∷ (highs ++ lows))
+    (le-true (load o.byte_ns o.flows) byte_units h.no_overload)
     (holds_cons buffer_line (highs ++ lows) (le-true (burst o.flows) (buffer * byte_units) h.fits_buffer)
     (holds_append highs lows
-    (soon_lines High (high_wait o.byte_ns o.flows) byte_units (high_fault port o) o.flows (recursion_from_All (IsSoon High (high_wait o.byte_ns o.flows) byte_units (high_fault port o)) o.flows h.high_in_time))
-    (soon_lines Low (low_wait o.byte_ns o.flows) left (low_fault port o) o.flows (recursion_from_All (IsSoon Low (low_wait o.byte_ns o.flows) left (low_fault port o)) o.flows h.low_in_time))))
+    (soon_lines High (high_wait o.byte_ns o.flows) byte_units (high_fault port o) o.flows
+    (recursion_from_All (IsSoon High (high_wait o.byte_ns o.flows) byte_units (high_fault port o)) o.flows h.high_in_time))
+    (soon_lines Low (low_wait o.byte_ns o.flows) left (low_fault port o) o.flows
+    (recursion_from_All (IsSoon Low (low_wait o.byte_ns o.flows) left (low_fault port o)) o.flows h.low_in_time))))
 
 -- ---- all lines
 
@@ -153,7 +165,8 @@ module _ (t : Rows) (lawful : IsLawful t) where
   unfolding jitter_at
   jitter_is place s at = ap (λ o. option_map_or (λ (r : SystemRow). sender_jitter (byte_ns r) (links_from t.links place)) o 0) at
 
-  port_admitted : (i : ℕ) (s : SystemRow) → slice_get t.systems i ≡ Some s → first_false (port_lines t s.port) ≡ None → IsPortAdmitted (byte_ns s) t.buffer (flows_to t.links i)
+  port_admitted : (i : ℕ) (s : SystemRow) → slice_get t.systems i ≡ Some s → first_false (port_lines t s.port) ≡ None →
+      IsPortAdmitted (byte_ns s) t.buffer (flows_to t.links i)
   unfolding port_lines
   port_admitted i s at h =
       let found = (each_row-found t lawful).by_port i s at in
@@ -165,36 +178,44 @@ module _ (t : Rows) (lawful : IsLawful t) where
   admitted_port admitted port None e = ap (λ o. first_false (option_map_or (output_lines t.buffer port) o [])) (output_at-none t port e) ∙ first_false-nil
   admitted_port admitted port (Some place) e =
       let s = at_place t.systems place (found_within t port place e) in
-      ap (λ o. first_false (option_map_or (output_lines t.buffer port) o [])) (output_at-some t port place s.0 e s.1) ∙ admitted_output t.buffer port (output_to t place s.0) (admitted.ports place s.0 s.1)
+      ap (λ o. first_false (option_map_or (output_lines t.buffer port) o [])) (output_at-some t port place s.0 e s.1) ∙ admitted_output t.buffer port
+      (output_to t place s.0) (admitted.ports place s.0 s.1)
 
-  link_holds : (i : ℕ) (l : LinkRow) → slice_get t.links i ≡ Some l → first_false (link_lines t i) ≡ None → (jitter_at t l.from ≤ 1000 * l.jitter_us) × (l.latency_us ≤ l.skew_us)
+  link_holds : (i : ℕ) (l : LinkRow) → slice_get t.links i ≡ Some l → first_false (link_lines t i) ≡ None →
+      (jitter_at t l.from ≤ 1000 * l.jitter_us) × (l.latency_us ≤ l.skew_us)
   unfolding link_lines
   link_holds i l at h =
       let skew_line = line (nat_le l.latency_us l.skew_us) (Skew (record { 0 = l.vl })) in
-      let first = cons_holds (line (nat_le (jitter_at t l.from) (1000 * l.jitter_us)) (LinkJitter (record { 0 = l.vl }) (jitter_at t l.from))) (skew_line ∷ []) (sym (ap (λ o. first_false (option_map_or (lines_of_link t) o [])) at) ∙ h) in
+      let first = cons_holds (line (nat_le (jitter_at t l.from) (1000 * l.jitter_us)) (LinkJitter (record { 0 = l.vl }) (jitter_at t l.from))) (skew_line ∷ [])
+      (sym (ap (λ o. first_false (option_map_or (lines_of_link t) o [])) at) ∙ h) in
       let second = cons_holds skew_line [] first.rest in
       (true-le (jitter_at t l.from) (1000 * l.jitter_us) first.one, true-le l.latency_us l.skew_us second.one)
 
-  holds_link : (i : ℕ) (l : LinkRow) → slice_get t.links i ≡ Some l → jitter_at t l.from ≤ 1000 * l.jitter_us → l.latency_us ≤ l.skew_us → first_false (link_lines t i) ≡ None
+  holds_link : (i : ℕ) (l : LinkRow) → slice_get t.links i ≡ Some l → jitter_at t l.from ≤ 1000 * l.jitter_us → l.latency_us ≤ l.skew_us →
+      first_false (link_lines t i) ≡ None
   unfolding link_lines
   holds_link i l at jitter skew =
       let skew_line = line (nat_le l.latency_us l.skew_us) (Skew (record { 0 = l.vl })) in
       ap (λ o. first_false (option_map_or (lines_of_link t) o [])) at
-      ∙ holds_cons (line (nat_le (jitter_at t l.from) (1000 * l.jitter_us)) (LinkJitter (record { 0 = l.vl }) (jitter_at t l.from))) (skew_line ∷ []) (le-true (jitter_at t l.from) (1000 * l.jitter_us) jitter)
+      ∙ holds_cons (line (nat_le (jitter_at t l.from) (1000 * l.jitter_us)) (LinkJitter (record { 0 = l.vl }) (jitter_at t l.from))) (skew_line ∷ [])
+      (le-true (jitter_at t l.from) (1000 * l.jitter_us) jitter)
       (holds_cons skew_line [] (le-true l.latency_us l.skew_us skew) first_false-nil)
 
   sender_holds : (i : ℕ) → first_false (sender_lines t i) ≡ None → jitter_at t i ≤ 500000
   unfolding sender_lines
-  sender_holds i h = true-le (jitter_at t i) 500000 (cons_holds (line (nat_le (jitter_at t i) 500000) (SenderJitter (record { 0 = i }) (jitter_at t i))) [] h).one
+  sender_holds i h = true-le (jitter_at t i) 500000 (cons_holds
+      (line (nat_le (jitter_at t i) 500000) (SenderJitter (record { 0 = i }) (jitter_at t i))) [] h).one
 
   holds_sender : (i : ℕ) → jitter_at t i ≤ 500000 → first_false (sender_lines t i) ≡ None
   unfolding sender_lines
-  holds_sender i h = holds_cons (line (nat_le (jitter_at t i) 500000) (SenderJitter (record { 0 = i }) (jitter_at t i))) [] (le-true (jitter_at t i) 500000 h) first_false-nil
+  holds_sender i h = holds_cons (line (nat_le (jitter_at t i) 500000) (SenderJitter (record { 0 = i }) (jitter_at t i))) []
+      (le-true (jitter_at t i) 500000 h) first_false-nil
 
   pub admitted_from : first_false (lines t) ≡ None → IsAdmitted t
   unfolding lines
   admitted_from h =
-      let front = append_holds (each_from (port_lines t) 1 24) (each_from (sender_lines t) 0 (length t.systems) ++ each_from (link_lines t) 0 (length t.links)) h in
+      let front = append_holds (each_from (port_lines t) 1 24)
+      (each_from (sender_lines t) 0 (length t.systems) ++ each_from (link_lines t) 0 (length t.links)) h in
       let back = append_holds (each_from (sender_lines t) 0 (length t.systems)) (each_from (link_lines t) 0 (length t.links)) front.1 in
       record {
         ports = λ i s at.
@@ -202,10 +223,12 @@ module _ (t : Rows) (lawful : IsLawful t) where
             port_admitted i s at (each_holds (port_lines t) 1 24 front.0 s.port row.port.0 (omega (arith, row.port.1)));
         senders = λ i s at.
             let within = slice_get_within t.systems i s at in
-            subst (λ n. n ≤ 500000) (jitter_is i s at) (sender_holds i (each_holds (sender_lines t) 0 (length t.systems) back.0 i (omega arith) (omega (arith, within))));
+            subst (λ n. n ≤ 500000) (jitter_is i s at) (sender_holds i
+            (each_holds (sender_lines t) 0 (length t.systems) back.0 i (omega arith) (omega (arith, within))));
         jitters = λ i l s at from.
             let within = slice_get_within t.links i l at in
-            subst (λ n. n ≤ 1000 * l.jitter_us) (jitter_is l.from s from) (link_holds i l at (each_holds (link_lines t) 0 (length t.links) back.1 i (omega arith) (omega (arith, within)))).0;
+            subst (λ n. n ≤ 1000 * l.jitter_us) (jitter_is l.from s from)
+            (link_holds i l at (each_holds (link_lines t) 0 (length t.links) back.1 i (omega arith) (omega (arith, within)))).0;
         skews = λ i l at.
             let within = slice_get_within t.links i l at in
             (link_holds i l at (each_holds (link_lines t) 0 (length t.links) back.1 i (omega arith) (omega (arith, within)))).1;
@@ -224,4 +247,5 @@ module _ (t : Rows) (lawful : IsLawful t) where
       let l = at_place t.links k (omega (arith, high)) in
       let row = all_at (IsLink (length t.systems)) t.links k l.0 lawful.links.each l.1 in
       let s = at_place t.systems l.0.from row.from in
-      holds_link k l.0 l.1 (subst (λ n. n ≤ 1000 * l.0.jitter_us) (sym (jitter_is l.0.from s.0 s.1)) (admitted.jitters k l.0 s.0 l.1 s.1)) (admitted.skews k l.0 l.1))))
+      holds_link k l.0 l.1 (subst (λ n. n ≤ 1000 * l.0.jitter_us) (sym (jitter_is l.0.from s.0 s.1)) (admitted.jitters k l.0 s.0 l.1 s.1))
+      (admitted.skews k l.0 l.1))))

@@ -1,8 +1,7 @@
 -- Where a low flow goes through a port, the low bound is a number.
 use Rattle.std.proofs.lemmas.Bool.{lt-ltb}
-use Rattle.std.proofs.Common.{◌≡◌, ℕ, ◌-◌, ◌<◌, true, nat_lt, length, Some, None, if◌then◌else◌, ap, arith}
+use Rattle.std.proofs.Common.{◌≡◌, ◌-◌, true, nat_lt, length, Some, None, if◌then◌else◌, ap, arith}
 use Rattle.std.specs.Int.{div_ceil}
-use Rattle.std.proofs.lemmas.Bool.Decides.{nat_tests}
 use Rattle.afdx_frame.specs.Regulation.{byte_units}
 use Rattle.afdx_config.specs.Lawful.{IsSystem}
 use Rattle.afdx_frame.specs.Flows.{low_wait, high_load}

@@ -1,5 +1,6 @@
 -- The first false line of an output port.
-use Rattle.std.proofs.Common.{length, ◌≡◌, ℕ, ◌+◌, ◌-◌, ◌*◌, ◌<◌, ◌≤◌, ◌⊎◌, inl, inr, Bool, true, false, nat_le, List, [], ◌∷◌, ◌++◌, map, cond, Option, Some, None, if◌then◌else◌, refl, ap, ◌∙◌, arith}
+use Rattle.std.proofs.Common.{length, ◌≡◌, ℕ, ◌+◌, ◌-◌, ◌*◌, ◌<◌, ◌≤◌, ◌⊎◌, inl, inr, Bool, true, false, nat_le, List, [], ◌∷◌, ◌++◌, map, cond, Option, Some}
+use Rattle.std.proofs.Common.{None, if◌then◌else◌, refl, ap, ◌∙◌, arith}
 use Rattle.std.specs.Int.{div_ceil}
 use Rattle.std.specs.List.{AllByRecursion, Contains}
 use Rattle.std.specs.Option.{option_map}
@@ -25,7 +26,8 @@ module _ (wait left : ℕ) (fault : ℕ → AdmitFault) where
   abbrev pub late_line : Flow → Line
   late_line f = line (nat_le wait (f.latency * left)) (fault f.vl)
 
-  late_by : (b : Bool) (v : ℕ) (rest : Option ℕ) (lines : Option AdmitFault) → lines ≡ option_map fault rest → (if b then lines else Some (fault v)) ≡ option_map fault (if b then rest else Some v)
+  late_by : (b : Bool) (v : ℕ) (rest : Option ℕ) (lines : Option AdmitFault) → lines ≡ option_map fault rest →
+      (if b then lines else Some (fault v)) ≡ option_map fault (if b then rest else Some v)
   late_by true v rest lines h = h
   late_by false v rest lines h = refl
 
@@ -126,7 +128,8 @@ module _ (byte_ns : ℕ) (some : 1 ≤ byte_ns) where
   split [] h = record { at_most = omega arith; less = inl refl }
   split (f ∷ fs) h = split-cons f fs (of_class High fs) (of_class Low fs) h.0 (split fs h.1) f.priority
 
-  pub left_some_at : (fs : List Flow) (f : Flow) → AllByRecursion (λ g. 1 ≤ fill_rate g.link) fs → load byte_ns fs ≤ byte_units → Contains (of_class Low fs) f → 0 < byte_units - load byte_ns (of_class High fs)
+  pub left_some_at : (fs : List Flow) (f : Flow) → AllByRecursion (λ g. 1 ≤ fill_rate g.link) fs → load byte_ns fs ≤ byte_units → Contains (of_class Low fs) f →
+      0 < byte_units - load byte_ns (of_class High fs)
   left_some_at fs f rates fits stands =
       let s = split fs rates in
       elim s.less [
@@ -134,7 +137,8 @@ module _ (byte_ns : ℕ) (some : 1 ≤ byte_ns) where
         | inr fewer ↦ omega (arith, fewer, fits)
       ]
 
-  pub left_some : (fs : List Flow) (wait rest v : ℕ) → AllByRecursion (λ f. 1 ≤ fill_rate f.link) fs → load byte_ns fs ≤ byte_units → first_late wait rest (of_class Low fs) ≡ Some v → 0 < byte_units - load byte_ns (of_class High fs)
+  pub left_some : (fs : List Flow) (wait rest v : ℕ) → AllByRecursion (λ f. 1 ≤ fill_rate f.link) fs → load byte_ns fs ≤ byte_units →
+      first_late wait rest (of_class Low fs) ≡ Some v → 0 < byte_units - load byte_ns (of_class High fs)
   unfolding first_late
   left_some fs wait rest v rates fits late =
       let s = split fs rates in
@@ -144,10 +148,12 @@ module _ (byte_ns : ℕ) (some : 1 ≤ byte_ns) where
       ]
 
 -- each flow of lawful links sends something
-rates-cons : (systems : ℕ) (l : LinkRow) (ls : List LinkRow) → IsLink systems l → AllByRecursion (λ f. 1 ≤ fill_rate f.link) (map flow_of ls) → (b : Bool) → AllByRecursion (λ f. 1 ≤ fill_rate f.link) (map flow_of (cond b (l ∷ ls) ls))
+rates-cons : (systems : ℕ) (l : LinkRow) (ls : List LinkRow) → IsLink systems l → AllByRecursion (λ f. 1 ≤ fill_rate f.link) (map flow_of ls) → (b : Bool) →
+    AllByRecursion (λ f. 1 ≤ fill_rate f.link) (map flow_of (cond b (l ∷ ls) ls))
 rates-cons systems l ls lawful rest true = (rate_some systems l lawful, rest)
 rates-cons systems l ls lawful rest false = rest
 
-pub rates_some : (systems system : ℕ) (links : List LinkRow) → AllByRecursion (IsLink systems) links → AllByRecursion (λ f. 1 ≤ fill_rate f.link) (flows_to links system)
+pub rates_some : (systems system : ℕ) (links : List LinkRow) → AllByRecursion (IsLink systems) links →
+    AllByRecursion (λ f. 1 ≤ fill_rate f.link) (flows_to links system)
 rates_some systems system [] h = tt
 rates_some systems system (l ∷ ls) h = rates-cons systems l (links_to ls system) h.0 (rates_some systems system ls h.1) (is_to system l)

@@ -6,7 +6,8 @@ use Rattle.afdx_config.specs.Rows.{SystemRow, Rows}
 use Rattle.afdx_config.specs.Reading.{system_at_port}
 use Rattle.afdx_admit.specs.Lines.{output_at, output_to}
 
-pub output_at-some : (t : Rows) (port place : ℕ) (s : SystemRow) → system_at_port t.systems port ≡ Some place → slice_get t.systems place ≡ Some s → output_at t port ≡ Some (output_to t place s)
+pub output_at-some : (t : Rows) (port place : ℕ) (s : SystemRow) → system_at_port t.systems port ≡ Some place → slice_get t.systems place ≡ Some s →
+    output_at t port ≡ Some (output_to t place s)
 unfolding output_at
 output_at-some t port place s found at =
     ap (λ o. option_and_then (λ p. option_map (output_to t p) (slice_get t.systems p)) o) found ∙ ap (option_map (output_to t place)) at

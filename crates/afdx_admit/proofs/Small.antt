@@ -59,8 +59,14 @@ pub is_rate : (profile r : ℕ) → IsOneOf (rates profile) r → IsRate r
 is_rate profile r h = by (profile == 2) h
   where
     by : (b : Bool) → IsOneOf (if b then 10 ∷ 100 ∷ 1000 ∷ [] else 10 ∷ 100 ∷ []) r → IsRate r
-    by true h = one_of_each IsRate r (10 ∷ 100 ∷ 1000 ∷ []) (record { some = omega arith; fast = omega arith; slow = omega arith }, (record { some = omega arith; fast = omega arith; slow = omega arith }, (record { some = omega arith; fast = omega arith; slow = omega arith }, tt))) h
-    by false h = one_of_each IsRate r (10 ∷ 100 ∷ []) (record { some = omega arith; fast = omega arith; slow = omega arith }, (record { some = omega arith; fast = omega arith; slow = omega arith }, tt)) h
+    by true h = one_of_each IsRate r (10 ∷ 100 ∷ 1000 ∷ []) (
+      record { some = omega arith; fast = omega arith; slow = omega arith },
+      (record { some = omega arith; fast = omega arith; slow = omega arith }, (record { some = omega arith; fast = omega arith; slow = omega arith }, tt)),
+    ) h
+    by false h = one_of_each IsRate r (10 ∷ 100 ∷ []) (
+      record { some = omega arith; fast = omega arith; slow = omega arith },
+      (record { some = omega arith; fast = omega arith; slow = omega arith }, tt),
+    ) h
 
 module _ (systems : ℕ) (l : LinkRow) (lawful : IsLink systems l) where
   pub smax_small : (regulation_of l).smax ≤ 1538
@@ -84,7 +90,8 @@ module _ (systems : ℕ) (l : LinkRow) (lawful : IsLink systems l) where
       let g = is_gap l.bag_ms lawful.bag_ms in
       let q = 128 / l.bag_ms in
       let few : 1000000 * l.bag_ms + 1000 * l.jitter_us ≤ 2000000 * l.bag_ms = let j = lawful.jitter_us.1 in omega arith in
-      let first : (l.lmax + 20) * q * (1000000 * l.bag_ms + 1000 * l.jitter_us) ≤ (l.lmax + 20) * q * (2000000 * l.bag_ms) = mul-le-mul_left ((l.lmax + 20) * q) few in
+      let first : (l.lmax + 20) * q * (1000000 * l.bag_ms + 1000 * l.jitter_us)
+      ≤ (l.lmax + 20) * q * (2000000 * l.bag_ms) = mul-le-mul_left ((l.lmax + 20) * q) few in
       let whole : (l.lmax + 20) * (q * l.bag_ms) ≡ (l.lmax + 20) * 128 = ap (λ z. (l.lmax + 20) * z) g.whole in
       let most = lawful.lmax.1 in
       omega (arith, first, whole, most)

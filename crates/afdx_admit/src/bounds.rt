@@ -26,13 +26,17 @@ pub fn bounds_of(tables: &Tables, port: u8) -> Option<PortBounds>
     ensures known { is_some result ≡ is_some (system_at_port tables.now.systems port) }
     ensures bounds { IfSome result (IsBounds tables.now port) }
 {
-    let system = tables.system_at(port)?;
-    let sums = sums_to(tables, system);
-    Some(PortBounds {
-        high: sums.high_bound(),
-        low: sums.low_bound(),
-        buffer: sums.buffer_need(),
-    })
+    match tables.system_at(port) {
+        Some(system) => {
+            let sums = sums_to(tables, system);
+            Some(PortBounds {
+                high: sums.high_bound(),
+                low: sums.low_bound(),
+                buffer: sums.buffer_need(),
+            })
+        }
+        None => None,
+    }
 }
 
 /// The longest that a high frame takes through this port of the switch, in ns, rounded up: all

@@ -2,7 +2,7 @@
 //!
 //! Each reading that lacks memory is made again, so the tests pass where any one growth is refused.
 
-use crate::{AdmitFault, AdmitText, admit, buffer_need, high_bound, low_bound};
+use crate::{AdmitFault, AdmitText, admit, bounds_of, buffer_need, high_bound, low_bound};
 use afdx_config::{ConfigFault, SystemId, Tables, read_tables};
 use afdx_frame::VlId;
 use std::alloc::Global;
@@ -188,6 +188,11 @@ fn base_bounds(rt: HostRuntime) -> Result<(), Fail> {
         assert_eq!(rt; bounds(&tables, port), (0, Some(0), 0));
     }
     assert_eq!(rt; bounds(&tables, 3), (16_800, Some(20_297), 252));
+    let at_once = bounds_of(&tables, 3).ok_or("a port")?;
+    assert_eq!(rt; at_once.high, 16_800);
+    assert_eq!(rt; at_once.low, Some(20_297));
+    assert_eq!(rt; at_once.buffer, 252);
+    assert!(rt; bounds_of(&tables, 4).is_none());
     Ok(())
 }
 

@@ -39,7 +39,7 @@ module _ {X : Type 0} where
       let high = policed-keep moves vl_of charge_of flows (entries ++ new ∷ []) High regulated.flows_are regulated.policed in
       let low = policed-keep moves vl_of charge_of flows (entries ++ new ∷ []) Low regulated.flows_are regulated.policed in
       let loads : byte_ns * (rates (of_class High flows) + rates (of_class Low flows))
-              ≤ byte_units = omega (arith, classes-load byte_ns flows, regulated.admitted.no_overload) in
+      ≤ byte_units = omega (arith, classes-load byte_ns flows, regulated.admitted.no_overload) in
       let few = few_wait byte_ns (curve_of High flows) (curve_of Low flows) entries turns new regulated.line loads regulated.in_order high low schedule in
       let all = sum-classes (λ f. cap f.link) flows in
       let holds = regulated.admitted.fits_buffer in
@@ -57,22 +57,22 @@ module _ {X : Type 0} where
       let loads : byte_ns * (rates (of_class High flows) + rates (of_class Low flows)) ≤ byte_units = omega (arith, split, regulated.admitted.no_overload) in
       let own = turn_at byte_ns entries turns i s are at in
       let charged : IsCharged vl_of charge_of flows s.entry = get_all
-              (λ e. IsCharged vl_of charge_of flows e) entries s.place s.entry regulated.policed.charged own.next.own.stands in
+      (λ e. IsCharged vl_of charge_of flows e) entries s.place s.entry regulated.policed.charged own.next.own.stands in
       let same : charged.flow ≡ f = regulated.flows_are.distinct charged.flow f charged.stands flow (charged.named ∙ named) in
       let class : s.entry.priority ≡ f.priority = charged.class ∙ ap (λ z. z.priority) same in
       elim (priority_cases s.entry.priority) [
         | inl is ↦ (let r = high_soon byte_ns (curve_of High flows) (longest (of_class Low flows)) entries turns i s
-              (omega (arith, loads)) regulated.in_order high
+            (omega (arith, loads)) regulated.in_order high
             (λ place e g is-low. let c = get_all (λ d. IsCharged vl_of charge_of flows d) entries place e regulated.policed.charged g in
             let longest-is = longest-one flows c.flow c.stands (sym c.class ∙ is-low) in
             omega (arith, c.at_least, c.at_most, longest-is)) are at is in
             let line = All-contains (λ d. d.priority ≡ High → (burst (of_class High flows) + byte_units * longest (of_class Low flows)) * byte_ns
-                    ≤ d.latency * byte_units) flows f regulated.admitted.high_in_time flow (sym class ∙ is) in
+            ≤ d.latency * byte_units) flows f regulated.admitted.high_in_time flow (sym class ∙ is) in
             omega (arith, r, line))
         | inr is ↦ (let r = low_soon byte_ns (curve_of High flows) (curve_of Low flows) entries turns i s loads regulated.in_order high low are at is in
             let is-low : f.priority ≡ Low = sym class ∙ is in
             let line = All-contains (λ d. d.priority ≡ Low → burst flows * byte_ns
-                    ≤ d.latency * (byte_units - load byte_ns (of_class High flows))) flows f regulated.admitted.low_in_time flow is-low in
+            ≤ d.latency * (byte_units - load byte_ns (of_class High flows))) flows f regulated.admitted.low_in_time flow is-low in
             let smax : charged.flow.link.smax ≡ f.link.smax = ap (λ z. z.link.smax) same in
             let long : 0 < f.link.smax = omega (arith, smax, charged.at_least, charged.at_most) in
             let gap = All-contains (λ d. IsTrue (is_bag d.link.bag_ms)) flows f regulated.flows_are.gaps flow in
@@ -82,12 +82,18 @@ module _ {X : Type 0} where
             let all-load = sum-classes (λ d. fill_rate d.link * byte_ns) flows in
             let high-load = load-rates byte_ns (of_class High flows) in
             let bursts = sum-classes (λ d. cap d.link) flows in
-            let left : 0 < byte_units - byte_ns * rates (of_class High flows) = omega (arith, own-load, low-load, all-load, high-load,
-                    regulated.admitted.no_overload) in
+            let left : 0 < byte_units - byte_ns * rates (of_class High flows) = omega (
+              arith,
+              own-load,
+              low-load,
+              all-load,
+              high-load,
+              regulated.admitted.no_overload,
+            ) in
             let line-rates : burst flows * byte_ns ≤ f.latency * (byte_units - byte_ns * rates (of_class High flows)) = rw high-load at line in
             let bursts-ns : byte_ns * burst flows ≡ byte_ns * (burst (of_class High flows) + burst (of_class Low flows)) = ap (λ n. byte_ns * n) bursts in
             le_of_mul-le-mul_left (finish (byte_units - byte_ns * rates (of_class High flows)) s.end s.entry.time f.latency byte_ns (burst flows)
-                (burst (of_class High flows) + burst (of_class Low flows)) r line-rates bursts-ns) left)
+            (burst (of_class High flows) + burst (of_class Low flows)) r line-rates bursts-ns) left)
       ]
     where
       finish : (w end time latency b all both : ℕ) → w * end ≤ w * time + b * both → all * b ≤ latency * w →

@@ -68,12 +68,15 @@ module _ {X : Type 0} where
   begun_at byte_ns entries (s ∷ rest) t h left =
       elim (cases_lt s.moment t) [
         | inl before ↦ (let after : end_of rest ≤ s.moment = h.0.after in
-            let all : AllByRecursion (λ x. x.moment < t) (s ∷ rest) = (before, earlier_started s.moment t rest before
-                    (started_all byte_ns entries s.moment rest h.1 after)) in
+            let all : AllByRecursion (λ x. x.moment < t) (s ∷ rest) = (
+              before,
+              earlier_started s.moment t rest before
+                  (started_all byte_ns entries s.moment rest h.1 after),
+            ) in
             record { begun = s ∷ rest; is = begun_alone t (s ∷ rest) all; are = h; started = all; left = left })
         | inr later ↦ (let r = begun_at byte_ns entries rest t h.1 (λ idle place e free. elim (cases_lt e.time t) [
           | inl early ↦ absurd (let least : s.moment ≤ max e.time (end_of rest) = h.0.least (max e.time (end_of rest)) place e free (omega arith)
-                (omega arith) in omega arith)
+              (omega arith) in omega arith)
           | inr late ↦ late
         ]) in
             record { begun = r.begun; is = rw (nat_lt-false s.moment t later) r.is; are = r.are; started = r.started; left = r.left })

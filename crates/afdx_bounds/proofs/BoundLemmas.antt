@@ -21,7 +21,7 @@ module _ {X : Type 0} where
   few_wait byte_ns high low entries turns new some rates order highs lows schedule =
       let come : (i : ℕ) (e : Entry X) → slice_get entries i ≡ Some e → e.time ≤ new.time
       = λ i e g. order i (length entries) e new (let within = slice_get_within entries i e g in omega arith) (get_longer entries new i e g)
-          (get_last entries new) in
+      (get_last entries new) in
       let weight : Entry X → ℕ = λ e. wire_in High 0 new.time e + wire_in Low 0 new.time e in
       let full : (i : ℕ) (e : Entry X) → slice_get entries i ≡ Some e → weight e ≡ e.bytes + 20
       = λ i e g. both_full 0 new.time new.time e (omega arith) (λ c. come i e g) (λ c. come i e g) in
@@ -31,14 +31,16 @@ module _ {X : Type 0} where
       let line = busy_at byte_ns weight true 0 entries b.begun new.time b.are weighs b.left in
       let begins : line.since ≤ new.time = line.begins new.time (λ idle. omega arith) b.started in
       let came = both_classes weight line.earlier line.since new.time new.time 0 entries
-      (λ i e g free. let own : IsWithoutTurn entries line.earlier i e = record { stands = g;
-          without = subst (λ (n : ℕ). has_turn line.earlier n ≡ false) (omega arith) free } in
+      (λ i e g free. let own : IsWithoutTurn entries line.earlier i e = record {
+        stands = g;
+        without = subst (λ (n : ℕ). has_turn line.earlier n ≡ false) (omega arith) free;
+      } in
       let from : line.since ≤ e.time = line.come i e own refl in
       let here = wire_later High line.since new.time e (λ c. from) in
       let there = wire_later Low line.since new.time e (λ c. from) in
       omega (arith, here, there)) in
       let own : wire_in High line.since new.time new + wire_in Low line.since new.time new
-              ≡ new.bytes + 20 = both_full line.since new.time new.time new begins (λ c. omega arith) (λ c. omega arith) in
+      ≡ new.bytes + 20 = both_full line.since new.time new.time new begins (λ c. omega arith) (λ c. omega arith) in
       let high-push = between_push High line.since new.time entries new in
       let low-push = between_push Low line.since new.time entries new in
       let high-curve = highs line.since new.time begins in
@@ -46,12 +48,12 @@ module _ {X : Type 0} where
       let waits : waiting_bytes entries turns new.time ≡ bytes_without_turn b.begun 0 entries = ap (λ zs. bytes_without_turn zs 0 entries) b.is in
       let weigh = bytes_weigh weight b.begun 0 entries (λ i e g. let f = full i e g in omega (arith, f)) in
       let total : left_over weight line.earlier 0 entries + new.bytes
-              ≤ wire_between High line.since new.time (entries ++ new ∷ []) + wire_between Low line.since new.time (entries ++ new ∷ [])
+      ≤ wire_between High line.since new.time (entries ++ new ∷ []) + wire_between Low line.since new.time (entries ++ new ∷ [])
       = omega (arith, came, own, high-push, low-push) in
       let r = few byte_ns high.burst high.rate low.burst low.rate (new.time - line.since) (left_over weight b.begun 0 entries) new.bytes
-              (left_over weight line.earlier 0 entries)
+      (left_over weight line.earlier 0 entries)
       (wire_between High line.since new.time (entries ++ new ∷ []))
-          (wire_between Low line.since new.time (entries ++ new ∷ [])) some rates high-curve low-curve total
+      (wire_between Low line.since new.time (entries ++ new ∷ [])) some rates high-curve low-curve total
       (omega (arith, line.balance, begins)) in
       omega (arith, r, waits, weigh)
 
@@ -76,7 +78,7 @@ module _ {X : Type 0} where
       IsWithoutTurn entries (x ∷ earlier) place e → e.priority ≡ x.entry.priority → x.entry.time ≤ e.time
   came_before byte_ns entries earlier x place e order n free same =
       let before : x.place ≤ place = n.in_order place e
-              (record { stands = free.stands; without = or-false (x.place == place) (has_turn earlier place) free.without }) same in
+      (record { stands = free.stands; without = or-false (x.place == place) (has_turn earlier place) free.without }) same in
       order x.place place x.entry e before n.own.stands free.stands
 
   pub shorter : (x : Turn X) (turns : List (Turn X)) (entries : List (Entry X)) (place : ℕ) (e : Entry X) →
@@ -110,13 +112,15 @@ module _ {X : Type 0} where
       let next : IsNext byte_ns entries at.earlier s = at.next in
       let weight : Entry X → ℕ = wire_in High 0 s.entry.time in
       let line = busy_at byte_ns weight false longest entries at.earlier s.moment at.are
-              (high_weighs byte_ns entries longest at.earlier s.place s.entry order small at.are next.own is)
+      (high_weighs byte_ns entries longest at.earlier s.place s.entry order small at.are next.own is)
       (λ idle place e free. pause byte_ns entries at.earlier s next idle place e free) in
       let begins : line.since ≤ s.entry.time
       = line.come s.place s.entry (record { stands = next.own.stands; without = line.still s.place next.own.without }) (is-counted s.entry.priority is) in
       let came = one_class weight line.earlier High line.since s.entry.time 0 entries
-      (λ j e k free. let own : IsWithoutTurn entries line.earlier j e = record { stands = k;
-          without = subst (λ (n : ℕ). has_turn line.earlier n ≡ false) (omega arith) free } in
+      (λ j e k free. let own : IsWithoutTurn entries line.earlier j e = record {
+        stands = k;
+        without = subst (λ (n : ℕ). has_turn line.earlier n ≡ false) (omega arith) free;
+      } in
       wire_later High line.since s.entry.time e (λ c. line.come j e own (is-counted e.priority c))) in
       let full : weight s.entry ≡ s.entry.bytes + 20 = wire_full High 0 s.entry.time s.entry is (omega arith) (omega arith) in
       let taken = served weight s at.earlier 0 s.place s.entry entries next.own.stands (omega arith) next.own.without in
@@ -125,12 +129,17 @@ module _ {X : Type 0} where
       let own : s.entry.bytes + 20 ≤ left_over weight at.earlier 0 entries = omega (arith, taken, full) in
       let own-ns : byte_ns * (s.entry.bytes + 20) ≤ byte_ns * left_over weight at.earlier 0 entries = mul-le-mul_left byte_ns own in
       let came-ns : byte_ns * left_over weight line.earlier 0 entries
-              ≤ byte_ns * wire_between High line.since s.entry.time entries = mul-le-mul_left byte_ns came in
-      let sent : s.end ≤ line.since + byte_ns * (longest + wire_between High line.since s.entry.time entries) = omega (arith, lasts, own-ns, came-ns,
-              line.balance) in
+      ≤ byte_ns * wire_between High line.since s.entry.time entries = mul-le-mul_left byte_ns came in
+      let sent : s.end ≤ line.since + byte_ns * (longest + wire_between High line.since s.entry.time entries) = omega (
+        arith,
+        lasts,
+        own-ns,
+        came-ns,
+        line.balance,
+      ) in
       let moment : line.since + (s.entry.time - line.since) ≡ s.entry.time = omega arith in
       let r = soon-high byte_ns high.burst high.rate longest line.since (s.entry.time - line.since) s.end
-              (wire_between High line.since s.entry.time entries) rates (curve line.since s.entry.time begins) sent in
+      (wire_between High line.since s.entry.time entries) rates (curve line.since s.entry.time begins) sent in
       rw moment at r
 
   low_weighs : (byte_ns : ℕ) (entries : List (Entry X)) (u : ℕ) (turns : List (Turn X)) (place : ℕ) (e : Entry X) →
@@ -162,14 +171,16 @@ module _ {X : Type 0} where
       let next : IsNext byte_ns entries at.earlier s = at.next in
       let weight : Entry X → ℕ = λ d. wire_in High 0 s.moment d + wire_in Low 0 s.entry.time d in
       let line = busy_at byte_ns weight true 0 entries at.earlier s.moment at.are
-              (low_weighs byte_ns entries s.moment at.earlier s.place s.entry order at.are next.own is next.after)
+      (low_weighs byte_ns entries s.moment at.earlier s.place s.entry order at.are next.own is next.after)
       (λ idle place e free. pause byte_ns entries at.earlier s next idle place e free) in
       let begins : line.since ≤ s.entry.time
       = line.come s.place s.entry (record { stands = next.own.stands; without = line.still s.place next.own.without }) refl in
       let come : s.entry.time ≤ s.moment = next.come in
       let came = both_classes weight line.earlier line.since s.moment s.entry.time 0 entries
-      (λ j e k free. let own : IsWithoutTurn entries line.earlier j e = record { stands = k;
-          without = subst (λ (n : ℕ). has_turn line.earlier n ≡ false) (omega arith) free } in
+      (λ j e k free. let own : IsWithoutTurn entries line.earlier j e = record {
+        stands = k;
+        without = subst (λ (n : ℕ). has_turn line.earlier n ≡ false) (omega arith) free;
+      } in
       let from : line.since ≤ e.time = line.come j e own refl in
       let here = wire_later High line.since s.moment e (λ c. from) in
       let there = wire_later Low line.since s.entry.time e (λ c. from) in
@@ -181,13 +192,13 @@ module _ {X : Type 0} where
       let own : s.entry.bytes + 20 ≤ left_over weight at.earlier 0 entries = omega (arith, taken, full) in
       let own-ns : byte_ns * (s.entry.bytes + 20) ≤ byte_ns * left_over weight at.earlier 0 entries = mul-le-mul_left byte_ns own in
       let came-ns : byte_ns * left_over weight line.earlier 0 entries
-              ≤ byte_ns * (wire_between High line.since s.moment entries + wire_between Low line.since s.entry.time entries) = mul-le-mul_left byte_ns came in
+      ≤ byte_ns * (wire_between High line.since s.moment entries + wire_between Low line.since s.entry.time entries) = mul-le-mul_left byte_ns came in
       let sent : s.end ≤ line.since + byte_ns * (wire_between High line.since s.moment entries + wire_between Low line.since s.entry.time entries) = omega
-              (arith, lasts, own-ns, came-ns, line.balance) in
+      (arith, lasts, own-ns, came-ns, line.balance) in
       let moment : line.since + (s.entry.time - line.since) ≡ s.entry.time = omega arith in
       let end : line.since + (s.end - line.since) ≡ s.end = omega (arith, ends, begins, come) in
       let r = soon-low byte_ns high.burst high.rate low.burst low.rate (byte_units - byte_ns * high.rate) line.since (s.entry.time - line.since)
-              (s.moment - line.since) (s.end - line.since)
+      (s.moment - line.since) (s.end - line.since)
       (wire_between High line.since s.moment entries) (wire_between Low line.since s.entry.time entries) rates (omega (arith, rates))
       (high-curve line.since s.moment (omega (arith, begins, come))) (low-curve line.since s.entry.time begins) (omega (arith, ends)) (omega (arith, sent)) in
       rw (moment, end) at r
@@ -196,10 +207,10 @@ module _ {X : Type 0} where
   all-high byte_ns high longest_low entries turns rate order keeps small are =
       all_get (λ s. s.entry.priority ≡ High → byte_units * s.end ≤ byte_units * s.entry.time + byte_ns * (high.burst + byte_units * longest_low)) turns
       (λ i s g is. high_soon byte_ns high longest_low entries turns i s rate order keeps
-          (λ place e k. get_all (λ d. d.priority ≡ Low → d.bytes + 20 ≤ longest_low) entries place e small k) are g is)
+      (λ place e k. get_all (λ d. d.priority ≡ Low → d.bytes + 20 ≤ longest_low) entries place e small k) are g is)
 
   pub all-low : LowIsBounded X
   all-low byte_ns high low entries turns rate order highs lows are =
       all_get (λ s. s.entry.priority ≡ Low → (byte_units - byte_ns * high.rate) * s.end ≤ (byte_units - byte_ns * high.rate) * s.entry.time
-          + byte_ns * (high.burst + low.burst)) turns
+      + byte_ns * (high.burst + low.burst)) turns
       (λ i s g is. low_soon byte_ns high low entries turns i s rate order highs lows are g is)

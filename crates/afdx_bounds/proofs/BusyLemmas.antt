@@ -100,7 +100,7 @@ module _ {X : Type 0} where
                 | inl late ↦ omega arith
                 | inr early ↦ absurd (let apart = counts-high both e.priority s.entry.priority class other in
                     apart.1 (next.high_first place e
-                        (record { stands = free.stands; without = or-false (s.place == place) (has_turn rest place) free.without }) early apart.0))
+                    (record { stands = free.stands; without = or-false (s.place == place) (has_turn rest place) free.without }) early apart.0))
               ];
               still = λ place free. free;
               begins = λ t idle started. (let first : s.moment < t = started.0 in omega arith);
@@ -108,7 +108,7 @@ module _ {X : Type 0} where
             })
         | inl class ↦ (let full : weight s.entry ≡ s.entry.bytes + 20 = w.0.full class in
             let work : byte_ns * left_over weight (s ∷ rest) 0 entries + (s.entry.bytes + 20) * byte_ns
-                    ≡ byte_ns * left_over weight rest 0 entries = rw (sym taken, full) (grind arith) in
+            ≡ byte_ns * left_over weight rest 0 entries = rw (sym taken, full) (grind arith) in
             elim (cases_lt (end_of rest) s.moment) [
               | inl gap ↦ record {
                 since = s.moment;
@@ -147,6 +147,12 @@ module _ {X : Type 0} where
           balance = omega arith;
         }
         | inr line ↦ (let r = busy byte_ns weight both extra entries turns h w in
-            record { since = r.since; earlier = r.earlier; come = r.come; still = r.still;
-                begins = λ t idle started. r.begins t (λ lt. absurd (omega arith)) started; balance = omega (arith, r.balance) })
+            record {
+              since = r.since;
+              earlier = r.earlier;
+              come = r.come;
+              still = r.still;
+              begins = λ t idle started. r.begins t (λ lt. absurd (omega arith)) started;
+              balance = omega (arith, r.balance);
+            })
       ]

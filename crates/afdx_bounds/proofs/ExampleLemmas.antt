@@ -40,10 +40,10 @@ rising-distinct low [] h i j f g lt below at there same = absurd (omega (arith, 
 rising-distinct low (d ∷ ds) h zero zero f g lt below at there same = sym at ∙ there
 rising-distinct low (d ∷ ds) h zero (suc j) f g lt below at there same =
     absurd (let own : d.vl ≡ f.vl = ap (λ z. z.vl) at in let later = rising-least (d.vl + 1) ds j g h.1 (omega (arith, below)) there in
-        omega (arith, own, later, same))
+    omega (arith, own, later, same))
 rising-distinct low (d ∷ ds) h (suc i) zero f g lt below at there same =
     absurd (let own : d.vl ≡ g.vl = ap (λ z. z.vl) there in let later = rising-least (d.vl + 1) ds i f h.1 (omega (arith, lt)) at in
-        omega (arith, own, later, same))
+    omega (arith, own, later, same))
 rising-distinct low (d ∷ ds) h (suc i) (suc j) f g lt below at there same =
     rising-distinct (d.vl + 1) ds h.1 i j f g (omega (arith, lt)) (omega (arith, below)) at there same
 
@@ -60,8 +60,10 @@ LowLine f = f.priority ≡ Low → low_wait 80 (pair 17000 21000) ≤ f.latency 
 pub pair-admitted : PairIsAdmitted
 unfolding Rising
 pair-admitted = record {
-  flows_are = record { gaps = all-two (λ f. IsTrue (is_bag f.link.bag_ms)) (first 17000) (second 21000) refl refl;
-      distinct = distinct (pair 17000 21000) (omega arith, (omega arith, tt)) };
+  flows_are = record {
+    gaps = all-two (λ f. IsTrue (is_bag f.link.bag_ms)) (first 17000) (second 21000) refl refl;
+    distinct = distinct (pair 17000 21000) (omega arith, (omega arith, tt));
+  };
   admitted = record {
     no_overload = omega arith;
     fits_buffer = omega arith;
@@ -88,7 +90,7 @@ three-sent = record {
     jitter = omega arith;
     each = all-three (λ f. IsSent 80 High three f) (long 1 369120) (long 2 369120) (long 3 369120)
         (record { own_class = refl; regular = refl; waits = refl }) (record { own_class = refl; regular = refl; waits = refl })
-            (record { own_class = refl; regular = refl; waits = refl });
+        (record { own_class = refl; regular = refl; waits = refl });
   };
   four = λ h. (let line = h.jitter in omega (arith, line));
 }

@@ -51,7 +51,7 @@ window-overdraws link since until now taken (x ∷ xs) =
       ]
       | inr counted ↦ (let own = counted.0 in
           let gap : fill_rate link * (now - x.time) ≤ fill_rate link * (now - since) = mul-le-mul_left (fill_rate link) (let from = counted.1 in omega
-                  (arith, from)) in
+          (arith, from)) in
           elim (window-overdraws link since until now (taken + x.charge) xs) [
             | inl nothing ↦ inr (omega (arith, own, nothing, gap))
             | inr more ↦ inr (omega (arith, own, more))
@@ -78,7 +78,7 @@ keeps-next moves link gap xs x keeps fit since until le =
       | inr counted ↦ (let own = counted.0 in
           let window = window-missing link since until x.time xs in
           let longer : fill_rate link * (x.time - since) ≤ fill_rate link * (until - since) = mul-le-mul_left (fill_rate link) (let to = counted.2 in omega
-                  (arith, to)) in
+          (arith, to)) in
           omega (arith, own, window, longer, room))
     ]
 

@@ -72,7 +72,7 @@ module _ {X : Type 0} where
             let P : List (Turn X) → Type 0 = λ zs. AreTurns byte_ns entries zs in
             let longer : AreTurns byte_ns entries (r.0 ++ turns) = subst P r.1 all.each_next in
             let has : has_turn (r.0 ++ turns) place ≡ true = subst (λ (zs : List (Turn X)). has_turn zs place ≡ true) r.1 (all.all_have_turns place
-                    (slice_get_within entries place e stands)) in
+            (slice_get_within entries place e stands)) in
             let l = later-given byte_ns entries turns r.0 until place regulated.line longer next out has in
             let own = turn_at byte_ns entries (r.0 ++ turns) l.i l.s longer l.at in
             let at-place : slice_get entries place ≡ Some l.s.entry = subst (λ (n : ℕ). slice_get entries n ≡ Some l.s.entry) l.own own.next.own.stands in
@@ -82,7 +82,7 @@ module _ {X : Type 0} where
             let Q : Entry X → Type 0 = λ z. MayWait f.latency z in
             let end = turn-in-time moves byte_ns buffer flows vl_of charge_of entries (r.0 ++ turns) f l.i l.s regulated longer flow l.at names in
             let kept = turn-not-old moves byte_ns buffer flows vl_of charge_of entries (r.0 ++ turns) f l.i l.s regulated longer flow l.at names
-                    (subst Q same waits) in
+            (subst Q same waits) in
             let late = slot-after until l.s.end l.s.too_old kept l.after in
             omega (arith, end, late, time, over))
       ]

@@ -18,19 +18,19 @@ module _ {X : Type 0} where
       let g : Flow → ℕ = λ f. missing f.link (charged_to vl_of charge_of f.vl entries) t in
       let loads : byte_ns * (rates (of_class High flows) + rates (of_class Low flows)) ≤ byte_units = omega (arith, classes-load byte_ns flows, no_overload) in
       let bound = work_bound byte_ns (sum_by g (of_class High flows)) (rates (of_class High flows)) (sum_by g (of_class Low flows))
-              (rates (of_class Low flows)) entries turns t loads
+      (rates (of_class Low flows)) entries turns t loads
       (λ since le. missing-keep vl_of charge_of flows entries High since t links charged)
       (λ since le. missing-keep vl_of charge_of flows entries Low since t links charged)
       (λ i e k. get_all (λ d. d.time ≤ t) entries i e come k) schedule in
       let split : byte_ns * sum_by g flows ≡ byte_ns * (sum_by g (of_class High flows) + sum_by g (of_class Low flows)) = ap (λ n. byte_ns * n)
-              (sum-classes g flows) in
+      (sum-classes g flows) in
       omega (arith, bound, split)
 
   pub high-work-missing : HighWorkIsMissing X
   high-work-missing byte_ns flows vl_of charge_of entries turns t links no_overload charged come schedule =
       let g : Flow → ℕ = λ f. missing f.link (charged_to vl_of charge_of f.vl entries) t in
       high_work_bound byte_ns (longest (of_class Low flows)) (sum_by g (of_class High flows)) (rates (of_class High flows)) entries turns t
-          (omega (arith, load-rates byte_ns (of_class High flows), no_overload))
+      (omega (arith, load-rates byte_ns (of_class High flows), no_overload))
       (λ since le. missing-keep vl_of charge_of flows entries High since t links charged)
       (λ i e k. get_all (λ d. d.time ≤ t) entries i e come k)
       (λ i e k is-low. let c = get_all (λ d. IsCharged vl_of charge_of flows d) entries i e charged k in
@@ -42,7 +42,7 @@ module _ {X : Type 0} where
       let g : Flow → ℕ = λ f. missing f.link (charged_to vl_of charge_of f.vl entries) t in
       let loads : byte_ns * (rates (of_class High flows) + rates (of_class Low flows)) ≤ byte_units = omega (arith, classes-load byte_ns flows, no_overload) in
       let r = low_work_bound byte_ns (sum_by g (of_class High flows)) (rates (of_class High flows)) (burst (of_class Low flows))
-              (rates (of_class Low flows)) entries turns t place e loads
+      (rates (of_class Low flows)) entries turns t place e loads
       (λ since le. missing-keep vl_of charge_of flows entries High since t links policed.charged)
       (λ since le. policed-keep moves vl_of charge_of flows entries Low links policed since e.time le)
       (λ i d k. get_all (λ d. d.time ≤ t) entries i d come k) order schedule waits low in

@@ -41,8 +41,10 @@ one-at f g zero lt at = at
 one-at f g (suc i) lt at = absurd (omega (arith, lt))
 
 alone-is : (f : Flow) → IsTrue (is_bag f.link.bag_ms) → AreFlows (f ∷ [])
-alone-is f gap = record { gaps = all-one (λ d. IsTrue (is_bag d.link.bag_ms)) f gap;
-    distinct = λ g h k l same. sym (one-at f g k.0 k.1 k.2) ∙ one-at f h l.0 l.1 l.2 }
+alone-is f gap = record {
+  gaps = all-one (λ d. IsTrue (is_bag d.link.bag_ms)) f gap;
+  distinct = λ g h k l same. sym (one-at f g k.0 k.1 k.2) ∙ one-at f h l.0 l.1 l.2;
+}
 
 none-in-order : AreInOrder {X = ℕ} []
 none-in-order i j d e le g k = absurd (cc g)
@@ -73,12 +75,15 @@ load-needed : InTimeWhere AdmitsOverload → ⊥
 unfolding accepted_of keeps_windows
 load-needed h =
     let late = h 800 1538 (fast ∷ []) (frame High 0 1518 ∷ frame High 1000000 1518 ∷ []) fast (omega arith) (alone-is fast refl)
-    (record { fits_buffer = omega arith; high_in_time = all-one (HighLine 800 (fast ∷ [])) fast (λ is. omega arith);
-        low_in_time = all-one (LowLine 800 (fast ∷ [])) fast (λ is. absurd (cc is)) })
+    (record {
+      fits_buffer = omega arith;
+      high_in_time = all-one (HighLine 800 (fast ∷ [])) fast (λ is. omega arith);
+      low_in_time = all-one (LowLine 800 (fast ∷ [])) fast (λ is. absurd (cc is));
+    })
     (order-two (frame High 0 1518) (frame High 1000000 1518) (omega arith))
     (alone-policed fast (frame High 0 1518 ∷ frame High 1000000 1518 ∷ [])
     (all-two (λ e. IsCharged (λ vl. vl) wire (fast ∷ []) e) (frame High 0 1518) (frame High 1000000 1518) (is-charged High 0 1538 1230400 0 1518 (omega arith))
-        (is-charged High 0 1538 1230400 1000000 1518 (omega arith))) refl)
+    (is-charged High 0 1538 1230400 1000000 1518 (omega arith))) refl)
     (0, omega arith, refl) 0 (record { place = 0; entry = frame High 0 0; moment = 0; end = 0; too_old = false }) (omega arith) refl in
     omega (arith, late)
 
@@ -90,12 +95,20 @@ buffer-needed : NoneIsLostWhere AdmitsSmallBuffer → ⊥
 unfolding accepted_of keeps_windows
 buffer-needed h =
     let kept = h 80 127 (jittery ∷ []) (frame High 0 64 ∷ []) (frame High 0 64) (omega arith) (alone-is jittery refl)
-    (record { larger = 168; admitted = record { no_overload = omega arith; fits_buffer = omega arith; high_in_time = all-one
-        (HighLine 80 (jittery ∷ [])) jittery (λ is. omega arith); low_in_time = all-one (LowLine 80 (jittery ∷ [])) jittery (λ is. absurd (cc is)) } })
+    (record {
+      larger = 168;
+      admitted = record {
+        no_overload = omega arith;
+        fits_buffer = omega arith;
+        high_in_time = all-one
+            (HighLine 80 (jittery ∷ [])) jittery (λ is. omega arith);
+        low_in_time = all-one (LowLine 80 (jittery ∷ [])) jittery (λ is. absurd (cc is));
+      };
+    })
     (order-two (frame High 0 64) (frame High 0 64) (omega arith))
     (alone-policed jittery (frame High 0 64 ∷ frame High 0 64 ∷ [])
     (all-two (λ e. IsCharged (λ vl. vl) wire (jittery ∷ []) e) (frame High 0 64) (frame High 0 64) (is-charged High 1000 84 100000 0 64 (omega arith))
-        (is-charged High 1000 84 100000 0 64 (omega arith))) refl) in
+    (is-charged High 1000 84 100000 0 64 (omega arith))) refl) in
     cc kept
 
 -- a frame of 64 bytes takes 6720 ns at 100 Mbit/s, even where it waits for nothing
@@ -107,14 +120,17 @@ high-needed : InTimeWhere
 unfolding accepted_of keeps_windows
 high-needed h =
     let late = h 80 84 (hasty High ∷ []) (frame High 0 64 ∷ []) (hasty High) (omega arith) (alone-is (hasty High) refl) (
-      record { no_overload = omega arith; fits_buffer = omega arith;
-          high_in_time = all-one (HighLine 80 (alone High 0 84 6720 ∷ [])) (alone High 0 84 6720) (λ is. omega arith);
-          low_in_time = all-one (LowLine 80 (alone High 0 84 6720 ∷ [])) (alone High 0 84 6720) (λ is. absurd (cc is)) },
+      record {
+        no_overload = omega arith;
+        fits_buffer = omega arith;
+        high_in_time = all-one (HighLine 80 (alone High 0 84 6720 ∷ [])) (alone High 0 84 6720) (λ is. omega arith);
+        low_in_time = all-one (LowLine 80 (alone High 0 84 6720 ∷ [])) (alone High 0 84 6720) (λ is. absurd (cc is));
+      },
       all-one (λ f. f.priority ≡ High) (hasty High) refl,
     )
     (order-push [] (frame High 0 64) none-in-order (λ k x lt. absurd (omega (arith, lt))))
     (alone-policed (hasty High) (frame High 0 64 ∷ []) (all-one (λ e. IsCharged (λ vl. vl) wire (hasty High ∷ []) e) (frame High 0 64)
-        (is-charged High 0 84 6719 0 64 (omega arith))) refl)
+    (is-charged High 0 84 6719 0 64 (omega arith))) refl)
     (0, omega arith, refl) 0 (record { place = 0; entry = frame High 0 0; moment = 0; end = 0; too_old = false }) (omega arith) refl in
     omega (arith, late)
 
@@ -123,14 +139,17 @@ low-needed : InTimeWhere
 unfolding accepted_of keeps_windows
 low-needed h =
     let late = h 80 84 (hasty Low ∷ []) (frame Low 0 64 ∷ []) (hasty Low) (omega arith) (alone-is (hasty Low) refl) (
-      record { no_overload = omega arith; fits_buffer = omega arith;
-          high_in_time = all-one (HighLine 80 (alone Low 0 84 6720 ∷ [])) (alone Low 0 84 6720) (λ is. absurd (cc is));
-          low_in_time = all-one (LowLine 80 (alone Low 0 84 6720 ∷ [])) (alone Low 0 84 6720) (λ is. omega arith) },
+      record {
+        no_overload = omega arith;
+        fits_buffer = omega arith;
+        high_in_time = all-one (HighLine 80 (alone Low 0 84 6720 ∷ [])) (alone Low 0 84 6720) (λ is. absurd (cc is));
+        low_in_time = all-one (LowLine 80 (alone Low 0 84 6720 ∷ [])) (alone Low 0 84 6720) (λ is. omega arith);
+      },
       all-one (λ f. f.priority ≡ Low) (hasty Low) refl,
     )
     (order-push [] (frame Low 0 64) none-in-order (λ k x lt. absurd (omega (arith, lt))))
     (alone-policed (hasty Low) (frame Low 0 64 ∷ []) (all-one (λ e. IsCharged (λ vl. vl) wire (hasty Low ∷ []) e) (frame Low 0 64)
-        (is-charged Low 0 84 6719 0 64 (omega arith))) refl)
+    (is-charged Low 0 84 6719 0 64 (omega arith))) refl)
     (0, omega arith, refl) 0 (record { place = 0; entry = frame Low 0 0; moment = 0; end = 0; too_old = false }) (omega arith) refl in
     omega (arith, late)
 
@@ -141,11 +160,15 @@ steady = alone High 0 84 6720
 policing-needed : NoneIsLostUnpoliced → ⊥
 policing-needed h =
     let kept = h 80 84 (steady ∷ []) (frame High 0 64 ∷ []) (frame High 0 64) (omega arith) (alone-is steady refl)
-    (record { no_overload = omega arith; fits_buffer = omega arith; high_in_time = all-one (HighLine 80 (steady ∷ [])) steady (λ is. omega arith);
-        low_in_time = all-one (LowLine 80 (steady ∷ [])) steady (λ is. absurd (cc is)) })
+    (record {
+      no_overload = omega arith;
+      fits_buffer = omega arith;
+      high_in_time = all-one (HighLine 80 (steady ∷ [])) steady (λ is. omega arith);
+      low_in_time = all-one (LowLine 80 (steady ∷ [])) steady (λ is. absurd (cc is));
+    })
     (order-two (frame High 0 64) (frame High 0 64) (omega arith))
     (all-two (λ e. IsCharged (λ vl. vl) wire (steady ∷ []) e) (frame High 0 64) (frame High 0 64) (is-charged High 0 84 6720 0 64 (omega arith))
-        (is-charged High 0 84 6720 0 64 (omega arith))) in
+    (is-charged High 0 84 6720 0 64 (omega arith))) in
     cc kept
 
 pub each-needed : EachLineIsNeeded

@@ -54,7 +54,7 @@ module _ {X : Type 0} where
       elim (cases_Bool (is_lost byte_ns buffer entries new)) [
         | inr stays ↦ stays
         | inl lost ↦ absurd (none-lost moves byte_ns buffer flows vl_of charge_of entries (schedule_of byte_ns entries) new regulated
-              (schedule_of_is byte_ns entries order)
+            (schedule_of_is byte_ns entries order)
             (true-less buffer (waiting_bytes entries (schedule_of byte_ns entries) new.time + new.bytes) lost))
       ]
 
@@ -90,9 +90,11 @@ module _ {X : Type 0} where
           | inr other ↦ (own.0, rw other at push ∙ own.1)
           | inl is ↦ (let same : f ≡ g = links.distinct f g h.stands k (sym h.named ∙ eqb-true (vl_of new.item) g.vl is) in
               let P : Flow → Type 0 = λ d. IsTrue (fits d.link (charged_to vl_of charge_of d.vl entries) (charged_as charge_of new)) in
-              let fit = subst P same h.fits_in in
-              (charged_as charge_of new ∷ own.0, rw is at push ∙ joins g.link own.0 (charged_to vl_of charge_of g.vl entries)
-                  (charged_as charge_of new) own.1 fit))
+              let fit = subst P same h.fits_in in (
+                charged_as charge_of new ∷ own.0,
+                rw is at push ∙ joins g.link own.0 (charged_to vl_of charge_of g.vl entries)
+                    (charged_as charge_of new) own.1 fit,
+              ))
         ]);
   }
 
@@ -134,14 +136,14 @@ module _ {X : Type 0} where
       let P : List (Entry X) → Type 0 = λ es. IsRegulated byte_ns buffer flows vl_of charge_of es in
       let all = subst P last regulated in
       let rest = offers-entries moves byte_ns buffer flows vl_of charge_of offers
-              (earlier-regulated byte_ns buffer flows vl_of charge_of (reverse offers) new all) in
+      (earlier-regulated byte_ns buffer flows vl_of charge_of (reverse offers) new all) in
       ap (λ es. with_offer byte_ns buffer es new) rest ∙ kept all ∙ sym last
     where
       kept : IsRegulated byte_ns buffer flows vl_of charge_of (reverse offers ++ new ∷ []) →
           with_offer byte_ns buffer (reverse offers) new ≡ reverse offers ++ new ∷ []
       kept all = cond-false (is_lost byte_ns buffer (reverse offers) new) (reverse offers) (reverse offers ++ new ∷ [])
           (offer-kept moves byte_ns buffer flows vl_of charge_of (reverse offers) new
-              (earlier-regulated byte_ns buffer flows vl_of charge_of (reverse offers) new all).in_order all)
+          (earlier-regulated byte_ns buffer flows vl_of charge_of (reverse offers) new all).in_order all)
 
   pub start-regulated : StartIsRegulated X
   unfolding accepted_of

@@ -75,7 +75,7 @@ module _ {X : Type 0} where
     accepted = λ f k. (let w = flow-from o.number rows k.0 f k.1 k.2 in
         let came = map (charged_offer (charge_by w.row.rule.policing) (regulation_of w.row.rule)) (offers_of w.row.rule (own w.row.rule.vl o.side past)) in
         let is : charged_to vl_of charge_of w.row.rule.vl entries
-                ≡ accepted_of (regulation_of w.row.rule) came = inv.owned w.row w.stands w.goes ∙ offers w.row.rule (own w.row.rule.vl o.side past) in
+        ≡ accepted_of (regulation_of w.row.rule) came = inv.owned w.row w.stands w.goes ∙ offers w.row.rule (own w.row.rule.vl o.side past) in
         let P : Flow → Type 0 = λ d. (xs : List Charged) × (charged_to vl_of charge_of d.vl entries ≡ accepted_of d.link xs) in
         subst P w.is (came, is));
   }
@@ -131,7 +131,7 @@ module _ {X : Type 0} where
   kept moves offers item_of vl_of charge_of rows o past entries x r served carries inv times stands s =
       offer-kept moves o.byte_ns o.buffer (flows_at o.number rows) vl_of charge_of entries (entry_of item_of r x) inv.order
       (next-regulated o.byte_ns o.buffer (flows_at o.number rows) vl_of charge_of entries (flow_of r) (entry_of item_of r x)
-          (regulated offers vl_of charge_of rows o past entries served inv)
+      (regulated offers vl_of charge_of rows o past entries served inv)
       (arrival-joins item_of vl_of charge_of rows o past entries x r carries inv times stands s))
 
   -- no row sends the arrival there
@@ -179,7 +179,7 @@ module _ {X : Type 0} where
                   let charge = same-charged charge_of item_of r x (carries.charge r x stands l.named) ∙ ap (λ z. charged_by z.rule x) same in
                   rw is at push ∙ ap (λ a. a ∷ charged_to vl_of charge_of q.rule.vl entries) charge ∙ ap (λ xs. charged_by q.rule x ∷ xs) old
                   ∙ both-then (accepts past x q) (is_side o.side x.side) (charged_by q.rule x ∷ accepted_own q.rule (own q.rule.vl o.side past))
-                      (accepted_own q.rule (own q.rule.vl o.side past)) accepted s.side ∙ sym more)
+                  (accepted_own q.rule (own q.rule.vl o.side past)) accepted s.side ∙ sym more)
               | inr other ↦ rw other at push ∙ old ∙ sym (elim (cases_Bool (accepts past x q)) [
                 | inr refused ↦ rw refused at more
                 | inl both ↦ absurd (let same = one-row rows past x r q are stands k s.accepted both in
@@ -204,7 +204,7 @@ module _ {X : Type 0} where
           let found = find-some (sends o past x) rows r h in
           let s = sends-parts o past x r found.holds in
           let fits-in = kept moves offers item_of vl_of charge_of rows o past
-                  (entries_of o.byte_ns o.buffer earlier) x r served carries inv times found.stands s in
+          (entries_of o.byte_ns o.buffer earlier) x r served carries inv times found.stands s in
           rw fits-in (grows item_of vl_of charge_of rows o past (entries_of o.byte_ns o.buffer earlier) x r served.rows_are carries inv times found.stands s)
 
   all-of : EachAccountMoves → ArrivalsAreOffers → (item_of : Arrival → X) (vl_of : X → ℕ) (charge_of : Entry X → ℕ)
@@ -221,12 +221,12 @@ module _ {X : Type 0} where
   }
   all-of moves offers item_of vl_of charge_of rows o (x ∷ past) served carries timed =
       next moves offers item_of vl_of charge_of rows o past (offers_at item_of rows o past) x served carries
-          (all-of moves offers item_of vl_of charge_of rows o past served carries timed.1) timed.0
+      (all-of moves offers item_of vl_of charge_of rows o past served carries timed.1) timed.0
 
   pub entries-regulated : EachAccountMoves → ArrivalsAreOffers → EntriesAreRegulated X
   entries-regulated moves offers item_of vl_of charge_of rows o arrivals served carries timed =
       regulated offers vl_of charge_of rows o arrivals (entries_at item_of rows o arrivals) served
-          (all-of moves offers item_of vl_of charge_of rows o arrivals served carries timed)
+      (all-of moves offers item_of vl_of charge_of rows o arrivals served carries timed)
 
   pub entries-accepted : EachAccountMoves → ArrivalsAreOffers → EntriesAreAccepted X
   entries-accepted moves offers item_of vl_of charge_of rows o arrivals r served carries timed stands goes =
@@ -235,7 +235,7 @@ module _ {X : Type 0} where
   pub arrival-kept : EachAccountMoves → ArrivalsAreOffers → ArrivalIsKept X
   arrival-kept moves offers item_of vl_of charge_of rows o past x r served carries timed stands h =
       kept moves offers item_of vl_of charge_of rows o past (entries_at item_of rows o past) x r served carries
-          (all-of moves offers item_of vl_of charge_of rows o past served carries timed.1) timed.0 stands (sends-parts o past x r h)
+      (all-of moves offers item_of vl_of charge_of rows o past served carries timed.1) timed.0 stands (sends-parts o past x r h)
 
   entry-waits : EachAccountMoves → ArrivalsAreOffers →
       (item_of : Arrival → X) (vl_of : X → ℕ) (charge_of : Entry X → ℕ) (rows : List Row) (o : Output)
@@ -254,7 +254,7 @@ module _ {X : Type 0} where
   pub arrivals-in-time : EachAccountMoves → ArrivalsAreOffers → ArrivalsAreInTime X
   arrivals-in-time moves offers item_of vl_of charge_of rows o arrivals turns r served carries timed stands goes are =
       in-time moves o.byte_ns o.buffer (flows_at o.number rows) vl_of charge_of (entries_at item_of rows o arrivals) turns (flow_of r)
-          (entries-regulated moves offers item_of vl_of charge_of rows o arrivals served carries timed) are
+      (entries-regulated moves offers item_of vl_of charge_of rows o arrivals served carries timed) are
       (flow-to o.number rows r stands goes)
 
   pub arrivals-not-old : EachAccountMoves → ArrivalsAreOffers → ArrivalsAreNotOld X
@@ -262,16 +262,16 @@ module _ {X : Type 0} where
       all_get (λ s. vl_of s.entry.item ≡ r.rule.vl → s.too_old ≡ false) turns
       (λ i s g named. let own = turn_at o.byte_ns (entries_at item_of rows o arrivals) turns i s are g in
       turn-not-old moves o.byte_ns o.buffer (flows_at o.number rows) vl_of charge_of (entries_at item_of rows o arrivals) turns (flow_of r) i s
-          (entries-regulated moves offers item_of vl_of charge_of rows o arrivals served carries timed) are
+      (entries-regulated moves offers item_of vl_of charge_of rows o arrivals served carries timed) are
       (flow-to o.number rows r stands goes) g named
-          (entry-waits moves offers item_of vl_of charge_of rows o arrivals r s.place s.entry served carries timed stands waits own.next.own.stands named))
+      (entry-waits moves offers item_of vl_of charge_of rows o arrivals r s.place s.entry served carries timed stands waits own.next.own.stands named))
 
   pub arrivals-left : EachAccountMoves → ArrivalsAreOffers → ArrivalsHaveLeft X
   arrivals-left moves offers item_of vl_of charge_of rows o arrivals turns r until place e served carries timed stands goes are waits next at named over =
       each-left moves o.byte_ns o.buffer (flows_at o.number rows) vl_of charge_of (entries_at item_of rows o arrivals) turns (flow_of r) until place e
-          (entries-regulated moves offers item_of vl_of charge_of rows o arrivals served carries timed) are
+      (entries-regulated moves offers item_of vl_of charge_of rows o arrivals served carries timed) are
       (flow-to o.number rows r stands goes) next at named
-          (entry-waits moves offers item_of vl_of charge_of rows o arrivals r place e served carries timed stands waits at named) over
+      (entry-waits moves offers item_of vl_of charge_of rows o arrivals r place e served carries timed stands waits at named) over
 
   -- nothing is lost
   pub offers-enter : EachAccountMoves → ArrivalsAreOffers → OffersEnter X
@@ -283,13 +283,13 @@ module _ {X : Type 0} where
       by_find : (w : Option Row) → find (sends o past x) rows ≡ w →
           entries_at item_of rows o past ≡ reverse (offers_at item_of rows o past) →
           entries_of o.byte_ns o.buffer (with_sent item_of x w (offers_at item_of rows o past))
-              ≡ reverse (with_sent item_of x w (offers_at item_of rows o past))
+          ≡ reverse (with_sent item_of x w (offers_at item_of rows o past))
       by_find None h rest = rest
       by_find (Some r) h rest =
           let found = find-some (sends o past x) rows r h in
           let fits-in = arrival-kept moves offers item_of vl_of charge_of rows o past x r served carries timed found.stands found.holds in
           cond-false (is_lost o.byte_ns o.buffer (entries_at item_of rows o past) (entry_of item_of r x)) (entries_at item_of rows o past)
-              (entries_at item_of rows o past ++ entry_of item_of r x ∷ []) fits-in
+          (entries_at item_of rows o past ++ entry_of item_of r x ∷ []) fits-in
           ∙ ap (λ es. es ++ entry_of item_of r x ∷ []) rest ∙ sym (reverse-append (entry_of item_of r x ∷ []) (offers_at item_of rows o past))
 
   with-found : (item_of : Arrival → X) (x : Arrival) (p : Row → Bool) (rows : List Row) (offers : List (Entry X))

@@ -26,7 +26,7 @@ module _ {X : Type 0} where
   pub put-kept : EachAccountMoves → (facts : X → Facts) → PutIsKept facts
   put-kept moves facts p h flows vl_of charge_of new port more =
       none-lost moves h.byte_ns h.buffer flows vl_of charge_of h.entries (schedule_of h.byte_ns h.entries) new more
-          (schedule_of_is h.byte_ns h.entries port.regulated.in_order)
+      (schedule_of_is h.byte_ns h.entries port.regulated.in_order)
 
   pub taken-in-time : EachAccountMoves → (facts : X → Facts) → TakenAreTurns facts → TakenAreInTime facts
   taken-in-time moves facts are p h flows vl_of charge_of f port flow =
@@ -40,4 +40,4 @@ module _ {X : Type 0} where
       AllWereTaken facts
   all-taken moves facts are next p h flows vl_of charge_of f t place e port flow quiet =
       each-left moves h.byte_ns h.buffer flows vl_of charge_of h.entries h.taken f t place e port.regulated (are p h port.stands) flow
-          ((next p h t port.stands).0 quiet)
+      ((next p h t port.stands).0 quiet)

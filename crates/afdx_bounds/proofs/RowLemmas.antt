@@ -22,7 +22,7 @@ flow-from number [] i f lt h = absurd (omega (arith, lt))
 flow-from number (r ∷ rs) i f lt h =
     elim (cases_Bool (r.goes_to number)) [
       | inr stays ↦ (let w = flow-from number rs i f (rw stays at lt)
-            (rw stays at h) in record { row = w.row; stands = contains_tail r rs w.row w.stands; goes = w.goes; is = w.is })
+          (rw stays at h) in record { row = w.row; stands = contains_tail r rs w.row w.stands; goes = w.goes; is = w.is })
       | inl goes ↦ at i goes (rw goes at lt) (rw goes at h) (λ j lt-j h-j. flow-from number rs j f lt-j h-j)
     ]
   where
@@ -51,7 +51,7 @@ flows-gaps : (number : ℕ) (rows : List Row) → All (λ r. IsTrue (is_bag r.ru
     All (λ f. IsTrue (is_bag f.link.bag_ms)) (flows_at number rows)
 flows-gaps number rows gaps k d lt =
     let at : slice_index_or (flows_at number rows) k d ≡ slice_index_or (flows_at number rows) k (slice_index_or (flows_at number rows) k d) = any-default
-            (flows_at number rows) k d (slice_index_or (flows_at number rows) k d) lt in
+    (flows_at number rows) k d (slice_index_or (flows_at number rows) k d) lt in
     let w = flow-from number rows k (slice_index_or (flows_at number rows) k d) lt (sym at) in
     subst (λ (f : Flow). IsTrue (is_bag f.link.bag_ms)) w.is (All-contains (λ r. IsTrue (is_bag r.rule.bag_ms)) rows w.row gaps w.stands)
   where

@@ -47,7 +47,7 @@ burst-ns byte_ns (f ∷ fs) gaps none =
     let rest = burst-ns byte_ns fs (λ k d lt. gaps (suc k) d (omega (arith, lt))) (λ k d lt. none (suc k) d (omega (arith, lt))) in
     let first : cap f.link ≡ byte_units * f.link.smax
     = cap-one f.link.bag_ms (128 / f.link.bag_ms) f.link.smax f.link.jitter_us (is_bag-divides f.link.bag_ms (gaps 0 f (omega arith)))
-        (none 0 f (omega arith)) in
+    (none 0 f (omega arith)) in
     let scaled : cap f.link * byte_ns ≡ byte_units * f.link.smax * byte_ns = ap (λ n. n * byte_ns) first in
     rw (sum_by-cons (λ f. cap f.link) f fs, sum_by-cons (λ f. f.link.smax * byte_ns) f fs) (omega (arith, rest, scaled))
 
@@ -89,15 +89,17 @@ module _ {X : Type 0} where
     in_order = order;
     policed = record {
       charged = charged;
-      accepted = λ f k. (let own = released f k in (charged_to vl_of charge_of f.vl entries,
-          sym (accepted f.link (charged_to vl_of charge_of f.vl entries) own.0 own.1)));
+      accepted = λ f k. (let own = released f k in (
+        charged_to vl_of charge_of f.vl entries,
+        sym (accepted f.link (charged_to vl_of charge_of f.vl entries) own.0 own.1),
+      ));
     };
   }
 
   pub sender-never-full : EachAccountMoves → RegularIsAccepted → SenderIsNeverFull X
   sender-never-full moves accepted byte_ns class flows vl_of charge_of entries turns new is order charged released =
       none-lost moves byte_ns 65536 flows vl_of charge_of entries turns new
-          (sender-regulated accepted byte_ns class flows vl_of charge_of (entries ++ new ∷ []) is order charged released)
+      (sender-regulated accepted byte_ns class flows vl_of charge_of (entries ++ new ∷ []) is order charged released)
 
   pub sender-in-time : EachAccountMoves → RegularIsAccepted → SenderIsInTime X
   sender-in-time moves accepted byte_ns class flows vl_of charge_of entries turns is order charged released are =
@@ -107,5 +109,5 @@ module _ {X : Type 0} where
       let sent = All-contains (λ f. IsSent byte_ns class flows f) flows c.flow is.each c.stands in
       let waits : c.flow.latency ≡ one_of_each byte_ns flows = sent.waits in
       let soon = turn-in-time moves byte_ns 65536 flows vl_of charge_of entries turns c.flow i s
-              (sender-regulated accepted byte_ns class flows vl_of charge_of entries is order charged released) are c.stands g (sym c.named) in
+      (sender-regulated accepted byte_ns class flows vl_of charge_of entries is order charged released) are c.stands g (sym c.named) in
       omega (arith, waits, soon))

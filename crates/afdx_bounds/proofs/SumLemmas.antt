@@ -106,7 +106,7 @@ sum-bound g h r gap class (f ∷ fs) each =
     let first = each f (contains_head f fs) in
     elim (cases_Bool (is_class class f.priority)) [
       | inl is ↦ rw (is, sum_by-cons g f (of_class class fs), sum_by-cons h f (of_class class fs), sum_by-cons r f (of_class class fs))
-            (omega (arith, rest, first))
+          (omega (arith, rest, first))
       | inr is ↦ rw is rest
     ]
 
@@ -188,7 +188,7 @@ module _ {X : Type 0} where
       (f : Flow) (fs : List Flow) → AreFlows flows → Contains flows f → (es : List (Entry X)) →
       All (λ e. IsCharged vl_of charge_of flows e) es →
       wire_among vl_of class since until (f ∷ fs) es ≤ (if is_class class f.priority then charged_own vl_of charge_of since until f.vl es else 0)
-          + wire_among vl_of class since until fs es
+      + wire_among vl_of class since until fs es
   step vl_of charge_of flows class since until f fs links own [] each = omega arith
   step vl_of charge_of flows class since until f fs links own (e ∷ es) each =
       let rest = step vl_of charge_of flows class since until f fs links own es (λ k d lt. each (suc k) d (omega (arith, lt))) in
@@ -261,13 +261,13 @@ module _ {X : Type 0} where
       let all = wire-charged vl_of charge_of flows class since now entries links each in
       let sum = sum-bound g (λ f. missing f.link (charged_to vl_of charge_of f.vl entries) now) (λ f. fill_rate f.link) (now - since) class flows
       (λ f k. let is = own-is vl_of charge_of since now f.vl entries in
-          omega (arith, is, window-missing f.link since now now (charged_to vl_of charge_of f.vl entries))) in
+      omega (arith, is, window-missing f.link since now now (charged_to vl_of charge_of f.vl entries))) in
       omega (arith, all, sum)
 
   -- a further entry is the newest of its link
   pub charged-push : (vl_of : X → ℕ) (charge_of : Entry X → ℕ) (vl : ℕ) (es : List (Entry X)) (e : Entry X) →
       charged_to vl_of charge_of vl (es ++ e ∷ []) ≡ (if vl_of e.item == vl then charged_as charge_of e ∷ charged_to vl_of charge_of vl es
-          else charged_to vl_of charge_of vl es)
+      else charged_to vl_of charge_of vl es)
   charged-push vl_of charge_of vl es e =
       let own = filter-append (λ d. vl_of d.item == vl) es (e ∷ []) in
       let split = ap (λ ds. reverse (map (charged_as charge_of) ds)) own in

@@ -31,7 +31,7 @@ module _ {X : Type 0} where
   pub nothing-lost : EachAccountMoves → ArrivalsAreOffers → NothingIsLost X
   nothing-lost moves offers item_of bytes_of t side system s arrivals o =
       offers-enter moves offers item_of (link_in bytes_of) (charge_in bytes_of (rows_of t)) (rows_of t) (output_to t side system s) arrivals
-          (output-served t side system s o.lawful o.admitted o.stands).served
+      (output-served t side system s o.lawful o.admitted o.stands).served
       (bytes-carry item_of bytes_of (rows_of t) (rows-are t o.lawful) o.keeps_bytes) o.timed
 
   pub has-slot : EachAccountMoves → ArrivalsAreOffers → EachHasItsSlot X
@@ -40,9 +40,9 @@ module _ {X : Type 0} where
       let carries = bytes-carry item_of bytes_of (rows_of t) (rows-are t o.lawful) o.keeps_bytes in
       let row = contains-mapped (row_of t) t.links place l at in
       let old = arrivals-not-old moves offers item_of (link_in bytes_of) (charge_in bytes_of (rows_of t)) (rows_of t) (output_to t side system s) arrivals turns
-              (row_of t l) served carries o.timed row goes are (waits-long t l) in
+      (row_of t l) served carries o.timed row goes are (waits-long t l) in
       let soon = arrivals-in-time moves offers item_of (link_in bytes_of) (charge_in bytes_of (rows_of t)) (rows_of t)
-              (output_to t side system s) arrivals turns (row_of t l) served carries o.timed row goes are in
+      (output_to t side system s) arrivals turns (row_of t l) served carries o.timed row goes are in
       (old k d lt named, soon k d lt named)
 
   pub slot-has-come : EachAccountMoves → ArrivalsAreOffers → EachSlotHasCome X
@@ -50,5 +50,5 @@ module _ {X : Type 0} where
       let served = (output-served t side system s o.lawful o.admitted o.stands).served in
       let carries = bytes-carry item_of bytes_of (rows_of t) (rows-are t o.lawful) o.keeps_bytes in
       arrivals-left moves offers item_of (link_in bytes_of) (charge_in bytes_of (rows_of t)) (rows_of t) (output_to t side system s) arrivals turns
-          (row_of t l) until entry e served carries o.timed
+      (row_of t l) until entry e served carries o.timed
       (contains-mapped (row_of t) t.links place l at) goes are (waits-long t l) next stands named over

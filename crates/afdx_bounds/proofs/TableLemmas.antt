@@ -121,7 +121,7 @@ sent-sum b class own [] = refl
 sent-sum b class own (l ∷ ls) =
     let rest = sent-sum b class own ls in
     rw (sum_by-cons (λ f. f.link.smax * b) (sent_flow b class own l) (map (sent_flow b class own) ls), sum_by-cons (λ k. (k.lmax + 20) * b) l ls)
-        (omega (arith, rest))
+    (omega (arith, rest))
 
 pub system-sender : EachSystemIsSender
 system-sender t class system s lawful admitted at =
@@ -140,7 +140,7 @@ system-sender t class system s lawful admitted at =
             let b-in = filtered (λ m. nat_eq m.from system) t.links b.place b.own b.stands in
             let vls : a.own.vl ≡ b.own.vl = ap (λ z. z.vl) a.is ∙ same ∙ sym (ap (λ z. z.vl) b.is) in
             sym a.is ∙ ap (λ z. sent_flow (byte_ns s) class own z)
-                (one-link t.links a-in.0 b-in.0 a.own b.own lawful.links.identifiers a-in.1 b-in.1 vls) ∙ b.is);
+            (one-link t.links a-in.0 b-in.0 a.own b.own lawful.links.identifiers a-in.1 b-in.1 vls) ∙ b.is);
       };
       jitter = omega (arith, sum, jitter);
       each = all-mapped (λ f. IsSent (byte_ns s) class (sent_flows t class system s) f) (sent_flow (byte_ns s) class own) own

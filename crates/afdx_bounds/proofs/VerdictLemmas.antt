@@ -1,7 +1,7 @@
 -- What an accepted arrival looks like, and what it adds to its link's accepted ones.
 use Rattle.std.proofs.Common.{◌≡◌, ℕ, ◌≤◌, ◌==◌, ◌&&◌, Bool, true, false, List, [], ◌∷◌, length, Option, Some, None, inl, inr, refl, sym, subst, arith, ◌∙◌}
 use Rattle.std.proofs.Common.{if◌then◌else◌}
-use Rattle.std.specs.Prelude.{find, not, nat_lt, is_none, option_map}
+use Rattle.std.specs.Prelude.{find, nat_lt, is_none, option_map}
 use Rattle.std.specs.Option.{option_map_or, option_or}
 use Rattle.std.specs.List.{AllByRecursion}
 use Rattle.std.proofs.lemmas.Bool.{not-false, cases_Bool, cases_lt, eqb-true}
@@ -92,7 +92,7 @@ own-more : (rule : Rule) (side : Side) (past : List Arrival) (x : Arrival) (acce
     is_none (reason_after rule (own rule.vl x.side past) x) ≡ accepted → names rule.vl x.bytes ≡ true →
     is_side side x.side ≡ true →
     accepted_own rule (own rule.vl side (x ∷ past)) ≡ (if accepted then charged_by rule x ∷ accepted_own rule (own rule.vl side past) else accepted_own rule
-        (own rule.vl side past))
+    (own rule.vl side past))
 unfolding reason_after accepted_own
 own-more rule side past x accepted same is named on =
     let P : Side → Type 0 = λ s. is_none (drop_reason rule (accepted_own rule (own rule.vl s past)) x) ≡ accepted in
@@ -107,7 +107,7 @@ both-then false b xs ys h k = absurd (cc h)
 -- one more arrival is among the accepted ones of its link on its side, if it is accepted
 pub accepted-more : (r : Row) (side : Side) (past : List Arrival) (x : Arrival) →
     accepted_own r.rule (own r.rule.vl side (x ∷ past)) ≡ (if accepts past x r && is_side side x.side then charged_by r.rule x ∷ accepted_own r.rule
-        (own r.rule.vl side past) else accepted_own r.rule (own r.rule.vl side past))
+    (own r.rule.vl side past) else accepted_own r.rule (own r.rule.vl side past))
 accepted-more r side past x =
     elim (cases_Bool (is_side side x.side)) [
       | inr other ↦ elim (cases_Bool (accepts past x r)) [ inl is ↦ rw (other, is) refl | inr isnt ↦ rw (other, isnt) refl ]
@@ -115,7 +115,7 @@ accepted-more r side past x =
         | inl is ↦ (let l = looks r past x is in
             own-more r.rule side past x true (same-side side x.side on) is l.named on
             ∙ both-then (accepts past x r) (is_side side x.side) (charged_by r.rule x ∷ accepted_own r.rule (own r.rule.vl side past))
-                (accepted_own r.rule (own r.rule.vl side past)) is on)
+            (accepted_own r.rule (own r.rule.vl side past)) is on)
         | inr isnt ↦ elim (cases_Bool (names r.rule.vl x.bytes)) [
           | inl named ↦ (let more = own-more r.rule side past x false (same-side side x.side on) isnt named on in rw isnt more)
           | inr other ↦ rw (isnt, on, other) refl

@@ -1,5 +1,5 @@
 -- The weights of the entries without a turn.
-use Rattle.std.proofs.Common.{◌≡◌, ◌≢◌, ℕ, ◌+◌, ◌<◌, ◌≤◌, ◌&&◌, ◌||◌, Bool, true, false, List, [], ◌∷◌, ◌++◌, Some, ◌⊎◌, inl, inr, refl, ap, subst, arith}
+use Rattle.std.proofs.Common.{◌≡◌, ◌≢◌, ℕ, ◌+◌, ◌<◌, ◌≤◌, ◌&&◌, ◌||◌, Bool, true, false, List, [], ◌∷◌, ◌++◌, Some, inl, inr, refl, ap, subst, arith}
 use Rattle.std.proofs.Common.{if◌then◌else◌, suc, zero}
 use Rattle.std.specs.Prelude.{nat_le}
 use Rattle.std.specs.List.{slice_get}
@@ -64,7 +64,7 @@ module _ {X : Type 0} where
   both_classes weight turns since u v place [] each = omega arith
   both_classes weight turns since u v place (e ∷ es) each =
       let rest = both_classes weight turns since u v (place + 1) es
-              (λ i d g free. each (suc i) d g (subst (λ (p : ℕ). has_turn turns p ≡ false) (omega arith) free)) in
+      (λ i d g free. each (suc i) d g (subst (λ (p : ℕ). has_turn turns p ≡ false) (omega arith) free)) in
       elim (cases_Bool (has_turn turns place)) [
         | inl has ↦ rw has (omega (arith, rest))
         | inr free ↦ (let here = each 0 e refl (subst (λ (p : ℕ). has_turn turns p ≡ false) (omega arith) free) in rw free (omega (arith, rest, here)))
@@ -78,7 +78,7 @@ module _ {X : Type 0} where
   one_class weight turns class since until place [] each = omega arith
   one_class weight turns class since until place (e ∷ es) each =
       let rest = one_class weight turns class since until (place + 1) es
-              (λ i d g free. each (suc i) d g (subst (λ (p : ℕ). has_turn turns p ≡ false) (omega arith) free)) in
+      (λ i d g free. each (suc i) d g (subst (λ (p : ℕ). has_turn turns p ≡ false) (omega arith) free)) in
       elim (cases_Bool (has_turn turns place)) [
         | inl has ↦ rw has (omega (arith, rest))
         | inr free ↦ (let here = each 0 e refl (subst (λ (p : ℕ). has_turn turns p ≡ false) (omega arith) free) in rw free (omega (arith, rest, here)))

@@ -42,8 +42,15 @@ pub record PairIsAdmitted : Type 0 where
 abbrev pub row : ℕ → Priority → ℕ → Row
 row vl class latency = record {
   rule =
-      record { vl = vl; port = vl; bag_ms = 1; lmin = 64; lmax = 64; jitter_us = 500;
-      policing = Byte };
+      record {
+        vl = vl;
+        port = vl;
+        bag_ms = 1;
+        lmin = 64;
+        lmax = 64;
+        jitter_us = 500;
+        policing = Byte;
+      };
   priority = class;
   latency = latency;
   longest_wait = Some latency;

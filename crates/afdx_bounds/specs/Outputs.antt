@@ -1,12 +1,13 @@
 -- The entries of an output port of a switch, from the tables and from all that arrives. A list of
 -- arrivals has the newest first.
-use Rattle.std.specs.Prelude.{◌≡◌, ℕ, ◌+◌, ◌≤◌, ◌==◌, ◌&&◌, Bool, true, is_none, All, Contains}
+use Rattle.std.specs.Prelude.{◌≡◌, ℕ, ◌≤◌, ◌==◌, ◌&&◌, Bool, true, is_none, All, Contains}
 use Rattle.std.specs.Prelude.{IsTrue, Option, Some, None, List, [], ◌∷◌, length, filter, map, find}
 use Rattle.std.specs.Option.{option_map_or}
 use Rattle.afdx_frame.specs.declared.link.Priority.{Priority}
 use Rattle.afdx_frame.specs.declared.link.Side.{Side}
 use Rattle.afdx_frame.specs.Flows.{Flow}
 use Rattle.afdx_frame.specs.Layout.{link_named_by}
+use Rattle.afdx_frame.specs.Regulation.{wire_of}
 use Rattle.afdx_police.specs.Arrival.{Arrival, is_side, names}
 use Rattle.afdx_police.specs.Charge.{charge_by}
 use Rattle.afdx_police.specs.Rule.{Rule, is_bag, regulation_of}

@@ -1,11 +1,11 @@
 -- Ports after a list of calls.
-use Rattle.std.proofs.Common.{◌≡◌, ℕ, ◌≤◌, ◌+◌, Bool, true, false, cond, List, [], ◌∷◌, ◌++◌, length, nat_eq, refl, ap, sym, subst, arith, ◌∙◌, Some, None}
+use Rattle.std.proofs.Common.{◌≡◌, ℕ, ◌≤◌, Bool, true, false, cond, List, [], ◌∷◌, ◌++◌, length, nat_eq, refl, ap, sym, subst, arith, ◌∙◌, None}
 use Rattle.std.proofs.lemmas.List.{append_assoc, length_push}
-use Rattle.std.proofs.lemmas.Bool.{cases_Bool, eqb-false}
-use Rattle.afdx_comport.specs.Messages.{Message, Line}
+use Rattle.std.proofs.lemmas.Bool.{eqb-false}
+use Rattle.afdx_comport.specs.Messages.{Message}
 use Rattle.afdx_comport.specs.declared.held.Held.{Held}
 use Rattle.afdx_comport.specs.declared.held.Held.TheVariants.{Sampling, Queuing}
-use Rattle.afdx_comport.specs.Held.{is_full, with_message, first_of, sample_of, without_first}
+use Rattle.afdx_comport.specs.Held.{is_full, first_of, without_first}
 use Rattle.afdx_comport.specs.Calls.{Call, Put, Take, with_put, held_after, put_in, and_then, taken_from, waiting, newest, empty_queue, IsFirstInFirstOut}
 
 -- what waits in the queue then
@@ -21,7 +21,8 @@ queue-put depth m held came left q =
     subst (λ h. Queued depth (with_put m h) (cond (is_full h) came (came ++ m.bytes ∷ [])) left) (sym q.holds) (by (nat_eq (length q.messages) depth) refl)
   where
     by : (b : Bool) → nat_eq (length q.messages) depth ≡ b →
-        Queued depth (cond b (Queuing (record { depth = depth; messages = q.messages })) (Queuing (record { depth = depth; messages = q.messages ++ m.bytes ∷ [] }))) (cond b came (came ++ m.bytes ∷ [])) left
+        Queued depth (cond b (Queuing (record { depth = depth; messages = q.messages }))
+        (Queuing (record { depth = depth; messages = q.messages ++ m.bytes ∷ [] }))) (cond b came (came ++ m.bytes ∷ [])) left
     by true full = record { messages = q.messages; holds = refl; in_order = q.in_order; within = q.within }
     by false room = record {
       messages = q.messages ++ m.bytes ∷ [];
@@ -36,7 +37,8 @@ queue-take depth held came left q =
     subst (λ h. Queued depth (without_first h) came (and_then left (first_of h))) (sym q.holds) (by q.messages q.in_order q.within)
   where
     by : (ms : List (List ℕ)) → came ≡ left ++ ms → length ms ≤ depth →
-        Queued depth (without_first (Queuing (record { depth = depth; messages = ms }))) came (and_then left (first_of (Queuing (record { depth = depth; messages = ms }))))
+        Queued depth (without_first (Queuing (record { depth = depth; messages = ms }))) came
+        (and_then left (first_of (Queuing (record { depth = depth; messages = ms }))))
     by [] same short = record { messages = []; holds = refl; in_order = same; within = short }
     by (x ∷ xs) same short = record {
       messages = xs;

@@ -31,6 +31,7 @@ all_read_at_first systems system links [] lawful = tt
 all_read_at_first systems system links (row ∷ rows) lawful = at (nat_eq row.system system) (all_read_at_first systems system links rows lawful.1)
   where
     at : (b : Bool) → AllByRecursion (λ (port : ComPort). IsRead port.held) (ports_at_first system rows) →
-        AllByRecursion (λ (port : ComPort). IsRead port.held) (map port_at_first (cond b (row ∷ filter (λ (r : PortRow). nat_eq r.system system) rows) (filter (λ (r : PortRow). nat_eq r.system system) rows)))
+        AllByRecursion (λ (port : ComPort). IsRead port.held) (map port_at_first
+        (cond b (row ∷ filter (λ (r : PortRow). nat_eq r.system system) rows) (filter (λ (r : PortRow). nat_eq r.system system) rows)))
     at true others = (read_at_first systems links row lawful.0 row.kind refl, others)
     at false others = others

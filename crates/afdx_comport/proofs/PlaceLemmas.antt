@@ -1,4 +1,5 @@
-use Rattle.std.proofs.Common.{◌≡◌, ℕ, zero, suc, ◌+◌, ◌<◌, Bool, true, false, cond, ◌||◌, ◌&&◌, inl, inr, Option, Some, None, List, [], ◌∷◌, ◌++◌, take, length, map, nat_eq, refl, sym, subst, ◌∙◌, ap, arith, append-nil}
+use Rattle.std.proofs.Common.{◌≡◌, ℕ, zero, suc, ◌+◌, ◌<◌, Bool, true, false, cond, ◌||◌, ◌&&◌, inl, inr, Option, Some, None, List, [], ◌∷◌, ◌++◌, take, length}
+use Rattle.std.proofs.Common.{map, nat_eq, refl, sym, subst, ◌∙◌, ap, arith, append-nil}
 use Rattle.std.specs.Prelude.{slice_get, slice_set, position, filter, is_some, IfSome, nat_lt}
 use Rattle.std.specs.List.{list_any, position_from, position_or_len}
 use Rattle.std.specs.Option.{option_or}
@@ -22,24 +23,29 @@ use Rattle.afdx_comport.specs.declared.held.Held.{Held}
 
 -- ---- places
 
-place_push : (p : ComPort → Bool) (n : ℕ) (xs : List ComPort) (x : ComPort) → position_from p n (xs ++ x ∷ []) ≡ option_or (position_from p n xs) (cond (p x) (Some (length xs + n)) None)
+place_push : (p : ComPort → Bool) (n : ℕ) (xs : List ComPort) (x : ComPort) →
+    position_from p n (xs ++ x ∷ []) ≡ option_or (position_from p n xs) (cond (p x) (Some (length xs + n)) None)
 place_push p n [] x = ap (λ (k : ℕ). cond (p x) (Some k) None) (zero_plus n)
   where
     zero_plus : (n : ℕ) → n ≡ 0 + n
     zero_plus n = omega arith
-place_push p n (y ∷ ys) x = at (p y) (place_push p (n + 1) ys x ∙ ap (λ (k : ℕ). option_or (position_from p (n + 1) ys) (cond (p x) (Some k) None)) (moved (length ys) n))
+place_push p n (y ∷ ys) x =
+    at (p y) (place_push p (n + 1) ys x ∙ ap (λ (k : ℕ). option_or (position_from p (n + 1) ys) (cond (p x) (Some k) None)) (moved (length ys) n))
   where
     moved : (m n : ℕ) → m + (n + 1) ≡ suc m + n
     moved m n = omega arith
 
     at : (b : Bool) → position_from p (n + 1) (ys ++ x ∷ []) ≡ option_or (position_from p (n + 1) ys) (cond (p x) (Some (length (y ∷ ys) + n)) None) →
-        cond b (Some n) (position_from p (n + 1) (ys ++ x ∷ [])) ≡ option_or (cond b (Some n) (position_from p (n + 1) ys)) (cond (p x) (Some (length (y ∷ ys) + n)) None)
+        cond b (Some n) (position_from p (n + 1) (ys ++ x ∷ []))
+        ≡ option_or (cond b (Some n) (position_from p (n + 1) ys)) (cond (p x) (Some (length (y ∷ ys) + n)) None)
     at true e = refl
     at false e = e
 
-position_push : (p : ComPort → Bool) (xs : List ComPort) (x : ComPort) → position p (xs ++ x ∷ []) ≡ option_or (position p xs) (cond (p x) (Some (length xs)) None)
+position_push : (p : ComPort → Bool) (xs : List ComPort) (x : ComPort) →
+    position p (xs ++ x ∷ []) ≡ option_or (position p xs) (cond (p x) (Some (length xs)) None)
 position_push p xs x =
-    position_from-zero p (xs ++ x ∷ []) ∙ place_push p 0 xs x ∙ ap (λ (k : ℕ). option_or (position_from p 0 xs) (cond (p x) (Some k) None)) (plus_zero (length xs))
+    position_from-zero p (xs ++ x ∷ []) ∙ place_push p 0 xs x ∙ ap (λ (k : ℕ). option_or (position_from p 0 xs) (cond (p x) (Some k) None))
+    (plus_zero (length xs))
     ∙ ap (λ (o : Option ℕ). option_or o (cond (p x) (Some (length xs)) None)) (sym (position_from-zero p xs))
   where
     plus_zero : (n : ℕ) → n + 0 ≡ n
@@ -73,12 +79,14 @@ is_same_port port other = nat_eq other.system port.system && nat_eq other.link p
 
 same_triple : (a b : PortRow) → is_same_port a b ≡ true → triple b ≡ triple a
 same_triple a b h =
-    let outer : ((nat_eq b.system a.system && nat_eq b.link a.link) ≡ true) × (nat_eq b.udp a.udp ≡ true) = and_parts (nat_eq b.system a.system && nat_eq b.link a.link) (nat_eq b.udp a.udp) h in
+    let outer : ((nat_eq b.system a.system && nat_eq b.link a.link) ≡ true)
+    × (nat_eq b.udp a.udp ≡ true) = and_parts (nat_eq b.system a.system && nat_eq b.link a.link) (nat_eq b.udp a.udp) h in
     let inner : (nat_eq b.system a.system ≡ true) × (nat_eq b.link a.link ≡ true) = and_parts (nat_eq b.system a.system) (nat_eq b.link a.link) outer.0 in
     rw (eqb-true b.system a.system inner.0, eqb-true b.link a.link inner.1, eqb-true b.udp a.udp outer.1) refl
 
 -- a row before a place that passes a test
-found_before : {X : Type 0} (p : X → Bool) (xs : List X) (i : ℕ) → list_any p (take i xs) ≡ true → (j : ℕ) × (x : X) × (j < i) × (slice_get xs j ≡ Some x) × (p x ≡ true)
+found_before : {X : Type 0} (p : X → Bool) (xs : List X) (i : ℕ) → list_any p (take i xs) ≡ true →
+    (j : ℕ) × (x : X) × (j < i) × (slice_get xs j ≡ Some x) × (p x ≡ true)
 found_before p [] zero h = absurd (cc)
 found_before p [] (suc i) h = absurd (cc)
 found_before p (x ∷ xs) zero h = absurd (cc)
@@ -89,7 +97,8 @@ found_before p (x ∷ xs) (suc i) h =
     ]
 
 -- the rows are distinct: none before one has its system, link and UDP port
-none_before : (rows : List PortRow) (i : ℕ) (row : PortRow) → AreDistinct triple rows → slice_get rows i ≡ Some row → list_any (is_same_port row) (take i rows) ≡ false
+none_before : (rows : List PortRow) (i : ℕ) (row : PortRow) → AreDistinct triple rows → slice_get rows i ≡ Some row →
+    list_any (is_same_port row) (take i rows) ≡ false
 unfolding AreDistinct
 none_before rows i row distinct here = false_from_ne_true (list_any (is_same_port row) (take i rows)) (λ h.
     let found = found_before (is_same_port row) rows i h in
@@ -101,7 +110,8 @@ any_listed row [] = refl
 any_listed row (x ∷ xs) = at (nat_eq x.system row.system) (any_listed row xs)
   where
     at : (b : Bool) → list_any (is_for row.link row.udp) (ports_at_first row.system xs) ≡ list_any (is_same_port row) xs →
-        list_any (is_for row.link row.udp) (map port_at_first (cond b (x ∷ filter (λ (r : PortRow). nat_eq r.system row.system) xs) (filter (λ (r : PortRow). nat_eq r.system row.system) xs)))
+        list_any (is_for row.link row.udp) (map port_at_first
+        (cond b (x ∷ filter (λ (r : PortRow). nat_eq r.system row.system) xs) (filter (λ (r : PortRow). nat_eq r.system row.system) xs)))
         ≡ ((b && nat_eq x.link row.link && nat_eq x.udp row.udp) || list_any (is_same_port row) xs)
     at true e = ap (λ c. (nat_eq x.link row.link && nat_eq x.udp row.udp) || c) e
     at false e = e
@@ -124,14 +134,16 @@ listed_added system rows i row here own = listed_one system rows i row here ∙ 
 pub places_added : {S : Type 0} (system : ℕ) (rows : List PortRow) (i : ℕ) (row : PortRow) (places after : HashMap (VlId × ℕ) ℕ S) →
     AreDistinct triple rows → slice_get rows i ≡ Some row → nat_eq row.system system ≡ true →
     PlacesAreOf places (ports_at_first system (take i rows)) →
-    ((q : VlId × ℕ) → hash.get is_same_key after q ≡ cond (is_same_key (record { 0 = row.link }, row.udp) q) (Some (length (ports_at_first system (take i rows)))) (hash.get is_same_key places q)) →
+    ((q : VlId × ℕ) → hash.get is_same_key after q ≡ cond (is_same_key (record { 0 = row.link }, row.udp) q) (Some
+    (length (ports_at_first system (take i rows)))) (hash.get is_same_key places q)) →
     PlacesAreOf after (ports_at_first system (take i rows) ++ port_at_first row ∷ [])
 places_added system rows i row places after apart here own before updates q = at (is_same_key (record { 0 = row.link }, row.udp) q) refl
   where
     listed : List ComPort
     listed = ports_at_first system (take i rows)
 
-    step : position (is_for q.0.0 q.1) (listed ++ port_at_first row ∷ []) ≡ option_or (position (is_for q.0.0 q.1) listed) (cond (is_for q.0.0 q.1 (port_at_first row)) (Some (length listed)) None)
+    step : position (is_for q.0.0 q.1) (listed ++ port_at_first row ∷ [])
+        ≡ option_or (position (is_for q.0.0 q.1) listed) (cond (is_for q.0.0 q.1 (port_at_first row)) (Some (length listed)) None)
     step = position_push (is_for q.0.0 q.1) listed (port_at_first row)
 
     or_none : (o : Option ℕ) → option_or o None ≡ o
@@ -143,7 +155,8 @@ places_added system rows i row places after apart here own before updates q = at
         position_none (is_for q.0.0 q.1) listed
         (rw (← link, ← udp, ← eqb-true row.system system own) (any_listed row (take i rows) ∙ none_before rows i row apart here))
 
-    at : (b : Bool) → is_same_key (record { 0 = row.link }, row.udp) q ≡ b → hash.get is_same_key after q ≡ position (is_for q.0.0 q.1) (listed ++ port_at_first row ∷ [])
+    at : (b : Bool) → is_same_key (record { 0 = row.link }, row.udp) q ≡ b →
+        hash.get is_same_key after q ≡ position (is_for q.0.0 q.1) (listed ++ port_at_first row ∷ [])
     at true e =
         let both : (nat_eq row.link q.0.0 ≡ true) × (nat_eq row.udp q.1 ≡ true) = and_parts (nat_eq row.link q.0.0) (nat_eq row.udp q.1) e in
         updates q ∙ ap (λ b. cond b (Some (length listed)) (hash.get is_same_key places q)) e
@@ -151,7 +164,8 @@ places_added system rows i row places after apart here own before updates q = at
         ∙ ap (λ (o : Option ℕ). option_or o (Some (length listed))) (absent (eqb-true row.link q.0.0 both.0) (eqb-true row.udp q.1 both.1)))
     at false e =
         updates q ∙ ap (λ b. cond b (Some (length listed)) (hash.get is_same_key places q)) e ∙ before q
-        ∙ sym (step ∙ ap (λ b. option_or (position (is_for q.0.0 q.1) listed) (cond b (Some (length listed)) None)) e ∙ or_none (position (is_for q.0.0 q.1) listed))
+        ∙ sym (step ∙ ap (λ b. option_or (position (is_for q.0.0 q.1) listed) (cond b (Some (length listed)) None)) e ∙ or_none
+        (position (is_for q.0.0 q.1) listed))
 
 -- ---- laws
 
@@ -167,12 +181,15 @@ any_configured : (rows : List PortRow) (system link udp : ℕ) → list_any (is_
 unfolding has_port
 any_configured rows system link udp = any_listed (record { system = system; link = link; udp = udp; kind = Sampling; depth = 1 }) rows
 
-pub found_configured : (rows : List PortRow) (system link udp : ℕ) → is_some (position (is_for link udp) (ports_at_first system rows)) ≡ has_port rows system link udp
+pub found_configured : (rows : List PortRow) (system link udp : ℕ) →
+    is_some (position (is_for link udp) (ports_at_first system rows)) ≡ has_port rows system link udp
 found_configured rows system link udp =
-    ap is_some (position_from-zero (is_for link udp) (ports_at_first system rows)) ∙ some_any (is_for link udp) 0 (ports_at_first system rows) ∙ any_configured rows system link udp
+    ap is_some (position_from-zero (is_for link udp) (ports_at_first system rows)) ∙ some_any (is_for link udp) 0
+    (ports_at_first system rows) ∙ any_configured rows system link udp
 
 pub stays : (ports : List ComPort) (place link udp : ℕ) (port : ComPort) (held : Held) → slice_get ports place ≡ Some port →
     position (is_for link udp) (slice_set ports place (record port { held = held })) ≡ position (is_for link udp) ports
 stays ports place link udp port held here =
-    let same : is_for link udp port ≡ is_for link udp (get_or ports place port) = ap (is_for link udp) (sym (get_or_from_slice_get ports place port port here)) in
+    let same : is_for link udp port ≡ is_for link udp (get_or ports place port) = ap (is_for link udp) (sym
+    (get_or_from_slice_get ports place port port here)) in
     rw (position_or_len-set (is_for link udp) ports place (record port { held = held }) port same, length-set ports place (record port { held = held })) refl

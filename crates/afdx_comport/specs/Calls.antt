@@ -52,8 +52,8 @@ newest (Take ∷ past) = newest past
 abbrev pub empty_queue : ℕ → Held
 empty_queue depth = Queuing (record { depth = depth; messages = [] })
 
--- what a queue took in is what was taken from it and then what waits, in this order: so the messages
--- leave first in, first out, each once. And no more wait than its depth
+-- what a queue took in is what was taken from it and then what waits, in this order: so the
+-- messages leave first in, first out, each once. And no more wait than its depth
 pub record IsFirstInFirstOut (depth : ℕ) (calls : List Call) : Type 0 where
   pub in_order :
       put_in (empty_queue depth) calls

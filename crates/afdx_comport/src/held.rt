@@ -57,11 +57,11 @@ impl Model for Queue {
 
     ghost Value = { Line };
 
-    ghost view =
-        { λ q. record { depth = q.depth; messages = map (λ m. m.items) q.messages.items } };
+    ghost view = { λ q.
+        record { depth = q.depth; messages = map (λ m. m.items) q.messages.items } };
 
-    ghost invariant =
-        { λ q. (deque_len q.messages ≤ q.depth) × (q.depth ≤ deque_capacity q.messages) };
+    ghost invariant = { λ q.
+        (deque_len q.messages ≤ q.depth) × (q.depth ≤ deque_capacity q.messages) };
 }
 
 impl Queue {

@@ -240,3 +240,8 @@ fn largest_tables(rt: HostRuntime) -> Result<(), Fail> {
     assert_eq!(rt; ports.find(VlId(GREATEST_COUNT), 1000), None);
     Ok(())
 }
+
+#[test]
+fn faults_in_words(rt: HostRuntime) {
+    assert_eq!(rt; PutFault::Full.word(), "full");
+}

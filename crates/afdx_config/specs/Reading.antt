@@ -184,7 +184,7 @@ port_at systems links before t =
       udp ← whole (at 3) (codes "udp") 1 65535 t
       check (not (has_port before system link udp)) (Twice (at 3))
       kind ← word (at 4) (codes "kind")
-        ((codes "sampling", Sampling) ∷ (codes "queuing", Queuing) ∷ []) t
+          ((codes "sampling", Sampling) ∷ (codes "queuing", Queuing) ∷ []) t
       depth ← whole (at 5) (codes "depth") 1 (deepest kind) t
       only_port_keys (at 0) t
       Ok (record { system = system; link = link; udp = udp; kind = kind; depth = depth })

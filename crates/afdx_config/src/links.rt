@@ -27,8 +27,7 @@ impl Model for Links {
 
     ghost view = { λ l. link_rows l.by_vl.entries };
 
-    ghost invariant =
-        { λ l.
+    ghost invariant = { λ l.
         (length l.by_vl.entries ≤ 4096) × AllByRecursion IsUnderItsIdentifier l.by_vl.entries };
 }
 

@@ -28,8 +28,8 @@ impl Model for Systems {
 
     ghost view = { λ s. system_rows s.by_name.entries };
 
-    ghost invariant =
-        { λ s. (length s.by_name.entries ≤ 24) × AllByRecursion IsUnderItsName s.by_name.entries };
+    ghost invariant = { λ s.
+        (length s.by_name.entries ≤ 24) × AllByRecursion IsUnderItsName s.by_name.entries };
 }
 
 impl Systems {

@@ -17,6 +17,10 @@ abbrev pub is_byte_based : Policing → Bool
 is_byte_based Byte = true
 is_byte_based Frame = false
 
+-- too short for its link, which is policed by bytes
+abbrev pub is_under_lmin : Rule → List ℕ → Bool
+is_under_lmin rule bytes = is_byte_based rule.policing && nat_lt (length bytes) rule.lmin
+
 -- each fault beside the test of it, in the order in which they are answered; no rule: no link of
 -- the tables is named
 abbrev pub faults : Option Rule → ℕ → List ℕ → List (Bool × Reason)
@@ -28,8 +32,7 @@ faults rule port bytes =
     (not (option_map_or (λ r. names r.vl bytes) rule false), UnknownLink) ∷
     (not (option_map_or (λ r. r.port == port) rule false), WrongPort) ∷
     (option_map_or (λ r. nat_lt r.lmax (length bytes)) rule false, OverLmax) ∷
-    (option_map_or (λ r. is_byte_based r.policing && nat_lt (length bytes) r.lmin) rule false,
-    UnderLmin) ∷ []
+    (option_map_or (λ r. is_under_lmin r bytes) rule false, UnderLmin) ∷ []
 
 -- the first fault of the arrival, if it has one
 unfoldable pub fault_of : Option Rule → ℕ → List ℕ → Option Reason

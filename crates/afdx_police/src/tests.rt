@@ -280,3 +280,8 @@ fn laws_hold() {
     laws::sound_is_charged_for();
     laws::verdicts_decide();
 }
+
+#[test]
+fn reasons_in_words(rt: HostRuntime) {
+    assert_eq!(rt; Reason::WrongPort.word(), "wrong-port");
+}

@@ -32,11 +32,11 @@ carried_as known tables system bytes frame are-bytes is-frame computed = at (car
         IsReadAs tables system bytes frame (answer_to_carried frame.link.0 (has_port tables.ports system frame.link.0) (carried_by bytes))
     by_port carried true e b =
         subst (λ (a : Answer). IsReadAs tables system bytes frame a)
-            (answer_message frame.link.0 (has_port tables.ports system frame.link.0) (carried_by bytes) carried e b)
+        (answer_message frame.link.0 (has_port tables.ports system frame.link.0) (carried_by bytes) carried e b)
         (carried.from_port, refl, known.readings.computed bytes frame carried are-bytes computed e, b)
     by_port carried false e b =
         subst (λ (a : Answer). IsReadAs tables system bytes frame a)
-            (answer_no_port frame.link.0 (has_port tables.ports system frame.link.0) (carried_by bytes) carried e b)
+        (answer_no_port frame.link.0 (has_port tables.ports system frame.link.0) (carried_by bytes) carried e b)
         (carried, known.readings.computed bytes frame carried are-bytes computed e, b)
 
     at : (read : Result Carried IpFault) → carried_by bytes ≡ read →
@@ -57,10 +57,10 @@ computed_right known tables system past x answer are-bytes h = at (frame_of x.by
         IsAnswer tables system past x answer
     by_standing frame stands.OutOfSequence e is-frame received =
         as_answer (Dropped Sequence) (answer_received tables system past x frame received.link stands.OutOfSequence e received.subscribed received.stands)
-            (frame, received)
+        (frame, received)
     by_standing frame stands.Redundant e is-frame received =
         as_answer (Dropped Redundant) (answer_received tables system past x frame received.link stands.Redundant e received.subscribed received.stands)
-            (frame, received)
+        (frame, received)
     by_standing frame stands.Winner e is-frame received =
         as_answer (answer_to_carried frame.link.0 (has_port tables.ports system frame.link.0) (carried_by x.bytes))
         (answer_received tables system past x frame received.link stands.Winner e received.subscribed received.stands)
@@ -86,23 +86,23 @@ right_computed known tables system past x (Dropped NotSubscribed) are-bytes righ
     answer_of_others tables system past x right.0 ((known.frames.frame x.bytes right.0 are-bytes).1 right.1) right.2
 right_computed known tables system past x (Dropped Sequence) are-bytes right =
     answer_received tables system past x right.0 right.1.link stands.OutOfSequence
-        ((known.frames.frame x.bytes right.0 are-bytes).1 right.1.is_frame) right.1.subscribed right.1.stands
+    ((known.frames.frame x.bytes right.0 are-bytes).1 right.1.is_frame) right.1.subscribed right.1.stands
 right_computed known tables system past x (Dropped Redundant) are-bytes right =
     answer_received tables system past x right.0 right.1.link stands.Redundant
-        ((known.frames.frame x.bytes right.0 are-bytes).1 right.1.is_frame) right.1.subscribed right.1.stands
+    ((known.frames.frame x.bytes right.0 are-bytes).1 right.1.is_frame) right.1.subscribed right.1.stands
 right_computed known tables system past x (Dropped (Ip fault)) are-bytes right =
     let frame : FrameParts = right.0 in
     let read : carried_by x.bytes ≡ Err fault = (known.datagrams.fault x.bytes frame fault are-bytes right.1.is_frame).1 right.2 in
     sym (ap (answer_to_carried frame.link.0 (has_port tables.ports system frame.link.0)) read)
     ∙ answer_received tables system past x frame right.1.link stands.Winner
-        ((known.frames.frame x.bytes frame are-bytes).1 right.1.is_frame) right.1.subscribed right.1.stands
+    ((known.frames.frame x.bytes frame are-bytes).1 right.1.is_frame) right.1.subscribed right.1.stands
 right_computed known tables system past x (Dropped NoPort) are-bytes right =
     let frame : FrameParts = right.0 in
     let carried : Carried = right.2.0 in
     let only = known.readings.only_one x.bytes frame.link.0 carried.from_port carried.to_port frame.number carried.payload are-bytes right.2.1 in
     answer_no_port frame.link.0 (has_port tables.ports system frame.link.0) (carried_by x.bytes) carried only.4 right.2.2
     ∙ answer_received tables system past x frame right.1.link stands.Winner
-        ((known.frames.frame x.bytes frame are-bytes).1 right.1.is_frame) right.1.subscribed right.1.stands
+    ((known.frames.frame x.bytes frame are-bytes).1 right.1.is_frame) right.1.subscribed right.1.stands
 right_computed known tables system past x (Message vl udp payload) are-bytes right =
     let frame : FrameParts = right.0 in
     let carried : Carried = record { from_port = right.2.0; to_port = udp; payload = payload } in
@@ -111,4 +111,4 @@ right_computed known tables system past x (Message vl udp payload) are-bytes rig
     ap (λ (n : ℕ). Message n udp payload) (sym right.2.1)
     ∙ answer_message frame.link.0 (has_port tables.ports system frame.link.0) (carried_by x.bytes) carried only.4 is_open
     ∙ answer_received tables system past x frame right.1.link stands.Winner
-        ((known.frames.frame x.bytes frame are-bytes).1 right.1.is_frame) right.1.subscribed right.1.stands
+    ((known.frames.frame x.bytes frame are-bytes).1 right.1.is_frame) right.1.subscribed right.1.stands

@@ -85,13 +85,13 @@ count_more : (side : Side) (frame : Incoming) (before : List Incoming) → is_sa
     count_of side (frame ∷ before) ≡ suc (count_of side before)
 count_more side frame before e =
     ap length (cond-true (is_same_side frame.side side) (frame ∷ filter (λ (f : Incoming). is_same_side f.side side) before)
-        (filter (λ (f : Incoming). is_same_side f.side side) before) e)
+    (filter (λ (f : Incoming). is_same_side f.side side) before) e)
 
 count_same : (side : Side) (frame : Incoming) (before : List Incoming) → is_same_side frame.side side ≡ false →
     count_of side (frame ∷ before) ≡ count_of side before
 count_same side frame before e =
     ap length (cond-false (is_same_side frame.side side) (frame ∷ filter (λ (f : Incoming). is_same_side f.side side) before)
-        (filter (λ (f : Incoming). is_same_side f.side side) before) e)
+    (filter (λ (f : Incoming). is_same_side f.side side) before) e)
 
 -- the last one of a side was sent before the newest came
 record WasSent (stream : List Sending) (place : ℕ) (came : List Incoming) : Type 0 where
@@ -142,15 +142,15 @@ newest_sent latency stream (frame ∷ before) copies = at (is_first_copy before 
         NewestSent stream (newest (first_copies (frame ∷ before))) (length (first_copies (frame ∷ before)))
     at true e so_far =
         let now : first_copies (frame ∷ before) ≡ frame ∷ first_copies before = cond-true (is_first_copy before frame) (frame ∷ first_copies before)
-                (first_copies before) e in
+        (first_copies before) e in
         newest_at stream (newest (first_copies (frame ∷ before))) (Some frame) (length (first_copies (frame ∷ before))) (suc (length (first_copies before)))
-            (ap newest now) (ap length now)
+        (ap newest now) (ap length now)
         (length (first_copies before), refl, copies.0.sending, ap (slice_get stream) (sym (own_place before frame e)) ∙ copies.0.at_place, copies.0.sent_before)
     at false e so_far =
         let now : first_copies (frame ∷ before) ≡ first_copies before = cond-false (is_first_copy before frame) (frame ∷ first_copies before)
-                (first_copies before) e in
+        (first_copies before) e in
         newest_at stream (newest (first_copies (frame ∷ before))) (newest (first_copies before)) (length (first_copies (frame ∷ before)))
-            (length (first_copies before)) (ap newest now) (ap length now) so_far
+        (length (first_copies before)) (ap newest now) (ap length now) so_far
 
 -- ---- a late copy comes soon, and is near
 
@@ -164,7 +164,7 @@ too_far gap shift latency d r late y last t far apart low came in_time high smal
 pub near : (gap shift latency : ℕ) (moments : List ℕ) (stream : List Sending) → IsSpaced gap shift moments stream → shift ≤ gap → latency ≤ 100000000 →
     1000000 ≤ gap →
     (before : List Incoming) (frame : Incoming) → AreCopies latency stream (frame ∷ before) →
-        count_of (other_side frame.side) before ≤ count_of frame.side before + 128
+    count_of (other_side frame.side) before ≤ count_of frame.side before + 128
 near gap shift latency moments stream spaced small fast wide before frame copies =
     at (cases_lt (count_of frame.side before + 128) (count_of (other_side frame.side) before))
   where

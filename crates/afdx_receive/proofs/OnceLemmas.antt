@@ -65,7 +65,7 @@ copy_of computed s l messages stream lawful sendable latency before frame copy =
     let low : number < 2 ^ 8 = omega (arith, steps_low place 0 (omega arith)) in
     let sent : IsSent s l (record { message = m; number = number }) copy.sending =
     lawful.sent place (record { message = m; number = number }) copy.sending
-        (ap (option_map (λ (o : Message). record { message = o; number = number })) at_place) copy.at_place in
+    (ap (option_map (λ (o : Message). record { message = o; number = number })) at_place) copy.at_place in
     let the : IsTheFrame (address_of s l m) number frame.side m.payload (built_frame (address_of s l m) number frame.side m.payload) =
     computed (address_of s l m) number frame.side m.payload (sendable.buildable place m at_place) (sendable.bytes place m at_place) low in
     let bytes : frame.bytes ≡ built_frame (address_of s l m) number frame.side m.payload =
@@ -80,7 +80,7 @@ copy_of computed s l messages stream lawful sendable latency before frame copy =
 two_streams : BuiltIsComputed → (systems : ℕ) (s : SystemRow) (l : LinkRow) (messages : List Message) (stream : List Sending) → IsLink systems l →
     l.latency_us ≤ l.skew_us → AreSendable s l messages →
     IsLawfulStream s l messages stream → (came : List Incoming) → AreCopies (1000 * l.latency_us) stream came →
-        AreTwoStreams (1000 * l.skew_us) came × AllCarrySent messages came
+    AreTwoStreams (1000 * l.skew_us) came × AllCarrySent messages came
 two_streams computed systems s l messages stream link fast sendable lawful [] copies = (tt, tt)
 two_streams computed systems s l messages stream link fast sendable lawful (frame ∷ before) copies =
     let older = two_streams computed systems s l messages stream link fast sendable lawful before copies.1 in

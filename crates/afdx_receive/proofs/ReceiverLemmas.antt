@@ -63,7 +63,7 @@ none_some (Some memory) some none = cc
 -- a frame of a link that the system doesn't receive changes no memory
 pub others_stay : {S : Type 0} (tables : Rows) (system : ℕ) (past : List Arrived) (x : Arrived) (frame : FrameParts) (links : HashMap VlId LinkMemory S) →
     LinksStandFor tables system past links → frame_of x.bytes ≡ Ok frame → None ≡ hash.get is_same_link links frame.link →
-        LinksStandFor tables system (x ∷ past) links
+    LinksStandFor tables system (x ∷ past) links
 others_stay tables system past x frame links stands is-frame missing vl =
     stays tables system past (x ∷ past) vl.0 (hash.get is_same_link links vl) (stands vl) (λ some. frames_other x past frame vl.0 is-frame (apart some))
   where
@@ -90,11 +90,11 @@ link_joins tables system past x frame links after memory moved stands is-frame h
         let same : frame.link.0 ≡ q.0 = eqb-true frame.link.0 q.0 e in
         let found : hash.get is_same_link after q ≡ Some moved = updates q ∙ ap (λ b. cond b (Some moved) (hash.get is_same_link links q)) e in
         let own : frames_of q.0 (x ∷ past) ≡ incoming x frame ∷ frames_of q.0 past = joined ∙ ap (λ b. cond b (incoming x frame ∷ frames_of q.0 past)
-                (frames_of q.0 past)) e in
+        (frames_of q.0 past)) e in
         rw (found, own, ← same) (here.link, here.subscribed, skew ∙ here.skew, remembers)
     at false e =
         let found : hash.get is_same_link after q ≡ hash.get is_same_link links q = updates q ∙ ap (λ b. cond b (Some moved)
-                (hash.get is_same_link links q)) e in
+        (hash.get is_same_link links q)) e in
         let other : frames_of q.0 (x ∷ past) ≡ frames_of q.0 past = joined ∙ ap (λ b. cond b (incoming x frame ∷ frames_of q.0 past) (frames_of q.0 past)) e in
         rw found (stays tables system past (x ∷ past) q.0 (hash.get is_same_link links q) (stands q) (λ some. other))
 
@@ -112,7 +112,7 @@ pub record Taken {S : Type 0} (tables : Rows) (system : ℕ) (past : List Arrive
 pub taken : {S : Type 0} (tables : Rows) (system : ℕ) (past : List Arrived) (x : Arrived) (frame : FrameParts) (links after : HashMap VlId LinkMemory S)
     (memory moved : LinkMemory) (how : Standing) →
     LinksStandFor tables system past links → IsFrameOf x.bytes frame → frame_of x.bytes ≡ Ok frame → Some memory ≡ hash.get is_same_link links frame.link →
-        moved.skew_ns ≡ memory.skew_ns →
+    moved.skew_ns ≡ memory.skew_ns →
     (Remembers memory (frames_of frame.link.0 past) → how ≡ standing memory.skew_ns (frames_of frame.link.0 past) (incoming x frame)) →
     (Remembers memory (frames_of frame.link.0 past) → Remembers moved (incoming x frame ∷ frames_of frame.link.0 past)) →
     ((q : VlId) → hash.get is_same_link after q ≡ cond (is_same_link frame.link q) (Some moved) (hash.get is_same_link links q)) →

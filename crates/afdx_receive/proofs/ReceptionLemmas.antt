@@ -28,7 +28,7 @@ pub frames_own : (x : Arrived) (past : List Arrived) (frame : FrameParts) → fr
     frames_of frame.link.0 (x ∷ past) ≡ incoming x frame ∷ frames_of frame.link.0 past
 frames_own x past frame e =
     frames_with x past frame frame.link.0 e ∙ cond-true (eqb frame.link.0 frame.link.0) (incoming x frame ∷ frames_of frame.link.0 past)
-        (frames_of frame.link.0 past) (eq-eqb frame.link.0 frame.link.0 refl)
+    (frames_of frame.link.0 past) (eq-eqb frame.link.0 frame.link.0 refl)
 
 pub frames_other : (x : Arrived) (past : List Arrived) (frame : FrameParts) (vl : ℕ) → frame_of x.bytes ≡ Ok frame → nat_eq frame.link.0 vl ≡ false →
     frames_of vl (x ∷ past) ≡ frames_of vl past
@@ -54,7 +54,7 @@ answer_of_others tables system past x frame e other = sym (ap (answer_to_frame t
 
 pub answer_received : (tables : Rows) (system : ℕ) (past : List Arrived) (x : Arrived) (frame : FrameParts) (link : LinkRow) (how : Standing) →
     frame_of x.bytes ≡ Ok frame → subscription tables system frame.link.0 ≡ Some link →
-        standing (1000 * link.skew_us) (frames_of frame.link.0 past) (incoming x frame) ≡ how →
+    standing (1000 * link.skew_us) (frames_of frame.link.0 past) (incoming x frame) ≡ how →
     answer_by how (answer_to_carried frame.link.0 (has_port tables.ports system frame.link.0) (carried_by x.bytes)) ≡ answer_to tables system past x
 unfolding answer_to
 answer_received tables system past x frame link how e subscribed stood =
@@ -64,7 +64,7 @@ answer_received tables system past x frame link how e subscribed stood =
 pub answer_own : (tables : Rows) (system : ℕ) (past : List Arrived) (x : Arrived) (frame : FrameParts) (link : LinkRow) → frame_of x.bytes ≡ Ok frame →
     subscription tables system frame.link.0 ≡ Some link →
     answer_to tables system past x ≡ answer_after (1000 * link.skew_us) (has_port tables.ports system frame.link.0) (frames_of frame.link.0 past)
-        (incoming x frame)
+    (incoming x frame)
 unfolding answer_to
 answer_own tables system past x frame link e subscribed = ap (answer_to_frame tables system past x) e ∙ ap (answer_on tables system past x frame) subscribed
 

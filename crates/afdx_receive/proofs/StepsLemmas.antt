@@ -53,7 +53,7 @@ within_some (suc most) from to h = by (λ e. within_some most from to e) (or_cas
   where
     by : (is_within_steps most from to ≡ true → (steps : ℕ) × (1 ≤ steps) × (steps ≤ most) × (after_steps steps from ≡ to)) →
         (is_within_steps most from to ≡ true) ⊎ (eqb (after_steps (suc most) from) to ≡ true) →
-            (steps : ℕ) × (1 ≤ steps) × (steps ≤ suc most) × (after_steps steps from ≡ to)
+        (steps : ℕ) × (1 ≤ steps) × (steps ≤ suc most) × (after_steps steps from ≡ to)
     by fewer (inl e) = let some = fewer e in (some.0, some.1, omega (arith, some.2), some.3)
     by fewer (inr e) = (suc most, omega arith, omega arith, eqb-true (after_steps (suc most) from) to e)
 

@@ -120,12 +120,12 @@ counted (frame ∷ before) = at (is_first_copy before frame) refl (counted befor
     at true e so_far =
         ap (λ b. length (cond b (frame ∷ first_copies before) (first_copies before))) e ∙ ap suc so_far
         ∙ sym (max_first (count_of frame.side before) (count_of (other_side frame.side) before)
-            (leb-true (count_of (other_side frame.side) before) (count_of frame.side before) e))
+        (leb-true (count_of (other_side frame.side) before) (count_of frame.side before) e))
         ∙ sym (most_step frame before) ∙ most_any frame.side (frame ∷ before)
     at false e so_far =
         ap (λ b. length (cond b (frame ∷ first_copies before) (first_copies before))) e ∙ so_far
         ∙ sym (max_late (count_of frame.side before) (count_of (other_side frame.side) before)
-            (leb-false (count_of (other_side frame.side) before) (count_of frame.side before) e))
+        (leb-false (count_of (other_side frame.side) before) (count_of frame.side before) e))
         ∙ sym (most_step frame before) ∙ most_any frame.side (frame ∷ before)
 
 -- ---- the last ones
@@ -168,7 +168,7 @@ pub own_place : (before : List Incoming) (frame : Incoming) → is_first_copy be
 own_place before frame first =
     let all : length (first_copies before) ≡ most_of frame.side before = counted before ∙ sym (most_any frame.side before) in
     let ahead : count_of (other_side frame.side) before ≤ count_of frame.side before = leb-true (count_of (other_side frame.side) before)
-            (count_of frame.side before) first in
+    (count_of frame.side before) first in
     omega (arith, all, ahead)
 
 newest_number : (skew : ℕ) (came : List Incoming) → AreTwoStreams skew came → LastOf (newest (first_copies came)) (length (first_copies came))
@@ -179,13 +179,13 @@ newest_number skew (frame ∷ before) streams = at (is_first_copy before frame) 
         LastOf (newest (first_copies (frame ∷ before))) (length (first_copies (frame ∷ before)))
     at true e so_far =
         let now : first_copies (frame ∷ before) ≡ frame ∷ first_copies before = cond-true (is_first_copy before frame) (frame ∷ first_copies before)
-                (first_copies before) e in
+        (first_copies before) e in
         last_at (newest (first_copies (frame ∷ before))) (Some frame) (length (first_copies (frame ∷ before))) (suc (length (first_copies before)))
         (ap newest now) (ap length now)
         (length (first_copies before), refl, streams.0.number ∙ ap (λ k. after_steps k 0) (own_place before frame e))
     at false e so_far =
         let now : first_copies (frame ∷ before) ≡ first_copies before = cond-false (is_first_copy before frame) (frame ∷ first_copies before)
-                (first_copies before) e in
+        (first_copies before) e in
         last_at (newest (first_copies (frame ∷ before))) (newest (first_copies before)) (length (first_copies (frame ∷ before))) (length (first_copies before))
         (ap newest now) (ap length now) so_far
 
@@ -212,7 +212,7 @@ wins_first skew (Some w) m own other frame last most number near soon = at (case
     at (inr first) =
         let place : own ≡ suc last.0 = omega (arith, last.1, most) in
         or_right (nat_lt (w.time + skew) frame.time) (is_within_steps 127 w.number frame.number)
-            (rw (last.2, number, place) (next_place 127 last.0 (omega arith)))
+        (rw (last.2, number, place) (next_place 127 last.0 (omega arith)))
         ∙ sym (le-leb other own first)
 
 next_is_valid : (skew : ℕ) (before : List Incoming) (frame : Incoming) → AreTwoStreams skew (frame ∷ before) → is_valid before frame ≡ true
@@ -235,7 +235,7 @@ win skew (frame ∷ before) streams =
 -- how the next frame stands, and where
 pub stand : (skew : ℕ) (before : List Incoming) (frame : Incoming) → AreTwoStreams skew (frame ∷ before) →
     (standing skew before frame ≡ cond (is_first_copy before frame) Winner Redundant)
-        × (is_first_copy before frame ≡ true → count_of frame.side before ≡ length (winners skew before))
+    × (is_first_copy before frame ≡ true → count_of frame.side before ≡ length (winners skew before))
 stand skew before frame streams = (
   ap (λ b. cond b (cond (wins skew (winners skew before) frame) Winner Redundant) OutOfSequence) (next_is_valid skew before frame streams)
       ∙ ap (λ ws. cond (wins skew ws frame) Winner Redundant) (win skew before streams.1)
@@ -257,14 +257,14 @@ carried_first carried sent (frame ∷ before) all = at (is_first_copy before fra
         reverse (map carried (first_copies (frame ∷ before))) ≡ take (length (first_copies (frame ∷ before))) sent
     at true e so_far =
         let now : first_copies (frame ∷ before) ≡ frame ∷ first_copies before = cond-true (is_first_copy before frame) (frame ∷ first_copies before)
-                (first_copies before) e in
+        (first_copies before) e in
         let here : slice_get sent (length (first_copies before)) ≡ Some (carried frame) = ap (slice_get sent) (sym (own_place before frame e)) ∙ all.0 in
         ap (λ fs. reverse (map carried fs)) now ∙ reverse-cons (carried frame) (map carried (first_copies before))
         ∙ ap (λ xs. xs ++ carried frame ∷ []) so_far ∙ sym (one_more sent (length (first_copies before)) (carried frame) here)
         ∙ ap (λ n. take n sent) (plus_one (length (first_copies before)) ∙ sym (ap length now))
     at false e so_far =
         let now : first_copies (frame ∷ before) ≡ first_copies before = cond-false (is_first_copy before frame) (frame ∷ first_copies before)
-                (first_copies before) e in
+        (first_copies before) e in
         ap (λ fs. reverse (map carried fs)) now ∙ so_far ∙ ap (λ n. take n sent) (sym (ap length now))
 
 pub won_once : (skew : ℕ) (carried : Incoming → List ℕ) (sent : List (List ℕ)) (came : List Incoming) → AreTwoStreams skew came → CarrySent carried sent came →

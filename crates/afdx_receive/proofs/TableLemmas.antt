@@ -73,7 +73,7 @@ pub received : (system : ℕ) (links : List LinkRow) (i : ℕ) (link : LinkRow) 
 unfolding AreDistinct
 received system links i link distinct here goes =
     let found = first_found (is_for system link.vl) links i link here
-            (and_from (nat_eq link.vl link.vl) (is_to system link) (eq-eqb link.vl link.vl refl) goes) in
+    (and_from (nat_eq link.vl link.vl) (is_to system link) (eq-eqb link.vl link.vl refl) goes) in
     let both : (nat_eq found.1.vl link.vl ≡ true) × (is_to system found.1 ≡ true) = and_parts (nat_eq found.1.vl link.vl) (is_to system found.1) found.3 in
     let same : found.0 ≡ i = distinct found.0 i found.1 link found.2 here (eqb-true found.1.vl link.vl both.0) in
     let one : Some found.1 ≡ Some link = sym found.2 ∙ ap (slice_get links) same ∙ here in
@@ -121,8 +121,8 @@ link_added system links i link key held after so_far distinct here named goes up
         let apart : is_for system vl.0 link ≡ false = and_left (nat_eq link.vl vl.0) (is_to system link) (ap (λ n. eqb n vl.0) (sym named) ∙ e) in
         updates vl ∙ ap (λ b. cond b (Some (memory_at_first link)) (hash.get is_same_link held vl)) e ∙ so_far vl
         ∙ ap (option_map memory_at_first) (sym
-            (step ∙ ap (λ b. option_or (find (is_for system vl.0) (take i links)) (cond b (Some link) None)) apart ∙ or_none
-            (find (is_for system vl.0) (take i links))))
+        (step ∙ ap (λ b. option_or (find (is_for system vl.0) (take i links)) (cond b (Some link) None)) apart ∙ or_none
+        (find (is_for system vl.0) (take i links))))
 
 -- whether a port is the system's, for a link and a UDP port
 abbrev pub is_at : ℕ → Endpoint → PortRow → Bool
@@ -153,7 +153,7 @@ port_passed system ports i port held so_far here other to =
     let apart : is_at system to port ≡ false = rw other refl in
     so_far to ∙ configured (take i ports) system to
     ∙ sym (configured (take (i + 1) ports) system to ∙ any_one (is_at system to) ports i port here ∙ ap
-        (λ b. list_any (is_at system to) (take i ports) || (b || false)) apart ∙ or_no (list_any (is_at system to) (take i ports)))
+    (λ b. list_any (is_at system to) (take i ports) || (b || false)) apart ∙ or_no (list_any (is_at system to) (take i ports)))
 
 pub port_added : {S : Type 0} (system : ℕ) (ports : List PortRow) (i : ℕ) (port : PortRow) (key : Endpoint) (held after : HashSet Endpoint S) →
     PortsSoFar system ports i held → slice_get ports i ≡ Some port → eqb port.system system ≡ true → key.link.0 ≡ port.link → key.udp ≡ port.udp →

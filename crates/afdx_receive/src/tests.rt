@@ -385,3 +385,10 @@ fn largest_tables(rt: HostRuntime) -> Result<(), Fail> {
     }
     Ok(())
 }
+
+#[test]
+fn reasons_in_words(rt: HostRuntime) {
+    assert_eq!(rt; DropReason::Mac(MacFault::BadFcs).word(), "bad-fcs");
+    assert_eq!(rt; DropReason::Redundant.word(), "redundant");
+    assert_eq!(rt; DropReason::Ip(IpFault::NotUdp).word(), "not-udp");
+}

@@ -8,11 +8,17 @@ loop-i-init c = so_far-start (link_lines c.args.tables.now) 0 (length c.args.tab
 
 pub returns-in-Some-clause-fault : goal.returns-in-Some-clause-fault
 returns-in-Some-clause-fault c =
-    sym (so_far-found (link_lines c.args.tables.now) c.loop-i.i (length c.args.tables.now.links) (first_false (each_from (link_lines c.args.tables.now) 0 (length c.args.tables.now.links))) c.in-Some.fault c.loop-i.invariant (omega arith) (sym c.in-Some.ensures.fault))
+    sym (so_far-found (link_lines c.args.tables.now) c.loop-i.i (length c.args.tables.now.links)
+    (first_false (each_from (link_lines c.args.tables.now) 0 (length c.args.tables.now.links))) c.in-Some.fault c.loop-i.invariant (omega arith)
+    (sym c.in-Some.ensures.fault))
 
 pub loop-i-preserved : goal.loop-i-preserved
 loop-i-preserved c =
-    so_far-next (link_lines c.args.tables.now) c.loop-i.i (length c.args.tables.now.links) (first_false (each_from (link_lines c.args.tables.now) 0 (length c.args.tables.now.links))) c.loop-i.invariant (sym c.link_fault.ensures.fault ∙ none_of c.link_fault.result c.in_default.not-Some)
+    so_far-next (link_lines c.args.tables.now) c.loop-i.i (length c.args.tables.now.links)
+    (first_false (each_from (link_lines c.args.tables.now) 0 (length c.args.tables.now.links))) c.loop-i.invariant
+    (sym c.link_fault.ensures.fault ∙ none_of c.link_fault.result c.in_default.not-Some)
 
 pub returns-clause-fault : goal.returns-clause-fault
-returns-clause-fault c = sym (so_far-end (link_lines c.args.tables.now) c.loop-i.i (length c.args.tables.now.links) (first_false (each_from (link_lines c.args.tables.now) 0 (length c.args.tables.now.links))) c.loop-i.invariant (omega arith))
+returns-clause-fault c =
+    sym (so_far-end (link_lines c.args.tables.now) c.loop-i.i (length c.args.tables.now.links)
+    (first_false (each_from (link_lines c.args.tables.now) 0 (length c.args.tables.now.links))) c.loop-i.invariant (omega arith))

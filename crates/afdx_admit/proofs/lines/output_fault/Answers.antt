@@ -41,7 +41,8 @@ returns-in-Some-clause-fault c =
     record {
       row = s.row;
       stands = s.stands;
-      first = ap (λ n. Some (HighLatency c.args.port c.in-Some.vl n)) (c.high_bound.ensures o s.sums) ∙ sym (high_late c.args.tables.now.buffer c.args.port o fits room c.in-Some.vl.0 late);
+      first = ap (λ n. Some (HighLatency c.args.port c.in-Some.vl n)) (c.high_bound.ensures o s.sums) ∙ sym
+          (high_late c.args.tables.now.buffer c.args.port o fits room c.in-Some.vl.0 late);
     }
 
 pub div_ceil-requires : goal.div_ceil-requires
@@ -52,7 +53,8 @@ div_ceil-requires c =
     let fits : load o.byte_ns o.flows ≤ byte_units = omega (arith, s.sums.load) in
     let rates = rates_some (length t.systems) c.args.system.0 t.links c.buffer.ensures.lawful.links.each in
     let some : 1 ≤ o.byte_ns = omega (arith, s.some, s.sums.byte_ns) in
-    let left = left_some o.byte_ns some o.flows c.low_wait-wait.result (byte_units - c.sums_to-sums.result.high_load) c.in-Some-first_late.vl.0 rates fits (sym c.in-Some-first_late.ensures) in
+    let left = left_some o.byte_ns some o.flows c.low_wait-wait.result (byte_units - c.sums_to-sums.result.high_load) c.in-Some-first_late.vl.0 rates fits
+    (sym c.in-Some-first_late.ensures) in
     omega (arith, left, s.sums.high_load)
 
 pub returns-in-Some-first_late-clause-fault : goal.returns-in-Some-first_late-clause-fault
@@ -63,7 +65,8 @@ returns-in-Some-first_late-clause-fault c =
     let room : burst o.flows ≤ c.args.tables.now.buffer * byte_units = omega (arith, s.sums.burst, c.buffer.ensures.buffer) in
     let wait = c.low_wait-wait.ensures o s.sums in
     let soon : first_late (high_wait o.byte_ns o.flows) byte_units (of_class High o.flows) ≡ None =
-    ap (λ w. first_late w byte_units (of_class High o.flows)) (sym (c.high_wait-wait.ensures o s.sums)) ∙ sym c.first_late.ensures ∙ ap (option_map (λ v. v.0)) (none_of c.first_late.result c.in_default.not-Some) in
+    ap (λ w. first_late w byte_units (of_class High o.flows)) (sym (c.high_wait-wait.ensures o s.sums)) ∙ sym c.first_late.ensures ∙ ap (option_map (λ v. v.0))
+    (none_of c.first_late.result c.in_default.not-Some) in
     let late : first_late (low_wait o.byte_ns o.flows) (byte_units - high_load o.byte_ns o.flows) (of_class Low o.flows) ≡ Some c.in-Some-first_late.vl.0 =
     ap (λ w. first_late w (byte_units - high_load o.byte_ns o.flows) (of_class Low o.flows)) (sym wait)
     ∙ ap (λ h. first_late c.low_wait-wait.result (byte_units - h) (of_class Low o.flows)) (sym s.sums.high_load)
@@ -71,8 +74,12 @@ returns-in-Some-first_late-clause-fault c =
     record {
       row = s.row;
       stands = s.stands;
-      first = ap (λ n. Some (LowLatency c.args.port c.in-Some-first_late.vl n)) (c.div_ceil.ensures ∙ ap (λ w. div_ceil w (byte_units - c.sums_to-sums.result.high_load)) wait ∙ ap (λ h. div_ceil (low_wait o.byte_ns o.flows) (byte_units - h)) s.sums.high_load)
-          ∙ sym (highs_soon c.args.tables.now.buffer c.args.port o fits room soon ∙ ap (option_map (λ v. LowLatency c.args.port (record { 0 = v }) (div_ceil (low_wait o.byte_ns o.flows) (byte_units - high_load o.byte_ns o.flows)))) late);
+      first = ap (λ n. Some (LowLatency c.args.port c.in-Some-first_late.vl n))
+          (c.div_ceil.ensures ∙ ap (λ w. div_ceil w (byte_units - c.sums_to-sums.result.high_load)) wait ∙ ap
+          (λ h. div_ceil (low_wait o.byte_ns o.flows) (byte_units - h)) s.sums.high_load)
+          ∙ sym (highs_soon c.args.tables.now.buffer c.args.port o fits room soon ∙ ap
+          (option_map (λ v. LowLatency c.args.port (record { 0 = v })
+          (div_ceil (low_wait o.byte_ns o.flows) (byte_units - high_load o.byte_ns o.flows)))) late);
     }
 
 pub returns-in-None-clause-fault : goal.returns-in-None-clause-fault
@@ -83,7 +90,8 @@ returns-in-None-clause-fault c =
     let room : burst o.flows ≤ c.args.tables.now.buffer * byte_units = omega (arith, s.sums.burst, c.buffer.ensures.buffer) in
     let wait = c.low_wait-wait.ensures o s.sums in
     let soon : first_late (high_wait o.byte_ns o.flows) byte_units (of_class High o.flows) ≡ None =
-    ap (λ w. first_late w byte_units (of_class High o.flows)) (sym (c.high_wait-wait.ensures o s.sums)) ∙ sym c.first_late.ensures ∙ ap (option_map (λ v. v.0)) (none_of c.first_late.result c.in_default.not-Some) in
+    ap (λ w. first_late w byte_units (of_class High o.flows)) (sym (c.high_wait-wait.ensures o s.sums)) ∙ sym c.first_late.ensures ∙ ap (option_map (λ v. v.0))
+    (none_of c.first_late.result c.in_default.not-Some) in
     let late : first_late (low_wait o.byte_ns o.flows) (byte_units - high_load o.byte_ns o.flows) (of_class Low o.flows) ≡ None =
     ap (λ w. first_late w (byte_units - high_load o.byte_ns o.flows) (of_class Low o.flows)) (sym wait)
     ∙ ap (λ h. first_late c.low_wait-wait.result (byte_units - h) (of_class Low o.flows)) (sym s.sums.high_load)
@@ -91,5 +99,7 @@ returns-in-None-clause-fault c =
     record {
       row = s.row;
       stands = s.stands;
-      first = sym (highs_soon c.args.tables.now.buffer c.args.port o fits room soon ∙ ap (option_map (λ v. LowLatency c.args.port (record { 0 = v }) (div_ceil (low_wait o.byte_ns o.flows) (byte_units - high_load o.byte_ns o.flows)))) late);
+      first = sym (highs_soon c.args.tables.now.buffer c.args.port o fits room soon ∙ ap
+          (option_map (λ v. LowLatency c.args.port (record { 0 = v })
+          (div_ceil (low_wait o.byte_ns o.flows) (byte_units - high_load o.byte_ns o.flows)))) late);
     }

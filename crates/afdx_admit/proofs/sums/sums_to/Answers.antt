@@ -14,7 +14,15 @@ use Rattle.afdx_admit.proofs.sums.sums_to.Goals as goal
 use Rattle.afdx_admit.proofs.sums.sums_to.Goals.{then-goes_to, else-goes_to}
 
 wider : (few many : ℕ) (r : Sums) → few ≤ many → IsSmall few r → IsSmall many r
-wider few many r h s = record { byte_ns = s.byte_ns; burst = omega (arith, s.burst, h); load = omega (arith, s.load, h); high_burst = s.high_burst; high_load = s.high_load; longest_low = s.longest_low }
+wider few many r h s =
+    record {
+      byte_ns = s.byte_ns;
+      burst = omega (arith, s.burst, h);
+      load = omega (arith, s.load, h);
+      high_burst = s.high_burst;
+      high_load = s.high_load;
+      longest_low = s.longest_low;
+    }
 
 abbrev at : ℕ → List Flow → Output
 at b fs = record { byte_ns = b; flows = fs }
@@ -35,9 +43,11 @@ loop-i-preserved c =
           let lawful = c.link_at-link.ensures.lawful in
           let slow : old.byte_ns ≤ 800 = c.loop-i.invariant.small.byte_ns in
           let more = with_flow_to links c.loop-i.i c.args.system.0 row c.link_at-link.ensures.row (sym c.goes_to.ensures ∙ w.if-goes_to.true) in
-          let sums = sums_push (at b (flows_to (take c.loop-i.i links) c.args.system.0)) (flow_of row) old w.with-sums.result c.loop-i.invariant.sums w.with-sums.ensures in
+          let sums = sums_push (at b (flows_to (take c.loop-i.i links) c.args.system.0))
+          (flow_of row) old w.with-sums.result c.loop-i.invariant.sums w.with-sums.ensures in
           rw w.sums-is (record {
-            small = small_push c.loop-i.i (flow_of row) old w.with-sums.result c.loop-i.invariant.small w.with-sums.ensures (cap_small lawful.0 row lawful.1) (load_small lawful.0 row lawful.1 old.byte_ns slow) (smax_small lawful.0 row lawful.1);
+            small = small_push c.loop-i.i (flow_of row) old w.with-sums.result c.loop-i.invariant.small w.with-sums.ensures (cap_small lawful.0 row lawful.1)
+                (load_small lawful.0 row lawful.1 old.byte_ns slow) (smax_small lawful.0 row lawful.1);
             byte_ns = w.with-sums.ensures.byte_ns ∙ c.loop-i.invariant.byte_ns;
             sums = subst (λ fs. IsSums (at b fs) w.with-sums.result) (sym more) sums;
           })
@@ -66,5 +76,6 @@ returns-clause-sums c =
       row = s.0;
       stands = s.1;
       some = omega (arith, c.loop-i.invariant.byte_ns, c.empty-sums.ensures.sums.byte_ns, c.byte_ns_of.ensures.some);
-      sums = subst (λ b. IsSums (at b (flows_to links c.args.system.0)) c.loop-i.sums) time (subst (λ ls. IsSums (at c.empty-sums.result.byte_ns (flows_to ls c.args.system.0)) c.loop-i.sums) all c.loop-i.invariant.sums);
+      sums = subst (λ b. IsSums (at b (flows_to links c.args.system.0)) c.loop-i.sums) time
+          (subst (λ ls. IsSums (at c.empty-sums.result.byte_ns (flows_to ls c.args.system.0)) c.loop-i.sums) all c.loop-i.invariant.sums);
     }

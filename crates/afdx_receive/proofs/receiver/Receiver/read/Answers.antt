@@ -8,7 +8,7 @@ use Rattle.afdx_receive.proofs.receiver.Receiver.read.Goals as goal
 pub returns-then-not-contains-clause-answer : goal.returns-then-not-contains-clause-answer
 returns-then-not-contains-clause-answer c tables system bytes ports is-frame =
     answer_no_port c.args.frame.vl.0 (has_port tables.ports system c.args.frame.vl.0) (carried_by bytes) (carried_in c.in-Ok.datagram)
-        (c.in-Ok.ensures.computed bytes is-frame)
+    (c.in-Ok.ensures.computed bytes is-frame)
     (port_known tables system c.vl.result c.args.frame.vl c.to_port.result c.in-Ok.datagram.to_port c.contains.result
     (c.contains.ensures ∙ ports (record { link = c.vl.result; udp = c.to_port.result })) c.vl.ensures c.to_port.ensures
     ∙ c.if-not-contains.true)
@@ -27,7 +27,7 @@ returns-clause-answer c tables system bytes ports is-frame =
     same_message c.vl.result.0 c.args.frame.vl.0 c.to_port.result c.in-Ok.datagram.to_port c.payload.result.now c.in-Ok.datagram.payload.now _
     (ap (λ (v : VlId). v.0) c.vl.ensures) c.to_port.ensures c.payload.ensures
     (answer_message c.args.frame.vl.0 (has_port tables.ports system c.args.frame.vl.0) (carried_by bytes) (carried_in c.in-Ok.datagram)
-        (c.in-Ok.ensures.computed bytes is-frame)
+    (c.in-Ok.ensures.computed bytes is-frame)
     (port_known tables system c.vl.result c.args.frame.vl c.to_port.result c.in-Ok.datagram.to_port c.contains.result
     (c.contains.ensures ∙ ports (record { link = c.vl.result; udp = c.to_port.result })) c.vl.ensures c.to_port.ensures
     ∙ c.if-not-contains.false))

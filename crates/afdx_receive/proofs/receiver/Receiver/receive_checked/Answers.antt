@@ -31,8 +31,11 @@ returns-in_default-clause-received c tables system past stands =
     record {
       computed = answer_of_others tables system past x frame c.in-Ok.ensures.computed other;
       right = (frame, c.in-Ok.ensures.ok, other);
-      stands = record { links = rw c.get_mut.follows.holds-at-none
-          (others_stay tables system past x frame c.args.self.now.links stands.links c.in-Ok.ensures.computed missing); ports = stands.ports };
+      stands = record {
+        links = rw c.get_mut.follows.holds-at-none
+            (others_stay tables system past x frame c.args.self.now.links stands.links c.in-Ok.ensures.computed missing);
+        ports = stands.ports;
+      };
     }
 
 pub returns-in-OutOfSequence-clause-received : goal.returns-in-OutOfSequence-clause-received
@@ -46,7 +49,7 @@ returns-in-OutOfSequence-clause-received c tables system past stands =
     (rw c.sequence.ensures at (c.in-OutOfSequence.ensures.standing (frames_of frame.link.0 past) frame.link.0 c.args.bytes.now))
     (rw c.sequence.ensures at (c.in-OutOfSequence.ensures.remembers (frames_of frame.link.0 past) frame.link.0 c.args.bytes.now))
     (rw c.vl-vl.ensures at ((c.get_mut.follows.holds c.consider.new.self).3
-        (found_some (hash.get is_same_link links c.vl-vl.result) c.in-Some.memory.now c.in-Some.ensures.value)).0) in
+    (found_some (hash.get is_same_link links c.vl-vl.result) c.in-Some.memory.now c.in-Some.ensures.value)).0) in
     record { computed = all.answers; right = (frame, all.received); stands = record { links = all.links; ports = stands.ports } }
 
 pub returns-in-Redundant-clause-received : goal.returns-in-Redundant-clause-received
@@ -60,7 +63,7 @@ returns-in-Redundant-clause-received c tables system past stands =
     (rw c.sequence.ensures at (c.in-Redundant.ensures.standing (frames_of frame.link.0 past) frame.link.0 c.args.bytes.now))
     (rw c.sequence.ensures at (c.in-Redundant.ensures.remembers (frames_of frame.link.0 past) frame.link.0 c.args.bytes.now))
     (rw c.vl-vl.ensures at ((c.get_mut.follows.holds c.consider.new.self).3
-        (found_some (hash.get is_same_link links c.vl-vl.result) c.in-Some.memory.now c.in-Some.ensures.value)).0) in
+    (found_some (hash.get is_same_link links c.vl-vl.result) c.in-Some.memory.now c.in-Some.ensures.value)).0) in
     record { computed = all.answers; right = (frame, all.received); stands = record { links = all.links; ports = stands.ports } }
 
 pub returns-in-Winner-clause-received : goal.returns-in-Winner-clause-received
@@ -74,7 +77,7 @@ returns-in-Winner-clause-received c tables system past stands =
     (rw c.sequence.ensures at (c.in-Winner.ensures.standing (frames_of frame.link.0 past) frame.link.0 c.args.bytes.now))
     (rw c.sequence.ensures at (c.in-Winner.ensures.remembers (frames_of frame.link.0 past) frame.link.0 c.args.bytes.now))
     (rw c.vl-vl.ensures at ((c.get_mut.follows.holds c.consider.new.self).3
-        (found_some (hash.get is_same_link links c.vl-vl.result) c.in-Some.memory.now c.in-Some.ensures.value)).0) in
+    (found_some (hash.get is_same_link links c.vl-vl.result) c.in-Some.memory.now c.in-Some.ensures.value)).0) in
     record {
       computed = c.read.ensures.answer tables system c.args.bytes.now stands.ports c.in-Ok.ensures.ok ∙ all.answers;
       right = read_right tables system past x frame (answer_of c.read.result)
