@@ -1,4 +1,4 @@
-use Rattle.std.proofs.Common.{◌∙◌, ◌∷◌, ℕ, List, subst, sym}
+use Rattle.std.proofs.Common.{◌∷◌, ℕ, List, subst, sym}
 use Rattle.afdx_police.specs.Arrival.{Arrival}
 use Rattle.afdx_network.specs.Events.{Left}
 use Rattle.afdx_network.specs.Network as network
