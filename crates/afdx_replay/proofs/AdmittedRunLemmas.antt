@@ -1,6 +1,6 @@
 -- A replay of admitted tables tells what is promised.
-use Rattle.std.proofs.Common.{◌≡◌, ℕ, zero, suc, ◌^◌, ◌≤◌, ◌||◌, Bool, true, false, nat_lt, List, [], ◌∷◌, length, refl, ap, ◌∙◌, subst, arith, inl, inr}
-use Rattle.std.specs.Prelude.{Option, Some, None, Result, Ok, Err, All, IfSome, slice_index_or, if◌then◌else◌, ◌⊎◌}
+use Rattle.std.proofs.Common.{◌≡◌, ℕ, zero, suc, ◌^◌, ◌≤◌, ◌||◌, Bool, true, false, nat_lt, List, [], ◌∷◌, length, refl, ap, ◌∙◌, subst, arith}
+use Rattle.std.specs.Prelude.{Option, Some, None, Result, Ok, Err, All, IfSome, slice_index_or, if◌then◌else◌}
 use Rattle.std.specs.Str.Lines.{strip_carriage_return}
 use Rattle.std.specs.Io.KnownBytes.{Appends}
 use Rattle.std.proofs.lemmas.Bool.{ltb-false}
@@ -19,8 +19,6 @@ use Rattle.afdx_lists.specs.declared.fault.LineFault.TheVariants.{TimeTooLarge, 
 use Rattle.afdx_lists.specs.declared.fault.RunFault.{RunFault}
 use Rattle.afdx_lists.specs.declared.fault.RunFault.TheVariants.{Read, Write, Memory}
 use Rattle.afdx_replay.specs.Listed.{latest_time, with_said, said_after, arrivals_of}
-use Rattle.afdx_config.specs.Reading.{Spells}
-use Rattle.afdx_replay.specs.ReplayCommand.{ReplaysIn, Replays}
 use Rattle.afdx_replay.specs.PromisedRun.{WritesPromisedSoFar, WritesPromisedSome, PromisedAnswers}
 use Rattle.afdx_replay.specs.Replayed.{WritesSoFar, WritesSome, Answers}
 use Rattle.afdx_replay.specs.Stops.{IsToldOf, StopsAt}
@@ -128,15 +126,3 @@ module _ (t : Rows) (bytes : List ℕ) (old new : Option (List ℕ)) (lawful : I
 pub if-known : (t : Rows) (o rest old new : Option (List ℕ)) (r : Result Summary RunFault) → IsLawful t → IsAdmitted t → IfSome o (λ bytes. Answers t bytes rest old new r) → IfSome o (λ bytes. PromisedAnswers t bytes rest old new r)
 if-known t None rest old new r lawful admitted h = tt
 if-known t (Some bytes) rest old new r lawful admitted h = promised-answers t bytes old new lawful admitted rest r h
-
--- ---- the command
-
-pub replays-admitted : (config : List ℕ) (admission : Bool) (t : Rows) (o rest old new : Option (List ℕ)) (status : ℕ) → Spells config t → IsLawful t → IsAdmitted t →
-    IfSome o (λ bytes. ReplaysIn t bytes rest old new status) → IfSome o (λ bytes. Replays config admission bytes rest old new status)
-replays-admitted config admission t None rest old new status spelled lawful admitted h = tt
-replays-admitted config admission t (Some bytes) rest old new status spelled lawful admitted h =
-    record { tables = t; spelled = spelled; admitted = λ asked. admitted; replays = h; promised = λ asked. promised-answers t bytes old new lawful admitted rest h.answer h.answers }
-
-pub if-left : (o : Option (List ℕ)) (P Q : List ℕ → Type 0) → IfSome o P → IfSome o (λ bytes. P bytes ⊎ Q bytes)
-if-left None P Q h = tt
-if-left (Some bytes) P Q h = inl h

@@ -2,6 +2,7 @@ pub mod RunLemmas
 pub mod TextLemmas
 pub mod ToldLemmas
 pub mod CheckLemmas
+pub mod RefusalLemmas
 pub mod ReplayLemmas
 pub mod PromisedLemmas
 pub mod LossLemmas

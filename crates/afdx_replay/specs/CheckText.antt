@@ -1,15 +1,20 @@
 -- What the command `check` writes of some tables: the bounds of each output port that has a system, and the answer.
-use Rattle.std.specs.Prelude.{ℕ, zero, suc, ◌⊎◌, List, [], ◌++◌, Option, Some, None, is_some, codes, if◌then◌else◌}
+use Rattle.std.specs.Prelude.{ℕ, zero, suc, ◌≡◌, true, List, [], ◌++◌, Option, Some, None, is_some, codes, if◌then◌else◌}
 use Rattle.std.specs.Fmt.{decimal}
 use Rattle.std.specs.Io.KnownBytes.{Appends}
 use Rattle.afdx_config.specs.Rows.{Rows}
-use Rattle.afdx_config.specs.Reading.{system_at_port, Spells, IsFaultOf}
+use Rattle.afdx_config.specs.Reading.{system_at_port, Spells}
 use Rattle.afdx_config.specs.Admission.{IsAdmitted}
-use Rattle.afdx_config.specs.declared.fault.ConfigFault.{ConfigFault}
 use Rattle.afdx_admit.specs.declared.fault.AdmitFault.{AdmitFault}
 use Rattle.afdx_admit.specs.FaultText.{fault_text}
 use Rattle.afdx_admit.specs.Known.{name_of}
 use Rattle.afdx_admit.specs.Lines.{high_bound_at, low_bound_at, buffer_need_at, first_false, lines}
+use Rattle.afdx_lists.specs.Calls.{AppendsFront}
+use Rattle.afdx_lists.specs.Faults.{fault_line}
+use Rattle.afdx_lists.specs.Telling.{Tells}
+use Rattle.afdx_lists.specs.declared.fault.RunFault.TheVariants.{Write}
+use Rattle.afdx_lists.specs.declared.watched.Watched.{Watched}
+use Rattle.afdx_replay.specs.Refusals.{RefusesConfig, WantsMemory}
 
 -- a bound in ns, or a dash where there is none
 abbrev pub bound_text : Option ℕ → List ℕ
@@ -43,11 +48,41 @@ pub record WritesCheck (config : List ℕ) (old new : Option (List ℕ)) (t : Ro
   pub spelled : Spells config t
   pub written : Appends old new (check_text t)
 
--- the configuration is read and its tables are admitted
-abbrev pub IsChecked : List ℕ → Option (List ℕ) → Option (List ℕ) → Type 0
-IsChecked config old new = (t : Rows) × WritesCheck config old new t × IsAdmitted t
+-- a beginning of it is written
+pub record BeginsCheck (config : List ℕ) (old new : Option (List ℕ)) (t : Rows) : Type 0 where
+  pub spelled : Spells config t
+  pub written : AppendsFront old new (check_text t)
 
--- the configuration has a fault, or its tables are not admitted
-abbrev pub IsRefused : List ℕ → Option (List ℕ) → Option (List ℕ) → Type 0
-IsRefused config old new =
-    ((e : ConfigFault) × IsFaultOf config e × Appends old new []) ⊎ ((t : Rows) × WritesCheck config old new t × (IsAdmitted t → ⊥))
+-- how the command ends, by what its output and its error output were and are
+module _ {O E : Type 0} (bytes : O → Option (List ℕ)) (error_bytes : E → Option (List ℕ)) (config : List ℕ)
+    (old new : Watched O) (old_errors new_errors : Watched E) where
+  -- the configuration is read, its tables are admitted, and that is written
+  pub record IsChecked : Type 0 where
+    pub tables : Rows
+    pub writes : WritesCheck config (bytes old.inner) (bytes new.inner) tables
+    pub admitted : IsAdmitted tables
+    pub told : new_errors ≡ old_errors
+
+  -- it is read, its tables are not admitted, and that is written
+  pub record IsDenied : Type 0 where
+    pub tables : Rows
+    pub writes : WritesCheck config (bytes old.inner) (bytes new.inner) tables
+    pub denied : IsAdmitted tables → ⊥
+    pub told : new_errors ≡ old_errors
+
+  -- it has a fault, and nothing is written
+  pub record IsFaulty : Type 0 where
+    pub refuses : RefusesConfig error_bytes old_errors new_errors config 1
+    pub written : new ≡ old
+
+  -- the output failed, and a beginning of the text is written
+  pub record IsCut : Type 0 where
+    pub failed : new.failed ≡ true
+    pub tables : Rows
+    pub begins : BeginsCheck config (bytes old.inner) (bytes new.inner) tables
+    pub told : Tells error_bytes old_errors new_errors (fault_line Write)
+
+  -- memory was refused, and nothing is written
+  pub record IsUnchecked : Type 0 where
+    pub wants : WantsMemory error_bytes old_errors new_errors 4
+    pub written : new ≡ old

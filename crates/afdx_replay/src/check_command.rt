@@ -1,16 +1,16 @@
 //! The command `check`.
-ghost use Rattle.std.specs.Prelude.{◌≡◌, ◌⊎◌, ◌++◌, OnOk, IfOk, IfErr, true, false, string_bytes};
-ghost use Rattle.std.specs.Io.KnownBytes.{Appends};
-ghost use Rattle.afdx_lists.specs.Calls.{is_failed_write};
+ghost use Rattle.std.specs.Prelude.{◌≡◌, ◌⊎◌, ◌++◌, OnOk, IfOk, true, false, string_bytes};
 ghost use Rattle.afdx_config.specs.Admission.{IsAdmitted};
 ghost use Rattle.afdx_admit.specs.Bounds.{IsBounds};
 ghost use Rattle.afdx_admit.specs.Lines.{first_false, lines};
 ghost use Rattle.afdx_config.specs.Rows.{Rows};
-ghost use Rattle.afdx_replay.specs.CheckText.{port_line, port_lines, answer_line, check_text, IsChecked, IsRefused};
+ghost use Rattle.afdx_replay.specs.CheckText.{port_line, port_lines, answer_line, check_text};
+ghost use Rattle.afdx_replay.specs.CheckText.{IsChecked, IsDenied, IsFaulty, IsCut, IsUnchecked};
 
+use crate::refusing::{refuse_config, want_memory};
 use afdx_admit::{PortBounds, admit, bounds_of};
-use afdx_config::{ConfigFault, Tables, read_tables};
-use afdx_lists::{RunFault, Watched, write_text};
+use afdx_config::{Tables, read_tables};
+use afdx_lists::{Watched, tell_fault, write_text};
 use std::alloc::{AllocError, Global};
 use std::io::Write;
 
@@ -63,31 +63,23 @@ fn put_answer(text: &mut String, tables: Tables) -> Result<bool, AllocError>
     }
 }
 
-/// Writes what is to be said of the tables, and tells whether they are admitted.
-fn check_tables<O: Write>(
-    alloc: Global,
-    tables: Tables,
-    output: &mut Watched<O>,
-) -> Result<bool, RunFault>
-    requires { output.old.failed ≡ false }
-    ensures failed { output.new.failed ≡ is_failed_write result }
-    ensures written { OnOk result (Appends (O.contents output.old.inner) (O.contents output.new.inner) (check_text tables)) }
-    ensures admitted { IfOk result (λ yes. yes ≡ true → IsAdmitted tables) }
-    ensures refused { IfOk result (λ yes. yes ≡ false → IsAdmitted tables → ⊥) }
-    ensures fault { IfErr result (λ fault. (fault ≡ RunFault.Write) ⊎ (fault ≡ RunFault.Memory)) }
+/// What is to be said of the tables, and whether they are admitted.
+fn checked_text(alloc: Global, tables: Tables) -> Result<(String, bool), AllocError>
+    ensures text { IfOk result (λ checked. string_bytes checked.0 ≡ check_text tables) }
+    ensures admitted { IfOk result (λ checked. checked.1 ≡ true → IsAdmitted tables) }
+    ensures denied { IfOk result (λ checked. checked.1 ≡ false → IsAdmitted tables → ⊥) }
 {
     let mut text = String::new(alloc);
     put_ports(&mut text, &tables)?;
     let is_admitted = put_answer(&mut text, tables)?;
-    write_text(output, text.as_str().as_bytes())?;
-    Ok(is_admitted)
+    Ok((text, is_admitted))
 }
 
 /// Reads a configuration and writes the bounds of each output port, `P port high low buffer`, and then
 /// `ok`, or `no` and the first line of admission that is false. A fault's one line goes to `errors`.
 ///
 /// It gives the exit status: 0 where the network is admitted, 1 where it isn't or the configuration
-/// has a fault, 4 for a device or memory.
+/// has a fault, 4 for a device, of which a beginning of the text is written, or memory, of which nothing is.
 pub fn check<O: Write, E: Write>(
     alloc: Global,
     config: &[u8],
@@ -96,28 +88,26 @@ pub fn check<O: Write, E: Write>(
 ) -> u8
     requires { output.old.failed ≡ false }
     ensures statuses { (result ≡ 0) ⊎ (result ≡ 1) ⊎ (result ≡ 4) }
-    ensures checked { result ≡ 0 → IsChecked config.now (O.contents output.old.inner) (O.contents output.new.inner) }
-    ensures refused { result ≡ 1 → IsRefused config.now (O.contents output.old.inner) (O.contents output.new.inner) }
     ensures device { output.new.failed ≡ true → result ≡ 4 }
+    ensures checked { result ≡ 0 → IsChecked O.contents E.contents config.now output.old output.new errors.old errors.new }
+    ensures refused { result ≡ 1 → IsDenied O.contents E.contents config.now output.old output.new errors.old errors.new
+        ⊎ IsFaulty O.contents E.contents config.now output.old output.new errors.old errors.new }
+    ensures stopped { result ≡ 4 → IsCut O.contents E.contents config.now output.old output.new errors.old errors.new
+        ⊎ IsUnchecked O.contents E.contents config.now output.old output.new errors.old errors.new }
 {
     let tables = match read_tables(alloc, config) {
         Ok(tables) => tables,
-        Err(ConfigFault::Memory) => {
-            let _ = writeln!(errors, "memory");
-            return RunFault::Memory.status();
-        }
-        Err(fault) => {
-            let _ = writeln!(errors, "config {fault}");
-            return REFUSED;
-        }
+        Err(fault) => return refuse_config(alloc, fault, errors),
     };
-    match check_tables(alloc, tables, output) {
-        Ok(true) => ADMITTED,
-        Ok(false) => REFUSED,
+    let Ok((text, is_admitted)) = checked_text(alloc, tables) else {
+        return want_memory(errors);
+    };
+    match write_text(output, text.as_str().as_bytes()) {
+        Ok(()) if is_admitted => ADMITTED,
+        Ok(()) => REFUSED,
         Err(fault) => {
-            let status = fault.status();
-            let _ = writeln!(errors, "{fault}");
-            status
+            tell_fault(errors, &fault);
+            fault.status()
         }
     }
 }

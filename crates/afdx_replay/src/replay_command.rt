@@ -1,41 +1,19 @@
 //! The command `replay`.
-ghost use Rattle.std.specs.Prelude.{◌≡◌, ◌⊎◌, IfSome, false, true};
-ghost use Rattle.afdx_replay.specs.ReplayCommand.{ReplaysIn, Replays, IsNotReplayed};
+ghost use Rattle.std.specs.Prelude.{◌≡◌, ◌≤◌, ◌+◌, ◌||◌, ◌⊎◌, Result, false, true};
+ghost use Rattle.afdx_lists.specs.declared.fault.RunFault.{RunFault};
+ghost use Rattle.afdx_replay.specs.Commands.{EndsAs};
+ghost use Rattle.afdx_replay.specs.ReplayCommand.{Replays, IsNotReplayed};
+ghost use Rattle.afdx_replay.specs.declared.summary.Summary.{Summary};
 
+use crate::admitted_run::run;
+use crate::ending::end;
+use crate::refusing::{refuse_config, refuse_tables};
 use crate::replay_run::run_unadmitted;
 use afdx_admit::admit;
-use afdx_config::{ConfigFault, Tables, read_tables};
-use afdx_lists::{RunFault, Watched};
+use afdx_config::read_tables;
+use afdx_lists::Watched;
 use std::alloc::Global;
 use std::io::{Read, Write};
-
-const DONE: u8 = 0;
-
-const REFUSED: u8 = 1;
-
-/// Replays a list in these tables; a fault's one line goes to `errors`.
-fn replay_in<R: Read, O: Write, E: Write>(
-    alloc: Global,
-    tables: &Tables,
-    input: &mut Watched<R>,
-    output: &mut Watched<O>,
-    errors: &mut Watched<E>,
-) -> u8
-    requires sound_input { input.old.failed ≡ false }
-    requires unended { input.old.ended ≡ false }
-    requires sound_output { output.old.failed ≡ false }
-    ensures { IfSome (R.remaining input.old.inner) (λ bytes.
-        ReplaysIn tables.now bytes (R.remaining input.new.inner) (O.contents output.old.inner) (O.contents output.new.inner) result) }
-{
-    match run_unadmitted(alloc, tables, input, output) {
-        Ok(_) => DONE,
-        Err(fault) => {
-            let status = fault.status();
-            let _ = writeln!(errors, "{fault}");
-            status
-        }
-    }
-}
 
 /// Replays a list of frames in the tables of a configuration: the lines of all events go to `output`, a fault's one line to `errors`.
 ///
@@ -52,30 +30,34 @@ pub fn replay<R: Read, O: Write, E: Write>(
     requires sound_input { input.old.failed ≡ false }
     requires unended { input.old.ended ≡ false }
     requires sound_output { output.old.failed ≡ false }
-    ensures { IfSome (R.remaining input.old.inner) (λ bytes.
-        Replays config.now admission bytes (R.remaining input.new.inner) (O.contents output.old.inner) (O.contents output.new.inner) result
-        ⊎ (IsNotReplayed config.now admission result × (input.new ≡ input.old) × (output.new ≡ output.old))) }
+
+    // 0 comes only where the list came to its end, 4 wherever a device failed.
+    ensures statuses { (result ≡ 0) ⊎ (result ≡ 1) ⊎ (result ≡ 3) ⊎ (result ≡ 4) }
+    ensures done { result ≡ 0 → (input.new.ended ≡ true) × (input.new.failed ≡ false) × (output.new.failed ≡ false) }
+    ensures device { (input.new.failed || output.new.failed) ≡ true → result ≡ 4 }
+    ensures calls { input.new.calls ≤ input.old.calls + 4201000001 }
+
+    // The command ends as a run over the list answered, or nothing is read and nothing is written.
+    ensures replays { ((answer : Result Summary RunFault)
+            × EndsAs E.contents input.new output.new errors.old errors.new result answer
+            × Replays config.now admission (R.remaining input.old.inner) (R.remaining input.new.inner)
+                (O.contents output.old.inner) (O.contents output.new.inner) answer)
+        ⊎ (IsNotReplayed E.contents config.now admission errors.old errors.new result
+            × (input.new ≡ input.old) × (output.new ≡ output.old)) }
 {
     let tables = match read_tables(alloc, config) {
         Ok(tables) => tables,
-        Err(ConfigFault::Memory) => {
-            let _ = writeln!(errors, "memory");
-            return RunFault::Memory.status();
-        }
-        Err(fault) => {
-            let _ = writeln!(errors, "config {fault}");
-            return REFUSED;
-        }
+        Err(fault) => return refuse_config(alloc, fault, errors),
     };
     if !admission {
-        return replay_in(alloc, &tables, input, output, errors);
+        let answer = run_unadmitted(alloc, &tables, input, output);
+        return end(&answer, errors);
     }
     match admit(tables) {
-        Ok(admitted) => replay_in(alloc, admitted.tables(), input, output, errors),
-        Err((tables, fault)) => {
-            let line = fault.text(&tables);
-            let _ = writeln!(errors, "admit {line}");
-            REFUSED
+        Ok(admitted) => {
+            let answer = run(alloc, &admitted, input, output);
+            end(&answer, errors)
         }
+        Err((tables, fault)) => refuse_tables(alloc, &tables, fault, errors),
     }
 }

@@ -1,14 +1,31 @@
-use Rattle.afdx_config.specs.Reading.{Spells}
-use Rattle.afdx_replay.proofs.AdmittedRunLemmas.{replays-admitted, if-left}
 use Rattle.std.proofs.Common.{refl, inl, inr}
-use Rattle.afdx_replay.proofs.ReplayLemmas.{if-some}
+use Rattle.afdx_replay.proofs.RefusalLemmas.{config-refused, tables-refused, config-not-replayed, tables-not-replayed}
 use Rattle.afdx_replay.proofs.replay_command.replay.Goals as goal
 
-pub returns-in-Err-admit : goal.returns-in-Err-admit
-returns-in-Err-admit g c = if-some _ _ (λ bytes. inr (inl (refl, inr (c.in-Ok.tables, c.in-Ok.ensures.ok, c.if-not-admission.false, λ a. cc (c.in-Err-admit.ensures.exact.1 a))), refl, refl))
+pub returns-in-Err-clause-replays : goal.returns-in-Err-clause-replays
+returns-in-Err-clause-replays g c =
+    let refused = config-refused _ _ _ _ _ _ c.refuse_config.ensures.told c.refuse_config.ensures.memory c.in-Err.ensures.fault in
+    inr (config-not-replayed _ _ _ _ c.args.admission _ refused, refl, refl)
 
-pub returns-in-Ok-admit : goal.returns-in-Ok-admit
-returns-in-Ok-admit g c =
-    let spelled : Spells c.args.config.now c.in-Ok-admit.admitted = rw c.in-Ok-admit.ensures.same c.in-Ok.ensures.ok in
-    if-left _ _ _ (replays-admitted c.args.config.now c.args.admission c.in-Ok-admit.admitted _ _ _ _ _ spelled c.tables-in-Ok-admit.ensures.lawful c.tables-in-Ok-admit.ensures.admitted
-    (rw c.tables-in-Ok-admit.ensures.tables at c.replay_in-in-Ok-admit.ensures))
+pub returns-in-Ok-admit-clause-replays : goal.returns-in-Ok-admit-clause-replays
+returns-in-Ok-admit-clause-replays g c = inl (c.run-answer.result,
+  record {
+    status_is = c.end-in-Ok-admit.ensures.status;
+    told = c.end-in-Ok-admit.ensures.told;
+    ended = c.run-answer.ensures.ended;
+    read = c.run-answer.ensures.read;
+    write = c.run-answer.ensures.write;
+  },
+  record {
+    tables = c.in-Ok.tables;
+    spelled = c.in-Ok.ensures.ok;
+    admitted = λ asked. c.in-Ok-admit.ensures.exact.0 refl;
+    answers = rw c.in-Ok-admit.ensures.same at c.run-answer.ensures.answer;
+    promised = λ asked. rw c.in-Ok-admit.ensures.same at c.run-answer.ensures.promised;
+  })
+
+pub returns-in-Err-admit-clause-replays : goal.returns-in-Err-admit-clause-replays
+returns-in-Err-admit-clause-replays g c =
+    let refused = tables-refused _ _ _ _ _ c.in-Ok.tables c.in-Err-admit.tables c.in-Err-admit.fault c.in-Err-admit.ensures.handed_back c.in-Ok.ensures.ok
+    (λ a. cc (c.in-Err-admit.ensures.exact.1 a)) c.in-Err-admit.ensures.first c.refuse_tables.ensures in
+    inr (tables-not-replayed _ _ _ _ c.args.admission _ c.if-not-admission.false refused, refl, refl)
