@@ -15,7 +15,7 @@ use Rattle.afdx_police.specs.Arrival.{Arrival, arrival_with}
 use Rattle.afdx_receive.specs.Arrivals.{Arrived}
 use Rattle.afdx_bounds.specs.Outputs.{AreTimed}
 use Rattle.afdx_switch.specs.Admitted.{IsAdmittedRun}
-use Rattle.afdx_promises.specs.Promises.{IsStreamOf, KeepsPromises}
+use Rattle.afdx_promises.specs.NetworkPromises.{IsStreamOf, PortsKeepPromises}
 use Rattle.afdx_promises.specs.Receptions.{AreReceptions, answers_on, messages_in}
 use Rattle.afdx_promises.specs.Streams.{IsFed}
 
@@ -100,4 +100,4 @@ one = arrival_with 1 0 A 1 (first_on A) ∷ []
 pub record AdmissionIsNeeded : Type 0 where
   pub lawful : IsLawful (tables_with 1)
   pub timed : AreTimed one
-  pub broken : KeepsPromises (tables_with 1) one → ⊥
+  pub broken : PortsKeepPromises (tables_with 1) one → ⊥

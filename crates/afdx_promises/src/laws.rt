@@ -1,16 +1,38 @@
 //! What a network whose tables are admitted promises, whatever arrives at its switches.
 ghost use Rattle.afdx_promises.specs.Examples.{PremisesAreMet, AdmissionIsNeeded};
-ghost use Rattle.afdx_promises.specs.Promises.{PromisesAreKept, LeftSoFarAreFirst, ReceptionsAreOne, ReceptionsExist, EventsBringReceptions, LinksAreApart, StreamIsRegular, StreamIsAccepted, MessagesComeSoFar, MessagesComeOnce, EventsAreAsPromised, EventsSoFarAreAsPromised};
+ghost use Rattle.afdx_promises.specs.NetworkPromises.{PortsAreAsPromised, LeftSoFarAreFirst, ReceptionsAreOne, ReceptionsExist, EventsBringReceptions, LinksAreApart, StreamIsRegular, StreamIsAccepted, MessagesComeSoFar, MessagesComeOnce, EventsAreAsPromised, EventsSoFarAreAsPromised};
+ghost use Rattle.afdx_promises.specs.Promises.{PromisesAreKept, PromisesAreKeptSoFar, MessagesAreToldOnce, MessagesAreToldOnceSoFar};
 
 use afdx_frame::laws::built_is_computed;
 
 /// Each virtual link's verdicts, and its frames that leave each switch port, in order, are the window rule's answer on that
 /// link's own arrivals alone; every accepted frame leaves each of its ports within the link's latency; and what a receiver
-/// delivers on a link is the integrity and redundancy rules' answer on that link's arrivals there alone.
+/// delivers on a link is the integrity and redundancy rules' answer on that link's arrivals there alone: of the lines that
+/// tell all events.
 ///
-/// Where a port has given only some of its turns, the frames of a link that left it are the first of those.
+/// Of the lines up to the last arrival, what has left a port of a link's frames is a beginning of those.
 pub fn promises_are_kept()
     ensures all { PromisesAreKept }
+    ensures so_far { PromisesAreKeptSoFar }
+{}
+
+/// Of a link's lawful stream on both sides, each of its receivers' M lines are exactly the messages to its UDP ports, each
+/// once and in order.
+///
+/// Where only the first frames of the stream arrive, not as many on both sides, they are those as far as one of the sides
+/// has come: a network may fail in the middle.
+pub fn messages_are_told_once()
+    ensures all { MessagesAreToldOnce }
+    ensures so_far { MessagesAreToldOnceSoFar }
+{
+    built_is_computed()
+}
+
+/// So do the ports of the switches: their turns are the schedule of their entries, of which none is lost.
+///
+/// Where a port has given only some of its turns, the frames of a link that left it are the first of those.
+pub fn ports_are_as_promised()
+    ensures all { PortsAreAsPromised }
     ensures so_far { LeftSoFarAreFirst }
 {}
 
@@ -35,8 +57,8 @@ pub fn links_are_apart()
     ensures { LinksAreApart }
 {}
 
-/// A link's lawful stream at its sender's port is what a switch's `arrive` accepts by its clause `regular`: it is sound and keeps the
-/// link's gap. So it is accepted, whatever else comes.
+/// A link's lawful stream at its sender's port is what a switch's `arrive` accepts by its clause `regular`: it is sound and
+/// keeps the link's gap. So it is accepted, whatever else comes.
 pub fn stream_is_accepted()
     ensures regular { StreamIsRegular }
     ensures accepted { StreamIsAccepted }

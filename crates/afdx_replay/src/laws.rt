@@ -1,5 +1,5 @@
 //! What is true of the definitions of a replay.
-ghost use Rattle.afdx_replay.specs.ReplayPromises.{ReplayIsAsPromised, ReplaySoFarIsAsPromised};
+ghost use Rattle.afdx_replay.specs.ReplayPromises.{ArrivalsAreListed, ReplayIsAsPromised, ReplaySoFarIsAsPromised, NoneIsCounted};
 
 /// Where the tables are admitted, what a replay tells is as promised: each virtual link's verdicts, and its frames that leave
 /// each switch port, in order, are the window rule's answer on that link's own arrivals alone; every accepted frame leaves each
@@ -11,4 +11,10 @@ ghost use Rattle.afdx_replay.specs.ReplayPromises.{ReplayIsAsPromised, ReplaySoF
 pub fn replay_is_as_promised()
     ensures all { ReplayIsAsPromised }
     ensures so_far { ReplaySoFarIsAsPromised }
+    ensures none { NoneIsCounted }
+{}
+
+/// Each arrival of a list is the frame of one of its lines, under the line's number.
+pub fn arrivals_are_listed()
+    ensures { ArrivalsAreListed }
 {}

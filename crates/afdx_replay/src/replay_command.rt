@@ -1,8 +1,11 @@
 //! The command `replay`.
 ghost use Rattle.std.specs.Prelude.{◌≡◌, ◌⊎◌, IfSome, false, true};
-ghost use Rattle.afdx_replay.specs.ReplayCommand.{ReplaysIn, Replays, IsNotReplayed};
+ghost use Rattle.afdx_replay.specs.Commands.{status_of_answer};
+ghost use Rattle.afdx_replay.specs.ReplayCommand.{Replays, IsNotReplayed};
 
+use crate::admitted_run::run;
 use crate::replay_run::run_unadmitted;
+use crate::summary::Summary;
 use afdx_admit::admit;
 use afdx_config::{ConfigFault, Tables, read_tables};
 use afdx_lists::{RunFault, Watched};
@@ -13,21 +16,11 @@ const DONE: u8 = 0;
 
 const REFUSED: u8 = 1;
 
-/// Replays a list in these tables; a fault's one line goes to `errors`.
-fn replay_in<R: Read, O: Write, E: Write>(
-    alloc: Global,
-    tables: &Tables,
-    input: &mut Watched<R>,
-    output: &mut Watched<O>,
-    errors: &mut Watched<E>,
-) -> u8
-    requires sound_input { input.old.failed ≡ false }
-    requires unended { input.old.ended ≡ false }
-    requires sound_output { output.old.failed ≡ false }
-    ensures { IfSome (R.remaining input.old.inner) (λ bytes.
-        ReplaysIn tables.now bytes (R.remaining input.new.inner) (O.contents output.old.inner) (O.contents output.new.inner) result) }
+/// The exit status of a run's answer; a fault's one line goes to `errors`.
+fn finish<E: Write>(answer: Result<Summary, RunFault>, errors: &mut Watched<E>) -> u8
+    ensures { result ≡ status_of_answer answer }
 {
-    match run_unadmitted(alloc, tables, input, output) {
+    match answer {
         Ok(_) => DONE,
         Err(fault) => {
             let status = fault.status();
@@ -68,10 +61,14 @@ pub fn replay<R: Read, O: Write, E: Write>(
         }
     };
     if !admission {
-        return replay_in(alloc, &tables, input, output, errors);
+        let answer = run_unadmitted(alloc, &tables, input, output);
+        return finish(answer, errors);
     }
     match admit(tables) {
-        Ok(admitted) => replay_in(alloc, admitted.tables(), input, output, errors),
+        Ok(admitted) => {
+            let answer = run(alloc, &admitted, input, output);
+            finish(answer, errors)
+        }
         Err((tables, fault)) => {
             let line = fault.text(&tables);
             let _ = writeln!(errors, "admit {line}");

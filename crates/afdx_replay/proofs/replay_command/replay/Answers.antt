@@ -1,6 +1,7 @@
+use Rattle.afdx_config.specs.Admission.{IsAdmitted}
 use Rattle.afdx_config.specs.Reading.{Spells}
-use Rattle.afdx_replay.proofs.AdmittedRunLemmas.{replays-admitted, if-left}
 use Rattle.std.proofs.Common.{refl, inl, inr}
+use Rattle.afdx_replay.proofs.AdmittedRunLemmas.{replays-admitted, if-left}
 use Rattle.afdx_replay.proofs.ReplayLemmas.{if-some}
 use Rattle.afdx_replay.proofs.replay_command.replay.Goals as goal
 
@@ -10,5 +11,5 @@ returns-in-Err-admit g c = if-some _ _ (λ bytes. inr (inl (refl, inr (c.in-Ok.t
 pub returns-in-Ok-admit : goal.returns-in-Ok-admit
 returns-in-Ok-admit g c =
     let spelled : Spells c.args.config.now c.in-Ok-admit.admitted = rw c.in-Ok-admit.ensures.same c.in-Ok.ensures.ok in
-    if-left _ _ _ (replays-admitted c.args.config.now c.args.admission c.in-Ok-admit.admitted _ _ _ _ _ spelled c.tables-in-Ok-admit.ensures.lawful c.tables-in-Ok-admit.ensures.admitted
-    (rw c.tables-in-Ok-admit.ensures.tables at c.replay_in-in-Ok-admit.ensures))
+    let admitted : IsAdmitted c.in-Ok-admit.admitted = rw c.in-Ok-admit.ensures.same (c.in-Ok-admit.ensures.exact.0 refl) in
+    if-left _ _ _ (replays-admitted c.args.config.now c.args.admission c.in-Ok-admit.admitted _ _ _ _ c.run-answer.result _ spelled admitted c.finish-in-Ok-admit.ensures c.run-answer.ensures.answer c.run-answer.ensures.promised)
