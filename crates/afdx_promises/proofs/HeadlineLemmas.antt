@@ -1,17 +1,13 @@
 -- The promises, of the lines that tell of events.
-use Rattle.std.proofs.Common.{◌≡◌, ℕ, ◌+◌, ◌*◌, ◌≤◌, ◌==◌, ◌&&◌, Bool, true, false, List, [], ◌∷◌, ◌++◌, map, filter, refl, sym, ap, ◌∙◌, subst, arith, inl, inr}
-use Rattle.std.specs.Prelude.{Option, Some, None, Ok, is_none, slice_get, reverse, if◌then◌else◌, ◌⊎◌}
+use Rattle.std.proofs.Common.{◌≡◌, ℕ, ◌≤◌, ◌&&◌, Bool, true, false, List, [], ◌∷◌, ◌++◌, map, filter, refl, sym, ap, ◌∙◌, subst, arith, inl, inr}
+use Rattle.std.specs.Prelude.{Option, Some, None, is_none, slice_get, reverse, if◌then◌else◌, ◌⊎◌}
 use Rattle.std.specs.List.{AllByRecursion}
-use Rattle.std.proofs.lemmas.Bool.{eqb-true, eq-eqb, and_parts}
+use Rattle.std.proofs.lemmas.Bool.{eq-eqb, and_parts}
 use Rattle.afdx_frame.specs.declared.link.Side.{Side}
 use Rattle.afdx_config.specs.Lawful.{IsLawful}
 use Rattle.afdx_config.specs.Rows.{LinkRow, Rows}
-use Rattle.afdx_config.specs.Reading.{system_at_port}
 use Rattle.afdx_police.specs.Arrival.{Arrival, is_side, names, own}
-use Rattle.afdx_police.specs.Shape.{fault_of}
 use Rattle.afdx_police.specs.declared.shape.Reason.{Reason}
-use Rattle.afdx_receive.specs.Answers.{Answer, answer_to}
-use Rattle.afdx_receive.specs.Arrivals.{Arrived}
 use Rattle.std.proofs.lemmas.List.{map-append}
 use Rattle.std.proofs.lemmas.List.Elements.{filter-append}
 use Rattle.afdx_port.specs.Schedule.{Turn}
@@ -22,12 +18,11 @@ use Rattle.afdx_switch.specs.Laws.{is_of}
 use Rattle.afdx_switch.specs.Tables.{rule_of, goes_to}
 use Rattle.afdx_switch.specs.Verdicts.{reason_of}
 use Rattle.afdx_network.specs.Events.{Event, Came, Left, Departure, departures, admissions, all_events, turns_at}
-use Rattle.afdx_network.specs.Order.{IsAmong, AreInOrder, events_of, events_so_far}
+use Rattle.afdx_network.specs.Order.{IsAmong, events_of, events_so_far}
 use Rattle.afdx_network.proofs.EventLemmas.{turn-of, at-port-of, is-either, side-self}
 use Rattle.afdx_network.proofs.OrderedLemmas.{are-events, are-so-far}
-use Rattle.afdx_promises.specs.Lines.{Line, Verdict, Departed, Received, Judged, Leaving, IsIn, judged_in, arrivals_judged, verdicts_on, accepted_in, left_in, is_leaving, frames_at, arrived_as, came_at, leaving, with_reception, told_by}
-use Rattle.afdx_promises.specs.Promises.{AreVerdicts, frames_due, AreFrames, AreFirstFrames, IsInTime, AreInTime, TellSame, AreAlone, told, told_so_far}
-use Rattle.afdx_promises.specs.Receptions.{brought_by}
+use Rattle.afdx_promises.specs.Lines.{Line, Verdict, Departed, Received, Judged, Leaving, IsIn, judged_in, arrivals_judged, verdicts_on, accepted_in, left_in, is_leaving, frames_at, leaving, told_by}
+use Rattle.afdx_promises.specs.Promises.{AreVerdicts, frames_due, AreFrames, AreFirstFrames, IsInTime, AreInTime, AreAlone, told, told_so_far}
 use Rattle.afdx_promises.specs.WindowRule.{AreByWindowRule}
 use Rattle.afdx_promises.proofs.EventLemmas.{is_at, turns_in, at-port-are, turns-back, so-far-is, turns-more, no-left, as-promised}
 use Rattle.afdx_promises.proofs.LineLemmas.{in-filter, filter-in, in-append, in-map, map-in, map-filter, verdicts-arrivals, verdicts-told, verdicts-told-so-far, departures_in, told-left, left-among, frames-told, slots-back}

@@ -1,6 +1,6 @@
 -- What the systems make of the frames that leave, as lines tell it.
-use Rattle.std.proofs.Common.{◌≡◌, ℕ, ◌*◌, ◌==◌, ◌&&◌, Bool, true, false, not, eqb, List, [], ◌∷◌, refl, sym, ap, ◌∙◌, subst, inl, inr}
-use Rattle.std.specs.Prelude.{Option, Some, None, Result, Ok, Err, slice_get, if◌then◌else◌}
+use Rattle.std.proofs.Common.{◌≡◌, ℕ, ◌==◌, Bool, true, false, List, [], ◌∷◌, refl, sym, ap, ◌∙◌, inl, inr}
+use Rattle.std.specs.Prelude.{Option, Some, None, Result, slice_get, if◌then◌else◌}
 use Rattle.std.proofs.lemmas.Bool.{eqb-true, eq-eqb}
 use Rattle.afdx_frame.specs.Parts.{FrameParts, frame_of}
 use Rattle.afdx_frame.specs.declared.fault.MacFault.{MacFault}
@@ -17,7 +17,7 @@ use Rattle.afdx_receive.proofs.LinkLemmas.{IsOfLink, answer-link}
 use Rattle.afdx_switch.proofs.AdmittedLemmas.{system-at}
 use Rattle.afdx_network.specs.Events.{Event, Came, Left, Departure}
 use Rattle.afdx_network.specs.Order.{IsAmong}
-use Rattle.afdx_promises.specs.Lines.{Line, Verdict, Departed, Received, Leaving, IsIn, left_in, arrived_as, answers_told, with_told, messages_told, leaving, with_reception, told_by}
+use Rattle.afdx_promises.specs.Lines.{Departed, Received, Leaving, IsIn, left_in, arrived_as, answers_told, with_told, messages_told, leaving, with_reception, told_by}
 use Rattle.afdx_promises.specs.Promises.{IsHeard}
 use Rattle.afdx_promises.specs.Receptions.{brought, brought_by, with_answer_on, answers_on, messages_in}
 use Rattle.afdx_promises.proofs.ReceiverLemmas.{IsFrameOn, names-frame}

@@ -1,28 +1,24 @@
 -- The lines that tell of events.
-use Rattle.std.proofs.Common.{◌≡◌, ℕ, suc, ◌≤◌, ◌<◌, ◌==◌, ◌&&◌, Bool, true, false, not, IsTrue, List, [], ◌∷◌, ◌++◌, length, map, filter, refl, sym, ap, ◌∙◌, subst, arith, inl, inr}
+use Rattle.std.proofs.Common.{◌≡◌, ℕ, suc, ◌≤◌, ◌<◌, ◌==◌, ◌&&◌, Bool, true, false, not, IsTrue, List, [], ◌∷◌, ◌++◌, length, map, filter, refl, sym, ap, ◌∙◌, arith, inl, inr}
 use Rattle.std.specs.Prelude.{Option, Some, None, All, nat_lt, ◌⊎◌, if◌then◌else◌}
 use Rattle.std.specs.List.{AllByRecursion}
 use Rattle.std.proofs.lemmas.Bool.{le-ltb, lt-ltb}
-use Rattle.std.proofs.lemmas.List.{map-append}
-use Rattle.std.proofs.lemmas.List.Elements.{filter-append}
 use Rattle.afdx_frame.specs.declared.link.Side.{Side}
-use Rattle.afdx_config.specs.Lawful.{IsLawful}
 use Rattle.afdx_config.specs.Reading.{system_at_port}
 use Rattle.afdx_config.specs.Rows.{Rows}
 use Rattle.afdx_police.specs.Arrival.{Arrival, is_side, names}
 use Rattle.afdx_bounds.specs.Outputs.{AreTimed}
 use Rattle.afdx_port.specs.Schedule.{Turn}
-use Rattle.afdx_receive.specs.Answers.{Answer}
 use Rattle.afdx_receive.specs.Arrivals.{Arrived}
 use Rattle.afdx_switch.specs.Admitted.{passing_in, slots, frames_among}
 use Rattle.afdx_switch.specs.Carried.{Carried}
 use Rattle.afdx_switch.specs.Laws.{is_of}
 use Rattle.afdx_switch.specs.Verdicts.{reason_of}
 use Rattle.afdx_network.specs.Events.{Event, Came, Left, Admission, Departure, admission_after, admissions, departures, turns_at}
-use Rattle.afdx_network.specs.Order.{key, is_below, is_before, IsAmong, AreInOrder, AreEvents, AreEventsSoFar, is_told_by}
+use Rattle.afdx_network.specs.Order.{key, is_below, IsAmong, AreInOrder, AreEvents, AreEventsSoFar, is_told_by}
 use Rattle.afdx_network.proofs.EventLemmas.{turn-of, at-port-of, is-admission, is-either}
 use Rattle.afdx_network.proofs.OrderLemmas.{same_events}
-use Rattle.afdx_promises.specs.Lines.{Line, Verdict, Departed, Received, Judged, Leaving, IsIn, judged_in, arrivals_judged, left_in, is_leaving, frames_at, arrived_as, came_at, leaving, with_reception, told_by}
+use Rattle.afdx_promises.specs.Lines.{Line, Departed, Judged, Leaving, IsIn, judged_in, arrivals_judged, left_in, is_leaving, frames_at, arrived_as, came_at, leaving, with_reception, told_by}
 use Rattle.afdx_promises.specs.Receptions.{brought, brought_by}
 use Rattle.afdx_promises.proofs.EventLemmas.{is_at, turns_in, filter-own, filter-has, filter-ordered}
 use Rattle.afdx_promises.proofs.PortLemmas.{entries_back, NoneIsOld}

@@ -1,6 +1,6 @@
 -- Verdicts by the window rule.
-use Rattle.std.proofs.Common.{◌≡◌, ◌&&◌, Bool, true, false, List, [], ◌∷◌, map, filter, refl, sym, ap, ◌∙◌, subst, inl, inr}
-use Rattle.std.specs.Prelude.{ℕ, Option, Some, None, is_none, slice_get, if◌then◌else◌, ◌⊎◌}
+use Rattle.std.proofs.Common.{◌≡◌, ◌&&◌, Bool, true, false, List, [], ◌∷◌, map, filter, refl, sym, ap, ◌∙◌, subst}
+use Rattle.std.specs.Prelude.{ℕ, Option, Some, None, is_none, slice_get, if◌then◌else◌}
 use Rattle.afdx_frame.specs.declared.link.Side.{Side}
 use Rattle.afdx_frame.specs.declared.link.Side.TheVariants.{A, B}
 use Rattle.afdx_config.specs.Lawful.{IsLawful}
@@ -9,7 +9,7 @@ use Rattle.afdx_police.specs.Arrival.{Arrival, is_side, names, own}
 use Rattle.afdx_police.specs.Rule.{Rule, regulation_of}
 use Rattle.afdx_police.specs.Shape.{fault_of}
 use Rattle.afdx_police.specs.Verdicts.{accepted_own, charged_by, drop_reason, reason_after}
-use Rattle.afdx_police.specs.Window.{Charged, Fits, fits}
+use Rattle.afdx_police.specs.Window.{Fits, fits}
 use Rattle.afdx_police.specs.declared.shape.Reason.{Reason}
 use Rattle.afdx_police.specs.declared.shape.Reason.TheVariants.{OverRate}
 use Rattle.afdx_police.proofs.VerdictLemmas.{reason-fault, verdict_decides}
@@ -29,6 +29,9 @@ same-side B B h = refl
 
 -- ---- the rule's answer to one arrival
 
+abbrev judged : Arrival → Option Reason → Judged
+judged x reason = record { arrival = x; reason = reason }
+
 charged-accepted : (rule : Rule) (xs : List Arrival) → accepted_own rule xs ≡ map (charged_by rule) (accepted_arrivals rule xs)
 unfolding accepted_own accepted_arrivals reason_after
 charged-accepted rule [] = refl
@@ -44,7 +47,7 @@ over-rate : (rule : Rule) (past : List Arrival) (x : Arrival) → fault_of (Some
 unfolding reason_after
 over-rate rule past x sound unfit = rw (sound, unfit) refl
 
-pub by-window-rule : (rule : Rule) (past : List Arrival) (x : Arrival) → IsByWindowRule rule (accepted_arrivals rule past) x (reason_after rule past x)
+pub by-window-rule : (rule : Rule) (past : List Arrival) (x : Arrival) → IsByWindowRule rule (accepted_arrivals rule past) (judged x (reason_after rule past x))
 by-window-rule rule past x = record {
   shape = λ fault is. reason-fault rule past x fault is;
   fits = λ sound keeps. (verdict_decides rule past x).exactly.1 (sound, (fits-Fits (regulation_of rule) (accepted_own rule past) (charged_by rule x)).1 (windows keeps));
@@ -59,7 +62,7 @@ by-window-rule rule past x = record {
     unfit true is passes = absurd (passes (subst (λ xs. Fits (regulation_of rule) xs (charged_by rule x)) (charged-accepted rule past) ((fits-Fits (regulation_of rule) (accepted_own rule past) (charged_by rule x)).0 is)))
 
 -- there is one answer
-one-answer : (rule : Rule) (accepted : List Arrival) (x : Arrival) (a b : Option Reason) → IsByWindowRule rule accepted x a → IsByWindowRule rule accepted x b → a ≡ b
+one-answer : (rule : Rule) (accepted : List Arrival) (x : Arrival) (a b : Option Reason) → IsByWindowRule rule accepted (judged x a) → IsByWindowRule rule accepted (judged x b) → a ≡ b
 one-answer rule accepted x a b is other = by-fault (fault_of (Some rule) x.port x.bytes) refl
   where
     by-fit : (c : Bool) → fits (regulation_of rule) (map (charged_by rule) accepted) (charged_by rule x) ≡ c → fault_of (Some rule) x.port x.bytes ≡ None → a ≡ b
@@ -83,8 +86,8 @@ one-verdicts rule (v ∷ vs) (w ∷ ws) same is other =
     let arrival : v.arrival ≡ w.arrival = cc same in
     let before : arrivals_judged vs ≡ arrivals_judged ws = cc same in
     let rest : vs ≡ ws = one-verdicts rule vs ws before is.1 other.1 in
-    let also : IsByWindowRule rule (accepted_in vs) v.arrival w.reason =
-    subst (λ zs. IsByWindowRule rule (accepted_in zs) v.arrival w.reason) (sym rest) (subst (λ x. IsByWindowRule rule (accepted_in ws) x w.reason) (sym arrival) other.0) in
+    let also : IsByWindowRule rule (accepted_in vs) (judged v.arrival w.reason) =
+    subst (λ zs. IsByWindowRule rule (accepted_in zs) (judged v.arrival w.reason)) (sym rest) (subst (λ x. IsByWindowRule rule (accepted_in ws) (judged x w.reason)) (sym arrival) other.0) in
     let reason : v.reason ≡ w.reason = one-answer rule (accepted_in vs) v.arrival v.reason w.reason is.0 also in
     let first : v ≡ w = same-judged v w arrival reason in
     ap (λ z. z ∷ vs) first ∙ ap (λ zs. w ∷ zs) rest
@@ -126,8 +129,8 @@ own-verdicts t l side place lawful at (x ∷ past) = by (is_side side x.side) (n
         record {
           accepted = rw (on, named, reason) (push (is_none (reason_after (rule_of t l) (own l.vl side past) x)) before.accepted);
           rule = rw (on, named) ((
-            subst (λ xs. IsByWindowRule (rule_of t l) xs x (reason_of t past x)) (sym before.accepted)
-                (subst (λ r. IsByWindowRule (rule_of t l) (accepted_arrivals (rule_of t l) (own l.vl side past)) x r) (sym reason) (by-window-rule (rule_of t l) (own l.vl side past) x)),
+            subst (λ xs. IsByWindowRule (rule_of t l) xs (judged x (reason_of t past x))) (sym before.accepted)
+                (subst (λ r. IsByWindowRule (rule_of t l) (accepted_arrivals (rule_of t l) (own l.vl side past)) (judged x r)) (sym reason) (by-window-rule (rule_of t l) (own l.vl side past) x)),
             before.rule,
           ));
         }

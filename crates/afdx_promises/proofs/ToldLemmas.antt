@@ -1,6 +1,6 @@
 -- The lines of all events, and those up to the last arrival, keep the promises.
-use Rattle.std.proofs.Common.{◌≡◌, ℕ, ◌*◌, ◌≤◌, false, List, refl, sym, ap, ◌∙◌, subst}
-use Rattle.std.specs.Prelude.{Some, slice_get, reverse}
+use Rattle.std.proofs.Common.{◌≡◌, ◌*◌, List, sym, ap, ◌∙◌, subst}
+use Rattle.std.specs.Prelude.{reverse}
 use Rattle.afdx_frame.specs.Reading.{BuiltIsComputed}
 use Rattle.afdx_config.specs.Lawful.{IsSystem}
 use Rattle.afdx_config.specs.Reading.{has_port}
@@ -9,12 +9,12 @@ use Rattle.afdx_config.proofs.EachRow.{all_at}
 use Rattle.afdx_police.specs.Arrival.{Arrival}
 use Rattle.afdx_receive.specs.Arrivals.{frames_of}
 use Rattle.afdx_switch.specs.Admitted.{IsAdmittedRun}
-use Rattle.afdx_network.specs.Events.{Event, Left, Departure, all_events}
+use Rattle.afdx_network.specs.Events.{Event, all_events}
 use Rattle.afdx_network.specs.Order.{IsAmong, AreInOrder, events_of, events_so_far}
 use Rattle.afdx_network.proofs.OrderedLemmas.{are-events, are-so-far}
 use Rattle.afdx_promises.specs.Lines.{judged_in, told_by}
 use Rattle.afdx_promises.specs.Promises.{AreFirstFrames, AreReceived, PromisesAreKept, PromisesAreKeptSoFar, MessagesAreToldOnce, MessagesAreToldOnceSoFar, told, told_so_far}
-use Rattle.afdx_promises.specs.Receptions.{ComeInOrder, answers_by_rules, messages_in}
+use Rattle.afdx_promises.specs.Receptions.{ComeInOrder, answers_by_rules}
 use Rattle.afdx_promises.proofs.EventLemmas.{brought-in-order, events-bring}
 use Rattle.afdx_promises.proofs.HeadlineLemmas.{verdicts-are, frames-are, first-frames, all-are-first, line-of, frame-of, lines-in-time, lines-are-alone}
 use Rattle.afdx_promises.proofs.HeardLemmas.{AreSlots, lines-heard, answers-by-events, messages-by-events}

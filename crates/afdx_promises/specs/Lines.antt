@@ -29,7 +29,8 @@ pub data Line : Type 0 where
   Verdict : Judged → Line
   -- `D n time side port`: the frame of line n left a port
   Departed : Leaving → Line
-  -- `M time system vl hex` or `X time system n WORD`: what the system at this place of the tables made of it
+  -- `M time system vl hex` or `X time system n WORD`: what the system at this place of the tables
+  -- made of it
   Received : Leaving → ℕ → Answer → Line
 
 -- it is one of these
@@ -50,7 +51,8 @@ arrivals_judged verdicts = map (λ v. v.arrival) verdicts
 
 -- those on a link's own arrivals on a side
 abbrev pub verdicts_on : ℕ → Side → List Line → List Judged
-verdicts_on vl side lines = filter (λ v. is_side side v.arrival.side && names vl v.arrival.bytes) (judged_in lines)
+verdicts_on vl side lines =
+    filter (λ v. is_side side v.arrival.side && names vl v.arrival.bytes) (judged_in lines)
 
 -- the arrivals that are accepted
 abbrev pub accepted_in : List Judged → List Arrival
@@ -86,7 +88,9 @@ answers_told system vl [] = []
 answers_told system vl (Verdict v ∷ before) = answers_told system vl before
 answers_told system vl (Departed d ∷ before) = answers_told system vl before
 answers_told system vl (Received d k answer ∷ before) =
-    if (k == system) && names vl d.frame.bytes then answer ∷ answers_told system vl before else answers_told system vl before
+    if (k == system) && names vl d.frame.bytes
+    then answer ∷ answers_told system vl before
+    else answers_told system vl before
 
 -- the messages of a system's M lines on a link
 abbrev pub with_told : ℕ → Bool → Answer → List sent.Message → List sent.Message
@@ -98,21 +102,27 @@ unfoldable pub messages_told : ℕ → ℕ → List Line → List sent.Message
 messages_told system vl [] = []
 messages_told system vl (Verdict v ∷ before) = messages_told system vl before
 messages_told system vl (Departed d ∷ before) = messages_told system vl before
-messages_told system vl (Received d k answer ∷ before) = with_told vl (k == system) answer (messages_told system vl before)
+messages_told system vl (Received d k answer ∷ before) =
+    with_told vl (k == system) answer (messages_told system vl before)
 
 -- ---- the lines of events
 
 abbrev pub leaving : Departure → Leaving
-leaving d = record { frame = passing_in d.turn.entry; side = d.side; port = d.port; time = d.turn.end }
+leaving d =
+    record { frame = passing_in d.turn.entry; side = d.side; port = d.port; time = d.turn.end }
 
 -- what the system at the port, if there is one, makes of a frame after what came to it before
 abbrev pub with_reception : Rows → List Arrived → Leaving → Option ℕ → List Line → List Line
 with_reception t past d None before = before
-with_reception t past d (Some system) before = Received d system (answer_to t system past (arrived_as d)) ∷ before
+with_reception t past d (Some system) before =
+    Received d system (answer_to t system past (arrived_as d)) ∷ before
 
--- a line for each arrival, and for each frame that leaves a port one, and one of what its system makes of it
+-- a line for each arrival, and for each frame that leaves a port one, and one of what its system
+-- makes of it
 unfoldable pub told_by : Rows → List Event → List Line
 told_by t [] = []
-told_by t (Came c ∷ before) = Verdict (record { arrival = c.arrival; reason = c.reason }) ∷ told_by t before
+told_by t (Came c ∷ before) =
+    Verdict (record { arrival = c.arrival; reason = c.reason }) ∷ told_by t before
 told_by t (Left d ∷ before) =
-    with_reception t (brought_by d.port before) (leaving d) (system_at_port t.systems d.port) (Departed (leaving d) ∷ told_by t before)
+    with_reception t (brought_by d.port before) (leaving d) (system_at_port t.systems d.port)
+    (Departed (leaving d) ∷ told_by t before)

@@ -1,4 +1,5 @@
--- What is promised of a network whose tables are admitted, whatever arrives at its switches. Lists have the newest first.
+-- What is promised of a network whose tables are admitted, whatever arrives at its switches. Lists
+-- have the newest first.
 use Rattle.std.specs.Prelude.{◌≡◌, ℕ, ◌*◌, ◌≤◌, true, false, if◌then◌else◌, Some, None, List, [], ◌∷◌, ◌++◌, filter, length, map, max, reverse, slice_get, take}
 use Rattle.afdx_frame.specs.declared.link.Side.{Side}
 use Rattle.afdx_frame.specs.declared.link.Side.TheVariants.{A, B}
@@ -27,98 +28,145 @@ use Rattle.afdx_network.specs.Order.{IsAmong, AreEvents, AreEventsSoFar}
 use Rattle.afdx_promises.specs.Receptions.{AreReceptions, receptions_at, brought_by, answers_on, answers_by_rules, messages_in}
 use Rattle.afdx_promises.specs.Streams.{at_own_port, AreSendings, IsFed}
 
--- an arrival after others is judged alone: a frame of a link by its shape and by the window rule over its link's own arrivals
--- on its side; one that names no link by its shape; and where it is accepted, it is lost nowhere
+-- an arrival after others is judged alone: a frame of a link by its shape and by the window rule
+-- over its link's own arrivals on its side; one that names no link by its shape; and where it is
+-- accepted, it is lost nowhere
 pub record IsJudgedAlone (t : Rows) (past : List Arrival) (x : Arrival) : Type 0 where
-  pub by_own : (place : ℕ) (l : LinkRow) → slice_get t.links place ≡ Some l → names l.vl x.bytes ≡ true → reason_of t past x ≡ reason_after (rule_of t l) (own l.vl x.side past) x
-  pub unknown : ((place : ℕ) (l : LinkRow) → slice_get t.links place ≡ Some l → names l.vl x.bytes ≡ false) → reason_of t past x ≡ fault_of None x.port x.bytes
+  pub by_own : (place : ℕ) (l : LinkRow) → slice_get t.links place ≡ Some l → names l.vl x.bytes
+      ≡ true → reason_of t past x ≡ reason_after (rule_of t l) (own l.vl x.side past) x
+  pub unknown : ((place : ℕ) (l : LinkRow) → slice_get t.links place ≡ Some l → names l.vl x.bytes
+      ≡ false) → reason_of t past x ≡ fault_of None x.port x.bytes
   pub kept : (port : ℕ) → is_lost_at t past x port ≡ false
 
 -- what the receiver of a system makes of what comes to it on a link
-pub record IsReceivedAlone (t : Rows) (arrivals : List Arrival) (system : ℕ) (l : LinkRow) (came : List Arrived) : Type 0 where
+pub record IsReceivedAlone (t : Rows) (arrivals : List Arrival) (system : ℕ) (l : LinkRow)
+    (came : List Arrived) : Type 0 where
   -- by each side come the link's accepted frames, in order
-  pub frames : (side : Side) → map (λ f. f.bytes) (filter (λ f. is_same_side f.side side) (frames_of l.vl came)) ≡ map (λ x. x.bytes) (accepted_on t l side arrivals)
+  pub frames : (side : Side) → map (λ f. f.bytes)
+      (filter (λ f. is_same_side f.side side) (frames_of l.vl came))
+      ≡ map (λ x. x.bytes) (accepted_on t l side arrivals)
   -- the answers to them are those of integrity and redundancy on them alone
-  pub answers : answers_on t system l.vl came ≡ answers_by_rules (1000 * l.skew_us) (has_port t.ports system l.vl) (frames_of l.vl came)
+  pub answers : answers_on t system l.vl came
+      ≡ answers_by_rules (1000 * l.skew_us) (has_port t.ports system l.vl) (frames_of l.vl came)
 
 -- the promises
 pub record PortsKeepPromises (t : Rows) (arrivals : List Arrival) : Type 0 where
   -- each virtual link's verdicts are the window rule's answer on that link's own arrivals alone
-  pub verdicts : (later past : List Arrival) (x : Arrival) → arrivals ≡ later ++ x ∷ past → IsJudgedAlone t past x
+  pub verdicts : (later past : List Arrival) (x : Arrival) → arrivals ≡ later ++ x ∷ past →
+      IsJudgedAlone t past x
   -- the turns of each port are the schedule of its entries
-  pub turns : (side : Side) (port : ℕ) → AreItsTurns t side port arrivals (turns_at t side port arrivals)
-  -- from each port that a link goes to leave exactly its accepted frames, byte for byte and in order, and from others none
+  pub turns : (side : Side) (port : ℕ) →
+      AreItsTurns t side port arrivals (turns_at t side port arrivals)
+  -- from each port that a link goes to leave exactly its accepted frames, byte for byte and in
+  -- order, and from others none
   pub frames : (side : Side) (port place : ℕ) (l : LinkRow) → slice_get t.links place ≡ Some l →
-      frames_left l.vl (turns_at t side port arrivals) ≡ (if goes_to t l port then accepted_frames t l side arrivals else [])
+      frames_left l.vl (turns_at t side port arrivals)
+      ≡ (if goes_to t l port then accepted_frames t l side arrivals else [])
   -- each of them leaves within the link's latency
-  pub in_time : (side : Side) (port place : ℕ) (l : LinkRow) → slice_get t.links place ≡ Some l → AreInTime l (turns_at t side port arrivals)
-  -- what a receiver delivers on a link is the integrity and redundancy rules' answer on that link's arrivals there alone
-  pub receptions : (system place : ℕ) (s : SystemRow) (l : LinkRow) (came : List Arrived) → slice_get t.systems system ≡ Some s → slice_get t.links place ≡ Some l →
-      is_to system l ≡ true → AreReceptions t s.port arrivals came → IsReceivedAlone t arrivals system l came
+  pub in_time : (side : Side) (port place : ℕ) (l : LinkRow) → slice_get t.links place ≡ Some l →
+      AreInTime l (turns_at t side port arrivals)
+  -- what a receiver delivers on a link is the integrity and redundancy rules' answer on that link's
+  -- arrivals there alone
+  pub receptions : (system place : ℕ) (s : SystemRow) (l : LinkRow) (came : List Arrived) →
+      slice_get t.systems system ≡ Some s → slice_get t.links place ≡ Some l →
+      is_to system l ≡ true → AreReceptions t s.port arrivals came →
+      IsReceivedAlone t arrivals system l came
 
 abbrev pub PortsAreAsPromised : Type 0
-PortsAreAsPromised = (t : Rows) (arrivals : List Arrival) → IsAdmittedRun t arrivals → PortsKeepPromises t arrivals
+PortsAreAsPromised = (t : Rows) (arrivals : List Arrival) → IsAdmittedRun t arrivals →
+    PortsKeepPromises t arrivals
 
--- where a port has given only some of its turns, the frames of a link that left it are the first of those
+-- where a port has given only some of its turns, the frames of a link that left it are the first of
+-- those
 abbrev pub LeftSoFarAreFirst : Type 0
-LeftSoFarAreFirst = (t : Rows) (arrivals : List Arrival) (side : Side) (port place : ℕ) (l : LinkRow) (turns : List (Turn Carried)) → IsAdmittedRun t arrivals → slice_get t.links place ≡ Some l →
+LeftSoFarAreFirst = (t : Rows) (arrivals : List Arrival) (side : Side) (port place : ℕ)
+    (l : LinkRow) (turns : List (Turn Carried)) → IsAdmittedRun t arrivals →
+    slice_get t.links place ≡ Some l →
     AreTurns (byte_ns_at t port) (entries_at t side port arrivals) turns →
-    (rest : List Passing) × ((if goes_to t l port then accepted_frames t l side arrivals else []) ≡ frames_left l.vl turns ++ rest)
+    (rest : List Passing) × ((if goes_to t l port then accepted_frames t l side arrivals else [])
+    ≡ frames_left l.vl turns ++ rest)
 
 -- what comes to a port is one list, which is computed
 abbrev pub ReceptionsAreOne : Type 0
-ReceptionsAreOne = (t : Rows) (port : ℕ) (arrivals : List Arrival) (came : List Arrived) → AreReceptions t port arrivals came → came ≡ receptions_at t port arrivals
+ReceptionsAreOne = (t : Rows) (port : ℕ) (arrivals : List Arrival) (came : List Arrived) →
+    AreReceptions t port arrivals came → came ≡ receptions_at t port arrivals
 
 abbrev pub ReceptionsExist : Type 0
-ReceptionsExist = (t : Rows) (port : ℕ) (arrivals : List Arrival) → IsAdmittedRun t arrivals → AreReceptions t port arrivals (receptions_at t port arrivals)
+ReceptionsExist = (t : Rows) (port : ℕ) (arrivals : List Arrival) → IsAdmittedRun t arrivals →
+    AreReceptions t port arrivals (receptions_at t port arrivals)
 
 -- in the one order of all events, what they bring to a port is that list
 abbrev pub EventsBringReceptions : Type 0
-EventsBringReceptions = (t : Rows) (arrivals : List Arrival) (events : List Event) (port : ℕ) → IsLawful t → AreTimed arrivals → 1 ≤ port → port ≤ 24 → AreEvents t arrivals events →
+EventsBringReceptions = (t : Rows) (arrivals : List Arrival) (events : List Event) (port : ℕ) →
+    IsLawful t → AreTimed arrivals → 1 ≤ port → port ≤ 24 → AreEvents t arrivals events →
     AreReceptions t port arrivals (brought_by port events)
 
--- alone: with two lists in which a link has equal own arrivals on a side, it has equal verdicts and equal frames at each port there
-pub record IsApart (t : Rows) (arrivals others : List Arrival) (side : Side) (l : LinkRow) : Type 0 where
-  pub verdicts : (x : Arrival) → x.side ≡ side → names l.vl x.bytes ≡ true → reason_of t arrivals x ≡ reason_of t others x
-  pub frames : (port : ℕ) → frames_left l.vl (turns_at t side port arrivals) ≡ frames_left l.vl (turns_at t side port others)
+-- alone: with two lists in which a link has equal own arrivals on a side, it has equal verdicts and
+-- equal frames at each port there
+pub record IsApart (t : Rows) (arrivals others : List Arrival) (side : Side)
+    (l : LinkRow) : Type 0 where
+  pub verdicts : (x : Arrival) → x.side ≡ side → names l.vl x.bytes ≡ true → reason_of t arrivals x
+      ≡ reason_of t others x
+  pub frames : (port : ℕ) → frames_left l.vl (turns_at t side port arrivals)
+      ≡ frames_left l.vl (turns_at t side port others)
 
 abbrev pub LinksAreApart : Type 0
-LinksAreApart = (t : Rows) (arrivals others : List Arrival) (side : Side) (place : ℕ) (l : LinkRow) → IsAdmittedRun t arrivals → IsAdmittedRun t others → slice_get t.links place ≡ Some l →
+LinksAreApart = (t : Rows) (arrivals others : List Arrival) (side : Side) (place : ℕ)
+    (l : LinkRow) → IsAdmittedRun t arrivals → IsAdmittedRun t others → slice_get t.links place
+    ≡ Some l →
     own l.vl side arrivals ≡ own l.vl side others → IsApart t arrivals others side l
 
--- a link's lawful stream at its sender's port is accepted, whatever else comes, also under this link's name at other ports
-pub record IsStreamOf (t : Rows) (l : LinkRow) (messages : List Message) (stream : List Sending) : Type 0 where
+-- a link's lawful stream at its sender's port is accepted, whatever else comes, also under this
+-- link's name at other ports
+pub record IsStreamOf (t : Rows) (l : LinkRow) (messages : List Message)
+    (stream : List Sending) : Type 0 where
   pub sender : SystemRow
   pub stands : slice_get t.systems l.from ≡ Some sender
   pub sendable : AreSendable sender l messages
   pub lawful : IsLawfulStream sender l messages stream
 
 abbrev pub StreamIsRegular : Type 0
-StreamIsRegular = (t : Rows) (arrivals : List Arrival) (side : Side) (l : LinkRow) (messages : List Message) (stream : List Sending) →
-    IsStreamOf t l messages stream → AreSendings side stream (at_own_port t l side arrivals) → IsRegularAt (rule_of t l) (own l.vl side arrivals)
+StreamIsRegular = (t : Rows) (arrivals : List Arrival) (side : Side) (l : LinkRow)
+    (messages : List Message) (stream : List Sending) →
+    IsStreamOf t l messages stream → AreSendings side stream (at_own_port t l side arrivals) →
+    IsRegularAt (rule_of t l) (own l.vl side arrivals)
 
 abbrev pub StreamIsAccepted : Type 0
-StreamIsAccepted = (t : Rows) (past : List Arrival) (x : Arrival) (place : ℕ) (l : LinkRow) (messages : List Message) (stream : List Sending) → IsLawful t → slice_get t.links place ≡ Some l →
-    IsStreamOf t l messages stream → names l.vl x.bytes ≡ true → (rule_of t l).port ≡ x.port → AreSendings x.side stream (at_own_port t l x.side (x ∷ past)) →
+StreamIsAccepted = (t : Rows) (past : List Arrival) (x : Arrival) (place : ℕ) (l : LinkRow)
+    (messages : List Message) (stream : List Sending) → IsLawful t → slice_get t.links place
+    ≡ Some l →
+    IsStreamOf t l messages stream → names l.vl x.bytes ≡ true → (rule_of t l).port ≡ x.port →
+    AreSendings x.side stream (at_own_port t l x.side (x ∷ past)) →
     reason_of t past x ≡ None
 
--- End to end, also where a network fails in the middle: where the arrivals on each side are the first frames of one lawful stream of
--- a link, each receiver of the link delivers exactly the messages to its UDP ports, each once and in order, as far as one of the
--- sides has come.
+-- End to end, also where a network fails in the middle: where the arrivals on each side are the
+-- first frames of one lawful stream of a link, each receiver of the link delivers exactly the
+-- messages to its UDP ports, each once and in order, as far as one of the sides has come.
 abbrev pub MessagesComeSoFar : Type 0
-MessagesComeSoFar = (t : Rows) (arrivals : List Arrival) (system place : ℕ) (s : SystemRow) (l : LinkRow) (messages : List Message) (stream : List Sending) (came : List Arrived) →
-    IsAdmittedRun t arrivals → slice_get t.systems system ≡ Some s → slice_get t.links place ≡ Some l → is_to system l ≡ true →
-    IsStreamOf t l messages stream → ((side : Side) → AreSendings side stream (at_own_port t l side arrivals)) → AreReceptions t s.port arrivals came →
+MessagesComeSoFar = (t : Rows) (arrivals : List Arrival) (system place : ℕ) (s : SystemRow)
+    (l : LinkRow) (messages : List Message) (stream : List Sending) (came : List Arrived) →
+    IsAdmittedRun t arrivals → slice_get t.systems system ≡ Some s → slice_get t.links place
+    ≡ Some l → is_to system l ≡ true →
+    IsStreamOf t l messages stream → ((side : Side) →
+    AreSendings side stream (at_own_port t l side arrivals)) →
+    AreReceptions t s.port arrivals came →
     reverse (messages_in (answers_on t system l.vl came))
-    ≡ filter (λ m. has_port t.ports system l.vl m.udp) (take (max (length (at_own_port t l A arrivals)) (length (at_own_port t l B arrivals))) messages)
+    ≡ filter (λ m. has_port t.ports system l.vl m.udp)
+    (take (max (length (at_own_port t l A arrivals))
+    (length (at_own_port t l B arrivals))) messages)
 
--- End to end: where both sides are fed with one lawful stream of a link, each receiver of the link delivers exactly the messages
--- of the sent list whose UDP port is configured there, each once and in order.
+-- End to end: where both sides are fed with one lawful stream of a link, each receiver of the link
+-- delivers exactly the messages of the sent list whose UDP port is configured there, each once and
+-- in order.
 abbrev pub MessagesComeOnce : Type 0
-MessagesComeOnce = (t : Rows) (arrivals : List Arrival) (system place : ℕ) (s : SystemRow) (l : LinkRow) (messages : List Message) (stream : List Sending) (came : List Arrived) →
-    IsAdmittedRun t arrivals → slice_get t.systems system ≡ Some s → slice_get t.links place ≡ Some l → is_to system l ≡ true →
-    IsStreamOf t l messages stream → ((side : Side) → IsFed t l stream side arrivals) → AreReceptions t s.port arrivals came →
-    reverse (messages_in (answers_on t system l.vl came)) ≡ filter (λ m. has_port t.ports system l.vl m.udp) messages
+MessagesComeOnce = (t : Rows) (arrivals : List Arrival) (system place : ℕ) (s : SystemRow)
+    (l : LinkRow) (messages : List Message) (stream : List Sending) (came : List Arrived) →
+    IsAdmittedRun t arrivals → slice_get t.systems system ≡ Some s → slice_get t.links place
+    ≡ Some l → is_to system l ≡ true →
+    IsStreamOf t l messages stream → ((side : Side) → IsFed t l stream side arrivals) →
+    AreReceptions t s.port arrivals came →
+    reverse (messages_in (answers_on t system l.vl came))
+    ≡ filter (λ m. has_port t.ports system l.vl m.udp) messages
 
 -- what became of an arrival is as promised, and no copy of it is lost
 pub record IsAsPromised (t : Rows) (arrivals : List Arrival) (c : Admission) : Type 0 where
@@ -130,24 +178,35 @@ pub record IsAsPromised (t : Rows) (arrivals : List Arrival) (c : Admission) : T
   pub lost : c.lost ≡ []
 
 -- the promises, of all events in their one order
-pub record EventsKeepPromises (t : Rows) (arrivals : List Arrival) (events : List Event) : Type 0 where
+pub record EventsKeepPromises (t : Rows) (arrivals : List Arrival)
+    (events : List Event) : Type 0 where
   pub admissions : (c : Admission) → IsAmong (Came c) events → IsAsPromised t arrivals c
   -- each turn is a slot, which ends within the latency of the link whose frame it is
   pub departures : (d : Departure) → IsAmong (Left d) events → IsInTime t d.turn
-  -- those of a port are its schedule, by which exactly the accepted frames of each link that goes there leave it
-  pub turns : (side : Side) (port : ℕ) → 1 ≤ port → port ≤ 24 → taken_at port (turns_on side events) ≡ turns_at t side port arrivals
+  -- those of a port are its schedule, by which exactly the accepted frames of each link that goes
+  -- there leave it
+  pub turns : (side : Side) (port : ℕ) → 1 ≤ port → port ≤ 24 →
+      taken_at port (turns_on side events) ≡ turns_at t side port arrivals
   -- and they bring it what its system receives
-  pub receptions : (port : ℕ) → 1 ≤ port → port ≤ 24 → AreReceptions t port arrivals (brought_by port events)
+  pub receptions : (port : ℕ) → 1 ≤ port → port ≤ 24 →
+      AreReceptions t port arrivals (brought_by port events)
 
 abbrev pub EventsAreAsPromised : Type 0
-EventsAreAsPromised = (t : Rows) (arrivals : List Arrival) (events : List Event) → IsAdmittedRun t arrivals → AreEvents t arrivals events → EventsKeepPromises t arrivals events
+EventsAreAsPromised = (t : Rows) (arrivals : List Arrival) (events : List Event) →
+    IsAdmittedRun t arrivals → AreEvents t arrivals events → EventsKeepPromises t arrivals events
 
--- the promises so far, of the events up to the last arrival: what has left a port of a link's frames are the first of its accepted ones
-pub record EventsSoFarKeepPromises (t : Rows) (arrivals : List Arrival) (events : List Event) : Type 0 where
+-- the promises so far, of the events up to the last arrival: what has left a port of a link's
+-- frames are the first of its accepted ones
+pub record EventsSoFarKeepPromises (t : Rows) (arrivals : List Arrival)
+    (events : List Event) : Type 0 where
   pub admissions : (c : Admission) → IsAmong (Came c) events → IsAsPromised t arrivals c
   pub departures : (d : Departure) → IsAmong (Left d) events → IsInTime t d.turn
-  pub frames : (side : Side) (port place : ℕ) (l : LinkRow) → 1 ≤ port → port ≤ 24 → slice_get t.links place ≡ Some l →
-      (rest : List Passing) × ((if goes_to t l port then accepted_frames t l side arrivals else []) ≡ frames_left l.vl (taken_at port (turns_on side events)) ++ rest)
+  pub frames : (side : Side) (port place : ℕ) (l : LinkRow) → 1 ≤ port → port ≤ 24 →
+      slice_get t.links place ≡ Some l →
+      (rest : List Passing) × ((if goes_to t l port then accepted_frames t l side arrivals else [])
+      ≡ frames_left l.vl (taken_at port (turns_on side events)) ++ rest)
 
 abbrev pub EventsSoFarAreAsPromised : Type 0
-EventsSoFarAreAsPromised = (t : Rows) (arrivals : List Arrival) (events : List Event) → IsAdmittedRun t arrivals → AreEventsSoFar t arrivals events → EventsSoFarKeepPromises t arrivals events
+EventsSoFarAreAsPromised = (t : Rows) (arrivals : List Arrival) (events : List Event) →
+    IsAdmittedRun t arrivals → AreEventsSoFar t arrivals events →
+    EventsSoFarKeepPromises t arrivals events

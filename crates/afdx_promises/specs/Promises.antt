@@ -1,9 +1,11 @@
--- What the text of a replay promises where the tables are admitted. Lists of arrivals and of lines have the newest first.
+-- What the text of a replay promises where the tables are admitted. Lists of arrivals and of
+-- lines have the newest first.
 --
--- For every admitted configuration and every timed frame list, each virtual link's verdicts, and its frames that leave each
--- switch port, in order, are the window rule's answer on that link's own arrivals alone; every accepted frame leaves each of its
--- ports within the link's configured latency; and what a receiver delivers on a link is the integrity and redundancy rules'
--- answer on that link's arrivals there alone.
+-- For every admitted configuration and every timed frame list, each virtual link's verdicts, and
+-- its frames that leave each switch port, in order, are the window rule's answer on that link's
+-- own arrivals alone; every accepted frame leaves each of its ports within the link's configured
+-- latency; and what a receiver delivers on a link is the integrity and redundancy rules' answer
+-- on that link's arrivals there alone.
 use Rattle.std.specs.Prelude.{◌≡◌, ℕ, ◌+◌, ◌*◌, ◌≤◌, true, false, if◌then◌else◌, Some, None, max, List, [], ◌++◌, filter, length, map, reverse, slice_get, take}
 use Rattle.afdx_frame.specs.declared.link.Side.{Side}
 use Rattle.afdx_frame.specs.declared.link.Side.TheVariants.{A, B}
@@ -24,7 +26,8 @@ use Rattle.afdx_promises.specs.Receptions.{ComeInOrder, answers_by_rules}
 use Rattle.afdx_promises.specs.Streams.{at_own_port, AreSendings, IsFed}
 use Rattle.afdx_promises.specs.WindowRule.{AreByWindowRule}
 
--- each virtual link's verdicts are the window rule's answer on that link's own arrivals alone
+-- ---- each virtual link's verdicts are the window rule's answer on that link's own arrivals alone
+
 pub record AreVerdicts (t : Rows) (arrivals : List Arrival) (lines : List Line) : Type 0 where
   -- a verdict on each arrival, in order
   pub each : arrivals_judged (judged_in lines) ≡ arrivals
@@ -33,17 +36,23 @@ pub record AreVerdicts (t : Rows) (arrivals : List Arrival) (lines : List Line) 
       AreByWindowRule (rule_of t l) (verdicts_on l.vl side lines)
   -- that on a frame which names no link by its shape
   pub unknown : (v : Judged) → IsIn v (judged_in lines) →
-      ((place : ℕ) (l : LinkRow) → slice_get t.links place ≡ Some l → names l.vl v.arrival.bytes ≡ false) →
+      ((place : ℕ) (l : LinkRow) → slice_get t.links place ≡ Some l →
+      names l.vl v.arrival.bytes ≡ false) →
       v.reason ≡ fault_of None v.arrival.port v.arrival.bytes
 
--- the frames of a link that are to leave a port of a side: those that were accepted, if the link goes there
-abbrev pub frames_due : Rows → LinkRow → Side → ℕ → List Line → List Passing
-frames_due t l side port lines = if goes_to t l port then map passing (accepted_in (verdicts_on l.vl side lines)) else []
+-- ---- and its frames that leave each switch port, in order
 
--- a link's frames that leave each switch port, in order: exactly the accepted ones, byte for byte, where it goes, and else none
+-- those that are to leave: the accepted ones, byte for byte, if the link goes there, else none
+abbrev pub frames_due : Rows → LinkRow → Side → ℕ → List Line → List Passing
+frames_due t l side port lines =
+    if goes_to t l port then map passing (accepted_in (verdicts_on l.vl side lines)) else []
+
 abbrev pub AreFrames : Rows → List Line → Type 0
-AreFrames t lines = (side : Side) (port place : ℕ) (l : LinkRow) → 1 ≤ port → port ≤ 24 → slice_get t.links place ≡ Some l →
+AreFrames t lines = (side : Side) (port place : ℕ) (l : LinkRow) → 1 ≤ port → port ≤ 24 →
+    slice_get t.links place ≡ Some l →
     frames_at l.vl side port lines ≡ frames_due t l side port lines
+
+-- ---- every accepted frame leaves each of its ports within the link's configured latency
 
 -- a D line: it is of an accepted frame, of a link that goes to that port, and in time
 pub record IsInTime (t : Rows) (lines : List Line) (d : Leaving) : Type 0 where
@@ -58,37 +67,48 @@ pub record IsInTime (t : Rows) (lines : List Line) (d : Leaving) : Type 0 where
   pub goes : goes_to t link d.port ≡ true
   pub within : d.time ≤ arrival.time + 1000 * link.latency_us
 
--- every accepted frame leaves each of its ports within the link's configured latency
 abbrev pub AreInTime : Rows → List Line → Type 0
 AreInTime t lines = (d : Leaving) → IsIn d (left_in lines) → IsInTime t lines d
+
+-- ---- and what a receiver delivers on a link is the integrity and redundancy rules' answer on
+-- that link's arrivals there alone
 
 -- an M or X line: it is of a frame that left the port of its system
 pub record IsHeard (t : Rows) (lines : List Line) (d : Leaving) (system : ℕ) : Type 0 where
   pub left : IsIn d (left_in lines)
   pub at : system_at_port t.systems d.port ≡ Some system
 
--- what a receiver delivers on a link is the integrity and redundancy rules' answer on that link's arrivals there alone
 pub record AreReceived (t : Rows) (lines : List Line) : Type 0 where
-  pub heard : (d : Leaving) (system : ℕ) (answer : Answer) → IsIn (Received d system answer) lines → IsHeard t lines d system
+  pub heard : (d : Leaving) (system : ℕ) (answer : Answer) → IsIn (Received d system answer) lines →
+      IsHeard t lines d system
   -- what comes to a port comes by time, at one time side A first
   pub in_order : (port : ℕ) → ComeInOrder (came_at port lines)
+  -- the answers to a link's frames
   pub answers : (system place : ℕ) (s : SystemRow) (l : LinkRow) →
-      slice_get t.systems system ≡ Some s → slice_get t.links place ≡ Some l → is_to system l ≡ true →
+      slice_get t.systems system ≡ Some s → slice_get t.links place ≡ Some l →
+      is_to system l ≡ true →
       answers_told system l.vl lines
-      ≡ answers_by_rules (1000 * l.skew_us) (has_port t.ports system l.vl) (frames_of l.vl (came_at s.port lines))
+      ≡ answers_by_rules (1000 * l.skew_us) (has_port t.ports system l.vl)
+      (frames_of l.vl (came_at s.port lines))
+
+-- ---- alone
 
 -- two texts tell the same of a link on a side: equal verdicts, and equal frames at each port
 pub record TellSame (l : LinkRow) (side : Side) (lines others : List Line) : Type 0 where
   pub verdicts : verdicts_on l.vl side lines ≡ verdicts_on l.vl side others
-  pub frames : (port : ℕ) → 1 ≤ port → port ≤ 24 → frames_at l.vl side port lines ≡ frames_at l.vl side port others
+  pub frames : (port : ℕ) → 1 ≤ port → port ≤ 24 →
+      frames_at l.vl side port lines ≡ frames_at l.vl side port others
 
--- alone: as any other list in which the link has equal own arrivals on that side, whatever else it holds
+-- as any other list in which the link has equal own arrivals on that side, whatever else it holds
 abbrev pub AreAlone : Rows → List Arrival → List Line → Type 0
-AreAlone t arrivals lines = (others : List Arrival) (other_lines : List Line) (side : Side) (place : ℕ) (l : LinkRow) →
+AreAlone t arrivals lines =
+    (others : List Arrival) (other_lines : List Line) (side : Side) (place : ℕ) (l : LinkRow) →
     AreVerdicts t others other_lines → AreFrames t other_lines → slice_get t.links place ≡ Some l →
     own l.vl side arrivals ≡ own l.vl side others → TellSame l side lines other_lines
 
--- the promises, of the lines that tell of these arrivals and of all that leaves
+-- ---- the promises
+
+-- of the lines that tell of these arrivals and of all that leaves
 pub record KeepsPromises (t : Rows) (arrivals : List Arrival) (lines : List Line) : Type 0 where
   pub verdicts : AreVerdicts t arrivals lines
   pub frames : AreFrames t lines
@@ -96,34 +116,46 @@ pub record KeepsPromises (t : Rows) (arrivals : List Arrival) (lines : List Line
   pub receptions : AreReceived t lines
   pub isolation : AreAlone t arrivals lines
 
--- of the lines up to the last of these arrivals: what has left a port is a beginning of the promised frames
+-- of the lines up to the last arrival: what has left a port is a beginning of the promised frames
 abbrev pub AreFirstFrames : Rows → List Line → Type 0
-AreFirstFrames t lines = (side : Side) (port place : ℕ) (l : LinkRow) → 1 ≤ port → port ≤ 24 → slice_get t.links place ≡ Some l →
-    (later : List Passing) × (frames_due t l side port lines ≡ later ++ frames_at l.vl side port lines)
+AreFirstFrames t lines = (side : Side) (port place : ℕ) (l : LinkRow) → 1 ≤ port → port ≤ 24 →
+    slice_get t.links place ≡ Some l →
+    (later : List Passing)
+    × (frames_due t l side port lines ≡ later ++ frames_at l.vl side port lines)
 
-pub record KeepsPromisesSoFar (t : Rows) (arrivals : List Arrival) (lines : List Line) : Type 0 where
+pub record KeepsPromisesSoFar (t : Rows) (arrivals : List Arrival) (lines : List Line) :
+    Type 0 where
   pub verdicts : AreVerdicts t arrivals lines
   pub frames : AreFirstFrames t lines
   pub latency : AreInTime t lines
   pub receptions : AreReceived t lines
 
--- Exactly once: where both sides are fed with one lawful stream of a link, the M lines of each receiver of the link are exactly the
--- messages of the sent list to its UDP ports, each once and in order.
+-- ---- exactly once
+
+-- Where both sides are fed with one lawful stream of a link, the M lines of each receiver of the
+-- link are exactly the messages of the sent list to its UDP ports, each once and in order.
 abbrev pub EachIsToldOnce : Rows → List Arrival → List Line → Type 0
-EachIsToldOnce t arrivals lines = (system place : ℕ) (s : SystemRow) (l : LinkRow) (messages : List sent.Message) (stream : List Sending) →
+EachIsToldOnce t arrivals lines =
+    (system place : ℕ) (s : SystemRow) (l : LinkRow)
+    (messages : List sent.Message) (stream : List Sending) →
     slice_get t.systems system ≡ Some s → slice_get t.links place ≡ Some l → is_to system l ≡ true →
     IsStreamOf t l messages stream → ((side : Side) → IsFed t l stream side arrivals) →
-    reverse (messages_told system l.vl lines) ≡ filter (λ m. has_port t.ports system l.vl m.udp) messages
+    reverse (messages_told system l.vl lines)
+    ≡ filter (λ m. has_port t.ports system l.vl m.udp) messages
 
 -- the frames of a link's stream that came on the side where more of them did
 abbrev pub most_come : Rows → LinkRow → List Arrival → ℕ
-most_come t l arrivals = max (length (at_own_port t l A arrivals)) (length (at_own_port t l B arrivals))
+most_come t l arrivals =
+    max (length (at_own_port t l A arrivals)) (length (at_own_port t l B arrivals))
 
 -- also where a network fails in the middle: as far as one of the sides has come
 abbrev pub EachIsToldOnceSoFar : Rows → List Arrival → List Line → Type 0
-EachIsToldOnceSoFar t arrivals lines = (system place : ℕ) (s : SystemRow) (l : LinkRow) (messages : List sent.Message) (stream : List Sending) →
+EachIsToldOnceSoFar t arrivals lines =
+    (system place : ℕ) (s : SystemRow) (l : LinkRow)
+    (messages : List sent.Message) (stream : List Sending) →
     slice_get t.systems system ≡ Some s → slice_get t.links place ≡ Some l → is_to system l ≡ true →
-    IsStreamOf t l messages stream → ((side : Side) → AreSendings side stream (at_own_port t l side arrivals)) →
+    IsStreamOf t l messages stream →
+    ((side : Side) → AreSendings side stream (at_own_port t l side arrivals)) →
     reverse (messages_told system l.vl lines)
     ≡ filter (λ m. has_port t.ports system l.vl m.udp) (take (most_come t l arrivals) messages)
 
@@ -136,7 +168,8 @@ abbrev pub told_so_far : Rows → List Arrival → List Line
 told_so_far t arrivals = told_by t (events_so_far t arrivals)
 
 abbrev pub PromisesAreKept : Type 0
-PromisesAreKept = (t : Rows) (arrivals : List Arrival) → IsAdmittedRun t arrivals → KeepsPromises t arrivals (told t arrivals)
+PromisesAreKept = (t : Rows) (arrivals : List Arrival) → IsAdmittedRun t arrivals →
+    KeepsPromises t arrivals (told t arrivals)
 
 abbrev pub PromisesAreKeptSoFar : Type 0
 PromisesAreKeptSoFar = (t : Rows) (arrivals : List Arrival) → IsAdmittedRun t arrivals →

@@ -1,4 +1,5 @@
--- The text of a replay of tables that are admitted: that of lines which keep the promises. A list of lines has the latest first.
+-- The text of a replay of tables that are admitted: that of lines which keep the promises. A list
+-- of lines has the latest first.
 use Rattle.std.specs.Prelude.{◌≡◌, ℕ, ◌+◌, ◌<◌, false, Some, Ok, List, [], ◌∷◌, ◌++◌}
 use Rattle.afdx_config.specs.Rows.{Rows}
 use Rattle.afdx_police.specs.Arrival.{Arrival}
@@ -12,7 +13,8 @@ use Rattle.afdx_replay.specs.Listed.{arrival_at, arrivals_of, says}
 use Rattle.afdx_replay.specs.PoliceText.{verdict_line}
 use Rattle.afdx_replay.specs.ReplayText.{departure_line, replay_text, replay_counts}
 
--- a line as it is written: `V n side ..`, `D n time side port`, and `M time system vl hex` or `X time system n WORD`
+-- a line as it is written: `V n side ..`, `D n time side port`, and `M time system vl hex` or
+-- `X time system n WORD`
 abbrev pub line_text : Rows → Line → List ℕ
 line_text t (Verdict v) = verdict_line v.arrival.tag v.arrival.side v.reason
 line_text t (Departed d) = departure_line false d.frame.tag d.time d.side d.port
@@ -38,8 +40,8 @@ AreListed list count = (x : Arrival) → IsIn x (arrivals_of list count) → IsL
 abbrev pub ArrivalsAreListed : Type 0
 ArrivalsAreListed = (list : List (List ℕ)) (count : ℕ) → AreListed list count
 
--- a text of these arrivals, and of all that leaves, is that of lines which keep the promises, and tell a lawful stream's messages
--- once each
+-- a text of these arrivals, and of all that leaves, is that of lines which keep the promises, and
+-- tell a lawful stream's messages once each
 pub record TellsPromises (t : Rows) (arrivals : List Arrival) (text : List ℕ) : Type 0 where
   pub lines : List Line
   pub written : text ≡ text_of t lines
@@ -68,4 +70,5 @@ pub record CountsNone (t : Rows) (arrivals : List Arrival) : Type 0 where
   pub too_old : (replay_counts t (events_of t arrivals)).too_old ≡ 0
 
 abbrev pub NoneIsCounted : Type 0
-NoneIsCounted = (t : Rows) (arrivals : List Arrival) → IsAdmittedRun t arrivals → CountsNone t arrivals
+NoneIsCounted = (t : Rows) (arrivals : List Arrival) → IsAdmittedRun t arrivals →
+    CountsNone t arrivals
