@@ -25,18 +25,18 @@ use Rattle.afdx_network.proofs.OrderLemmas.{before_trans, below_trans, same_even
 use Rattle.afdx_network.proofs.EventLemmas.{turn-of, at-port-of, is-departure, is-either}
 use Rattle.afdx_network.proofs.TurnLemmas.{byte-time, next-after}
 use Rattle.afdx_promises.specs.Receptions.{brought, is_from, order_of, ComeInOrder, brought_by}
-use Rattle.afdx_promises.specs.Promises.{EventsBringReceptions, IsAsPromised, EventsAreAsPromised, EventsSoFarAreAsPromised}
+use Rattle.afdx_promises.specs.NetworkPromises.{EventsBringReceptions, IsAsPromised, EventsAreAsPromised, EventsSoFarAreAsPromised}
 use Rattle.afdx_promises.proofs.PromiseLemmas.{judged-alone, run-from}
 use Rattle.afdx_promises.proofs.ListLemmas.{all-imply}
 use Rattle.afdx_promises.proofs.PortLemmas.{its-turns, left-are-accepted, frames-more}
 
 -- ---- the departures of one port among events
 
-abbrev is_at : Side → ℕ → Event → Bool
+abbrev pub is_at : Side → ℕ → Event → Bool
 is_at side port (Came c) = false
 is_at side port (Left d) = is_side side d.side && (d.port == port)
 
-abbrev turns_in : List Event → List (Turn Carried)
+abbrev pub turns_in : List Event → List (Turn Carried)
 turns_in [] = []
 turns_in (Came c ∷ before) = turns_in before
 turns_in (Left d ∷ before) = d.turn ∷ turns_in before
@@ -69,7 +69,7 @@ filter-all P p (e ∷ es) all = by (p e) (filter-all P p es all.1)
     by true rest = (all.0, rest)
     by false rest = rest
 
-filter-ordered : (p : Event → Bool) (es : List Event) → AreInOrder es → AreInOrder (filter p es)
+pub filter-ordered : (p : Event → Bool) (es : List Event) → AreInOrder es → AreInOrder (filter p es)
 filter-ordered p [] order = tt
 filter-ordered p (e ∷ es) order = by (p e) (filter-ordered p es order.1)
   where
@@ -77,7 +77,7 @@ filter-ordered p (e ∷ es) order = by (p e) (filter-ordered p es order.1)
     by true rest = (filter-all (λ d. IsTrue (is_before d e)) p es order.0, rest)
     by false rest = rest
 
-filter-own : (p : Event → Bool) (e : Event) (es : List Event) → IsAmong e (filter p es) → IsAmong e es × (p e ≡ true)
+pub filter-own : (p : Event → Bool) (e : Event) (es : List Event) → IsAmong e (filter p es) → IsAmong e es × (p e ≡ true)
 filter-own p e [] h = absurd h
 filter-own p e (d ∷ ds) h = by (p d) refl h (filter-own p e ds)
   where
@@ -86,7 +86,7 @@ filter-own p e (d ∷ ds) h = by (p d) refl h (filter-own p e ds)
     by true passes (inr later) rest = let r = rest later in (inr r.0, r.1)
     by false fails later rest = let r = rest later in (inr r.0, r.1)
 
-filter-has : (p : Event → Bool) (e : Event) (es : List Event) → IsAmong e es → p e ≡ true → IsAmong e (filter p es)
+pub filter-has : (p : Event → Bool) (e : Event) (es : List Event) → IsAmong e es → p e ≡ true → IsAmong e (filter p es)
 filter-has p e [] h passes = absurd h
 filter-has p e (d ∷ ds) h passes = by (p d) refl h (λ later. filter-has p e ds later passes)
   where
@@ -130,14 +130,14 @@ module _ (t : Rows) (arrivals : List Arrival) (events : List Event) (side : Side
   at-all e h = filter-has (is_at side port) e events (are.all e (is-departure t side arrivals port e low high h)) (turn-is-at side port (turns_at t side port arrivals) e h)
 
   -- those at a port are its turns
-  at-port-are : filter (is_at side port) events ≡ departures_of side port (turns_at t side port arrivals)
+  pub at-port-are : filter (is_at side port) events ≡ departures_of side port (turns_at t side port arrivals)
   at-port-are = same_events (λ e. IsAmong e (departures_of side port (turns_at t side port arrivals))) (filter (is_at side port) events) (departures_of side port (turns_at t side port arrivals))
       (record { in_order = filter-ordered (is_at side port) events are.in_order; own = at-own; all = at-all })
       (record { in_order = departures-ordered side port (byte_ns_at t port) (entries_at t side port arrivals) (turns_at t side port arrivals) (byte-time t port lawful) (its-turns t side port arrivals timed).each_next; own = λ e h. h; all = λ e h. h })
 
 -- ---- what they bring
 
-turns-back : (side : Side) (port : ℕ) (turns : List (Turn Carried)) → turns_in (departures_of side port turns) ≡ turns
+pub turns-back : (side : Side) (port : ℕ) (turns : List (Turn Carried)) → turns_in (departures_of side port turns) ≡ turns
 turns-back side port [] = refl
 turns-back side port (s ∷ earlier) = ap (λ ts. s ∷ ts) (turns-back side port earlier)
 
@@ -249,7 +249,7 @@ all-before port x (Left d ∷ before) slot all = by ((d.port == port) && not d.t
     by true is rest = (slot-before d x (not-true d.turn.too_old (and_parts (d.port == port) (not d.turn.too_old) is).1) slot all.0, rest)
     by false is rest = rest
 
-brought-in-order : (port : ℕ) (events : List Event) → AreInOrder events → ComeInOrder (brought_by port events)
+pub brought-in-order : (port : ℕ) (events : List Event) → AreInOrder events → ComeInOrder (brought_by port events)
 unfolding brought_by
 brought-in-order port [] order = tt
 brought-in-order port (Came c ∷ before) order = brought-in-order port before order.1
@@ -306,7 +306,7 @@ one-in-time t arrivals side port d (s ∷ earlier) run are (inl same) =
     subst (IsInTime t) (sym (ap (λ (e : Departure). e.turn) is)) (turn-in-time t arrivals side port s earlier run are)
 one-in-time t arrivals side port d (s ∷ earlier) run are (inr rest) = one-in-time t arrivals side port d earlier run are.1 rest
 
-taken-in : (side : Side) (port : ℕ) (events : List Event) → taken_at port (turns_on side events) ≡ turns_in (filter (is_at side port) events)
+pub taken-in : (side : Side) (port : ℕ) (events : List Event) → taken_at port (turns_on side events) ≡ turns_in (filter (is_at side port) events)
 unfolding taken_at
 taken-in side port [] = refl
 taken-in side port (Came c ∷ before) = taken-in side port before
@@ -319,7 +319,7 @@ taken-in side port (Left d ∷ before) = by (is_side side d.side) (d.port == por
     by true false on other rest = rw (on, other) rest
     by true true on here rest = rw (on, here) (ap (λ ts. d.turn ∷ ts) rest)
 
-no-left : (t : Rows) (arrivals : List Arrival) (d : Departure) → IsAmong (Left d) (admissions t arrivals) → ⊥
+pub no-left : (t : Rows) (arrivals : List Arrival) (d : Departure) → IsAmong (Left d) (admissions t arrivals) → ⊥
 unfolding admissions
 no-left t [] d h = h
 no-left t (x ∷ past) d (inl same) = cc same
@@ -376,12 +376,12 @@ told-down (x ∷ past) d e before told = by (is_below (x.time ∷ 1 ∷ length p
     by false is = refl
     by true is = absurd (let up = below_trans (x.time ∷ 1 ∷ length past ∷ []) (key d) (key e) is before in let down = not-true (is_below (x.time ∷ 1 ∷ length past ∷ []) (key e)) told in cc (up, down))
 
-turns-more : (xs ys : List Event) → turns_in (xs ++ ys) ≡ turns_in xs ++ turns_in ys
+pub turns-more : (xs ys : List Event) → turns_in (xs ++ ys) ≡ turns_in xs ++ turns_in ys
 turns-more [] ys = refl
 turns-more (Came c ∷ xs) ys = turns-more xs ys
 turns-more (Left d ∷ xs) ys = ap (λ ts. d.turn ∷ ts) (turns-more xs ys)
 
-so-far-is : (t : Rows) (arrivals : List Arrival) (events : List Event) → AreEventsSoFar t arrivals events → (later : List Event) × (events_of t arrivals ≡ later ++ events)
+pub so-far-is : (t : Rows) (arrivals : List Arrival) (events : List Event) → AreEventsSoFar t arrivals events → (later : List Event) × (events_of t arrivals ≡ later ++ events)
 unfolding events_so_far
 so-far-is t arrivals events are =
     let first = firsts (is_told_by arrivals) (events_of t arrivals) (are-events t arrivals).in_order (told-down arrivals) in

@@ -37,7 +37,7 @@ use Rattle.afdx_police.specs.Arrival.{Arrival, names, own}
 use Rattle.afdx_switch.specs.Admitted.{IsAdmittedRun, passing, passing_in, accepted_on, accepted_frames, frames_left, AreInTime}
 use Rattle.afdx_switch.specs.Tables.{port_of, rule_of, goes_to, entries_at}
 use Rattle.afdx_promises.specs.Examples.{sender, receiver, link, tables, heard, unheard, first_on, second_on, stream, arrivals, PremisesAreMet, link_with, tables_with, one, AdmissionIsNeeded}
-use Rattle.afdx_promises.specs.Promises.{IsStreamOf, KeepsPromises}
+use Rattle.afdx_promises.specs.NetworkPromises.{IsStreamOf, PortsKeepPromises}
 use Rattle.afdx_promises.specs.Streams.{at_own_port, AreSendings, IsFed, IsSending}
 use Rattle.afdx_promises.proofs.OnceLemmas.{messages-once}
 use Rattle.afdx_promises.proofs.ReceiverLemmas.{names-frame}
@@ -327,7 +327,7 @@ one-a : BuiltIsComputed → at_port (rule_of (tables_with 1) (link_with 1)) (own
 unfolding rule_of port_of
 one-a computed = rw (first-named computed A) refl
 
-is-broken : BuiltIsComputed → KeepsPromises (tables_with 1) one → ⊥
+is-broken : BuiltIsComputed → PortsKeepPromises (tables_with 1) one → ⊥
 is-broken computed keeps =
     let t = tables_with 1 in
     let l = link_with 1 in

@@ -3,7 +3,12 @@ pub mod PortLemmas
 pub mod MergeLemmas
 pub mod ReceiverLemmas
 pub mod PromiseLemmas
+pub mod RuleLemmas
 pub mod StreamLemmas
 pub mod OnceLemmas
 pub mod EventLemmas
+pub mod LineLemmas
+pub mod HeadlineLemmas
+pub mod HeardLemmas
+pub mod ToldLemmas
 pub mod ExampleLemmas

@@ -15,7 +15,7 @@ use Rattle.afdx_switch.proofs.ListLemmas.{bool_cases}
 use Rattle.afdx_network.specs.Events.{turns_at}
 use Rattle.afdx_network.specs.Order.{side_number}
 use Rattle.afdx_promises.specs.Receptions.{brought, is_from, order_of, ComeInOrder, put_in, merged, receptions_at}
-use Rattle.afdx_promises.specs.Promises.{ReceptionsAreOne, ReceptionsExist}
+use Rattle.afdx_promises.specs.NetworkPromises.{ReceptionsAreOne, ReceptionsExist}
 use Rattle.afdx_promises.proofs.ListLemmas.{all-imply, all-filter, all-map}
 use Rattle.afdx_promises.proofs.PortLemmas.{its-turns}
 

@@ -31,7 +31,7 @@ use Rattle.afdx_network.specs.Events.{turns_at}
 use Rattle.afdx_network.specs.Order.{side_number}
 use Rattle.afdx_promises.specs.Receptions.{brought, order_of, ComeInOrder, AreReceptions, answers_on, messages_in}
 use Rattle.afdx_promises.specs.Streams.{at_own_port, AreSendings}
-use Rattle.afdx_promises.specs.Promises.{IsStreamOf, MessagesComeSoFar, MessagesComeOnce}
+use Rattle.afdx_promises.specs.NetworkPromises.{IsStreamOf, MessagesComeSoFar, MessagesComeOnce}
 use Rattle.afdx_promises.proofs.ListLemmas.{all-imply, all-filter}
 use Rattle.afdx_promises.proofs.PortLemmas.{its-turns, in-time, left-back, entries_back}
 use Rattle.afdx_promises.proofs.PromiseLemmas.{goes-there}

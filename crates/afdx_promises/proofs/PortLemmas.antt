@@ -24,7 +24,7 @@ use Rattle.afdx_switch.proofs.LawLemmas.{one-class}
 use Rattle.afdx_switch.proofs.ListLemmas.{bool_cases}
 use Rattle.afdx_network.specs.Events.{turns_at}
 use Rattle.afdx_promises.specs.Ports.{AreItsTurns}
-use Rattle.afdx_promises.specs.Promises.{LeftSoFarAreFirst}
+use Rattle.afdx_promises.specs.NetworkPromises.{LeftSoFarAreFirst}
 use Rattle.afdx_promises.proofs.ListLemmas.{reverse-cons, filter-reverse, map-reverse, same-reversed}
 
 -- ---- entries stand in the order of their times
@@ -113,7 +113,7 @@ left-are-accepted t arrivals side port place l run at =
 abbrev pub entries_back : List (Turn Carried) → List (Entry Carried)
 entries_back turns = map (λ s. s.entry) turns
 
-in-reverse : (turns : List (Turn Carried)) → entries_in turns ≡ reverse (entries_back turns)
+pub in-reverse : (turns : List (Turn Carried)) → entries_in turns ≡ reverse (entries_back turns)
 in-reverse [] = refl
 in-reverse (s ∷ earlier) = ap (λ es. es ++ s.entry ∷ []) (in-reverse earlier) ∙ sym (reverse-cons s.entry (entries_back earlier))
 

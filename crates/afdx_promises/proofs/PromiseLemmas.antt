@@ -21,7 +21,7 @@ use Rattle.afdx_switch.proofs.ListLemmas.{find-none}
 use Rattle.afdx_switch.proofs.NewLemmas.{row-is}
 use Rattle.afdx_network.specs.Events.{turns_at}
 use Rattle.afdx_promises.specs.Receptions.{AreReceptions}
-use Rattle.afdx_promises.specs.Promises.{IsJudgedAlone, IsReceivedAlone, PromisesAreKept, LinksAreApart}
+use Rattle.afdx_promises.specs.NetworkPromises.{IsJudgedAlone, IsReceivedAlone, PortsAreAsPromised, LinksAreApart}
 use Rattle.afdx_promises.proofs.PortLemmas.{its-turns, in-time, left-are-accepted, left-back}
 use Rattle.afdx_promises.proofs.ReceiverLemmas.{IsFrameOn, answers-own, frames-by-side, accepted-frames, bytes-of-slots, vl-is}
 
@@ -38,13 +38,13 @@ rule-vl : (t : Rows) (l : LinkRow) → (row_of t l).rule.vl ≡ l.vl
 unfolding rule_of
 rule-vl t l = refl
 
-no-row : (t : Rows) (bytes : List ℕ) → IsLawful t → ((place : ℕ) (l : LinkRow) → slice_get t.links place ≡ Some l → names l.vl bytes ≡ false) → row_named t bytes ≡ None
+pub no-row : (t : Rows) (bytes : List ℕ) → IsLawful t → ((place : ℕ) (l : LinkRow) → slice_get t.links place ≡ Some l → names l.vl bytes ≡ false) → row_named t bytes ≡ None
 unfolding row_named
 no-row t bytes lawful none = find-none (λ (r : Row). names r.rule.vl bytes) (rows_of t) (λ j r at.
     let l = row-is t lawful j r at in
     subst (λ (q : Row). names q.rule.vl bytes ≡ false) l.2 (ap (λ vl. names vl bytes) (rule-vl t l.0) ∙ none j l.0 l.1))
 
-unknown-reason : (t : Rows) (past : List Arrival) (x : Arrival) → row_named t x.bytes ≡ None → reason_of t past x ≡ fault_of None x.port x.bytes
+pub unknown-reason : (t : Rows) (past : List Arrival) (x : Arrival) → row_named t x.bytes ≡ None → reason_of t past x ≡ fault_of None x.port x.bytes
 unfolding reason_of
 unknown-reason t past x none = ap (reason_on past x) none
 
@@ -77,7 +77,7 @@ received-alone t arrivals system place s l came run stands at goes are = record 
   answers = answers-own t system place l run.lawful at goes came;
 }
 
-pub promises-kept : PromisesAreKept
+pub promises-kept : PortsAreAsPromised
 promises-kept t arrivals run = record {
   verdicts = λ later past x same. judged-alone t past x (run-from t arrivals later (x ∷ past) same run);
   turns = λ side port. its-turns t side port arrivals run.timed;

@@ -173,7 +173,7 @@ pub vl-is : (t : Rows) (l : LinkRow) → (rule_of t l).vl ≡ l.vl
 unfolding rule_of
 vl-is t l = refl
 
-none-is : (o : Option Reason) → is_none o ≡ true → o ≡ None
+pub none-is : (o : Option Reason) → is_none o ≡ true → o ≡ None
 none-is None h = refl
 none-is (Some r) h = absurd (cc h)
 

@@ -28,7 +28,7 @@ use Rattle.afdx_receive.proofs.StreamLemmas.{steps_low}
 use Rattle.afdx_switch.specs.Regular.{at_port, AreSound}
 use Rattle.afdx_switch.proofs.RegularLemmas.{AreAccepted, accepted-at, regular-reason}
 use Rattle.afdx_switch.specs.Tables.{rule_of}
-use Rattle.afdx_promises.specs.Promises.{StreamIsRegular, StreamIsAccepted}
+use Rattle.afdx_promises.specs.NetworkPromises.{StreamIsRegular, StreamIsAccepted}
 use Rattle.afdx_promises.specs.Streams.{AreSendings}
 use Rattle.afdx_promises.proofs.ReceiverLemmas.{IsFrameOn, frame-sound, names-frame}
 

@@ -1,5 +1,5 @@
--- An example in which every premise is met: two systems, one virtual link, and its lawful stream of two frames on both sides, of which
--- one comes a second time at a wrong port.
+-- An example in which every premise is met: two systems, one virtual link, and its lawful stream of
+-- two frames on both sides, of which one comes a second time at a wrong port.
 use Rattle.std.specs.Prelude.{◌≡◌, ℕ, true, List, [], ◌∷◌, codes, reverse}
 use Rattle.afdx_frame.specs.Grammar.{built_frame}
 use Rattle.afdx_frame.specs.declared.link.Policing.TheVariants.{Byte}
@@ -15,7 +15,7 @@ use Rattle.afdx_police.specs.Arrival.{Arrival, arrival_with}
 use Rattle.afdx_receive.specs.Arrivals.{Arrived}
 use Rattle.afdx_bounds.specs.Outputs.{AreTimed}
 use Rattle.afdx_switch.specs.Admitted.{IsAdmittedRun}
-use Rattle.afdx_promises.specs.Promises.{IsStreamOf, KeepsPromises}
+use Rattle.afdx_promises.specs.NetworkPromises.{IsStreamOf, PortsKeepPromises}
 use Rattle.afdx_promises.specs.Receptions.{AreReceptions, answers_on, messages_in}
 use Rattle.afdx_promises.specs.Streams.{IsFed}
 
@@ -74,7 +74,8 @@ unfoldable pub second_on : Side → List ℕ
 second_on side = built_frame (address_of sender link unheard) 1 side unheard.payload
 
 abbrev pub stream : List Sending
-stream = record { time = 0; a = first_on A; b = first_on B } ∷ record { time = 1000000; a = second_on A; b = second_on B } ∷ []
+stream = record { time = 0; a = first_on A; b = first_on B } ∷
+    record { time = 1000000; a = second_on A; b = second_on B } ∷ []
 
 -- what arrives, the newest first
 abbrev pub arrivals : List Arrival
@@ -91,13 +92,15 @@ pub record PremisesAreMet : Type 0 where
   pub sends : IsStreamOf tables link (heard ∷ unheard ∷ []) stream
   pub fed : (side : Side) → IsFed tables link stream side arrivals
   -- so the one message that the receiver listens to is delivered, once
-  pub delivers : (came : List Arrived) → AreReceptions tables 2 arrivals came → reverse (messages_in (answers_on tables 1 1 came)) ≡ heard ∷ []
+  pub delivers : (came : List Arrived) → AreReceptions tables 2 arrivals came →
+      reverse (messages_in (answers_on tables 1 1 came)) ≡ heard ∷ []
 
--- With a latency of 1 us, less than a frame takes on the line, the tables are lawful and not admitted, and one frame breaks the promises.
+-- With a latency of 1 us, less than a frame takes on the line, the tables are lawful and not
+-- admitted, and one frame breaks the promises.
 abbrev pub one : List Arrival
 one = arrival_with 1 0 A 1 (first_on A) ∷ []
 
 pub record AdmissionIsNeeded : Type 0 where
   pub lawful : IsLawful (tables_with 1)
   pub timed : AreTimed one
-  pub broken : KeepsPromises (tables_with 1) one → ⊥
+  pub broken : PortsKeepPromises (tables_with 1) one → ⊥

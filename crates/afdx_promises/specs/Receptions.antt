@@ -1,4 +1,5 @@
--- What comes to the system at a port from both switches, and what its receiver answers. Lists have the newest first.
+-- What comes to the system at a port from both switches, and what its receiver answers. Lists have
+-- the newest first.
 use Rattle.std.specs.Prelude.{◌≡◌, ℕ, ◌+◌, ◌*◌, ◌≤◌, ◌&&◌, nat_eq, ◌==◌, nat_lt, Bool, not, if◌then◌else◌, Result, Ok, Err, List, [], ◌∷◌, filter, map}
 use Rattle.std.specs.List.{AllByRecursion}
 use Rattle.afdx_frame.specs.declared.link.Side.{Side}
@@ -35,8 +36,10 @@ ComeInOrder [] = Unit {0}
 ComeInOrder (x ∷ past) = AllByRecursion (λ y. order_of y ≤ order_of x) past × ComeInOrder past
 
 -- this is what comes to the system at a port: what leaves that port on each side, merged
-pub record AreReceptions (t : Rows) (port : ℕ) (arrivals : List Arrival) (came : List Arrived) : Type 0 where
-  pub by_side : (side : Side) → filter (is_from side) came ≡ map (brought side) (slots (turns_at t side port arrivals))
+pub record AreReceptions (t : Rows) (port : ℕ) (arrivals : List Arrival)
+    (came : List Arrived) : Type 0 where
+  pub by_side : (side : Side) → filter (is_from side) came
+      ≡ map (brought side) (slots (turns_at t side port arrivals))
   pub in_order : ComeInOrder came
 
 -- the same by putting each in its place
@@ -49,27 +52,32 @@ merged others [] = others
 merged others (x ∷ past) = put_in x (merged others past)
 
 unfoldable pub receptions_at : Rows → ℕ → List Arrival → List Arrived
-receptions_at t port arrivals = merged (map (brought A) (slots (turns_at t A port arrivals))) (map (brought B) (slots (turns_at t B port arrivals)))
+receptions_at t port arrivals = merged (map (brought A) (slots (turns_at t A port arrivals)))
+    (map (brought B) (slots (turns_at t B port arrivals)))
 
 -- of these events, what they bring to the system at a port: the frames that left it
 unfoldable pub brought_by : ℕ → List Event → List Arrived
 brought_by port [] = []
 brought_by port (Came c ∷ before) = brought_by port before
-brought_by port (Left d ∷ before) = if d.port == port && not d.turn.too_old then brought d.side d.turn ∷ brought_by port before else brought_by port before
+brought_by port (Left d ∷ before) = if d.port == port && not d.turn.too_old
+    then brought d.side d.turn ∷ brought_by port before else brought_by port before
 
 -- a receiver's answers to all frames of a link
 abbrev pub with_answer_on : ℕ → Answer → Result FrameParts MacFault → List Answer → List Answer
-with_answer_on vl answer (Ok frame) before = if nat_eq frame.link.0 vl then answer ∷ before else before
+with_answer_on vl answer (Ok frame) before = if nat_eq frame.link.0 vl then answer ∷ before
+    else before
 with_answer_on vl answer (Err fault) before = before
 
 unfoldable pub answers_on : Rows → ℕ → ℕ → List Arrived → List Answer
 answers_on t system vl [] = []
-answers_on t system vl (x ∷ past) = with_answer_on vl (answer_to t system past x) (frame_of x.bytes) (answers_on t system vl past)
+answers_on t system vl (x ∷ past) = with_answer_on vl (answer_to t system past x)
+    (frame_of x.bytes) (answers_on t system vl past)
 
 -- the rules' answers to these frames of a link
 unfoldable pub answers_by_rules : ℕ → (ℕ → Bool) → List Incoming → List Answer
 answers_by_rules skew is_open [] = []
-answers_by_rules skew is_open (frame ∷ before) = answer_after skew is_open before frame ∷ answers_by_rules skew is_open before
+answers_by_rules skew is_open (frame ∷ before) = answer_after skew is_open before frame ∷
+    answers_by_rules skew is_open before
 
 -- the messages among answers
 abbrev pub messages_in : List Answer → List Message

@@ -1,4 +1,5 @@
--- The arrivals that a link's lawful stream makes at a switch. A list of arrivals has the newest first.
+-- The arrivals that a link's lawful stream makes at a switch. A list of arrivals has the newest
+-- first.
 use Rattle.std.specs.Prelude.{◌≡◌, ℕ, ◌==◌, Some, List, [], ◌∷◌, length, filter, slice_get}
 use Rattle.afdx_frame.specs.declared.link.Side.{Side}
 use Rattle.afdx_config.specs.LawfulStream.{Sending}
@@ -21,9 +22,11 @@ pub record IsSending (side : Side) (stream : List Sending) (place : ℕ) (x : Ar
 -- the arrivals are the first frames of a stream, in order and with none left out
 abbrev pub AreSendings : Side → List Sending → List Arrival → Type 0
 AreSendings side stream [] = Unit {0}
-AreSendings side stream (x ∷ past) = IsSending side stream (length past) x × AreSendings side stream past
+AreSendings side stream (x ∷ past) = IsSending side stream (length past) x
+    × AreSendings side stream past
 
 -- on a side all that names the link and comes at its sender's port is this stream, whole
-pub record IsFed (t : Rows) (l : LinkRow) (stream : List Sending) (side : Side) (arrivals : List Arrival) : Type 0 where
+pub record IsFed (t : Rows) (l : LinkRow) (stream : List Sending) (side : Side)
+    (arrivals : List Arrival) : Type 0 where
   pub frames : AreSendings side stream (at_own_port t l side arrivals)
   pub whole : length (at_own_port t l side arrivals) ≡ length stream

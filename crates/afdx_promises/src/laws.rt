@@ -1,42 +1,70 @@
 //! What a network whose tables are admitted promises, whatever arrives at its switches.
 ghost use Rattle.afdx_promises.specs.Examples.{PremisesAreMet, AdmissionIsNeeded};
-ghost use Rattle.afdx_promises.specs.Promises.{PromisesAreKept, LeftSoFarAreFirst, ReceptionsAreOne, ReceptionsExist, EventsBringReceptions, LinksAreApart, StreamIsRegular, StreamIsAccepted, MessagesComeSoFar, MessagesComeOnce, EventsAreAsPromised, EventsSoFarAreAsPromised};
+ghost use Rattle.afdx_promises.specs.NetworkPromises.{PortsAreAsPromised, LeftSoFarAreFirst, ReceptionsAreOne, ReceptionsExist, EventsBringReceptions, LinksAreApart, StreamIsRegular, StreamIsAccepted, MessagesComeSoFar, MessagesComeOnce, EventsAreAsPromised, EventsSoFarAreAsPromised};
+ghost use Rattle.afdx_promises.specs.Promises.{PromisesAreKept, PromisesAreKeptSoFar, MessagesAreToldOnce, MessagesAreToldOnceSoFar};
 
 use afdx_frame::laws::built_is_computed;
 
-/// Each virtual link's verdicts, and its frames that leave each switch port, in order, are the window rule's answer on that
-/// link's own arrivals alone; every accepted frame leaves each of its ports within the link's latency; and what a receiver
-/// delivers on a link is the integrity and redundancy rules' answer on that link's arrivals there alone.
+/// Each virtual link's verdicts, and its frames that leave each switch port, in order, are the
+/// window rule's answer on that link's own arrivals alone; every accepted frame leaves each of its
+/// ports within the link's latency; and what a receiver delivers on a link is the integrity and
+/// redundancy rules' answer on that link's arrivals there alone: of the lines that tell all events.
 ///
-/// Where a port has given only some of its turns, the frames of a link that left it are the first of those.
+/// Of the lines up to the last arrival, what has left a port of a link's frames is a beginning of
+/// those.
 pub fn promises_are_kept()
     ensures all { PromisesAreKept }
+    ensures so_far { PromisesAreKeptSoFar }
+{}
+
+/// Of a link's lawful stream on both sides, each of its receivers' M lines are exactly the messages
+/// to its UDP ports, each once and in order.
+///
+/// Where only the first frames of the stream arrive, not as many on both sides, they are those as
+/// far as one of the sides has come: a network may fail in the middle.
+pub fn messages_are_told_once()
+    ensures all { MessagesAreToldOnce }
+    ensures so_far { MessagesAreToldOnceSoFar }
+{
+    built_is_computed()
+}
+
+/// So do the ports of the switches: their turns are the schedule of their entries, of which none is
+/// lost.
+///
+/// Where a port has given only some of its turns, the frames of a link that left it are the first
+/// of those.
+pub fn ports_are_as_promised()
+    ensures all { PortsAreAsPromised }
     ensures so_far { LeftSoFarAreFirst }
 {}
 
-/// So are all events in their one order: each verdict, no loss, each departure in time, and what comes to each receiver.
+/// So are all events in their one order: each verdict, no loss, each departure in time, and what
+/// comes to each receiver.
 ///
-/// And so are those up to the last arrival: what has left a port of a link's frames are the first of its accepted ones.
+/// And so are those up to the last arrival: what has left a port of a link's frames are the first
+/// of its accepted ones.
 pub fn events_are_as_promised()
     ensures all { EventsAreAsPromised }
     ensures so_far { EventsSoFarAreAsPromised }
 {}
 
-/// What comes to a receiver is one list: what left its port on both sides, by time, at one time side A first. It is
-/// what the one order of all events brings.
+/// What comes to a receiver is one list: what left its port on both sides, by time, at one time
+/// side A first. It is what the one order of all events brings.
 pub fn receptions_are_one()
     ensures exist { ReceptionsExist }
     ensures only { ReceptionsAreOne }
     ensures events { EventsBringReceptions }
 {}
 
-/// Whatever else arrives, equal own arrivals of a link give equal verdicts and equal frames at each port.
+/// Whatever else arrives, equal own arrivals of a link give equal verdicts and equal frames at each
+/// port.
 pub fn links_are_apart()
     ensures { LinksAreApart }
 {}
 
-/// A link's lawful stream at its sender's port is what a switch's `arrive` accepts by its clause `regular`: it is sound and keeps the
-/// link's gap. So it is accepted, whatever else comes.
+/// A link's lawful stream at its sender's port is what a switch's `arrive` accepts by its clause
+/// `regular`: it is sound and keeps the link's gap. So it is accepted, whatever else comes.
 pub fn stream_is_accepted()
     ensures regular { StreamIsRegular }
     ensures accepted { StreamIsAccepted }
@@ -44,11 +72,11 @@ pub fn stream_is_accepted()
     built_is_computed()
 }
 
-/// Each receiver of a link that is sent lawfully on both sides delivers exactly the messages to its UDP ports, each once and
-/// in order.
+/// Each receiver of a link that is sent lawfully on both sides delivers exactly the messages to its
+/// UDP ports, each once and in order.
 ///
-/// Where only the first frames of the stream arrive, not as many on both sides, it delivers those as far as one of the sides has
-/// come: a network may fail in the middle.
+/// Where only the first frames of the stream arrive, not as many on both sides, it delivers those
+/// as far as one of the sides has come: a network may fail in the middle.
 pub fn messages_come_once()
     ensures all { MessagesComeOnce }
     ensures so_far { MessagesComeSoFar }
@@ -56,8 +84,8 @@ pub fn messages_come_once()
     built_is_computed()
 }
 
-/// All of these premises can be met: by tables of two systems and a link, and its stream of two frames on both sides. With tables
-/// that aren't admitted the promises are false.
+/// All of these premises can be met: by tables of two systems and a link, and its stream of two
+/// frames on both sides. With tables that aren't admitted the promises are false.
 pub fn premises_are_met()
     ensures met { PremisesAreMet }
     ensures needed { AdmissionIsNeeded }

@@ -1,4 +1,5 @@
-//! What a network whose tables are admitted promises, whatever arrives at its switches: laws over definitions.
+//! What a network whose tables are admitted promises, whatever arrives at its switches: laws over
+//! definitions.
 #![tactic(auto)]
 
 pub mod laws;

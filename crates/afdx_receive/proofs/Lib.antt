@@ -7,3 +7,4 @@ pub mod ReceptionLemmas
 pub mod StepsLemmas
 pub mod StreamLemmas
 pub mod TableLemmas
+pub mod LinkLemmas

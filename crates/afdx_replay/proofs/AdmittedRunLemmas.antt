@@ -1,5 +1,5 @@
 -- A replay of admitted tables tells what is promised.
-use Rattle.std.proofs.Common.{◌≡◌, ℕ, zero, suc, ◌^◌, ◌≤◌, ◌||◌, Bool, true, false, nat_lt, List, [], ◌∷◌, length, refl, ap, ◌∙◌, subst, arith}
+use Rattle.std.proofs.Common.{◌≡◌, ℕ, zero, suc, ◌+◌, ◌^◌, ◌≤◌, ◌||◌, Bool, true, false, nat_lt, List, [], ◌∷◌, length, refl, ap, ◌∙◌, subst, arith}
 use Rattle.std.specs.Prelude.{Option, Some, None, Result, Ok, Err, All, IfSome, slice_index_or, if◌then◌else◌}
 use Rattle.std.specs.Str.Lines.{strip_carriage_return}
 use Rattle.std.specs.Io.KnownBytes.{Appends}
@@ -18,12 +18,14 @@ use Rattle.afdx_lists.specs.declared.fault.LineFault.{LineFault}
 use Rattle.afdx_lists.specs.declared.fault.LineFault.TheVariants.{TimeTooLarge, TimeBack, BadPort}
 use Rattle.afdx_lists.specs.declared.fault.RunFault.{RunFault}
 use Rattle.afdx_lists.specs.declared.fault.RunFault.TheVariants.{Read, Write, Memory}
-use Rattle.afdx_replay.specs.Listed.{latest_time, with_said, said_after, arrivals_of}
+use Rattle.afdx_replay.specs.Listed.{latest_time, arrival_at, with_said, said_after, arrivals_of}
+use Rattle.afdx_replay.specs.ReplayPromises.{IsListed, ArrivalsAreListed}
+use Rattle.afdx_promises.specs.Lines.{IsIn}
 use Rattle.afdx_replay.specs.PromisedRun.{WritesPromisedSoFar, WritesPromisedSome, PromisedAnswers}
 use Rattle.afdx_replay.specs.Replayed.{WritesSoFar, WritesSome, Answers}
 use Rattle.afdx_replay.specs.Stops.{IsToldOf, StopsAt}
 use Rattle.afdx_replay.specs.declared.summary.Summary.{Summary}
-use Rattle.afdx_replay.proofs.PromisedLemmas.{tells, so-far-told}
+use Rattle.afdx_replay.proofs.PromisedLemmas.{replay-promised, so-far-told, none-counted}
 
 -- ---- the times of a list's arrivals don't decrease
 
@@ -81,6 +83,25 @@ arrivals-timed lines (suc n) = by (said_after (arrivals_of lines n) (slice_index
         let later = says-later (latest_time (arrivals_of lines n)) (slice_index_or lines n []) frame is in
         ((λ k d lt. let most = latest-most (arrivals_of lines n) timed k d lt in omega (arith, most, later)), timed)
 
+-- ---- each arrival is that of its line
+
+pub arrivals-listed : ArrivalsAreListed
+unfolding arrivals_of
+arrivals-listed list zero x h = absurd h
+arrivals-listed list (suc n) x h = by (said_after (arrivals_of list n) (slice_index_or list n [])) refl h (λ later. arrivals-listed list n x later)
+  where
+    earlier : IsListed list n x → IsListed list (suc n) x
+    earlier is = record { place = is.place; below = omega (arith, is.below); frame = is.frame; said = is.said; is = is.is }
+
+    by : (r : Result (Option Frame) LineFault) → said_after (arrivals_of list n) (slice_index_or list n []) ≡ r → IsIn x (with_said (suc n) r (arrivals_of list n)) → (IsIn x (arrivals_of list n) → IsListed list n x) → IsListed list (suc n) x
+    by (Err fault) is g rest = earlier (rest g)
+    by (Ok None) is g rest = earlier (rest g)
+    by (Ok (Some frame)) is (inr later) rest = earlier (rest later)
+    by (Ok (Some frame)) is (inl same) rest = record { place = n; below = omega arith; frame = frame; said = is; is = same ∙ ap (λ k. arrival_at k frame) one }
+      where
+        one : suc n ≡ n + 1
+        one = omega arith
+
 -- ---- what is told
 
 module _ (t : Rows) (bytes : List ℕ) (old new : Option (List ℕ)) (lawful : IsLawful t) (admitted : IsAdmitted t) where
@@ -89,13 +110,13 @@ module _ (t : Rows) (bytes : List ℕ) (old new : Option (List ℕ)) (lawful : I
 
   all-told : (n : ℕ) → WritesSoFar t old new (arrivals_of (lines_of bytes) n) → WritesPromisedSoFar t old new (arrivals_of (lines_of bytes) n)
   all-told n written =
-      let promised = so-far-told t (arrivals_of (lines_of bytes) n) (run-of n) in
-      record { written = subst (Appends old new) promised.text written; promised = promised }
+      let told = so-far-told t (arrivals_of (lines_of bytes) n) (run-of n) in
+      record { lines = told.lines; written = subst (Appends old new) told.written written; promises = told.promises }
 
   some-told : (n : ℕ) → WritesSome t old new (arrivals_of (lines_of bytes) n) → WritesPromisedSome t old new (arrivals_of (lines_of bytes) n)
   some-told n written =
-      let promised = tells t (arrivals_of (lines_of bytes) n) (run-of n) in
-      record { written = subst (AppendsFront old new) promised.text written; promised = promised }
+      let told = replay-promised t (arrivals_of (lines_of bytes) n) (run-of n) in
+      record { lines = told.lines; written = subst (AppendsFront old new) told.written written; promises = told.promises }
 
   told-all : (n : ℕ) → IsToldOf (WritesSoFar t old new) (lines_of bytes) n → IsToldOf (WritesPromisedSoFar t old new) (lines_of bytes) n
   told-all n told = record { within = told.within; sound = told.sound; are_told = all-told n told.are_told }
@@ -113,13 +134,19 @@ module _ (t : Rows) (bytes : List ℕ) (old new : Option (List ℕ)) (lawful : I
   pub promised-answers : (rest : Option (List ℕ)) (r : Result Summary RunFault) → Answers t bytes rest old new r → PromisedAnswers t bytes rest old new r
   promised-answers rest (Err fault) stops = stops-promised rest fault stops
   promised-answers rest (Ok summary) all =
-      let promised = tells t (arrivals_of (lines_of bytes) (length (lines_of bytes))) (run-of (length (lines_of bytes))) in
+      let list = lines_of bytes in
+      let told = replay-promised t (arrivals_of list (length list)) (run-of (length list)) in
+      let none = none-counted t (arrivals_of list (length list)) (run-of (length list)) in
       record {
         sound = all.sound;
-        written = subst (Appends old new) promised.text all.written;
-        promised = promised;
-        none_lost = ap (λ (s : Summary). s.lost) all.counted ∙ promised.none_lost;
-        none_old = ap (λ (s : Summary). s.too_old) all.counted ∙ promised.none_old;
+        listed = arrivals-listed list (length list);
+        lines = told.lines;
+        written = subst (Appends old new) told.written all.written;
+        promises = told.promises;
+        once = told.once;
+        once_so_far = told.once_so_far;
+        none_lost = ap (λ (s : Summary). s.lost) all.counted ∙ none.lost;
+        none_old = ap (λ (s : Summary). s.too_old) all.counted ∙ none.too_old;
       }
 
 -- where the input's bytes are known

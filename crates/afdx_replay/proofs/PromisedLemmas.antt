@@ -1,25 +1,25 @@
 -- What a replay tells of a network whose tables are admitted.
-use Rattle.std.proofs.Common.{◌≡◌, ℕ, ◌≤◌, ◌==◌, ◌&&◌, Bool, true, false, not, List, [], ◌∷◌, ◌++◌, length, refl, sym, ap, ◌∙◌, subst, arith, inl, inr}
+use Rattle.std.proofs.Common.{append_assoc, ◌≡◌, ℕ, ◌≤◌, ◌==◌, ◌&&◌, Bool, true, false, not, List, [], ◌∷◌, ◌++◌, length, refl, sym, ap, ◌∙◌, subst, arith, inl, inr}
 use Rattle.std.specs.Prelude.{Option, Some, None, if◌then◌else◌}
 use Rattle.afdx_frame.proofs.BuiltLemmas.{built_is_computed}
-use Rattle.afdx_config.specs.Lawful.{IsSystem}
+use Rattle.afdx_config.specs.Reading.{system_at_port}
 use Rattle.afdx_config.specs.Rows.{Rows}
-use Rattle.afdx_config.proofs.EachRow.{all_at}
 use Rattle.afdx_police.specs.Arrival.{Arrival}
 use Rattle.afdx_police.specs.declared.shape.Reason.{Reason}
 use Rattle.afdx_switch.specs.Admitted.{IsAdmittedRun}
 use Rattle.afdx_network.specs.Events.{Event, Came, Left, Admission, Departure}
 use Rattle.afdx_network.specs.Order.{IsAmong, events_of, events_so_far}
 use Rattle.afdx_network.proofs.OrderedLemmas.{are-events, are-so-far}
-use Rattle.afdx_promises.specs.Promises.{EventsKeepPromises}
-use Rattle.afdx_promises.specs.Receptions.{AreReceptions, brought, brought_by}
+use Rattle.afdx_promises.specs.NetworkPromises.{EventsKeepPromises, EventsSoFarKeepPromises}
+use Rattle.afdx_promises.specs.Lines.{Line, Departed, Leaving, leaving, with_reception, told_by}
+use Rattle.afdx_promises.specs.Promises.{told, told_so_far}
+use Rattle.afdx_promises.specs.Receptions.{brought, brought_by}
 use Rattle.afdx_promises.proofs.EventLemmas.{as-promised, so-far-promised}
-use Rattle.afdx_promises.proofs.OnceLemmas.{messages-once}
-use Rattle.afdx_promises.proofs.PromiseLemmas.{promises-kept}
+use Rattle.afdx_promises.proofs.ToldLemmas as promise
 use Rattle.afdx_systems.specs.Handovers.{came_to, arrival_of}
-use Rattle.afdx_systems.specs.Receptions.{is_delivered}
+use Rattle.afdx_systems.specs.Receptions.{line_at, reception_line, is_delivered}
 use Rattle.afdx_replay.specs.PoliceText.{verdict_line}
-use Rattle.afdx_replay.specs.ReplayPromises.{lines_of_kept, kept_text, TellsPromises, ReplayIsAsPromised, ReplaySoFarIsAsPromised, TellsEachOnce}
+use Rattle.afdx_replay.specs.ReplayPromises.{line_text, text_of, ReplayIsAsPromised, ReplaySoFarIsAsPromised, NoneIsCounted}
 use Rattle.afdx_replay.specs.ReplayText.{handed_over, frames_left, loss_lines, departure_line, heard, lines_after, replay_text, replay_counts, with_admission, with_departure}
 use Rattle.afdx_replay.specs.declared.summary.Summary.{Summary}
 
@@ -36,17 +36,47 @@ append-none : (xs : List ℕ) → xs ++ [] ≡ xs
 append-none [] = refl
 append-none (x ∷ xs) = ap (λ ys. x ∷ ys) (append-none xs)
 
-lines-kept : (t : Rows) (before : List Event) (e : Event) → AreKept (e ∷ before) → lines_after t before e ≡ lines_of_kept t before e
-lines-kept t before (Came c) kept =
-    ap (λ ports. verdict_line c.arrival.tag c.arrival.side c.reason ++ loss_lines c.arrival.tag c.arrival.side ports) (kept.came c (inl refl))
-    ∙ append-none (verdict_line c.arrival.tag c.arrival.side c.reason)
-lines-kept t before (Left d) kept =
-    ap (λ b. departure_line b d.turn.entry.item.tag d.turn.end d.side d.port ++ heard b t (frames_left before) (handed_over d)) (kept.left d (inl refl))
+-- ---- what is handed over is what the events bring
 
-text-kept : (t : Rows) (events : List Event) → AreKept events → replay_text t events ≡ kept_text t events
-unfolding replay_text kept_text
+handed-are-brought : (port : ℕ) (events : List Event) → came_to port (frames_left events) ≡ brought_by port events
+unfolding came_to brought_by
+handed-are-brought port [] = refl
+handed-are-brought port (Came c ∷ before) = handed-are-brought port before
+handed-are-brought port (Left d ∷ before) = by d.turn.too_old (d.port == port) (handed-are-brought port before)
+  where
+    by : (old here : Bool) → came_to port (frames_left before) ≡ brought_by port before →
+        came_to port (if old then frames_left before else handed_over d ∷ frames_left before) ≡ (if (d.port == port) && not old then brought d.side d.turn ∷ brought_by port before else brought_by port before)
+    by true here rest = rest ∙ sym (ap (λ b. if b then brought d.side d.turn ∷ brought_by port before else brought_by port before) (and-false (d.port == port)))
+      where
+        and-false : (b : Bool) → (b && false) ≡ false
+        and-false true = refl
+        and-false false = refl
+    by false here rest = at (d.port == port)
+      where
+        at : (b : Bool) → (if b then arrival_of (handed_over d) ∷ came_to port (frames_left before) else came_to port (frames_left before)) ≡ (if b && true then brought d.side d.turn ∷ brought_by port before else brought_by port before)
+        at true = ap (λ zs. brought d.side d.turn ∷ zs) rest
+        at false = rest
+
+-- its lines are those that tell it
+lines-kept : (t : Rows) (before : List Event) (e : Event) → AreKept (e ∷ before) → text_of t (told_by t before) ++ lines_after t before e ≡ text_of t (told_by t (e ∷ before))
+unfolding text_of told_by reception_line
+lines-kept t before (Came c) kept =
+    ap (λ ports. text_of t (told_by t before) ++ (verdict_line c.arrival.tag c.arrival.side c.reason ++ loss_lines c.arrival.tag c.arrival.side ports)) (kept.came c (inl refl))
+    ∙ ap (λ zs. text_of t (told_by t before) ++ zs) (append-none (verdict_line c.arrival.tag c.arrival.side c.reason))
+lines-kept t before (Left d) kept =
+    ap (λ b. text_of t (told_by t before) ++ (departure_line b d.turn.entry.item.tag d.turn.end d.side d.port ++ heard b t (frames_left before) (handed_over d))) (kept.left d (inl refl))
+    ∙ ap (λ past. text_of t (told_by t before) ++ (departure_line false d.turn.entry.item.tag d.turn.end d.side d.port ++ line_at t past (handed_over d) (system_at_port t.systems d.port))) (handed-are-brought d.port before)
+    ∙ by (system_at_port t.systems d.port)
+  where
+    by : (o : Option ℕ) → text_of t (told_by t before) ++ (departure_line false d.turn.entry.item.tag d.turn.end d.side d.port ++ line_at t (brought_by d.port before) (handed_over d) o)
+        ≡ text_of t (with_reception t (brought_by d.port before) (leaving d) o (Departed (leaving d) ∷ told_by t before))
+    by None = ap (λ zs. text_of t (told_by t before) ++ zs) (append-none (departure_line false d.turn.entry.item.tag d.turn.end d.side d.port))
+    by (Some k) = sym (append_assoc (text_of t (told_by t before)) (departure_line false d.turn.entry.item.tag d.turn.end d.side d.port) (line_at t (brought_by d.port before) (handed_over d) (Some k)))
+
+text-kept : (t : Rows) (events : List Event) → AreKept events → replay_text t events ≡ text_of t (told_by t events)
+unfolding replay_text text_of told_by
 text-kept t [] kept = refl
-text-kept t (e ∷ before) kept = ap (λ text. text ++ lines_after t before e) (text-kept t before (older e before kept)) ∙ ap (λ lines. kept_text t before ++ lines) (lines-kept t before e kept)
+text-kept t (e ∷ before) kept = ap (λ text. text ++ lines_after t before e) (text-kept t before (older e before kept)) ∙ lines-kept t before e kept
 
 with-none-lost : (s : Summary) (o : Option Reason) (n : ℕ) → n ≡ 0 → s.lost ≡ 0 → (with_admission s o n).lost ≡ 0
 with-none-lost s None n none zero_so_far = omega (arith, none, zero_so_far)
@@ -78,27 +108,6 @@ none-old t [] kept = refl
 none-old t (Came c ∷ before) kept = same-old (replay_counts t before) c.reason (length c.lost) ∙ none-old t before (older (Came c) before kept)
 none-old t (Left d ∷ before) kept = kept-old (replay_counts t before) d.turn.too_old (is_delivered t (frames_left before) (handed_over d)) (kept.left d (inl refl)) ∙ none-old t before (older (Left d) before kept)
 
--- ---- what is handed over is what the events bring
-
-handed-are-brought : (port : ℕ) (events : List Event) → came_to port (frames_left events) ≡ brought_by port events
-unfolding came_to brought_by
-handed-are-brought port [] = refl
-handed-are-brought port (Came c ∷ before) = handed-are-brought port before
-handed-are-brought port (Left d ∷ before) = by d.turn.too_old (d.port == port) (handed-are-brought port before)
-  where
-    by : (old here : Bool) → came_to port (frames_left before) ≡ brought_by port before →
-        came_to port (if old then frames_left before else handed_over d ∷ frames_left before) ≡ (if (d.port == port) && not old then brought d.side d.turn ∷ brought_by port before else brought_by port before)
-    by true here rest = rest ∙ sym (ap (λ b. if b then brought d.side d.turn ∷ brought_by port before else brought_by port before) (and-false (d.port == port)))
-      where
-        and-false : (b : Bool) → (b && false) ≡ false
-        and-false true = refl
-        and-false false = refl
-    by false here rest = at (d.port == port)
-      where
-        at : (b : Bool) → (if b then arrival_of (handed_over d) ∷ came_to port (frames_left before) else came_to port (frames_left before)) ≡ (if b && true then brought d.side d.turn ∷ brought_by port before else brought_by port before)
-        at true = ap (λ zs. brought d.side d.turn ∷ zs) rest
-        at false = rest
-
 -- ---- the laws
 
 module _ (t : Rows) (arrivals : List Arrival) (run : IsAdmittedRun t arrivals) where
@@ -108,32 +117,26 @@ module _ (t : Rows) (arrivals : List Arrival) (run : IsAdmittedRun t arrivals) w
   kept : AreKept (events_of t arrivals)
   kept = record { came = λ c h. (promised.admissions c h).lost; left = λ d h. (promised.departures d h).not_old }
 
-  pub receptions-at : (port : ℕ) → 1 ≤ port → port ≤ 24 → AreReceptions t port arrivals (came_to port (frames_left (events_of t arrivals)))
-  receptions-at port low high = subst (AreReceptions t port arrivals) (sym (handed-are-brought port (events_of t arrivals))) (promised.receptions port low high)
-
-  told-once : TellsEachOnce t arrivals
-  told-once system place s l messages stream stands at goes is fed =
-      let row : IsSystem t.profile s = all_at (IsSystem t.profile) t.systems system s run.lawful.systems.each stands in
-      messages-once built_is_computed t arrivals system place s l messages stream (came_to s.port (frames_left (events_of t arrivals))) run stands at goes is fed (receptions-at s.port row.port.0 row.port.1)
-
-  pub tells : TellsPromises t arrivals
-  tells = record {
-    promises = promises-kept t arrivals run;
-    events = promised;
-    text = text-kept t (events_of t arrivals) kept;
-    none_lost = none-lost t (events_of t arrivals) kept;
-    none_old = none-old t (events_of t arrivals) kept;
-    receptions = receptions-at;
-    once = told-once;
-  }
+  promised_so_far : EventsSoFarKeepPromises t arrivals (events_so_far t arrivals)
+  promised_so_far = so-far-promised t arrivals (events_so_far t arrivals) run (are-so-far t arrivals)
 
 pub replay-promised : ReplayIsAsPromised
-replay-promised t arrivals run = tells t arrivals run
+replay-promised t arrivals run = record {
+  lines = told t arrivals;
+  written = text-kept t (events_of t arrivals) (kept t arrivals run);
+  promises = promise.kept t arrivals run;
+  once = promise.told-once built_is_computed t arrivals run;
+  once_so_far = promise.told-once-so-far built_is_computed t arrivals run;
+}
 
 pub so-far-told : ReplaySoFarIsAsPromised
 so-far-told t arrivals run =
-    let promised = so-far-promised t arrivals (events_so_far t arrivals) run (are-so-far t arrivals) in
+    let promised = promised_so_far t arrivals run in
     record {
-      events = promised;
-      text = text-kept t (events_so_far t arrivals) (record { came = λ c h. (promised.admissions c h).lost; left = λ d h. (promised.departures d h).not_old });
+      lines = told_so_far t arrivals;
+      written = text-kept t (events_so_far t arrivals) (record { came = λ c h. (promised.admissions c h).lost; left = λ d h. (promised.departures d h).not_old });
+      promises = promise.kept-so-far t arrivals run;
     }
+
+pub none-counted : NoneIsCounted
+none-counted t arrivals run = record { lost = none-lost t (events_of t arrivals) (kept t arrivals run); too_old = none-old t (events_of t arrivals) (kept t arrivals run) }

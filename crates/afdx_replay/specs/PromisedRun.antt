@@ -1,4 +1,5 @@
--- What a run writes and answers whose tables are admitted: it replays, and what it tells is as promised.
+-- What a run writes and answers whose tables are admitted: the text of lines that keep the
+-- promises.
 use Rattle.std.specs.Prelude.{ℕ, ◌≡◌, List, length, Option, Result, Ok, Err}
 use Rattle.std.specs.Io.KnownBytes.{Appends}
 use Rattle.afdx_config.specs.Rows.{Rows}
@@ -6,32 +7,47 @@ use Rattle.afdx_police.specs.Arrival.{Arrival}
 use Rattle.afdx_lists.specs.Lines.{lines_of}
 use Rattle.afdx_lists.specs.Calls.{AppendsFront}
 use Rattle.afdx_lists.specs.declared.fault.RunFault.{RunFault}
-use Rattle.afdx_network.specs.Order.{events_of, events_so_far}
+use Rattle.afdx_promises.specs.Lines.{Line}
+use Rattle.afdx_promises.specs.Promises.{KeepsPromises, KeepsPromisesSoFar, EachIsToldOnce, EachIsToldOnceSoFar}
 use Rattle.afdx_replay.specs.Listed.{AreSound, arrivals_of}
-use Rattle.afdx_replay.specs.ReplayPromises.{kept_text, TellsPromises, TellsPromisesSoFar}
+use Rattle.afdx_replay.specs.ReplayPromises.{text_of, AreListed}
 use Rattle.afdx_replay.specs.Stops.{StopsAt}
 use Rattle.afdx_replay.specs.declared.summary.Summary.{Summary}
 
--- the output, which held `old`, now holds after it the verdicts, departures and receptions up to the last of these arrivals,
--- no other lines, and they are as promised
-pub record WritesPromisedSoFar (t : Rows) (old new : Option (List ℕ)) (past : List Arrival) : Type 0 where
-  pub written : Appends old new (kept_text t (events_so_far t past))
-  pub promised : TellsPromisesSoFar t past
-
--- the same of a beginning of all of them
-pub record WritesPromisedSome (t : Rows) (old new : Option (List ℕ)) (past : List Arrival) : Type 0 where
-  pub written : AppendsFront old new (kept_text t (events_of t past))
-  pub promised : TellsPromises t past
-
--- all lines were read, none has a fault, and all is written and as promised; nothing was lost, and nothing was too old
-pub record WritesPromised (t : Rows) (lines : List (List ℕ)) (old new : Option (List ℕ)) (summary : Summary) : Type 0 where
-  pub sound : AreSound lines (length lines)
-  pub written : Appends old new (kept_text t (events_of t (arrivals_of lines (length lines))))
-  pub promised : TellsPromises t (arrivals_of lines (length lines))
+-- all lines of the list were read, none has a fault, and of its arrivals and of all that leaves
+-- the output, which held `old`, now holds after it the text of lines that keep the promises
+pub record WritesPromised (t : Rows) (list : List (List ℕ)) (old new : Option (List ℕ))
+    (summary : Summary) : Type 0 where
+  pub sound : AreSound list (length list)
+  pub listed : AreListed list (length list)
+  pub lines : List Line
+  pub written : Appends old new (text_of t lines)
+  pub promises : KeepsPromises t (arrivals_of list (length list)) lines
+  pub once : EachIsToldOnce t (arrivals_of list (length list)) lines
+  pub once_so_far : EachIsToldOnceSoFar t (arrivals_of list (length list)) lines
   pub none_lost : summary.lost ≡ 0
   pub none_old : summary.too_old ≡ 0
 
--- what a run answers that is given a list of these bytes, after which the input has `rest` and the output `new`
-abbrev pub PromisedAnswers : Rows → List ℕ → Option (List ℕ) → Option (List ℕ) → Option (List ℕ) → Result Summary RunFault → Type 0
-PromisedAnswers t bytes rest old new (Ok summary) = WritesPromised t (lines_of bytes) old new summary
-PromisedAnswers t bytes rest old new (Err fault) = StopsAt (WritesPromisedSoFar t old new) (WritesPromisedSome t old new) bytes rest fault
+-- the same of the lines up to the last of these arrivals
+pub record WritesPromisedSoFar (t : Rows) (old new : Option (List ℕ)) (past : List Arrival) :
+    Type 0 where
+  pub lines : List Line
+  pub written : Appends old new (text_of t lines)
+  pub promises : KeepsPromisesSoFar t past lines
+
+-- a beginning of the text of all lines of these arrivals is written
+pub record WritesPromisedSome (t : Rows) (old new : Option (List ℕ)) (past : List Arrival) :
+    Type 0 where
+  pub lines : List Line
+  pub written : AppendsFront old new (text_of t lines)
+  pub promises : KeepsPromises t past lines
+
+-- What a run answers that is given a list of these bytes, after which the input has `rest` and the
+-- output `new`. After a fault of the list all is told of the lines before it; where a device fails
+-- or memory is refused, as `StopsAt` says.
+abbrev pub PromisedAnswers : Rows → List ℕ → (rest old new : Option (List ℕ)) →
+    Result Summary RunFault → Type 0
+PromisedAnswers t bytes rest old new (Ok summary) =
+    WritesPromised t (lines_of bytes) old new summary
+PromisedAnswers t bytes rest old new (Err fault) =
+    StopsAt (WritesPromisedSoFar t old new) (WritesPromisedSome t old new) bytes rest fault

@@ -1,14 +1,23 @@
 //! What is true of the definitions of a replay.
-ghost use Rattle.afdx_replay.specs.ReplayPromises.{ReplayIsAsPromised, ReplaySoFarIsAsPromised};
+ghost use Rattle.afdx_replay.specs.ReplayPromises.{ArrivalsAreListed, ReplayIsAsPromised, ReplaySoFarIsAsPromised, NoneIsCounted};
 
-/// Where the tables are admitted, what a replay tells is as promised: each virtual link's verdicts, and its frames that leave
-/// each switch port, in order, are the window rule's answer on that link's own arrivals alone; every accepted frame leaves each
-/// of its ports within the link's latency; and what a receiver delivers on a link is the integrity and redundancy rules' answer
-/// on that link's arrivals there alone. No line tells of a loss, or of a frame that is too old. Of a link's lawful
-/// stream on both sides each receiver gets exactly the messages to its UDP ports, each once and in order.
+/// Where the tables are admitted, what a replay tells is as promised: each virtual link's verdicts,
+/// and its frames that leave each switch port, in order, are the window rule's answer on that
+/// link's own arrivals alone; every accepted frame leaves each of its ports within the link's
+/// latency; and what a receiver delivers on a link is the integrity and redundancy rules' answer on
+/// that link's arrivals there alone. No line tells of a loss, or of a frame that is too old. Of a
+/// link's lawful stream on both sides each receiver gets exactly the messages to its UDP ports,
+/// each once and in order.
 ///
-/// So is what it tells up to the last arrival: what has left a port of a link's frames are then the first of its accepted ones.
+/// So is what it tells up to the last arrival: what has left a port of a link's frames are then the
+/// first of its accepted ones.
 pub fn replay_is_as_promised()
     ensures all { ReplayIsAsPromised }
     ensures so_far { ReplaySoFarIsAsPromised }
+    ensures none { NoneIsCounted }
+{}
+
+/// Each arrival of a list is the frame of one of its lines, under the line's number.
+pub fn arrivals_are_listed()
+    ensures { ArrivalsAreListed }
 {}

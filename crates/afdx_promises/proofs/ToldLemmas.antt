@@ -1,0 +1,93 @@
+-- The lines of all events, and those up to the last arrival, keep the promises.
+use Rattle.std.proofs.Common.{◌≡◌, ◌*◌, List, sym, ap, ◌∙◌, subst}
+use Rattle.std.specs.Prelude.{reverse}
+use Rattle.afdx_frame.specs.Reading.{BuiltIsComputed}
+use Rattle.afdx_config.specs.Lawful.{IsSystem}
+use Rattle.afdx_config.specs.Reading.{has_port}
+use Rattle.afdx_config.specs.Rows.{Rows}
+use Rattle.afdx_config.proofs.EachRow.{all_at}
+use Rattle.afdx_police.specs.Arrival.{Arrival}
+use Rattle.afdx_receive.specs.Arrivals.{frames_of}
+use Rattle.afdx_switch.specs.Admitted.{IsAdmittedRun}
+use Rattle.afdx_network.specs.Events.{Event, all_events}
+use Rattle.afdx_network.specs.Order.{IsAmong, AreInOrder, events_of, events_so_far}
+use Rattle.afdx_network.proofs.OrderedLemmas.{are-events, are-so-far}
+use Rattle.afdx_promises.specs.Lines.{judged_in, told_by}
+use Rattle.afdx_promises.specs.Promises.{AreFirstFrames, AreReceived, PromisesAreKept, PromisesAreKeptSoFar, MessagesAreToldOnce, MessagesAreToldOnceSoFar, told, told_so_far}
+use Rattle.afdx_promises.specs.Receptions.{ComeInOrder, answers_by_rules}
+use Rattle.afdx_promises.proofs.EventLemmas.{brought-in-order, events-bring}
+use Rattle.afdx_promises.proofs.HeadlineLemmas.{verdicts-are, frames-are, first-frames, all-are-first, line-of, frame-of, lines-in-time, lines-are-alone}
+use Rattle.afdx_promises.proofs.HeardLemmas.{AreSlots, lines-heard, answers-by-events, messages-by-events}
+use Rattle.afdx_promises.proofs.LineLemmas.{verdicts-told, verdicts-told-so-far, came-told}
+use Rattle.afdx_promises.proofs.OnceLemmas.{messages-once, messages-so-far}
+use Rattle.afdx_promises.proofs.ReceiverLemmas.{answers-own}
+use Rattle.afdx_promises.proofs.RuleLemmas.{verdicts_of}
+
+module _ (t : Rows) (arrivals : List Arrival) (events : List Event) (run : IsAdmittedRun t arrivals) (judged : judged_in (told_by t events) ≡ verdicts_of t arrivals)
+    (own_events : (e : Event) → IsAmong e events → IsAmong e (all_events t arrivals)) (first : AreFirstFrames t (told_by t events)) where
+  are-slots : AreSlots events
+  are-slots = record {
+    kept = λ d h. (line-of t arrivals events run judged own_events first d h).in_time.not_old;
+    frame = λ d h. (_, frame-of t arrivals events run judged own_events first d h);
+  }
+
+  lines-received : AreInOrder events → AreReceived t (told_by t events)
+  lines-received order = record {
+    heard = λ d system answer h. lines-heard t events d system answer h;
+    in_order = λ port. subst ComeInOrder (sym (came-told t port events are-slots.kept)) (brought-in-order port events order);
+    answers = λ system place s l stands at goes.
+        answers-by-events t system s l.vl run.lawful stands events are-slots
+        ∙ answers-own t system place l run.lawful at goes _
+        ∙ ap (λ zs. answers_by_rules (1000 * l.skew_us) (has_port t.ports system l.vl) (frames_of l.vl zs)) (sym (came-told t s.port events are-slots.kept));
+  }
+
+pub kept : PromisesAreKept
+kept t arrivals run =
+    let events = events_of t arrivals in
+    let are = are-events t arrivals in
+    let judged = verdicts-told t arrivals events run.timed are in
+    let frames = frames-are t arrivals run in
+    let first = all-are-first t (told t arrivals) frames in
+    let verdicts = verdicts-are t arrivals (told t arrivals) run.lawful judged in
+    record {
+      verdicts = verdicts;
+      frames = frames;
+      latency = lines-in-time t arrivals events run judged are.own first;
+      receptions = lines-received t arrivals events run judged are.own first are.in_order;
+      isolation = lines-are-alone t arrivals (told t arrivals) verdicts frames;
+    }
+
+pub kept-so-far : PromisesAreKeptSoFar
+kept-so-far t arrivals run =
+    let events = events_so_far t arrivals in
+    let are = are-so-far t arrivals in
+    let judged = verdicts-told-so-far t arrivals events run.timed are in
+    let first = first-frames t arrivals run in
+    let own_events = λ (e : Event) (h : IsAmong e events). (are.own e h).0 in
+    record {
+      verdicts = verdicts-are t arrivals (told_so_far t arrivals) run.lawful judged;
+      frames = first;
+      latency = lines-in-time t arrivals events run judged own_events first;
+      receptions = lines-received t arrivals events run judged own_events first are.in_order;
+    }
+
+-- ---- exactly once
+
+module _ (t : Rows) (arrivals : List Arrival) (run : IsAdmittedRun t arrivals) where
+  slots : AreSlots (events_of t arrivals)
+  slots = are-slots t arrivals (events_of t arrivals) run (verdicts-told t arrivals (events_of t arrivals) run.timed (are-events t arrivals)) (are-events t arrivals).own
+      (all-are-first t (told t arrivals) (frames-are t arrivals run))
+
+pub told-once : BuiltIsComputed → MessagesAreToldOnce
+told-once computed t arrivals run system place s l messages stream stands at goes is fed =
+    let row : IsSystem t.profile s = all_at (IsSystem t.profile) t.systems system s run.lawful.systems.each stands in
+    ap reverse (messages-by-events t system s l.vl run.lawful stands (events_of t arrivals) (slots t arrivals run))
+    ∙ messages-once computed t arrivals system place s l messages stream _ run stands at goes is fed
+    (events-bring t arrivals (events_of t arrivals) s.port run.lawful run.timed row.port.0 row.port.1 (are-events t arrivals))
+
+pub told-once-so-far : BuiltIsComputed → MessagesAreToldOnceSoFar
+told-once-so-far computed t arrivals run system place s l messages stream stands at goes is sent =
+    let row : IsSystem t.profile s = all_at (IsSystem t.profile) t.systems system s run.lawful.systems.each stands in
+    ap reverse (messages-by-events t system s l.vl run.lawful stands (events_of t arrivals) (slots t arrivals run))
+    ∙ messages-so-far computed t arrivals system place s l messages stream _ run stands at goes is sent
+    (events-bring t arrivals (events_of t arrivals) s.port run.lawful run.timed row.port.0 row.port.1 (are-events t arrivals))
