@@ -18,7 +18,8 @@ use Rattle.afdx_lists.specs.declared.fault.LineFault.{LineFault}
 use Rattle.afdx_lists.specs.declared.fault.LineFault.TheVariants.{TimeTooLarge, TimeBack, BadPort}
 use Rattle.afdx_lists.specs.declared.fault.RunFault.{RunFault}
 use Rattle.afdx_lists.specs.declared.fault.RunFault.TheVariants.{Read, Write, Memory}
-use Rattle.afdx_replay.specs.Listed.{latest_time, with_said, said_after, arrivals_of}
+use Rattle.afdx_replay.specs.Lists.{items_of}
+use Rattle.afdx_replay.specs.Listed.{frames, latest_time, with_said, said_after, arrivals_of}
 use Rattle.afdx_config.specs.Reading.{Spells}
 use Rattle.afdx_replay.specs.ReplayCommand.{ReplaysIn, Replays}
 use Rattle.afdx_replay.specs.PromisedRun.{WritesPromisedSoFar, WritesPromisedSome, PromisedAnswers}
@@ -72,7 +73,7 @@ latest-most (x ∷ past) timed zero d lt = omega arith
 latest-most (x ∷ past) timed (suc k) d lt = timed.0 k d (omega (arith, lt))
 
 pub arrivals-timed : (lines : List (List ℕ)) (n : ℕ) → AreTimed (arrivals_of lines n)
-unfolding arrivals_of
+unfolding items_of
 arrivals-timed lines zero = tt
 arrivals-timed lines (suc n) = by (said_after (arrivals_of lines n) (slice_index_or lines n [])) refl (arrivals-timed lines n)
   where
@@ -99,10 +100,10 @@ module _ (t : Rows) (bytes : List ℕ) (old new : Option (List ℕ)) (lawful : I
       let promised = tells t (arrivals_of (lines_of bytes) n) (run-of n) in
       record { written = subst (AppendsFront old new) promised.text written; promised = promised }
 
-  told-all : (n : ℕ) → IsToldOf (WritesSoFar t old new) (lines_of bytes) n → IsToldOf (WritesPromisedSoFar t old new) (lines_of bytes) n
+  told-all : (n : ℕ) → IsToldOf frames (WritesSoFar t old new) (lines_of bytes) n → IsToldOf frames (WritesPromisedSoFar t old new) (lines_of bytes) n
   told-all n told = record { within = told.within; sound = told.sound; are_told = all-told n told.are_told }
 
-  told-some : (n : ℕ) → IsToldOf (WritesSome t old new) (lines_of bytes) n → IsToldOf (WritesPromisedSome t old new) (lines_of bytes) n
+  told-some : (n : ℕ) → IsToldOf frames (WritesSome t old new) (lines_of bytes) n → IsToldOf frames (WritesPromisedSome t old new) (lines_of bytes) n
   told-some n told = record { within = told.within; sound = told.sound; are_told = some-told n told.are_told }
 
   stops-promised : (rest : Option (List ℕ)) (fault : RunFault) → StopsAt (WritesSoFar t old new) (WritesSome t old new) bytes rest fault →

@@ -3,6 +3,7 @@ pub mod TextLemmas
 pub mod ToldLemmas
 pub mod CheckLemmas
 pub mod ReplayLemmas
+pub mod SendLemmas
 pub mod PromisedLemmas
 pub mod LossLemmas
 pub mod AdmittedRunLemmas
