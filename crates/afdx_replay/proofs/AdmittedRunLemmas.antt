@@ -1,5 +1,5 @@
 -- A replay of admitted tables tells what is promised.
-use Rattle.std.proofs.Common.{◌≡◌, ℕ, zero, suc, ◌+◌, ◌^◌, ◌≤◌, ◌||◌, Bool, true, false, nat_lt, List, [], ◌∷◌, length, refl, ap, ◌∙◌, subst, arith}
+use Rattle.std.proofs.Common.{◌≡◌, ℕ, zero, suc, ◌+◌, ◌^◌, ◌≤◌, ◌||◌, Bool, true, false, nat_lt, List, [], ◌∷◌, length, refl, ap, ◌∙◌, subst, arith, inl, inr}
 use Rattle.std.specs.Prelude.{Option, Some, None, Result, Ok, Err, All, IfSome, slice_index_or, if◌then◌else◌}
 use Rattle.std.specs.Str.Lines.{strip_carriage_return}
 use Rattle.std.specs.Io.KnownBytes.{Appends}
@@ -18,7 +18,8 @@ use Rattle.afdx_lists.specs.declared.fault.LineFault.{LineFault}
 use Rattle.afdx_lists.specs.declared.fault.LineFault.TheVariants.{TimeTooLarge, TimeBack, BadPort}
 use Rattle.afdx_lists.specs.declared.fault.RunFault.{RunFault}
 use Rattle.afdx_lists.specs.declared.fault.RunFault.TheVariants.{Read, Write, Memory}
-use Rattle.afdx_replay.specs.Listed.{latest_time, arrival_at, with_said, said_after, arrivals_of}
+use Rattle.afdx_replay.specs.Lists.{items_of}
+use Rattle.afdx_replay.specs.Listed.{frames, latest_time, arrival_at, with_said, said_after, arrivals_of}
 use Rattle.afdx_replay.specs.ReplayPromises.{IsListed, ArrivalsAreListed}
 use Rattle.afdx_promises.specs.Lines.{IsIn}
 use Rattle.afdx_replay.specs.PromisedRun.{WritesPromisedSoFar, WritesPromisedSome, PromisedAnswers}
@@ -72,7 +73,7 @@ latest-most (x ∷ past) timed zero d lt = omega arith
 latest-most (x ∷ past) timed (suc k) d lt = timed.0 k d (omega (arith, lt))
 
 pub arrivals-timed : (lines : List (List ℕ)) (n : ℕ) → AreTimed (arrivals_of lines n)
-unfolding arrivals_of
+unfolding items_of
 arrivals-timed lines zero = tt
 arrivals-timed lines (suc n) = by (said_after (arrivals_of lines n) (slice_index_or lines n [])) refl (arrivals-timed lines n)
   where
@@ -86,7 +87,7 @@ arrivals-timed lines (suc n) = by (said_after (arrivals_of lines n) (slice_index
 -- ---- each arrival is that of its line
 
 pub arrivals-listed : ArrivalsAreListed
-unfolding arrivals_of
+unfolding items_of
 arrivals-listed list zero x h = absurd h
 arrivals-listed list (suc n) x h = by (said_after (arrivals_of list n) (slice_index_or list n [])) refl h (λ later. arrivals-listed list n x later)
   where
@@ -118,10 +119,10 @@ module _ (t : Rows) (bytes : List ℕ) (old new : Option (List ℕ)) (lawful : I
       let told = replay-promised t (arrivals_of (lines_of bytes) n) (run-of n) in
       record { lines = told.lines; written = subst (AppendsFront old new) told.written written; promises = told.promises }
 
-  told-all : (n : ℕ) → IsToldOf (WritesSoFar t old new) (lines_of bytes) n → IsToldOf (WritesPromisedSoFar t old new) (lines_of bytes) n
+  told-all : (n : ℕ) → IsToldOf frames (WritesSoFar t old new) (lines_of bytes) n → IsToldOf frames (WritesPromisedSoFar t old new) (lines_of bytes) n
   told-all n told = record { within = told.within; sound = told.sound; are_told = all-told n told.are_told }
 
-  told-some : (n : ℕ) → IsToldOf (WritesSome t old new) (lines_of bytes) n → IsToldOf (WritesPromisedSome t old new) (lines_of bytes) n
+  told-some : (n : ℕ) → IsToldOf frames (WritesSome t old new) (lines_of bytes) n → IsToldOf frames (WritesPromisedSome t old new) (lines_of bytes) n
   told-some n told = record { within = told.within; sound = told.sound; are_told = some-told n told.are_told }
 
   stops-promised : (rest : Option (List ℕ)) (fault : RunFault) → StopsAt (WritesSoFar t old new) (WritesSome t old new) bytes rest fault →

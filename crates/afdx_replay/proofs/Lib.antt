@@ -4,6 +4,7 @@ pub mod ToldLemmas
 pub mod CheckLemmas
 pub mod RefusalLemmas
 pub mod ReplayLemmas
+pub mod SendLemmas
 pub mod PromisedLemmas
 pub mod LossLemmas
 pub mod AdmittedRunLemmas

@@ -8,7 +8,6 @@ use Rattle.afdx_config.specs.Rows.{Rows}
 use Rattle.afdx_police.specs.Arrival.{Arrival}
 use Rattle.afdx_police.specs.declared.shape.Reason.{Reason}
 use Rattle.afdx_lists.specs.Calls.{AppendsFront}
-use Rattle.afdx_lists.specs.FrameLines.{Frame, line_says}
 use Rattle.afdx_lists.specs.Lines.{lines_of}
 use Rattle.afdx_lists.specs.declared.fault.RunFault.{RunFault}
 use Rattle.afdx_lists.specs.declared.fault.RunFault.TheVariants as run
@@ -26,12 +25,11 @@ use Rattle.afdx_network.proofs.FirstLemmas.{are-first, so-far}
 use Rattle.afdx_network.proofs.OrderedLemmas.{one-order, one-order-so-far, begins}
 use Rattle.afdx_replay.specs.PoliceText.{verdict_line}
 use Rattle.afdx_replay.specs.ReplayText.{handed_over, frames_left, departure_line, heard, lines_after, loss_lines, admission_lines, replay_text, no_counts, with_admission, with_departure, replay_counts, with_lines}
-use Rattle.afdx_replay.specs.Replayed.{WritesSoFar, WritesSome, WritesAll, HasTold, AreTold, ToldAll, TellsDeparture, HasRoom, IsOutputFault}
-use Rattle.afdx_replay.specs.Listed.{arrival_at, arrivals_of}
+use Rattle.afdx_replay.specs.Replayed.{WritesSoFar, WritesSome, WritesAll, HasTold, AreTold, ToldAll, TellsDeparture, HasRoom}
+use Rattle.afdx_replay.specs.Listed.{frames, arrivals_of}
 use Rattle.afdx_replay.specs.declared.summary.Summary.{Summary}
-use Rattle.afdx_replay.specs.Progress.{HasRead, HasCome}
-use Rattle.afdx_replay.specs.Stops.{IsToldOf, StopsAt}
-use Rattle.afdx_replay.proofs.RunLemmas.{IsDone, IsTaken, HasCome-frame, told_so_far}
+use Rattle.afdx_replay.specs.Stops.{StopsAt}
+use Rattle.afdx_replay.proofs.RunLemmas.{IsDone}
 use Rattle.afdx_replay.proofs.TextLemmas.{front-whole, front-more}
 
 abbrev pub hand : Side → ℕ → ℕ → ℕ → List ℕ → HandedOver
@@ -209,7 +207,7 @@ are-told-start t n s output switches hears = record {
   told = record { switches_are = switches; systems_are = hears; counted = sym (counts-start t); written = subst (λ x. Appends output output x) (sym (text-start t)) (Appends-nil output) };
 }
 
-done-all : (t : Rows) (told : List Arrival → Type 0) (counts summary : Summary) (n : ℕ) (lines : List (List ℕ)) (old new : Option (List ℕ)) → IsDone told n lines → ((past : List Arrival) → told past → ToldAll t counts old new past) →
+done-all : (t : Rows) (told : List Arrival → Type 0) (counts summary : Summary) (n : ℕ) (lines : List (List ℕ)) (old new : Option (List ℕ)) → IsDone frames told n lines → ((past : List Arrival) → told past → ToldAll t counts old new past) →
     summary ≡ with_lines counts n → WritesAll t lines old new summary
 done-all t told counts summary n lines old new h all e =
     let a = all (arrivals_of lines (length lines)) h.are_told in
@@ -219,7 +217,7 @@ done-all t told counts summary n lines old new h all e =
       counted = e ∙ ap (λ c. with_lines c n) a.counted ∙ ap (λ k. with_lines (replay_counts t (events_of t (arrivals_of lines (length lines)))) k) h.all;
     }
 
-pub told-done : (t : Rows) (told : List Arrival → Type 0) (counts summary : Summary) (n : ℕ) (input old new : Option (List ℕ)) → IfSome input (λ bytes. IsDone told n (lines_of bytes)) →
+pub told-done : (t : Rows) (told : List Arrival → Type 0) (counts summary : Summary) (n : ℕ) (input old new : Option (List ℕ)) → IfSome input (λ bytes. IsDone frames told n (lines_of bytes)) →
     ((past : List Arrival) → told past → ToldAll t counts old new past) → summary ≡ with_lines counts n → IfSome input (λ bytes. WritesAll t (lines_of bytes) old new summary)
 told-done t told counts summary n None old new h all e = tt
 told-done t told counts summary n (Some bytes) old new h all e = done-all t told counts summary n (lines_of bytes) old new h all e
@@ -251,32 +249,6 @@ stops-start t (Some bytes) after output = (
   0,
   record { within = omega arith; sound = λ k lt. absurd (omega (arith, lt)); are_told = ([], replay_text t (events_of t (arrivals_of (lines_of bytes) 0)), refl, Appends-nil output) },
 )
-
-device : (all beginning : List Arrival → Type 0) (bytes : List ℕ) (after : Option (List ℕ)) (fault : RunFault) → IsOutputFault fault → (n : ℕ) × IsToldOf beginning (lines_of bytes) n → StopsAt all beginning bytes after fault
-device all beginning bytes after fault (inl e) h = subst (λ (s : RunFault). StopsAt all beginning bytes after s) (sym e) h
-device all beginning bytes after fault (inr e) h = subst (λ (s : RunFault). StopsAt all beginning bytes after s) (sym e) h
-
--- a device failed, or memory ran out, after all lines were read
-pub stops-device : (told all beginning : List Arrival → Type 0) (latest n : ℕ) (input left after : Option (List ℕ)) (fault : RunFault) → IsOutputFault fault → HasCome told latest n input left → ((past : List Arrival) → told past → beginning past) →
-    IfSome input (λ bytes. StopsAt all beginning bytes after fault)
-stops-device told all beginning latest n None left after fault is h f = tt
-stops-device told all beginning latest n (Some bytes) None after fault is h f = absurd h
-stops-device told all beginning latest n (Some bytes) (Some rest) after fault is h f = device all beginning bytes after fault is (n, told_so_far told beginning latest n bytes rest h f)
-
--- or while the frame of a line was told
-pub stops-frame : (told all beginning : List Arrival → Type 0) (latest n m : ℕ) (input before rest after : Option (List ℕ)) (line : List ℕ) (frame : Frame) (fault : RunFault) → IsOutputFault fault → m ≡ n + 1 → IsTaken n line before rest →
-    HasCome told latest n input before → line_says latest line ≡ Ok (Some frame) → ((past : List Arrival) → told past → beginning past ⊎ beginning (arrival_at m frame ∷ past)) → IfSome input (λ bytes. StopsAt all beginning bytes after fault)
-stops-frame told all beginning latest n m None before rest after line frame fault is place taken h said f = tt
-stops-frame told all beginning latest n m (Some bytes) None rest after line frame fault is place taken h said f = absurd h
-stops-frame told all beginning latest n m (Some bytes) (Some before) None after line frame fault is place taken h said f = absurd taken.takes
-stops-frame told all beginning latest n m (Some bytes) (Some before) (Some rest) after line frame fault is place taken h said f =
-    device all beginning bytes after fault is (elim (f (arrivals_of (lines_of bytes) n) h.are_told) [
-      | inl b ↦ (n, record { within = h.within; sound = h.sound; are_told = b })
-      | inr b ↦
-          (let with_frame : HasRead (λ past. beginning (arrival_at m frame ∷ past)) latest n (lines_of bytes) before = record { within = h.within; rest_is = h.rest_is; sound = h.sound; latest_is = h.latest_is; are_told = b } in
-          let come = HasCome-frame (λ past. beginning (arrival_at m frame ∷ past)) beginning latest n m (Some bytes) (Some before) (Some rest) line frame place taken with_frame said (λ past told. told) in
-          (m, told_so_far beginning beginning frame.time m bytes rest come (λ past told. told)))
-    ])
 
 pub if-some : {X : Type 0} (o : Option X) (P : X → Type 0) → ((x : X) → P x) → IfSome o P
 if-some None P f = tt

@@ -12,11 +12,12 @@ use Rattle.afdx_police.specs.Rule.{Rule}
 use Rattle.afdx_police.specs.Verdicts.{verdict_in}
 use Rattle.afdx_replay.specs.declared.police_run.Policers.{Policers}
 use Rattle.afdx_replay.specs.declared.summary.Summary.{Summary}
+use Rattle.afdx_replay.specs.Listed.{frames}
 use Rattle.afdx_replay.specs.Stops.{StopsAt}
 use Rattle.afdx_replay.specs.PoliceText.{text_of, accepted_in, dropped_in, verdict_line}
 use Rattle.afdx_replay.specs.Policed.{WritesText, WritesBeginning, WritesAll}
 use Rattle.afdx_replay.specs.Policers.{HaveSeen, HasTold}
-use Rattle.afdx_replay.proofs.RunLemmas.{IsDone, arrivals_of-none}
+use Rattle.afdx_replay.proofs.RunLemmas.{IsDone, stops-at-start}
 use Rattle.afdx_replay.proofs.TextLemmas.{text_of-none, text_of-more, accepted_in-none, dropped_in-none, accepted_in-accepted, accepted_in-dropped, dropped_in-accepted, dropped_in-dropped, front-whole, front-more}
 
 pub told-start : (rule : Rule) (policers : Policers) (output : Option (List ℕ)) → HaveSeen policers rule [] → HasTold rule policers 0 0 output output []
@@ -83,7 +84,7 @@ told-front rule policers accepted dropped old new past h = front-whole old new (
 
 -- all arrivals are told
 done_all : (rule : Rule) (policers : Policers) (accepted dropped n : ℕ) (lines : List (List ℕ)) (old new : Option (List ℕ)) (summary : Summary)
-    → IsDone (HasTold rule policers accepted dropped old new) n lines → summary ≡ record { lines = n; accepted = accepted; dropped = dropped; lost = 0; departed = 0; too_old = 0; delivered = 0 }
+    → IsDone frames (HasTold rule policers accepted dropped old new) n lines → summary ≡ record { lines = n; accepted = accepted; dropped = dropped; lost = 0; departed = 0; too_old = 0; delivered = 0 }
     → WritesAll rule lines old new summary
 done_all rule policers accepted dropped n lines old new summary h e = record {
   sound = h.sound;
@@ -92,20 +93,13 @@ done_all rule policers accepted dropped n lines old new summary h e = record {
 }
 
 pub told-done : (rule : Rule) (policers : Policers) (accepted dropped n : ℕ) (input old new : Option (List ℕ)) (summary : Summary)
-    → IfSome input (λ bytes. IsDone (HasTold rule policers accepted dropped old new) n (lines_of bytes)) → summary ≡ record { lines = n; accepted = accepted; dropped = dropped; lost = 0; departed = 0; too_old = 0; delivered = 0 }
+    → IfSome input (λ bytes. IsDone frames (HasTold rule policers accepted dropped old new) n (lines_of bytes)) → summary ≡ record { lines = n; accepted = accepted; dropped = dropped; lost = 0; departed = 0; too_old = 0; delivered = 0 }
     → IfSome input (λ bytes. WritesAll rule (lines_of bytes) old new summary)
 told-done rule policers accepted dropped n None old new summary h e = tt
 told-done rule policers accepted dropped n (Some bytes) old new summary h e = done_all rule policers accepted dropped n (lines_of bytes) old new summary h e
 
 -- memory ran out before anything was read
 pub stops-start : (rule : Rule) (input after output : Option (List ℕ)) → IfSome input (λ bytes. StopsAt (WritesText rule output output) (WritesBeginning rule output output) bytes after run.Memory)
-stops-start rule None after output = tt
-stops-start rule (Some bytes) after output = (
-  0,
-  record {
-    within = omega arith;
-    sound = λ k lt. absurd (omega arith);
-    are_told = subst (λ (past : List Arrival). WritesBeginning rule output output past) (sym (arrivals_of-none (lines_of bytes)))
-        (subst (λ (t : List ℕ). AppendsFront output output t) (sym (text_of-none rule)) (front-whole output output [] (Appends-nil output)));
-  },
-)
+stops-start rule input after output =
+    stops-at-start frames (WritesText rule output output) (WritesBeginning rule output output) input after
+    (subst (λ (t : List ℕ). AppendsFront output output t) (sym (text_of-none rule)) (front-whole output output [] (Appends-nil output)))

@@ -1,3 +1,4 @@
+pub mod Lists
 pub mod Listed
 pub mod Stops
 pub mod Progress
@@ -11,5 +12,8 @@ pub mod Replayed
 pub mod ReplayPromises
 pub mod PromisedRun
 pub mod ReplayCommand
+pub mod SendEvents
 pub mod SendText
 pub mod Refusals
+pub mod Sent
+pub mod SendProgress

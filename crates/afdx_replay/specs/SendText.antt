@@ -1,21 +1,38 @@
--- The lines of a run that sends.
-use Rattle.std.specs.Prelude.{ℕ, List, ◌++◌, codes}
+-- The text of a run that sends: the lines of each event, in the order of the events. A list of events has the latest first.
+use Rattle.std.specs.Prelude.{ℕ, ◌+◌, List, [], ◌∷◌, ◌++◌, Option, Some, None, codes}
 use Rattle.std.specs.Fmt.{decimal}
+use Rattle.hex.specs.Hex.{encode_lower}
 use Rattle.afdx_frame.specs.declared.link.Side.{Side}
 use Rattle.afdx_frame.specs.declared.link.Side.TheVariants.{A, B}
-use Rattle.hex.specs.Hex.{encode_lower}
+use Rattle.afdx_frame.specs.Grammar.{built_frame}
 use Rattle.afdx_config.specs.LawfulStream.{Sending}
-use Rattle.afdx_replay.specs.PoliceText.{side_text}
+use Rattle.afdx_config.specs.Rows.{SystemRow}
+use Rattle.afdx_port.specs.Schedule.{Turn}
+use Rattle.afdx_send.specs.Frames.{Frame, address_with}
 use Rattle.afdx_send.specs.declared.fault.SendFault.{SendFault}
 use Rattle.afdx_send.specs.declared.fault.SendFault.TheVariants.{NotMyLink, NoSuchSub, Empty, TooLarge, QueueFull, Memory}
+use Rattle.afdx_replay.specs.PoliceText.{side_text}
+use Rattle.afdx_replay.specs.ReplayText.{no_counts}
+use Rattle.afdx_replay.specs.SendEvents.{Event, Emitted, Submitted}
+use Rattle.afdx_replay.specs.declared.summary.Summary.{Summary}
 
 -- a frame on one network, as a line of a replay's list
 abbrev pub sent_line : Side → ℕ → ℕ → List ℕ → List ℕ
-sent_line side port time bytes = codes "R " ++ decimal time ++ codes " " ++ side_text side ++ codes " " ++ decimal port ++ codes " " ++ encode_lower bytes ++ codes "\n"
+sent_line side port time bytes =
+    codes "R " ++ decimal time ++ codes " " ++ side_text side ++ codes " " ++ decimal port ++ codes " "
+    ++ encode_lower bytes ++ codes "\n"
 
 -- the two lines of an emission
 abbrev pub emission_lines : ℕ → Sending → List ℕ
 emission_lines port y = sent_line A port y.time y.a ++ sent_line B port y.time y.b
+
+-- the frame of an emission, as it is built for a network
+abbrev pub frame_on : SystemRow → Side → Frame → List ℕ
+frame_on s side f = built_frame (address_with s.id s.partition f) f.number side f.message.payload
+
+-- what is sent in a slot
+abbrev pub sending_in : SystemRow → Turn Frame → Sending
+sending_in s turn = record { time = turn.end; a = frame_on s A turn.entry.item; b = frame_on s B turn.entry.item }
 
 abbrev pub refusal_text : SendFault → List ℕ
 refusal_text NotMyLink = codes "S1"
@@ -28,3 +45,24 @@ refusal_text Memory = codes "S6"
 -- the line of a message, on line n, that isn't taken
 abbrev pub refusal_line : ℕ → SendFault → List ℕ
 refusal_line n fault = codes "# " ++ decimal n ++ codes " " ++ refusal_text fault ++ codes "\n"
+
+-- the lines of an event: a submission has one only where it is refused
+abbrev pub event_lines : SystemRow → Event → List ℕ
+event_lines s (Emitted turn) = emission_lines s.port (sending_in s turn)
+event_lines s (Submitted x (Some fault)) = refusal_line x.line fault
+event_lines s (Submitted x None) = []
+
+unfoldable pub send_text : SystemRow → List Event → List ℕ
+send_text s [] = []
+send_text s (e ∷ before) = send_text s before ++ event_lines s e
+
+-- one more event is counted: an emission, a message that is taken, or one that is refused
+abbrev pub with_event : Summary → Event → Summary
+with_event c (Emitted turn) = record c { departed = c.departed + 1 }
+with_event c (Submitted x None) = record c { accepted = c.accepted + 1 }
+with_event c (Submitted x (Some fault)) = record c { dropped = c.dropped + 1 }
+
+-- how many events there are of each kind, in no lines
+unfoldable pub send_counts : List Event → Summary
+send_counts [] = no_counts
+send_counts (e ∷ before) = with_event (send_counts before) e

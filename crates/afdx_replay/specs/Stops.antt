@@ -1,23 +1,30 @@
--- Where a run over a list stops with a fault, whatever it tells of the arrivals.
+-- Where a run over a list stops with a fault, whatever kind of list it is, and whatever is told of what it says.
 use Rattle.std.specs.Prelude.{ℕ, ◌≤◌, List, length, Option, Some}
 use Rattle.afdx_police.specs.Arrival.{Arrival}
 use Rattle.afdx_lists.specs.Lines.{lines_of, GaveWhole}
 use Rattle.afdx_lists.specs.declared.fault.RunFault.{RunFault}
 use Rattle.afdx_lists.specs.declared.fault.RunFault.TheVariants.{Read, Write, Memory}
-use Rattle.afdx_replay.specs.Listed.{AreSound, FirstFault, arrivals_of}
+use Rattle.afdx_replay.specs.Lists.{Kind, items_of, HaveNoFault, HaveFirstFault}
+use Rattle.afdx_replay.specs.Listed.{frames}
 
--- the first n lines have no fault, and this is told of their arrivals
-pub record IsToldOf (told : List Arrival → Type 0) (lines : List (List ℕ)) (n : ℕ) : Type 0 where
-  pub within : n ≤ length lines
-  pub sound : AreSound lines n
-  pub are_told : told (arrivals_of lines n)
+module _ {Y X : Type 0} (k : Kind Y X) where
+  -- the first n lines have no fault, and this is told of what they say
+  pub record IsToldOf (told : List X → Type 0) (lines : List (List ℕ)) (n : ℕ) : Type 0 where
+    pub within : n ≤ length lines
+    pub sound : HaveNoFault k lines n
+    pub are_told : told (items_of k lines n)
 
--- A run over the list of these bytes stops with a fault, after which the input has `rest`:
--- after a failed read all is told of the lines whose line feed was read; after a failed write, or want of
--- memory, of some lines a beginning is told; at a fault of the list all is told of the lines before it
+  -- A run over the list of these bytes stops with a fault, after which the input has `rest`:
+  -- after a failed read all is told of the lines whose line feed was read; after a failed write, or want of
+  -- memory, of some lines a beginning is told; at a fault of the list all is told of the lines before it
+  abbrev pub StopsIn : (all beginning : List X → Type 0) → List ℕ → Option (List ℕ) → RunFault → Type 0
+  StopsIn all beginning bytes rest Read =
+      (n : ℕ) × GaveWhole (Some bytes) rest n × IsToldOf all (lines_of bytes) n
+  StopsIn all beginning bytes rest Write = (n : ℕ) × IsToldOf beginning (lines_of bytes) n
+  StopsIn all beginning bytes rest Memory = (n : ℕ) × IsToldOf beginning (lines_of bytes) n
+  StopsIn all beginning bytes rest fault =
+      (n : ℕ) × HaveFirstFault k (lines_of bytes) n fault × all (items_of k (lines_of bytes) n)
+
+-- a run over a list of frames
 abbrev pub StopsAt : (all beginning : List Arrival → Type 0) → List ℕ → Option (List ℕ) → RunFault → Type 0
-StopsAt all beginning bytes rest Read =
-    (n : ℕ) × GaveWhole (Some bytes) rest n × IsToldOf all (lines_of bytes) n
-StopsAt all beginning bytes rest Write = (n : ℕ) × IsToldOf beginning (lines_of bytes) n
-StopsAt all beginning bytes rest Memory = (n : ℕ) × IsToldOf beginning (lines_of bytes) n
-StopsAt all beginning bytes rest fault = (n : ℕ) × FirstFault (lines_of bytes) n fault × all (arrivals_of (lines_of bytes) n)
+StopsAt all beginning bytes rest fault = StopsIn frames all beginning bytes rest fault

@@ -1,38 +1,57 @@
 //! A run that sends the messages of a list.
-ghost use Rattle.std.specs.Prelude.{◌≡◌, ◌<◌, ◌≤◌, ◌+◌, ◌^◌, IfOk, OnOk, length, true, false, string_bytes};
+ghost use Rattle.std.specs.Prelude.{◌≡◌, ◌<◌, ◌≤◌, ◌+◌, ◌^◌, ◌⊎◌, ◌++◌, ◌∷◌, ℕ, List, Option, Some, IfOk, IfErr, IfSome, OnOk, OnErr, length, slice_get, true, false};
+ghost use Rattle.afdx_config.specs.Rows.{SystemRow};
+ghost use Rattle.afdx_lists.specs.Texts.{text_bytes};
 ghost use Rattle.afdx_lists.specs.Calls.{is_failed_read, is_failed_write};
-ghost use Rattle.afdx_send.specs.Sender.{IsQuiet, frames_held, last_time};
-ghost use Rattle.afdx_replay.specs.SendText.{sent_line, refusal_line, refusal_text};
+ghost use Rattle.afdx_send.specs.Sender.{StandsFor, IsQuiet, frames_held, last_time, sending_of};
+ghost use Rattle.afdx_replay.specs.SendEvents.{Handed as HandedSubmission, Event, submissions_in, calls_in};
+ghost use Rattle.afdx_replay.specs.SendText.{sent_line, emission_lines, refusal_line, refusal_text, send_counts};
+ghost use Rattle.afdx_replay.specs.Sent.{Source, source_at, WritesSome, Answers};
+ghost use Rattle.afdx_replay.specs.SendProgress.{handed_at, HasTold, AreTold, ToldUntil, TellsSubmission, HasRoom};
 
 use crate::summary::Summary;
 use crate::verdict::side_letter;
 use afdx_admit::Admitted;
 use afdx_config::SystemId;
 use afdx_frame::{Side, VlId};
-use afdx_lists::{LineReader, RunFault, Watched, read_submission_line, write_text};
-use afdx_send::{SendFault, Sender};
+use afdx_lists::{Handed, LineReader, RunFault, Text, Watched, read_submission_line, write_text};
+use afdx_send::{Emission, SendFault, Sender};
 use std::alloc::{AllocError, Global};
 use std::io::{Read, Write};
 
 /// By then each message of a list has been emitted, in ns.
 const LAST: u64 = 1_200_000_000_000_000;
 
-/// Puts the line of a frame on one network in the place of `text`.
+/// Adds the line of a frame on one network.
 fn put_sent(
-    alloc: Global,
-    text: &mut String,
+    text: &mut Text,
     time: u64,
     side: Side,
     port: u8,
     bytes: &[u8],
 ) -> Result<(), AllocError>
-    ensures { OnOk result (string_bytes text.new ≡ sent_line side port time bytes.now) }
+    ensures { OnOk result (text_bytes text.new ≡ text_bytes text.old ++ sent_line side port time bytes.now) }
 {
-    let side = side_letter(side);
-    let digits = hex::encode(alloc, bytes)?;
-    let digits = digits.as_str();
+    let letter = side_letter(side);
+    text.put(b"R ")?;
+    text.put_number(time)?;
+    text.put(b" ")?;
+    text.put(letter.as_bytes())?;
+    text.put(b" ")?;
+    text.put_number(u64::from(port))?;
+    text.put(b" ")?;
+    text.put_digits(bytes)?;
+    text.put(b"\n")
+}
+
+/// Puts the lines of an emission in the place of `text`.
+fn put_emission(text: &mut Text, port: u8, emission: &Emission) -> Result<(), AllocError>
+    ensures { OnOk result (text_bytes text.new ≡ emission_lines port (sending_of emission.now)) }
+{
+    let time = emission.time;
     text.clear();
-    write!(text, "R {time} {side} {port} {digits}\n")
+    put_sent(text, time, Side::A, port, emission.a.as_slice())?;
+    put_sent(text, time, Side::B, port, emission.b.as_slice())
 }
 
 /// How a refusal is written.
@@ -49,64 +68,151 @@ fn refusal_words(fault: SendFault) -> &'static str
     }
 }
 
+/// Whether it isn't the message that was refused, but memory.
+fn is_memory(fault: SendFault) -> bool
+    ensures { result ≡ false → fault ≡ SendFault.Memory → ⊥ }
+{
+    match fault {
+        SendFault::Memory => true,
+        SendFault::NotMyLink
+        | SendFault::NoSuchSub
+        | SendFault::Empty
+        | SendFault::TooLarge
+        | SendFault::QueueFull => false,
+    }
+}
+
 /// Puts the line of a refused message in the place of `text`.
-fn put_refusal(text: &mut String, n: u64, fault: SendFault) -> Result<(), AllocError>
-    ensures { OnOk result (string_bytes text.new ≡ refusal_line n fault) }
+fn put_refusal(text: &mut Text, n: u64, fault: SendFault) -> Result<(), AllocError>
+    ensures { OnOk result (text_bytes text.new ≡ refusal_line n fault) }
 {
     let words = refusal_words(fault);
     text.clear();
-    write!(text, "# {n} {words}\n")
+    text.put(b"# ")?;
+    text.put_number(n)?;
+    text.put(b" ")?;
+    text.put(words.as_bytes())?;
+    text.put(b"\n")
 }
 
-/// Writes all emissions that end by then, and counts them.
-fn send_until<W: Write>(
-    alloc: Global,
-    sender: &mut Sender,
-    until: u64,
+/// What a run that sends works with.
+#[derive(Drop)]
+struct Sending {
+    sender: Sender,
+    /// The switch port of its system.
     port: u8,
-    text: &mut String,
-    output: &mut Watched<W>,
-) -> Result<u64, RunFault>
-    requires clock { last_time sender.old ≤ until }
-    requires few { frames_held sender.old ≤ 1000000 }
-    requires sound { output.old.failed ≡ false }
-    ensures clock { OnOk result (last_time sender.new ≡ until) }
-    ensures quiet { OnOk result (IsQuiet sender.new until) }
-    ensures held { IfOk result (λ n. frames_held sender.new + n ≡ frames_held sender.old) }
-    ensures failed { output.new.failed ≡ is_failed_write result }
-    ensures read { is_failed_read result ≡ false }
-{
-    let mut count = 0u64;
-    while let Some(emission) = sender.emit(until)? {
-        put_sent(
-            alloc,
-            text,
-            emission.time,
-            Side::A,
-            port,
-            emission.a.as_slice(),
-        )?;
-        write_text(output, text.as_str().as_bytes())?;
-        put_sent(
-            alloc,
-            text,
-            emission.time,
-            Side::B,
-            port,
-            emission.b.as_slice(),
-        )?;
-        write_text(output, text.as_str().as_bytes())?;
-        count += 1;
+    text: Text,
+    counts: Summary,
+}
+
+impl Sending {
+    /// Tells what is emitted by `until`.
+    fn tell_emissions<W: Write>(
+        &mut self,
+        until: u64,
+        output: &mut Watched<W>,
+    ) -> Result<(), RunFault>
+        requires clock { last_time self.old.sender ≤ until }
+        requires room { (n : ℕ) × (n ≤ 1000000) × HasRoom self.old.counts (frames_held self.old.sender) n }
+        requires sound { output.old.failed ≡ false }
+        ensures failed { output.new.failed ≡ is_failed_write result }
+        ensures fault { IfErr result (λ fault. (fault ≡ RunFault.Write) ⊎ (fault ≡ RunFault.Memory)) }
+        ensures clock { OnOk result (last_time self.new.sender ≡ until) }
+        ensures quiet { OnOk result (IsQuiet self.new.sender until) }
+        ensures room { (n : ℕ) → HasRoom self.old.counts (frames_held self.old.sender) n →
+            OnOk result (HasRoom self.new.counts (frames_held self.new.sender) n) }
+        ensures told { (s : Source) (events : List Event) (start : Option (List ℕ)) →
+            HasTold s self.old.sender self.old.port self.old.counts start (W.contents output.old.inner) events →
+            OnOk result (ToldUntil s until self.new.sender self.new.port self.new.counts start (W.contents output.new.inner) events) }
+        ensures some { (s : Source) (events : List Event) (start : Option (List ℕ)) →
+            HasTold s self.old.sender self.old.port self.old.counts start (W.contents output.old.inner) events →
+            OnErr result (WritesSome s start (W.contents output.new.inner) (submissions_in events)) }
+    {
+        while let Some(emission) = self.sender.emit(until)? {
+            put_emission(&mut self.text, self.port, &emission)?;
+            write_text(output, self.text.as_bytes())?;
+            self.counts.departed += 1;
+        }
+        Ok(())
     }
-    Ok(count)
+
+    /// Hands a message to the sender, and counts it. It says why it was refused, if it was.
+    fn submit(&mut self, handed: &Handed, payload: &[u8]) -> Result<Option<SendFault>, AllocError>
+        requires limit { handed.now.time ≤ 10 ^ 15 }
+        requires clock { last_time self.old.sender ≤ handed.now.time }
+        requires quiet { IsQuiet self.old.sender handed.now.time }
+        requires room { (n : ℕ) × (n < 1000000) × HasRoom self.old.counts (frames_held self.old.sender) n }
+        ensures port { self.new.port ≡ self.old.port }
+        ensures clock { last_time self.new.sender ≡ handed.now.time }
+        ensures room { (n : ℕ) → HasRoom self.old.counts (frames_held self.old.sender) n →
+            OnOk result (HasRoom self.new.counts (frames_held self.new.sender) (n + 1)) }
+        ensures told { (s : Source) (before : List Event) (n : ℕ) →
+            StandsFor self.old.sender (calls_in s.row s.links before (last_time self.old.sender)) →
+            self.old.counts ≡ send_counts before →
+            IfOk result (λ fault. TellsSubmission s self.new.sender self.new.counts before (handed_at n handed.now payload.now) fault) }
+    {
+        match self.sender.submit(
+            handed.time,
+            VlId(handed.vl),
+            handed.sub,
+            handed.udp,
+            payload,
+        ) {
+            Ok(()) => {
+                self.counts.accepted += 1;
+                Ok(None)
+            }
+            Err(fault) => {
+                if is_memory(fault) {
+                    return Err(AllocError);
+                }
+                self.counts.dropped += 1;
+                Ok(Some(fault))
+            }
+        }
+    }
+
+    /// Tells what is emitted before a submission, and then why it was refused, if it was.
+    fn tell_submission<W: Write>(
+        &mut self,
+        n: u64,
+        handed: &Handed,
+        payload: &[u8],
+        output: &mut Watched<W>,
+    ) -> Result<(), RunFault>
+        requires limit { handed.now.time ≤ 10 ^ 15 }
+        requires clock { last_time self.old.sender ≤ handed.now.time }
+        requires room { (m : ℕ) × (m < 1000000) × HasRoom self.old.counts (frames_held self.old.sender) m }
+        requires sound { output.old.failed ≡ false }
+        ensures failed { output.new.failed ≡ is_failed_write result }
+        ensures fault { IfErr result (λ fault. (fault ≡ RunFault.Write) ⊎ (fault ≡ RunFault.Memory)) }
+        ensures clock { OnOk result (last_time self.new.sender ≡ handed.now.time) }
+        ensures room { (m : ℕ) → HasRoom self.old.counts (frames_held self.old.sender) m →
+            OnOk result (HasRoom self.new.counts (frames_held self.new.sender) (m + 1)) }
+        ensures told { (s : Source) (start : Option (List ℕ)) (past : List HandedSubmission) →
+            AreTold s self.old.sender self.old.port self.old.counts start (W.contents output.old.inner) past →
+            OnOk result (AreTold s self.new.sender self.new.port self.new.counts start (W.contents output.new.inner)
+            (handed_at n handed.now payload.now ∷ past)) }
+        ensures some { (s : Source) (start : Option (List ℕ)) (past : List HandedSubmission) →
+            AreTold s self.old.sender self.old.port self.old.counts start (W.contents output.old.inner) past →
+            OnErr result (WritesSome s start (W.contents output.new.inner) past
+            ⊎ WritesSome s start (W.contents output.new.inner) (handed_at n handed.now payload.now ∷ past)) }
+    {
+        self.tell_emissions(handed.time, output)?;
+        if let Some(fault) = self.submit(handed, payload)? {
+            put_refusal(&mut self.text, n, fault)?;
+            write_text(output, self.text.as_bytes())?;
+        }
+        Ok(())
+    }
 }
 
 /// Sends the messages of a list from one system, and writes its frames for both networks as the list of a replay.
 ///
 /// Before a message is handed over, the emissions that end by its time are written; a message that isn't taken gets
 /// a line that says why. At the end the remaining emissions are written. A list that can't be read ends the run with
-/// its first fault. `RunFault::Read` and `RunFault::Write` come exactly where the input's or the output's device
-/// failed; neither is tried again.
+/// its first fault; the text of the submissions before it stands written. `RunFault::Read` and `RunFault::Write` come
+/// exactly where the input's or the output's device failed; neither is tried again.
 pub fn run_send<R: Read, W: Write>(
     alloc: Global,
     tables: &Admitted,
@@ -122,16 +228,31 @@ pub fn run_send<R: Read, W: Write>(
     ensures read { input.new.failed ≡ is_failed_read result }
     ensures write { output.new.failed ≡ is_failed_write result }
     ensures calls { input.new.calls ≤ input.old.calls + 4201000001 }
+
+    // Where the input's bytes are known: what is answered and written for the list that they are.
+    ensures answer { (row : SystemRow) → slice_get tables.now.systems system.0 ≡ Some row →
+        IfSome (R.remaining input.old.inner) (λ bytes.
+        Answers (source_at tables.now system.0 row) bytes (R.remaining input.new.inner)
+        (W.contents output.old.inner) (W.contents output.new.inner) result) }
 {
     let mut reader = LineReader::new(alloc)?;
-    let mut sender = Sender::new(alloc, tables, system)?;
-    let port = tables.tables().system(system).port;
+    let sender = Sender::new(alloc, tables, system)?;
+    let mut sending = Sending {
+        sender,
+        port: tables.tables().system(system).port,
+        text: Text::new(alloc),
+        counts: Summary {
+            lines: 0,
+            accepted: 0,
+            dropped: 0,
+            lost: 0,
+            departed: 0,
+            too_old: 0,
+            delivered: 0,
+        },
+    };
     let mut payload = Vec::new(alloc);
-    let mut text = String::new(alloc);
     let mut latest = 0u64;
-    let mut accepted = 0u64;
-    let mut dropped = 0u64;
-    let mut departed = 0u64;
     while reader.next_line(input)? {
         let n = reader.lines();
         let handed = match read_submission_line(reader.line(), latest, &mut payload) {
@@ -140,31 +261,10 @@ pub fn run_send<R: Read, W: Write>(
             Err(fault) => return Err(fault.at_line(n)),
         };
         latest = handed.time;
-        departed += send_until(alloc, &mut sender, latest, port, &mut text, output)?;
-        match sender.submit(
-            latest,
-            VlId(handed.vl),
-            handed.sub,
-            handed.udp,
-            payload.as_slice(),
-        ) {
-            Ok(()) => accepted += 1,
-            Err(SendFault::Memory) => return Err(RunFault::Memory),
-            Err(fault) => {
-                dropped += 1;
-                put_refusal(&mut text, n, fault)?;
-                write_text(output, text.as_str().as_bytes())?;
-            }
-        }
+        sending.tell_submission(n, &handed, payload.as_slice(), output)?;
     }
-    departed += send_until(alloc, &mut sender, LAST, port, &mut text, output)?;
-    Ok(Summary {
-        lines: reader.lines(),
-        accepted,
-        dropped,
-        lost: 0,
-        departed,
-        too_old: 0,
-        delivered: 0,
-    })
+    sending.tell_emissions(LAST, output)?;
+    let mut summary = sending.counts;
+    summary.lines = reader.lines();
+    Ok(summary)
 }

@@ -4,8 +4,8 @@ use Rattle.afdx_lists.specs.FrameLines.{frame_of}
 use Rattle.afdx_lists.proofs.WholeLemmas.{HasTaken-start, HasTaken-next, HasTaken-stop}
 use Rattle.afdx_replay.specs.PoliceText.{verdict_line}
 use Rattle.afdx_replay.specs.Policed.{WritesText, WritesBeginning}
-use Rattle.afdx_replay.specs.Listed.{arrival_at}
-use Rattle.afdx_replay.proofs.RunLemmas.{HasCome-start, HasCome-skip, HasCome-frame, HasCome-done, stops-memory, stops-write, stops-line, stops-reader}
+use Rattle.afdx_replay.specs.Listed.{frames, arrival_at}
+use Rattle.afdx_replay.proofs.RunLemmas.{HasCome-start, HasCome-skip, HasCome-item, HasCome-done, stops-memory, stops-write, stops-line, stops-reader}
 use Rattle.afdx_replay.proofs.ToldLemmas.{told-start, told-next, told-front, told-text, told-done, begun-next, stops-start, counts_if, counts-one}
 use Rattle.afdx_replay.proofs.police_run.run_police.Goals as goal
 
@@ -25,7 +25,7 @@ loop-text-init g c = record {
   counted = omega arith;
   calls = omega arith;
   taken = λ e. HasTaken-start _ _ _ c.in_ok-reader.ensures.unread c.in_ok-reader.ensures.lines;
-  come = HasCome-start _ _ _ _ c.in_ok-reader.ensures.lines c.in_ok-reader.ensures.unread (told-start _ _ _ c.new-policers.ensures.seen);
+  come = HasCome-start frames _ _ _ _ c.in_ok-reader.ensures.lines c.in_ok-reader.ensures.unread (told-start _ _ _ c.new-policers.ensures.seen);
 }
 
 pub loop-text-preserved-in-Ok-None : goal.loop-text-preserved-in-Ok-None
@@ -41,7 +41,7 @@ loop-text-preserved-in-Ok-None g c =
       counted = omega (arith, lines.0, c.loop-text.invariant.counted);
       calls = omega (arith, lines.0, c.next_line.ensures.calls, c.loop-text.invariant.calls);
       taken = HasTaken-next _ _ _ _ _ _ _ _ _ _ lines.0 c.loop-text.invariant.taken (c.next_line.ensures.whole (search rules));
-      come = HasCome-skip _ _ _ _ _ _ _ _ lines.0 (record { few = omega (arith, lines.0, lines.1); short = c.next_line.ensures.short (search rules); takes = c.next_line.ensures.line (search rules) })
+      come = HasCome-skip frames _ _ _ _ _ _ _ _ lines.0 (record { few = omega (arith, lines.0, lines.1); short = c.next_line.ensures.short (search rules); takes = c.next_line.ensures.line (search rules) })
           c.loop-text.invariant.come (rw (c.line.ensures, c.in-Ok-None.field-0-is) at c.in-Ok-None.ensures.ok);
     }
 
@@ -50,7 +50,7 @@ returns-in_err-next_line-clause-answer g c =
     let rule = rule_of c.args.rule.now in
     let old = g.W.Write.contents c.args.output.now.inner in
     let new = g.W.Write.contents c.loop-text.output.inner in
-    let stop = stops-reader _ (WritesText rule old new) (WritesBeginning rule old new) _ _ _ _ (g.R.Read.remaining c.next_line.new.input.inner) c.in_err-next_line.field-0.0
+    let stop = stops-reader frames _ (WritesText rule old new) (WritesBeginning rule old new) _ _ _ _ (g.R.Read.remaining c.next_line.new.input.inner) c.in_err-next_line.field-0.0
     c.loop-text.invariant.come c.in_err-next_line.ensures.fault
     (λ e. let failed = c.in_err-next_line.ensures.read (ap Err e) in HasTaken-stop _ _ _ _ _ _ failed.1 (c.loop-text.invariant.taken failed.0) failed.2)
     (λ past told. told-text _ _ _ _ _ _ past told) in
@@ -59,7 +59,7 @@ returns-in_err-next_line-clause-answer g c =
 pub returns-in-Err-clause-answer : goal.returns-in-Err-clause-answer
 returns-in-Err-clause-answer g c =
     let lines = c.next_line.ensures.lines (search rules) in
-    stops-line _ _ _ _ _ _ _ _ _ _ _ c.in-Err.fault _ (c.lines-n.ensures ∙ lines.0) c.at_line.ensures (rw c.line.ensures at c.in-Err.ensures.err)
+    stops-line frames _ _ _ _ _ _ _ _ _ _ _ c.in-Err.fault _ (c.lines-n.ensures ∙ lines.0) c.at_line.ensures (rw c.line.ensures at c.in-Err.ensures.err)
     (record { few = omega (arith, lines.0, lines.1); short = c.next_line.ensures.short (search rules); takes = c.next_line.ensures.line (search rules) })
     c.loop-text.invariant.come (λ past told. told-text _ _ _ _ _ _ past told) (λ past told. told-front _ _ _ _ _ _ past told)
 
@@ -68,14 +68,14 @@ returns-in_err-put_verdict-clause-answer g c =
     let rule = rule_of c.args.rule.now in
     let old = g.W.Write.contents c.args.output.now.inner in
     let new = g.W.Write.contents c.loop-text.output.inner in
-    let stop = stops-memory _ (WritesText rule old new) (WritesBeginning rule old new) _ _ _ _ (g.R.Read.remaining c.next_line.new.input.inner)
+    let stop = stops-memory frames _ (WritesText rule old new) (WritesBeginning rule old new) _ _ _ _ (g.R.Read.remaining c.next_line.new.input.inner)
     c.loop-text.invariant.come (λ past told. told-front _ _ _ _ _ _ past told) in
     search rules
 
 pub returns-clause-answer : goal.returns-clause-answer
 returns-clause-answer g c =
     let last = c.next_line.ensures.last (search rules) in
-    told-done _ _ _ _ _ _ _ _ _ (HasCome-done _ _ _ _ _ c.loop-text.invariant.come last.1) (search rules)
+    told-done _ _ _ _ _ _ _ _ _ (HasCome-done frames _ _ _ _ _ c.loop-text.invariant.come last.1) (search rules)
 
 pub loop-text-preserved : goal.loop-text-preserved
 loop-text-preserved g c =
@@ -92,7 +92,7 @@ loop-text-preserved g c =
       counted = omega (arith, lines.0, counts-one _ _ _ _ _ counts, c.loop-text.invariant.counted);
       calls = omega (arith, lines.0, c.next_line.ensures.calls, c.loop-text.invariant.calls);
       taken = HasTaken-next _ _ _ _ _ _ _ _ _ _ lines.0 c.loop-text.invariant.taken (c.next_line.ensures.whole (search rules));
-      come = HasCome-frame _ _ _ _ _ _ _ _ _ (frame_of c.in-Ok-Some.heading c.read_frame_line.new.frame.items) lines.0
+      come = HasCome-item frames _ _ _ _ _ _ _ _ _ (frame_of c.in-Ok-Some.heading c.read_frame_line.new.frame.items) lines.0
           (record { few = omega (arith, lines.0, lines.1); short = c.next_line.ensures.short (search rules); takes = c.next_line.ensures.line (search rules) })
           c.loop-text.invariant.come (rw (c.line.ensures, c.in-Ok-Some.field-0-is) at c.in-Ok-Some.ensures.ok)
           (λ past told. told-next _ _ _ _ _ _ _ _ _ _ (arrival_at c.next_line.new.self.lines (frame_of c.in-Ok-Some.heading c.read_frame_line.new.frame.items)) past _ _ told
@@ -108,11 +108,11 @@ returns-in_err-write_text-clause-answer g c =
     let old = g.W.Write.contents c.args.output.now.inner in
     let new = g.W.Write.contents c.write_text.new.output.inner in
     let text = c.as_bytes.ensures ∙ c.in_ok-put_verdict.ensures ∙ ap (λ n. verdict_line n c.in-Ok-Some.heading.side c.verdict-reason.result) c.lines-n.ensures in
-    let come = HasCome-frame _ (WritesBeginning rule old new) _ _ _ _ _ _ _ (frame_of c.in-Ok-Some.heading c.read_frame_line.new.frame.items) lines.0
+    let come = HasCome-item frames _ (WritesBeginning rule old new) _ _ _ _ _ _ _ (frame_of c.in-Ok-Some.heading c.read_frame_line.new.frame.items) lines.0
     (record { few = omega (arith, lines.0, lines.1); short = c.next_line.ensures.short (search rules); takes = c.next_line.ensures.line (search rules) })
     c.loop-text.invariant.come (rw (c.line.ensures, c.in-Ok-Some.field-0-is) at c.in-Ok-Some.ensures.ok)
     (λ past told. begun-next _ _ _ _ _ _ _ (arrival_at c.next_line.new.self.lines (frame_of c.in-Ok-Some.heading c.read_frame_line.new.frame.items)) past _ _ told
     (rw c.as_slice.ensures.value at (c.verdict-reason.ensures.answer rule past c.next_line.new.self.lines told.seen))
     text c.in_err-write_text.ensures.front) in
-    let stop = stops-write _ (WritesText rule old new) (WritesBeginning rule old new) _ _ _ _ (g.R.Read.remaining c.next_line.new.input.inner) come (λ past told. told) in
+    let stop = stops-write frames _ (WritesText rule old new) (WritesBeginning rule old new) _ _ _ _ (g.R.Read.remaining c.next_line.new.input.inner) come (λ past told. told) in
     search rules
