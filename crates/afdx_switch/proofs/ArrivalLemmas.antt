@@ -135,27 +135,30 @@ module _ (t : Rows) (x : Arrival) (past : List Arrival) where
         let limit : option_map (λ n. min 100000000 n) longest_wait ≡ n.row.longest_wait = limit-is longest_wait small ∙ same_wait in
         rw (length-is, limit, same_priority, is-carried) refl
 
-    shared : (port : ℕ) (goes : Bool) → n.row.goes_to port ≡ goes →
-        with_share x.time priority (byte_ns_at t port) t.buffer (entries_at t x.side port past) (share_of (carried_with x.tag longest_wait x.bytes) goes) ≡ entries_at t x.side port (x ∷ past)
-    shared port true goes =
-        ap (λ e. with_offer (byte_ns_at t port) t.buffer (entries_at t x.side port past) e) entry-is
+    shared : (port buffer : ℕ) (goes : Bool) → n.row.goes_to port ≡ goes → (goes ≡ true → buffer ≡ t.buffer) →
+        with_share x.time priority (byte_ns_at t port) buffer (entries_at t x.side port past) (share_of (carried_with x.tag longest_wait x.bytes) goes) ≡ entries_at t x.side port (x ∷ past)
+    shared port buffer true goes own =
+        ap (λ b. with_offer (byte_ns_at t port) b (entries_at t x.side port past) (share_entry x.time priority (carried_with x.tag longest_wait x.bytes))) (own refl)
+        ∙ ap (λ e. with_offer (byte_ns_at t port) t.buffer (entries_at t x.side port past) e) entry-is
         ∙ sym (entries-with port (Some n.row) (accepted-sent port place n accepted ∙ ap (λ b. if b then Some n.row else None) goes))
-    shared port false stays =
+    shared port buffer false stays own =
         sym (entries-kept port (accepted-sent port place n accepted ∙ ap (λ b. if b then Some n.row else None) stays))
 
-    pub with-share-is : (port : ℕ) →
-        with_share x.time priority (byte_ns_at t port) t.buffer (entries_at t x.side port past) (share_of (carried_with x.tag longest_wait x.bytes) (n.row.goes_to port)) ≡ entries_at t x.side port (x ∷ past)
-    with-share-is port = shared port (n.row.goes_to port) refl
+    -- with a buffer that is the tables' where the link goes
+    pub with-share-is : (port buffer : ℕ) → (n.row.goes_to port ≡ true → buffer ≡ t.buffer) →
+        with_share x.time priority (byte_ns_at t port) buffer (entries_at t x.side port past) (share_of (carried_with x.tag longest_wait x.bytes) (n.row.goes_to port)) ≡ entries_at t x.side port (x ∷ past)
+    with-share-is port buffer own = shared port buffer (n.row.goes_to port) refl own
 
-    lost : (port : ℕ) (goes : Bool) → n.row.goes_to port ≡ goes →
-        loses_share x.time priority (byte_ns_at t port) t.buffer (entries_at t x.side port past) (share_of (carried_with x.tag longest_wait x.bytes) goes) ≡ is_lost_at t past x port
+    lost : (port buffer : ℕ) (goes : Bool) → n.row.goes_to port ≡ goes → (goes ≡ true → buffer ≡ t.buffer) →
+        loses_share x.time priority (byte_ns_at t port) buffer (entries_at t x.side port past) (share_of (carried_with x.tag longest_wait x.bytes) goes) ≡ is_lost_at t past x port
     unfolding is_lost_at
-    lost port true goes =
-        ap (λ e. is_lost (byte_ns_at t port) t.buffer (entries_at t x.side port past) e) entry-is
+    lost port buffer true goes own =
+        ap (λ b. is_lost (byte_ns_at t port) b (entries_at t x.side port past) (share_entry x.time priority (carried_with x.tag longest_wait x.bytes))) (own refl)
+        ∙ ap (λ e. is_lost (byte_ns_at t port) t.buffer (entries_at t x.side port past) e) entry-is
         ∙ sym (ap (is_share_lost t past x port) (accepted-sent port place n accepted ∙ ap (λ b. if b then Some n.row else None) goes))
-    lost port false stays =
+    lost port buffer false stays own =
         sym (ap (is_share_lost t past x port) (accepted-sent port place n accepted ∙ ap (λ b. if b then Some n.row else None) stays))
 
-    pub loses-share-is : (port : ℕ) →
-        loses_share x.time priority (byte_ns_at t port) t.buffer (entries_at t x.side port past) (share_of (carried_with x.tag longest_wait x.bytes) (n.row.goes_to port)) ≡ is_lost_at t past x port
-    loses-share-is port = lost port (n.row.goes_to port) refl
+    pub loses-share-is : (port buffer : ℕ) → (n.row.goes_to port ≡ true → buffer ≡ t.buffer) →
+        loses_share x.time priority (byte_ns_at t port) buffer (entries_at t x.side port past) (share_of (carried_with x.tag longest_wait x.bytes) (n.row.goes_to port)) ≡ is_lost_at t past x port
+    loses-share-is port buffer own = lost port buffer (n.row.goes_to port) refl own

@@ -21,7 +21,7 @@ use Rattle.afdx_bounds.specs.Outputs.{Row, accepts, sends, entry_of, with_sent, 
 use Rattle.afdx_bounds.proofs.VerdictLemmas.{one-name}
 use Rattle.afdx_switch.specs.Carried.{Carried, facts}
 use Rattle.afdx_switch.specs.Laws.{VerdictsAreOwn, EntriesGrow, is_of, TakenAreTurns, LinksGoInOrder, OtherSideIsApart, LostPortsAreListed}
-use Rattle.afdx_switch.specs.Tables.{rows_of, output_at, byte_ns_at, row_named, carried, entries_at}
+use Rattle.afdx_switch.specs.Tables.{rows_of, output_at, byte_ns_at, buffer_at, row_named, carried, entries_at}
 use Rattle.afdx_switch.specs.Verdicts.{reason_on, reason_of, is_share_lost, is_lost_at, numbers, lost_ports}
 use Rattle.afdx_switch.specs.Ports.{holds}
 use Rattle.std.specs.List.{AllByRecursion}
@@ -183,7 +183,7 @@ other-side-apart t side w h x st other = record {
   places = st.places;
   port_count = st.port_count;
   ports = λ i p at.
-      subst (λ es. queue.StandsFor facts p (record { byte_ns = byte_ns_at t (i + 1); buffer = t.buffer; entries = es; taken = taken_at (i + 1) h.taken; time = p.clock }))
+      subst (λ es. queue.StandsFor facts p (record { byte_ns = byte_ns_at t (i + 1); buffer = buffer_at t (i + 1); entries = es; taken = taken_at (i + 1) h.taken; time = p.clock }))
       (sym (other-kept t side (i + 1) x h.arrivals other)) (st.ports i p at);
 }
 

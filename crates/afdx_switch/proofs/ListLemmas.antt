@@ -32,6 +32,16 @@ module _ {X : Type 0} where
         | inr past ↦ slice_get_past (set xs i x) j (subst (λ n. n ≤ j) (sym (length-set xs i x)) past.0) ∙ sym past.1
       ]
 
+  -- a list that was pushed to, read at its end and before
+  pub slice_get_last : (xs : List X) (y : X) → slice_get (xs ++ y ∷ []) (length xs) ≡ Some y
+  slice_get_last [] y = refl
+  slice_get_last (x ∷ xs) y = slice_get_last xs y
+
+  pub slice_get_before : (xs : List X) (y : X) (i : ℕ) (x : X) → slice_get xs i ≡ Some x → slice_get (xs ++ y ∷ []) i ≡ Some x
+  slice_get_before [] y i x at = absurd cc
+  slice_get_before (z ∷ xs) y zero x at = at
+  slice_get_before (z ∷ xs) y (suc i) x at = slice_get_before xs y i x at
+
   -- a vector whose items were lent as a slice of the same length
   pub items-are : (len : ℕ) (xs ys : List X) → length xs ≡ len → take len (xs ++ drop (length xs) ys) ≡ xs
   items-are len xs ys count = take-append-le len xs (drop (length xs) ys) (omega (arith, count)) ∙ ap (λ n. take n xs) (sym count) ∙ take-length xs

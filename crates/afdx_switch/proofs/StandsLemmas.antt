@@ -1,10 +1,10 @@
 -- A switch through an arrival.
-use Rattle.std.proofs.Common.{◌≡◌, ◌≢◌, ℕ, zero, suc, ◌<◌, ◌≤◌, ◌+◌, true, false, List, [], ◌∷◌, length, map, set, refl, sym, ap, ◌∙◌, arith, subst, inl, inr}
-use Rattle.std.specs.Prelude.{Option, Some, None, IfSome, All, option_map, slice_get, sum_by, vec_len, ◌⊎◌}
+use Rattle.std.proofs.Common.{◌≡◌, ◌≢◌, ℕ, zero, suc, ◌<◌, ◌≤◌, ◌+◌, true, false, List, [], ◌∷◌, length, set, refl, sym, ap, ◌∙◌, arith, subst, inl, inr}
+use Rattle.std.specs.Prelude.{Option, Some, None, IfSome, All, slice_get, sum_by, vec_len, ◌⊎◌}
 use Rattle.std.specs.Option.{unwrap_or}
 use Rattle.std.proofs.lemmas.List.Sums.{sum_by-cons}
 use Rattle.std.proofs.lemmas.Bool.{cases_eq}
-use Rattle.std.proofs.lemmas.Option.{slice_get_within, slice_get_cases, slice_get-get_or, slice_get-map}
+use Rattle.std.proofs.lemmas.Option.{slice_get_within, slice_get_cases, slice_get-get_or}
 use Rattle.afdx_frame.specs.declared.link.Priority.{Priority}
 use Rattle.afdx_config.specs.Rows.{Rows}
 use Rattle.afdx_police.specs.Arrival.{Arrival, names, own}
@@ -19,16 +19,17 @@ use Rattle.afdx_port.specs.declared.pending.Pending.{Pending}
 use Rattle.afdx_bounds.specs.Outputs.{Row}
 use Rattle.afdx_switch.specs.Carried.{Carried, carried_with, facts}
 use Rattle.afdx_switch.specs.Ports.{holds}
-use Rattle.afdx_switch.specs.Tables.{rows_of, output_at, byte_ns_at}
+use Rattle.afdx_switch.specs.Tables.{rows_of, output_at, byte_ns_at, buffer_at}
 use Rattle.afdx_switch.specs.Verdicts.{reason_of, is_lost_at}
 use Rattle.afdx_switch.specs.Switching.{History, StandsFor, calls_at, taken_at, with_arrival}
-use Rattle.afdx_switch.specs.Lines.{IsLine, IsNamed, IsNamedAt}
+use Rattle.afdx_switch.specs.Lines.{IsLine, IsNamed, IsNamedAt, is_among}
 use Rattle.afdx_switch.specs.Sound.{IsPortSound}
 use Rattle.afdx_switch.specs.Shares.{IsOffered, calls_after, share_of}
 use Rattle.afdx_switch.specs.declared.line.Line.{Line}
 use Rattle.afdx_switch.specs.declared.ports.PortSet.{PortSet}
 use Rattle.afdx_switch.specs.declared.working.Working.{Working}
 use Rattle.afdx_switch.proofs.ArrivalLemmas.{own-other, own-named, unknown-fault, unwrapped, reason-unknown, reason-named, dropped-sent, entries-kept, with-share-is, loses-share-is}
+use Rattle.afdx_switch.proofs.PlaceLemmas.{buffer-is}
 use Rattle.afdx_switch.proofs.ListLemmas.{slice_get-set_here, slice_get-set_there, all-at, bool_cases}
 
 -- what holds at each place holds of all
@@ -127,7 +128,7 @@ module _ (t : Rows) (x : Arrival) (w : Working) (h : History) (st : StandsFor t 
     places = λ vl k at. st.places vl k (sym (ap (λ ps. slice_get ps.items vl) places) ∙ at);
     port_count = ap (λ ps. length ps.items) ports ∙ st.port_count;
     ports = λ i p at.
-        subst (λ es. queue.StandsFor facts p (record { byte_ns = byte_ns_at t (i + 1); buffer = t.buffer; entries = es; taken = taken_at (i + 1) h.taken; time = p.clock }))
+        subst (λ es. queue.StandsFor facts p (record { byte_ns = byte_ns_at t (i + 1); buffer = buffer_at t (i + 1); entries = es; taken = taken_at (i + 1) h.taken; time = p.clock }))
         (sym (entries-kept t x h.arrivals (i + 1) (dropped-sent t x h.arrivals place (output_at t x.side (i + 1)) reason named dropped)))
         (st.ports i p (sym (ap (λ ps. slice_get ps.items i) ports) ∙ at));
   }
@@ -135,23 +136,25 @@ module _ (t : Rows) (x : Arrival) (w : Working) (h : History) (st : StandsFor t 
   -- a switch that offered shares of the arrival to its ports
   module _ (place : ℕ) (n : IsNamedAt (rows_of t) x.bytes place) (line : Line) (at : slice_get w.lines.items place ≡ Some line)
       (accepted : reason_of t h.arrivals x ≡ None) (shortest : 64 ≤ length x.bytes) (longest : length x.bytes ≤ 1518) (small : IfSome line.longest_wait (λ wait. wait ≤ 100000000))
-      (shares : List (Option Carried)) (shares_are : shares ≡ map (share_of (carried_with x.tag line.longest_wait x.bytes)) line.goes.items)
       (ports : List (Pending Carried)) (lost : PortSet) (old_count : length w.ports.items ≡ 24) (new_count : length ports ≡ 24)
-      (offered : (i : ℕ) (o p : Pending Carried) (share : Option Carried) → slice_get w.ports.items i ≡ Some o → slice_get ports i ≡ Some p → slice_get shares i ≡ Some share →
-      IsOffered x.time line.priority share o p (holds lost (i + 1))) where
+      (offered : (i : ℕ) (o p : Pending Carried) → slice_get w.ports.items i ≡ Some o → slice_get ports i ≡ Some p →
+      IsOffered x.time line.priority (share_of (carried_with x.tag line.longest_wait x.bytes) (is_among i line.goes.items)) o p (holds lost (i + 1))) where
     line-of : IsLine x.side h.arrivals n.row line
     line-of = st.lines place n.row line n.stands at
 
-    share-at : (i : ℕ) → i < 24 → slice_get shares i ≡ Some (share_of (carried_with x.tag line.longest_wait x.bytes) (n.row.goes_to (i + 1)))
-    share-at i below = rw shares_are (slice_get-map (share_of (carried_with x.tag line.longest_wait x.bytes)) line.goes.items i ∙ ap (option_map (share_of (carried_with x.tag line.longest_wait x.bytes))) (line-of.goes i below))
+    offered-at : (i : ℕ) (o p : Pending Carried) → i < 24 → slice_get w.ports.items i ≡ Some o → slice_get ports i ≡ Some p →
+        IsOffered x.time line.priority (share_of (carried_with x.tag line.longest_wait x.bytes) (n.row.goes_to (i + 1))) o p (holds lost (i + 1))
+    offered-at i o p below at_o at_p =
+        subst (λ b. IsOffered x.time line.priority (share_of (carried_with x.tag line.longest_wait x.bytes) b) o p (holds lost (i + 1))) (line-of.goes i below) (offered i o p at_o at_p)
 
     port-after : (i : ℕ) (p : Pending Carried) → slice_get ports i ≡ Some p → queue.StandsFor facts p (calls_at t x.side (i + 1) (with_arrival h x) p.clock)
     port-after i p at_p =
         let below : i < 24 = omega (arith, slice_get_within ports i p at_p, new_count) in
         let old = found-at w.ports.items i (omega (arith, below, old_count)) in
-        let one = offered i old.0 p _ old.1 at_p (share-at i below) in
-        subst (λ es. queue.StandsFor facts p (record { byte_ns = byte_ns_at t (i + 1); buffer = t.buffer; entries = es; taken = taken_at (i + 1) h.taken; time = p.clock }))
-        (with-share-is t x h.arrivals place n line.priority line.longest_wait accepted shortest longest small line-of.priority line-of.longest_wait (i + 1))
+        let one = offered-at i old.0 p below old.1 at_p in
+        subst (λ es. queue.StandsFor facts p (record { byte_ns = byte_ns_at t (i + 1); buffer = buffer_at t (i + 1); entries = es; taken = taken_at (i + 1) h.taken; time = p.clock }))
+        (with-share-is t x h.arrivals place n line.priority line.longest_wait accepted shortest longest small line-of.priority line-of.longest_wait (i + 1) (buffer_at t (i + 1))
+        (buffer-is t place n.row (i + 1) n.stands))
         (one.stands (calls_at t x.side (i + 1) h old.0.clock) (st.ports i old.0 old.1))
 
     pub lost-is : (port : ℕ) → 1 ≤ port → port ≤ 24 → holds lost port ≡ is_lost_at t h.arrivals x port
@@ -160,11 +163,12 @@ module _ (t : Rows) (x : Arrival) (w : Working) (h : History) (st : StandsFor t 
         let below : i < 24 = omega (arith, high) in
         let old = found-at w.ports.items i (omega (arith, below, old_count)) in
         let new = found-at ports i (omega (arith, below, new_count)) in
-        let one = offered i old.0 new.0 _ old.1 new.1 (share-at i below) in
+        let one = offered-at i old.0 new.0 below old.1 new.1 in
         let same : i + 1 ≡ suc i = omega arith in
         subst (λ k. holds lost k ≡ is_lost_at t h.arrivals x k) same
         (one.lost (calls_at t x.side (i + 1) h old.0.clock) (st.ports i old.0 old.1)
-        ∙ loses-share-is t x h.arrivals place n line.priority line.longest_wait accepted shortest longest small line-of.priority line-of.longest_wait (i + 1))
+        ∙ loses-share-is t x h.arrivals place n line.priority line.longest_wait accepted shortest longest small line-of.priority line-of.longest_wait (i + 1) (buffer_at t (i + 1))
+        (buffer-is t place n.row (i + 1) n.stands))
 
     pub stands-accepted : (new : Working) → LinesAfter t x h new.lines.items → new.clock ≡ x.time → vec_len new.lines ≡ vec_len w.lines → new.places ≡ w.places → new.ports.items ≡ ports →
         StandsFor t x.side new (with_arrival h x)
@@ -187,29 +191,22 @@ sum-grows f (x ∷ xs) (y ∷ ys) same each =
     omega (arith, first, rest, sum_by-cons f x xs, sum_by-cons f y ys)
 
 -- ports through the offers of shares are sound and quiet, and hold at most one frame more each
-module _ (time clock : ℕ) (priority : Priority) (old ports : List (Pending Carried)) (shares : List (Option Carried)) (lost : PortSet) (old_count : length old ≡ 24) (new_count : length ports ≡ 24)
-    (share_count : length shares ≡ 24)
-    (offered : (i : ℕ) (o p : Pending Carried) (share : Option Carried) → slice_get old i ≡ Some o → slice_get ports i ≡ Some p → slice_get shares i ≡ Some share → IsOffered time priority share o p (holds lost (i + 1))) where
+module _ (time clock : ℕ) (priority : Priority) (old ports : List (Pending Carried)) (share : ℕ → Option Carried) (lost : PortSet) (old_count : length old ≡ 24) (new_count : length ports ≡ 24)
+    (offered : (i : ℕ) (o p : Pending Carried) → slice_get old i ≡ Some o → slice_get ports i ≡ Some p → IsOffered time priority (share i) o p (holds lost (i + 1))) where
+  old-at : (i : ℕ) (p : Pending Carried) → slice_get ports i ≡ Some p → (o : Pending Carried) × (slice_get old i ≡ Some o)
+  old-at i p at_p = found-at old i (omega (arith, slice_get_within ports i p at_p, new_count, old_count))
+
   pub ports-sound : All (IsPortSound clock) old → All (IsPortSound time) ports
   ports-sound all = all-from (IsPortSound time) ports (λ i p at_p.
-      let below : i < 24 = omega (arith, slice_get_within ports i p at_p, new_count) in
-      let o = found-at old i (omega (arith, below, old_count)) in
-      let share = found-at shares i (omega (arith, below, share_count)) in
-      let one = offered i o.0 p share.0 o.1 at_p share.1 in
+      let o = old-at i p at_p in
+      let one = offered i o.0 p o.1 at_p in
       let sound = all-at (IsPortSound clock) old i o.0 all o.1 in
-      record { in_time = one.clock; calls = calls_after time priority share.0 sound.calls p.clock; stands = one.stands sound.calls sound.stands })
+      record { in_time = one.clock; calls = calls_after time priority (share i) sound.calls p.clock; stands = one.stands sound.calls sound.stands })
 
   pub ports-quiet : All (λ p. held.IsQuiet facts p time) ports
-  ports-quiet = all-from (λ p. held.IsQuiet facts p time) ports (λ i p at_p.
-      let below : i < 24 = omega (arith, slice_get_within ports i p at_p, new_count) in
-      let o = found-at old i (omega (arith, below, old_count)) in
-      let share = found-at shares i (omega (arith, below, share_count)) in
-      (offered i o.0 p share.0 o.1 at_p share.1).quiet)
+  ports-quiet = all-from (λ p. held.IsQuiet facts p time) ports (λ i p at_p. let o = old-at i p at_p in (offered i o.0 p o.1 at_p).quiet)
 
   pub ports-held : sum_by (λ p. held.frames_held p) ports ≤ sum_by (λ p. held.frames_held p) old + 24
   ports-held =
-      let more = sum-grows (λ p. held.frames_held p) old ports (omega (arith, old_count, new_count)) (λ i o p at_o at_p.
-      let below : i < 24 = omega (arith, slice_get_within ports i p at_p, new_count) in
-      let share = found-at shares i (omega (arith, below, share_count)) in
-      (offered i o p share.0 at_o at_p share.1).more) in
+      let more = sum-grows (λ p. held.frames_held p) old ports (omega (arith, old_count, new_count)) (λ i o p at_o at_p. (offered i o p at_o at_p).more) in
       omega (arith, more, old_count)

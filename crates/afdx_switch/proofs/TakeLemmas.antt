@@ -20,7 +20,7 @@ use Rattle.afdx_port.proofs.TurnLemmas.{eqb-same}
 use Rattle.afdx_switch.specs.Carried.{Carried, facts}
 use Rattle.afdx_switch.specs.Switching.{History, PortTurn, StandsFor, IsNextAt, IsNextOf, IsDue, IsDone, GoesBefore, calls_at, taken_at, with_take}
 use Rattle.afdx_switch.specs.Sound.{IsPortSound, IsLineSound}
-use Rattle.afdx_switch.specs.Tables.{byte_ns_at, entries_at}
+use Rattle.afdx_switch.specs.Tables.{byte_ns_at, buffer_at, entries_at}
 use Rattle.afdx_switch.specs.declared.line.Line.{Line}
 use Rattle.afdx_switch.specs.declared.working.Working.{Working}
 use Rattle.afdx_switch.proofs.ListLemmas.{slice_get-set_here, slice_get-set_there, all-set, all-at}
@@ -201,10 +201,10 @@ module _ (t : Rows) (side : Side) (w : Working) (h : History) (st : StandsFor t 
         subst (λ k. queue.StandsFor facts q (calls_at t side (k + 1) (with_take h gone until) q.clock)) (sym same) for_q
       where
         calls : List (Turn Carried) → ℕ → queue.History Carried
-        calls ts time = record { byte_ns = byte_ns_at t (place + 1); buffer = t.buffer; entries = entries_at t side (place + 1) h.arrivals; taken = ts; time = time }
+        calls ts time = record { byte_ns = byte_ns_at t (place + 1); buffer = buffer_at t (place + 1); entries = entries_at t side (place + 1) h.arrivals; taken = ts; time = time }
     port-after i q at_q (inr other) =
         let stands = st.ports i q (sym (slice_get-set_there w.ports.items place i new other) ∙ at_q) in
-        subst (λ ts. queue.StandsFor facts q (record { byte_ns = byte_ns_at t (i + 1); buffer = t.buffer; entries = entries_at t side (i + 1) h.arrivals; taken = ts; time = q.clock }))
+        subst (λ ts. queue.StandsFor facts q (record { byte_ns = byte_ns_at t (i + 1); buffer = buffer_at t (i + 1); entries = entries_at t side (i + 1) h.arrivals; taken = ts; time = q.clock }))
         (sym (taken-there (place + 1) (i + 1) gives.turn h.taken (λ same. other (omega (arith, same))))) stands
 
     pub stands-after : (after : Working) → after.clock ≡ until → after.lines ≡ w.lines → after.places ≡ w.places → after.ports.items ≡ set w.ports.items place new →
@@ -231,3 +231,6 @@ taken-sound ports time until place p new left all later below at clock gives =
 
 pub lines-later : (lines : List Line) (time until : ℕ) → time ≤ until → All (IsLineSound time) lines → All (IsLineSound until) lines
 lines-later lines time until later all k d lt = let s = all k d lt in record { in_time = omega (arith, s.in_time, later); wait = s.wait; goes = s.goes }
+
+pub ports-later : (ports : List (Pending Carried)) (time until : ℕ) → time ≤ until → All (IsPortSound time) ports → All (IsPortSound until) ports
+ports-later ports time until later all k d lt = let s = all k d lt in record { in_time = omega (arith, s.in_time, later); calls = s.calls; stands = s.stands }

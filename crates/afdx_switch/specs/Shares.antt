@@ -1,5 +1,5 @@
 -- The output ports through the offers of the shares of one frame.
-use Rattle.std.specs.Prelude.{◌≡◌, ℕ, ◌+◌, ◌≤◌, Bool, false, if◌then◌else◌, Option, Some, None, List}
+use Rattle.std.specs.Prelude.{All, ◌≡◌, ℕ, ◌+◌, ◌≤◌, Bool, false, if◌then◌else◌, Option, Some, None, List}
 use Rattle.afdx_frame.specs.declared.link.Priority.{Priority}
 use Rattle.afdx_port.specs.Held as held
 use Rattle.afdx_port.specs.History as queue
@@ -11,6 +11,10 @@ use Rattle.afdx_switch.specs.Carried.{Carried, facts}
 -- the share of a frame at a port that its link goes to
 abbrev pub share_of : Carried → Bool → Option Carried
 share_of c goes = if goes then Some c else None
+
+-- each of these is a share of the frame
+abbrev pub AreShares : Carried → List (Option Carried) → Type 0
+AreShares c shares = All (λ s. s ≡ Some c) shares
 
 -- a share of a frame as an entry
 abbrev pub share_entry : ℕ → Priority → Carried → Entry Carried

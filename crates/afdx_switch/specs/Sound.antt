@@ -1,11 +1,12 @@
 -- What is true of every switch, whatever the calls.
-use Rattle.std.specs.Prelude.{All, ◌≡◌, ℕ, ◌<◌, ◌≤◌, Some, IfSome, length, slice_get, vec_len}
+use Rattle.std.specs.Prelude.{All, ◌≡◌, ℕ, ◌<◌, ◌≤◌, Some, IfSome, slice_get, vec_len}
 use Rattle.afdx_police.specs.LinkAccounts as accounts
 use Rattle.afdx_port.specs.Held as held
 use Rattle.afdx_port.specs.History as queue
 use Rattle.afdx_port.specs.Ports.{AreServed}
 use Rattle.afdx_port.specs.declared.pending.Pending.{Pending}
 use Rattle.afdx_switch.specs.Carried.{Carried, facts}
+use Rattle.afdx_switch.specs.Lines.{ArePlaces}
 use Rattle.afdx_switch.specs.declared.line.Line.{Line}
 use Rattle.afdx_switch.specs.declared.working.Working.{Working}
 
@@ -13,7 +14,7 @@ use Rattle.afdx_switch.specs.declared.working.Working.{Working}
 pub record IsLineSound (time : ℕ) (line : Line) : Type 0 where
   pub in_time : accounts.last_time line.account ≤ time
   pub wait : IfSome line.longest_wait (λ wait. wait ≤ 100000000)
-  pub goes : length line.goes.items ≡ 24
+  pub goes : ArePlaces line.goes.items
 
 pub record IsPortSound (time : ℕ) (p : Pending Carried) : Type 0 where
   pub in_time : held.last_time p ≤ time

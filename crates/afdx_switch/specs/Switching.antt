@@ -12,7 +12,7 @@ use Rattle.afdx_port.specs.declared.left.Due.{Due}
 use Rattle.afdx_port.specs.declared.pending.Pending.{Pending}
 use Rattle.afdx_bounds.specs.Outputs.{Row}
 use Rattle.afdx_switch.specs.Carried.{Carried, facts}
-use Rattle.afdx_switch.specs.Tables.{rows_of, byte_ns_at, entries_at}
+use Rattle.afdx_switch.specs.Tables.{rows_of, byte_ns_at, buffer_at, entries_at}
 use Rattle.afdx_switch.specs.declared.line.Line.{Line}
 use Rattle.afdx_switch.specs.declared.switch.Departure.{Departure}
 use Rattle.afdx_switch.specs.declared.working.Working.{Working}
@@ -53,7 +53,7 @@ abbrev pub calls_at : Rows → Side → ℕ → History → ℕ → queue.Histor
 calls_at t side port h time =
     record {
       byte_ns = byte_ns_at t port;
-      buffer = t.buffer;
+      buffer = buffer_at t port;
       entries = entries_at t side port h.arrivals;
       taken = taken_at port h.taken;
       time = time;

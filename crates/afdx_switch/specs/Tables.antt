@@ -50,6 +50,10 @@ byte_ns_of t (Some system) = option_map_or byte_ns (slice_get t.systems system) 
 unfoldable pub byte_ns_at : Rows → ℕ → ℕ
 byte_ns_at t port = byte_ns_of t (system_at_port t.systems port)
 
+-- the buffer of a port in bytes: nothing goes to a port that no system has, so it has the least
+unfoldable pub buffer_at : Rows → ℕ → ℕ
+buffer_at t port = option_map_or (λ system. t.buffer) (system_at_port t.systems port) 64
+
 -- an output port of the switch of a side
 abbrev pub output_at : Rows → Side → ℕ → Output
 output_at t side port =

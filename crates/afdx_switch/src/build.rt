@@ -8,9 +8,10 @@ ghost use Rattle.afdx_bounds.specs.Outputs.{Row};
 ghost use Rattle.afdx_port.specs.Held.{IsByteTime};
 ghost use Rattle.afdx_port.specs.declared.pending.Pending.{Pending};
 ghost use Rattle.afdx_switch.specs.Carried.{Carried};
-ghost use Rattle.afdx_switch.specs.Tables.{row_of, rows_of, goes_to, byte_ns_at, longest_wait_of};
+ghost use Rattle.afdx_switch.specs.Tables.{row_of, rows_of, goes_to, byte_ns_at, buffer_at, longest_wait_of};
 ghost use Rattle.afdx_switch.specs.Sound.{IsSound};
 ghost use Rattle.afdx_switch.specs.Switching.{IsQuiet, StandsFor, no_calls, last_time, frames_held};
+ghost use Rattle.afdx_switch.specs.Lines.{ArePlaces, is_among};
 ghost use Rattle.afdx_switch.specs.New.{IsNewLine, IsNewPort};
 ghost use Rattle.afdx_switch.specs.declared.line.Line.{Line};
 
@@ -33,6 +34,18 @@ fn byte_ns(tables: &Tables, port: u8) -> u64
     match tables.system_at(port) {
         Some(system) => 8000 / tables.system(system).rate,
         None => 80,
+    }
+}
+
+/// The buffer of an output port, in bytes. A port that no system has holds nothing.
+#[tactic(auto, unfolding(crate::specs::Tables::buffer_at))]
+fn buffer(tables: &Tables, port: u8) -> u64
+    ensures is { result ≡ buffer_at tables.now port }
+    ensures limits { (64 ≤ result) × (result ≤ 4194304) }
+{
+    match tables.system_at(port) {
+        Some(_) => tables.buffer(),
+        None => 64,
     }
 }
 
@@ -63,18 +76,20 @@ fn longest_wait(tables: &Tables, link: &Link) -> Option<u64>
     }
 }
 
-/// The output ports to which the link at this place goes.
-fn ports_of(tables: &Tables, link: usize) -> ArrayVec<bool, 24>
+/// The places of the output ports to which the link at this place goes.
+fn ports_of(tables: &Tables, link: usize) -> ArrayVec<u8, 24>
     requires { link < length tables.now.links }
-    ensures count { length result.items ≡ 24 }
+    ensures places { ArePlaces result.items }
     ensures each { (l : LinkRow) (place : ℕ) → slice_get tables.now.links link ≡ Some l →
-        place < 24 → slice_get result.items place ≡ Some (goes_to tables.now l (place + 1)) }
+        place < 24 → is_among place result.items ≡ goes_to tables.now l (place + 1) }
 {
-    let mut ports = ArrayVec::new();
+    let mut places = ArrayVec::new();
     for place in 0..24_u8 {
-        ports.push(goes(tables, link, place + 1));
+        if goes(tables, link, place + 1) {
+            places.push(place);
+        }
     }
-    ports
+    places
 }
 
 /// What the switch keeps of the link at this place.
@@ -150,7 +165,8 @@ fn ports(alloc: Global, tables: &Tables) -> Result<Vec<Port<Frame>>, AllocError>
 {
     let mut ports = Vec::new(alloc);
     for place in 0..24_u8 {
-        ports.push(Port::new(alloc, byte_ns(tables, place + 1), tables.buffer())?)?;
+        let port = place + 1;
+        ports.push(Port::new(alloc, byte_ns(tables, port), buffer(tables, port))?)?;
     }
     Ok(ports)
 }

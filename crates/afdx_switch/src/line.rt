@@ -10,6 +10,6 @@ pub struct Line {
     pub(crate) priority: Priority,
     /// How long its frames may wait for their turn, in ns, if there is a limit.
     pub(crate) longest_wait: Option<u64>,
-    /// For each output port, from port 1 on, whether the link goes there.
-    pub(crate) goes: ArrayVec<bool, 24>,
+    /// The places of the output ports that the link goes to, in ascending order.
+    pub(crate) goes: ArrayVec<u8, 24>,
 }

@@ -1,5 +1,5 @@
 //! What a switch does with its accounts and its ports.
-ghost use Rattle.std.specs.Prelude.{◌≡◌, ◌↔◌, ℕ, ◌≤◌, ◌<◌, ◌+◌, List, Option, None, Some, IfOk, OnOk, OnErr, IfSome, IfNone, MatchOption, length, map, slice_get, true, false, not, All, vec_len};
+ghost use Rattle.std.specs.Prelude.{[], ◌≢◌, ◌≡◌, ◌↔◌, ℕ, ◌≤◌, ◌<◌, ◌+◌, List, Option, None, Some, IfOk, OnOk, OnErr, IfSome, IfNone, MatchOption, length, slice_get, true, false, not, All, vec_len};
 ghost use Rattle.afdx_frame.specs.declared.link.Priority.{Priority};
 ghost use Rattle.afdx_frame.specs.Sealing.{is_sealed};
 ghost use Rattle.afdx_port.specs.declared.pending.Pending.{Pending};
@@ -8,7 +8,8 @@ ghost use Rattle.afdx_port.specs.Held as held;
 ghost use Rattle.afdx_switch.specs.Ports.{holds};
 ghost use Rattle.afdx_switch.specs.Carried.{Carried, carried_with, facts};
 ghost use Rattle.afdx_switch.specs.Sound.{IsPortSound};
-ghost use Rattle.afdx_switch.specs.Shares.{IsOffered, share_of, share_entry};
+ghost use Rattle.afdx_switch.specs.Lines.{ArePlaces, is_among};
+ghost use Rattle.afdx_switch.specs.Shares.{AreShares, IsOffered, share_of};
 
 use crate::frame::Frame;
 use crate::line::Line;
@@ -37,67 +38,61 @@ pub(crate) struct Working {
     pub(crate) first: usize,
 }
 
-/// The shares of a frame, one for each port that its link goes to.
-fn shares(
-    alloc: Global,
-    tag: u64,
-    longest_wait: Option<u64>,
-    bytes: &[u8],
-    goes: &[bool],
-) -> Result<ArrayVec<Option<Frame>, 24>, AllocError>
-    requires shortest { 64 ≤ length bytes.now }
-    requires longest { length bytes.now ≤ 1518 }
-    requires wait { IfSome longest_wait (λ wait. wait ≤ 100000000) }
-    requires sealed { is_sealed bytes.now ≡ true }
-    requires few { length goes.now ≤ 24 }
-    ensures { IfOk result (λ s. s.items ≡ map
-        (share_of (carried_with tag longest_wait bytes.now)) goes.now) }
+/// Makes so many shares of a frame.
+fn share_out(
+    frame: &Frame,
+    count: usize,
+    shares: &mut ArrayVec<Option<Frame>, 24>,
+) -> Result<(), AllocError>
+    requires few { count ≤ 24 }
+    requires none { shares.old.items ≡ [] }
+    ensures count { OnOk result (length shares.new.items ≡ count) }
+    ensures each { OnOk result (AreShares frame.now shares.new.items) }
 {
-    let frame = Frame::copy(alloc, tag, longest_wait, bytes)?;
-    let mut shares = ArrayVec::new();
-    for goes in goes {
-        shares.push(if *goes { Some(frame.share()?) } else { None });
+    for _ in 0..count {
+        shares.push(Some(frame.share()?));
     }
-    Ok(shares)
+    Ok(())
 }
 
 /// Offers a port its share. Answers whether it was lost.
-fn offer(port: &mut Port<Frame>, time: u64, priority: Priority, share: Option<Frame>) -> bool
+fn offer(port: &mut Port<Frame>, time: u64, priority: Priority, share: Frame) -> bool
     requires limit { time ≤ 1000032768000000 }
     requires clock { held.last_time port.old ≤ time }
     requires quiet { held.IsQuiet facts port.old time }
-    ensures { IsOffered time priority share port.old port.new result }
+    ensures { IsOffered time priority (Some share) port.old port.new result }
 {
-    match share {
-        Some(frame) => port.put(time, priority, frame).is_err(),
-        None => false,
-    }
+    port.put(time, priority, share).is_err()
 }
 
-/// Offers each port its share. Answers the ports that lost theirs.
+/// Offers each of the ports at these places its share. Answers the ports that lost theirs.
 fn forward(
     ports: &mut [Port<Frame>],
-    shares: &mut [Option<Frame>],
+    places: &[u8],
+    shares: &mut ArrayVec<Option<Frame>, 24>,
     time: u64,
     priority: Priority,
 ) -> PortSet
     requires port_count { length ports.old ≡ 24 }
-    requires share_count { length shares.old ≡ 24 }
+    requires places { ArePlaces places.now }
+    requires share_count { length shares.old.items ≡ length places.now }
+    requires shares { All (λ s. s ≢ None) shares.old.items }
     requires limit { time ≤ 1000032768000000 }
     requires clocks { All (λ p. held.last_time p ≤ time) ports.old }
     requires quiet { All (λ p. held.IsQuiet facts p time) ports.old }
     ensures count { length ports.new ≡ 24 }
-    ensures offered { (i : ℕ) (o n : Pending Carried) (share : Option Carried) →
+    ensures offered { (c : Carried) (i : ℕ) (o n : Pending Carried) → AreShares c shares.old.items →
         slice_get ports.old i ≡ Some o → slice_get ports.new i ≡ Some n →
-        slice_get shares.old i ≡ Some share →
-        IsOffered time priority share o n (holds result (i + 1)) }
+        IsOffered time priority (share_of c (is_among i places.now)) o n (holds result (i + 1)) }
     ensures numbers { (p : ℕ) → holds result p ≡ true → (1 ≤ p) × (p ≤ 24) }
 {
     let mut lost = PortSet::new();
-    for place in 0..24_u8 {
-        let share = shares[place as usize].take();
-        if offer(&mut ports[place as usize], time, priority, share) {
-            lost.add(place + 1);
+    for place in places {
+        let Some(Some(share)) = shares.pop() else {
+            unreachable!();
+        };
+        if offer(&mut ports[*place as usize], time, priority, share) {
+            lost.add(*place + 1);
         }
     }
     lost
@@ -167,19 +162,16 @@ impl Working {
             self.clock = time;
             return Ok(Verdict::Dropped(reason));
         }
-        let mut shares = shares(
-            self.alloc,
-            tag,
-            line.longest_wait,
-            bytes,
-            line.goes.as_slice(),
-        )?;
+        let frame = Frame::copy(self.alloc, tag, line.longest_wait, bytes)?;
+        let mut shares = ArrayVec::new();
+        share_out(&frame, line.goes.len(), &mut shares)?;
         self.clock = time;
         let line = &mut self.lines[place];
         if !line.account.offer(time, bytes.len() as u64) {
             return Ok(Verdict::Dropped(Reason::OverRate));
         }
-        let lost = forward(&mut self.ports, shares.as_mut_slice(), time, line.priority);
+        let places = line.goes.as_slice();
+        let lost = forward(&mut self.ports, places, &mut shares, time, line.priority);
         self.first = first_of(&self.ports);
         Ok(Verdict::Accepted { lost })
     }

@@ -21,5 +21,5 @@ returns c l at =
         longest_wait = c.longest_wait.ensures.is;
         goes = λ place below. c.ports_of.ensures.each (link_row c.link-link.result.now) place here below;
       };
-      sound = record { in_time = omega (arith, c.new-2.ensures.time); wait = c.longest_wait.ensures.small; goes = c.ports_of.ensures.count };
+      sound = record { in_time = omega (arith, c.new-2.ensures.time); wait = c.longest_wait.ensures.small; goes = c.ports_of.ensures.places };
     })

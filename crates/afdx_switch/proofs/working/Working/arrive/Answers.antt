@@ -1,22 +1,23 @@
-use Rattle.std.proofs.Common.{◌≡◌, ◌≤◌, sym, ◌∙◌, arith, ap, refl, subst, Some, None, length, map}
+use Rattle.std.proofs.Common.{◌≡◌, ◌≤◌, sym, ◌∙◌, arith, ap, refl, subst, Some, None, length, ℕ, ◌+◌, List}
 use Rattle.std.specs.Prelude.{slice_get, if◌then◌else◌}
 use Rattle.std.proofs.lemmas.Option.{slice_get_read, slice_get_within}
-use Rattle.std.proofs.lemmas.List.{length-map}
 use Rattle.afdx_police.specs.Arrival.{arrival_with, own}
 use Rattle.afdx_police.specs.RuleOf.{rule_of}
 use Rattle.afdx_police.specs.Shape.{fault_of}
 use Rattle.afdx_police.specs.Verdicts.{reason_after}
 use Rattle.afdx_police.specs.declared.shape.Reason.TheVariants.{UnknownLink, OverRate}
 use Rattle.afdx_port.specs.Ports.{AreServed}
-use Rattle.afdx_switch.specs.Carried.{carried_with, facts}
+use Rattle.afdx_switch.specs.Carried.{Carried, carried_with, facts}
+use Rattle.afdx_switch.specs.Ports.{holds}
+use Rattle.afdx_port.specs.declared.pending.Pending.{Pending}
 use Rattle.afdx_switch.specs.declared.line.Line.{Line}
 use Rattle.afdx_switch.specs.Tables.{rows_of}
-use Rattle.afdx_switch.specs.Lines.{IsNamedAt}
+use Rattle.afdx_switch.specs.Lines.{IsNamedAt, is_among}
 use Rattle.afdx_switch.specs.Sound.{IsLineSound}
-use Rattle.afdx_switch.specs.Shares.{share_of}
+use Rattle.afdx_switch.specs.Shares.{AreShares, IsOffered, share_of}
 use Rattle.afdx_switch.proofs.ArrivalLemmas.{reason-named, shape-named, on-err}
 use Rattle.afdx_switch.proofs.ListLemmas.{all-at, all-set, items-are}
-use Rattle.afdx_switch.proofs.TakeLemmas.{lines-later}
+use Rattle.afdx_switch.proofs.TakeLemmas.{lines-later, ports-later}
 use Rattle.afdx_switch.proofs.StandsLemmas.{unknown-reason, stands-dropped, lines-unknown, lines-faulted, lines-with, line-is, fault-reason, stands-accepted, lost-is, ports-sound, ports-quiet, ports-held}
 use Rattle.afdx_switch.proofs.working.Working.arrive.Goals as goal
 
@@ -100,14 +101,20 @@ returns-clause-verdict c t side h st =
     let accepted = reason-named t x h.arrivals c.in-Some.place n ∙ sym (rw c.if-not-offer.false at answer) in
     let small = (all-at (IsLineSound c.args.self.now.clock) c.args.self.now.lines.items c.in-Some.place c.index_mut-line.result.now c.requires.sound.lines at_line).wait in
     let longest : length c.args.bytes.now ≤ 1518 = omega (arith, c.in_default-judge_checked.ensures.longest, c.rule.result.now.in_range.longest) in
-    let shares_are : c.in_ok-shares.shares.items ≡ map (share_of (carried_with c.args.tag c.index-line.result.now.longest_wait c.args.bytes.now)) c.index-line.result.now.goes.items =
-    c.in_ok-shares.ensures ∙ ap (map (share_of (carried_with c.args.tag c.index-line.result.now.longest_wait c.args.bytes.now))) c.as_slice.ensures.value in
-    let shares_of_line = subst (λ (l : Line). c.in_ok-shares.shares.items ≡ map (share_of (carried_with c.args.tag l.longest_wait c.args.bytes.now)) l.goes.items) same_line shares_are in
+    let shared : AreShares (carried_with c.args.tag c.index-line.result.now.longest_wait c.args.bytes.now) c.share_out.new.shares.items =
+    subst (λ (f : Carried). AreShares f c.share_out.new.shares.items) c.in_ok-frame.ensures c.in_ok-share_out.ensures.each in
+    let shared_line = subst (λ (l : Line). AreShares (carried_with c.args.tag l.longest_wait c.args.bytes.now) c.share_out.new.shares.items) same_line shared in
+    let of_line = c.index_mut-line.result.now in
+    let carried : Carried = carried_with c.args.tag of_line.longest_wait c.args.bytes.now in
+    let offered : (i : ℕ) (o p : Pending Carried) → slice_get c.args.self.now.ports.items i ≡ Some o → slice_get c.forward-lost.new.ports i ≡ Some p →
+    IsOffered c.args.time of_line.priority (share_of carried (is_among i of_line.goes.items)) o p (holds c.forward-lost.result (i + 1)) =
+    λ i o p at_o at_p. subst (λ (ps : List ℕ). IsOffered c.args.time of_line.priority (share_of carried (is_among i ps)) o p (holds c.forward-lost.result (i + 1))) c.as_slice-places.ensures.value
+    (c.forward-lost.ensures.offered carried i o p shared_line (ap (λ ps. slice_get ps i) c.deref_mut.ensures.value ∙ at_o) at_p) in
     let old_count : length c.args.self.now.ports.items ≡ 24 = omega (arith, c.args.self.now.ports.ok.0, c.requires.sound.port_count) in (
       accepted,
       lost-is t x c.args.self.now h st c.in-Some.place n c.index_mut-line.result.now at_line accepted c.in_default-judge_checked.ensures.shortest longest small
-          c.in_ok-shares.shares.items shares_of_line c.forward-lost.new.ports c.forward-lost.result old_count c.forward-lost.ensures.count
-          (λ i o p share at_o at_p at_s. c.forward-lost.ensures.offered i o p share (ap (λ ps. slice_get ps i) c.deref_mut.ensures.value ∙ at_o) at_p (ap (λ ss. slice_get ss i) c.as_mut_slice.ensures.value ∙ at_s)),
+          c.forward-lost.new.ports c.forward-lost.result old_count c.forward-lost.ensures.count
+          offered,
       c.forward-lost.ensures.numbers,
     )
 
@@ -127,13 +134,19 @@ returns-clause-stands c t side h st =
     let accepted = reason-named t x h.arrivals c.in-Some.place n ∙ sym (rw c.if-not-offer.false at answer) in
     let small = (all-at (IsLineSound c.args.self.now.clock) c.args.self.now.lines.items c.in-Some.place c.index_mut-line.result.now c.requires.sound.lines at_line).wait in
     let longest : length c.args.bytes.now ≤ 1518 = omega (arith, c.in_default-judge_checked.ensures.longest, c.rule.result.now.in_range.longest) in
-    let shares_are : c.in_ok-shares.shares.items ≡ map (share_of (carried_with c.args.tag c.index-line.result.now.longest_wait c.args.bytes.now)) c.index-line.result.now.goes.items =
-    c.in_ok-shares.ensures ∙ ap (map (share_of (carried_with c.args.tag c.index-line.result.now.longest_wait c.args.bytes.now))) c.as_slice.ensures.value in
-    let shares_of_line = subst (λ (l : Line). c.in_ok-shares.shares.items ≡ map (share_of (carried_with c.args.tag l.longest_wait c.args.bytes.now)) l.goes.items) same_line shares_are in
+    let shared : AreShares (carried_with c.args.tag c.index-line.result.now.longest_wait c.args.bytes.now) c.share_out.new.shares.items =
+    subst (λ (f : Carried). AreShares f c.share_out.new.shares.items) c.in_ok-frame.ensures c.in_ok-share_out.ensures.each in
+    let shared_line = subst (λ (l : Line). AreShares (carried_with c.args.tag l.longest_wait c.args.bytes.now) c.share_out.new.shares.items) same_line shared in
+    let of_line = c.index_mut-line.result.now in
+    let carried : Carried = carried_with c.args.tag of_line.longest_wait c.args.bytes.now in
+    let offered : (i : ℕ) (o p : Pending Carried) → slice_get c.args.self.now.ports.items i ≡ Some o → slice_get c.forward-lost.new.ports i ≡ Some p →
+    IsOffered c.args.time of_line.priority (share_of carried (is_among i of_line.goes.items)) o p (holds c.forward-lost.result (i + 1)) =
+    λ i o p at_o at_p. subst (λ (ps : List ℕ). IsOffered c.args.time of_line.priority (share_of carried (is_among i ps)) o p (holds c.forward-lost.result (i + 1))) c.as_slice-places.ensures.value
+    (c.forward-lost.ensures.offered carried i o p shared_line (ap (λ ps. slice_get ps i) c.deref_mut.ensures.value ∙ at_o) at_p) in
     let old_count : length c.args.self.now.ports.items ≡ 24 = omega (arith, c.args.self.now.ports.ok.0, c.requires.sound.port_count) in
     stands-accepted t x c.args.self.now h st c.in-Some.place n c.index_mut-line.result.now at_line accepted c.in_default-judge_checked.ensures.shortest longest small
-    c.in_ok-shares.shares.items shares_of_line c.forward-lost.new.ports c.forward-lost.result old_count c.forward-lost.ensures.count
-    (λ i o p share at_o at_p at_s. c.forward-lost.ensures.offered i o p share (ap (λ ps. slice_get ps i) c.deref_mut.ensures.value ∙ at_o) at_p (ap (λ ss. slice_get ss i) c.as_mut_slice.ensures.value ∙ at_s))
+    c.forward-lost.new.ports c.forward-lost.result old_count c.forward-lost.ensures.count
+    offered
     _ (lines-with t x c.args.self.now h st c.in-Some.place n c.index_mut-line.result.now at_line c.offer.new.self account) refl refl refl
     (items-are c.args.self.now.ports.len c.forward-lost.new.ports c.args.self.now.ports.items (omega (arith, c.forward-lost.ensures.count, c.requires.sound.port_count)))
 
@@ -144,9 +157,15 @@ returns-clause-sound c =
     let same_line : c.index-line.result.now ≡ c.index_mut-line.result.now = cc in
     let old_count : length c.args.self.now.ports.items ≡ 24 = omega (arith, c.args.self.now.ports.ok.0, c.requires.sound.port_count) in
     let line_sound = all-at (IsLineSound c.args.self.now.clock) c.args.self.now.lines.items c.in-Some.place c.index_mut-line.result.now c.requires.sound.lines at_line in
-    let share_count : length c.in_ok-shares.shares.items ≡ 24 =
-    ap length c.in_ok-shares.ensures ∙ length-map c.as_slice.result.now (share_of (carried_with c.args.tag c.index-line.result.now.longest_wait c.args.bytes.now)) ∙ ap length c.as_slice.ensures.value
-    ∙ (all-at (IsLineSound c.args.self.now.clock) c.args.self.now.lines.items c.in-Some.place c.index-line.result.now c.requires.sound.lines at).goes in
+    let shared : AreShares (carried_with c.args.tag c.index-line.result.now.longest_wait c.args.bytes.now) c.share_out.new.shares.items =
+    subst (λ (f : Carried). AreShares f c.share_out.new.shares.items) c.in_ok-frame.ensures c.in_ok-share_out.ensures.each in
+    let shared_line = subst (λ (l : Line). AreShares (carried_with c.args.tag l.longest_wait c.args.bytes.now) c.share_out.new.shares.items) same_line shared in
+    let of_line = c.index_mut-line.result.now in
+    let carried : Carried = carried_with c.args.tag of_line.longest_wait c.args.bytes.now in
+    let offered : (i : ℕ) (o p : Pending Carried) → slice_get c.args.self.now.ports.items i ≡ Some o → slice_get c.forward-lost.new.ports i ≡ Some p →
+    IsOffered c.args.time of_line.priority (share_of carried (is_among i of_line.goes.items)) o p (holds c.forward-lost.result (i + 1)) =
+    λ i o p at_o at_p. subst (λ (ps : List ℕ). IsOffered c.args.time of_line.priority (share_of carried (is_among i ps)) o p (holds c.forward-lost.result (i + 1))) c.as_slice-places.ensures.value
+    (c.forward-lost.ensures.offered carried i o p shared_line (ap (λ ps. slice_get ps i) c.deref_mut.ensures.value ∙ at_o) at_p) in
     let same_ports = items-are c.args.self.now.ports.len c.forward-lost.new.ports c.args.self.now.ports.items (omega (arith, c.forward-lost.ensures.count, c.requires.sound.port_count)) in
     record {
       lines = all-set (IsLineSound c.args.time) c.args.self.now.lines.items c.in-Some.place _ (slice_get_within c.args.self.now.lines.items c.in-Some.place c.index_mut-line.result.now at_line)
@@ -155,8 +174,8 @@ returns-clause-sound c =
       place_count = c.requires.sound.place_count;
       places = c.requires.sound.places;
       port_count = c.requires.sound.port_count;
-      ports = rw same_ports (ports-sound c.args.time c.args.self.now.clock c.index_mut-line.result.now.priority c.args.self.now.ports.items c.forward-lost.new.ports c.in_ok-shares.shares.items c.forward-lost.result old_count c.forward-lost.ensures.count share_count
-          (λ i o p share at_o at_p at_s. c.forward-lost.ensures.offered i o p share (ap (λ ps. slice_get ps i) c.deref_mut.ensures.value ∙ at_o) at_p (ap (λ ss. slice_get ss i) c.as_mut_slice.ensures.value ∙ at_s))
+      ports = rw same_ports (ports-sound c.args.time c.args.self.now.clock c.index_mut-line.result.now.priority c.args.self.now.ports.items c.forward-lost.new.ports (λ i. share_of carried (is_among i of_line.goes.items)) c.forward-lost.result old_count c.forward-lost.ensures.count
+          offered
           c.requires.sound.ports);
       served = subst (λ ps. AreServed facts ps c.first_of-self.result) c.deref.ensures.value c.first_of-self.ensures;
     }
@@ -165,26 +184,42 @@ pub returns-clause-quiet : goal.returns-clause-quiet
 returns-clause-quiet c =
     let at = slice_get_read c.args.self.now.lines.items _ c.in-Some.place c.index-line.result.now c.args.self.now.lines.ok.0 c.in-Some.ensures.within c.index-line.ensures in
     let old_count : length c.args.self.now.ports.items ≡ 24 = omega (arith, c.args.self.now.ports.ok.0, c.requires.sound.port_count) in
-    let share_count : length c.in_ok-shares.shares.items ≡ 24 =
-    ap length c.in_ok-shares.ensures ∙ length-map c.as_slice.result.now (share_of (carried_with c.args.tag c.index-line.result.now.longest_wait c.args.bytes.now)) ∙ ap length c.as_slice.ensures.value
-    ∙ (all-at (IsLineSound c.args.self.now.clock) c.args.self.now.lines.items c.in-Some.place c.index-line.result.now c.requires.sound.lines at).goes in
+    let at_line = slice_get_read c.args.self.now.lines.items _ c.in-Some.place c.index_mut-line.result.now c.args.self.now.lines.ok.0 c.in-Some.ensures.within c.index_mut-line.ensures.value in
+    let same_line : c.index-line.result.now ≡ c.index_mut-line.result.now = cc in
+    let shared : AreShares (carried_with c.args.tag c.index-line.result.now.longest_wait c.args.bytes.now) c.share_out.new.shares.items =
+    subst (λ (f : Carried). AreShares f c.share_out.new.shares.items) c.in_ok-frame.ensures c.in_ok-share_out.ensures.each in
+    let shared_line = subst (λ (l : Line). AreShares (carried_with c.args.tag l.longest_wait c.args.bytes.now) c.share_out.new.shares.items) same_line shared in
+    let of_line = c.index_mut-line.result.now in
+    let carried : Carried = carried_with c.args.tag of_line.longest_wait c.args.bytes.now in
+    let offered : (i : ℕ) (o p : Pending Carried) → slice_get c.args.self.now.ports.items i ≡ Some o → slice_get c.forward-lost.new.ports i ≡ Some p →
+    IsOffered c.args.time of_line.priority (share_of carried (is_among i of_line.goes.items)) o p (holds c.forward-lost.result (i + 1)) =
+    λ i o p at_o at_p. subst (λ (ps : List ℕ). IsOffered c.args.time of_line.priority (share_of carried (is_among i ps)) o p (holds c.forward-lost.result (i + 1))) c.as_slice-places.ensures.value
+    (c.forward-lost.ensures.offered carried i o p shared_line (ap (λ ps. slice_get ps i) c.deref_mut.ensures.value ∙ at_o) at_p) in
     let same_ports = items-are c.args.self.now.ports.len c.forward-lost.new.ports c.args.self.now.ports.items (omega (arith, c.forward-lost.ensures.count, c.requires.sound.port_count)) in
-    rw same_ports (ports-quiet c.args.time c.args.self.now.clock c.index_mut-line.result.now.priority c.args.self.now.ports.items c.forward-lost.new.ports c.in_ok-shares.shares.items c.forward-lost.result old_count c.forward-lost.ensures.count share_count
-    (λ i o p share at_o at_p at_s. c.forward-lost.ensures.offered i o p share (ap (λ ps. slice_get ps i) c.deref_mut.ensures.value ∙ at_o) at_p (ap (λ ss. slice_get ss i) c.as_mut_slice.ensures.value ∙ at_s)))
+    rw same_ports (ports-quiet c.args.time c.args.self.now.clock c.index_mut-line.result.now.priority c.args.self.now.ports.items c.forward-lost.new.ports (λ i. share_of carried (is_among i of_line.goes.items)) c.forward-lost.result old_count c.forward-lost.ensures.count
+    offered)
 
 pub returns-clause-held : goal.returns-clause-held
 returns-clause-held c =
     let at = slice_get_read c.args.self.now.lines.items _ c.in-Some.place c.index-line.result.now c.args.self.now.lines.ok.0 c.in-Some.ensures.within c.index-line.ensures in
     let old_count : length c.args.self.now.ports.items ≡ 24 = omega (arith, c.args.self.now.ports.ok.0, c.requires.sound.port_count) in
-    let share_count : length c.in_ok-shares.shares.items ≡ 24 =
-    ap length c.in_ok-shares.ensures ∙ length-map c.as_slice.result.now (share_of (carried_with c.args.tag c.index-line.result.now.longest_wait c.args.bytes.now)) ∙ ap length c.as_slice.ensures.value
-    ∙ (all-at (IsLineSound c.args.self.now.clock) c.args.self.now.lines.items c.in-Some.place c.index-line.result.now c.requires.sound.lines at).goes in
+    let at_line = slice_get_read c.args.self.now.lines.items _ c.in-Some.place c.index_mut-line.result.now c.args.self.now.lines.ok.0 c.in-Some.ensures.within c.index_mut-line.ensures.value in
+    let same_line : c.index-line.result.now ≡ c.index_mut-line.result.now = cc in
+    let shared : AreShares (carried_with c.args.tag c.index-line.result.now.longest_wait c.args.bytes.now) c.share_out.new.shares.items =
+    subst (λ (f : Carried). AreShares f c.share_out.new.shares.items) c.in_ok-frame.ensures c.in_ok-share_out.ensures.each in
+    let shared_line = subst (λ (l : Line). AreShares (carried_with c.args.tag l.longest_wait c.args.bytes.now) c.share_out.new.shares.items) same_line shared in
+    let of_line = c.index_mut-line.result.now in
+    let carried : Carried = carried_with c.args.tag of_line.longest_wait c.args.bytes.now in
+    let offered : (i : ℕ) (o p : Pending Carried) → slice_get c.args.self.now.ports.items i ≡ Some o → slice_get c.forward-lost.new.ports i ≡ Some p →
+    IsOffered c.args.time of_line.priority (share_of carried (is_among i of_line.goes.items)) o p (holds c.forward-lost.result (i + 1)) =
+    λ i o p at_o at_p. subst (λ (ps : List ℕ). IsOffered c.args.time of_line.priority (share_of carried (is_among i ps)) o p (holds c.forward-lost.result (i + 1))) c.as_slice-places.ensures.value
+    (c.forward-lost.ensures.offered carried i o p shared_line (ap (λ ps. slice_get ps i) c.deref_mut.ensures.value ∙ at_o) at_p) in
     let same_ports = items-are c.args.self.now.ports.len c.forward-lost.new.ports c.args.self.now.ports.items (omega (arith, c.forward-lost.ensures.count, c.requires.sound.port_count)) in
-    rw same_ports (ports-held c.args.time c.args.self.now.clock c.index_mut-line.result.now.priority c.args.self.now.ports.items c.forward-lost.new.ports c.in_ok-shares.shares.items c.forward-lost.result old_count c.forward-lost.ensures.count share_count
-    (λ i o p share at_o at_p at_s. c.forward-lost.ensures.offered i o p share (ap (λ ps. slice_get ps i) c.deref_mut.ensures.value ∙ at_o) at_p (ap (λ ss. slice_get ss i) c.as_mut_slice.ensures.value ∙ at_s)))
+    rw same_ports (ports-held c.args.time c.args.self.now.clock c.index_mut-line.result.now.priority c.args.self.now.ports.items c.forward-lost.new.ports (λ i. share_of carried (is_among i of_line.goes.items)) c.forward-lost.result old_count c.forward-lost.ensures.count
+    offered)
 
-pub returns-in_err-shares-clause-judged : goal.returns-in_err-shares-clause-judged
-returns-in_err-shares-clause-judged c t side h st =
+pub returns-in_err-frame-clause-judged : goal.returns-in_err-frame-clause-judged
+returns-in_err-frame-clause-judged c t side h st =
     let x = arrival_with c.args.tag c.args.time side c.args.port c.args.bytes.now in
     let n : IsNamedAt (rows_of t) c.args.bytes.now c.in-Some.place = c.in-Some.ensures.place t side h st in
     let at = slice_get_read c.args.self.now.lines.items _ c.in-Some.place c.index-line.result.now c.args.self.now.lines.ok.0 c.in-Some.ensures.within c.index-line.ensures in
@@ -192,3 +227,28 @@ returns-in_err-shares-clause-judged c t side h st =
     let rule : rule_of c.rule.result.now ≡ n.row.rule = c.rule.ensures ∙ is.account.by_rule in
     let sound : fault_of (Some n.row.rule) c.args.port c.args.bytes.now ≡ None = ap (λ q. fault_of (Some q) c.args.port c.args.bytes.now) (sym rule) ∙ sym c.in_default-judge_checked.ensures.reason in
     on-err c.from_residual.result (shape-named t x h.arrivals c.in-Some.place n ∙ sound)
+
+pub returns-in_err-share_out-clause-judged : goal.returns-in_err-share_out-clause-judged
+returns-in_err-share_out-clause-judged c t side h st =
+    let x = arrival_with c.args.tag c.args.time side c.args.port c.args.bytes.now in
+    let n : IsNamedAt (rows_of t) c.args.bytes.now c.in-Some.place = c.in-Some.ensures.place t side h st in
+    let at = slice_get_read c.args.self.now.lines.items _ c.in-Some.place c.index-line.result.now c.args.self.now.lines.ok.0 c.in-Some.ensures.within c.index-line.ensures in
+    let is = line-is t x c.args.self.now h st c.in-Some.place n c.index-line.result.now at in
+    let rule : rule_of c.rule.result.now ≡ n.row.rule = c.rule.ensures ∙ is.account.by_rule in
+    let sound : fault_of (Some n.row.rule) c.args.port c.args.bytes.now ≡ None = ap (λ q. fault_of (Some q) c.args.port c.args.bytes.now) (sym rule) ∙ sym c.in_default-judge_checked.ensures.reason in
+    on-err c.from_residual-in_err-share_out.result (shape-named t x h.arrivals c.in-Some.place n ∙ sound)
+
+pub returns-then-not-offer-clause-sound : goal.returns-then-not-offer-clause-sound
+returns-then-not-offer-clause-sound c =
+    let at_line = slice_get_read c.args.self.now.lines.items _ c.in-Some.place c.index_mut-line.result.now c.args.self.now.lines.ok.0 c.in-Some.ensures.within c.index_mut-line.ensures.value in
+    let line_sound = all-at (IsLineSound c.args.self.now.clock) c.args.self.now.lines.items c.in-Some.place c.index_mut-line.result.now c.requires.sound.lines at_line in
+    record {
+      lines = all-set (IsLineSound c.args.time) c.args.self.now.lines.items c.in-Some.place _ (slice_get_within c.args.self.now.lines.items c.in-Some.place c.index_mut-line.result.now at_line)
+          (lines-later c.args.self.now.lines.items c.args.self.now.clock c.args.time c.requires.clock c.requires.sound.lines)
+          (record { in_time = omega (arith, c.offer.ensures.time); wait = line_sound.wait; goes = line_sound.goes });
+      place_count = c.requires.sound.place_count;
+      places = c.requires.sound.places;
+      port_count = c.requires.sound.port_count;
+      ports = ports-later c.args.self.now.ports.items c.args.self.now.clock c.args.time c.requires.clock c.requires.sound.ports;
+      served = c.requires.sound.served;
+    }
