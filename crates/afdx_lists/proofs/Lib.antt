@@ -5,3 +5,4 @@ pub mod TakingLemmas
 pub mod WholeLemmas
 pub mod SubmissionLemmas
 mod TextLemmas
+mod DigitLemmas
