@@ -6,3 +6,4 @@ pub mod WholeLemmas
 pub mod SubmissionLemmas
 mod TextLemmas
 pub mod TellingLemmas
+mod DigitLemmas

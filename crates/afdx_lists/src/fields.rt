@@ -8,6 +8,9 @@ ghost use Rattle.afdx_lists.specs.declared.fault.LineFault.TheVariants.{Memory, 
 use crate::fault::LineFault;
 use hex::FromHexError;
 
+/// So many hexadecimal digits are read at once.
+const BLOCK: usize = 64;
+
 /// The line without the one carriage return at its end.
 pub(crate) fn trim_line(line: &[u8]) -> &[u8]
     ensures { result.now ≡ strip_carriage_return line.now }
@@ -66,19 +69,48 @@ fn digit_value(digit: u8) -> u8
     }
 }
 
+/// Puts the values of digits in the place of `values`, and the bytes of their pairs in that of
+/// `bytes`. False: not all were digits.
+#[inline(always)]
+fn read_block(digits: &[u8], values: &mut [u8], bytes: &mut [u8]) -> bool
+    requires pairs { length digits.now ≡ 2 * length bytes.old }
+    requires values { length values.old ≡ length digits.now }
+    ensures { result ≡ true → decode_pairs 0 digits.now ≡ Ok bytes.new }
+{
+    let mut greatest = 0u8;
+    'values: for at in 0..digits.len() {
+        let value = digit_value(digits[at]);
+        greatest = greatest.max(value);
+        values[at] = value;
+    }
+    'bytes: for i in 0..bytes.len() {
+        let high = values[2 * i];
+        let low = values[2 * i + 1];
+        bytes[i] = high.wrapping_mul(16).wrapping_add(low);
+    }
+    greatest < 16
+}
+
 /// Puts the bytes of pairs of digits in the place of `bytes`. False: not all were digits.
+///
+/// A block of digits is a fixed number of them, so that its loops are made into a few steps over
+/// many digits at once.
 fn read_pairs(digits: &[u8], bytes: &mut [u8]) -> bool
     requires { length digits.now ≡ 2 * length bytes.old }
     ensures { result ≡ true → decode_pairs 0 digits.now ≡ Ok bytes.new }
 {
-    let mut greatest = 0u8;
-    'bytes: for i in 0..bytes.len() {
-        let high = digit_value(digits[2 * i]);
-        let low = digit_value(digits[2 * i + 1]);
-        greatest = greatest.max(high).max(low);
-        bytes[i] = high.wrapping_mul(16).wrapping_add(low);
+    let mut values = [0u8; BLOCK];
+    let count = bytes.len() / (BLOCK / 2);
+    for block in 0..count {
+        let at = block * (BLOCK / 2);
+        let some = &digits[2 * at..2 * at + BLOCK];
+        if !read_block(some, &mut values, &mut bytes[at..at + BLOCK / 2]) {
+            return false;
+        }
     }
-    greatest < 16
+    let at = count * (BLOCK / 2);
+    let rest = &digits[2 * at..];
+    read_block(rest, &mut values[..rest.len()], &mut bytes[at..])
 }
 
 /// Reads digits as the crate `hex` does, but without a branch for each of them where all are sound.

@@ -1,28 +1,43 @@
 //! The words of a verdict, and its line.
-ghost use Rattle.std.specs.Prelude.{◌≡◌, OnOk};
+ghost use Rattle.std.specs.Prelude.{◌≡◌, ◌++◌, OnOk};
 ghost use Rattle.afdx_lists.specs.Texts.{text_bytes};
-ghost use Rattle.afdx_replay.specs.PoliceText.{side_text, verdict_text, verdict_line};
+ghost use Rattle.afdx_replay.specs.PoliceText.{side_text, reason_text, verdict_text, verdict_line};
 
-use afdx_frame::Side;
+use afdx_frame::{MacFault, Side};
 use afdx_lists::Text;
 use afdx_police::Reason;
+use afdx_systems::mac_word;
 use std::alloc::AllocError;
 
-/// What became of a frame at a switch, in words: `accept`, or `drop` and the reason.
-pub(crate) fn verdict_words(reason: Option<Reason>) -> &'static str
-    ensures { result.now ≡ verdict_text reason }
+/// Why a frame was dropped at a switch, in a word. What is wrong with its bytes has the word that a
+/// receiver has for it.
+fn reason_word(reason: Reason) -> &'static str
+    ensures { result.now ≡ reason_text reason }
 {
     match reason {
-        None => "accept",
-        Some(Reason::TooShort) => "drop too-short",
-        Some(Reason::TooLong) => "drop too-long",
-        Some(Reason::BadFcs) => "drop bad-fcs",
-        Some(Reason::BadAddress) => "drop bad-address",
-        Some(Reason::UnknownLink) => "drop unknown-link",
-        Some(Reason::WrongPort) => "drop wrong-port",
-        Some(Reason::OverLmax) => "drop over-lmax",
-        Some(Reason::UnderLmin) => "drop under-lmin",
-        Some(Reason::OverRate) => "drop over-rate",
+        Reason::TooShort => mac_word(MacFault::TooShort),
+        Reason::TooLong => mac_word(MacFault::TooLong),
+        Reason::BadFcs => mac_word(MacFault::BadFcs),
+        Reason::BadAddress => mac_word(MacFault::BadAddress),
+        Reason::UnknownLink => "unknown-link",
+        Reason::WrongPort => "wrong-port",
+        Reason::OverLmax => "over-lmax",
+        Reason::UnderLmin => "under-lmin",
+        Reason::OverRate => "over-rate",
+    }
+}
+
+/// Adds what became of a frame at a switch, in words: `accept`, or `drop` and the reason.
+fn put_words(text: &mut Text, reason: Option<Reason>) -> Result<(), AllocError>
+    ensures { OnOk result (text_bytes text.new ≡ text_bytes text.old ++ verdict_text reason) }
+{
+    match reason {
+        None => text.put(b"accept"),
+        Some(reason) => {
+            let word = reason_word(reason);
+            text.put(b"drop ")?;
+            text.put(word.as_bytes())
+        }
     }
 }
 
@@ -46,13 +61,12 @@ pub(crate) fn put_verdict(
     ensures { OnOk result (text_bytes text.new ≡ verdict_line n side reason) }
 {
     let side = side_letter(side);
-    let words = verdict_words(reason);
     text.clear();
     text.put(b"V ")?;
     text.put_number(n)?;
     text.put(b" ")?;
     text.put(side.as_bytes())?;
     text.put(b" ")?;
-    text.put(words.as_bytes())?;
+    put_words(text, reason)?;
     text.put(b"\n")
 }

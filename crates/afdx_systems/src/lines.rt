@@ -9,7 +9,8 @@ use afdx_lists::Text;
 use afdx_receive::DropReason;
 use std::alloc::AllocError;
 
-fn mac_word(fault: MacFault) -> &'static str
+/// What is wrong with a frame's bytes, in a word.
+pub fn mac_word(fault: MacFault) -> &'static str
     ensures { result.now ≡ mac_word fault }
 {
     match fault {
@@ -20,6 +21,7 @@ fn mac_word(fault: MacFault) -> &'static str
     }
 }
 
+/// What is wrong with a datagram, in a word.
 fn ip_word(fault: IpFault) -> &'static str
     ensures { result.now ≡ ip_word fault }
 {
