@@ -30,10 +30,11 @@ fn finish<E: Write>(answer: Result<Summary, RunFault>, errors: &mut Watched<E>) 
     }
 }
 
-/// Replays a list of frames in the tables of a configuration: the lines of all events go to `output`, a fault's one line to `errors`.
+/// Replays a list of frames in the tables of a configuration: the lines of all events go to
+/// `output`, a fault's one line to `errors`.
 ///
-/// With `admission` the tables have to be admitted. It gives the exit status: 0 done, 1 a fault of the configuration or
-/// tables that are not admitted, 3 a fault of the list, 4 a device or memory.
+/// With `admission` the tables have to be admitted. It gives the exit status: 0 done, 1 a fault of
+/// the configuration or tables that are not admitted, 3 a fault of the list, 4 a device or memory.
 pub fn replay<R: Read, O: Write, E: Write>(
     alloc: Global,
     admission: bool,
@@ -46,8 +47,10 @@ pub fn replay<R: Read, O: Write, E: Write>(
     requires unended { input.old.ended ≡ false }
     requires sound_output { output.old.failed ≡ false }
     ensures { IfSome (R.remaining input.old.inner) (λ bytes.
-        Replays config.now admission bytes (R.remaining input.new.inner) (O.contents output.old.inner) (O.contents output.new.inner) result
-        ⊎ (IsNotReplayed config.now admission result × (input.new ≡ input.old) × (output.new ≡ output.old))) }
+        Replays config.now admission bytes (R.remaining input.new.inner)
+        (O.contents output.old.inner) (O.contents output.new.inner) result
+        ⊎ (IsNotReplayed config.now admission result
+        × (input.new ≡ input.old) × (output.new ≡ output.old))) }
 {
     let tables = match read_tables(alloc, config) {
         Ok(tables) => tables,
