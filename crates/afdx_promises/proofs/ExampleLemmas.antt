@@ -7,7 +7,7 @@ use Rattle.afdx_network.specs.Events.{turns_at}
 use Rattle.afdx_switch.proofs.JoinLemmas.{line-is}
 use Rattle.afdx_switch.specs.Laws.{is_of}
 use Rattle.afdx_switch.specs.Carried.{Carried}
-use Rattle.afdx_port.specs.Schedule.{Entry, Turn, AreTurns, lasting}
+use Rattle.afdx_port.specs.Schedule.{Entry, Turn, lasting, has_turn, IsNext, AreTurns}
 use Rattle.afdx_port.specs.Classes.{entries_in}
 use Rattle.std.proofs.Common.{◌≡◌, ℕ, Bool, false, true, zero, suc, ◌+◌, ◌*◌, ◌-◌, ◌^◌, ◌<◌, ◌≤◌, List, [], ◌∷◌, length, refl, sym, ap, ◌∙◌, subst, arith, ◌++◌, map}
 use Rattle.std.specs.Prelude.{Option, Some, None, All, slice_get, slice_index, filter, reverse, if◌then◌else◌}
@@ -36,7 +36,7 @@ use Rattle.afdx_config.specs.SentList.{Message, Sent, sent_at}
 use Rattle.afdx_police.specs.Arrival.{Arrival, names, own}
 use Rattle.afdx_switch.specs.Admitted.{IsAdmittedRun, passing, passing_in, accepted_on, accepted_frames, frames_left, AreInTime}
 use Rattle.afdx_switch.specs.Tables.{port_of, rule_of, goes_to, entries_at}
-use Rattle.afdx_promises.specs.Examples.{sender, receiver, link, tables, heard, unheard, first_on, second_on, stream, arrivals, PremisesAreMet, link_with, tables_with, one, AdmissionIsNeeded}
+use Rattle.afdx_promises.specs.Examples.{sender, receiver, link, tables, heard, unheard, first_on, second_on, stream, arrivals, PremisesAreMet, link_with, tables_with, one, AdmissionIsNeeded, TimesAreNeeded}
 use Rattle.afdx_promises.specs.NetworkPromises.{IsStreamOf, PortsKeepPromises}
 use Rattle.afdx_promises.specs.Streams.{at_own_port, AreSendings, IsFed, IsSending}
 use Rattle.afdx_promises.proofs.OnceLemmas.{messages-once}
@@ -352,3 +352,42 @@ is-broken computed keeps =
 
 pub admission-needed : BuiltIsComputed → AdmissionIsNeeded
 admission-needed computed = record { lawful = is-lawful 1 (omega arith) (omega arith); timed = ((λ k d lt. absurd (omega (arith, lt))), tt); broken = is-broken computed }
+
+-- ---- where times go back
+
+module _ (first second : Entry Carried) (late : first.time ≡ 1000000) (early : second.time ≡ 0) (same : first.priority ≡ second.priority) where
+  class-of : (k : ℕ) (e : Entry Carried) → slice_get (first ∷ second ∷ []) k ≡ Some e → first.priority ≡ e.priority
+  class-of zero e at = ap (λ (x : Entry Carried). x.priority) (the-one first e at)
+    where
+      the-one : (x y : Entry Carried) → Some x ≡ Some y → x ≡ y
+      the-one x y h = cc h
+  class-of (suc zero) e at = same ∙ ap (λ (x : Entry Carried). x.priority) (the-one second e at)
+    where
+      the-one : (x y : Entry Carried) → Some x ≡ Some y → x ≡ y
+      the-one x y h = cc h
+  class-of (suc (suc k)) e at = absurd (cc at)
+
+  time-of : (k : ℕ) (e : Entry Carried) → k ≤ 0 → slice_get (first ∷ second ∷ []) k ≡ Some e → first.time ≡ e.time
+  time-of zero e low at = ap (λ (x : Entry Carried). x.time) (the-one first e at)
+    where
+      the-one : (x y : Entry Carried) → Some x ≡ Some y → x ≡ y
+      the-one x y h = cc h
+  time-of (suc k) e low at = absurd (omega (arith, low))
+
+  no-first : (s : Turn Carried) → IsNext 80 (first ∷ second ∷ []) [] s → ⊥
+  no-first s next =
+      let place : s.place ≤ 0 = next.in_order 0 first (record { stands = refl; without = refl }) (class-of s.place s.entry next.own.stands) in
+      let time = time-of s.place s.entry place next.own.stands in
+      let soon : s.moment ≤ 0 = next.least 0 1 second (record { stands = refl; without = refl }) (omega (arith, early)) (omega arith) in
+      omega (arith, time, late, soon, next.come)
+
+  no-turns : (turns : List (Turn Carried)) → AreTurns 80 (first ∷ second ∷ []) turns → turns ≡ []
+  no-turns [] are = refl
+  no-turns (s ∷ earlier) are = absurd (no-first s (subst (λ ts. IsNext 80 (first ∷ second ∷ []) ts s) (no-turns earlier are.1) are.0))
+
+pub times-needed : TimesAreNeeded
+times-needed first second turns late early same schedule =
+    let none = no-turns first second late early same turns schedule.each_next in
+    let has : has_turn turns 0 ≡ true = schedule.all_have_turns 0 (omega arith) in
+    let hasnt : has_turn turns 0 ≡ false = ap (λ ts. has_turn ts 0) none in
+    cc (has, hasnt)

@@ -11,4 +11,5 @@ pub mod LineLemmas
 pub mod HeadlineLemmas
 pub mod HeardLemmas
 pub mod ToldLemmas
+pub mod SentLemmas
 pub mod ExampleLemmas

@@ -14,6 +14,8 @@ use Rattle.afdx_config.specs.declared.rows.Kind.TheVariants.{Sampling}
 use Rattle.afdx_police.specs.Arrival.{Arrival, arrival_with}
 use Rattle.afdx_receive.specs.Arrivals.{Arrived}
 use Rattle.afdx_bounds.specs.Outputs.{AreTimed}
+use Rattle.afdx_port.specs.Schedule.{Entry, Turn, IsSchedule}
+use Rattle.afdx_switch.specs.Carried.{Carried}
 use Rattle.afdx_switch.specs.Admitted.{IsAdmittedRun}
 use Rattle.afdx_promises.specs.NetworkPromises.{IsStreamOf, PortsKeepPromises}
 use Rattle.afdx_promises.specs.Receptions.{AreReceptions, answers_on, messages_in}
@@ -104,3 +106,11 @@ pub record AdmissionIsNeeded : Type 0 where
   pub lawful : IsLawful (tables_with 1)
   pub timed : AreTimed one
   pub broken : PortsKeepPromises (tables_with 1) one → ⊥
+
+-- Where times go back, a port has no schedule: here a frame that came at 1 ms stands before one
+-- that came at 0, of the same class. The first turn would come at 0, and be that of the frame that
+-- hasn't come.
+abbrev pub TimesAreNeeded : Type 0
+TimesAreNeeded = (first second : Entry Carried) (turns : List (Turn Carried)) →
+    first.time ≡ 1000000 → second.time ≡ 0 → first.priority ≡ second.priority →
+    IsSchedule 80 (first ∷ second ∷ []) turns → ⊥

@@ -5,4 +5,5 @@ pub mod NetworkPromises
 pub mod Lines
 pub mod WindowRule
 pub mod Promises
+pub mod Sent
 pub mod Examples

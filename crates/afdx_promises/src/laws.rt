@@ -1,6 +1,7 @@
 //! What a network whose tables are admitted promises, whatever arrives at its switches.
-ghost use Rattle.afdx_promises.specs.Examples.{PremisesAreMet, AdmissionIsNeeded};
+ghost use Rattle.afdx_promises.specs.Examples.{PremisesAreMet, AdmissionIsNeeded, TimesAreNeeded};
 ghost use Rattle.afdx_promises.specs.NetworkPromises.{PortsAreAsPromised, LeftSoFarAreFirst, ReceptionsAreOne, ReceptionsExist, EventsBringReceptions, LinksAreApart, StreamIsRegular, StreamIsAccepted, MessagesComeSoFar, MessagesComeOnce, EventsAreAsPromised, EventsSoFarAreAsPromised};
+ghost use Rattle.afdx_promises.specs.Sent.{SentIsFed, StreamIsOfSendings, ReleasedAreToldOnce};
 ghost use Rattle.afdx_promises.specs.Promises.{PromisesAreKept, PromisesAreKeptSoFar, MessagesAreToldOnce, MessagesAreToldOnceSoFar};
 
 use afdx_frame::laws::built_is_computed;
@@ -85,10 +86,24 @@ pub fn messages_come_once()
 }
 
 /// All of these premises can be met: by tables of two systems and a link, and its stream of two
-/// frames on both sides. With tables that aren't admitted the promises are false.
+/// frames on both sides. With tables that are not admitted the promises are false, and where times
+/// go back a port has no schedule.
 pub fn premises_are_met()
     ensures met { PremisesAreMet }
     ensures needed { AdmissionIsNeeded }
+    ensures times { TimesAreNeeded }
+{
+    built_is_computed()
+}
+
+/// Where all that arrives at the port of a link's sender, on both sides, is what it sent, in its
+/// order, both sides are fed with the link's stream, whole; so, where it emitted lawfully, each
+/// receiver's M lines are exactly the released messages to its UDP ports, each once and in order of
+/// their releases.
+pub fn sent_is_told_once()
+    ensures fed { SentIsFed }
+    ensures stream { StreamIsOfSendings }
+    ensures once { ReleasedAreToldOnce }
 {
     built_is_computed()
 }

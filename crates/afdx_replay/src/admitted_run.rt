@@ -11,13 +11,21 @@ use afdx_lists::{RunFault, Watched};
 use std::alloc::Global;
 use std::io::{Read, Write};
 
-/// Replays a list of frames through the switches of both sides and the systems behind them, of tables that were admitted.
+/// Replays a list of frames through the switches of both sides and the systems behind them, of
+/// tables that were admitted.
 ///
-/// Each virtual link's verdicts, and its frames that leave each switch port, in order, are the window rule's answer on that link's
-/// own arrivals alone; every accepted frame leaves each of its ports within the link's configured latency; and what a receiver
-/// delivers on a link is the integrity and redundancy rules' answer on that link's arrivals there alone. So no line tells of a
-/// loss, or of a frame that is too old; and of a link's lawful stream on both sides each receiver gets exactly the messages to its
-/// UDP ports, each once and in order. It is `run_unadmitted` otherwise.
+/// Each virtual link's verdicts, and its frames that leave each switch port, in order, are the
+/// window rule's answer on that link's own arrivals alone; every accepted frame leaves each of its
+/// ports within the link's configured latency; and what a receiver delivers on a link is the
+/// integrity and redundancy rules' answer on that link's arrivals there alone. The clause
+/// `promised` says so of the text that is written (`KeepsPromises`): it is that of V, D, M and X
+/// lines, so no line tells of a loss, or of a frame that is too old. Of a link's lawful stream on
+/// both sides each receiver's M lines are exactly the messages to its UDP ports, each once and in
+/// order.
+///
+/// After a fault of the list, or a failed read, all is told of the lines before it, and what has
+/// left a port is a beginning of the promised frames; after a failed write, or want of memory, a
+/// beginning of the promised text stands written. The errors are those of `run_unadmitted`.
 pub fn run<R: Read, W: Write>(
     alloc: Global,
     admitted: &Admitted,
@@ -34,11 +42,13 @@ pub fn run<R: Read, W: Write>(
 
     // Where the input's bytes are known: what is answered and written for the list that they are.
     ensures answer { IfSome (R.remaining input.old.inner) (λ bytes.
-        Answers admitted.now bytes (R.remaining input.new.inner) (W.contents output.old.inner) (W.contents output.new.inner) result) }
+        Answers admitted.now bytes (R.remaining input.new.inner)
+        (W.contents output.old.inner) (W.contents output.new.inner) result) }
 
-    // And it is as promised.
+    // And what is written is the text of lines that keep the promises.
     ensures promised { IfSome (R.remaining input.old.inner) (λ bytes.
-        PromisedAnswers admitted.now bytes (R.remaining input.new.inner) (W.contents output.old.inner) (W.contents output.new.inner) result) }
+        PromisedAnswers admitted.now bytes (R.remaining input.new.inner)
+        (W.contents output.old.inner) (W.contents output.new.inner) result) }
 {
     run_unadmitted(alloc, admitted.tables(), input, output)
 }

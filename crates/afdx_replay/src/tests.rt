@@ -2,6 +2,7 @@
 
 mod checks;
 mod devices;
+mod premises;
 mod refusals;
 mod replays;
 mod sends;

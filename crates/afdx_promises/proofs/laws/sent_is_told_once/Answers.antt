@@ -1,0 +1,11 @@
+use Rattle.afdx_promises.proofs.SentLemmas.{sent-is-fed, stream-of-sendings, released-once}
+use Rattle.afdx_promises.proofs.laws.sent_is_told_once.Goals as goal
+
+pub returns-clause-fed : goal.returns-clause-fed
+returns-clause-fed c = sent-is-fed c.built_is_computed.ensures
+
+pub returns-clause-stream : goal.returns-clause-stream
+returns-clause-stream c = stream-of-sendings c.built_is_computed.ensures
+
+pub returns-clause-once : goal.returns-clause-once
+returns-clause-once c = released-once c.built_is_computed.ensures

@@ -1,0 +1,101 @@
+-- What the systems of a network send, as what arrives at its switches. Lists of turns and of
+-- arrivals have the newest first.
+use Rattle.std.specs.Prelude.{◌≡◌, ℕ, ◌<◌, ◌^◌, ◌==◌, ◌&&◌, true, if◌then◌else◌, Some, List, [], ◌∷◌, ◌++◌, filter, reverse, slice_get}
+use Rattle.std.specs.List.{AllByRecursion}
+use Rattle.afdx_frame.specs.Grammar.{Buildable, built_frame}
+use Rattle.afdx_frame.specs.Sealing.{AreBytes}
+use Rattle.afdx_frame.specs.declared.link.Side.{Side}
+use Rattle.afdx_frame.specs.declared.link.Side.TheVariants.{A, B}
+use Rattle.afdx_config.specs.LawfulStream.{Sending}
+use Rattle.afdx_config.specs.Reading.{has_port}
+use Rattle.afdx_config.specs.Rows.{SystemRow, LinkRow, Rows, is_to}
+use Rattle.afdx_police.specs.Arrival.{Arrival, is_side}
+use Rattle.afdx_port.specs.Schedule.{Turn}
+use Rattle.afdx_receive.specs.Copies.{copy_on, AreSendable}
+use Rattle.afdx_send.specs.Emissions.{AreSendings, own, sent_list}
+use Rattle.afdx_send.specs.Frames.{Frame, address_with}
+use Rattle.afdx_send.specs.Laws.{EmitsLawfully}
+use Rattle.afdx_send.specs.Sender.{History}
+use Rattle.afdx_promises.specs.Lines.{Line, messages_told}
+use Rattle.afdx_promises.specs.Promises.{EachIsToldOnce}
+use Rattle.afdx_promises.specs.Streams.{IsFed}
+
+-- a system's frame on a network, and what it sends in a slot
+abbrev pub frame_on : SystemRow → Side → Frame → List ℕ
+frame_on s side f =
+    built_frame (address_with s.id s.partition f) f.number side f.message.payload
+
+abbrev pub sent_in : SystemRow → Turn Frame → Sending
+sent_in s turn = record {
+  time = turn.end;
+  a = frame_on s A turn.entry.item;
+  b =
+      frame_on s B turn.entry.item;
+}
+
+-- what it sends of a link, the first one first
+abbrev pub with_sent : List Sending → Sending → List Sending
+with_sent stream y = stream ++ y ∷ []
+
+unfoldable pub stream_of : SystemRow → ℕ → List (Turn Frame) → List Sending
+stream_of s vl [] = []
+stream_of s vl (turn ∷ earlier) =
+    if turn.entry.item.vl == vl then with_sent (stream_of s vl earlier) (sent_in s turn)
+    else stream_of s vl earlier
+
+-- the builder takes each frame
+pub record IsBuildable (s : SystemRow) (turn : Turn Frame) : Type 0 where
+  pub buildable : Buildable
+      (address_with s.id s.partition turn.entry.item) turn.entry.item.message.payload
+  pub bytes : AreBytes turn.entry.item.message.payload
+  pub number : turn.entry.item.number < 2 ^ 8
+
+-- an arrival on a side is what was sent in a slot, when the slot ended
+pub record IsSentAs (s : SystemRow) (side : Side) (turn : Turn Frame) (x : Arrival) : Type 0 where
+  pub time : x.time ≡ turn.end
+  pub bytes : x.bytes ≡ copy_on side (sent_in s turn)
+
+-- these arrivals are what was sent in these slots, one for each, in order
+abbrev pub AreSentAs : SystemRow → Side → List (Turn Frame) → List Arrival → Type 0
+AreSentAs s side [] [] = Unit {0}
+AreSentAs s side [] (x ∷ past) = ⊥
+AreSentAs s side (turn ∷ earlier) [] = ⊥
+AreSentAs s side (turn ∷ earlier) (x ∷ past) = IsSentAs s side turn x
+    × AreSentAs s side earlier past
+
+abbrev pub arrivals_at : Side → ℕ → List Arrival → List Arrival
+arrivals_at side port arrivals = filter (λ x. is_side side x.side && (port == x.port)) arrivals
+
+-- on both sides all that arrives at the port of a system is what it sent. So it is where the lists
+-- of all systems are merged in any way that keeps the order of each
+abbrev pub IsMerged : SystemRow → List (Turn Frame) → List Arrival → Type 0
+IsMerged s emitted arrivals = (side : Side) →
+    AreSentAs s side emitted (arrivals_at side s.port arrivals)
+
+-- then both sides are fed with the stream of each of its links, whole
+abbrev pub SentIsFed : Type 0
+SentIsFed = (t : Rows) (arrivals : List Arrival) (s : SystemRow) (l : LinkRow)
+    (emitted : List (Turn Frame)) →
+    slice_get t.systems l.from ≡ Some s → AllByRecursion (IsBuildable s) emitted →
+    IsMerged s emitted arrivals →
+    (side : Side) → IsFed t l (stream_of s l.vl emitted) side arrivals
+
+-- which are its sendings
+abbrev pub StreamIsOfSendings : Type 0
+StreamIsOfSendings = (s : SystemRow) (vl : ℕ) (emitted : List (Turn Frame)) →
+    AllByRecursion (IsBuildable s) emitted → AreSendings s vl emitted (stream_of s vl emitted)
+
+-- End to end: where a link's sender has emitted lawfully, and what arrives is what it emitted, the
+-- M lines of each receiver of the link are exactly the released messages to its UDP ports, each
+-- once and in order of their releases.
+abbrev pub ReleasedAreToldOnce : Type 0
+ReleasedAreToldOnce = (t : Rows) (arrivals : List Arrival) (lines : List Line) (h : History)
+    (system place at : ℕ) (s : SystemRow) (l : LinkRow) →
+    EachIsToldOnce t arrivals lines → slice_get t.systems system ≡ Some s → slice_get t.links place
+    ≡ Some l → is_to system l ≡ true →
+    slice_get t.systems l.from ≡ Some h.system → AllByRecursion (IsBuildable h.system) h.emitted →
+    IsMerged h.system h.emitted arrivals →
+    (e : EmitsLawfully h at l (stream_of h.system l.vl h.emitted)) →
+    AreSendable h.system l (sent_list (own at e.released)) →
+    reverse (messages_told system l.vl lines)
+    ≡ filter (λ m. has_port t.ports system l.vl m.udp) (sent_list (own at e.released))
