@@ -16,3 +16,4 @@ pub mod SendEvents
 pub mod SendText
 pub mod Sent
 pub mod SendProgress
+pub mod SendCommand
