@@ -100,7 +100,7 @@ one_link f vl m (x ∷ links) zero l distinct h e =
     let here : x ≡ l = cc h in
     let same : (vl == x.vl) ≡ true = eqb-same vl x.vl (sym (ap (λ z. z.vl) here ∙ e)) in
     let none : (i : ℕ) (y : LinkRow) → slice_get links i ≡ Some y → y.vl ≡ vl → ⊥ =
-        λ i y stands is. (let e : 0 ≡ suc i = distinct 0 (suc i) x y refl stands (ap (λ z. z.vl) here ∙ e ∙ sym is) in absurd (omega (arith, e))) in
+    λ i y stands is. (let e : 0 ≡ suc i = distinct 0 (suc i) x y refl stands (ap (λ z. z.vl) here ∙ e ∙ sym is) in absurd (omega (arith, e))) in
     ap (λ b. (if b then f x.vl ++ m ∷ [] else f x.vl) ∷ map (λ l. more_of vl m l.vl (f l.vl)) links) same ∙ ap (λ z. (f x.vl ++ m ∷ []) ∷ z) (no_link f vl m links none)
 one_link f vl m (x ∷ links) (suc place) l distinct h e =
     let other : (vl == x.vl) ≡ false = eqb-other vl x.vl (λ is. (let k : 0 ≡ suc place = distinct 0 (suc place) x l refl h (sym is ∙ sym e) in absurd (omega (arith, k)))) in

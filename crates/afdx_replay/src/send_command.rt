@@ -45,12 +45,13 @@ fn send_from<R: Read, O: Write, E: Write>(
     }
 }
 
-/// Sends the messages of a list from the system of this name in the tables of a configuration: its frames for both networks go
-/// to `output`, as a list that `replay` reads, with a remark for each message that was refused; a fault's one line goes to `errors`.
+/// Sends the messages of a list from the system of this name in the tables of a configuration.
 ///
-/// It gives the exit status: 0 done, 1 a fault of the configuration or tables that are not admitted, 2 no system has the name,
-/// 3 a fault of the list, 4 a device or memory. Of several causes the first is answered: a fault of the configuration, the
-/// system's name, admission, the list.
+/// Its frames for both networks go to `output`, as a list that `replay` reads, with a remark for each
+/// message that was refused; a fault's one line goes to `errors`. It gives the exit status: 0 done,
+/// 1 a fault of the configuration or tables that are not admitted, 2 no system has the name, 3 a
+/// fault of the list, 4 a device or memory. Of several causes the first is answered: a fault of the
+/// configuration, the system's name, admission, the list.
 pub fn send<R: Read, O: Write, E: Write>(
     alloc: Global,
     config: &[u8],
@@ -65,7 +66,8 @@ pub fn send<R: Read, O: Write, E: Write>(
     ensures { IfSome (R.remaining input.old.inner) (λ bytes.
         Sends config.now system.now bytes (R.remaining input.new.inner)
         (O.contents output.old.inner) (O.contents output.new.inner) result
-        ⊎ (IsNotSent config.now system.now result × (input.new ≡ input.old) × (output.new ≡ output.old))) }
+        ⊎ (IsNotSent config.now system.now result ×
+        (input.new ≡ input.old) × (output.new ≡ output.old))) }
 {
     let tables = match read_tables(alloc, config) {
         Ok(tables) => tables,
