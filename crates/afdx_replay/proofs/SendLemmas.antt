@@ -1,12 +1,13 @@
 -- What a run that sends has told, one event more, and what it answers then.
 use Rattle.std.proofs.Common.{◌≡◌, ℕ, zero, suc, ◌+◌, ◌<◌, ◌≤◌, ◌==◌, Bool, true, false, if◌then◌else◌, List, [], ◌∷◌, ◌++◌, map, length, Option, Some, None, refl, ap, sym, ◌∙◌, subst, arith, append_assoc, replicate, slice_set, slice_index_or, inl, inr, ◌⊎◌}
-use Rattle.std.specs.Prelude.{IfSome, IfNone}
+use Rattle.std.specs.Prelude.{IfSome, IfNone, Result, Ok, Err, IsOk}
 use Rattle.std.proofs.lemmas.Bool.Decides.{nat_tests}
 use Rattle.std.specs.List.{slice_get}
 use Rattle.std.specs.Io.KnownBytes.{Appends}
 use Rattle.std.proofs.KnownBytes.{Appends-trans, Appends-nil}
 use Rattle.afdx_frame.specs.declared.link.Side.TheVariants.{A, B}
-use Rattle.afdx_config.specs.Admission.{links_from}
+use Rattle.afdx_config.specs.Admission.{IsAdmitted, links_from}
+use Rattle.afdx_config.specs.Reading.{Spells, system_named}
 use Rattle.afdx_config.specs.Lawful.{AreDistinct}
 use Rattle.afdx_config.specs.LawfulStream.{Sending}
 use Rattle.afdx_config.specs.Rows.{SystemRow, LinkRow, Rows}
@@ -23,10 +24,12 @@ use Rattle.afdx_send.specs.declared.fault.SendFault.{SendFault}
 use Rattle.afdx_send.specs.declared.fault.SendFault.TheVariants.{NotMyLink, NoSuchSub, Empty, TooLarge, QueueFull, Memory}
 use Rattle.afdx_send.specs.declared.sender.Emission.{Emission}
 use Rattle.afdx_send.specs.declared.working.Working.{Working}
+use Rattle.afdx_replay.specs.Commands.{status_of_answer}
 use Rattle.afdx_replay.specs.ReplayText.{no_counts, with_lines}
 use Rattle.afdx_replay.specs.SendEvents.{Handed, submissions, message_of, Event, Emitted, Submitted, submissions_in, turns_in, taken_by, with_taken, calls_in, IsAnswered, EachFollows, AreEventsOf, IsAtSubmission, AreDone}
 use Rattle.afdx_replay.specs.SendText.{emission_lines, sending_in, event_lines, refusal_line, send_text, with_event, send_counts}
-use Rattle.afdx_replay.specs.Sent.{Source, WritesSoFar, WritesSome, WritesEvents, WritesAll}
+use Rattle.afdx_replay.specs.Sent.{Source, source_at, WritesSoFar, WritesSome, WritesEvents, WritesAll, Answers}
+use Rattle.afdx_replay.specs.SendCommand.{SendsFrom, Sends}
 use Rattle.afdx_replay.specs.SendProgress.{HasTold, AreTold, ToldMore, ToldUntil, TellsSubmission, HasRoom}
 use Rattle.afdx_replay.specs.declared.summary.Summary.{Summary}
 use Rattle.afdx_replay.proofs.RunLemmas.{IsDone}
@@ -97,7 +100,7 @@ one_link f vl m (x ∷ links) zero l distinct h e =
     let here : x ≡ l = cc h in
     let same : (vl == x.vl) ≡ true = eqb-same vl x.vl (sym (ap (λ z. z.vl) here ∙ e)) in
     let none : (i : ℕ) (y : LinkRow) → slice_get links i ≡ Some y → y.vl ≡ vl → ⊥ =
-        λ i y stands is. (let e : 0 ≡ suc i = distinct 0 (suc i) x y refl stands (ap (λ z. z.vl) here ∙ e ∙ sym is) in absurd (omega (arith, e))) in
+    λ i y stands is. (let e : 0 ≡ suc i = distinct 0 (suc i) x y refl stands (ap (λ z. z.vl) here ∙ e ∙ sym is) in absurd (omega (arith, e))) in
     ap (λ b. (if b then f x.vl ++ m ∷ [] else f x.vl) ∷ map (λ l. more_of vl m l.vl (f l.vl)) links) same ∙ ap (λ z. (f x.vl ++ m ∷ []) ∷ z) (no_link f vl m links none)
 one_link f vl m (x ∷ links) (suc place) l distinct h e =
     let other : (vl == x.vl) ≡ false = eqb-other vl x.vl (λ is. (let k : 0 ≡ suc place = distinct 0 (suc place) x l refl h (sym is ∙ sym e) in absurd (omega (arith, k)))) in
@@ -326,3 +329,30 @@ if-none (Some x) P none h = absurd (none x refl)
 pub none-of : {T : Type 0} (o : Option T) → ((x : T) → o ≡ Some x → ⊥) → o ≡ None
 none-of None h = refl
 none-of (Some x) h = absurd (h x refl)
+
+-- ---- the command
+
+element : {T : Type 0} (xs : List T) (i : ℕ) → i < length xs → (x : T) × (slice_get xs i ≡ Some x)
+element [] i within = absurd (omega arith)
+element (x ∷ xs) zero within = (x, refl)
+element (x ∷ xs) (suc i) within = element xs i (omega arith)
+
+pub sends-from : (s : Source) (input rest old new : Option (List ℕ)) (status : ℕ) (r : Result Summary RunFault) → IfSome input (λ bytes. Answers s bytes rest old new r) → status ≡ status_of_answer r →
+    IfSome input (λ bytes. SendsFrom s bytes rest old new status)
+sends-from s None rest old new status r h e = tt
+sends-from s (Some bytes) rest old new status r h e = record { answer = r; answers = h; status_is = e }
+
+pub sends-in : (config name : List ℕ) (t : Rows) (place : ℕ) (input rest old new : Option (List ℕ)) (status : ℕ) → Spells config t → system_named t.systems name ≡ Some place → IsAdmitted t → place < length t.systems →
+    ((row : SystemRow) → slice_get t.systems place ≡ Some row → IfSome input (λ bytes. SendsFrom (source_at t place row) bytes rest old new status)) → IfSome input (λ bytes. Sends config name bytes rest old new status)
+sends-in config name t place None rest old new status spelled named admitted within h = tt
+sends-in config name t place (Some bytes) rest old new status spelled named admitted within h =
+    let e = element t.systems place within in
+    record { tables = t; spelled = spelled; system = place; named = named; admitted = admitted; row = e.0; stands = e.1; sends = h e.0 e.1 }
+
+pub is-ok : {V E : Type 0} (r : Result V E) (v : V) → r ≡ Ok v → IsOk r
+is-ok (Ok w) v is = refl
+is-ok (Err e) v is = absurd (cc is)
+
+pub not-ok : {V E : Type 0} (r : Result V E) (e : E) → r ≡ Err e → IsOk r → ⊥
+not-ok (Ok v) e is h = absurd (cc is)
+not-ok (Err f) e is h = cc h

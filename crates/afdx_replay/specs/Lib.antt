@@ -17,3 +17,4 @@ pub mod SendText
 pub mod Refusals
 pub mod Sent
 pub mod SendProgress
+pub mod SendCommand

@@ -1,4 +1,5 @@
--- The arrivals that the lines of a frame list say, and its first fault. A list of arrivals has the newest first.
+-- The arrivals that the lines of a frame list say, and its first fault.
+-- A list of arrivals has the newest first.
 use Rattle.std.specs.Prelude.{ℕ, List, Option, Result}
 use Rattle.afdx_police.specs.Arrival.{Arrival}
 use Rattle.afdx_lists.specs.FrameLines.{Frame, line_says}
@@ -8,7 +9,8 @@ use Rattle.afdx_replay.specs.Lists.{Kind, latest_in, with_item, item_after, item
 
 -- the arrival of the frame of line n
 abbrev pub arrival_at : ℕ → Frame → Arrival
-arrival_at n frame = record { tag = n; time = frame.time; side = frame.side; port = frame.port; bytes = frame.bytes }
+arrival_at n frame =
+    record { tag = n; time = frame.time; side = frame.side; port = frame.port; bytes = frame.bytes }
 
 -- lists of frames
 abbrev pub frames : Kind Frame Arrival

@@ -1,11 +1,13 @@
--- What the lines of a list say one after another, and its first fault, whatever kind of list it is. A list of what was said has the newest first.
+-- What the lines of a list say one after another, and its first fault, whatever kind of list it is.
+-- A list of what was said has the newest first.
 use Rattle.std.specs.Prelude.{ℕ, zero, suc, ◌+◌, ◌<◌, ◌≡◌, List, [], ◌∷◌, length, Option, Some, None, Result, Ok, Err, nat_le, nat_lt, slice_index_or, if◌then◌else◌}
 use Rattle.afdx_lists.specs.declared.fault.RunFault.{RunFault}
 use Rattle.afdx_lists.specs.declared.fault.RunFault.TheVariants as run
 use Rattle.afdx_lists.specs.declared.fault.LineFault.{LineFault}
 use Rattle.afdx_lists.specs.Faults.{fault_with}
 
--- a kind of list: what a line says that comes after one of the latest time, what that is as something of line n, and its time
+-- a kind of list: what a line says that comes after one of the latest time, what that is as
+-- something of line n, and its time
 pub record Kind (Y X : Type 0) : Type 0 where
   pub says : ℕ → List ℕ → Result (Option Y) LineFault
   pub item : ℕ → Y → X
@@ -34,7 +36,8 @@ module _ {Y X : Type 0} (k : Kind Y X) where
   -- what the first n lines say
   unfoldable pub items_of : List (List ℕ) → ℕ → List X
   items_of lines zero = []
-  items_of lines (suc n) = with_item (suc n) (item_after (items_of lines n) (slice_index_or lines n [])) (items_of lines n)
+  items_of lines (suc n) =
+      with_item (suc n) (item_after (items_of lines n) (slice_index_or lines n [])) (items_of lines n)
 
   -- what line n says, counted from 0, after the lines before it
   abbrev pub item_said : List (List ℕ) → ℕ → Result (Option Y) LineFault
@@ -53,4 +56,5 @@ module _ {Y X : Type 0} (k : Kind Y X) where
 
   -- the first fault of these lines stands at line n, counted from 0
   abbrev pub HaveFirstFault : List (List ℕ) → ℕ → RunFault → Type 0
-  HaveFirstFault lines n fault = (n < length lines) × HaveNoFault lines n × (fault_in lines n ≡ Some fault)
+  HaveFirstFault lines n fault =
+      (n < length lines) × HaveNoFault lines n × (fault_in lines n ≡ Some fault)

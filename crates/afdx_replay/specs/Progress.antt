@@ -1,4 +1,4 @@
--- How far a run has read its list, whatever kind of list it is, and whatever is told of what it says.
+-- How far a run has read its list, whatever kind of list it is, and whatever is told of it.
 use Rattle.std.specs.Prelude.{ℕ, ◌≡◌, ◌≤◌, List, length, drop, Option, Some, None, ⊤}
 use Rattle.afdx_police.specs.Arrival.{Arrival}
 use Rattle.afdx_lists.specs.Lines.{lines_of}
@@ -7,7 +7,8 @@ use Rattle.afdx_replay.specs.Listed.{frames}
 
 module _ {Y X : Type 0} (k : Kind Y X) where
   -- the first n of these lines were read, this is told of what they say, and `rest` is left
-  pub record HasRead (told : List X → Type 0) (latest n : ℕ) (lines : List (List ℕ)) (rest : List ℕ) : Type 0 where
+  pub record HasRead (told : List X → Type 0) (latest n : ℕ)
+      (lines : List (List ℕ)) (rest : List ℕ) : Type 0 where
     pub within : n ≤ length lines
     pub rest_is : lines_of rest ≡ drop n lines
     pub sound : HaveNoFault k lines n

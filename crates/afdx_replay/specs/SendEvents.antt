@@ -1,4 +1,5 @@
--- The events of a run that sends: what its system emits, and what became of each submission. Lists of events and of submissions have the latest first.
+-- The events of a run that sends: what its system emits, and what became of each submission.
+-- Lists of events and of submissions have the latest first.
 use Rattle.std.specs.Prelude.{ℕ, ◌<◌, ◌≤◌, ◌≡◌, ◌==◌, if◌then◌else◌, List, [], ◌∷◌, ◌++◌, length, map, Option, Some, None}
 use Rattle.afdx_config.specs.Rows.{SystemRow, LinkRow}
 use Rattle.afdx_lists.specs.SubmissionLines.{Submission, submission_said}
@@ -17,7 +18,11 @@ pub record Handed : Type 0 where
 
 -- lists of submissions
 abbrev pub submissions : Kind Submission Handed
-submissions = record { says = submission_said; item = λ n s. record { line = n; submission = s }; time = λ x. x.submission.time }
+submissions = record {
+  says = submission_said;
+  item = λ n s. record { line = n; submission = s };
+  time = λ x. x.submission.time;
+}
 
 -- an emission, in its slot of the system's port; or a submission, and why it was refused, if it was
 pub data Event : Type 0 where
@@ -41,7 +46,8 @@ turns_in (Submitted x fault ∷ before) = turns_in before
 -- a list, and the message of a submission after it, if it is for this link and was taken
 abbrev pub with_taken : ℕ → Handed → Option SendFault → List send.Submission → List send.Submission
 with_taken vl x (Some fault) taken = taken
-with_taken vl x None taken = if x.submission.vl == vl then taken ++ message_of x.submission ∷ [] else taken
+with_taken vl x None taken =
+    if x.submission.vl == vl then taken ++ message_of x.submission ∷ [] else taken
 
 -- what the link with this identifier took, the first one first
 abbrev pub taken_by : ℕ → List Event → List send.Submission
@@ -52,12 +58,14 @@ taken_by vl (Submitted x fault ∷ before) = with_taken vl x fault (taken_by vl 
 -- the calls of the system's sender that these events are, of which the last was at this time
 abbrev pub calls_in : SystemRow → List LinkRow → List Event → ℕ → History
 calls_in s links events time =
-    record { system = s; links = links; taken = map (λ l. taken_by l.vl events) links; emitted = turns_in events; time = time }
+    let taken = map (λ l. taken_by l.vl events) links in
+    record { system = s; links = links; taken = taken; emitted = turns_in events; time = time }
 
 -- it is taken by one of the links, or refused for this reason. Want of memory is no such reason
 abbrev pub IsAnswered : History → Submission → Option SendFault → Type 0
 IsAnswered h s None = (place : ℕ) × IsTaken h place s.vl (message_of s)
-IsAnswered h s (Some fault) = (fault ≡ Memory → ⊥) × IsRefused h s.time s.vl s.sub (length s.payload) fault
+IsAnswered h s (Some fault) =
+    (fault ≡ Memory → ⊥) × IsRefused h s.time s.vl s.sub (length s.payload) fault
 
 -- before a submission stand exactly the emissions that end by its time
 pub record IsHandled (h : History) (s : Submission) (fault : Option SendFault) : Type 0 where
@@ -68,7 +76,8 @@ pub record IsHandled (h : History) (s : Submission) (fault : Option SendFault) :
 -- an event follows those before it: the next emission, or a submission in its time
 abbrev pub Follows : SystemRow → List LinkRow → List Event → Event → Type 0
 Follows s links before (Emitted turn) = IsNextIn (calls_in s links before turn.end) turn
-Follows s links before (Submitted x fault) = IsHandled (calls_in s links before x.submission.time) x.submission fault
+Follows s links before (Submitted x fault) =
+    IsHandled (calls_in s links before x.submission.time) x.submission fault
 
 -- each event follows those before it
 abbrev pub EachFollows : SystemRow → List LinkRow → List Event → Type 0
@@ -76,7 +85,8 @@ EachFollows s links [] = Unit {0}
 EachFollows s links (e ∷ before) = Follows s links before e × EachFollows s links before
 
 -- the events of these submissions, and of no others
-pub record AreEventsOf (s : SystemRow) (links : List LinkRow) (past : List Handed) (events : List Event) : Type 0 where
+pub record AreEventsOf (s : SystemRow) (links : List LinkRow) (past : List Handed)
+    (events : List Event) : Type 0 where
   pub submissions_are : submissions_in events ≡ past
   pub follow : EachFollows s links events
 

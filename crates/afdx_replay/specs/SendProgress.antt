@@ -18,7 +18,8 @@ abbrev pub handed_at : ℕ → HandedLine → List ℕ → Handed
 handed_at n handed payload = record { line = n; submission = submission_of handed payload }
 
 -- these events are told: the sender stands for them, they are counted, and their text is written
-pub record HasTold (s : Source) (w : Working) (port : ℕ) (counts : Summary) (old new : Option (List ℕ)) (events : List Event) : Type 0 where
+pub record HasTold (s : Source) (w : Working) (port : ℕ) (counts : Summary)
+    (old new : Option (List ℕ)) (events : List Event) : Type 0 where
   pub stands : StandsFor w (calls_in s.row s.links events (last_time w))
   pub port_is : port ≡ s.row.port
   pub follow : EachFollows s.row s.links events
@@ -27,26 +28,32 @@ pub record HasTold (s : Source) (w : Working) (port : ℕ) (counts : Summary) (o
   pub written : Appends old new (send_text s.row events)
 
 -- these submissions are told, and the emissions before the last of them
-pub record AreTold (s : Source) (w : Working) (port : ℕ) (counts : Summary) (old new : Option (List ℕ)) (past : List Handed) : Type 0 where
+pub record AreTold (s : Source) (w : Working) (port : ℕ) (counts : Summary)
+    (old new : Option (List ℕ)) (past : List Handed) : Type 0 where
   pub events : List Event
   pub submissions_are : submissions_in events ≡ past
   pub at_submission : IsAtSubmission events
   pub told : HasTold s w port counts old new events
 
 -- more emissions are told, of the same submissions
-pub record ToldMore (s : Source) (w : Working) (port : ℕ) (counts : Summary) (old new : Option (List ℕ)) (events : List Event) : Type 0 where
+pub record ToldMore (s : Source) (w : Working) (port : ℕ) (counts : Summary)
+    (old new : Option (List ℕ)) (events : List Event) : Type 0 where
   pub more : List Event
   pub submissions_are : submissions_in more ≡ submissions_in events
   pub told : HasTold s w port counts old new more
 
 -- all that end by this time
-pub record ToldUntil (s : Source) (until : ℕ) (w : Working) (port : ℕ) (counts : Summary) (old new : Option (List ℕ)) (events : List Event) : Type 0 where
+pub record ToldUntil (s : Source) (until : ℕ) (w : Working) (port : ℕ) (counts : Summary)
+    (old new : Option (List ℕ)) (events : List Event) : Type 0 where
   pub told : ToldMore s w port counts old new events
-  pub no_more : (turn : Turn Frame) → IsNextIn (calls_in s.row s.links told.more until) turn → until < turn.end
+  pub no_more : (turn : Turn Frame) →
+      IsNextIn (calls_in s.row s.links told.more until) turn → until < turn.end
   pub done : 1200000000000000 ≤ until → AreDone s.row s.links told.more
 
--- a submission that comes after these events was handed to the sender, which took it or refused it, and it is counted
-pub record TellsSubmission (s : Source) (w : Working) (counts : Summary) (before : List Event) (x : Handed) (fault : Option SendFault) : Type 0 where
+-- a submission that comes after these events was handed to the sender, which took it or refused
+-- it, and it is counted
+pub record TellsSubmission (s : Source) (w : Working) (counts : Summary) (before : List Event)
+    (x : Handed) (fault : Option SendFault) : Type 0 where
   pub stands : StandsFor w (calls_in s.row s.links (Submitted x fault ∷ before) x.submission.time)
   pub answered : IsAnswered (calls_in s.row s.links before x.submission.time) x.submission fault
   pub counted : counts ≡ send_counts (Submitted x fault ∷ before)

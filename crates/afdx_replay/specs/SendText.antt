@@ -1,4 +1,5 @@
--- The text of a run that sends: the lines of each event, in the order of the events. A list of events has the latest first.
+-- The text of a run that sends: the lines of each event, in the order of the events.
+-- A list of events has the latest first.
 use Rattle.std.specs.Prelude.{ℕ, ◌+◌, List, [], ◌∷◌, ◌++◌, Option, Some, None, codes}
 use Rattle.std.specs.Fmt.{decimal}
 use Rattle.hex.specs.Hex.{encode_lower}
@@ -19,8 +20,8 @@ use Rattle.afdx_replay.specs.declared.summary.Summary.{Summary}
 -- a frame on one network, as a line of a replay's list
 abbrev pub sent_line : Side → ℕ → ℕ → List ℕ → List ℕ
 sent_line side port time bytes =
-    codes "R " ++ decimal time ++ codes " " ++ side_text side ++ codes " " ++ decimal port ++ codes " "
-    ++ encode_lower bytes ++ codes "\n"
+    codes "R " ++ decimal time ++ codes " " ++ side_text side ++ codes " " ++ decimal port
+    ++ codes " " ++ encode_lower bytes ++ codes "\n"
 
 -- the two lines of an emission
 abbrev pub emission_lines : ℕ → Sending → List ℕ
@@ -32,7 +33,8 @@ frame_on s side f = built_frame (address_with s.id s.partition f) f.number side 
 
 -- what is sent in a slot
 abbrev pub sending_in : SystemRow → Turn Frame → Sending
-sending_in s turn = record { time = turn.end; a = frame_on s A turn.entry.item; b = frame_on s B turn.entry.item }
+sending_in s turn =
+    record { time = turn.end; a = frame_on s A turn.entry.item; b = frame_on s B turn.entry.item }
 
 abbrev pub refusal_text : SendFault → List ℕ
 refusal_text NotMyLink = codes "S1"

@@ -21,7 +21,8 @@ pub record Source : Type 0 where
   pub row : SystemRow
   pub links : List LinkRow
 
--- the output, which held `old`, now holds after it the text of the events of these submissions up to the last of them
+-- the output, which held `old`, now holds after it the text of the events of these submissions
+-- up to the last of them
 pub record WritesSoFar (s : Source) (old new : Option (List ℕ)) (past : List Handed) : Type 0 where
   pub events : List Event
   pub are_events : AreEventsOf s.row s.links past events
@@ -35,24 +36,30 @@ pub record WritesSome (s : Source) (old new : Option (List ℕ)) (past : List Ha
   pub written : AppendsFront old new (send_text s.row events)
 
 -- the text of all events of these submissions is written, and they are counted
-pub record WritesEvents (s : Source) (counts : Summary) (old new : Option (List ℕ)) (past : List Handed) : Type 0 where
+pub record WritesEvents (s : Source) (counts : Summary) (old new : Option (List ℕ))
+    (past : List Handed) : Type 0 where
   pub events : List Event
   pub are_events : AreEventsOf s.row s.links past events
   pub are_done : AreDone s.row s.links events
   pub written : Appends old new (send_text s.row events)
   pub counted : counts ≡ send_counts events
 
--- all lines were read, none has a fault, and the text of all events of their submissions is written, and they are counted
-pub record WritesAll (s : Source) (lines : List (List ℕ)) (old new : Option (List ℕ)) (summary : Summary) : Type 0 where
+-- all lines were read, none has a fault, and the text of all events of their submissions is
+-- written, and they are counted
+pub record WritesAll (s : Source) (lines : List (List ℕ)) (old new : Option (List ℕ))
+    (summary : Summary) : Type 0 where
   pub sound : HaveNoFault submissions lines (length lines)
   pub counts : Summary
   pub writes : WritesEvents s counts old new (items_of submissions lines (length lines))
   pub counted : summary ≡ with_lines counts (length lines)
 
--- what a run answers that is given a list of these bytes, after which the input has `rest` and the output `new`
-abbrev pub Answers : Source → List ℕ → Option (List ℕ) → Option (List ℕ) → Option (List ℕ) → Result Summary RunFault → Type 0
+-- what a run answers that is given a list of these bytes, after which the input has `rest` and
+-- the output `new`
+abbrev pub Answers : Source → List ℕ → (rest old new : Option (List ℕ)) →
+    Result Summary RunFault → Type 0
 Answers s bytes rest old new (Ok summary) = WritesAll s (lines_of bytes) old new summary
-Answers s bytes rest old new (Err fault) = StopsIn submissions (WritesSoFar s old new) (WritesSome s old new) bytes rest fault
+Answers s bytes rest old new (Err fault) =
+    StopsIn submissions (WritesSoFar s old new) (WritesSome s old new) bytes rest fault
 
 -- the system at this place, and the links that it sends
 abbrev pub source_at : Rows → ℕ → SystemRow → Source

@@ -1,4 +1,4 @@
--- Where a run over a list stops with a fault, whatever kind of list it is, and whatever is told of what it says.
+-- Where a run over a list stops with a fault, whatever kind it is, and whatever is told of it.
 use Rattle.std.specs.Prelude.{ℕ, ◌≤◌, List, length, Option, Some}
 use Rattle.afdx_police.specs.Arrival.{Arrival}
 use Rattle.afdx_lists.specs.Lines.{lines_of, GaveWhole}
@@ -15,9 +15,11 @@ module _ {Y X : Type 0} (k : Kind Y X) where
     pub are_told : told (items_of k lines n)
 
   -- A run over the list of these bytes stops with a fault, after which the input has `rest`:
-  -- after a failed read all is told of the lines whose line feed was read; after a failed write, or want of
-  -- memory, of some lines a beginning is told; at a fault of the list all is told of the lines before it
-  abbrev pub StopsIn : (all beginning : List X → Type 0) → List ℕ → Option (List ℕ) → RunFault → Type 0
+  -- after a failed read all is told of the lines whose line feed was read; after a failed write,
+  -- or want of memory, of some lines a beginning is told; at a fault of the list all is told of
+  -- the lines before it
+  abbrev pub StopsIn : (all beginning : List X → Type 0) → List ℕ → Option (List ℕ) →
+      RunFault → Type 0
   StopsIn all beginning bytes rest Read =
       (n : ℕ) × GaveWhole (Some bytes) rest n × IsToldOf all (lines_of bytes) n
   StopsIn all beginning bytes rest Write = (n : ℕ) × IsToldOf beginning (lines_of bytes) n
@@ -26,5 +28,6 @@ module _ {Y X : Type 0} (k : Kind Y X) where
       (n : ℕ) × HaveFirstFault k (lines_of bytes) n fault × all (items_of k (lines_of bytes) n)
 
 -- a run over a list of frames
-abbrev pub StopsAt : (all beginning : List Arrival → Type 0) → List ℕ → Option (List ℕ) → RunFault → Type 0
+abbrev pub StopsAt : (all beginning : List Arrival → Type 0) → List ℕ → Option (List ℕ) →
+    RunFault → Type 0
 StopsAt all beginning bytes rest fault = StopsIn frames all beginning bytes rest fault

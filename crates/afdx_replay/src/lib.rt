@@ -11,6 +11,7 @@ mod refusing;
 mod replay_command;
 mod replay_lines;
 mod replay_run;
+mod send_command;
 mod send_run;
 mod summary;
 mod verdict;
@@ -22,6 +23,7 @@ pub use police_command::police;
 pub use police_run::run_police;
 pub use replay_command::replay;
 pub use replay_run::run_unadmitted;
+pub use send_command::send;
 pub use send_run::run_send;
 pub use summary::Summary;
 

@@ -30,7 +30,8 @@ fn put_sent(
     port: u8,
     bytes: &[u8],
 ) -> Result<(), AllocError>
-    ensures { OnOk result (text_bytes text.new ≡ text_bytes text.old ++ sent_line side port time bytes.now) }
+    ensures { OnOk result (text_bytes text.new ≡
+        text_bytes text.old ++ sent_line side port time bytes.now) }
 {
     let letter = side_letter(side);
     text.put(b"R ")?;
@@ -113,20 +114,26 @@ impl Sending {
         output: &mut Watched<W>,
     ) -> Result<(), RunFault>
         requires clock { last_time self.old.sender ≤ until }
-        requires room { (n : ℕ) × (n ≤ 1000000) × HasRoom self.old.counts (frames_held self.old.sender) n }
+        requires room { (n : ℕ) × (n ≤ 1000000) ×
+            HasRoom self.old.counts (frames_held self.old.sender) n }
         requires sound { output.old.failed ≡ false }
         ensures failed { output.new.failed ≡ is_failed_write result }
-        ensures fault { IfErr result (λ fault. (fault ≡ RunFault.Write) ⊎ (fault ≡ RunFault.Memory)) }
+        ensures fault { IfErr result (λ fault.
+            (fault ≡ RunFault.Write) ⊎ (fault ≡ RunFault.Memory)) }
         ensures clock { OnOk result (last_time self.new.sender ≡ until) }
         ensures quiet { OnOk result (IsQuiet self.new.sender until) }
         ensures room { (n : ℕ) → HasRoom self.old.counts (frames_held self.old.sender) n →
             OnOk result (HasRoom self.new.counts (frames_held self.new.sender) n) }
         ensures told { (s : Source) (events : List Event) (start : Option (List ℕ)) →
-            HasTold s self.old.sender self.old.port self.old.counts start (W.contents output.old.inner) events →
-            OnOk result (ToldUntil s until self.new.sender self.new.port self.new.counts start (W.contents output.new.inner) events) }
+            HasTold s self.old.sender self.old.port self.old.counts start
+            (W.contents output.old.inner) events →
+            OnOk result (ToldUntil s until self.new.sender self.new.port self.new.counts start
+            (W.contents output.new.inner) events) }
         ensures some { (s : Source) (events : List Event) (start : Option (List ℕ)) →
-            HasTold s self.old.sender self.old.port self.old.counts start (W.contents output.old.inner) events →
-            OnErr result (WritesSome s start (W.contents output.new.inner) (submissions_in events)) }
+            HasTold s self.old.sender self.old.port self.old.counts start
+            (W.contents output.old.inner) events →
+            OnErr result
+            (WritesSome s start (W.contents output.new.inner) (submissions_in events)) }
     {
         while let Some(emission) = self.sender.emit(until)? {
             put_emission(&mut self.text, self.port, &emission)?;
@@ -141,7 +148,8 @@ impl Sending {
         requires limit { handed.now.time ≤ 10 ^ 15 }
         requires clock { last_time self.old.sender ≤ handed.now.time }
         requires quiet { IsQuiet self.old.sender handed.now.time }
-        requires room { (n : ℕ) × (n < 1000000) × HasRoom self.old.counts (frames_held self.old.sender) n }
+        requires room { (n : ℕ) × (n < 1000000) ×
+            HasRoom self.old.counts (frames_held self.old.sender) n }
         ensures port { self.new.port ≡ self.old.port }
         ensures clock { last_time self.new.sender ≡ handed.now.time }
         ensures room { (n : ℕ) → HasRoom self.old.counts (frames_held self.old.sender) n →
@@ -149,7 +157,8 @@ impl Sending {
         ensures told { (s : Source) (before : List Event) (n : ℕ) →
             StandsFor self.old.sender (calls_in s.row s.links before (last_time self.old.sender)) →
             self.old.counts ≡ send_counts before →
-            IfOk result (λ fault. TellsSubmission s self.new.sender self.new.counts before (handed_at n handed.now payload.now) fault) }
+            IfOk result (λ fault. TellsSubmission s self.new.sender self.new.counts before
+            (handed_at n handed.now payload.now) fault) }
     {
         match self.sender.submit(
             handed.time,
@@ -182,21 +191,26 @@ impl Sending {
     ) -> Result<(), RunFault>
         requires limit { handed.now.time ≤ 10 ^ 15 }
         requires clock { last_time self.old.sender ≤ handed.now.time }
-        requires room { (m : ℕ) × (m < 1000000) × HasRoom self.old.counts (frames_held self.old.sender) m }
+        requires room { (m : ℕ) × (m < 1000000) ×
+            HasRoom self.old.counts (frames_held self.old.sender) m }
         requires sound { output.old.failed ≡ false }
         ensures failed { output.new.failed ≡ is_failed_write result }
-        ensures fault { IfErr result (λ fault. (fault ≡ RunFault.Write) ⊎ (fault ≡ RunFault.Memory)) }
+        ensures fault { IfErr result (λ fault.
+            (fault ≡ RunFault.Write) ⊎ (fault ≡ RunFault.Memory)) }
         ensures clock { OnOk result (last_time self.new.sender ≡ handed.now.time) }
         ensures room { (m : ℕ) → HasRoom self.old.counts (frames_held self.old.sender) m →
             OnOk result (HasRoom self.new.counts (frames_held self.new.sender) (m + 1)) }
         ensures told { (s : Source) (start : Option (List ℕ)) (past : List HandedSubmission) →
-            AreTold s self.old.sender self.old.port self.old.counts start (W.contents output.old.inner) past →
-            OnOk result (AreTold s self.new.sender self.new.port self.new.counts start (W.contents output.new.inner)
-            (handed_at n handed.now payload.now ∷ past)) }
+            AreTold s self.old.sender self.old.port self.old.counts start
+            (W.contents output.old.inner) past →
+            OnOk result (AreTold s self.new.sender self.new.port self.new.counts start
+            (W.contents output.new.inner) (handed_at n handed.now payload.now ∷ past)) }
         ensures some { (s : Source) (start : Option (List ℕ)) (past : List HandedSubmission) →
-            AreTold s self.old.sender self.old.port self.old.counts start (W.contents output.old.inner) past →
+            AreTold s self.old.sender self.old.port self.old.counts start
+            (W.contents output.old.inner) past →
             OnErr result (WritesSome s start (W.contents output.new.inner) past
-            ⊎ WritesSome s start (W.contents output.new.inner) (handed_at n handed.now payload.now ∷ past)) }
+            ⊎ WritesSome s start (W.contents output.new.inner)
+            (handed_at n handed.now payload.now ∷ past)) }
     {
         self.tell_emissions(handed.time, output)?;
         if let Some(fault) = self.submit(handed, payload)? {
@@ -207,12 +221,15 @@ impl Sending {
     }
 }
 
-/// Sends the messages of a list from one system, and writes its frames for both networks as the list of a replay.
+/// Sends the messages of a list from one system, and writes its frames for both networks as the
+/// list of a replay.
 ///
-/// Before a message is handed over, the emissions that end by its time are written; a message that isn't taken gets
-/// a line that says why. At the end the remaining emissions are written. A list that can't be read ends the run with
-/// its first fault; the text of the submissions before it stands written. `RunFault::Read` and `RunFault::Write` come
-/// exactly where the input's or the output's device failed; neither is tried again.
+/// Before a message is handed over, the emissions that end by its time are written; a message that
+/// isn't taken gets a line that says why. At the end the remaining emissions are written. The lines
+/// of an emission are handed to `output` together, and all of a message's before the next line of
+/// the list is read. A list that can't be read ends the run with its first fault; the text of the
+/// submissions before it stands written. `RunFault::Read` and `RunFault::Write` come exactly where
+/// the input's or the output's device failed; neither is tried again.
 pub fn run_send<R: Read, W: Write>(
     alloc: Global,
     tables: &Admitted,
