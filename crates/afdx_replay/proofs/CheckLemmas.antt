@@ -14,13 +14,15 @@ port_lines-more : (t : Rows) (count : ℕ) → port_lines t (count + 1) ≡ port
 unfolding port_lines
 port_lines-more t count = rw add-one refl
 
--- a port with a system, whose line was added; and one without
-pub port_lines-used : (t : Rows) (count : ℕ) (old before after : List ℕ) → is_some (system_at_port t.systems (count + 1)) ≡ true → before ≡ old ++ port_lines t count → after ≡ before ++ port_line t (count + 1) → after ≡ old ++ port_lines t (count + 1)
-port_lines-used t count old before after used e f =
-    f ∙ ap (λ (text : List ℕ). text ++ port_line t (count + 1)) e ∙ append_assoc old (port_lines t count) (port_line t (count + 1))
-    ∙ ap (λ (text : List ℕ). old ++ text) (ap (λ (b : Bool). port_lines t count ++ (if b then port_line t (count + 1) else [])) (sym used) ∙ sym (port_lines-more t count))
+-- the line of one port more was added, if it has one
+pub port_lines-next : (t : Rows) (count : ℕ) (old before after : List ℕ) → before ≡ old ++ port_lines t count →
+    after ≡ before ++ line_if_used t (count + 1) → after ≡ old ++ port_lines t (count + 1)
+port_lines-next t count old before after e f =
+    f ∙ ap (λ (text : List ℕ). text ++ line_if_used t (count + 1)) e ∙ append_assoc old (port_lines t count) (line_if_used t (count + 1))
+    ∙ ap (λ (text : List ℕ). old ++ text) (sym (port_lines-more t count))
 
-pub port_lines-unused : (t : Rows) (count : ℕ) (old before : List ℕ) → is_some (system_at_port t.systems (count + 1)) ≡ false → before ≡ old ++ port_lines t count → before ≡ old ++ port_lines t (count + 1)
-port_lines-unused t count old before used e =
-    e ∙ ap (λ (text : List ℕ). old ++ text)
-    (sym (append-nil (port_lines t count)) ∙ ap (λ (b : Bool). port_lines t count ++ (if b then port_line t (count + 1) else [])) (sym used) ∙ sym (port_lines-more t count))
+pub line-used : (t : Rows) (port : ℕ) → true ≡ is_some (system_at_port t.systems port) → port_line t port ≡ line_if_used t port
+line-used t port used = ap (λ (b : Bool). if b then port_line t port else []) used
+
+pub line-unused : (t : Rows) (port : ℕ) (text : List ℕ) → false ≡ is_some (system_at_port t.systems port) → text ≡ text ++ line_if_used t port
+line-unused t port text unused = sym (append-nil text) ∙ ap (λ (b : Bool). text ++ (if b then port_line t port else [])) unused

@@ -4,30 +4,16 @@ use Rattle.std.specs.Prelude.{ℕ, suc, List, [], ◌∷◌, ◌++◌, Option, S
 use Rattle.std.specs.Fmt.{decimal}
 use Rattle.afdx_frame.specs.declared.link.Side.{Side}
 use Rattle.afdx_frame.specs.declared.link.Side.TheVariants.{A, B}
-use Rattle.afdx_frame.specs.declared.fault.MacFault.TheVariants as mac
 use Rattle.afdx_police.specs.declared.shape.Reason.{Reason}
-use Rattle.afdx_police.specs.declared.shape.Reason.TheVariants.{TooShort, TooLong, BadFcs, BadAddress, UnknownLink, WrongPort, OverLmax, UnderLmin, OverRate}
+pub use Rattle.afdx_police.specs.Words.{reason_word as reason_text}
 use Rattle.afdx_police.specs.Arrival.{Arrival}
 use Rattle.afdx_police.specs.Rule.{Rule}
 use Rattle.afdx_police.specs.Verdicts.{verdict_in}
-use Rattle.afdx_systems.specs.Words.{mac_word}
 use Rattle.afdx_replay.specs.declared.summary.Summary.{Summary}
 
 abbrev pub side_text : Side → List ℕ
 side_text A = codes "A"
 side_text B = codes "B"
-
--- what is wrong with a frame's bytes has the word that a receiver has for it
-abbrev pub reason_text : Reason → List ℕ
-reason_text TooShort = mac_word mac.TooShort
-reason_text TooLong = mac_word mac.TooLong
-reason_text BadFcs = mac_word mac.BadFcs
-reason_text BadAddress = mac_word mac.BadAddress
-reason_text UnknownLink = codes "unknown-link"
-reason_text WrongPort = codes "wrong-port"
-reason_text OverLmax = codes "over-lmax"
-reason_text UnderLmin = codes "under-lmin"
-reason_text OverRate = codes "over-rate"
 
 -- no reason to drop a frame: it is accepted
 abbrev pub verdict_text : Option Reason → List ℕ

@@ -4,8 +4,9 @@ ghost use Rattle.afdx_config.specs.Admission.{IsAdmitted};
 ghost use Rattle.afdx_admit.specs.Bounds.{IsBounds};
 ghost use Rattle.afdx_admit.specs.Lines.{first_false, lines};
 ghost use Rattle.afdx_config.specs.Rows.{Rows};
-ghost use Rattle.afdx_replay.specs.CheckText.{port_line, port_lines, answer_line, check_text};
-ghost use Rattle.afdx_replay.specs.CheckText.{IsChecked, IsDenied, IsFaulty, IsCut, IsUnchecked};
+ghost use Rattle.afdx_replay.specs.CheckText.{port_line, line_if_used, port_lines, answer_line};
+ghost use Rattle.afdx_replay.specs.CheckText.{check_text, IsChecked, IsDenied, IsFaulty, IsCut};
+ghost use Rattle.afdx_replay.specs.CheckText.{IsUnchecked};
 
 use crate::refusing::{refuse_config, want_memory};
 use afdx_admit::{PortBounds, admit, bounds_of};
@@ -31,15 +32,25 @@ fn put_bounds(text: &mut String, port: u8, bounds: &PortBounds) -> Result<(), Al
     }
 }
 
+/// Adds the line of an output port, if it has a system.
+fn put_port(text: &mut String, tables: &Tables, port: u8) -> Result<(), AllocError>
+    ensures { OnOk result
+        (string_bytes text.new ≡ string_bytes text.old ++ line_if_used tables.now port) }
+{
+    match bounds_of(tables, port) {
+        Some(bounds) => put_bounds(text, port, &bounds),
+        None => Ok(()),
+    }
+}
+
 /// Adds the lines of the ports that have a system.
 fn put_ports(text: &mut String, tables: &Tables) -> Result<(), AllocError>
-    ensures { OnOk result (string_bytes text.new ≡ string_bytes text.old ++ port_lines tables.now 24) }
+    ensures { OnOk result
+        (string_bytes text.new ≡ string_bytes text.old ++ port_lines tables.now 24) }
 {
     for count in 0..24_u8 {
         let port = count + 1;
-        if let Some(bounds) = bounds_of(tables, port) {
-            put_bounds(text, port, &bounds)?;
-        }
+        put_port(text, tables, port)?;
     }
     Ok(())
 }

@@ -1,31 +1,12 @@
 //! The words of a verdict, and its line.
 ghost use Rattle.std.specs.Prelude.{◌≡◌, ◌++◌, OnOk};
 ghost use Rattle.afdx_lists.specs.Texts.{text_bytes};
-ghost use Rattle.afdx_replay.specs.PoliceText.{side_text, reason_text, verdict_text, verdict_line};
+ghost use Rattle.afdx_replay.specs.PoliceText.{side_text, verdict_text, verdict_line};
 
-use afdx_frame::{MacFault, Side};
+use afdx_frame::Side;
 use afdx_lists::Text;
 use afdx_police::Reason;
-use afdx_systems::mac_word;
 use std::alloc::AllocError;
-
-/// Why a frame was dropped at a switch, in a word. What is wrong with its bytes has the word that a
-/// receiver has for it.
-fn reason_word(reason: Reason) -> &'static str
-    ensures { result.now ≡ reason_text reason }
-{
-    match reason {
-        Reason::TooShort => mac_word(MacFault::TooShort),
-        Reason::TooLong => mac_word(MacFault::TooLong),
-        Reason::BadFcs => mac_word(MacFault::BadFcs),
-        Reason::BadAddress => mac_word(MacFault::BadAddress),
-        Reason::UnknownLink => "unknown-link",
-        Reason::WrongPort => "wrong-port",
-        Reason::OverLmax => "over-lmax",
-        Reason::UnderLmin => "under-lmin",
-        Reason::OverRate => "over-rate",
-    }
-}
 
 /// Adds what became of a frame at a switch, in words: `accept`, or `drop` and the reason.
 fn put_words(text: &mut Text, reason: Option<Reason>) -> Result<(), AllocError>
@@ -34,7 +15,7 @@ fn put_words(text: &mut Text, reason: Option<Reason>) -> Result<(), AllocError>
     match reason {
         None => text.put(b"accept"),
         Some(reason) => {
-            let word = reason_word(reason);
+            let word = reason.word();
             text.put(b"drop ")?;
             text.put(word.as_bytes())
         }

@@ -9,7 +9,6 @@ mod lines;
 mod systems;
 
 pub use handover::Handover;
-pub use lines::mac_word;
 pub use systems::Systems;
 
 #[cfg(test)]

@@ -2,51 +2,11 @@
 ghost use Rattle.std.specs.Prelude.{◌≡◌, ◌++◌, OnOk};
 ghost use Rattle.afdx_lists.specs.Texts.{text_bytes};
 ghost use Rattle.afdx_systems.specs.Receptions.{message_line, drop_line};
-ghost use Rattle.afdx_systems.specs.Words.{drop_word, mac_word, ip_word};
+ghost use Rattle.afdx_systems.specs.Words.{drop_word};
 
-use afdx_frame::{IpFault, MacFault};
 use afdx_lists::Text;
 use afdx_receive::DropReason;
 use std::alloc::AllocError;
-
-/// What is wrong with a frame's bytes, in a word.
-pub fn mac_word(fault: MacFault) -> &'static str
-    ensures { result.now ≡ mac_word fault }
-{
-    match fault {
-        MacFault::TooShort => "too-short",
-        MacFault::TooLong => "too-long",
-        MacFault::BadFcs => "bad-fcs",
-        MacFault::BadAddress => "bad-address",
-    }
-}
-
-/// What is wrong with a datagram, in a word.
-fn ip_word(fault: IpFault) -> &'static str
-    ensures { result.now ≡ ip_word fault }
-{
-    match fault {
-        IpFault::NotIpv4 => "not-ipv4",
-        IpFault::BadIpHeader => "bad-ip-header",
-        IpFault::Fragment => "fragment",
-        IpFault::NotUdp => "not-udp",
-        IpFault::BadUdpLength => "bad-udp-length",
-    }
-}
-
-/// Why a receiver dropped a frame, in a word.
-fn drop_word(why: DropReason) -> &'static str
-    ensures { result.now ≡ drop_word why }
-{
-    match why {
-        DropReason::Mac(fault) => mac_word(fault),
-        DropReason::NotSubscribed => "not-subscribed",
-        DropReason::Sequence => "sequence",
-        DropReason::Redundant => "redundant",
-        DropReason::Ip(fault) => ip_word(fault),
-        DropReason::NoPort => "no-port",
-    }
-}
 
 /// Adds the line of a message that was read.
 pub(crate) fn put_message(
@@ -81,7 +41,7 @@ pub(crate) fn put_drop(
     ensures { OnOk result (text_bytes text.new
         ≡ text_bytes text.old ++ drop_line time name.now line (drop_word why)) }
 {
-    let word = drop_word(why);
+    let word = why.word();
     text.put(b"X ")?;
     text.put_number(time)?;
     text.put(b" ")?;
