@@ -10,17 +10,20 @@ use Rattle.hex.proofs.Pairs.{prepend, cons_byte, decode_pairs-ok_pair, decode_pa
 
 -- the first n digits have these values
 abbrev pub AreValues : List ℕ → List ℕ → ℕ → Type 0
-AreValues digits values n = (at : ℕ) → at < n → (hex_digit_value (slice_index digits at) ≡ Some (slice_index values at)) × (slice_index values at ≤ 15)
+AreValues digits values n = (at : ℕ) → at < n →
+    (hex_digit_value (slice_index digits at) ≡ Some (slice_index values at)) × (slice_index values at ≤ 15)
 
 -- a number of at most 15 is the digit's value
 pub digit_of : (digit value : ℕ) → hex_digit_value digit ≡ (if nat_le value 15 then Some value else None) → value ≤ 15 → hex_digit_value digit ≡ Some value
 digit_of digit value e h = grind (arith, common_steps, e, h)
 
 -- one more value
-pub more_values : (digits values : List ℕ) (n value : ℕ) → n < length values → hex_digit_value (slice_index digits n) ≡ Some value → value ≤ 15 → AreValues digits values n → AreValues digits (slice_set values n value) (n + 1)
+pub more_values : (digits values : List ℕ) (n value : ℕ) → n < length values → hex_digit_value (slice_index digits n) ≡ Some value → value ≤ 15 →
+    AreValues digits values n → AreValues digits (slice_set values n value) (n + 1)
 more_values digits values n value room is small so_far at below = by (cases_eq at n)
   where
-    by : (at ≡ n) ⊎ (at ≢ n) → (hex_digit_value (slice_index digits at) ≡ Some (slice_index (slice_set values n value) at)) × (slice_index (slice_set values n value) at ≤ 15)
+    by : (at ≡ n) ⊎ (at ≢ n) →
+        (hex_digit_value (slice_index digits at) ≡ Some (slice_index (slice_set values n value) at)) × (slice_index (slice_set values n value) at ≤ 15)
     by (inl same) = rw (same, get_or-set_same values n value 0 room) (is, small)
     by (inr other) = rw (get_or-set_other values n at value 0 other) (so_far at (omega (arith, below, other)))
 
@@ -48,7 +51,8 @@ cons_prepend v bs (Ok rest) = refl
 cons_prepend v bs (Err e) = refl
 
 -- two digits more
-block_step : (q p h l : ℕ) (more rest bs : List ℕ) → ((ms : List ℕ) → decode_pairs (q + 2) more ≡ Ok ms → decode_pairs (p + 2) (more ++ rest) ≡ prepend ms (decode_pairs (p + 2 + length more) rest)) →
+block_step : (q p h l : ℕ) (more rest bs : List ℕ) →
+    ((ms : List ℕ) → decode_pairs (q + 2) more ≡ Ok ms → decode_pairs (p + 2) (more ++ rest) ≡ prepend ms (decode_pairs (p + 2 + length more) rest)) →
     decode_pairs q (h ∷ l ∷ more) ≡ Ok bs → decode_pairs p (h ∷ l ∷ (more ++ rest)) ≡ prepend bs (decode_pairs (p + length (h ∷ l ∷ more)) rest)
 block_step q p h l more rest bs on e = by (pair_value h l q) refl (decode_pairs (q + 2) more) refl
   where
@@ -78,7 +82,8 @@ none_before q p rest [] e = let same : p ≡ p + 0 = omega arith in ap (λ (k : 
 none_before q p rest (b ∷ bs) e = cc
 
 -- digits that read, before others
-pub decode_block : (q p : ℕ) (block rest bs : List ℕ) → decode_pairs q block ≡ Ok bs → decode_pairs p (block ++ rest) ≡ prepend bs (decode_pairs (p + length block) rest)
+pub decode_block : (q p : ℕ) (block rest bs : List ℕ) → decode_pairs q block ≡ Ok bs →
+    decode_pairs p (block ++ rest) ≡ prepend bs (decode_pairs (p + length block) rest)
 decode_block q p [] rest bs e = none_before q p rest bs e
 decode_block q p (h ∷ []) rest bs e = one_alone q h bs e
 decode_block q p (h ∷ l ∷ more) rest bs e = block_step q p h l more rest bs (λ ms k. decode_block (q + 2) (p + 2) more rest ms k) e
@@ -88,12 +93,19 @@ prepend_twice xs ys (Ok zs) = ap Ok (sym (append_assoc xs ys zs))
 prepend_twice xs ys (Err e) = refl
 
 -- a block more
-pub more_block : (digits some old new bs : List ℕ) (at size next : ℕ) → next ≡ at + size → some ≡ take (2 * size) (drop (2 * at) digits) → length some ≡ 2 * size → decode_pairs 0 some ≡ Ok bs → take next new ≡ take at old ++ bs →
-    decode_pairs 0 digits ≡ prepend (take at old) (decode_pairs (2 * at) (drop (2 * at) digits)) → decode_pairs 0 digits ≡ prepend (take next new) (decode_pairs (2 * next) (drop (2 * next) digits))
+pub more_block : (digits some old new bs : List ℕ) (at size next : ℕ) → next ≡ at + size → some ≡ take (2 * size) (drop (2 * at) digits) →
+    length some ≡ 2 * size → decode_pairs 0 some ≡ Ok bs → take next new ≡ take at old ++ bs →
+    decode_pairs 0 digits ≡ prepend (take at old) (decode_pairs (2 * at) (drop (2 * at) digits)) →
+    decode_pairs 0 digits ≡ prepend (take next new) (decode_pairs (2 * next) (drop (2 * next) digits))
 more_block digits some old new bs at size next n is long read whole inv =
     let rest : List ℕ = drop (2 * next) digits in
     let sum : 2 * at + 2 * size ≡ 2 * next = omega (arith, n) in
-    let parts : drop (2 * at) digits ≡ some ++ rest = sym (ap (λ (xs : List ℕ). xs ++ rest) is ∙ ap (λ (k : ℕ). take (2 * size) (drop (2 * at) digits) ++ drop k digits) (sym sum) ∙ ap (λ (xs : List ℕ). take (2 * size) (drop (2 * at) digits) ++ xs) (sym (drop-drop (2 * size) (2 * at) digits)) ∙ take-append-drop (2 * size) (drop (2 * at) digits)) in
+    let first : List ℕ = take (2 * size) (drop (2 * at) digits) in
+    let parts : drop (2 * at) digits ≡ some ++ rest =
+        sym (ap (λ (xs : List ℕ). xs ++ rest) is
+        ∙ ap (λ (k : ℕ). first ++ drop k digits) (sym sum)
+        ∙ ap (λ (xs : List ℕ). first ++ xs) (sym (drop-drop (2 * size) (2 * at) digits))
+        ∙ take-append-drop (2 * size) (drop (2 * at) digits)) in
     let place : 2 * at + length some ≡ 2 * next = omega (arith, n, long) in
     inv ∙ ap (λ (xs : List ℕ). prepend (take at old) (decode_pairs (2 * at) xs)) parts
     ∙ ap (prepend (take at old)) (decode_block 0 (2 * at) some rest bs read)

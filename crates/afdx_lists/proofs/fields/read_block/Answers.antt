@@ -16,7 +16,9 @@ values-preserved c = λ small.
 
 pub bytes-init : goal.bytes-init
 bytes-init c = record {
-  values = λ small. let all : c.values.at ≡ length c.args.digits.now = omega arith in subst (λ (n : ℕ). AreValues c.args.digits.now c.values.values n) all (c.values.invariant small);
+  values = λ small.
+      let all : c.values.at ≡ length c.args.digits.now = omega arith in
+      subst (λ (n : ℕ). AreValues c.args.digits.now c.values.values n) all (c.values.invariant small);
   bytes = λ small. decode_start c.args.digits.now c.args.bytes.now;
 }
 
@@ -24,9 +26,13 @@ pub bytes-preserved : goal.bytes-preserved
 bytes-preserved c = record {
   values = c.bytes.invariant.values;
   bytes = λ small.
+      let digits = c.args.digits.now in
+      let values = c.values.values in
+      let at : ℕ = 2 * c.bytes.i in
       let high = c.bytes.invariant.values small (2 * c.bytes.i) (omega arith) in
       let low = c.bytes.invariant.values small (2 * c.bytes.i + 1) (omega arith) in
-      decode_step c.args.digits.now c.bytes.bytes c.bytes.i _ (omega arith) (omega arith) (pair_of (slice_index c.args.digits.now (2 * c.bytes.i)) (slice_index c.args.digits.now (2 * c.bytes.i + 1)) (slice_index c.values.values (2 * c.bytes.i)) (slice_index c.values.values (2 * c.bytes.i + 1)) (2 * c.bytes.i) high.0 low.0 high.1 low.1) (c.bytes.invariant.bytes small);
+      let byte = pair_of (slice_index digits at) (slice_index digits (at + 1)) (slice_index values at) (slice_index values (at + 1)) at high.0 low.0 high.1 low.1 in
+      decode_step digits c.bytes.bytes c.bytes.i _ (omega arith) (omega arith) byte (c.bytes.invariant.bytes small);
 }
 
 pub returns : goal.returns

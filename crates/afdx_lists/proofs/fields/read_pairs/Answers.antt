@@ -18,8 +18,9 @@ loop-block-preserved c =
     let within : at + 32 ≤ length c.loop-block.bytes = omega arith in
     let long : length some ≡ 2 * 32 = grind (arith, common_steps) in
     let part : length c.read_block.new.bytes ≡ 32 = grind (arith, common_steps, c.read_block.auto.bytes) in
-    more_block digits some c.loop-block.bytes _ c.read_block.new.bytes at 32 ((c.loop-block.block + 1) * 32) (omega arith) (ap (λ (k : ℕ). take k (drop (2 * at) digits)) size) long
-    (c.read_block.ensures c.if-not-read_block.false) (take-put_mid at _ c.loop-block.bytes c.read_block.new.bytes _ (omega (arith, part)) (omega (arith, within))) c.loop-block.invariant
+    more_block digits some c.loop-block.bytes _ c.read_block.new.bytes at 32 ((c.loop-block.block + 1) * 32) (omega arith)
+    (ap (λ (k : ℕ). take k (drop (2 * at) digits)) size) long (c.read_block.ensures c.if-not-read_block.false)
+    (take-put_mid at _ c.loop-block.bytes c.read_block.new.bytes _ (omega (arith, part)) (omega (arith, within))) c.loop-block.invariant
 
 pub returns : goal.returns
 returns c = λ h.
@@ -33,7 +34,9 @@ returns c = λ h.
     let twice : length digits - 2 * at ≡ 2 * size = omega arith in
     let long : length some ≡ 2 * size = grind (arith, common_steps) in
     let part : length c.read_block-2.new.bytes ≡ size = grind (arith, common_steps, c.read_block-2.auto.bytes) in
-    let so_far = subst (λ (k : ℕ). decode_pairs 0 digits ≡ prepend (take (k * 32) bytes) (decode_pairs (2 * (k * 32)) (drop (2 * (k * 32)) digits))) done c.loop-block.invariant in
+    let so_far =
+        subst (λ (k : ℕ). decode_pairs 0 digits ≡ prepend (take (k * 32) bytes) (decode_pairs (2 * (k * 32)) (drop (2 * (k * 32)) digits)))
+        done c.loop-block.invariant in
     decode_done digits _ (length bytes) (grind (arith, common_steps, part)) (omega arith)
-    (more_block digits some bytes _ c.read_block-2.new.bytes at size (length bytes) (omega (arith, within)) (ap (λ (k : ℕ). take k (drop (2 * at) digits)) twice) long
-    (c.read_block-2.ensures h) (take-put_mid at _ bytes c.read_block-2.new.bytes (length bytes) (omega (arith, part, within)) within) so_far)
+    (more_block digits some bytes _ c.read_block-2.new.bytes at size (length bytes) (omega (arith, within))
+    (ap (λ (k : ℕ). take k (drop (2 * at) digits)) twice) long (c.read_block-2.ensures h) (take-put_mid at _ bytes c.read_block-2.new.bytes (length bytes) (omega (arith, part, within)) within) so_far)
