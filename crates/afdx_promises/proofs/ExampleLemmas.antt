@@ -39,6 +39,7 @@ use Rattle.afdx_switch.specs.Tables.{port_of, rule_of, goes_to, entries_at}
 use Rattle.afdx_promises.specs.Examples.{sender, receiver, link, tables, heard, unheard, first_on, second_on, stream, arrivals, PremisesAreMet, link_with, tables_with, one, AdmissionIsNeeded, TimesAreNeeded}
 use Rattle.afdx_promises.specs.NetworkPromises.{IsStreamOf, PortsKeepPromises}
 use Rattle.afdx_promises.specs.Streams.{at_own_port, AreSendings, IsFed, IsSending}
+use Rattle.afdx_promises.proofs.ToldLemmas.{told-once}
 use Rattle.afdx_promises.proofs.OnceLemmas.{messages-once}
 use Rattle.afdx_promises.proofs.ReceiverLemmas.{names-frame}
 
@@ -299,6 +300,7 @@ premises-met computed = record {
   sends = is-stream computed 11;
   fed = is-fed computed;
   delivers = λ came are. messages-once computed tables arrivals 1 0 receiver link (heard ∷ unheard ∷ []) stream came run refl refl refl (is-stream computed 11) (is-fed computed) are ∙ heard-only;
+  told_once = told-once computed tables arrivals run 1 0 receiver link (heard ∷ unheard ∷ []) stream refl refl refl (is-stream computed 11) (is-fed computed) ∙ heard-only;
 }
   where
     run : IsAdmittedRun tables arrivals

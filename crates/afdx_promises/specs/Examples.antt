@@ -17,6 +17,8 @@ use Rattle.afdx_bounds.specs.Outputs.{AreTimed}
 use Rattle.afdx_port.specs.Schedule.{Entry, Turn, IsSchedule}
 use Rattle.afdx_switch.specs.Carried.{Carried}
 use Rattle.afdx_switch.specs.Admitted.{IsAdmittedRun}
+use Rattle.afdx_promises.specs.Lines.{messages_told}
+use Rattle.afdx_promises.specs.Promises.{told}
 use Rattle.afdx_promises.specs.NetworkPromises.{IsStreamOf, PortsKeepPromises}
 use Rattle.afdx_promises.specs.Receptions.{AreReceptions, answers_on, messages_in}
 use Rattle.afdx_promises.specs.Streams.{IsFed}
@@ -96,6 +98,8 @@ pub record PremisesAreMet : Type 0 where
   -- so the one message that the receiver listens to is delivered, once
   pub delivers : (came : List Arrived) → AreReceptions tables 2 arrivals came →
       reverse (messages_in (answers_on tables 1 1 came)) ≡ heard ∷ []
+  -- and the M lines of the receiver are that one message
+  pub told_once : reverse (messages_told 1 1 (told tables arrivals)) ≡ heard ∷ []
 
 -- With a latency of 1 us, less than a frame takes on the line, the tables are lawful and not
 -- admitted, and one frame breaks the promises.

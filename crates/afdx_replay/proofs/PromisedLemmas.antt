@@ -1,5 +1,5 @@
 -- What a replay tells of a network whose tables are admitted.
-use Rattle.std.proofs.Common.{append_assoc, ◌≡◌, ℕ, ◌≤◌, ◌==◌, ◌&&◌, Bool, true, false, not, List, [], ◌∷◌, ◌++◌, length, refl, sym, ap, ◌∙◌, subst, arith, inl, inr}
+use Rattle.std.proofs.Common.{append_assoc, ◌≡◌, ℕ, ◌==◌, ◌&&◌, Bool, true, false, not, List, [], ◌∷◌, ◌++◌, length, refl, sym, ap, ◌∙◌, arith, inl, inr}
 use Rattle.std.specs.Prelude.{Option, Some, None, if◌then◌else◌}
 use Rattle.afdx_frame.proofs.BuiltLemmas.{built_is_computed}
 use Rattle.afdx_config.specs.Reading.{system_at_port}
@@ -11,7 +11,7 @@ use Rattle.afdx_network.specs.Events.{Event, Came, Left, Admission, Departure}
 use Rattle.afdx_network.specs.Order.{IsAmong, events_of, events_so_far}
 use Rattle.afdx_network.proofs.OrderedLemmas.{are-events, are-so-far}
 use Rattle.afdx_promises.specs.NetworkPromises.{EventsKeepPromises, EventsSoFarKeepPromises}
-use Rattle.afdx_promises.specs.Lines.{Line, Departed, Leaving, leaving, with_reception, told_by}
+use Rattle.afdx_promises.specs.Lines.{Departed, leaving, with_reception, told_by}
 use Rattle.afdx_promises.specs.Promises.{told, told_so_far}
 use Rattle.afdx_promises.specs.Receptions.{brought, brought_by}
 use Rattle.afdx_promises.proofs.EventLemmas.{as-promised, so-far-promised}
@@ -19,7 +19,7 @@ use Rattle.afdx_promises.proofs.ToldLemmas as promise
 use Rattle.afdx_systems.specs.Handovers.{came_to, arrival_of}
 use Rattle.afdx_systems.specs.Receptions.{line_at, reception_line, is_delivered}
 use Rattle.afdx_replay.specs.PoliceText.{verdict_line}
-use Rattle.afdx_replay.specs.ReplayPromises.{line_text, text_of, ReplayIsAsPromised, ReplaySoFarIsAsPromised, NoneIsCounted}
+use Rattle.afdx_replay.specs.ReplayPromises.{text_of, ReplayIsAsPromised, ReplaySoFarIsAsPromised, NoneIsCounted}
 use Rattle.afdx_replay.specs.ReplayText.{handed_over, frames_left, loss_lines, departure_line, heard, lines_after, replay_text, replay_counts, with_admission, with_departure}
 use Rattle.afdx_replay.specs.declared.summary.Summary.{Summary}
 

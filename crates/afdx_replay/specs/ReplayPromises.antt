@@ -1,6 +1,6 @@
 -- The text of a replay of tables that are admitted: that of lines which keep the promises. A list
 -- of lines has the latest first.
-use Rattle.std.specs.Prelude.{◌≡◌, ℕ, ◌+◌, ◌<◌, false, Some, Ok, List, [], ◌∷◌, ◌++◌}
+use Rattle.std.specs.Prelude.{◌≡◌, ℕ, ◌+◌, ◌<◌, false, Some, Ok, List, [], ◌∷◌, ◌++◌, slice_index_or}
 use Rattle.afdx_config.specs.Rows.{Rows}
 use Rattle.afdx_police.specs.Arrival.{Arrival}
 use Rattle.afdx_switch.specs.Admitted.{IsAdmittedRun}
@@ -9,7 +9,7 @@ use Rattle.afdx_promises.specs.Lines.{Line, Verdict, Departed, Received, IsIn}
 use Rattle.afdx_promises.specs.Promises.{KeepsPromises, KeepsPromisesSoFar, EachIsToldOnce, EachIsToldOnceSoFar}
 use Rattle.afdx_lists.specs.FrameLines.{Frame}
 use Rattle.afdx_systems.specs.Receptions.{name_of, answer_line}
-use Rattle.afdx_replay.specs.Listed.{arrival_at, arrivals_of, says}
+use Rattle.afdx_replay.specs.Listed.{arrival_at, arrivals_of, said_after}
 use Rattle.afdx_replay.specs.PoliceText.{verdict_line}
 use Rattle.afdx_replay.specs.ReplayText.{departure_line, replay_text, replay_counts}
 
@@ -30,7 +30,7 @@ pub record IsListed (list : List (List ℕ)) (count : ℕ) (x : Arrival) : Type 
   pub place : ℕ
   pub below : place < count
   pub frame : Frame
-  pub said : says list place ≡ Ok (Some frame)
+  pub said : said_after (arrivals_of list place) (slice_index_or list place []) ≡ Ok (Some frame)
   pub is : x ≡ arrival_at (place + 1) frame
 
 -- so is each arrival of the first `count` lines of a list
