@@ -3,7 +3,7 @@
 
 mod words;
 
-use afdx_replay::{Watched, check, police, replay};
+use afdx_replay::{Watched, check, police, replay, send};
 use clap::error::ErrorKind;
 use clap::{ArgMatches, Error};
 use std::alloc::AllocError;
@@ -162,11 +162,63 @@ fn replay_list(rt: &HostRuntime, matches: &ArgMatches<'_>) -> u8 {
     }
 }
 
+/// Sends what `input` gives from a system of a configuration, and hands all lines to standard output.
+fn send_from<R: Read + Drop>(rt: &HostRuntime, config: &[u8], system: &str, input: R) -> u8 {
+    let Ok(buffered) = BufWriter::with_capacity(rt.alloc(), OUTPUT_BUFFER, rt.stdout()) else {
+        return memory(rt);
+    };
+    let mut input = Watched::new(input);
+    let mut output = Watched::new(buffered);
+    let mut errors = Watched::new(rt.stderr());
+    let status = send(
+        rt.alloc(),
+        config,
+        system,
+        &mut input,
+        &mut output,
+        &mut errors,
+    );
+    if output.flush().is_err() && status == DONE {
+        complain(rt, "device Write");
+        return NO_DEVICE_OR_MEMORY;
+    }
+    status
+}
+
+fn send_list(rt: &HostRuntime, matches: &ArgMatches<'_>) -> u8 {
+    let (Some(config), Some(system), Some(list)) = (
+        matches.get_str("CONFIG"),
+        matches.get_str("SYSTEM"),
+        matches.get_str("SUBMISSIONS"),
+    ) else {
+        return WRONG_WORDS;
+    };
+    let config = match read_config(rt, config) {
+        Ok(config) => config,
+        Err(NoConfig::Memory) => return memory(rt),
+        Err(NoConfig::Device) => {
+            complain(rt, "device Config");
+            return NO_DEVICE_OR_MEMORY;
+        }
+    };
+    if list == "-" {
+        return send_from(rt, config.as_slice(), system, rt.stdin());
+    }
+    match File::open(rt, list) {
+        Ok(file) => send_from(rt, config.as_slice(), system, file),
+        Err(_) => {
+            complain(rt, "device List");
+            NO_DEVICE_OR_MEMORY
+        }
+    }
+}
+
 fn run_matches(rt: &HostRuntime, matches: &ArgMatches<'_>) -> u8 {
     match matches.subcommand() {
         Some(("check", matches)) => check_config(rt, matches),
         Some(("police", matches)) => police_list(rt, matches),
         Some(("replay", matches)) => replay_list(rt, matches),
+        Some(("send", matches)) => send_list(rt, matches),
         _ => WRONG_WORDS,
     }
 }

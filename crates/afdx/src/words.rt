@@ -113,6 +113,50 @@ fn replay_command<'a>(alloc: Global) -> Result<Command<'a>, AllocError> {
         .arg(list)
 }
 
+const SEND_ABOUT: &str = "Sends the messages of a list from one system, as a list for replay";
+
+const SEND_AFTER: &str = "\
+A line of SUBMISSIONS is 'time vl sub udp HEX': at that time, in ns, a message is
+handed over for sub-VL sub, from 1 on, of link vl; it goes to UDP port udp. Lines
+that are empty or begin with '#' are skipped. Each link releases one message in
+each gap, round robin over its sub-VLs; what is released leaves through the
+system's one port. Two lines are printed for each frame, when its slot ends, one
+for each network; they are lines of a list that 'replay' reads:
+
+  R time A port HEX       the frame for side A, at the system's switch port
+  R time B port HEX       the frame for side B
+  # n Sk                  the message of line n was refused:
+
+  S1   the system sends no such link
+  S2   the link has no such sub-VL
+  S3   the message has no bytes
+  S4   its frame would be longer than the link's greatest
+  S5   64 messages of the sub-VL are not yet released
+
+Before a message is handed over, all frames are printed that end by its time; at
+the end the others. The tables of CONFIG have to be admitted, as 'check' says.
+
+Example:
+  afdx send examples/network.toml fcc1 examples/submissions.list";
+
+fn send_command<'a>(alloc: Global) -> Result<Command<'a>, AllocError> {
+    let config = Arg::new(alloc, "CONFIG")
+        .help("The path of a configuration (TOML), at most 4,194,304 bytes")
+        .required(true);
+    let system = Arg::new(alloc, "SYSTEM")
+        .help("The name of the system that sends")
+        .required(true);
+    let list = Arg::new(alloc, "SUBMISSIONS")
+        .help("The path of a submission list, or - for standard input")
+        .required(true);
+    Command::new(alloc, "send")
+        .about(SEND_ABOUT)
+        .after_help(SEND_AFTER)
+        .arg(config)?
+        .arg(system)?
+        .arg(list)
+}
+
 fn police_command<'a>(alloc: Global) -> Result<Command<'a>, AllocError> {
     let bag = Arg::new(alloc, "BAG_MS")
         .help("The bandwidth allocation gap in ms: 1, 2, 4, 8, 16, 32, 64 or 128")
@@ -148,5 +192,6 @@ pub fn afdx_command<'a>(alloc: Global) -> Result<Command<'a>, AllocError> {
         .arg_required_else_help(true)
         .subcommand(check_command(alloc)?)?
         .subcommand(police_command(alloc)?)?
-        .subcommand(replay_command(alloc)?)
+        .subcommand(replay_command(alloc)?)?
+        .subcommand(send_command(alloc)?)
 }

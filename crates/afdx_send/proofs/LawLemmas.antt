@@ -325,7 +325,7 @@ pub are_in_time : TakenAreTurns → SenderIsInTime Frame → EmissionsAreInTime
 are_in_time law in_time w h st = emitted_in_time w h law in_time st
 
 pub are_lawful : TakenAreTurns → SenderIsInTime Frame → EmissionsAreLawful
-are_lawful law in_time w h place l stream st row sends =
+are_lawful law in_time w h st place l stream row sends =
     let are = emitted_are w h law st in
     let p = paired h.links h.taken (byte_ns h.system) st.released h.emitted st.are_releases are in
     let first = all_first h.links h.taken p.later p.first (subst (λ (z : List LinkRelease). AreAllReleases h.links h.taken z) p.is st.are_releases) in

@@ -18,8 +18,14 @@ pub record EmitsLawfully (h : History) (place : ℕ) (l : LinkRow) (stream : Lis
   pub are_releases : AreAllReleases h.links h.taken released
   pub lawful : IsLawfulStream h.system l (sent_list (own place released)) stream
 
+-- each link has
+abbrev pub EachEmitsLawfully : History → Type 0
+EachEmitsLawfully h = (place : ℕ) (l : LinkRow) (stream : List Sending) →
+    slice_get h.links place ≡ Some l → AreSendings h.system l.vl h.emitted stream →
+    EmitsLawfully h place l stream
+
 abbrev pub EmissionsAreLawful : Type 0
-EmissionsAreLawful = (w : Working) (h : History) (place : ℕ) (l : LinkRow) (stream : List Sending) → StandsFor w h → slice_get h.links place ≡ Some l → AreSendings h.system l.vl h.emitted stream → EmitsLawfully h place l stream
+EmissionsAreLawful = (w : Working) (h : History) → StandsFor w h → EachEmitsLawfully h
 
 -- of two lists of first releases one begins the other: so the releases before a time, and the entries of the port, are determined
 abbrev pub FirstReleasesAgree : Type 0

@@ -2,6 +2,7 @@ ghost use Rattle.std.specs.Prelude.{◌≡◌, ℕ, ◌+◌, ◌<◌, ◌≤◌,
 
 use crate::build::build;
 use crate::fault::SendFault;
+use crate::laws::emissions_are_lawful;
 use crate::working::Working;
 use afdx_admit::Admitted;
 use afdx_config::SystemId;
@@ -40,6 +41,7 @@ impl Sender {
     ghost use Rattle.afdx_config.specs.Rows.{SystemRow};
     ghost use Rattle.afdx_port.specs.Schedule.{Turn};
     ghost use Rattle.afdx_send.specs.Frames.{Frame};
+    ghost use Rattle.afdx_send.specs.Laws.{EachEmitsLawfully};
     ghost use Rattle.afdx_send.specs.Releases.{Submission};
     ghost use Rattle.afdx_send.specs.Sender.{History, no_calls, at, with_submission, IsNextIn, IsQuiet, StandsFor, Emits, AreAllEmitted, IsTaken, IsRefused, frames_held, last_time, submission};
 
@@ -87,6 +89,7 @@ impl Sender {
     /// The next emission, if it ends at or before `until`, in ns, which isn't before the last time used.
     /// If `until` is 1.2e15 or later, None says that each message that was taken has been emitted.
     ///
+    /// What each link has emitted is a lawful stream of the beginning of its sent list.
     /// The error says that memory was refused; then the emission is left to be taken again.
     pub fn emit(&mut self, until: u64) -> Result<Option<Emission>, AllocError>
         requires clock { last_time self.old ≤ until }
@@ -96,10 +99,12 @@ impl Sender {
         ensures all_done { (h : History) → StandsFor self.old h → 1200000000000000 ≤ until → IfOk result (λ o. IfNone o (AreAllEmitted h)) }
         ensures again { (h : History) → StandsFor self.old h → OnErr result (StandsFor self.new (at h until)) }
         ensures quiet { IfOk result (λ o. IfNone o (IsQuiet self.new until)) }
+        ensures lawful { (h : History) → StandsFor self.new h → EachEmitsLawfully h }
         ensures clock { last_time self.new ≡ until }
         ensures held { IfOk result (λ o. MatchOption o (frames_held self.new ≡ frames_held self.old) (λ _. frames_held self.new + 1 ≡ frames_held self.old)) }
         ensures kept { OnErr result (frames_held self.new ≡ frames_held self.old) }
     {
+        emissions_are_lawful();
         self.working.emit(until)
     }
 }

@@ -8,3 +8,6 @@ returns-clause-no_more c = rw (← c.self.view_is) c.emit.ensures.no_more
 
 pub returns-clause-all_done : goal.returns-clause-all_done
 returns-clause-all_done c = rw (← c.self.view_is) c.emit.ensures.all_done
+
+pub returns-clause-lawful : goal.returns-clause-lawful
+returns-clause-lawful c = λ h stands. c.emissions_are_lawful.ensures.lawful _ h stands
