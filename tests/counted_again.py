@@ -49,9 +49,14 @@ def main() -> None:
         print(f"not in the report: {sorted(seen)}")
     for row in report["ports"]:
         mine = stays[row["side"], row["port"]].values()
-        most = max(sum(size for put, start, size in mine if put <= now and start >= now) for now, _, _ in mine)
+        most = max(
+            sum(size for put, start, size in mine if put <= now and start >= now)
+            for now, _, _ in mine
+        )
         if most != row["backlog"]:
-            print(f"port {row['port']} {row['side']}: backlog {most}, in the report {row['backlog']}")
+            print(
+                f"port {row['port']} {row['side']}: backlog {most}, in the report {row['backlog']}"
+            )
 
 
 main()

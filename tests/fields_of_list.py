@@ -9,7 +9,7 @@ import sys
 
 def address(digits: str) -> str:
     """A MAC address as tshark writes it."""
-    return ":".join(digits[n:n + 2] for n in range(0, 12, 2))
+    return ":".join(digits[n : n + 2] for n in range(0, 12, 2))
 
 
 def dotted(digits: str) -> str:
@@ -22,10 +22,21 @@ def main() -> None:
     with open(sys.argv[1], encoding="ascii") as file:
         for line in file:
             _, time, _, _, digits = line.split()
-            at = lambda offset, count: digits[2 * offset:2 * (offset + count)]  # noqa: E731
+            at = lambda offset, count: digits[2 * offset : 2 * (offset + count)]  # noqa: E731
             size = int(at(38, 2), 16) - 8
-            print(f"{int(time) / 1e9:.9f}", address(at(0, 6)), address(at(6, 6)), 1, 1, dotted(at(26, 4)),
-                  dotted(at(30, 4)), int(at(34, 2), 16), int(at(36, 2), 16), at(42, size), sep="\t")
+            print(
+                f"{int(time) / 1e9:.9f}",
+                address(at(0, 6)),
+                address(at(6, 6)),
+                1,
+                1,
+                dotted(at(26, 4)),
+                dotted(at(30, 4)),
+                int(at(34, 2), 16),
+                int(at(36, 2), 16),
+                at(42, size),
+                sep="\t",
+            )
 
 
 main()

@@ -35,15 +35,24 @@ def blocks_of(document: str) -> list[Block]:
 
 def pattern(printed: str) -> re.Pattern[str]:
     """A text in which a line `..` stands for any lines."""
-    lines = ["(?:.*\n)*?" if line == ".." else re.escape(line) + "\n" for line in printed.splitlines()]
+    lines = [
+        "(?:.*\n)*?" if line == ".." else re.escape(line) + "\n" for line in printed.splitlines()
+    ]
     return re.compile("".join(lines))
 
 
 def fault_of(block: Block, folder: str) -> str:
     """Runs a block; what is wrong, or nothing."""
     status = next((int(w[7:]) for w in block.wants if w.startswith("status=")), 0)
-    run = subprocess.run(["bash", "-o", "pipefail", "-c", block.commands], cwd=folder, text=True, check=False,
-                         stdin=subprocess.DEVNULL, stdout=subprocess.PIPE, stderr=subprocess.PIPE)
+    run = subprocess.run(
+        ["bash", "-o", "pipefail", "-c", block.commands],
+        cwd=folder,
+        text=True,
+        check=False,
+        stdin=subprocess.DEVNULL,
+        stdout=subprocess.PIPE,
+        stderr=subprocess.PIPE,
+    )
     faults = []
     if run.returncode != status:
         faults.append(f"status {run.returncode}, wanted {status}\n{run.stderr.strip()}")

@@ -38,13 +38,19 @@ def body(link: Link, system_id: int, side: str, length: int, number: int) -> byt
     udp = (20_000 + link.vl) % 65_536
     head = bytes.fromhex("45000000000000000111") + b"\0\0"
     head = head[:2] + (28 + len(payload)).to_bytes(2, "big") + head[4:]
-    head += b"\x0a" + system_id.to_bytes(2, "big") + b"\x01" + b"\xe0\xe0" + link.vl.to_bytes(2, "big")
-    total = sum(int.from_bytes(head[n:n + 2], "big") for n in range(0, 20, 2))
+    head += (
+        b"\x0a" + system_id.to_bytes(2, "big") + b"\x01" + b"\xe0\xe0" + link.vl.to_bytes(2, "big")
+    )
+    total = sum(int.from_bytes(head[n : n + 2], "big") for n in range(0, 20, 2))
     while total > 0xFFFF:
         total = (total & 0xFFFF) + (total >> 16)
     head = head[:10] + (0xFFFF - total).to_bytes(2, "big") + head[12:]
-    datagram = udp.to_bytes(2, "big") * 2 + (8 + len(payload)).to_bytes(2, "big") + b"\0\0" + payload
-    address = b"\x03\0\0\0" + link.vl.to_bytes(2, "big") + b"\x02\0\0" + system_id.to_bytes(2, "big")
+    datagram = (
+        udp.to_bytes(2, "big") * 2 + (8 + len(payload)).to_bytes(2, "big") + b"\0\0" + payload
+    )
+    address = (
+        b"\x03\0\0\0" + link.vl.to_bytes(2, "big") + b"\x02\0\0" + system_id.to_bytes(2, "big")
+    )
     network = b"\x20" if side == "A" else b"\x40"
     frame = address + network + b"\x08\0" + head + datagram
     return frame.ljust(max(length, 64) - 5, b"\0") + bytes([number])
@@ -71,7 +77,9 @@ def on_the_line(frames: list[Sent], byte_ns: int) -> Iterator[tuple[int, Sent]]:
 
 def babble(link: Link, begin: int) -> list[Sent]:
     """A burst that the account doesn't cover."""
-    return [Sent(begin + n * link.bag_ms * MS // 8, min(link.lmax, 100), link.vl, n) for n in range(24)]
+    return [
+        Sent(begin + n * link.bag_ms * MS // 8, min(link.lmax, 100), link.vl, n) for n in range(24)
+    ]
 
 
 def lines_of(config: Config, args: argparse.Namespace) -> Iterator[tuple[int, str, str]]:
@@ -87,7 +95,11 @@ def lines_of(config: Config, args: argparse.Namespace) -> Iterator[tuple[int, st
         for time, sent in on_the_line(frames, system.byte_ns):
             link = config.links[sent.vl]
             for side, late in (("A", 0), ("B", 1_000 + dice.randrange(20_000))):
-                kind, port, frame = "F", system.port, body(link, system.id, side, sent.length, sent.number)
+                kind, port, frame = (
+                    "F",
+                    system.port,
+                    body(link, system.id, side, sent.length, sent.number),
+                )
                 luck = 1.0 if args.sound else dice.random()
                 if luck < 0.006:
                     kind = "B"
@@ -104,7 +116,9 @@ def lines_of(config: Config, args: argparse.Namespace) -> Iterator[tuple[int, st
 
 def main() -> None:
     """Writes the list."""
-    parser = argparse.ArgumentParser(description=__doc__, formatter_class=argparse.RawDescriptionHelpFormatter)
+    parser = argparse.ArgumentParser(
+        description=__doc__, formatter_class=argparse.RawDescriptionHelpFormatter
+    )
     parser.add_argument("config", metavar="CONFIG")
     parser.add_argument("--ms", type=int, default=200)
     parser.add_argument("--seed", type=int, default=1)

@@ -8,15 +8,24 @@ from __future__ import annotations
 
 import statistics
 from array import array
-from collections import Counter, deque
+from collections import Counter, defaultdict, deque
 from dataclasses import dataclass, field
 from typing import Iterable, Iterator
 
 from afdx_tools import Config, Link, Listed, Refused
 
 NO_LINK = -1  # stands for frames that name no link of the configuration
-VERDICTS = ("too-short", "too-long", "bad-fcs", "bad-address", "unknown-link", "wrong-port",
-            "over-lmax", "under-lmin", "over-rate")
+VERDICTS = (
+    "too-short",
+    "too-long",
+    "bad-fcs",
+    "bad-address",
+    "unknown-link",
+    "wrong-port",
+    "over-lmax",
+    "under-lmin",
+    "over-rate",
+)
 LOST, OLD = "lost", "too-old"
 WIRE_EXTRA = 20  # bytes that a frame takes on the wire beside its own
 
@@ -52,7 +61,9 @@ def checked_of(lines: Iterable[str]) -> Checked:
         words = line.split()
         if words[0] == "P":
             port, high, low, buffer = words[1:]
-            checked.bounds[int(port)] = Bound(int(high), None if low == "-" else int(low), int(buffer))
+            checked.bounds[int(port)] = Bound(
+                int(high), None if low == "-" else int(low), int(buffer)
+            )
         else:
             checked.answer = line
     return checked
@@ -125,12 +136,13 @@ class QueueCount:
 
 
 class Series:
-    """Counts over time in at most `most` steps of one width, which doubles when it has to."""
+    """Counts over time in at most `most` steps of one width, which grows (2, 10, 20, 100 us ..)."""
 
-    def __init__(self, most: int = 120) -> None:
+    def __init__(self, most: int = 200) -> None:
         self.most = most
         self.start: int | None = None
         self.width = 1000
+        self.factor = 2
         self.steps: Counter = Counter()  # (step, word)
 
     def add(self, time: int, word: str | None) -> None:
@@ -138,45 +150,94 @@ class Series:
         if self.start is None:
             self.start = time
         while (time - self.start) // self.width >= self.most:
-            self.width *= 2
-            steps, self.steps = self.steps, Counter()
-            for (step, kind), count in steps.items():
-                self.steps[step // 2, kind] += count
+            self.grow()
         if word is not None:
             self.steps[(time - self.start) // self.width, word] += 1
+
+    def grow(self) -> None:
+        """Makes the steps two or five times as wide, in turn."""
+        steps, self.steps = self.steps, Counter()
+        for (step, word), count in steps.items():
+            self.steps[step // self.factor, word] += count
+        self.width *= self.factor
+        self.factor = 7 - self.factor
 
 
 @dataclass
 class Arrived:
     """An arrival of a track: what became of the frame and of its copies."""
 
+    place: int
     time: int
     line: int
     side: str
     verdict: str
+    troubled: bool
     copies: list[tuple[str, int, int, str]] = field(default_factory=list)  # what, time, port, end
 
 
-class Tracks:
-    """The first arrivals of each link from a moment on, for the time line of one of them."""
+class Track:
+    """Of a link's arrivals those that follow each other where most went wrong, else the first ones."""
 
-    def __init__(self, only: int | None, begin: int, each: int = 120, all_of: int = 60_000) -> None:
-        self.only, self.begin, self.each = only, begin, each
-        self.room = all_of
-        self.links: dict[int, list[Arrived]] = {}
-        self.cut: set[int] = set()
+    def __init__(self, each: int) -> None:
+        self.each = each
+        self.total = 0
+        self.count = 0  # of the window's arrivals, those with trouble
+        self.most = 0  # as many were in the best window
+        self.window: deque[Arrived] = deque(maxlen=each)
+        self.best: list[Arrived] | None = None
 
-    def add(self, vl: int, arrived: Arrived) -> Arrived | None:
-        """Keeps an arrival, if there is room."""
-        if (self.only is not None and vl != self.only) or arrived.time < self.begin:
-            return None
-        track = self.links.setdefault(vl, [])
-        if len(track) >= self.each or self.room == 0:
-            self.cut.add(vl)
-            return None
-        self.room -= 1
-        track.append(arrived)
+    def add(self, time: int, line: int, side: str, verdict: str) -> Arrived:
+        """Takes an arrival."""
+        arrived = Arrived(self.total, time, line, side, verdict, verdict != "accept")
+        last = self.window[-1] if self.window else None
+        if len(self.window) == self.each:
+            if self.best is None:
+                self.best, self.most = list(self.window), self.count
+            self.count -= self.window[0].troubled
+        self.window.append(arrived)
+        self.total += 1
+        self.count += arrived.troubled
+        if self.best is not None and self.best[-1] is last and len(self.best) < self.each * 5 // 4:
+            self.best.append(arrived)
+        self.choose()
         return arrived
+
+    def trouble(self, arrived: Arrived) -> None:
+        """A copy of an accepted frame was lost or too old."""
+        if not arrived.troubled:
+            arrived.troubled = True
+            self.count += arrived.place >= self.total - len(self.window)
+            self.choose()
+
+    def choose(self) -> None:
+        """Keeps the window if more went wrong in it than in any before."""
+        if self.best is not None and self.count > self.most:
+            self.best, self.most = list(self.window), self.count
+
+    def shown(self) -> list[Arrived]:
+        """The arrivals that are shown."""
+        return list(self.window) if self.best is None else self.best
+
+
+class Tracks:
+    """The tracks of all links, or of one from a moment on."""
+
+    def __init__(self, only: int | None, begin: int, links: int) -> None:
+        self.only, self.begin = only, begin
+        self.each = 80 if only is not None else max(20, min(80, 60_000 // max(links, 1)))
+        self.links: dict[int, Track] = {}
+
+    def add(self, vl: int, row: Listed, verdict: str) -> Arrived | None:
+        """Takes an arrival; None where its link isn't kept."""
+        if (self.only is not None and vl != self.only) or row.time < self.begin:
+            return None
+        track = self.links.get(vl)
+        if track is None:
+            track = self.links[vl] = Track(self.each)
+        if self.begin and track.total == self.each:
+            return None
+        return track.add(row.time, row.line, row.side, verdict)
 
 
 @dataclass
@@ -196,11 +257,11 @@ class Counting:
 
     def __init__(self, config: Config, only: int | None, begin: int) -> None:
         self.config = config
-        self.links: dict[int, LinkCount] = {vl: LinkCount() for vl in config.links}
-        self.paths: dict[tuple[int, int], PathCount] = {}
-        self.queues: dict[tuple[str, int], QueueCount] = {}
+        self.links: defaultdict[int, LinkCount] = defaultdict(LinkCount)
+        self.paths: defaultdict[tuple[int, int], PathCount] = defaultdict(PathCount)
+        self.queues: defaultdict[tuple[str, int], QueueCount] = defaultdict(QueueCount)
         self.drops = Series()
-        self.tracks = Tracks(only, begin)
+        self.tracks = Tracks(only, begin, len(config.links))
         self.flights: dict[int, Flight] = {}
         self.first: int | None = None
         self.last = 0
@@ -210,8 +271,14 @@ class Counting:
 
     def run(self, lines: Iterable[str], listed: Iterator[Listed]) -> None:
         """Takes the lines of `replay` beside those of the list."""
-        takes = {"V": self.verdict, "L": self.lost, "D": self.departed, "T": self.old,
-                 "M": self.message, "X": self.refusal}
+        takes = {
+            "V": self.verdict,
+            "L": self.lost,
+            "D": self.departed,
+            "T": self.old,
+            "M": self.message,
+            "X": self.refusal,
+        }
         for line in lines:
             words = line.split()
             if words[0] == "V":
@@ -226,25 +293,17 @@ class Counting:
                 return row
         raise Refused(f"line {number} of the list is gone: did the list change meanwhile?")
 
-    def link_count(self, vl: int) -> LinkCount:
-        """The counts of a link, or of the frames of none."""
-        return self.links.setdefault(vl, LinkCount())
-
-    def queue(self, side: str, port: int) -> QueueCount:
-        """The counts of an output port of a side."""
-        return self.queues.setdefault((side, port), QueueCount())
-
     def verdict(self, words: list[str]) -> None:
         """`V n side accept` or `V n side drop WORD`"""
         row = self.now
         assert row is not None
         vl = row.vl if row.vl in self.config.links else NO_LINK
         verdict = words[-1]
-        count = self.link_count(vl)
+        count = self.links[vl]
         count.frames += 1
         self.first = row.time if self.first is None else self.first
         self.last = max(self.last, row.time)
-        arrived = self.tracks.add(vl, Arrived(row.time, row.line, row.side, verdict))
+        arrived = self.tracks.add(vl, row, verdict)
         if verdict != "accept":
             count.dropped[verdict] += 1
             self.drops.add(row.time, verdict)
@@ -254,7 +313,7 @@ class Counting:
         ports = self.config.links[vl].ports
         self.flights[row.line] = Flight(vl, row.time, row.side, row.length, len(ports), arrived)
         for port in ports:
-            self.queue(row.side, port).put.append((row.time, row.length))
+            self.queues[row.side, port].put.append((row.time, row.length))
 
     def landed(self, line: int) -> Flight:
         """The frame of a copy that has come to its end."""
@@ -268,23 +327,23 @@ class Counting:
         """`L n side port`: the copy was never put there."""
         line, side, port = int(words[1]), words[2], int(words[3])
         flight = self.landed(line)
-        self.queue(side, port).put.pop()
-        self.link_count(flight.vl).lost += 1
+        self.queues[side, port].put.pop()
+        self.links[flight.vl].lost += 1
         self.drops.add(flight.time, LOST)
         if flight.arrived:
             flight.arrived.copies.append((LOST, flight.time, port, ""))
+            self.tracks.links[flight.vl].trouble(flight.arrived)
 
     def departed(self, words: list[str]) -> None:
         """`D n time side port`"""
         line, time, side, port = int(words[1]), int(words[2]), words[3], int(words[4])
         flight = self.landed(line)
         slot = (flight.length + WIRE_EXTRA) * self.by_port[port].byte_ns
-        queue = self.queue(side, port)
+        queue = self.queues[side, port]
         queue.take(time - slot, flight.length)
         queue.departed += 1
-        self.link_count(flight.vl).departed += 1
-        path = self.paths.setdefault((flight.vl, port), PathCount())
-        path.add(time - flight.time, line, side)
+        self.links[flight.vl].departed += 1
+        self.paths[flight.vl, port].add(time - flight.time, line, side)
         self.last = max(self.last, time)
         self.end = flight, port
         if flight.arrived:
@@ -294,11 +353,12 @@ class Counting:
         """`T n time side port`"""
         line, time, side, port = int(words[1]), int(words[2]), words[3], int(words[4])
         flight = self.landed(line)
-        self.queue(side, port).take(time, flight.length)
-        self.link_count(flight.vl).old += 1
+        self.queues[side, port].take(time, flight.length)
+        self.links[flight.vl].old += 1
         self.drops.add(time, OLD)
         if flight.arrived:
             flight.arrived.copies.append((OLD, time, port, ""))
+            self.tracks.links[flight.vl].trouble(flight.arrived)
 
     def ended(self, word: str) -> LinkCount:
         """Says what the receiver did with the copy of the D line before."""
@@ -307,7 +367,7 @@ class Counting:
         if flight.arrived:
             what, time, port, _ = flight.arrived.copies[-1]
             flight.arrived.copies[-1] = (what, time, port, word)
-        return self.link_count(flight.vl)
+        return self.links[flight.vl]
 
     def message(self, words: list[str]) -> None:
         """`M time system vl hex`"""

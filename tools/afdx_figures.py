@@ -9,9 +9,17 @@ from afdx_counting import Arrived, LOST, OLD, Series, VERDICTS
 
 WIDTH = 1000
 COLOURS = {
-    "over-rate": "#d1495b", "bad-fcs": "#e08e45", "too-short": "#c3a52f", "too-long": "#8f9a3c",
-    "bad-address": "#4f8f5b", "unknown-link": "#2f8f94", "wrong-port": "#6470c2",
-    "over-lmax": "#a05fa8", "under-lmin": "#b97a9c", LOST: "#8a5a44", OLD: "#7d8590",
+    "over-rate": "#d1495b",
+    "bad-fcs": "#e08e45",
+    "too-short": "#c3a52f",
+    "too-long": "#8f9a3c",
+    "bad-address": "#4f8f5b",
+    "unknown-link": "#2f8f94",
+    "wrong-port": "#6470c2",
+    "over-lmax": "#a05fa8",
+    "under-lmin": "#b97a9c",
+    LOST: "#8a5a44",
+    OLD: "#7d8590",
 }
 REASONS = (*VERDICTS, LOST, OLD)
 
@@ -33,8 +41,11 @@ def titled(shape: str, words: str) -> str:
 
 def picture(height: float, parts: Sequence[str], label: str) -> str:
     """The parts as one picture, with a label for those who can't see it."""
-    return (f'<svg viewBox="0 0 {WIDTH} {height:.0f}" role="img" aria-label="{escape(label)}">'
-            + "".join(parts) + "</svg>")
+    return (
+        f'<svg viewBox="0 0 {WIDTH} {height:.0f}" role="img" aria-label="{escape(label)}">'
+        + "".join(parts)
+        + "</svg>"
+    )
 
 
 def in_us(ns: float) -> str:
@@ -84,18 +95,22 @@ def latency_row(row: dict, y: float, place) -> list[str]:
     """One link: least to greatest as a bar, the median as a dot, the bound, the configured latency."""
     least, greatest = place(row["least_ns"]), place(row["greatest_ns"])
     share = f"{row['share']:.0%} of the bound" if row["share"] is not None else "no bound"
-    words = (f"link {row['link']} at port {row['port']} ({row['system']}): seen {row['least_ns']:,} to "
-             f"{row['greatest_ns']:,} ns, median {row['median_ns']:,} ns; bound {row['bound_ns']}, "
-             f"configured {row['configured_ns']:,} ns")
+    words = (
+        f"link {row['link']} at port {row['port']} ({row['system']}): seen {row['least_ns']:,} to "
+        f"{row['greatest_ns']:,} ns, median {row['median_ns']:,} ns; bound {row['bound_ns']}, "
+        f"configured {row['configured_ns']:,} ns"
+    )
     parts = [
         text(0, y + 4, f"VL {row['link']}", "strong"),
         text(66, y + 4, f"{row['from']} to {row['system']}"),
         text(LEFT - 14, y + 4, row["priority"], "muted", "end"),
         line(LEFT, y, WIDTH - RIGHT, y, "rule"),
     ]
-    shapes = (f'<rect x="{least:.1f}" y="{y - 4:.1f}" width="{max(greatest - least, 2):.1f}" '
-              f'height="8" rx="2" class="seen"/>'
-              f'<circle cx="{place(row["median_ns"]):.1f}" cy="{y:.1f}" r="3.2" class="median"/>')
+    shapes = (
+        f'<rect x="{least:.1f}" y="{y - 4:.1f}" width="{max(greatest - least, 2):.1f}" '
+        f'height="8" rx="2" class="seen"/>'
+        f'<circle cx="{place(row["median_ns"]):.1f}" cy="{y:.1f}" r="3.2" class="median"/>'
+    )
     parts.append(titled(shapes, words))
     if row["bound_ns"] is not None:
         parts.append(line(place(row["bound_ns"]), y - 7, place(row["bound_ns"]), y + 7, "bound"))
@@ -131,8 +146,12 @@ def latency_legend() -> list[str]:
 
 def latencies(rows: Sequence[dict]) -> str:
     """Latency seen against bound and configured latency, a row for each link."""
-    values = [v for row in rows for v in (row["least_ns"], row["bound_ns"], row["configured_ns"],
-                                          row["greatest_ns"]) if v]
+    values = [
+        v
+        for row in rows
+        for v in (row["least_ns"], row["bound_ns"], row["configured_ns"], row["greatest_ns"])
+        if v
+    ]
     low, high = min(values) * 0.8, max(values) * 1.15
     span = math.log(high / low)
 
@@ -153,8 +172,10 @@ def legend(words: Sequence[str], y: float, left: float) -> list[str]:
     """Coloured squares with their words, in a row."""
     parts, x = [], left
     for word in words:
-        parts.append(f'<rect x="{x:.1f}" y="{y - 9:.1f}" width="10" height="10" rx="2" '
-                     f'fill="{COLOURS[word]}"/>')
+        parts.append(
+            f'<rect x="{x:.1f}" y="{y - 9:.1f}" width="10" height="10" rx="2" '
+            f'fill="{COLOURS[word]}"/>'
+        )
         parts.append(text(x + 15, y, word))
         x += 32 + 7.2 * len(word)
     return parts
@@ -168,8 +189,10 @@ def bar(series: Series, step: int, place_x, place_y, present: Sequence[str]) -> 
         count = series.steps.get((step, word), 0)
         if count:
             top = place_y(below + count)
-            shape = (f'<rect x="{x1 + 0.5:.1f}" y="{top:.1f}" width="{max(x2 - x1 - 1, 1):.1f}" '
-                     f'height="{place_y(below) - top:.1f}" fill="{COLOURS[word]}"/>')
+            shape = (
+                f'<rect x="{x1 + 0.5:.1f}" y="{top:.1f}" width="{max(x2 - x1 - 1, 1):.1f}" '
+                f'height="{place_y(below) - top:.1f}" fill="{COLOURS[word]}"/>'
+            )
             parts.append(titled(shape, f"{count} {word}"))
             below += count
     return parts
@@ -206,9 +229,16 @@ def drops(series: Series) -> str:
     for step in range(count):
         parts += bar(series, step, place_x, place_y, present)
     parts.append(line(left, bottom, right, bottom, "axis"))
-    parts.append(text(left, bottom + 36, f"time of the list in {unit}; a bar is "
-                      f"{in_unit(series.width, unit)} {unit} wide; its height is a number of frames, or of "
-                      "copies for lost and too-old", "muted"))
+    parts.append(
+        text(
+            left,
+            bottom + 36,
+            f"time of the list in {unit}; a bar is "
+            f"{in_unit(series.width, unit)} {unit} wide; its height is a number of frames, or of "
+            "copies for lost and too-old",
+            "muted",
+        )
+    )
     return picture(bottom + 44, parts, "Drops by reason over time")
 
 
@@ -235,8 +265,10 @@ def arrival_mark(arrived: Arrived, x: float, y: float) -> str:
     if arrived.verdict == "accept":
         return titled(f'<circle cx="{x:.1f}" cy="{y:.1f}" r="4" class="accepted"/>', words)
     colour = COLOURS.get(arrived.verdict, "#888")
-    cross = (f'<path d="M{x - 4:.1f} {y - 4:.1f}l8 8m0-8l-8 8" stroke="{colour}" '
-             'stroke-width="2.2" fill="none"/>')
+    cross = (
+        f'<path d="M{x - 4:.1f} {y - 4:.1f}l8 8m0-8l-8 8" stroke="{colour}" '
+        'stroke-width="2.2" fill="none"/>'
+    )
     return titled(cross, words)
 
 
@@ -247,14 +279,21 @@ def copy_mark(arrived: Arrived, copy: tuple[str, int, int, str], x: float, y: fl
     words += f"; {end}" if end else ""
     if what == "left":
         kind = "delivered" if end == "delivered" else "passed"
-        return titled(f'<rect x="{x - 2:.1f}" y="{y - 6:.1f}" width="4" height="12" rx="1" class="{kind}"/>', words)
-    return titled(f'<rect x="{x - 4:.1f}" y="{y - 4:.1f}" width="8" height="8" fill="{COLOURS[what]}"/>', words)
+        return titled(
+            f'<rect x="{x - 2:.1f}" y="{y - 6:.1f}" width="4" height="12" rx="1" class="{kind}"/>',
+            words,
+        )
+    return titled(
+        f'<rect x="{x - 4:.1f}" y="{y - 4:.1f}" width="8" height="8" fill="{COLOURS[what]}"/>',
+        words,
+    )
 
 
 def track_legend(track: Sequence[Arrived], left: float) -> list[str]:
     """What the marks of a time line mean; only words that come in it."""
     parts = [
-        f'<circle cx="{left + 4}" cy="10" r="4" class="accepted"/>', text(left + 14, 14, "accepted"),
+        f'<circle cx="{left + 4}" cy="10" r="4" class="accepted"/>',
+        text(left + 14, 14, "accepted"),
         f'<rect x="{left + 88}" y="4" width="4" height="12" rx="1" class="delivered"/>',
         text(left + 98, 14, "left the port, delivered"),
         f'<rect x="{left + 252}" y="4" width="4" height="12" rx="1" class="passed"/>',
@@ -264,7 +303,9 @@ def track_legend(track: Sequence[Arrived], left: float) -> list[str]:
     x = left + 530.0
     for word in REASONS:
         if word in seen:
-            parts.append(f'<path d="M{x:.1f} 6l8 8m0-8l-8 8" stroke="{COLOURS[word]}" stroke-width="2.2"/>')
+            parts.append(
+                f'<path d="M{x:.1f} 6l8 8m0-8l-8 8" stroke="{COLOURS[word]}" stroke-width="2.2"/>'
+            )
             parts.append(text(x + 14, 14, word))
             x += 30 + 7 * len(word)
     return parts

@@ -35,10 +35,17 @@ def link_row(vl: int, count: LinkCount) -> Row:
     """What became of a link's frames."""
     reasons = {word: count.dropped[word] for word in VERDICTS if count.dropped[word]}
     return {
-        "link": vl_text(vl), "frames": count.frames, "accepted": count.accepted,
-        "dropped": sum(count.dropped.values()), "reasons": reasons, "lost": count.lost,
-        "too_old": count.old, "departed": count.departed, "delivered": count.delivered,
-        "redundant": count.redundant, "refused": sum(count.refused.values()),
+        "link": vl_text(vl),
+        "frames": count.frames,
+        "accepted": count.accepted,
+        "dropped": sum(count.dropped.values()),
+        "reasons": reasons,
+        "lost": count.lost,
+        "too_old": count.old,
+        "departed": count.departed,
+        "delivered": count.delivered,
+        "redundant": count.redundant,
+        "refused": sum(count.refused.values()),
         "refusals": dict(sorted(count.refused.items())),
     }
 
@@ -55,13 +62,24 @@ def latency_rows(counting: Counting, checked: Checked) -> list[Row]:
     for (vl, port), path in sorted(counting.paths.items()):
         link = counting.config.links[vl]
         bound = checked.bound_of(link, port)
-        rows.append({
-            "link": vl, "from": link.source, "port": port, "system": counting.by_port[port].name,
-            "priority": link.priority, "frames": len(path.seen), "least_ns": path.least,
-            "median_ns": path.median, "greatest_ns": path.greatest, "at_line": path.line,
-            "side": path.side, "bound_ns": bound, "configured_ns": link.latency_ns,
-            "share": path.greatest / bound if bound else None,
-        })
+        rows.append(
+            {
+                "link": vl,
+                "from": link.source,
+                "port": port,
+                "system": counting.by_port[port].name,
+                "priority": link.priority,
+                "frames": len(path.seen),
+                "least_ns": path.least,
+                "median_ns": path.median,
+                "greatest_ns": path.greatest,
+                "at_line": path.line,
+                "side": path.side,
+                "bound_ns": bound,
+                "configured_ns": link.latency_ns,
+                "share": path.greatest / bound if bound else None,
+            }
+        )
     return rows
 
 
@@ -70,24 +88,41 @@ def port_rows(counting: Counting, checked: Checked) -> list[Row]:
     rows = []
     for (side, port), queue in sorted(counting.queues.items(), key=lambda item: item[0][::-1]):
         bound = checked.bounds.get(port)
-        rows.append({
-            "port": port, "system": counting.by_port[port].name, "side": side, "left": queue.departed,
-            "backlog": queue.greatest, "at_ns": queue.time,
-            "bound": bound.buffer if bound else None, "buffer": counting.config.buffer,
-        })
+        rows.append(
+            {
+                "port": port,
+                "system": counting.by_port[port].name,
+                "side": side,
+                "left": queue.departed,
+                "backlog": queue.greatest,
+                "at_ns": queue.time,
+                "bound": bound.buffer if bound else None,
+                "buffer": counting.config.buffer,
+            }
+        )
     return rows
 
 
 def totals(links: Sequence[Row]) -> Row:
     """The sums over all links."""
-    keys = ("frames", "accepted", "dropped", "lost", "too_old", "departed", "delivered", "redundant", "refused")
+    keys = (
+        "frames",
+        "accepted",
+        "dropped",
+        "lost",
+        "too_old",
+        "departed",
+        "delivered",
+        "redundant",
+        "refused",
+    )
     return {key: sum(row[key] for row in links) for key in keys}
 
 
 def worst(latency: Sequence[Row]) -> Row | None:
     """The row whose greatest latency is the greatest share of its bound."""
     known = [row for row in latency if row["share"] is not None]
-    return max(known, key=lambda row: row["share"], default=None)
+    return max(known, key=lambda row: row["share"]) if known else None
 
 
 def cell(value: object) -> str:
@@ -126,7 +161,9 @@ def write_csv(path: str, rows: Sequence[Row]) -> None:
         writer = csv.writer(file, lineterminator="\n")
         writer.writerow(heads(rows))
         for row in rows:
-            plain = (cell(v) if isinstance(v, dict) else "" if v is None else v for v in row.values())
+            plain = (
+                cell(v) if isinstance(v, dict) else "" if v is None else v for v in row.values()
+            )
             writer.writerow(plain)
 
 

@@ -29,7 +29,7 @@ section { background: var(--sheet); border: 1px solid var(--rule); border-radius
 .answer { display: inline-block; padding: 2px 10px; border-radius: 999px; font-weight: 600;
   border: 1px solid currentColor; }
 .good { color: var(--good); } .bad { color: var(--bad); }
-.cards { display: grid; grid-template-columns: repeat(auto-fit, minmax(108px, 1fr)); gap: 10px;
+.cards { display: grid; grid-template-columns: repeat(auto-fit, minmax(98px, 1fr)); gap: 10px;
   margin-top: 16px; }
 .card { background: var(--sheet); border: 1px solid var(--rule); border-radius: 8px; padding: 10px 14px; }
 .card b { display: block; font-size: 21px; font-weight: 600; font-variant-numeric: tabular-nums; }
@@ -52,9 +52,17 @@ details summary { cursor: pointer; font-weight: 600; }
 footer { color: var(--muted); margin-top: 20px; font-size: 13px; }
 footer code { font-size: 12px; overflow-wrap: anywhere; }
 """
-CARDS = (("frames", "frames in"), ("accepted", "accepted"), ("dropped", "dropped at a switch"),
-         ("lost", "copies lost, no room"), ("too_old", "copies too old"), ("departed", "copies that left"),
-         ("delivered", "delivered"), ("redundant", "redundant copies"), ("refused", "refused at receivers"))
+CARDS = (
+    ("frames", "frames in"),
+    ("accepted", "accepted"),
+    ("dropped", "dropped"),
+    ("lost", "lost copies"),
+    ("too_old", "too old"),
+    ("departed", "copies out"),
+    ("delivered", "delivered"),
+    ("redundant", "redundant"),
+    ("refused", "refused"),
+)
 
 
 def table(rows: Sequence[Row]) -> str:
@@ -62,12 +70,22 @@ def table(rows: Sequence[Row]) -> str:
     if not rows:
         return '<p class="muted">None.</p>'
     parts = ["<table><tr>"]
-    kinds = ["number" if isinstance(v, (int, float)) or v is None else "words" if isinstance(v, dict) else ""
-             for v in rows[0].values()]
-    parts += [f'<th class="{k}">{escape(h.replace("_", " "))}</th>' for h, k in zip(heads(rows), kinds)]
+    kinds = [
+        "number"
+        if isinstance(v, (int, float)) or v is None
+        else "words"
+        if isinstance(v, dict)
+        else ""
+        for v in rows[0].values()
+    ]
+    parts += [
+        f'<th class="{k}">{escape(h.replace("_", " "))}</th>' for h, k in zip(heads(rows), kinds)
+    ]
     for row in rows:
-        cells = (f"{v:,}" if isinstance(v, int) and key not in ("link", "port") else cell(v)
-                 for key, v in row.items())
+        cells = (
+            f"{v:,}" if isinstance(v, int) and key not in ("link", "port") else cell(v)
+            for key, v in row.items()
+        )
         parts.append("</tr><tr>")
         parts += [f'<td class="{k}">{escape(c)}</td>' for c, k in zip(cells, kinds)]
     return "".join(parts) + "</tr></table>"
@@ -80,22 +98,30 @@ def section(title: str, words: str, body: str) -> str:
 
 def cards(report: Row) -> str:
     """The sums, one a card."""
-    parts = [f'<div class="card"><b>{report["totals"][key]:,}</b><span>{escape(words)}</span></div>'
-             for key, words in CARDS]
+    parts = [
+        f'<div class="card"><b>{report["totals"][key]:,}</b><span>{escape(words)}</span></div>'
+        for key, words in CARDS
+    ]
     return f'<div class="cards">{"".join(parts)}</div>'
 
 
 def answer(report: Row) -> str:
     """What admission said, and the run's fault if it has one."""
     said = report["admission"]
-    parts = [f'<span class="answer {"good" if said == "ok" else "bad"}">'
-             f'{"admitted" if said == "ok" else "not admitted: " + escape(said)}</span>']
+    parts = [
+        f'<span class="answer {"good" if said == "ok" else "bad"}">'
+        f'{"admitted" if said == "ok" else "not admitted: " + escape(said)}</span>'
+    ]
     if report["fault"]:
-        parts.append(f' <span class="answer bad">the run ended with: {escape(report["fault"])}</span>')
+        parts.append(
+            f' <span class="answer bad">the run ended with: {escape(report["fault"])}</span>'
+        )
     most = worst(report["latency"])
     if most:
-        parts.append(f' <span class="muted">Nearest to its bound: link {most["link"]} at port {most["port"]}, '
-                     f'{most["greatest_ns"]:,} of {most["bound_ns"]:,} ns ({most["share"]:.0%}).</span>')
+        parts.append(
+            f' <span class="muted">Nearest to its bound: link {most["link"]} at port {most["port"]}, '
+            f'{most["greatest_ns"]:,} of {most["bound_ns"]:,} ns ({most["share"]:.0%}).</span>'
+        )
     return f'<p style="margin-top:10px">{"".join(parts)}</p>'
 
 
@@ -124,9 +150,11 @@ def latency_section(report: Row, most: int) -> str:
 def chosen_link(counting: Counting) -> int | None:
     """The link of the time line: that with the most trouble, else that with the most frames."""
     if counting.tracks.only is not None:
-        return counting.tracks.only if counting.tracks.links.get(counting.tracks.only) else None
+        return counting.tracks.only if counting.tracks.only in counting.tracks.links else None
     kept = [vl for vl in counting.tracks.links if vl != NO_LINK]
-    return max(kept, key=lambda vl: (counting.links[vl].trouble, counting.links[vl].frames, -vl), default=None)
+    if not kept:
+        return None
+    return max(kept, key=lambda vl: (counting.links[vl].trouble, counting.links[vl].frames, -vl))
 
 
 def track_section(counting: Counting) -> str:
@@ -136,22 +164,29 @@ def track_section(counting: Counting) -> str:
         only = counting.tracks.only
         return "" if only is None else section(f"Time line of link {only}", "It has no frames.", "")
     link, track = counting.config.links[vl], counting.tracks.links[vl]
+    shown = track.shown()
     ports = {port: counting.by_port[port].name for port in link.ports}
-    words = (f"From {link.source} to {', '.join(link.to)}; {link.priority} priority, BAG {link.bag_ms} ms, "
-             f"Lmax {link.lmax} bytes. ")
-    if vl in counting.tracks.cut:
-        words += f"The first {len(track)} arrivals; --from NS begins later. "
-    words += "--link VL chooses another link."
-    return section(f"Time line of link {vl}", words, figures.track(track, ports))
+    words = (
+        f"From {link.source} to {', '.join(link.to)}; {link.priority} priority, BAG {link.bag_ms} ms, "
+        f"Lmax {link.lmax} bytes. "
+    )
+    if len(shown) < counting.links[vl].frames:
+        where = "" if counting.tracks.begin or not track.most else ", where most were dropped"
+        words += f"{len(shown)} of {counting.links[vl].frames:,} arrivals{where}. "
+    return section(f"Time line of link {vl}", words, figures.track(shown, ports))
 
 
 def foot(report: Row) -> str:
     """Which numbers are proved, and of which files."""
     run = report["run"]
-    files = "<br>".join(f"{escape(name)}: <code>{escape(path)}</code>, SHA-256 <code>{digest}</code>"
-                        for name, path, digest in run["files"])
-    return (f"<footer><p>{escape(PROVED)}</p><p>{escape(COUNTED)}</p>"
-            f"<p>{files}<br>Program: {escape(run['program'])}; written {escape(run['written'])}.</p></footer>")
+    files = "<br>".join(
+        f"{escape(name)}: <code>{escape(path)}</code>, SHA-256 <code>{digest}</code>"
+        for name, path, digest in run["files"]
+    )
+    return (
+        f"<footer><p>{escape(PROVED)}</p><p>{escape(COUNTED)}</p>"
+        f"<p>{files}<br>Program: {escape(run['program'])}; written {escape(run['written'])}.</p></footer>"
+    )
 
 
 def page(report: Row, counting: Counting, rows: int) -> str:
@@ -164,13 +199,20 @@ def page(report: Row, counting: Counting, rows: int) -> str:
         "<meta name='viewport' content='width=device-width, initial-scale=1'>",
         f"<title>{escape(title)}</title><style>{STYLE}</style></head><body><main>",
         f"<header><h1>{escape(title)}</h1><p>{escape(words)}</p></header>",
-        answer(report), cards(report), latency_section(report, rows),
-        section("Drops by reason over time", "Drops at the switches, by the time of the arrival.",
-                figures.drops(counting.drops)),
+        answer(report),
+        cards(report),
+        latency_section(report, rows),
+        section(
+            "Drops by reason over time",
+            "Drops at the switches, by the time of the arrival.",
+            figures.drops(counting.drops),
+        ),
         track_section(counting),
     ]
     for name, head in NAMES.items():
         is_open = " open" if len(report[name]) <= 40 else ""
-        parts.append(f"<section><details{is_open}><summary>{escape(head)} ({len(report[name])} rows)"
-                     f"</summary>{table(report[name])}</details></section>")
+        parts.append(
+            f"<section><details{is_open}><summary>{escape(head)} ({len(report[name])} rows)"
+            f"</summary>{table(report[name])}</details></section>"
+        )
     return "".join(parts) + foot(report) + "</main></body></html>\n"

@@ -79,7 +79,9 @@ class Recording:
 
     def _add(self, interface: Interface) -> None:
         if interface.link_type != ETHERNET:
-            raise Refused(f"{self.path} holds frames of link type {interface.link_type}, no Ethernet")
+            raise Refused(
+                f"{self.path} holds frames of link type {interface.link_type}, no Ethernet"
+            )
         self.interfaces.append(interface)
 
     def _packets(self, file: BinaryIO) -> Iterator[Recorded]:

@@ -15,7 +15,7 @@ from typing import Iterator, NamedTuple, NoReturn
 try:
     import tomllib
 except ModuleNotFoundError:  # Python before 3.11: the package python3-tomli
-    import tomli as tomllib
+    import tomli as tomllib  # type: ignore[no-redef]
 
 MOST_LINES = 1_000_000
 LATEST = 10**15
@@ -159,7 +159,6 @@ def listed_of(number: int, text: str) -> Listed:
         kind, time, side, port, digits = fields
         if kind not in ("F", "B", "R") or side not in ("A", "B"):
             raise ValueError
-        bytes.fromhex("" if digits == "-" else digits)
         return Listed(number, kind, int(time), side, int(port), "" if digits == "-" else digits)
     except ValueError as error:
         raise Refused(f"line {number} is no line of a frame list") from error
@@ -181,7 +180,10 @@ def check_sequence(frame: bytes) -> bytes:
 
 def sealed(listed: Listed) -> bytes:
     """The bytes of a line's frame on the wire: F with its check sequence, B with a wrong one."""
-    body = bytes.fromhex(listed.digits)
+    try:
+        body = bytes.fromhex(listed.digits)
+    except ValueError as error:
+        raise Refused(f"line {listed.line} has no hexadecimal digits") from error
     if listed.kind == "R":
         return body
     end = check_sequence(body)
