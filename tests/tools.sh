@@ -165,6 +165,31 @@ capture_tests() {
     tell 'the ports have to come from somewhere' "$(is_status 2; says err '--config CONFIG or --port N')"
 }
 
+odd_tests() { # what few programs write
+    local frame
+    frame=$(cut -d ' ' -f 5 "$work/back.list" | head -n 1)
+    "$python" tests/odd_recordings.py "$work" "$frame"
+    launch tools/afdx-capture list --port 1 "$work/big.pcapng"
+    tell 'pcapng with the high byte first, two units of time, an offset' "$(
+        is_status 0
+        says err "as the recording's header says"
+        printf 'R 0 A 1 %s\nR 953 B 1 %s\n' "$frame" "$frame" >"$work/wanted"
+        same "$work/wanted" "$work/out"
+    )"
+    launch tools/afdx-capture list --port 1 --origin 1700000005000000000 "$work/big.pcapng"
+    tell 'the offset counts' "$(is_status 0; same "$work/wanted" "$work/out")"
+    launch tools/afdx-capture list --port 1 "$work/big.pcap"
+    tell 'pcap with the high byte first' "$(
+        is_status 0
+        printf 'R 0 A 1 %s\nR 1000 A 1 %s\n' "$frame" "$frame" >"$work/wanted"
+        same "$work/wanted" "$work/out"
+    )"
+    launch tools/afdx-capture list --port 1 "$work/cut.pcap"
+    tell 'frames that were cut are refused' "$(is_status 2; says err 'frame 2 is cut')"
+    launch tools/afdx-capture list --port 1 "$work/wifi.pcap"
+    tell 'what is no Ethernet is refused' "$(is_status 2; says err 'link type 105')"
+}
+
 many_lines_tests() { # 1,000,001 frames
     "$python" - "$work/many.pcap" <<'PY'
 import struct, sys
@@ -193,6 +218,7 @@ PY
 
 if [[ -n $dpkt ]]; then
     capture_tests
+    odd_tests
     many_lines_tests
 else
     skip 'recordings' 'there is no package dpkt (apt-get install python3-dpkt)'
@@ -239,6 +265,25 @@ wireshark_tests() {
     launch mergecap -I all -w "$work/one.pcapng" "$work/ta.pcap" "$work/tb.pcap"
     launch tools/afdx-capture list --config examples/base.toml "$work/one.pcapng"
     tell 'mergecap, one interface' "$(is_status 0; says err 'side by the source address'; same "$work/wanted" "$work/out")"
+    launch mergecap -a -I none -w "$work/behind.pcapng" "$work/tb.pcap" "$work/ta.pcap"
+    launch tools/afdx-capture list --config examples/base.toml --side A "$work/behind.pcapng"
+    tell 'a recording whose times go back' "$(
+        is_status 0
+        cut -d ' ' -f 2 "$work/out" >"$work/got"
+        printf '0\n2500\n999999\n1000000\n' >"$work/wanted"
+        same "$work/wanted" "$work/got"
+    )"
+    local each
+    for each in big.pcapng big.pcap; do
+        launch tshark -r "$work/$each" -T fields -e frame.time_epoch
+        tell "tshark sees the times of $each as we do" "$(
+            is_status 0
+            tools/afdx-capture list --port 1 --origin 1700000000000000000 "$work/$each" 2>"$work/err" |
+                awk '{ printf "%d.%09d\n", 1700000000 + int($2 / 1e9), $2 % 1e9 }' >"$work/got"
+            grep . "$work/out" >"$work/wanted"
+            same "$work/wanted" "$work/got"
+        )"
+    done
     launch tshark -r "$work/sound.pcap" -F pcapng -w "$work/sound.pcapng"
     tools/afdx-capture list --config examples/network.toml "$work/sound.pcap" >"$work/wanted" 2>"$work/err"
     launch tools/afdx-capture list --config examples/network.toml "$work/sound.pcapng"

@@ -1,0 +1,77 @@
+"""Writes recordings as few programs write them, all with the same two frames a microsecond apart.
+
+    tests/odd_recordings.py FOLDER HEX
+
+FOLDER/big.pcapng   high byte first, two interfaces with times in ns and in 2^-20 s, an offset of 5 s
+                    on both, 4 bytes of check sequence said by one
+FOLDER/big.pcap     high byte first, times in us
+FOLDER/cut.pcap     the second frame was cut
+FOLDER/wifi.pcap    not Ethernet
+HEX are the bytes of the frames.
+"""
+import os
+import struct
+import sys
+
+SECOND = 1_700_000_000
+
+
+def block(kind: int, body: bytes) -> bytes:
+    """A pcapng block, high byte first."""
+    body += b"\0" * (-len(body) % 4)
+    size = struct.pack(">I", len(body) + 12)
+    return struct.pack(">I", kind) + size + body + size
+
+
+def option(code: int, data: bytes) -> bytes:
+    """An option of a block."""
+    return struct.pack(">HH", code, len(data)) + data + b"\0" * (-len(data) % 4)
+
+
+def packet(place: int, ticks: int, frame: bytes) -> bytes:
+    """An enhanced packet block."""
+    head = struct.pack(">IIIII", place, ticks >> 32, ticks & 0xFFFF_FFFF, len(frame), len(frame))
+    return block(6, head + frame)
+
+
+def pcapng(frame: bytes) -> bytes:
+    """Two interfaces; the second frame comes a microsecond later, rounded to 2^-20 s."""
+    offset = option(14, struct.pack(">q", 5)) + option(0, b"")
+    first = struct.pack(">HHI", 1, 0, 0) + option(9, b"\x09") + option(13, b"\x04") + offset
+    second = struct.pack(">HHI", 1, 0, 0) + option(9, b"\x94") + option(13, b"\x04") + offset
+    section = struct.pack(">IHHq", 0x1A2B3C4D, 1, 0, -1)
+    return b"".join(
+        [
+            block(0x0A0D0D0A, section),
+            block(1, first),
+            block(1, second),
+            packet(0, SECOND * 10**9, frame),
+            block(0xBAD, b"what no one knows"),
+            packet(1, SECOND * 2**20 + 1, frame),
+        ]
+    )
+
+
+def pcap(frame: bytes, link_type: int, caught: int) -> bytes:
+    """Two frames with times in us, of the second only so many bytes."""
+    head = struct.pack(">IHHIIII", 0xA1B2C3D4, 2, 4, 0, 0, 65535, link_type)
+    first = struct.pack(">IIII", SECOND, 999_999, len(frame), len(frame)) + frame
+    second = struct.pack(">IIII", SECOND + 1, 0, caught, len(frame)) + frame[:caught]
+    return head + first + second
+
+
+def main() -> None:
+    """Writes them."""
+    folder, frame = sys.argv[1], bytes.fromhex(sys.argv[2])
+    files = {
+        "big.pcapng": pcapng(frame),
+        "big.pcap": pcap(frame, 1, len(frame)),
+        "cut.pcap": pcap(frame, 1, 60),
+        "wifi.pcap": pcap(frame, 105, len(frame)),
+    }
+    for name, data in files.items():
+        with open(os.path.join(folder, name), "wb") as file:
+            file.write(data)
+
+
+main()
