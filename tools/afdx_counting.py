@@ -141,6 +141,7 @@ class Series:
     def __init__(self, most: int = 200) -> None:
         self.most = most
         self.start: int | None = None
+        self.last = 0
         self.width = 1000
         self.factor = 2
         self.steps: Counter = Counter()  # (step, word)
@@ -149,6 +150,7 @@ class Series:
         """Takes an event; without a word it only stretches the time that is covered."""
         if self.start is None:
             self.start = time
+        self.last = max(self.last, time)
         while (time - self.start) // self.width >= self.most:
             self.grow()
         if word is not None:

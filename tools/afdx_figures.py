@@ -130,21 +130,21 @@ def latency_axis(low: float, high: float, bottom: float, place) -> list[str]:
     return parts
 
 
-def latency_legend() -> list[str]:
-    """What the marks mean."""
+def latency_legend(bound: str) -> list[str]:
+    """What the marks mean; `bound` names that of the bounds."""
     y = 12
     return [
         f'<rect x="{LEFT}" y="{y - 4}" width="34" height="8" rx="2" class="seen"/>',
         f'<circle cx="{LEFT + 14}" cy="{y}" r="3.2" class="median"/>',
         text(LEFT + 42, y + 4, "seen: least, median, greatest"),
         line(LEFT + 250, y - 7, LEFT + 250, y + 7, "bound"),
-        text(LEFT + 259, y + 4, "proved bound"),
+        text(LEFT + 259, y + 4, bound),
         f'<path d="M{LEFT + 372} {y - 5}l5 5l-5 5l-5-5z" class="configured"/>',
         text(LEFT + 384, y + 4, "configured latency"),
     ]
 
 
-def latencies(rows: Sequence[dict]) -> str:
+def latencies(rows: Sequence[dict], bound: str) -> str:
     """Latency seen against bound and configured latency, a row for each link."""
     values = [
         v
@@ -159,7 +159,7 @@ def latencies(rows: Sequence[dict]) -> str:
         return LEFT + (WIDTH - LEFT - RIGHT) * math.log(max(ns, low) / low) / span
 
     bottom = 40 + ROW * len(rows)
-    parts = latency_legend() + latency_axis(low, high, bottom, place)
+    parts = latency_legend(bound) + latency_axis(low, high, bottom, place)
     for number, row in enumerate(rows):
         parts += latency_row(row, 48 + ROW * number, place)
     return picture(bottom + 24, parts, "Latency seen of each link beside its bound")
@@ -203,7 +203,7 @@ def drops(series: Series) -> str:
     present = [word for word in REASONS if any(kind == word for _, kind in series.steps)]
     if not present or series.start is None:
         return '<p class="muted">No frame was dropped.</p>'
-    count = max(step for step, _ in series.steps) + 1
+    count = (series.last - series.start) // series.width + 1
     steps = max(count, 8)
     totals = [sum(series.steps.get((step, word), 0) for word in present) for step in range(count)]
     top, bottom, left, right = 34, 190, 56, WIDTH - 10

@@ -6,7 +6,7 @@ from typing import Sequence
 
 import afdx_figures as figures
 from afdx_counting import Counting, NO_LINK
-from afdx_numbers import COUNTED, NAMES, PROVED, Row, cell, heads, worst
+from afdx_numbers import COUNTED, NAMES, PROVED, UNPROMISED, Row, cell, heads, worst
 
 STYLE = """
 :root { --ground: #f6f6f4; --sheet: #ffffff; --ink: #1d2126; --muted: #69717b; --rule: #ececea;
@@ -140,11 +140,14 @@ def latency_section(report: Row, most: int) -> str:
     rows = one_each(report["latency"])
     if not rows:
         return section("Latency", "No frame left a port.", "")
-    words = "Each link at the port where it came nearest to its proved bound, the nearest first. "
+    words = "Each link at the port where it came nearest to its bound, the nearest first. "
     if len(rows) > most:
         words += f"The first {most} of {len(rows)} links; the table below has all. "
     words += "From a frame's arrival to the end of its slot."
-    return section("Latency seen against the proved bound", words, figures.latencies(rows[:most]))
+    name = "proved bound" if report["admission"] == "ok" else "bound of check"
+    if report["admission"] != "ok":
+        words += f" {UNPROMISED}"
+    return section(f"Latency seen against the {name}", words, figures.latencies(rows[:most], name))
 
 
 def chosen_link(counting: Counting) -> int | None:
@@ -204,7 +207,7 @@ def page(report: Row, counting: Counting, rows: int) -> str:
         latency_section(report, rows),
         section(
             "Drops by reason over time",
-            "Drops at the switches, by the time of the arrival.",
+            "At the switches, by the time of the arrival; copies that were too old by that of their drop.",
             figures.drops(counting.drops),
         ),
         track_section(counting),
