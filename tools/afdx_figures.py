@@ -206,7 +206,7 @@ def drops(series: Series) -> str:
     count = (series.last - series.start) // series.width + 1
     steps = max(count, 8)
     totals = [sum(series.steps.get((step, word), 0) for word in present) for step in range(count)]
-    top, bottom, left, right = 34, 190, 56, WIDTH - 10
+    top, bottom, left, right = 34, 190, 56, WIDTH - 20
     highest = max(totals)
 
     def place_x(step: float) -> float:
@@ -317,7 +317,7 @@ def track(arrivals: Sequence[Arrived], ports: dict[int, str]) -> str:
     begin = arrivals[0].time
     end = max([a.time for a in arrivals] + [copy[1] for a in arrivals for copy in a.copies])
     pad = max((end - begin) * 0.02, 500)
-    left, right = 150, WIDTH - 12
+    left, right = 150, WIDTH - 20
 
     def place(time: float) -> float:
         return left + (right - left) * (time - begin + pad) / (end - begin + 2 * pad)

@@ -51,6 +51,7 @@ svg text.strong { font-weight: 600; }
 details summary { cursor: pointer; font-weight: 600; }
 footer { color: var(--muted); margin-top: 20px; font-size: 13px; }
 footer code { font-size: 12px; overflow-wrap: anywhere; }
+@media print { body { background: none; } section { break-inside: avoid; } }
 """
 CARDS = (
     ("frames", "frames in"),
