@@ -43,7 +43,7 @@ _afdx() {
         police.3 | replay.1) _afdx_files list ;;
         check.0 | replay.0 | send.0) _afdx_files toml ;;
         send.1) _afdx_systems "${given[0]}" ;;
-        send.2) _afdx_files list submissions ;;
+        send.2) _afdx_files list messages ;;
     esac
 }
 
