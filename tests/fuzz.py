@@ -13,7 +13,8 @@ tests/fuzzing/checks.py holds what must be so of any output. Beside that
 - `replay` without its option replays exactly where `check` says `ok`, and then as it does with it;
 - a link's verdicts are the same where all other frames are taken out of the list, and so are the ports
   that its frames leave, where the network is admitted;
-- `police` gives the verdicts of a replay whose tables have that one link.
+- `police` gives the verdicts of a replay whose tables have that one link;
+- what `send` writes is replayed without a loss, and each message is read once and in order.
 
 The first case that is wrong is written to DIR (a new folder where it isn't given), its seed and number
 are printed, and the status is 1. `--seed N --first K` begins with that case. Needs Python 3, no packages.
@@ -164,7 +165,21 @@ def try_police(runs, case, chance):
     must((status, verdicts, err) == answer, "police and replay give other verdicts of one link")
 
 
-def try_case(runs, seed, number, stored):
+def try_send(runs, case):
+    """On tables that are known and were not changed."""
+    words = ["send", "config", case.name]
+    answer = runs.run_twice(words, case.messages)
+    must(not checks.CONFIG_FAULT.fullmatch(answer[2]), "send finds a fault in sound tables")
+    sent = checks.check_send(case.tables, case.name, case.messages, *answer)
+    try_prefix(runs, words, case.messages, answer)
+    is_late = any(frame.time > 10**15 for frame in sent)  # a frame list has no later times
+    if answer[0] == 0 and not is_late:
+        status, out, err = runs.run(["replay", "config", "-"], answer[1].encode("ascii"))
+        must((status, err) == (0, ""), f"what was sent can't be replayed: {err!r}")
+        checks.check_delivered(case.tables, sent, out)
+
+
+def try_case(runs, seed, number, stored, sends):
     chance = random.Random(f"{seed}/{number}")
     case = made.random_case(chance, *stored)
     runs.write("config", case.config)
@@ -172,6 +187,8 @@ def try_case(runs, seed, number, stored):
     checked = try_check(runs, case)
     try_replay(runs, case, checked)
     try_police(runs, case, chance)
+    if sends and case.messages:
+        try_send(runs, case)
 
 
 def keep(runs, folder):
@@ -200,9 +217,10 @@ def main():
     number = given.first
     with tempfile.TemporaryDirectory(prefix="afdx-fuzz-") as folder:
         runs = Runs(os.path.abspath(given.program), folder)
+        sends = runs.run(["send", "--help"])[0] == 0
         while time.monotonic() < end:
             try:
-                try_case(runs, given.seed, number, stored)
+                try_case(runs, given.seed, number, stored, sends)
             except Wrong as wrong:
                 print(f"WRONG: {wrong}\nseed {given.seed}, case {number}, kept in {keep(runs, given.keep)}")
                 sys.exit(1)

@@ -215,11 +215,33 @@ def changed_list(random, text):
     return text
 
 
-class Case:
-    """A configuration, a list, and what is known of the configuration."""
+def random_submissions(random, tables, name):
+    """A list of messages for one system: bursts and pauses, and some that are refused."""
+    own = [link for link in tables["link"] if link["from"] == name]
+    others = tables["link"]
+    lines, time = [], random.choice([0, 0, 5, 10**15 - 10**8])
+    count = random.choice([1, 3, 10, 40, 200])
+    gaps = [0, 0, 0, 0, 1, 6720, 100000, 1000000, 16000000]
+    if random.random() < 0.05:
+        count, gaps = 700, [8000000, 128000000]  # numbers go round
+        own = own[:1]
+    for _ in range(count):
+        time = min(10**15, time + random.choice(gaps))
+        link = random.choice(own if own and random.random() < 0.95 else others) if others else {"vl": 1, "lmax": 64, "subs": 1}
+        sub = random.randint(1, link["subs"]) if random.random() < 0.95 else random.choice([0, 5, 255, 256])
+        longest = link["lmax"] - 47
+        size = random.choice([1, 1, 5, 17, longest, longest + 1, random.randint(0, longest)])
+        udp = random.choice([1000] * 9 + [7, 0, 65535])
+        lines.append(f"{time} {link['vl']} {sub} {udp} {random.randbytes(size).hex() or '-'}")
+    return ("\n".join(lines) + random.choice(["\n", ""])).encode("ascii")
 
-    def __init__(self, config, tables, text):
+
+class Case:
+    """A configuration, a list, what is known of the configuration, a system and its messages."""
+
+    def __init__(self, config, tables, text, name="s1", messages=b""):
         self.config, self.tables, self.text = config, tables, text
+        self.name, self.messages = name, messages
 
 
 def stored():
@@ -247,9 +269,17 @@ def random_case(random, configs, lists):
         if random.random() < 0.1:
             config = random.choice(sorted(configs.values()))
         tables = parsed(config)
+    is_sound = tables is not None
     if random.random() < 0.25:
+        is_sound = False
         config = changed_config(random, config)
         tables = parsed(config)
     if random.random() < 0.5:
         text = changed_list(random, text)
-    return Case(config, tables, text)
+    if not is_sound:
+        return Case(config, tables, text)
+    name = random.choice(tables["system"])["name"]
+    messages = random_submissions(random, tables, name)
+    if random.random() < 0.4:
+        messages = changed_list(random, messages)
+    return Case(config, tables, text, name, messages)
