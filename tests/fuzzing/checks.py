@@ -306,14 +306,15 @@ def check_send(tables, name, text, status, out, err):
     if status == 1:
         must(out == "", "there is output beside a fault of the configuration")
         return []
-    given = {}
+    given, times = {}, {}
     fault = faulty_line(err)
     for n, line in enumerate(raw_lines(text), 1):
         if n == fault:
             break
         line = said(line)
         if line is not None:
-            _, vl, _, udp, digits = line.split(b" ")
+            time, vl, _, udp, digits = line.split(b" ")
+            times[n] = int(time)
             given[n] = (int(vl), int(udp), b"" if digits == b"-" else bytes.fromhex(digits.decode()))
     lines, sent, refused = lines_in(out), [], 0
     while lines:
@@ -329,15 +330,22 @@ def check_send(tables, name, text, status, out, err):
             sent.append(Sent(lines.pop(0), lines.pop(0)))
     if status == 0:
         must(sorted(given.values()) == sorted(frame.message for frame in sent), "other messages are sent than were taken")
-    check_sent(tables, name, sent)
+    taken = {}
+    for n in sorted(given):
+        taken.setdefault(given[n][0], []).append(times[n])
+    check_sent(tables, name, sent, taken)
     return sent
 
 
-def check_sent(tables, name, sent):
-    """The frames are this system's, follow each other on its line, and their numbers go round."""
+def check_sent(tables, name, sent, taken):
+    """The frames are this system's, follow each other on its line, and their numbers go round.
+
+    `taken` holds by link the times of the messages that were taken: no frame begins before there were as
+    many, nor before as many gaps are over.
+    """
     system = next(row for row in tables["system"] if row["name"] == name)
     links = {row["vl"]: row for row in tables["link"] if row["from"] == name}
-    numbers, free = {}, 0
+    numbers, free, counts = {}, 0, {}
     for frame in sent:
         must(frame.vl in links and frame.port == system["port"], f"link {frame.vl} is not of {name}")
         link = links[frame.vl]
@@ -346,6 +354,10 @@ def check_sent(tables, name, sent):
         must(frame.number == wanted, f"link {frame.vl}: number {frame.number} in place of {wanted}")
         numbers[frame.vl] = wanted % 255 + 1
         begin = frame.time - (len(frame.bytes) + 20) * BYTE_NS[system["rate"]]
+        count = counts.get(frame.vl, 0)
+        counts[frame.vl] = count + 1
+        earliest = max(taken[frame.vl][count], taken[frame.vl][0] + count * link["bag_ms"] * 10**6)
+        must(begin >= earliest, f"frame {count + 1} of link {frame.vl} begins at {begin}, before {earliest}")
         must(begin >= free, f"the slot that ends at {frame.time} begins before that before it has ended")
         free = frame.time
 

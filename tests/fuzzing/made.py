@@ -222,8 +222,8 @@ def random_submissions(random, tables, name):
     lines, time = [], random.choice([0, 0, 5, 10**15 - 10**8])
     count = random.choice([1, 3, 10, 40, 200])
     gaps = [0, 0, 0, 0, 1, 6720, 100000, 1000000, 16000000]
-    if random.random() < 0.05:
-        count, gaps = 700, [8000000, 128000000]  # numbers go round
+    if random.random() < 0.1:
+        count, gaps = 400, [128000000]  # numbers go round
         own = own[:1]
     for _ in range(count):
         time = min(10**15, time + random.choice(gaps))
