@@ -228,7 +228,7 @@ def random_submissions(random, tables, name):
     for _ in range(count):
         time = min(10**15, time + random.choice(gaps))
         link = random.choice(own if own and random.random() < 0.95 else others) if others else {"vl": 1, "lmax": 64, "subs": 1}
-        sub = random.randint(1, link["subs"]) if random.random() < 0.95 else random.choice([0, 5, 255, 256])
+        sub = random.randint(1, link["subs"]) if random.random() < 0.95 else random.choice([0, 5, 255])
         longest = link["lmax"] - 47
         size = random.choice([1, 1, 5, 17, longest, longest + 1, random.randint(0, longest)])
         udp = random.choice([1000] * 9 + [7, 0, 65535])
