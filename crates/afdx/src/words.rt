@@ -35,6 +35,14 @@ that are empty or begin with '#' are skipped.
 Example:
   afdx police 1 64 500 examples/one_link.list";
 
+/// The option by which each line is seen at once.
+fn line_buffered<'a>(alloc: Global) -> Arg<'a> {
+    Arg::new(alloc, "line-buffered")
+        .long("line-buffered")
+        .help("Hands the text of each line over at once, and not in large pieces")
+        .action(ArgAction::SetTrue)
+}
+
 const CHECK_ABOUT: &str = "Says whether a network keeps its latencies";
 
 const CHECK_AFTER: &str = "\
@@ -109,6 +117,7 @@ fn replay_command<'a>(alloc: Global) -> Result<Command<'a>, AllocError> {
         .about(REPLAY_ABOUT)
         .after_help(REPLAY_AFTER)
         .arg(freely)?
+        .arg(line_buffered(alloc))?
         .arg(config)?
         .arg(list)
 }
@@ -132,6 +141,7 @@ fn police_command<'a>(alloc: Global) -> Result<Command<'a>, AllocError> {
     Command::new(alloc, "police")
         .about(POLICE_ABOUT)
         .after_help(POLICE_AFTER)
+        .arg(line_buffered(alloc))?
         .arg(bag)?
         .arg(lmax)?
         .arg(jitter)?

@@ -2,6 +2,7 @@
 
 mod checks;
 mod devices;
+mod hostile;
 mod refusals;
 mod replays;
 mod sends;

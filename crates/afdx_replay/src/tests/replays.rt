@@ -12,7 +12,7 @@ const H2: &str =
     "030000000002020000000220080045000021000000000111cce90a000201e0e0000207d007d0000d0000776f726c6400000000000000000000000000";
 
 /// A list with the digits of the frames of the links in the places of `H1` and `H2`.
-fn both_spelled(alloc: Global, list: &str) -> Result<String, AllocError> {
+pub(super) fn both_spelled(alloc: Global, list: &str) -> Result<String, AllocError> {
     let list = spelled(alloc, list)?;
     let mut text = String::new(alloc);
     for (place, part) in list.as_str().split("H2").enumerate() {
