@@ -3,12 +3,12 @@
 
 mod words;
 
-use afdx_replay::{Watched, check, police, replay, send};
+use afdx_replay::{Buffered, Watched, check, finish, police, replay, send};
 use clap::error::ErrorKind;
 use clap::{ArgMatches, Error};
 use std::alloc::AllocError;
 use std::fs::File;
-use std::io::{BufWriter, Read, Write};
+use std::io::Read;
 use std::process::ExitCode;
 
 const DONE: u8 = 0;
@@ -69,6 +69,16 @@ fn check_config(rt: &HostRuntime, matches: &ArgMatches<'_>) -> u8 {
     }
 }
 
+/// How many bytes are gathered before they go to standard output: none where each line is to be
+/// seen at once.
+fn output_room(matches: &ArgMatches<'_>) -> usize {
+    if matches.get_flag("line-buffered") {
+        0
+    } else {
+        OUTPUT_BUFFER
+    }
+}
+
 /// Polices what `input` gives, and hands all verdicts to standard output.
 fn police_from<R: Read + Drop>(rt: &HostRuntime, matches: &ArgMatches<'_>, input: R) -> u8 {
     let (Some(bag), Some(lmax), Some(jitter)) = (
@@ -78,7 +88,7 @@ fn police_from<R: Read + Drop>(rt: &HostRuntime, matches: &ArgMatches<'_>, input
     ) else {
         return WRONG_WORDS;
     };
-    let Ok(buffered) = BufWriter::with_capacity(rt.alloc(), OUTPUT_BUFFER, rt.stdout()) else {
+    let Ok(buffered) = Buffered::new(rt.alloc(), output_room(matches), rt.stdout()) else {
         return memory(rt);
     };
     let mut input = Watched::new(input);
@@ -93,11 +103,7 @@ fn police_from<R: Read + Drop>(rt: &HostRuntime, matches: &ArgMatches<'_>, input
         &mut output,
         &mut errors,
     );
-    if output.flush().is_err() && status == DONE {
-        complain(rt, "device Write");
-        return NO_DEVICE_OR_MEMORY;
-    }
-    status
+    finish(status, &mut output, &mut errors)
 }
 
 fn police_list(rt: &HostRuntime, matches: &ArgMatches<'_>) -> u8 {
@@ -114,9 +120,16 @@ fn police_list(rt: &HostRuntime, matches: &ArgMatches<'_>) -> u8 {
     }
 }
 
-/// Replays what `input` gives in the tables of a configuration, and hands all lines to standard output.
-fn replay_from<R: Read + Drop>(rt: &HostRuntime, admission: bool, config: &[u8], input: R) -> u8 {
-    let Ok(buffered) = BufWriter::with_capacity(rt.alloc(), OUTPUT_BUFFER, rt.stdout()) else {
+/// Replays what `input` gives in the tables of a configuration, and hands all lines to standard
+/// output.
+fn replay_from<R: Read + Drop>(
+    rt: &HostRuntime,
+    matches: &ArgMatches<'_>,
+    config: &[u8],
+    input: R,
+) -> u8 {
+    let admission = !matches.get_flag("no-admission");
+    let Ok(buffered) = Buffered::new(rt.alloc(), output_room(matches), rt.stdout()) else {
         return memory(rt);
     };
     let mut input = Watched::new(input);
@@ -130,18 +143,13 @@ fn replay_from<R: Read + Drop>(rt: &HostRuntime, admission: bool, config: &[u8],
         &mut output,
         &mut errors,
     );
-    if output.flush().is_err() && status == DONE {
-        complain(rt, "device Write");
-        return NO_DEVICE_OR_MEMORY;
-    }
-    status
+    finish(status, &mut output, &mut errors)
 }
 
 fn replay_list(rt: &HostRuntime, matches: &ArgMatches<'_>) -> u8 {
     let (Some(config), Some(list)) = (matches.get_str("CONFIG"), matches.get_str("LIST")) else {
         return WRONG_WORDS;
     };
-    let admission = !matches.get_flag("no-admission");
     let config = match read_config(rt, config) {
         Ok(config) => config,
         Err(NoConfig::Memory) => return memory(rt),
@@ -151,10 +159,10 @@ fn replay_list(rt: &HostRuntime, matches: &ArgMatches<'_>) -> u8 {
         }
     };
     if list == "-" {
-        return replay_from(rt, admission, config.as_slice(), rt.stdin());
+        return replay_from(rt, matches, config.as_slice(), rt.stdin());
     }
     match File::open(rt, list) {
-        Ok(file) => replay_from(rt, admission, config.as_slice(), file),
+        Ok(file) => replay_from(rt, matches, config.as_slice(), file),
         Err(_) => {
             complain(rt, "device List");
             NO_DEVICE_OR_MEMORY
@@ -162,9 +170,18 @@ fn replay_list(rt: &HostRuntime, matches: &ArgMatches<'_>) -> u8 {
     }
 }
 
-/// Sends what `input` gives from a system of a configuration, and hands all lines to standard output.
-fn send_from<R: Read + Drop>(rt: &HostRuntime, config: &[u8], system: &str, input: R) -> u8 {
-    let Ok(buffered) = BufWriter::with_capacity(rt.alloc(), OUTPUT_BUFFER, rt.stdout()) else {
+/// Sends what `input` gives from a system of a configuration, and hands all lines to standard
+/// output.
+fn send_from<R: Read + Drop>(
+    rt: &HostRuntime,
+    matches: &ArgMatches<'_>,
+    config: &[u8],
+    input: R,
+) -> u8 {
+    let Some(system) = matches.get_str("SYSTEM") else {
+        return WRONG_WORDS;
+    };
+    let Ok(buffered) = Buffered::new(rt.alloc(), output_room(matches), rt.stdout()) else {
         return memory(rt);
     };
     let mut input = Watched::new(input);
@@ -178,19 +195,12 @@ fn send_from<R: Read + Drop>(rt: &HostRuntime, config: &[u8], system: &str, inpu
         &mut output,
         &mut errors,
     );
-    if output.flush().is_err() && status == DONE {
-        complain(rt, "device Write");
-        return NO_DEVICE_OR_MEMORY;
-    }
-    status
+    finish(status, &mut output, &mut errors)
 }
 
 fn send_list(rt: &HostRuntime, matches: &ArgMatches<'_>) -> u8 {
-    let (Some(config), Some(system), Some(list)) = (
-        matches.get_str("CONFIG"),
-        matches.get_str("SYSTEM"),
-        matches.get_str("SUBMISSIONS"),
-    ) else {
+    let (Some(config), Some(list)) = (matches.get_str("CONFIG"), matches.get_str("SUBMISSIONS"))
+    else {
         return WRONG_WORDS;
     };
     let config = match read_config(rt, config) {
@@ -202,10 +212,10 @@ fn send_list(rt: &HostRuntime, matches: &ArgMatches<'_>) -> u8 {
         }
     };
     if list == "-" {
-        return send_from(rt, config.as_slice(), system, rt.stdin());
+        return send_from(rt, matches, config.as_slice(), rt.stdin());
     }
     match File::open(rt, list) {
-        Ok(file) => send_from(rt, config.as_slice(), system, file),
+        Ok(file) => send_from(rt, matches, config.as_slice(), file),
         Err(_) => {
             complain(rt, "device List");
             NO_DEVICE_OR_MEMORY

@@ -35,6 +35,14 @@ that are empty or begin with '#' are skipped.
 Example:
   afdx police 1 64 500 examples/one_link.list";
 
+/// The option by which each line is seen at once.
+fn line_buffered<'a>(alloc: Global) -> Arg<'a> {
+    Arg::new(alloc, "line-buffered")
+        .long("line-buffered")
+        .help("Hands the text of each line over at once, and not in large pieces")
+        .action(ArgAction::SetTrue)
+}
+
 const CHECK_ABOUT: &str = "Says whether a network keeps its latencies";
 
 const CHECK_AFTER: &str = "\
@@ -92,7 +100,7 @@ LIST is as for 'police'. The tables of CONFIG have to be admitted, as 'check' sa
 but for the option --no-admission.
 
 Example:
-  afdx replay examples/base.toml examples/babbling.list";
+  afdx replay examples/network.toml examples/bench.list";
 
 fn replay_command<'a>(alloc: Global) -> Result<Command<'a>, AllocError> {
     let freely = Arg::new(alloc, "no-admission")
@@ -109,6 +117,7 @@ fn replay_command<'a>(alloc: Global) -> Result<Command<'a>, AllocError> {
         .about(REPLAY_ABOUT)
         .after_help(REPLAY_AFTER)
         .arg(freely)?
+        .arg(line_buffered(alloc))?
         .arg(config)?
         .arg(list)
 }
@@ -152,6 +161,7 @@ fn send_command<'a>(alloc: Global) -> Result<Command<'a>, AllocError> {
     Command::new(alloc, "send")
         .about(SEND_ABOUT)
         .after_help(SEND_AFTER)
+        .arg(line_buffered(alloc))?
         .arg(config)?
         .arg(system)?
         .arg(list)
@@ -176,6 +186,7 @@ fn police_command<'a>(alloc: Global) -> Result<Command<'a>, AllocError> {
     Command::new(alloc, "police")
         .about(POLICE_ABOUT)
         .after_help(POLICE_AFTER)
+        .arg(line_buffered(alloc))?
         .arg(bag)?
         .arg(lmax)?
         .arg(jitter)?

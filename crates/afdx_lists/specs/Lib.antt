@@ -6,3 +6,4 @@ pub mod FrameLines
 pub mod SubmissionLines
 pub mod Texts
 pub mod Telling
+pub mod Gathered

@@ -1,6 +1,7 @@
 //! Lists are read, line by line, and text is written, through devices that are watched.
 #![tactic(auto)]
 
+mod buffered;
 mod fault;
 mod fields;
 mod frame_line;
@@ -12,6 +13,7 @@ mod text;
 mod watched;
 mod writing;
 
+pub use buffered::Buffered;
 pub use fault::{LineFault, RunFault};
 pub use frame_line::{Heading, read_frame_line};
 pub use line_reader::LineReader;

@@ -3,7 +3,7 @@ ghost use Rattle.std.specs.Prelude.{◌<◌, ◌≤◌, ◌^◌};
 
 use crate::{
     Handed, Heading, LineFault, LineReader, RunFault, Text, Watched, read_frame_line,
-    read_submission_line, write_text,
+    read_submission_line, tell_fault, write_text,
 };
 use afdx_frame::Side;
 use std::alloc::Global;
@@ -397,9 +397,13 @@ fn text_is_written_once(rt: HostRuntime) -> Result<(), Fail> {
     Ok(())
 }
 
-/// The line of a fault and its status.
-fn line_of(alloc: Global, fault: RunFault) -> Result<String, Fail> {
+/// The line of a fault and its status. It is told as it prints.
+fn line_of(rt: &impl Abort, alloc: Global, fault: RunFault) -> Result<String, Fail> {
     let status = fault.status();
+    let mut errors = Watched::new(Vec::new(alloc));
+    tell_fault(&mut errors, &fault);
+    let line = format!(in alloc; "{fault}\n")?;
+    assert!(rt; errors.into_inner().as_slice() == line.as_bytes());
     Ok(format!(in alloc; "{fault} {status}")?)
 }
 
@@ -420,7 +424,7 @@ fn faults_are_told(rt: HostRuntime) -> Result<(), Fail> {
         (RunFault::Read, "device Read 4"),
         (RunFault::Write, "device Write 4"),
     ] {
-        assert_eq!(rt; line_of(rt.alloc(), fault)?.as_str(), wanted);
+        assert_eq!(rt; line_of(&rt, rt.alloc(), fault)?.as_str(), wanted);
     }
     Ok(())
 }

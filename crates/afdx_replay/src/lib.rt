@@ -17,8 +17,9 @@ mod summary;
 mod verdict;
 
 pub use admitted_run::run;
-pub use afdx_lists::{RunFault, Watched};
+pub use afdx_lists::{Buffered, RunFault, Watched};
 pub use check_command::check;
+pub use ending::finish;
 pub use police_command::police;
 pub use police_run::run_police;
 pub use replay_command::replay;

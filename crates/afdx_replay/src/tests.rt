@@ -3,6 +3,7 @@
 mod checks;
 mod devices;
 mod premises;
+mod hostile;
 mod refusals;
 mod replays;
 mod sends;

@@ -8,7 +8,7 @@ use std::alloc::{AllocError, Global};
 use std::test::Fail;
 
 /// What a run of the system at this place answers for a list, and what it writes.
-fn sent(
+pub(super) fn sent(
     alloc: Global,
     system: u8,
     list: &str,

@@ -1,0 +1,13 @@
+use Rattle.std.proofs.Common.{◌≡◌, ◌-◌, ◌≤◌, false, length, take}
+use Rattle.std.specs.Io.KnownBytes.{Appends}
+use Rattle.afdx_lists.proofs.buffered.hand_bytes.Given as goal
+
+abbrev pub invariant-loop-taken : goal.invariant-loop-taken
+invariant-loop-taken g l = record {
+  within : l.taken ≤ length l.bytes;
+  sound : l.device.failed ≡ false;
+  taken : Appends (g.W.Write.contents l.fn.device.inner) (g.W.Write.contents l.device.inner) (take l.taken l.bytes);
+}
+
+abbrev pub decreases-loop-taken : goal.decreases-loop-taken
+decreases-loop-taken g l = length l.bytes - l.taken

@@ -1,0 +1,16 @@
+-- What a writer has been given that gathers it before its device.
+use Rattle.std.specs.Prelude.{ℕ, Bool, List, Option}
+use Rattle.std.specs.Io.KnownBytes.{append_known}
+use Rattle.afdx_lists.specs.declared.buffered.Buffered.{Buffered}
+
+-- what is held
+abbrev pub held_bytes : {W : Type 0} → Buffered W → List ℕ
+held_bytes b = b.held.items
+
+-- what was handed to the device, where that is known, and then what is held
+abbrev pub gathered : {W : Type 0} → (W → Option (List ℕ)) → Buffered W → Option (List ℕ)
+gathered contents b = append_known (contents b.device.inner) (held_bytes b)
+
+-- whether the device has failed
+abbrev pub has_failed : {W : Type 0} → Buffered W → Bool
+has_failed b = b.device.failed
