@@ -4,6 +4,7 @@ pub mod ToldLemmas
 pub mod CheckLemmas
 pub mod ReplayLemmas
 pub mod SendLemmas
+pub mod SentLineLemmas
 pub mod PromisedLemmas
 pub mod LossLemmas
 pub mod AdmittedRunLemmas

@@ -1,11 +1,10 @@
 -- What a run that sends has told, one event more, and what it answers then.
-use Rattle.std.proofs.Common.{◌≡◌, ℕ, zero, suc, ◌+◌, ◌<◌, ◌≤◌, ◌==◌, Bool, true, false, if◌then◌else◌, List, [], ◌∷◌, ◌++◌, map, length, Option, Some, None, refl, ap, sym, ◌∙◌, subst, arith, append_assoc, replicate, slice_set, slice_index_or, inl, inr, ◌⊎◌}
+use Rattle.std.proofs.Common.{◌≡◌, ℕ, zero, suc, ◌+◌, ◌<◌, ◌≤◌, ◌==◌, true, false, if◌then◌else◌, List, [], ◌∷◌, ◌++◌, map, length, Option, Some, None, refl, ap, sym, ◌∙◌, subst, arith, replicate, slice_set, slice_index_or}
 use Rattle.std.specs.Prelude.{IfSome, IfNone, Result, Ok, Err, IsOk}
 use Rattle.std.proofs.lemmas.Bool.Decides.{nat_tests}
 use Rattle.std.specs.List.{slice_get}
 use Rattle.std.specs.Io.KnownBytes.{Appends}
 use Rattle.std.proofs.KnownBytes.{Appends-trans, Appends-nil}
-use Rattle.afdx_frame.specs.declared.link.Side.TheVariants.{A, B}
 use Rattle.afdx_config.specs.Admission.{IsAdmitted, links_from}
 use Rattle.afdx_config.specs.Reading.{Spells, system_named}
 use Rattle.afdx_config.specs.Lawful.{AreDistinct}
@@ -13,24 +12,20 @@ use Rattle.afdx_config.specs.LawfulStream.{Sending}
 use Rattle.afdx_config.specs.Rows.{SystemRow, LinkRow, Rows}
 use Rattle.afdx_lists.specs.Calls.{AppendsFront}
 use Rattle.afdx_lists.specs.Lines.{lines_of}
-use Rattle.afdx_lists.specs.SubmissionLines.{Submission}
 use Rattle.afdx_lists.specs.declared.fault.RunFault.{RunFault}
-use Rattle.afdx_lists.specs.declared.fault.RunFault.TheVariants as run
-use Rattle.afdx_port.specs.Schedule.{Turn, end_of}
-use Rattle.afdx_send.specs.Frames.{Frame}
 use Rattle.afdx_send.specs.Releases as send
-use Rattle.afdx_send.specs.Sender.{History, StandsFor, Emits, IsNextIn, IsTaken, IsRefused, AreAllEmitted, no_calls, at, with_submission, with_emission, sending_of, last_time}
+use Rattle.afdx_send.specs.Sender.{StandsFor, Emits, IsTaken, IsRefused, AreAllEmitted, no_calls, at, with_submission, with_emission, sending_of, last_time}
 use Rattle.afdx_send.specs.declared.fault.SendFault.{SendFault}
 use Rattle.afdx_send.specs.declared.fault.SendFault.TheVariants.{NotMyLink, NoSuchSub, Empty, TooLarge, QueueFull, Memory}
 use Rattle.afdx_send.specs.declared.sender.Emission.{Emission}
 use Rattle.afdx_send.specs.declared.working.Working.{Working}
 use Rattle.afdx_replay.specs.Commands.{status_of_answer}
 use Rattle.afdx_replay.specs.ReplayText.{no_counts, with_lines}
-use Rattle.afdx_replay.specs.SendEvents.{Handed, submissions, message_of, Event, Emitted, Submitted, submissions_in, turns_in, taken_by, with_taken, calls_in, IsAnswered, EachFollows, AreEventsOf, IsAtSubmission, AreDone}
-use Rattle.afdx_replay.specs.SendText.{emission_lines, sending_in, event_lines, refusal_line, send_text, with_event, send_counts}
+use Rattle.afdx_replay.specs.SendEvents.{Handed, submissions, message_of, Event, Emitted, Submitted, submissions_in, turns_in, taken_by, calls_in, EachFollows, AreDone}
+use Rattle.afdx_replay.specs.SendText.{emission_lines, sending_in, event_lines, send_text, with_event, send_counts}
 use Rattle.afdx_replay.specs.Sent.{Source, source_at, WritesSoFar, WritesSome, WritesEvents, WritesAll, Answers}
 use Rattle.afdx_replay.specs.SendCommand.{SendsFrom, Sends}
-use Rattle.afdx_replay.specs.SendProgress.{HasTold, AreTold, ToldMore, ToldUntil, TellsSubmission, HasRoom}
+use Rattle.afdx_replay.specs.SendProgress.{HasTold, AreTold, ToldUntil, TellsSubmission, HasRoom}
 use Rattle.afdx_replay.specs.declared.summary.Summary.{Summary}
 use Rattle.afdx_replay.proofs.RunLemmas.{IsDone}
 use Rattle.afdx_replay.proofs.TextLemmas.{front-whole, front-more}

@@ -17,3 +17,4 @@ pub mod SendText
 pub mod Sent
 pub mod SendProgress
 pub mod SendCommand
+pub mod SendLaws

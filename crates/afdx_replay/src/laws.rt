@@ -1,5 +1,6 @@
 //! What is true of the definitions of a replay.
 ghost use Rattle.afdx_replay.specs.ReplayPromises.{ReplayIsAsPromised, ReplaySoFarIsAsPromised};
+ghost use Rattle.afdx_replay.specs.SendLaws.{SentLinesAreArrivals};
 
 /// Where the tables are admitted, what a replay tells is as promised: each virtual link's verdicts, and its frames that leave
 /// each switch port, in order, are the window rule's answer on that link's own arrivals alone; every accepted frame leaves each
@@ -11,4 +12,10 @@ ghost use Rattle.afdx_replay.specs.ReplayPromises.{ReplayIsAsPromised, ReplaySoF
 pub fn replay_is_as_promised()
     ensures all { ReplayIsAsPromised }
     ensures so_far { ReplaySoFarIsAsPromised }
+{}
+
+/// Each R line of a sender's text whose time is at most 10^15 ns, read as a frame list of one line,
+/// is the arrival of its frame: with its bytes, at its time, on its side and at its port.
+pub fn sent_lines_are_arrivals()
+    ensures { SentLinesAreArrivals }
 {}
