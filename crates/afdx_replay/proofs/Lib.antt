@@ -5,6 +5,7 @@ pub mod CheckLemmas
 pub mod RefusalLemmas
 pub mod ReplayLemmas
 pub mod SendLemmas
+pub mod SentLineLemmas
 pub mod PromisedLemmas
 pub mod LossLemmas
 pub mod AdmittedRunLemmas

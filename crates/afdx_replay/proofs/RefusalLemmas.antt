@@ -10,6 +10,7 @@ use Rattle.afdx_admit.specs.declared.fault.AdmitFault.{AdmitFault}
 use Rattle.afdx_lists.specs.declared.watched.Watched.{Watched}
 use Rattle.afdx_replay.specs.Refusals.{admit_line, config_line, Refuses, RefusesConfig, RefusesTables, IsToldRefused, WantsMemory}
 use Rattle.afdx_replay.specs.ReplayCommand.{IsNotReplayed}
+use Rattle.afdx_replay.specs.SendCommand.{NamesSystem, RefusesName, IsNotSent}
 
 -- a configuration was refused: it has the fault that is told, or memory was refused
 pub config-refused : {E : Type 0} (bytes : E → Option (List ℕ)) (old new : Watched E) (config : List ℕ) (status : ℕ) (fault : ConfigFault) →
@@ -46,3 +47,14 @@ pub tables-not-replayed : {E : Type 0} (bytes : E → Option (List ℕ)) (old ne
     RefusesTables bytes old new config status ⊎ WantsMemory bytes old new status → IsNotReplayed bytes config admission old new status
 tables-not-replayed bytes old new config admission status asked (inl refuses) = inr (inl (asked, refuses))
 tables-not-replayed bytes old new config admission status asked (inr wants) = inr (inr wants)
+
+-- nor is anything sent
+pub config-not-sent : {E : Type 0} (bytes : E → Option (List ℕ)) (old new : Watched E) (config name : List ℕ) (status : ℕ) →
+    RefusesConfig bytes old new config status ⊎ WantsMemory bytes old new status → IsNotSent bytes config name old new status
+config-not-sent bytes old new config name status (inl refuses) = inl refuses
+config-not-sent bytes old new config name status (inr wants) = inr (inr (inr wants))
+
+pub tables-not-sent : {E : Type 0} (bytes : E → Option (List ℕ)) (old new : Watched E) (config name : List ℕ) (status : ℕ) → NamesSystem config name →
+    RefusesTables bytes old new config status ⊎ WantsMemory bytes old new status → IsNotSent bytes config name old new status
+tables-not-sent bytes old new config name status named (inl refuses) = inr (inr (inl (named, refuses)))
+tables-not-sent bytes old new config name status named (inr wants) = inr (inr (inr wants))

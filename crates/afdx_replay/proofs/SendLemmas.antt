@@ -1,11 +1,10 @@
 -- What a run that sends has told, one event more, and what it answers then.
-use Rattle.std.proofs.Common.{◌≡◌, ℕ, zero, suc, ◌+◌, ◌<◌, ◌≤◌, ◌==◌, Bool, true, false, if◌then◌else◌, List, [], ◌∷◌, ◌++◌, map, length, Option, Some, None, refl, ap, sym, ◌∙◌, subst, arith, append_assoc, replicate, slice_set, slice_index_or, inl, inr, ◌⊎◌}
+use Rattle.std.proofs.Common.{◌≡◌, ℕ, zero, suc, ◌+◌, ◌<◌, ◌≤◌, ◌==◌, true, false, if◌then◌else◌, List, [], ◌∷◌, ◌++◌, map, length, Option, Some, None, refl, ap, sym, ◌∙◌, subst, arith, replicate, slice_set, slice_index_or}
 use Rattle.std.specs.Prelude.{IfSome, IfNone, Result, Ok, Err, IsOk}
 use Rattle.std.proofs.lemmas.Bool.Decides.{nat_tests}
 use Rattle.std.specs.List.{slice_get}
 use Rattle.std.specs.Io.KnownBytes.{Appends}
 use Rattle.std.proofs.KnownBytes.{Appends-trans, Appends-nil}
-use Rattle.afdx_frame.specs.declared.link.Side.TheVariants.{A, B}
 use Rattle.afdx_config.specs.Admission.{IsAdmitted, links_from}
 use Rattle.afdx_config.specs.Reading.{Spells, system_named}
 use Rattle.afdx_config.specs.Lawful.{AreDistinct}
@@ -13,24 +12,20 @@ use Rattle.afdx_config.specs.LawfulStream.{Sending}
 use Rattle.afdx_config.specs.Rows.{SystemRow, LinkRow, Rows}
 use Rattle.afdx_lists.specs.Calls.{AppendsFront}
 use Rattle.afdx_lists.specs.Lines.{lines_of}
-use Rattle.afdx_lists.specs.SubmissionLines.{Submission}
 use Rattle.afdx_lists.specs.declared.fault.RunFault.{RunFault}
-use Rattle.afdx_lists.specs.declared.fault.RunFault.TheVariants as run
-use Rattle.afdx_port.specs.Schedule.{Turn, end_of}
-use Rattle.afdx_send.specs.Frames.{Frame}
 use Rattle.afdx_send.specs.Releases as send
-use Rattle.afdx_send.specs.Sender.{History, StandsFor, Emits, IsNextIn, IsTaken, IsRefused, AreAllEmitted, no_calls, at, with_submission, with_emission, sending_of, last_time}
+use Rattle.afdx_send.specs.Sender.{StandsFor, Emits, IsTaken, IsRefused, AreAllEmitted, no_calls, at, with_submission, with_emission, sending_of, last_time}
 use Rattle.afdx_send.specs.declared.fault.SendFault.{SendFault}
 use Rattle.afdx_send.specs.declared.fault.SendFault.TheVariants.{NotMyLink, NoSuchSub, Empty, TooLarge, QueueFull, Memory}
 use Rattle.afdx_send.specs.declared.sender.Emission.{Emission}
 use Rattle.afdx_send.specs.declared.working.Working.{Working}
 use Rattle.afdx_replay.specs.Commands.{status_of_answer}
 use Rattle.afdx_replay.specs.ReplayText.{no_counts, with_lines}
-use Rattle.afdx_replay.specs.SendEvents.{Handed, submissions, message_of, Event, Emitted, Submitted, submissions_in, turns_in, taken_by, with_taken, calls_in, IsAnswered, EachFollows, AreEventsOf, IsAtSubmission, AreDone}
-use Rattle.afdx_replay.specs.SendText.{emission_lines, sending_in, event_lines, refusal_line, send_text, with_event, send_counts}
+use Rattle.afdx_replay.specs.SendEvents.{Handed, submissions, message_of, Event, Emitted, Submitted, submissions_in, turns_in, taken_by, calls_in, EachFollows, AreDone}
+use Rattle.afdx_replay.specs.SendText.{emission_lines, sending_in, event_lines, send_text, with_event, send_counts}
 use Rattle.afdx_replay.specs.Sent.{Source, source_at, WritesSoFar, WritesSome, WritesEvents, WritesAll, Answers}
 use Rattle.afdx_replay.specs.SendCommand.{SendsFrom, Sends}
-use Rattle.afdx_replay.specs.SendProgress.{HasTold, AreTold, ToldMore, ToldUntil, TellsSubmission, HasRoom}
+use Rattle.afdx_replay.specs.SendProgress.{HasTold, AreTold, ToldUntil, TellsSubmission, HasRoom}
 use Rattle.afdx_replay.specs.declared.summary.Summary.{Summary}
 use Rattle.afdx_replay.proofs.RunLemmas.{IsDone}
 use Rattle.afdx_replay.proofs.TextLemmas.{front-whole, front-more}
@@ -337,17 +332,14 @@ element [] i within = absurd (omega arith)
 element (x ∷ xs) zero within = (x, refl)
 element (x ∷ xs) (suc i) within = element xs i (omega arith)
 
-pub sends-from : (s : Source) (input rest old new : Option (List ℕ)) (status : ℕ) (r : Result Summary RunFault) → IfSome input (λ bytes. Answers s bytes rest old new r) → status ≡ status_of_answer r →
-    IfSome input (λ bytes. SendsFrom s bytes rest old new status)
-sends-from s None rest old new status r h e = tt
-sends-from s (Some bytes) rest old new status r h e = record { answer = r; answers = h; status_is = e }
-
-pub sends-in : (config name : List ℕ) (t : Rows) (place : ℕ) (input rest old new : Option (List ℕ)) (status : ℕ) → Spells config t → system_named t.systems name ≡ Some place → IsAdmitted t → place < length t.systems →
-    ((row : SystemRow) → slice_get t.systems place ≡ Some row → IfSome input (λ bytes. SendsFrom (source_at t place row) bytes rest old new status)) → IfSome input (λ bytes. Sends config name bytes rest old new status)
-sends-in config name t place None rest old new status spelled named admitted within h = tt
-sends-in config name t place (Some bytes) rest old new status spelled named admitted within h =
+-- what a run answers, for the row of its system, is what the command does
+pub sends-in : (config name : List ℕ) (t : Rows) (place : ℕ) (input rest old new : Option (List ℕ)) (answer : Result Summary RunFault) →
+    Spells config t → system_named t.systems name ≡ Some place → IsAdmitted t → place < length t.systems →
+    ((row : SystemRow) → slice_get t.systems place ≡ Some row → IfSome input (λ bytes. Answers (source_at t place row) bytes rest old new answer)) →
+    Sends config name input rest old new answer
+sends-in config name t place input rest old new answer spelled named admitted within h =
     let e = element t.systems place within in
-    record { tables = t; spelled = spelled; system = place; named = named; admitted = admitted; row = e.0; stands = e.1; sends = h e.0 e.1 }
+    record { tables = t; spelled = spelled; system = place; named = named; admitted = admitted; row = e.0; stands = e.1; answers = h e.0 e.1 }
 
 pub is-ok : {V E : Type 0} (r : Result V E) (v : V) → r ≡ Ok v → IsOk r
 is-ok (Ok w) v is = refl

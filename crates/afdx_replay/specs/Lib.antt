@@ -18,3 +18,4 @@ pub mod Refusals
 pub mod Sent
 pub mod SendProgress
 pub mod SendCommand
+pub mod SendLaws

@@ -1,26 +1,19 @@
 -- What the command `send` does.
-use Rattle.std.specs.Prelude.{ℕ, ◌≡◌, ◌⊎◌, List, Option, Some, None, Result, slice_get}
+use Rattle.std.specs.Prelude.{ℕ, ◌≡◌, ◌⊎◌, List, Option, Some, None, Result, IfSome, codes, slice_get}
 use Rattle.afdx_config.specs.Admission.{IsAdmitted}
-use Rattle.afdx_config.specs.Reading.{Spells, IsFaultOf, system_named}
+use Rattle.afdx_config.specs.Reading.{Spells, system_named}
 use Rattle.afdx_config.specs.Rows.{SystemRow, Rows}
-use Rattle.afdx_config.specs.declared.fault.ConfigFault.{ConfigFault}
+use Rattle.afdx_lists.specs.Telling.{Tells}
 use Rattle.afdx_lists.specs.declared.fault.RunFault.{RunFault}
-use Rattle.afdx_replay.specs.Commands.{status_of_answer}
-use Rattle.afdx_replay.specs.Sent.{Source, source_at, Answers}
+use Rattle.afdx_lists.specs.declared.watched.Watched.{Watched}
+use Rattle.afdx_replay.specs.Refusals.{RefusesConfig, RefusesTables, WantsMemory}
+use Rattle.afdx_replay.specs.Sent.{source_at, Answers}
 use Rattle.afdx_replay.specs.declared.summary.Summary.{Summary}
 
--- the list of these bytes is sent, after which the input has `rest`, and the status is that of
--- the run's answer
-pub record SendsFrom (s : Source) (bytes : List ℕ) (rest old new : Option (List ℕ))
-    (status : ℕ) : Type 0 where
-  pub answer : Result Summary RunFault
-  pub answers : Answers s bytes rest old new answer
-  pub status_is : status ≡ status_of_answer answer
-
--- the tables are those that the configuration spells, they are admitted, and the system is that
--- of this name
-pub record Sends (config name bytes : List ℕ) (rest old new : Option (List ℕ))
-    (status : ℕ) : Type 0 where
+-- A list is sent from the system of this name in the tables that the configuration spells, which
+-- are admitted. Where the list's bytes are known, what is written is what goes with this answer.
+pub record Sends (config name : List ℕ) (list rest old new : Option (List ℕ))
+    (answer : Result Summary RunFault) : Type 0 where
   pub tables : Rows
   pub spelled : Spells config tables
   pub system : ℕ
@@ -28,24 +21,35 @@ pub record Sends (config name bytes : List ℕ) (rest old new : Option (List ℕ
   pub admitted : IsAdmitted tables
   pub row : SystemRow
   pub stands : slice_get tables.systems system ≡ Some row
-  pub sends : SendsFrom (source_at tables system row) bytes rest old new status
+  pub answers : IfSome list
+      (λ bytes. Answers (source_at tables system row) bytes rest old new answer)
 
--- the configuration has a fault
-abbrev pub HasFault : List ℕ → Type 0
-HasFault config = (e : ConfigFault) × IsFaultOf config e
+-- what is told where no system has the name
+abbrev pub no_system_line : List ℕ
+no_system_line = codes "words NoSuchSystem\n"
 
--- it has none, and no system has this name
-abbrev pub HasNoSystem : List ℕ → List ℕ → Type 0
-HasNoSystem config name = (t : Rows) × Spells config t × (system_named t.systems name ≡ None)
+-- the configuration has no fault, and no system has this name: that is told, with status 2
+pub record RefusesName {E : Type 0} (error_bytes : E → Option (List ℕ)) (old new : Watched E)
+    (config name : List ℕ) (status : ℕ) : Type 0 where
+  pub tables : Rows
+  pub spelled : Spells config tables
+  pub none : system_named tables.systems name ≡ None
+  pub status_is : status ≡ 2
+  pub told : Tells error_bytes old new no_system_line
 
--- it has none, a system has this name, and the tables are not admitted
-abbrev pub HasNoAdmission : List ℕ → List ℕ → Type 0
-HasNoAdmission config name =
-    (t : Rows) × (system : ℕ) × Spells config t × (system_named t.systems name ≡ Some system) ×
-    (IsAdmitted t → ⊥)
+-- it has none, and a system has this name
+pub record NamesSystem (config name : List ℕ) : Type 0 where
+  pub tables : Rows
+  pub spelled : Spells config tables
+  pub system : ℕ
+  pub named : system_named tables.systems name ≡ Some system
 
--- so nothing is sent, or memory was refused before anything was
-abbrev pub IsNotSent : List ℕ → List ℕ → ℕ → Type 0
-IsNotSent config name status =
-    ((status ≡ 1) × (HasFault config ⊎ HasNoAdmission config name)) ⊎
-    ((status ≡ 2) × HasNoSystem config name) ⊎ (status ≡ 4)
+-- nothing is sent, and the error output is told why: the configuration has a fault; or no system
+-- has the name; or one has it, and the tables are not admitted; or memory was refused
+abbrev pub IsNotSent : {E : Type 0} → (E → Option (List ℕ)) → (config name : List ℕ) →
+    (old_errors new_errors : Watched E) → ℕ → Type 0
+IsNotSent error_bytes config name old_errors new_errors status =
+    RefusesConfig error_bytes old_errors new_errors config status
+    ⊎ RefusesName error_bytes old_errors new_errors config name status
+    ⊎ (NamesSystem config name × RefusesTables error_bytes old_errors new_errors config status)
+    ⊎ WantsMemory error_bytes old_errors new_errors status

@@ -1,5 +1,5 @@
 -- How far a run that sends has come, and what it works with.
-use Rattle.std.specs.Prelude.{ℕ, ◌+◌, ◌<◌, ◌≤◌, ◌≡◌, ◌⊎◌, List, ◌∷◌, Option}
+use Rattle.std.specs.Prelude.{ℕ, ◌+◌, ◌<◌, ◌≤◌, ◌≡◌, List, ◌∷◌, Option}
 use Rattle.std.specs.Io.KnownBytes.{Appends}
 use Rattle.afdx_lists.specs.SubmissionLines.{submission_of}
 use Rattle.afdx_lists.specs.declared.submission_line.Handed.{Handed as HandedLine}

@@ -1,6 +1,6 @@
 -- The text of a run that sends: the lines of each event, in the order of the events.
 -- A list of events has the latest first.
-use Rattle.std.specs.Prelude.{ℕ, ◌+◌, List, [], ◌∷◌, ◌++◌, Option, Some, None, codes}
+use Rattle.std.specs.Prelude.{ℕ, ◌+◌, List, [], ◌∷◌, ◌++◌, Some, None, codes}
 use Rattle.std.specs.Fmt.{decimal}
 use Rattle.hex.specs.Hex.{encode_lower}
 use Rattle.afdx_frame.specs.declared.link.Side.{Side}

@@ -1,18 +1,15 @@
 -- What a run that sends answers and writes, and how far it has come.
-use Rattle.std.specs.Prelude.{ℕ, ◌+◌, ◌≡◌, ◌≤◌, List, ◌∷◌, length, Option, Result, Ok, Err}
+use Rattle.std.specs.Prelude.{ℕ, ◌≡◌, List, length, Option, Result, Ok, Err}
 use Rattle.std.specs.Io.KnownBytes.{Appends}
 use Rattle.afdx_config.specs.Admission.{links_from}
 use Rattle.afdx_config.specs.Rows.{SystemRow, LinkRow, Rows}
 use Rattle.afdx_lists.specs.Lines.{lines_of}
 use Rattle.afdx_lists.specs.Calls.{AppendsFront}
 use Rattle.afdx_lists.specs.declared.fault.RunFault.{RunFault}
-use Rattle.afdx_port.specs.Schedule.{end_of}
-use Rattle.afdx_send.specs.Sender.{StandsFor, last_time, frames_held}
-use Rattle.afdx_send.specs.declared.working.Working.{Working}
 use Rattle.afdx_replay.specs.Lists.{items_of, HaveNoFault}
 use Rattle.afdx_replay.specs.Stops.{StopsIn}
 use Rattle.afdx_replay.specs.ReplayText.{with_lines}
-use Rattle.afdx_replay.specs.SendEvents.{Handed, submissions, Event, submissions_in, turns_in, calls_in, EachFollows, AreEventsOf, IsAtSubmission, AreDone}
+use Rattle.afdx_replay.specs.SendEvents.{Handed, submissions, Event, AreEventsOf, IsAtSubmission, AreDone}
 use Rattle.afdx_replay.specs.SendText.{send_text, send_counts}
 use Rattle.afdx_replay.specs.declared.summary.Summary.{Summary}
 

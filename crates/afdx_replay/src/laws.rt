@@ -1,5 +1,7 @@
 //! What is true of the definitions of a replay.
-ghost use Rattle.afdx_replay.specs.ReplayPromises.{ArrivalsAreListed, ReplayIsAsPromised, ReplaySoFarIsAsPromised, NoneIsCounted};
+ghost use Rattle.afdx_replay.specs.ReplayPromises.{ArrivalsAreListed, NoneIsCounted};
+ghost use Rattle.afdx_replay.specs.ReplayPromises.{ReplayIsAsPromised, ReplaySoFarIsAsPromised};
+ghost use Rattle.afdx_replay.specs.SendLaws.{SentLinesAreArrivals};
 
 /// Where the tables are admitted, what a replay tells is as promised: each virtual link's verdicts,
 /// and its frames that leave each switch port, in order, are the window rule's answer on that
@@ -20,4 +22,10 @@ pub fn replay_is_as_promised()
 /// Each arrival of a list is the frame of one of its lines, under the line's number.
 pub fn arrivals_are_listed()
     ensures { ArrivalsAreListed }
+{}
+
+/// Each R line of a sender's text whose time is at most 10^15 ns, read as a frame list of one line,
+/// is the arrival of its frame: with its bytes, at its time, on its side and at its port.
+pub fn sent_lines_are_arrivals()
+    ensures { SentLinesAreArrivals }
 {}

@@ -1,7 +1,9 @@
 //! How a command refuses a configuration or its tables.
 ghost use Rattle.std.specs.Prelude.{◌≡◌};
 ghost use Rattle.afdx_admit.specs.Known.{IsKnown};
+ghost use Rattle.afdx_lists.specs.Telling.{Tells};
 ghost use Rattle.afdx_replay.specs.Refusals.{admit_line, config_line, Refuses, WantsMemory};
+ghost use Rattle.afdx_replay.specs.SendCommand.{no_system_line};
 
 use afdx_admit::AdmitFault;
 use afdx_config::{ConfigFault, Tables};
@@ -10,6 +12,8 @@ use std::alloc::Global;
 use std::io::Write;
 
 const REFUSED: u8 = 1;
+
+const WRONG_WORDS: u8 = 2;
 
 /// Tells that memory was refused, and gives the exit status.
 pub fn want_memory<E: Write>(errors: &mut Watched<E>) -> u8
@@ -55,4 +59,13 @@ pub fn refuse_tables<E: Write>(
         }
         Err(_) => want_memory(errors),
     }
+}
+
+/// Tells that no system has the name, and gives the exit status.
+pub fn refuse_name<E: Write>(errors: &mut Watched<E>) -> u8
+    ensures status { result ≡ 2 }
+    ensures told { Tells E.contents errors.old errors.new no_system_line }
+{
+    tell(errors, b"words NoSuchSystem\n");
+    WRONG_WORDS
 }

@@ -1,4 +1,4 @@
-use Rattle.std.proofs.Common.{rules, arith, refl}
+use Rattle.std.proofs.Common.{refl}
 use Rattle.afdx_send.specs.Sender.{last_time}
 use Rattle.afdx_replay.specs.SendProgress.{handed_at}
 use Rattle.afdx_replay.proofs.SendLemmas.{tells-taken, tells-refused}

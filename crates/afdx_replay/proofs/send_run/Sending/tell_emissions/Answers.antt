@@ -1,4 +1,4 @@
-use Rattle.std.proofs.Common.{◌∙◌, ◌∷◌, ℕ, List, subst, refl, arith}
+use Rattle.std.proofs.Common.{◌∙◌, ◌∷◌, List, subst, refl, arith}
 use Rattle.afdx_replay.specs.Sent.{WritesSome}
 use Rattle.afdx_replay.specs.SendEvents.{Handed, Emitted}
 use Rattle.afdx_replay.proofs.ReplayLemmas.{on-err}

@@ -1,6 +1,5 @@
-use Rattle.std.proofs.Common.{◌≡◌, ◌∙◌, ◌∷◌, Option, None, Some, inr, inl}
+use Rattle.std.proofs.Common.{◌≡◌, ◌∙◌, None, Some, inr, inl}
 use Rattle.std.proofs.KnownBytes.{Appends-nil}
-use Rattle.afdx_send.specs.declared.fault.SendFault.{SendFault}
 use Rattle.afdx_replay.specs.SendProgress.{handed_at}
 use Rattle.afdx_replay.proofs.ReplayLemmas.{on-err}
 use Rattle.afdx_replay.proofs.SendLemmas.{told-submitted, begun-submitted, until-some, none-of}
