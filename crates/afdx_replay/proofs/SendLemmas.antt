@@ -19,12 +19,11 @@ use Rattle.afdx_send.specs.declared.fault.SendFault.{SendFault}
 use Rattle.afdx_send.specs.declared.fault.SendFault.TheVariants.{NotMyLink, NoSuchSub, Empty, TooLarge, QueueFull, Memory}
 use Rattle.afdx_send.specs.declared.sender.Emission.{Emission}
 use Rattle.afdx_send.specs.declared.working.Working.{Working}
-use Rattle.afdx_replay.specs.Commands.{status_of_answer}
 use Rattle.afdx_replay.specs.ReplayText.{no_counts, with_lines}
 use Rattle.afdx_replay.specs.SendEvents.{Handed, submissions, message_of, Event, Emitted, Submitted, submissions_in, turns_in, taken_by, calls_in, EachFollows, AreDone}
 use Rattle.afdx_replay.specs.SendText.{emission_lines, sending_in, event_lines, send_text, with_event, send_counts}
 use Rattle.afdx_replay.specs.Sent.{Source, source_at, WritesSoFar, WritesSome, WritesEvents, WritesAll, Answers}
-use Rattle.afdx_replay.specs.SendCommand.{SendsFrom, Sends}
+use Rattle.afdx_replay.specs.SendCommand.{Sends}
 use Rattle.afdx_replay.specs.SendProgress.{HasTold, AreTold, ToldUntil, TellsSubmission, HasRoom}
 use Rattle.afdx_replay.specs.declared.summary.Summary.{Summary}
 use Rattle.afdx_replay.proofs.RunLemmas.{IsDone}
