@@ -102,10 +102,10 @@ more_block digits some old new bs at size next n is long read whole inv =
     let sum : 2 * at + 2 * size ≡ 2 * next = omega (arith, n) in
     let first : List ℕ = take (2 * size) (drop (2 * at) digits) in
     let parts : drop (2 * at) digits ≡ some ++ rest =
-        sym (ap (λ (xs : List ℕ). xs ++ rest) is
-        ∙ ap (λ (k : ℕ). first ++ drop k digits) (sym sum)
-        ∙ ap (λ (xs : List ℕ). first ++ xs) (sym (drop-drop (2 * size) (2 * at) digits))
-        ∙ take-append-drop (2 * size) (drop (2 * at) digits)) in
+    sym (ap (λ (xs : List ℕ). xs ++ rest) is
+    ∙ ap (λ (k : ℕ). first ++ drop k digits) (sym sum)
+    ∙ ap (λ (xs : List ℕ). first ++ xs) (sym (drop-drop (2 * size) (2 * at) digits))
+    ∙ take-append-drop (2 * size) (drop (2 * at) digits)) in
     let place : 2 * at + length some ≡ 2 * next = omega (arith, n, long) in
     inv ∙ ap (λ (xs : List ℕ). prepend (take at old) (decode_pairs (2 * at) xs)) parts
     ∙ ap (prepend (take at old)) (decode_block 0 (2 * at) some rest bs read)

@@ -29,13 +29,17 @@ pub record SubmissionFields : Type 0 where
   pub digits : List ℕ
 
 -- five fields, where each could be read and the last one has a byte
-abbrev pub fields_with : Option ℕ → Option ℕ → Option ℕ → Option ℕ → List ℕ → Option SubmissionFields
-fields_with (Some time) (Some vl) (Some sub) (Some udp) (digit ∷ digits) = Some (record { time = time; vl = vl; sub = sub; udp = udp; digits = digit ∷ digits })
+abbrev pub fields_with : Option ℕ → Option ℕ → Option ℕ → Option ℕ → List ℕ →
+    Option SubmissionFields
+fields_with (Some time) (Some vl) (Some sub) (Some udp) (digit ∷ digits) =
+    Some (record { time = time; vl = vl; sub = sub; udp = udp; digits = digit ∷ digits })
 fields_with _ _ _ _ _ = None
 
 -- the five fields of these parts, if there are five
 abbrev pub fields_of_parts : List (List ℕ) → Option SubmissionFields
-fields_of_parts (time ∷ vl ∷ sub ∷ udp ∷ digits ∷ []) = fields_with (number_of time) (at_most 65535 (number_of vl)) (at_most 255 (number_of sub)) (at_most 65535 (number_of udp)) digits
+fields_of_parts (time ∷ vl ∷ sub ∷ udp ∷ digits ∷ []) = fields_with (number_of time)
+    (at_most 65535 (number_of vl)) (at_most 255 (number_of sub))
+    (at_most 65535 (number_of udp)) digits
 fields_of_parts _ = None
 
 -- the fields of a text, which stand between spaces
@@ -43,8 +47,16 @@ unfoldable pub submission_fields : List ℕ → Option SubmissionFields
 submission_fields text = fields_of_parts (between_spaces text)
 
 -- what fields say whose digits write these bytes, if any
-abbrev pub submission_with : SubmissionFields → Option (List ℕ) → Result (Option Submission) LineFault
-submission_with fields (Some bytes) = Ok (Some (record { time = fields.time; vl = fields.vl; sub = fields.sub; udp = fields.udp; payload = bytes }))
+abbrev pub submission_with : SubmissionFields → Option (List ℕ) →
+    Result (Option Submission) LineFault
+submission_with fields (Some bytes) =
+    Ok (Some (record {
+      time = fields.time;
+      vl = fields.vl;
+      sub = fields.sub;
+      udp = fields.udp;
+      payload = bytes;
+    }))
 submission_with fields None = Err BadHex
 
 -- the first false check of a time, after a submission of the latest time
@@ -55,7 +67,8 @@ time_fault time latest =
     else None
 
 -- what fields say of which the time has this fault
-abbrev pub fields_say_with : SubmissionFields → Option LineFault → Result (Option Submission) LineFault
+abbrev pub fields_say_with : SubmissionFields → Option LineFault →
+    Result (Option Submission) LineFault
 fields_say_with fields (Some fault) = Err fault
 fields_say_with fields None = submission_with fields (bytes_of_digits fields.digits)
 
@@ -64,7 +77,8 @@ abbrev pub fields_say : ℕ → Option SubmissionFields → Result (Option Submi
 fields_say latest None = Err BadLine
 fields_say latest (Some fields) = fields_say_with fields (time_fault fields.time latest)
 
--- what a line says that comes after a submission of the latest time: a submission, or nothing, or why it can't be read
+-- what a line says that comes after a submission of the latest time: a submission, or nothing, or
+-- why it can't be read
 unfoldable pub submission_said : ℕ → List ℕ → Result (Option Submission) LineFault
 submission_said latest line =
     let text = strip_carriage_return line in
@@ -72,11 +86,23 @@ submission_said latest line =
 
 -- the submission of what is handed over, and its bytes
 abbrev pub submission_of : Handed → List ℕ → Submission
-submission_of handed bytes = record { time = handed.time; vl = handed.vl; sub = handed.sub; udp = handed.udp; payload = bytes }
+submission_of handed bytes = record {
+  time = handed.time;
+  vl = handed.vl;
+  sub = handed.sub;
+  udp = handed.udp;
+  payload = bytes;
+}
 
 -- the fields that the program read
 abbrev pub fields_of : Fields → SubmissionFields
-fields_of fields = record { time = fields.time; vl = fields.vl; sub = fields.sub; udp = fields.udp; digits = fields.digits.now }
+fields_of fields = record {
+  time = fields.time;
+  vl = fields.vl;
+  sub = fields.sub;
+  udp = fields.udp;
+  digits = fields.digits.now;
+}
 
 -- as much of the time as 64 bits hold
 abbrev pub saturated : SubmissionFields → SubmissionFields

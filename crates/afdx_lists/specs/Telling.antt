@@ -5,6 +5,7 @@ use Rattle.afdx_lists.specs.Calls.{AppendsFront}
 use Rattle.afdx_lists.specs.declared.watched.Watched.{Watched}
 
 -- this text was handed to it: whole unless it has failed, and else a beginning of it
-pub record Tells {W : Type 0} (contents : W → Option (List ℕ)) (old new : Watched W) (text : List ℕ) : Type 0 where
+pub record Tells {W : Type 0} (contents : W →
+    Option (List ℕ)) (old new : Watched W) (text : List ℕ) : Type 0 where
   pub whole : new.failed ≡ false → Appends (contents old.inner) (contents new.inner) text
   pub begun : AppendsFront (contents old.inner) (contents new.inner) text

@@ -11,8 +11,9 @@ use std::io::{ErrorKind, Write};
 
 /// Holds what it is given until there is no more room for it, and then hands all to its device.
 ///
-/// What was handed to the device and what is held are together what was written, in order. Once the device has failed
-/// nothing is handed to it any more, by `flush` neither. What is held when it is dropped is not handed over.
+/// What was handed to the device and what is held are together what was written, in order. Once the
+/// device has failed nothing is handed to it any more, by `flush` neither. What is held when it is
+/// dropped is not handed over.
 #[derive(Drop)]
 pub struct Buffered<W> {
     device: Watched<W>,
@@ -24,7 +25,8 @@ fn hand_bytes<W: Write>(bytes: &[u8], device: &mut Watched<W>) -> usize
     requires { device.old.failed ≡ false }
     ensures within { result ≤ length bytes.now }
     ensures whole { device.new.failed ≡ false → result ≡ length bytes.now }
-    ensures taken { Appends (W.contents device.old.inner) (W.contents device.new.inner) (take result bytes.now) }
+    ensures taken { Appends (W.contents device.old.inner) (W.contents device.new.inner)
+        (take result bytes.now) }
 {
     let mut taken = 0;
     while taken < bytes.len() {
@@ -104,7 +106,8 @@ impl<W: Write + Drop> Buffered<W> {
     #[inline(never)]
     fn write_over(&mut self, buf: &[u8]) -> io::Result<usize>
         ensures bound { WritesAtMost result buf.now }
-        ensures bytes { WriteAppends (gathered W.contents self.old) (gathered W.contents self.new) result buf.now }
+        ensures bytes { WriteAppends (gathered W.contents self.old)
+            (gathered W.contents self.new) result buf.now }
         ensures unasked { has_failed self.old ≡ true → self.new ≡ self.old }
     {
         if self.device.failed() {
@@ -125,7 +128,8 @@ impl<W: Write + Drop> Write for Buffered<W> {
     #[inline(always)]
     fn write(&mut self, buf: &[u8]) -> io::Result<usize>
         ensures bound { WritesAtMost result buf.now }
-        ensures bytes { WriteAppends (gathered W.contents self.old) (gathered W.contents self.new) result buf.now }
+        ensures bytes { WriteAppends (gathered W.contents self.old)
+            (gathered W.contents self.new) result buf.now }
         ensures unasked { has_failed self.old ≡ true → self.new ≡ self.old }
     {
         if buf.len() <= self.held.capacity() - self.held.len() && !self.device.failed() {

@@ -107,7 +107,8 @@ impl RunFault {
         }
     }
 
-    /// Its words, and the number of its line where it has one. One after the other they are its text.
+    /// Its words, and the number of its line where it has one. One after the other they are its
+    /// text.
     pub fn parts(&self) -> (&'static str, Option<u64>)
         ensures { result.0.now ++ number_text result.1 ≡ fault_text self.now }
     {

@@ -131,12 +131,12 @@ fn fault_of_time(time: u64, latest: u64) -> Option<LineFault>
     }
 }
 
-/// What a line says that comes after one of this time: a message, whose bytes are put in the place of
-/// `payload`, or nothing if it is to be skipped.
+/// What a line says that comes after one of this time: a message, whose bytes are put in the place
+/// of `payload`, or nothing if it is to be skipped.
 ///
-/// The line stands without its line feed. An error is the first check of the line that is false; want
-/// of memory comes where `payload` can't grow. After an error, and after a line that is skipped, `payload`
-/// holds any bytes.
+/// The line stands without its line feed. An error is the first check of the line that is false;
+/// want of memory comes where `payload` can't grow. After an error, and after a line that is
+/// skipped, `payload` holds any bytes.
 pub fn read_submission_line(
     line: &[u8],
     latest: u64,
@@ -145,8 +145,10 @@ pub fn read_submission_line(
     requires { latest ≤ 10 ^ 15 }
     ensures time { IfOk result (λ handed. IfSome handed (λ h. h.time ≤ 10 ^ 15)) }
     ensures order { IfOk result (λ handed. IfSome handed (λ h. latest ≤ h.time)) }
-    ensures ok { IfOk result (λ handed. submission_said latest line.now ≡ Ok (option_map (λ h. submission_of h payload.new.items) handed)) }
-    ensures err { IfErr result (λ fault. (fault ≡ Memory) ⊎ (submission_said latest line.now ≡ Err fault)) }
+    ensures ok { IfOk result (λ handed. submission_said latest line.now
+        ≡ Ok (option_map (λ h. submission_of h payload.new.items) handed)) }
+    ensures err { IfErr result (λ fault. (fault ≡ Memory)
+        ⊎ (submission_said latest line.now ≡ Err fault)) }
 {
     let text = trim_line(line);
     if says_nothing(text) {

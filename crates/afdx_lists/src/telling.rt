@@ -9,7 +9,8 @@ use crate::writing::write_text;
 use itoa::Buffer;
 use std::io::Write;
 
-/// Hands a text to a device, or a beginning of it where that fails. A device that failed before is not asked.
+/// Hands a text to a device, or a beginning of it where that fails. A device that failed before is
+/// not asked.
 pub fn tell<W: Write>(device: &mut Watched<W>, text: &[u8])
     ensures told { Tells W.contents device.old device.new text.now }
     ensures unasked { device.old.failed ≡ true → device.new ≡ device.old }
@@ -33,8 +34,8 @@ fn tell_number<W: Write>(device: &mut Watched<W>, number: Option<u64>)
     }
 }
 
-/// Hands the one line of a fault to a device, or a beginning of it where that fails. A device that failed before is
-/// not asked.
+/// Hands the one line of a fault to a device, or a beginning of it where that fails. A device that
+/// failed before is not asked.
 pub fn tell_fault<W: Write>(device: &mut Watched<W>, fault: &RunFault)
     ensures { Tells W.contents device.old device.new (fault_line fault.now) }
 {

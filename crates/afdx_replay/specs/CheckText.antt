@@ -1,4 +1,5 @@
--- What the command `check` writes of some tables: the bounds of each output port that has a system, and the answer.
+-- What the command `check` writes of some tables: the bounds of each output port that has a system,
+-- and the answer.
 use Rattle.std.specs.Prelude.{ℕ, zero, suc, ◌≡◌, true, List, [], ◌++◌, Option, Some, None, is_some, codes, if◌then◌else◌}
 use Rattle.std.specs.Fmt.{decimal}
 use Rattle.std.specs.Io.KnownBytes.{Appends}
@@ -21,10 +22,12 @@ abbrev pub bound_text : Option ℕ → List ℕ
 bound_text (Some bound) = decimal bound
 bound_text None = codes "-"
 
--- the high and the low bound in ns, and the bytes of buffer that are needed, at a port of the switch
+-- the high and the low bound in ns, and the bytes of buffer that are needed, at a port of the
+-- switch
 abbrev pub port_line : Rows → ℕ → List ℕ
 port_line t port =
-    codes "P " ++ decimal port ++ codes " " ++ decimal (high_bound_at t port) ++ codes " " ++ bound_text (low_bound_at t port)
+    codes "P " ++ decimal port ++ codes " " ++ decimal (high_bound_at t port) ++ codes " "
+    ++ bound_text (low_bound_at t port)
     ++ codes " " ++ decimal (buffer_need_at t port) ++ codes "\n"
 
 abbrev pub line_if_used : Rows → ℕ → List ℕ
@@ -54,7 +57,8 @@ pub record BeginsCheck (config : List ℕ) (old new : Option (List ℕ)) (t : Ro
   pub written : AppendsFront old new (check_text t)
 
 -- how the command ends, by what its output and its error output were and are
-module _ {O E : Type 0} (bytes : O → Option (List ℕ)) (error_bytes : E → Option (List ℕ)) (config : List ℕ)
+module _ {O E : Type 0} (bytes : O → Option (List ℕ)) (error_bytes : E →
+    Option (List ℕ)) (config : List ℕ)
     (old new : Watched O) (old_errors new_errors : Watched E) where
   -- the configuration is read, its tables are admitted, and that is written
   pub record IsChecked : Type 0 where

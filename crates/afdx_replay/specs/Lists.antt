@@ -37,7 +37,8 @@ module _ {Y X : Type 0} (k : Kind Y X) where
   unfoldable pub items_of : List (List ℕ) → ℕ → List X
   items_of lines zero = []
   items_of lines (suc n) =
-      with_item (suc n) (item_after (items_of lines n) (slice_index_or lines n [])) (items_of lines n)
+      with_item (suc n) (item_after (items_of lines n) (slice_index_or lines n []))
+      (items_of lines n)
 
   -- what line n says, counted from 0, after the lines before it
   abbrev pub item_said : List (List ℕ) → ℕ → Result (Option Y) LineFault

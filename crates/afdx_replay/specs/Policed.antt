@@ -20,12 +20,16 @@ abbrev pub WritesBeginning : Rule → Option (List ℕ) → Option (List ℕ) �
 WritesBeginning rule old new past = AppendsFront old new (text_of rule past)
 
 -- all lines were read, none has a fault, and their text is written and counted
-pub record WritesAll (rule : Rule) (lines : List (List ℕ)) (old new : Option (List ℕ)) (summary : Summary) : Type 0 where
+pub record WritesAll (rule : Rule) (lines : List (List ℕ)) (old new : Option (List ℕ))
+    (summary : Summary) : Type 0 where
   pub sound : AreSound lines (length lines)
   pub written : WritesText rule old new (arrivals_of lines (length lines))
   pub counted : summary ≡ counts_of rule (length lines) (arrivals_of lines (length lines))
 
--- what a run answers that is given a list of these bytes, after which the input has `rest` and the output `new`
-abbrev pub Answers : Rule → List ℕ → Option (List ℕ) → Option (List ℕ) → Option (List ℕ) → Result Summary RunFault → Type 0
+-- what a run answers that is given a list of these bytes, after which the input has `rest` and the
+-- output `new`
+abbrev pub Answers : Rule → List ℕ → Option (List ℕ) → Option (List ℕ) → Option (List ℕ) →
+    Result Summary RunFault → Type 0
 Answers rule bytes rest old new (Ok summary) = WritesAll rule (lines_of bytes) old new summary
-Answers rule bytes rest old new (Err fault) = StopsAt (WritesText rule old new) (WritesBeginning rule old new) bytes rest fault
+Answers rule bytes rest old new (Err fault) =
+    StopsAt (WritesText rule old new) (WritesBeginning rule old new) bytes rest fault

@@ -19,7 +19,8 @@ pub record AreUntil (policers : Policers) (time : ℕ) : Type 0 where
   pub on_b : last_time policers.b ≤ time
 
 -- These arrivals are told: the accounts stand for them, they are counted, and their text is written
-pub record HasTold (rule : Rule) (policers : Policers) (accepted dropped : ℕ) (old new : Option (List ℕ)) (past : List Arrival) : Type 0 where
+pub record HasTold (rule : Rule) (policers : Policers) (accepted dropped : ℕ)
+    (old new : Option (List ℕ)) (past : List Arrival) : Type 0 where
   pub seen : HaveSeen policers rule past
   pub accepted_is : accepted ≡ accepted_in rule past
   pub dropped_is : dropped ≡ dropped_in rule past

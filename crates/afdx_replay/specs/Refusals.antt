@@ -40,9 +40,11 @@ module _ {E : Type 0} (error_bytes : E → Option (List ℕ)) (old new : Watched
 
   -- the configuration has this fault
   abbrev pub RefusesConfig : List ℕ → ℕ → Type 0
-  RefusesConfig config status = (fault : ConfigFault) × IsFaultOf config fault × IsToldRefused status (config_line fault)
+  RefusesConfig config status = (fault : ConfigFault) × IsFaultOf config fault
+      × IsToldRefused status (config_line fault)
 
   -- its tables are not admitted, and this line of admission is the first that is false
   abbrev pub RefusesTables : List ℕ → ℕ → Type 0
   RefusesTables config status = (t : Rows) × Spells config t × (IsAdmitted t → ⊥)
-      × ((fault : AdmitFault) × (first_false (lines t) ≡ Some fault) × IsToldRefused status (admit_line t fault))
+      × ((fault : AdmitFault) × (first_false (lines t) ≡ Some fault)
+      × IsToldRefused status (admit_line t fault))

@@ -57,7 +57,8 @@ fn put_ports(text: &mut String, tables: &Tables) -> Result<(), AllocError>
 
 /// Adds the answer, and tells whether it is that the tables are admitted.
 fn put_answer(text: &mut String, tables: Tables) -> Result<bool, AllocError>
-    ensures text { OnOk result (string_bytes text.new ≡ string_bytes text.old ++ answer_line tables (first_false (lines tables))) }
+    ensures text { OnOk result (string_bytes text.new ≡ string_bytes text.old
+        ++ answer_line tables (first_false (lines tables))) }
     ensures admitted { IfOk result (λ yes. yes ≡ true → IsAdmitted tables) }
     ensures refused { IfOk result (λ yes. yes ≡ false → IsAdmitted tables → ⊥) }
 {
@@ -86,11 +87,13 @@ fn checked_text(alloc: Global, tables: Tables) -> Result<(String, bool), AllocEr
     Ok((text, is_admitted))
 }
 
-/// Reads a configuration and writes the bounds of each output port, `P port high low buffer`, and then
-/// `ok`, or `no` and the first line of admission that is false. A fault's one line goes to `errors`.
+/// Reads a configuration and writes the bounds of each output port, `P port high low buffer`, and
+/// then `ok`, or `no` and the first line of admission that is false. A fault's one line goes to
+/// `errors`.
 ///
 /// It gives the exit status: 0 where the network is admitted, 1 where it isn't or the configuration
-/// has a fault, 4 for a device, of which a beginning of the text is written, or memory, of which nothing is.
+/// has a fault, 4 for a device, of which a beginning of the text is written, or memory, of which
+/// nothing is.
 pub fn check<O: Write, E: Write>(
     alloc: Global,
     config: &[u8],
@@ -100,10 +103,13 @@ pub fn check<O: Write, E: Write>(
     requires { output.old.failed ≡ false }
     ensures statuses { (result ≡ 0) ⊎ (result ≡ 1) ⊎ (result ≡ 4) }
     ensures device { output.new.failed ≡ true → result ≡ 4 }
-    ensures checked { result ≡ 0 → IsChecked O.contents E.contents config.now output.old output.new errors.old errors.new }
-    ensures refused { result ≡ 1 → IsDenied O.contents E.contents config.now output.old output.new errors.old errors.new
+    ensures checked { result ≡ 0 →
+        IsChecked O.contents E.contents config.now output.old output.new errors.old errors.new }
+    ensures refused { result ≡ 1 →
+        IsDenied O.contents E.contents config.now output.old output.new errors.old errors.new
         ⊎ IsFaulty O.contents E.contents config.now output.old output.new errors.old errors.new }
-    ensures stopped { result ≡ 4 → IsCut O.contents E.contents config.now output.old output.new errors.old errors.new
+    ensures stopped { result ≡ 4 →
+        IsCut O.contents E.contents config.now output.old output.new errors.old errors.new
         ⊎ IsUnchecked O.contents E.contents config.now output.old output.new errors.old errors.new }
 {
     let tables = match read_tables(alloc, config) {

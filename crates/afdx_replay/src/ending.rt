@@ -25,17 +25,20 @@ pub fn end<E: Write>(answer: &Result<Summary, RunFault>, errors: &mut Watched<E>
     }
 }
 
-/// Hands over what an output still holds once its command has ended with this status, and gives the exit status: a
-/// failure of this is `device Write`, status 4, where the status was 0. An output that failed before is not asked.
+/// Hands over what an output still holds once its command has ended with this status, and gives the
+/// exit status: a failure of this is `device Write`, status 4, where the status was 0. An output
+/// that failed before is not asked.
 pub fn finish<O: Write, E: Write>(
     status: u8,
     output: &mut Watched<O>,
     errors: &mut Watched<E>,
 ) -> u8
-    ensures unasked { output.old.failed ≡ true → (result ≡ status) × (output.new ≡ output.old) × (errors.new ≡ errors.old) }
+    ensures unasked { output.old.failed ≡ true → (result ≡ status) × (output.new ≡ output.old)
+        × (errors.new ≡ errors.old) }
     ensures kept { Keeps (O.contents output.old.inner) (O.contents output.new.inner) }
     ensures status { ((result ≡ status) × (errors.new ≡ errors.old))
-        ⊎ ((status ≡ 0) × (result ≡ 4) × Tells E.contents errors.old errors.new (fault_line RunFault.Write)) }
+        ⊎ ((status ≡ 0) × (result ≡ 4)
+        × Tells E.contents errors.old errors.new (fault_line RunFault.Write)) }
 {
     if output.failed() || output.flush().is_ok() || status != DONE {
         return status;

@@ -17,16 +17,17 @@ use std::io::{Read, Write};
 
 const WRONG_WORDS: u8 = 2;
 
-/// The virtual link that the command polices, the port where its frames come in, and their least length in bytes.
+/// The virtual link that the command polices, the port where its frames come in, and their least
+/// length in bytes.
 const LINK: VlId = VlId(1);
 
 const PORT: u8 = 1;
 
 const LMIN: u64 = 64;
 
-/// Polices the frames of a list for virtual link 1, by bytes: verdicts go to `output`, a fault's one
-/// line to `errors`. It gives the exit status: 0 done, 2 a value out of range, 3 a fault of the list,
-/// 4 a device or memory.
+/// Polices the frames of a list for virtual link 1, by bytes: verdicts go to `output`, a fault's
+/// one line to `errors`. It gives the exit status: 0 done, 2 a value out of range, 3 a fault of the
+/// list, 4 a device or memory.
 pub fn police<R: Read, O: Write, E: Write>(
     alloc: Global,
     bag_ms: u64,
@@ -42,7 +43,8 @@ pub fn police<R: Read, O: Write, E: Write>(
 
     // 0 comes only where the list came to its end, 4 wherever a device failed.
     ensures statuses { (result ≡ 0) ⊎ (result ≡ 2) ⊎ (result ≡ 3) ⊎ (result ≡ 4) }
-    ensures done { result ≡ 0 → (input.new.ended ≡ true) × (input.new.failed ≡ false) × (output.new.failed ≡ false) }
+    ensures done { result ≡ 0 → (input.new.ended ≡ true) × (input.new.failed ≡ false)
+        × (output.new.failed ≡ false) }
     ensures device { (input.new.failed || output.new.failed) ≡ true → result ≡ 4 }
     ensures calls { input.new.calls ≤ input.old.calls + 4201000001 }
 
@@ -50,16 +52,19 @@ pub fn police<R: Read, O: Write, E: Write>(
     ensures out_of_range { (IsRule (commanded_rule bag_ms lmax jitter_us) → ⊥) → result ≡ 2 }
     ensures words { (IsRule (commanded_rule bag_ms lmax jitter_us) → ⊥) →
         Tells E.contents errors.old errors.new (codes "words BadRule\n") }
-    ensures nothing_read { (IsRule (commanded_rule bag_ms lmax jitter_us) → ⊥) → input.new ≡ input.old }
-    ensures nothing_written { (IsRule (commanded_rule bag_ms lmax jitter_us) → ⊥) → output.new ≡ output.old }
+    ensures nothing_read { (IsRule (commanded_rule bag_ms lmax jitter_us) → ⊥) →
+        input.new ≡ input.old }
+    ensures nothing_written { (IsRule (commanded_rule bag_ms lmax jitter_us) → ⊥) →
+        output.new ≡ output.old }
 
-    // Else the command ends as a run over the list answered, and where the list's bytes are known what is written is
-    // what goes with that answer.
-    ensures polices { IsRule (commanded_rule bag_ms lmax jitter_us) → (answer : Result Summary RunFault)
+    // Else the command ends as a run over the list answered, and where the list's bytes are known
+    // what is written is what goes with that answer.
+    ensures polices { IsRule (commanded_rule bag_ms lmax jitter_us) →
+        (answer : Result Summary RunFault)
         × EndsAs E.contents input.new output.new errors.old errors.new result answer
         × IfSome (R.remaining input.old.inner) (λ bytes.
-            Answers (commanded_rule bag_ms lmax jitter_us) bytes (R.remaining input.new.inner)
-            (O.contents output.old.inner) (O.contents output.new.inner) answer) }
+        Answers (commanded_rule bag_ms lmax jitter_us) bytes (R.remaining input.new.inner)
+        (O.contents output.old.inner) (O.contents output.new.inner) answer) }
 {
     let Some(rule) = LinkRule::new(LINK, PORT, bag_ms, LMIN, lmax, jitter_us, Policing::Byte) else {
         tell(errors, b"words BadRule\n");

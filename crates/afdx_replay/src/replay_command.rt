@@ -15,10 +15,11 @@ use afdx_lists::Watched;
 use std::alloc::Global;
 use std::io::{Read, Write};
 
-/// Replays a list of frames in the tables of a configuration: the lines of all events go to `output`, a fault's one line to `errors`.
+/// Replays a list of frames in the tables of a configuration: the lines of all events go to
+/// `output`, a fault's one line to `errors`.
 ///
-/// With `admission` the tables have to be admitted. It gives the exit status: 0 done, 1 a fault of the configuration or
-/// tables that are not admitted, 3 a fault of the list, 4 a device or memory.
+/// With `admission` the tables have to be admitted. It gives the exit status: 0 done, 1 a fault of
+/// the configuration or tables that are not admitted, 3 a fault of the list, 4 a device or memory.
 pub fn replay<R: Read, O: Write, E: Write>(
     alloc: Global,
     admission: bool,
@@ -33,17 +34,18 @@ pub fn replay<R: Read, O: Write, E: Write>(
 
     // 0 comes only where the list came to its end, 4 wherever a device failed.
     ensures statuses { (result ≡ 0) ⊎ (result ≡ 1) ⊎ (result ≡ 3) ⊎ (result ≡ 4) }
-    ensures done { result ≡ 0 → (input.new.ended ≡ true) × (input.new.failed ≡ false) × (output.new.failed ≡ false) }
+    ensures done { result ≡ 0 → (input.new.ended ≡ true) × (input.new.failed ≡ false)
+        × (output.new.failed ≡ false) }
     ensures device { (input.new.failed || output.new.failed) ≡ true → result ≡ 4 }
     ensures calls { input.new.calls ≤ input.old.calls + 4201000001 }
 
     // The command ends as a run over the list answered, or nothing is read and nothing is written.
     ensures replays { ((answer : Result Summary RunFault)
-            × EndsAs E.contents input.new output.new errors.old errors.new result answer
-            × Replays config.now admission (R.remaining input.old.inner) (R.remaining input.new.inner)
-                (O.contents output.old.inner) (O.contents output.new.inner) answer)
+        × EndsAs E.contents input.new output.new errors.old errors.new result answer
+        × Replays config.now admission (R.remaining input.old.inner) (R.remaining input.new.inner)
+        (O.contents output.old.inner) (O.contents output.new.inner) answer)
         ⊎ (IsNotReplayed E.contents config.now admission errors.old errors.new result
-            × (input.new ≡ input.old) × (output.new ≡ output.old)) }
+        × (input.new ≡ input.old) × (output.new ≡ output.old)) }
 {
     let tables = match read_tables(alloc, config) {
         Ok(tables) => tables,

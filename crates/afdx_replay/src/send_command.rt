@@ -42,12 +42,12 @@ pub fn send<R: Read, O: Write, E: Write>(
 
     // The command ends as a run over the list answered, or nothing is read and nothing is written.
     ensures sends { ((answer : Result Summary RunFault)
-            × EndsAs E.contents input.new output.new errors.old errors.new result answer
-            × Sends config.now system.now (R.remaining input.old.inner)
-                (R.remaining input.new.inner) (O.contents output.old.inner)
-                (O.contents output.new.inner) answer)
+        × EndsAs E.contents input.new output.new errors.old errors.new result answer
+        × Sends config.now system.now (R.remaining input.old.inner)
+        (R.remaining input.new.inner) (O.contents output.old.inner)
+        (O.contents output.new.inner) answer)
         ⊎ (IsNotSent E.contents config.now system.now errors.old errors.new result
-            × (input.new ≡ input.old) × (output.new ≡ output.old)) }
+        × (input.new ≡ input.old) × (output.new ≡ output.old)) }
 {
     let tables = match read_tables(alloc, config) {
         Ok(tables) => tables,

@@ -2,8 +2,8 @@
 
 mod checks;
 mod devices;
-mod premises;
 mod hostile;
+mod premises;
 mod refusals;
 mod replays;
 mod sends;

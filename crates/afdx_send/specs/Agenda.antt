@@ -3,7 +3,8 @@ use Rattle.std.specs.Prelude.{◌≡◌, ℕ, ◌+◌, ◌*◌, ◌<◌, ◌≤�
 use Rattle.afdx_send.specs.declared.agenda.Agenda.{Agenda}
 use Rattle.afdx_send.specs.declared.agenda.Next.{Next}
 
--- the first goes before the other: it is sooner, or at one moment and its link doesn't stand after the other. None is last
+-- the first goes before the other: it is sooner, or at one moment and its link doesn't stand after
+-- the other. None is last
 abbrev pub IsAhead : Option Next → Option Next → Type 0
 IsAhead a None = Unit {0}
 IsAhead None (Some y) = ⊥
@@ -24,9 +25,11 @@ pub record IsSooner (a b c : Option Next) : Type 0 where
   pub right : IsAhead a c
 
 abbrev pub IsWinner : List (Option Next) → ℕ → Type 0
-IsWinner nodes i = (a b c : Option Next) → slice_get nodes i ≡ Some a → slice_get nodes (2 * i) ≡ Some b → slice_get nodes (2 * i + 1) ≡ Some c → IsSooner a b c
+IsWinner nodes i = (a b c : Option Next) → slice_get nodes i ≡ Some a →
+    slice_get nodes (2 * i) ≡ Some b → slice_get nodes (2 * i + 1) ≡ Some c → IsSooner a b c
 
--- the last `count` nodes are those of the links, and carry their places; each other, from 1 on, is the sooner of the two below it
+-- the last `count` nodes are those of the links, and carry their places; each other, from 1 on, is
+-- the sooner of the two below it
 pub record IsTournament (count : ℕ) (nodes : List (Option Next)) : Type 0 where
   pub size : length nodes ≡ 2 * count
   pub small : count ≤ 4096

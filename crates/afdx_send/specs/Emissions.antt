@@ -1,4 +1,5 @@
--- What a system sends: its links' releases, in order of moment and then of the link's place, through one output port.
+-- What a system sends: its links' releases, in order of moment and then of the link's place,
+-- through one output port.
 use Rattle.std.specs.Prelude.{◌≡◌, ℕ, ◌<◌, ◌≤◌, ◌==◌, Bool, true, false, if◌then◌else◌, List, [], ◌∷◌, ◌++◌, length, Some, slice_get, slice_index_or}
 use Rattle.std.specs.List.{AllByRecursion}
 use Rattle.afdx_frame.specs.declared.link.Priority.TheVariants.{Low}
@@ -24,7 +25,8 @@ pub record LinkRelease : Type 0 where
 -- the releases of one link among all
 abbrev pub own : ℕ → List LinkRelease → List Release
 own place [] = []
-own place (x ∷ earlier) = if x.place == place then x.release ∷ own place earlier else own place earlier
+own place (x ∷ earlier) =
+    if x.place == place then x.release ∷ own place earlier else own place earlier
 
 -- what the link at this place took
 abbrev pub own_submissions : List (List Submission) → ℕ → List Submission
@@ -32,30 +34,40 @@ own_submissions taken place = slice_index_or taken place []
 
 -- a release of the link at this place is the next after those of all links
 abbrev pub IsNextOf : List (List Submission) → List LinkRelease → ℕ → LinkRow → Release → Type 0
-IsNextOf taken earlier place l r = IsNext (bag (regulation_of l)) l.subs (own_submissions taken place) (own place earlier) r
+IsNextOf taken earlier place l r =
+    IsNext (bag (regulation_of l)) l.subs (own_submissions taken place) (own place earlier) r
 
--- after the earlier releases, of all links, comes this one: it is the next of its link, no link's next comes before it,
--- and of those at its moment it is that of the link which stands first
-pub record IsNextOfAll (links : List LinkRow) (taken : List (List Submission)) (earlier : List LinkRelease) (x : LinkRelease) : Type 0 where
+-- after the earlier releases, of all links, comes this one: it is the next of its link, no link's
+-- next comes before it, and of those at its moment it is that of the link which stands first
+pub record IsNextOfAll (links : List LinkRow) (taken : List (List Submission))
+    (earlier : List LinkRelease) (x : LinkRelease) : Type 0 where
   pub stands : slice_get links x.place ≡ Some x.row
   pub next : IsNextOf taken earlier x.place x.row x.release
-  pub soonest : (i : ℕ) (l : LinkRow) (r : Release) → slice_get links i ≡ Some l → IsNextOf taken earlier i l r → x.release.time ≤ r.time
-  pub first : (i : ℕ) (l : LinkRow) (r : Release) → slice_get links i ≡ Some l → IsNextOf taken earlier i l r → r.time ≡ x.release.time → x.place ≤ i
+  pub soonest : (i : ℕ) (l : LinkRow) (r : Release) → slice_get links i ≡ Some l →
+      IsNextOf taken earlier i l r → x.release.time ≤ r.time
+  pub first : (i : ℕ) (l : LinkRow) (r : Release) → slice_get links i ≡ Some l →
+      IsNextOf taken earlier i l r → r.time ≡ x.release.time → x.place ≤ i
 
--- each release, of all links, is the next one after those before it. A list of releases has the latest first
+-- each release, of all links, is the next one after those before it. A list of releases has the
+-- latest first
 abbrev pub AreAllReleases : List LinkRow → List (List Submission) → List LinkRelease → Type 0
 AreAllReleases links taken [] = Unit {0}
-AreAllReleases links taken (x ∷ earlier) = IsNextOfAll links taken earlier x × AreAllReleases links taken earlier
+AreAllReleases links taken (x ∷ earlier) = IsNextOfAll links taken earlier x
+    × AreAllReleases links taken earlier
 
 -- these are the releases before t, of all links
-pub record AreReleasedBefore (links : List LinkRow) (taken : List (List Submission)) (t : ℕ) (released : List LinkRelease) : Type 0 where
+pub record AreReleasedBefore (links : List LinkRow) (taken : List (List Submission)) (t : ℕ)
+    (released : List LinkRelease) : Type 0 where
   pub are_releases : AreAllReleases links taken released
   pub before : AllByRecursion (λ x. x.release.time < t) released
-  pub no_more : (i : ℕ) (l : LinkRow) (r : Release) → slice_get links i ≡ Some l → IsNextOf taken released i l r → t ≤ r.time
+  pub no_more : (i : ℕ) (l : LinkRow) (r : Release) → slice_get links i ≡ Some l →
+      IsNextOf taken released i l r → t ≤ r.time
 
--- the k-th release of a link, counted from 0, as a frame: it has the number to which k steps lead from 0
+-- the k-th release of a link, counted from 0, as a frame: it has the number to which k steps lead
+-- from 0
 abbrev pub frame_of : LinkRow → ℕ → Release → Frame
-frame_of l k r = frame_with l.vl l.lmin (after_steps k 0) r.submission.message.udp r.submission.message.payload
+frame_of l k r =
+    frame_with l.vl l.lmin (after_steps k 0) r.submission.message.udp r.submission.message.payload
 
 -- the frame enters the port at its release
 abbrev pub entry_for : LinkRelease → ℕ → port.Entry Frame
@@ -67,7 +79,8 @@ entries_of [] = []
 entries_of (x ∷ earlier) = entries_of earlier ++ entry_for x (length (own x.place earlier)) ∷ []
 
 -- after the emissions before it comes this one: it is the next slot over the first releases of all
-pub record IsNextEmission (byte_ns : ℕ) (links : List LinkRow) (taken : List (List Submission)) (emitted : List (port.Turn Frame)) (s : port.Turn Frame) : Type 0 where
+pub record IsNextEmission (byte_ns : ℕ) (links : List LinkRow) (taken : List (List Submission))
+    (emitted : List (port.Turn Frame)) (s : port.Turn Frame) : Type 0 where
   pub released : List LinkRelease
   pub are_releases : AreAllReleases links taken released
   pub next : port.IsNext byte_ns (entries_of released) emitted s
@@ -77,17 +90,23 @@ pub record IsSending (system_id partition end : ℕ) (f : Frame) (y : Sending) :
   pub time : y.time ≡ end
   pub a : Built (address_with system_id partition f) f.number A f.message.payload y.a
   pub b : Built (address_with system_id partition f) f.number B f.message.payload y.b
-  pub a_long : length y.a ≡ built_length (address_with system_id partition f) (length f.message.payload)
-  pub b_long : length y.b ≡ built_length (address_with system_id partition f) (length f.message.payload)
+  pub a_long : length y.a
+      ≡ built_length (address_with system_id partition f) (length f.message.payload)
+  pub b_long : length y.b
+      ≡ built_length (address_with system_id partition f) (length f.message.payload)
 
-abbrev pub with_sending : SystemRow → Bool → (List Sending → Type 0) → port.Turn Frame → List Sending → Type 0
-with_sending s true rest t stream = (front : List Sending) × (y : Sending) × (stream ≡ front ++ y ∷ []) × IsSending s.id s.partition t.end t.entry.item y × rest front
+abbrev pub with_sending : SystemRow → Bool → (List Sending → Type 0) → port.Turn Frame →
+    List Sending → Type 0
+with_sending s true rest t stream = (front : List Sending) × (y : Sending)
+    × (stream ≡ front ++ y ∷ []) × IsSending s.id s.partition t.end t.entry.item y × rest front
 with_sending s false rest t stream = rest stream
 
--- these are the frames of the link with this identifier that were sent in these turns, the first one first
+-- these are the frames of the link with this identifier that were sent in these turns, the first
+-- one first
 abbrev pub AreSendings : SystemRow → ℕ → List (port.Turn Frame) → List Sending → Type 0
 AreSendings s vl [] stream = stream ≡ []
-AreSendings s vl (t ∷ earlier) stream = with_sending s (t.entry.item.vl == vl) (AreSendings s vl earlier) t stream
+AreSendings s vl (t ∷ earlier) stream =
+    with_sending s (t.entry.item.vl == vl) (AreSendings s vl earlier) t stream
 
 -- the messages of some releases, the first one first
 abbrev pub sent_list : List Release → List Message

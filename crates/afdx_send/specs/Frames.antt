@@ -5,7 +5,8 @@ use Rattle.afdx_config.specs.SentList.{Message}
 use Rattle.afdx_frame.specs.declared.builder.Address.{Address}
 use Rattle.afdx_port.specs.Facts.{Facts, AreLawful}
 
--- its link's identifier, the least length of the link's frames, its sequence number, and the message
+-- its link's identifier, the least length of the link's frames, its sequence number, and the
+-- message
 pub record Frame : Type 0 where
   pub vl : ℕ
   pub least : ℕ
@@ -13,15 +14,31 @@ pub record Frame : Type 0 where
   pub message : Message
 
 abbrev pub frame_with : ℕ → ℕ → ℕ → ℕ → List ℕ → Frame
-frame_with vl least number udp payload = record { vl = vl; least = least; number = number; message = record { udp = udp; payload = payload } }
+frame_with vl least number udp payload = record {
+  vl = vl;
+  least = least;
+  number = number;
+  message = record { udp = udp; payload = payload };
+}
 
 -- where a system's frames come from and go to: both UDP ports are the message's
 abbrev pub address_with : ℕ → ℕ → Frame → Address
-address_with system_id partition f = record { vl = record { 0 = f.vl }; system_id = system_id; partition = partition; from_udp = f.message.udp; to_udp = f.message.udp; least = f.least }
+address_with system_id partition f = record {
+  vl = record { 0 = f.vl };
+  system_id = system_id;
+  partition = partition;
+  from_udp = f.message.udp;
+  to_udp = f.message.udp;
+  least = f.least;
+}
 
--- what a port knows of it: its length is that which the builder gives it, at most 1518. It may wait for ever
+-- what a port knows of it: its length is that which the builder gives it, at most 1518. It may wait
+-- for ever
 abbrev pub facts : Frame → Facts
-facts f = record { bytes = min 1518 (max (length f.message.payload + 47) (max 64 f.least)); longest_wait = None }
+facts f = record {
+  bytes = min 1518 (max (length f.message.payload + 47) (max 64 f.least));
+  longest_wait = None;
+}
 
 -- it is lawful
 pub facts-lawful : (f : Frame) → AreLawful (facts f)

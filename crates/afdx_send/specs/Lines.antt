@@ -1,4 +1,5 @@
--- What a sender that keeps only the messages still to release has to do with all that one link took and released.
+-- What a sender that keeps only the messages still to release has to do with all that one link took
+-- and released.
 use Rattle.std.specs.Prelude.{◌≡◌, ℕ, ◌+◌, ◌*◌, ◌<◌, ◌≤◌, ◌⊎◌, List, ◌∷◌, length, sum_by, Some, slice_get}
 use Rattle.afdx_frame.specs.Regulation.{bag}
 use Rattle.afdx_config.specs.Flows.{regulation_of}
@@ -25,7 +26,8 @@ pub record IsLineOf (l : LinkRow) (line : Line) : Type 0 where
 abbrev pub held_by : Regulator → ℕ
 held_by p = sum_by length (waiting_of p)
 
--- no message was submitted after 10^15 ns. So the last of at most 256 that wait is released 256 gaps later at most
+-- no message was submitted after 10^15 ns. So the last of at most 256 that wait is released 256
+-- gaps later at most
 pub record IsTimely (p : Regulator) (ss : List Submission) : Type 0 where
   pub limit : (i : ℕ) (s : Submission) → slice_get ss i ≡ Some s → s.time ≤ 1000000000000000
   pub few : length (waiting_of p) ≤ 4
@@ -33,15 +35,18 @@ pub record IsTimely (p : Regulator) (ss : List Submission) : Type 0 where
   pub balance : p.earliest + held_by p * p.bag ≤ 1000000000000000 + 257 * p.bag
 
 -- what a link keeps is what its own submissions and its own releases leave
-pub record LineStands (line : Line) (l : LinkRow) (ss : List Submission) (rs : List Release) : Type 0 where
+pub record LineStands (line : Line) (l : LinkRow) (ss : List Submission) (rs : List Release)
+    : Type 0 where
   pub is_line : IsLineOf l line
   pub regulates : Regulates line.regulator ss rs
   pub timely : IsTimely line.regulator ss
-  pub fits : (i : ℕ) (s : Submission) → slice_get ss i ≡ Some s → length s.message.payload + 47 ≤ l.lmax
+  pub fits : (i : ℕ) (s : Submission) → slice_get ss i ≡ Some s →
+      length s.message.payload + 47 ≤ l.lmax
   pub number : line.number ≡ after_steps (length rs) 0
 
 -- the link's next release, as the message that enters the port
-pub record LineReleases (line : Line) (l : LinkRow) (ss : List Submission) (rs : List Release) (time : ℕ) (f : Frame) (new : Line) : Type 0 where
+pub record LineReleases (line : Line) (l : LinkRow) (ss : List Submission) (rs : List Release)
+    (time : ℕ) (f : Frame) (new : Line) : Type 0 where
   pub r : Release
   pub next : IsNext (bag (regulation_of l)) l.subs ss rs r
   pub at : r.time ≡ time
@@ -57,7 +62,9 @@ LineRefuses line sub n NotMyLink = ⊥
 LineRefuses line sub n NoSuchSub = (sub ≡ 0) ⊎ (sub_count line.regulator < sub)
 LineRefuses line sub n Empty = IsSubOf line sub × (n ≡ 0)
 LineRefuses line sub n TooLarge = IsSubOf line sub × (1 ≤ n) × (line.longest < n + 47)
-LineRefuses line sub n QueueFull = IsSubOf line sub × (1 ≤ n) × (n + 47 ≤ line.longest) × ((index : ℕ) (ms : List Queued) → index + 1 ≡ sub → HasQueue (waiting_of line.regulator) index ms → 64 ≤ length ms)
+LineRefuses line sub n QueueFull = IsSubOf line sub × (1 ≤ n) × (n + 47 ≤ line.longest)
+    × ((index : ℕ) (ms : List Queued) → index + 1 ≡ sub →
+    HasQueue (waiting_of line.regulator) index ms → 64 ≤ length ms)
 LineRefuses line sub n Memory = ⊥
 
 -- it is
@@ -66,7 +73,8 @@ pub record LineAdmits (line : Line) (sub n : ℕ) : Type 0 where
   pub some : 1 ≤ n
   pub fits : n + 47 ≤ line.longest
   pub small : line.longest ≤ 1518
-  pub room : (index : ℕ) (ms : List Queued) → index + 1 ≡ sub → HasQueue (waiting_of line.regulator) index ms → length ms < 64
+  pub room : (index : ℕ) (ms : List Queued) → index + 1 ≡ sub →
+      HasQueue (waiting_of line.regulator) index ms → length ms < 64
 
 -- a further message can join the queue at this index
 pub record CanTake (line : Line) (index : ℕ) (m : Queued) : Type 0 where

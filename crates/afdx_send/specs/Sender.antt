@@ -1,4 +1,5 @@
--- What a sender that keeps only what is still to be sent has to do with all that it took and emitted.
+-- What a sender that keeps only what is still to be sent has to do with all that it took and
+-- emitted.
 use Rattle.std.specs.Prelude.{◌≡◌, ℕ, ◌+◌, ◌<◌, ◌≤◌, ◌⊎◌, map, List, [], ◌∷◌, ◌++◌, length, sum_by, replicate, Option, Some, None, true, slice_get, slice_set}
 use Rattle.std.specs.List.{AllByRecursion}
 use Rattle.afdx_frame.specs.declared.link.Priority.TheVariants.{Low}
@@ -29,8 +30,8 @@ use Rattle.afdx_send.specs.Lines.{LineStands, held_by}
 use Rattle.afdx_send.specs.Regulator.{next_time_of}
 use Rattle.afdx_send.specs.Releases.{Submission, has_release, count_without}
 
--- the calls of a sender so far: its system, the links that it sends in the order of the tables, what each link took,
--- the emissions, the latest first, and the last time used
+-- the calls of a sender so far: its system, the links that it sends in the order of the tables,
+-- what each link took, the emissions, the latest first, and the last time used
 pub record History : Type 0 where
   pub system : SystemRow
   pub links : List LinkRow
@@ -40,23 +41,51 @@ pub record History : Type 0 where
 
 -- a new sender's
 abbrev pub no_calls : Rows → ℕ → SystemRow → History
-no_calls t place s = record { system = s; links = links_from t.links place; taken = replicate (length (links_from t.links place)) []; emitted = []; time = 0 }
+no_calls t place s = record {
+  system = s;
+  links = links_from t.links place;
+  taken = replicate (length (links_from t.links place)) [];
+  emitted = [];
+  time = 0;
+}
 
 -- after a call that takes and emits nothing
 abbrev pub at : History → ℕ → History
-at h t = record { system = h.system; links = h.links; taken = h.taken; emitted = h.emitted; time = t }
+at h t = record {
+  system = h.system;
+  links = h.links;
+  taken = h.taken;
+  emitted = h.emitted;
+  time = t;
+}
 
 -- after a submission to the link at this place
 abbrev pub with_submission : History → ℕ → Submission → History
-with_submission h place s = record { system = h.system; links = h.links; taken = slice_set h.taken place (own_submissions h.taken place ++ s ∷ []); emitted = h.emitted; time = s.time }
+with_submission h place s = record {
+  system = h.system;
+  links = h.links;
+  taken = slice_set h.taken place (own_submissions h.taken place ++ s ∷ []);
+  emitted = h.emitted;
+  time = s.time;
+}
 
 -- after an emission
 abbrev pub with_emission : History → Turn Frame → ℕ → History
-with_emission h s until = record { system = h.system; links = h.links; taken = h.taken; emitted = s ∷ h.emitted; time = until }
+with_emission h s until = record {
+  system = h.system;
+  links = h.links;
+  taken = h.taken;
+  emitted = s ∷ h.emitted;
+  time = until;
+}
 
 -- a message for a sub-VL
 abbrev pub submission : ℕ → ℕ → ℕ → List ℕ → Submission
-submission time sub udp payload = record { time = time; sub = sub; message = record { udp = udp; payload = payload } }
+submission time sub udp payload = record {
+  time = time;
+  sub = sub;
+  message = record { udp = udp; payload = payload };
+}
 
 -- the slot is that of the next emission
 abbrev pub IsNextIn : History → Turn Frame → Type 0
@@ -96,7 +125,8 @@ last_time w = w.clock
 -- the slots that the port gave are the emissions, and that of the frame that is ready
 abbrev pub HasGiven : Option (Left Frame) → List (Turn Frame) → List (Turn Frame) → Type 0
 HasGiven None emitted given = given ≡ emitted
-HasGiven (Some left) emitted given = (s : Turn Frame) × (given ≡ s ∷ emitted) × (left ≡ port.left_of s)
+HasGiven (Some left) emitted given = (s : Turn Frame) × (given ≡ s ∷ emitted)
+    × (left ≡ port.left_of s)
 
 -- the place of the link with this identifier, or none if no link has it
 abbrev pub IsPlaceOf : List LinkRow → ℕ → Option ℕ → Type 0
@@ -108,11 +138,18 @@ pub record AreSent (s : SystemRow) (links : List LinkRow) : Type 0 where
   pub is_sender : IsSender (byte_ns s) Low (flows_of s links)
   pub lawful : (i : ℕ) (l : LinkRow) → slice_get links i ≡ Some l → (n : ℕ) × IsLink n l
   pub distinct : AreDistinct (λ l. l.vl) links
-  pub jitters : (i : ℕ) (l : LinkRow) → slice_get links i ≡ Some l → one_of_each (byte_ns s) (flows_of s links) ≤ jitter (regulation_of l)
+  pub jitters : (i : ℕ) (l : LinkRow) → slice_get links i ≡ Some l →
+      one_of_each (byte_ns s) (flows_of s links) ≤ jitter (regulation_of l)
 
 -- the port's calls
 abbrev pub port_history : History → List LinkRelease → List (Turn Frame) → ℕ → port.History Frame
-port_history h released given time = record { byte_ns = byte_ns h.system; buffer = 65536; entries = entries_of released; taken = given; time = time }
+port_history h released given time = record {
+  byte_ns = byte_ns h.system;
+  buffer = 65536;
+  entries = entries_of released;
+  taken = given;
+  time = time;
+}
 
 -- the sender is what these calls leave
 pub record StandsFor (w : Working) (h : History) : Type 0 where
@@ -121,14 +158,17 @@ pub record StandsFor (w : Working) (h : History) : Type 0 where
   pub clock : w.clock ≡ h.time
   pub are_sent : AreSent h.system h.links
   pub place_count : length w.places.items ≡ 65536
-  pub places : (vl : ℕ) (place : Option ℕ) → slice_get w.places.items vl ≡ Some place → IsPlaceOf h.links vl place
+  pub places : (vl : ℕ) (place : Option ℕ) → slice_get w.places.items vl ≡ Some place →
+      IsPlaceOf h.links vl place
   pub released : List LinkRelease
   pub are_releases : AreAllReleases h.links h.taken released
   pub before : AllByRecursion (λ x. x.release.time < h.time) released
   pub count : length w.lines.items ≡ length h.links
   pub lists : length h.taken ≡ length h.links
-  pub lines : (i : ℕ) (line : Line) (l : LinkRow) → slice_get w.lines.items i ≡ Some line → slice_get h.links i ≡ Some l → LineStands line l (own_submissions h.taken i) (own i released)
-  pub come : (i place : ℕ) (s : Submission) → slice_get (own_submissions h.taken i) place ≡ Some s → s.time ≤ h.time
+  pub lines : (i : ℕ) (line : Line) (l : LinkRow) → slice_get w.lines.items i ≡ Some line →
+      slice_get h.links i ≡ Some l → LineStands line l (own_submissions h.taken i) (own i released)
+  pub come : (i place : ℕ) (s : Submission) → slice_get (own_submissions h.taken i) place ≡ Some s →
+      s.time ≤ h.time
   pub played : IsPlayed w.agenda
   pub agenda : nexts w.agenda ≡ nexts_of w
   pub agenda_count : w.agenda.count ≡ length w.lines.items
@@ -149,7 +189,8 @@ IsSound w = (h : History) × StandsFor w h
 abbrev pub IsQuiet : Working → ℕ → Type 0
 IsQuiet w t = (h : History) × StandsFor w h × ((s : Turn Frame) → IsNextIn h s → t < s.end)
 
--- nothing that is released before the last time used is left to enter the port, and the port gives nothing by then
+-- nothing that is released before the last time used is left to enter the port, and the port gives
+-- nothing by then
 pub record IsIdle (w : Working) : Type 0 where
   pub ready : w.ready ≡ None
   pub quiet : held.IsQuiet facts w.output w.clock
@@ -166,8 +207,12 @@ pub record Emits (h : History) (until : ℕ) (e : Emission) (new : Working) : Ty
   pub in_time : slot.end ≤ until
   pub time : e.time ≡ slot.end
   pub vl : e.vl.0 ≡ slot.entry.item.vl
-  pub a : e.a.items ≡ built_frame (address_with h.system.id h.system.partition slot.entry.item) slot.entry.item.number A slot.entry.item.message.payload
-  pub b : e.b.items ≡ built_frame (address_with h.system.id h.system.partition slot.entry.item) slot.entry.item.number B slot.entry.item.message.payload
+  pub a : e.a.items ≡
+      built_frame (address_with h.system.id h.system.partition slot.entry.item)
+      slot.entry.item.number A slot.entry.item.message.payload
+  pub b : e.b.items ≡
+      built_frame (address_with h.system.id h.system.partition slot.entry.item)
+      slot.entry.item.number B slot.entry.item.message.payload
   pub sending : IsSending h.system.id h.system.partition slot.end slot.entry.item (sending_of e)
   pub stands : StandsFor new (with_emission h slot until)
 
@@ -175,7 +220,8 @@ pub record Emits (h : History) (until : ℕ) (e : Emission) (new : Working) : Ty
 pub record AreAllEmitted (h : History) : Type 0 where
   pub released : List LinkRelease
   pub are_releases : AreAllReleases h.links h.taken released
-  pub all_released : (i place : ℕ) (l : LinkRow) → slice_get h.links i ≡ Some l → place < length (own_submissions h.taken i) → has_release (own i released) place ≡ true
+  pub all_released : (i place : ℕ) (l : LinkRow) → slice_get h.links i ≡ Some l →
+      place < length (own_submissions h.taken i) → has_release (own i released) place ≡ true
   pub schedule : IsSchedule (byte_ns h.system) (entries_of released) h.emitted
 
 -- the link with this identifier
@@ -187,16 +233,21 @@ IsSub l sub = (1 ≤ sub) × (sub ≤ l.subs)
 
 -- so many messages of the sub-VL of the link at this place aren't released before t
 abbrev pub AreUnreleased : History → ℕ → ℕ → ℕ → ℕ → Type 0
-AreUnreleased h t place sub n = (released : List LinkRelease) × AreReleasedBefore h.links h.taken t released ×
+AreUnreleased h t place sub n = (released : List LinkRelease)
+    × AreReleasedBefore h.links h.taken t released ×
     (count_without (own place released) sub 0 (own_submissions h.taken place) ≡ n)
 
 -- why a message of n bytes isn't taken at t: the first of these that is true
 abbrev pub IsRefused : History → ℕ → ℕ → ℕ → ℕ → SendFault → Type 0
-IsRefused h t vl sub n NotMyLink = (i : ℕ) (l : LinkRow) → slice_get h.links i ≡ Some l → l.vl ≡ vl → ⊥
-IsRefused h t vl sub n NoSuchSub = (i : ℕ) × (l : LinkRow) × HasLink h vl i l × ((sub ≡ 0) ⊎ (l.subs < sub))
+IsRefused h t vl sub n NotMyLink = (i : ℕ) (l : LinkRow) → slice_get h.links i ≡ Some l →
+    l.vl ≡ vl → ⊥
+IsRefused h t vl sub n NoSuchSub = (i : ℕ) × (l : LinkRow) × HasLink h vl i l
+    × ((sub ≡ 0) ⊎ (l.subs < sub))
 IsRefused h t vl sub n Empty = (i : ℕ) × (l : LinkRow) × HasLink h vl i l × IsSub l sub × (n ≡ 0)
-IsRefused h t vl sub n TooLarge = (i : ℕ) × (l : LinkRow) × HasLink h vl i l × IsSub l sub × (1 ≤ n) × (l.lmax < n + 47)
-IsRefused h t vl sub n QueueFull = (i : ℕ) × (l : LinkRow) × HasLink h vl i l × IsSub l sub × (1 ≤ n) × (n + 47 ≤ l.lmax) ×
+IsRefused h t vl sub n TooLarge = (i : ℕ) × (l : LinkRow) × HasLink h vl i l × IsSub l sub
+    × (1 ≤ n) × (l.lmax < n + 47)
+IsRefused h t vl sub n QueueFull = (i : ℕ) × (l : LinkRow) × HasLink h vl i l × IsSub l sub
+    × (1 ≤ n) × (n + 47 ≤ l.lmax) ×
     ((count : ℕ) × AreUnreleased h t i sub count × (64 ≤ count))
 IsRefused h t vl sub n Memory = Unit {0}
 

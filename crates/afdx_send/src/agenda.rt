@@ -1,3 +1,4 @@
+//! The soonest of several releases, found by a tournament.
 ghost use Rattle.std.specs.Prelude.{◌≡◌, ℕ, ◌+◌, ◌*◌, ◌<◌, ◌≤◌, ◌↔◌, IsTrue, false, List, Option, Some, None, IfOk, MatchOption, option_map, length, replicate, slice_set, vec_len};
 ghost use Rattle.afdx_send.specs.Agenda.{IsAhead, IsSooner, IsPlayed, IsSoonest, NoneBefore, nexts, next_with};
 
@@ -12,8 +13,9 @@ pub(crate) struct Next {
 
 /// When each link's next release is, kept so that the soonest of all is at hand: a tournament.
 ///
-/// The nodes from `count` on are those of the links, in order of their places. Each node before them, from 1 on, is the
-/// sooner of the two at twice its index and one more. So node 1 is the soonest.
+/// The nodes from `count` on are those of the links, in order of their places. Each node before
+/// them, from 1 on, is the sooner of the two at twice its index and one more. So node 1 is the
+/// soonest.
 #[derive(Drop)]
 pub(crate) struct Agenda {
     count: usize,
@@ -70,7 +72,8 @@ impl Agenda {
     /// The soonest release, and of those at one moment that of the link which stands first.
     pub(crate) fn first(&self) -> Option<Next>
         requires played { IsPlayed self.now }
-        ensures { MatchOption result ((t : ℕ) → NoneBefore (nexts self.now) t) (λ next. IsSoonest (nexts self.now) next.time next.place) }
+        ensures { MatchOption result ((t : ℕ) → NoneBefore (nexts self.now) t)
+            (λ next. IsSoonest (nexts self.now) next.time next.place) }
     {
         if self.count == 0 { None } else { self.nodes[1] }
     }

@@ -53,7 +53,8 @@ fn lines(alloc: Global, tables: &Tables, system: SystemId) -> Result<Vec<Line>, 
 fn places(alloc: Global, lines: &Vec<Line>) -> Result<Vec<Option<u16>>, AllocError>
     requires { vec_len lines.now ≤ 4096 }
     ensures count { IfOk result (λ v. vec_len v ≡ 65536) }
-    ensures each { IfOk result (λ v. (vl : ℕ) (place : Option ℕ) → slice_get v.items vl ≡ Some place → IsPlaceIn lines.now.items vl place) }
+    ensures each { IfOk result (λ v. (vl : ℕ) (place : Option ℕ) →
+        slice_get v.items vl ≡ Some place → IsPlaceIn lines.now.items vl place) }
 {
     let mut places = Vec::with_capacity(alloc, 65536)?;
     for _ in 0..65536_u32 {
@@ -73,7 +74,8 @@ pub(crate) fn build(
 ) -> Result<Working, AllocError>
     requires system { system.0 < length tables.now.systems }
     ensures sound { IfOk result (λ w. IsSound w) }
-    ensures stands { (s : SystemRow) → slice_get tables.now.systems system.0 ≡ Some s → IfOk result (λ w. StandsFor w (no_calls tables.now system.0 s)) }
+    ensures stands { (s : SystemRow) → slice_get tables.now.systems system.0 ≡ Some s →
+        IfOk result (λ w. StandsFor w (no_calls tables.now system.0 s)) }
     ensures quiet { (t : ℕ) → IfOk result (λ w. IsQuiet w t) }
     ensures clock { IfOk result (λ w. last_time w ≡ 0) }
     ensures held { IfOk result (λ w. frames_held w ≡ 0) }

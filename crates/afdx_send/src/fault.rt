@@ -1,3 +1,4 @@
+//! Why a message is refused.
 /// Why a message wasn't taken.
 #[derive(Clone, Copy, Debug, PartialEq, Eq)]
 pub enum SendFault {

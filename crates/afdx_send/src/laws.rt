@@ -5,7 +5,8 @@ use crate::released::Released;
 use afdx_bounds::laws::sender_is_bounded;
 use afdx_port::laws::taken_are_on_schedule;
 
-/// Each emission ends when one frame of each of the system's links could have been sent since its release.
+/// Each emission ends when one frame of each of the system's links could have been sent since its
+/// release.
 ///
 /// What a link has emitted is a lawful stream of the beginning of its sent list.
 pub fn emissions_are_lawful()
@@ -16,7 +17,8 @@ pub fn emissions_are_lawful()
     taken_are_on_schedule::<Released>()
 }
 
-/// The releases of what a sender took are determined: of two lists of first releases one begins the other.
+/// The releases of what a sender took are determined: of two lists of first releases one begins the
+/// other.
 pub fn first_releases_agree()
     ensures { FirstReleasesAgree }
 {}

@@ -1,4 +1,5 @@
-//! The sending end system: for each link one message in each gap, round robin over its sub-VLs, and one output port.
+//! The sending end system: for each link one message in each gap, round robin over its sub-VLs, and
+//! one output port.
 #![tactic(auto)]
 
 mod agenda;

@@ -1,3 +1,4 @@
+//! What a sender keeps of a link: its row, its number, its regulator.
 ghost use Rattle.std.specs.Prelude.{◌≡◌, ℕ, ◌+◌, ◌^◌, ◌<◌, ◌≤◌, List, Some, OnOk, IfErr, sum_by, length};
 ghost use Rattle.afdx_config.specs.Numbers.{next_number};
 
@@ -61,9 +62,11 @@ impl Line {
         ensures vl { result.vl ≡ self.old.vl.0 }
         ensures least { result.least ≡ self.old.least }
         ensures number { result.number ≡ self.old.number }
-        ensures released { (l : LinkRow) (ss : List Submission) (rs : List Release) → LineStands self.old l ss rs → LineReleases self.old l ss rs time result self.new }
+        ensures released { (l : LinkRow) (ss : List Submission) (rs : List Release) →
+            LineStands self.old l ss rs → LineReleases self.old l ss rs time result self.new }
         ensures later { (t : ℕ) → next_time_of self.new.regulator ≡ Some t → time ≤ t }
-        ensures held { sum_by length (waiting_of self.new.regulator) + 1 ≡ sum_by length (waiting_of self.old.regulator) }
+        ensures held { sum_by length (waiting_of self.new.regulator) + 1
+            ≡ sum_by length (waiting_of self.old.regulator) }
     {
         let (_, message) = self.regulator.release(time);
         let udp = message.udp();

@@ -1,3 +1,4 @@
+//! The regulator of one link: its sub-VLs' queues and the gap between releases.
 ghost use Rattle.std.specs.Prelude.{◌≡◌, ℕ, ◌+◌, ◌*◌, ◌<◌, ◌≤◌, List, Some, None, IfSome, IfNone, IfOk, OnOk, OnErr, IsTrue, ◌↔◌, ◌^◌, [], MatchOption, max, sum_by, length};
 
 use std::alloc::{AllocError, Global};
@@ -85,7 +86,8 @@ impl Regulator {
     /// The queue whose turn it is at this time, by its place.
     fn next_in_turn(&self, time: u64) -> usize
         requires due { next_time_of self.now ≡ Some time }
-        ensures chosen { IsChosen (sub_count self.now) (waiting_of self.now) self.now.served time result }
+        ensures chosen { IsChosen (sub_count self.now)
+            (waiting_of self.now) self.now.served time result }
     {
         let count = self.queues.len();
         for step in 0..count {
@@ -101,7 +103,8 @@ impl Regulator {
     /// Takes the front of the queue at this place.
     fn pop(&mut self, index: usize) -> Option<Queued>
         requires place { index < sub_count self.old }
-        ensures front { MatchOption result (HasQueue (waiting_of self.old) index []) (λ m. Pops (waiting_of self.old) index m (waiting_of self.new)) }
+        ensures front { MatchOption result (HasQueue (waiting_of self.old) index [])
+            (λ m. Pops (waiting_of self.old) index m (waiting_of self.new)) }
         ensures bag { self.new.bag ≡ self.old.bag }
         ensures served { self.new.served ≡ self.old.served }
         ensures earliest { self.new.earliest ≡ self.old.earliest }
@@ -114,9 +117,11 @@ impl Regulator {
         requires due { next_time_of self.old ≡ Some time }
         requires limit { time + self.old.bag < 2 ^ 64 }
         ensures serves { Serves self.old time result.0 result.1 self.new }
-        ensures held { sum_by length (waiting_of self.new) + 1 ≡ sum_by length (waiting_of self.old) }
+        ensures held { sum_by length (waiting_of self.new) + 1
+            ≡ sum_by length (waiting_of self.old) }
         ensures later { (t : ℕ) → next_time_of self.new ≡ Some t → time ≤ t }
-        ensures released { (ss : List Submission) (rs : List Release) → Regulates self.old ss rs → Releases self.old ss rs time result.0 result.1 self.new }
+        ensures released { (ss : List Submission) (rs : List Release) → Regulates self.old ss rs →
+            Releases self.old ss rs time result.0 result.1 self.new }
     {
         let index = self.next_in_turn(time);
         let Some(message) = self.pop(index) else {
@@ -155,7 +160,8 @@ impl Regulator {
     /// Whether the queue at this place takes no further message.
     pub(crate) fn is_full(&self, index: usize) -> bool
         requires place { index < sub_count self.now }
-        ensures { (ms : List Queued) → HasQueue (waiting_of self.now) index ms → IsTrue result ↔ (64 ≤ length ms) }
+        ensures { (ms : List Queued) → HasQueue (waiting_of self.now) index ms →
+            IsTrue result ↔ (64 ≤ length ms) }
     {
         self.queues[index].len() >= QUEUE_LIMIT
     }
@@ -163,7 +169,8 @@ impl Regulator {
     /// Adds a message to the queue at this place.
     pub(crate) fn push(&mut self, index: usize, message: Queued) -> Result<(), AllocError>
         requires place { index < sub_count self.old }
-        ensures ok { OnOk result (Pushes (waiting_of self.old) index message (waiting_of self.new)) }
+        ensures ok { OnOk result (Pushes (waiting_of self.old) index message
+            (waiting_of self.new)) }
         ensures err { OnErr result (waiting_of self.new ≡ waiting_of self.old) }
         ensures bag { self.new.bag ≡ self.old.bag }
         ensures served { self.new.served ≡ self.old.served }

@@ -1,3 +1,4 @@
+//! A released message, as the output port holds it.
 ghost use Rattle.std.specs.Prelude.{◌≡◌, ◌≤◌, length, IfOk};
 
 use afdx_frame::{Address, Side, VlId, build};
@@ -25,9 +26,15 @@ impl Model for Released {
 
     ghost Value = { Frame };
 
-    ghost view = { λ r. record { vl = r.vl.0; least = r.least; number = r.number; message = record { udp = r.udp; payload = r.payload.items } } };
+    ghost view = { λ r. record {
+      vl = r.vl.0;
+      least = r.least;
+      number = r.number;
+      message = record { udp = r.udp; payload = r.payload.items };
+    } };
 
-    ghost invariant = { λ r. (64 ≤ r.least) × (r.least ≤ 1518) × (1 ≤ length r.payload.items) × (length r.payload.items ≤ 1471) };
+    ghost invariant = { λ r. (64 ≤ r.least) × (r.least ≤ 1518) × (1 ≤ length r.payload.items)
+        × (length r.payload.items ≤ 1471) };
 }
 
 impl Released {
@@ -63,9 +70,14 @@ impl Released {
         partition: u8,
         side: Side,
     ) -> Result<Vec<u8>, AllocError>
-        ensures built { IfOk result (λ v. Built (address_with system_id partition self.now) self.now.number side self.now.message.payload v.items) }
-        ensures long { IfOk result (λ v. length v.items ≡ built_length (address_with system_id partition self.now) (length self.now.message.payload)) }
-        ensures computed { IfOk result (λ v. v.items ≡ built_frame (address_with system_id partition self.now) self.now.number side self.now.message.payload) }
+        ensures built { IfOk result (λ v. Built (address_with system_id partition self.now)
+            self.now.number side self.now.message.payload v.items) }
+        ensures long { IfOk result
+            (λ v. length v.items ≡ built_length (address_with system_id partition self.now)
+            (length self.now.message.payload)) }
+        ensures computed { IfOk result (λ v. v.items ≡ built_frame
+            (address_with system_id partition self.now) self.now.number side
+            self.now.message.payload) }
     {
         let address = Address {
             vl: self.vl,

@@ -1,3 +1,4 @@
+//! A sending end system, as its callers see it.
 ghost use Rattle.std.specs.Prelude.{◌≡◌, ℕ, ◌+◌, ◌<◌, ◌≤◌, IfOk, IfErr, OnOk, OnErr, IfSome, IfNone, MatchOption, length, slice_get, Some};
 
 use crate::build::build;
@@ -19,8 +20,9 @@ pub struct Emission {
     pub b: Vec<u8>,
 }
 
-/// A sending end system (ARINC 664 Part 7). Each of its links releases one message in each gap, round robin over its
-/// sub-VLs; what is released goes through one output port. It keeps only the messages that still have to be emitted.
+/// A sending end system (ARINC 664 Part 7). Each of its links releases one message in each gap,
+/// round robin over its sub-VLs; what is released goes through one output port. It keeps only the
+/// messages that still have to be emitted.
 #[derive(Drop)]
 pub struct Sender {
     working: Working,
@@ -49,7 +51,8 @@ impl Sender {
     /// The error says that memory was refused.
     pub fn new(alloc: Global, tables: &Admitted, system: SystemId) -> Result<Sender, AllocError>
         requires system { system.0 < length tables.now.systems }
-        ensures stands { (s : SystemRow) → slice_get tables.now.systems system.0 ≡ Some s → IfOk result (λ w. StandsFor w (no_calls tables.now system.0 s)) }
+        ensures stands { (s : SystemRow) → slice_get tables.now.systems system.0 ≡ Some s →
+            IfOk result (λ w. StandsFor w (no_calls tables.now system.0 s)) }
         ensures quiet { (t : ℕ) → IfOk result (λ w. IsQuiet w t) }
         ensures clock { IfOk result (λ w. last_time w ≡ 0) }
         ensures held { IfOk result (λ w. frames_held w ≡ 0) }
@@ -61,8 +64,9 @@ impl Sender {
 
     /// Takes a message for a sub-VL, from 1 on, of a link. Both UDP ports of its frames are `udp`.
     ///
-    /// `time`, in ns, isn't before the last time used and is at most 10^15, and no emission that ends at or before it is left
-    /// to be taken. A refused message changes nothing but the last time used.
+    /// `time`, in ns, isn't before the last time used and is at most 10^15, and no emission that
+    /// ends at or before it is left to be taken. A refused message changes nothing but the last
+    /// time used.
     pub fn submit(
         &mut self,
         time: u64,
@@ -75,9 +79,13 @@ impl Sender {
         requires limit { time ≤ 1000000000000000 }
         requires quiet { IsQuiet self.old time }
         ensures ok { (h : History) → StandsFor self.old h →
-            OnOk result ((place : ℕ) × IsTaken h place vl.0 (submission time sub udp payload.now) × StandsFor self.new (with_submission h place (submission time sub udp payload.now))) }
-        ensures refused { (h : History) → StandsFor self.old h → IfErr result (λ fault. IsRefused h time vl.0 sub (length payload.now) fault) }
-        ensures unchanged { (h : History) → StandsFor self.old h → OnErr result (StandsFor self.new (at h time)) }
+            OnOk result ((place : ℕ) × IsTaken h place vl.0
+            (submission time sub udp payload.now) × StandsFor self.new
+            (with_submission h place (submission time sub udp payload.now))) }
+        ensures refused { (h : History) → StandsFor self.old h →
+            IfErr result (λ fault. IsRefused h time vl.0 sub (length payload.now) fault) }
+        ensures unchanged { (h : History) → StandsFor self.old h →
+            OnErr result (StandsFor self.new (at h time)) }
         ensures quiet { IsQuiet self.new time }
         ensures clock { last_time self.new ≡ time }
         ensures held { OnOk result (frames_held self.new ≡ frames_held self.old + 1) }
@@ -86,22 +94,29 @@ impl Sender {
         self.working.submit(time, vl, sub, udp, payload)
     }
 
-    /// The next emission, if it ends at or before `until`, in ns, which isn't before the last time used.
-    /// If `until` is 1.2e15 or later, None says that each message that was taken has been emitted.
+    /// The next emission, if it ends at or before `until`, in ns, which isn't before the last time
+    /// used. If `until` is 1.2e15 or later, None says that each message that was taken has been
+    /// emitted.
     ///
     /// What each link has emitted is a lawful stream of the beginning of its sent list.
     /// The error says that memory was refused; then the emission is left to be taken again.
     pub fn emit(&mut self, until: u64) -> Result<Option<Emission>, AllocError>
         requires clock { last_time self.old ≤ until }
-        ensures given { (h : History) → StandsFor self.old h → IfOk result (λ o. IfSome o (λ e. Emits h until e self.new)) }
-        ensures none { (h : History) → StandsFor self.old h → IfOk result (λ o. IfNone o (StandsFor self.new (at h until))) }
-        ensures no_more { (h : History) (s : Turn Frame) → StandsFor self.old h → IsNextIn h s → IfOk result (λ o. IfNone o (until < s.end)) }
-        ensures all_done { (h : History) → StandsFor self.old h → 1200000000000000 ≤ until → IfOk result (λ o. IfNone o (AreAllEmitted h)) }
-        ensures again { (h : History) → StandsFor self.old h → OnErr result (StandsFor self.new (at h until)) }
+        ensures given { (h : History) → StandsFor self.old h →
+            IfOk result (λ o. IfSome o (λ e. Emits h until e self.new)) }
+        ensures none { (h : History) → StandsFor self.old h →
+            IfOk result (λ o. IfNone o (StandsFor self.new (at h until))) }
+        ensures no_more { (h : History) (s : Turn Frame) → StandsFor self.old h → IsNextIn h s →
+            IfOk result (λ o. IfNone o (until < s.end)) }
+        ensures all_done { (h : History) → StandsFor self.old h → 1200000000000000 ≤ until →
+            IfOk result (λ o. IfNone o (AreAllEmitted h)) }
+        ensures again { (h : History) → StandsFor self.old h →
+            OnErr result (StandsFor self.new (at h until)) }
         ensures quiet { IfOk result (λ o. IfNone o (IsQuiet self.new until)) }
         ensures lawful { (h : History) → StandsFor self.new h → EachEmitsLawfully h }
         ensures clock { last_time self.new ≡ until }
-        ensures held { IfOk result (λ o. MatchOption o (frames_held self.new ≡ frames_held self.old) (λ _. frames_held self.new + 1 ≡ frames_held self.old)) }
+        ensures held { IfOk result (λ o. MatchOption o (frames_held self.new
+            ≡ frames_held self.old) (λ _. frames_held self.new + 1 ≡ frames_held self.old)) }
         ensures kept { OnErr result (frames_held self.new ≡ frames_held self.old) }
     {
         emissions_are_lawful();

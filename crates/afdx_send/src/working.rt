@@ -1,3 +1,4 @@
+//! What a sender does with its links and its output port.
 ghost use Rattle.std.specs.Prelude.{◌≡◌, ℕ, ◌+◌, ◌^◌, ◌<◌, ◌≤◌, ◌↔◌, Option, Some, None, IfSome, IfNone, IfOk, IfErr, OnOk, OnErr, MatchOption, length, slice_get, sum_by, vec_len};
 
 use crate::agenda::Agenda;
@@ -47,7 +48,8 @@ impl Working {
     /// The next release before this time, and its link's place.
     fn next_release(&self, until: u64) -> Option<(u64, usize)>
         requires played { IsPlayed self.now.agenda }
-        ensures some { IfSome result (λ x. (x.0 < until) × IsSoonest (nexts self.now.agenda) x.0 x.1) }
+        ensures some { IfSome result (λ x. (x.0 < until)
+            × IsSoonest (nexts self.now.agenda) x.0 x.1) }
         ensures none { IfNone result (NoneBefore (nexts self.now.agenda) until) }
     {
         let Some(next) = self.agenda.first() else {
@@ -69,9 +71,14 @@ impl Working {
         ensures stands { (h : History) → StandsFor self.old h → StandsFor self.new h }
         ensures quiet { self.new.ready ≡ None → held.IsQuiet facts self.new.output until }
         ensures port_clock { held.last_time self.new.output ≡ until }
-        ensures held { held.frames_held self.new.output + ready_count self.new.ready ≡ held.frames_held self.old.output }
-        ensures done { (h : History) → StandsFor self.old h → 1200000000000000 ≤ until → self.new.ready ≡ None → AreAllEmitted h }
-        ensures rest { self.new ≡ record self.old { output = self.new.output; ready = self.new.ready } }
+        ensures held { held.frames_held self.new.output + ready_count self.new.ready
+            ≡ held.frames_held self.old.output }
+        ensures done { (h : History) → StandsFor self.old h → 1200000000000000 ≤ until →
+            self.new.ready ≡ None → AreAllEmitted h }
+        ensures rest { self.new ≡ record self.old {
+          output = self.new.output;
+          ready = self.new.ready;
+        } }
     {
         self.ready = self.output.take(until);
     }
@@ -87,7 +94,8 @@ impl Working {
         ensures stands { (h : History) → StandsFor self.old h → StandsFor self.new h }
         ensures idle { self.new.ready ≡ None }
         ensures held { messages_held self.new + 1 ≡ messages_held self.old }
-        ensures port_held { held.frames_held self.new.output ≡ held.frames_held self.old.output + 1 }
+        ensures port_held { held.frames_held self.new.output
+            ≡ held.frames_held self.old.output + 1 }
         ensures clock { self.new.clock ≡ self.old.clock }
     {
         sender_is_bounded::<Released>();
@@ -100,13 +108,15 @@ impl Working {
         };
     }
 
-    /// Puts all that is released before the last time used into the port, until a frame has left it.
+    /// Puts all that is released before the last time used into the port, until a frame has left
+    /// it.
     fn advance(&mut self)
         requires sound { IsSound self.old }
         requires idle { self.old.ready ≡ None }
         ensures stands { (h : History) → StandsFor self.old h → StandsFor self.new h }
         ensures idle { self.new.ready ≡ None → IsIdle self.new }
-        ensures done { (h : History) → StandsFor self.old h → 1200000000000000 ≤ self.old.clock → self.new.ready ≡ None → AreAllEmitted h }
+        ensures done { (h : History) → StandsFor self.old h → 1200000000000000 ≤ self.old.clock →
+            self.new.ready ≡ None → AreAllEmitted h }
         ensures clock { self.new.clock ≡ self.old.clock }
         ensures held { frames_held self.new ≡ frames_held self.old }
     {
@@ -127,7 +137,8 @@ impl Working {
         requires clock { self.old.clock ≤ until }
         ensures stands { (h : History) → StandsFor self.old h → StandsFor self.new (at h until) }
         ensures idle { self.new.ready ≡ None → IsIdle self.new }
-        ensures done { (h : History) → StandsFor self.old h → 1200000000000000 ≤ until → self.new.ready ≡ None → AreAllEmitted h }
+        ensures done { (h : History) → StandsFor self.old h → 1200000000000000 ≤ until →
+            self.new.ready ≡ None → AreAllEmitted h }
         ensures clock { self.new.clock ≡ until }
         ensures held { frames_held self.new ≡ frames_held self.old }
     {
@@ -141,9 +152,15 @@ impl Working {
     fn emission(&self, left: &Left<Released>) -> Result<Emission, AllocError>
         ensures time { IfOk result (λ e. e.time ≡ left.now.end) }
         ensures vl { IfOk result (λ e. e.vl.0 ≡ left.now.item.vl) }
-        ensures sending { IfOk result (λ e. IsSending self.now.system_id self.now.partition left.now.end left.now.item (sending_of e)) }
-        ensures a { IfOk result (λ e. e.a.items ≡ built_frame (address_with self.now.system_id self.now.partition left.now.item) left.now.item.number A left.now.item.message.payload) }
-        ensures b { IfOk result (λ e. e.b.items ≡ built_frame (address_with self.now.system_id self.now.partition left.now.item) left.now.item.number B left.now.item.message.payload) }
+        ensures sending { IfOk result
+            (λ e. IsSending self.now.system_id self.now.partition left.now.end left.now.item
+            (sending_of e)) }
+        ensures a { IfOk result (λ e. e.a.items ≡ built_frame
+            (address_with self.now.system_id self.now.partition left.now.item)
+            left.now.item.number A left.now.item.message.payload) }
+        ensures b { IfOk result (λ e. e.b.items ≡ built_frame
+            (address_with self.now.system_id self.now.partition left.now.item)
+            left.now.item.number B left.now.item.message.payload) }
     {
         let (system_id, partition) = (self.system_id, self.partition);
         let item = &left.item;
@@ -159,14 +176,20 @@ impl Working {
         requires sound { IsSound self.old }
         requires clock { self.old.clock ≤ until }
         ensures sound { IsSound self.new }
-        ensures given { (h : History) → StandsFor self.old h → IfOk result (λ o. IfSome o (λ e. Emits h until e self.new)) }
-        ensures none { (h : History) → StandsFor self.old h → IfOk result (λ o. IfNone o (StandsFor self.new (at h until))) }
-        ensures no_more { (h : History) (s : Turn Frame) → StandsFor self.old h → IsNextIn h s → IfOk result (λ o. IfNone o (until < s.end)) }
-        ensures all_done { (h : History) → StandsFor self.old h → 1200000000000000 ≤ until → IfOk result (λ o. IfNone o (AreAllEmitted h)) }
-        ensures again { (h : History) → StandsFor self.old h → OnErr result (StandsFor self.new (at h until)) }
+        ensures given { (h : History) → StandsFor self.old h →
+            IfOk result (λ o. IfSome o (λ e. Emits h until e self.new)) }
+        ensures none { (h : History) → StandsFor self.old h →
+            IfOk result (λ o. IfNone o (StandsFor self.new (at h until))) }
+        ensures no_more { (h : History) (s : Turn Frame) → StandsFor self.old h → IsNextIn h s →
+            IfOk result (λ o. IfNone o (until < s.end)) }
+        ensures all_done { (h : History) → StandsFor self.old h → 1200000000000000 ≤ until →
+            IfOk result (λ o. IfNone o (AreAllEmitted h)) }
+        ensures again { (h : History) → StandsFor self.old h →
+            OnErr result (StandsFor self.new (at h until)) }
         ensures quiet { IfOk result (λ o. IfNone o (IsQuiet self.new until)) }
         ensures clock { last_time self.new ≡ until }
-        ensures held { IfOk result (λ o. MatchOption o (frames_held self.new ≡ frames_held self.old) (λ _. frames_held self.new + 1 ≡ frames_held self.old)) }
+        ensures held { IfOk result (λ o. MatchOption o (frames_held self.new
+            ≡ frames_held self.old) (λ _. frames_held self.new + 1 ≡ frames_held self.old)) }
         ensures kept { OnErr result (frames_held self.new ≡ frames_held self.old) }
     {
         taken_are_on_schedule::<Released>();
@@ -199,11 +222,14 @@ impl Working {
     fn add(&mut self, place: usize, index: usize, message: Queued) -> Result<(), AllocError>
         requires sound { IsSound self.old }
         requires place { place < length self.old.lines.items }
-        requires queue { (line : Line) → slice_get self.old.lines.items place ≡ Some line → CanTake line index message }
+        requires queue { (line : Line) → slice_get self.old.lines.items place ≡ Some line →
+            CanTake line index message }
         requires limit { message.time ≤ 1000000000000000 }
         requires clock { self.old.clock ≡ message.time }
         requires idle { IsIdle self.old }
-        ensures ok { (h : History) → StandsFor self.old h → OnOk result (StandsFor self.new (with_submission h place (submission_of (index + 1) message))) }
+        ensures ok { (h : History) → StandsFor self.old h →
+            OnOk result (StandsFor self.new (with_submission h place (submission_of (index
+            + 1) message))) }
         ensures err { (h : History) → StandsFor self.old h → OnErr result (StandsFor self.new h) }
         ensures idle { IsIdle self.new }
         ensures clock { self.new.clock ≡ self.old.clock }
@@ -222,9 +248,13 @@ impl Working {
         requires limit { self.old.clock ≤ 1000000000000000 }
         requires idle { IsIdle self.old }
         ensures ok { (h : History) → StandsFor self.old h →
-            OnOk result ((place : ℕ) × IsTaken h place vl.0 (submission self.old.clock sub udp payload.now) × StandsFor self.new (with_submission h place (submission self.old.clock sub udp payload.now))) }
-        ensures refused { (h : History) → StandsFor self.old h → IfErr result (λ fault. IsRefused h self.old.clock vl.0 sub (length payload.now) fault) }
-        ensures unchanged { (h : History) → StandsFor self.old h → OnErr result (StandsFor self.new h) }
+            OnOk result ((place : ℕ) × IsTaken h place vl.0
+            (submission self.old.clock sub udp payload.now) × StandsFor self.new
+            (with_submission h place (submission self.old.clock sub udp payload.now))) }
+        ensures refused { (h : History) → StandsFor self.old h →
+            IfErr result (λ fault. IsRefused h self.old.clock vl.0 sub (length payload.now) fault) }
+        ensures unchanged { (h : History) → StandsFor self.old h →
+            OnErr result (StandsFor self.new h) }
         ensures idle { IsIdle self.new }
         ensures clock { self.new.clock ≡ self.old.clock }
         ensures held { OnOk result (HoldsMore self.old self.new) }
@@ -260,9 +290,13 @@ impl Working {
         requires quiet { IsQuiet self.old time }
         ensures sound { IsSound self.new }
         ensures ok { (h : History) → StandsFor self.old h →
-            OnOk result ((place : ℕ) × IsTaken h place vl.0 (submission time sub udp payload.now) × StandsFor self.new (with_submission h place (submission time sub udp payload.now))) }
-        ensures refused { (h : History) → StandsFor self.old h → IfErr result (λ fault. IsRefused h time vl.0 sub (length payload.now) fault) }
-        ensures unchanged { (h : History) → StandsFor self.old h → OnErr result (StandsFor self.new (at h time)) }
+            OnOk result ((place : ℕ) × IsTaken h place vl.0
+            (submission time sub udp payload.now) × StandsFor self.new
+            (with_submission h place (submission time sub udp payload.now))) }
+        ensures refused { (h : History) → StandsFor self.old h →
+            IfErr result (λ fault. IsRefused h time vl.0 sub (length payload.now) fault) }
+        ensures unchanged { (h : History) → StandsFor self.old h →
+            OnErr result (StandsFor self.new (at h time)) }
         ensures quiet { IsQuiet self.new time }
         ensures clock { last_time self.new ≡ time }
         ensures held { OnOk result (frames_held self.new ≡ frames_held self.old + 1) }

@@ -38,7 +38,13 @@ abbrev pub calls_after : ℕ → Priority → Option Carried → queue.History C
     queue.History Carried
 calls_after time priority share h clock =
     let entries = with_share time priority h.byte_ns h.buffer h.entries share in
-    record { byte_ns = h.byte_ns; buffer = h.buffer; entries = entries; taken = h.taken; time = clock }
+    record {
+      byte_ns = h.byte_ns;
+      buffer = h.buffer;
+      entries = entries;
+      taken = h.taken;
+      time = clock;
+    }
 
 -- a port before and after the offer of its share, and whether the share was lost
 pub record IsOffered (time : ℕ) (priority : Priority) (share : Option Carried)

@@ -22,7 +22,11 @@ impl Model for Frame {
 
     ghost Value = { Carried };
 
-    ghost view = { λ f. record { tag = f.tag; longest_wait = f.longest_wait; bytes = f.bytes.value.items } };
+    ghost view = { λ f. record {
+      tag = f.tag;
+      longest_wait = f.longest_wait;
+      bytes = f.bytes.value.items;
+    } };
 
     ghost invariant = { λ f. (64 ≤ length f.bytes.value.items) × (length f.bytes.value.items ≤ 1518)
         × IfSome f.longest_wait (λ wait. wait ≤ 100000000)

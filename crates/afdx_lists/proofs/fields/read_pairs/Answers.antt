@@ -35,8 +35,8 @@ returns c = λ h.
     let long : length some ≡ 2 * size = grind (arith, common_steps) in
     let part : length c.read_block-2.new.bytes ≡ size = grind (arith, common_steps, c.read_block-2.auto.bytes) in
     let so_far =
-        subst (λ (k : ℕ). decode_pairs 0 digits ≡ prepend (take (k * 32) bytes) (decode_pairs (2 * (k * 32)) (drop (2 * (k * 32)) digits)))
-        done c.loop-block.invariant in
+    subst (λ (k : ℕ). decode_pairs 0 digits ≡ prepend (take (k * 32) bytes) (decode_pairs (2 * (k * 32)) (drop (2 * (k * 32)) digits)))
+    done c.loop-block.invariant in
     decode_done digits _ (length bytes) (grind (arith, common_steps, part)) (omega arith)
     (more_block digits some bytes _ c.read_block-2.new.bytes at size (length bytes) (omega (arith, within))
     (ap (λ (k : ℕ). take k (drop (2 * at) digits)) twice) long (c.read_block-2.ensures h) (take-put_mid at _ bytes c.read_block-2.new.bytes (length bytes) (omega (arith, part, within)) within) so_far)

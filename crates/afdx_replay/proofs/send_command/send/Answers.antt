@@ -16,7 +16,8 @@ returns-in-Ok-admit-clause-sends g c =
     let named : system_named c.in-Ok-admit.admitted.systems c.args.system.now ≡ Some c.in-Some.place.0 = rw c.in-Ok-admit.ensures.same (sym c.in-Some.ensures.place) in
     let admitted : IsAdmitted c.in-Ok-admit.admitted = rw c.in-Ok-admit.ensures.same (c.admit.ensures.exact.0 (is-ok c.admit.result _ c.in-Ok-admit.is)) in
     let known : c.in-Some.place.0 < length c.in-Ok-admit.admitted.systems = rw c.in-Ok-admit.ensures.same c.in-Some.ensures.known in
-    inl (c.run_send-answer.result,
+    inl (
+      c.run_send-answer.result,
       record {
         status_is = c.end-in-Ok-admit.ensures.status;
         told = c.end-in-Ok-admit.ensures.told;
@@ -24,7 +25,8 @@ returns-in-Ok-admit-clause-sends g c =
         read = c.run_send-answer.ensures.read;
         write = c.run_send-answer.ensures.write;
       },
-      sends-in c.args.config.now c.args.system.now c.in-Ok-admit.admitted c.in-Some.place.0 _ _ _ _ _ spelled named admitted known c.run_send-answer.ensures.answer)
+      sends-in c.args.config.now c.args.system.now c.in-Ok-admit.admitted c.in-Some.place.0 _ _ _ _ _ spelled named admitted known c.run_send-answer.ensures.answer,
+    )
 
 pub returns-in-Err-admit-clause-sends : goal.returns-in-Err-admit-clause-sends
 returns-in-Err-admit-clause-sends g c =
