@@ -1,11 +1,11 @@
 #!/usr/bin/env python3
-"""Measures `afdx police` and `afdx replay` on long frame lists.
+"""Measures `afdx police`, `afdx replay` and `afdx send` on long lists.
 
     bench/run.py [PROGRAM] [--lines N] [--times T] [--only TEXT] [--baseline] [--scaling]
 
 PROGRAM is the built program, crates/afdx/out/afdx where it isn't given. The lists have N lines
 (1,000,000 where it isn't given), but at most about 500 MB, and are made in a temporary folder by
-bench/make_list.py and bench/make_network.py. Each list is run T times (3 where it isn't given) from a
+bench/make_list.py, bench/make_network.py and bench/make_messages.py. Each list is run T times (3 where it isn't given) from a
 file into /dev/null. One table in Markdown is printed:
 
     seconds        user and system seconds together, the least of the runs
@@ -30,6 +30,7 @@ import tempfile
 
 sys.dont_write_bytecode = True
 from make_list import MOST_LINES, write_list  # noqa: E402
+from make_messages import write_messages  # noqa: E402
 from make_network import write_network  # noqa: E402
 from measure import HERE, PROGRAM, instructions, timed  # noqa: E402
 
@@ -50,6 +51,7 @@ REPLAY = [
     ("replay, an overloaded port, frames lost", "lost", False),
     ("replay, an overloaded port, frames too old, profile 2", "old", False),
 ]
+SEND = "send, 20 links of one system"
 HEAD = ["run", "lines", "MB", "seconds", "lines a second", "MB a second", "peak memory", "instructions a line"]
 
 
@@ -120,6 +122,12 @@ class Bench:
         make = lambda path, count: write_network(kind, self.path("few.toml"), path, count)
         yield self.row(name, words, lines, make)
 
+    def send(self, lines):
+        config = self.path("send.toml")
+        write_messages(config, self.path("long.list"), lines)
+        make = lambda path, count: write_messages(self.path("few.toml"), path, count)
+        return self.row(SEND, [self.program, "send", config, "s1"], lines, make)
+
     def scaling(self, kind, lines, links):
         words = self.network(kind, True, lines, links)
         seconds, memory = self.best([*words, self.path("long.list")])
@@ -184,6 +192,8 @@ def main():
             if given.only in name:
                 for cells in bench.replay(name, kind, is_admitted, given.lines):
                     show(cells)
+        if given.only in SEND:
+            show(bench.send(given.lines))
 
 
 if __name__ == "__main__":
