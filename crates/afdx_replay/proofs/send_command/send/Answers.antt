@@ -19,8 +19,8 @@ returns-in-Ok-admit-clause-sends g c =
     inl (
       c.run_send-answer.result,
       record {
-        status_is = c.end-in-Ok-admit.ensures.status;
-        told = c.end-in-Ok-admit.ensures.told;
+        status_is = c.end.ensures.status;
+        told = c.end.ensures.told;
         ended = c.run_send-answer.ensures.ended;
         read = c.run_send-answer.ensures.read;
         write = c.run_send-answer.ensures.write;
@@ -31,5 +31,5 @@ returns-in-Ok-admit-clause-sends g c =
 pub returns-in-Err-admit-clause-sends : goal.returns-in-Err-admit-clause-sends
 returns-in-Err-admit-clause-sends g c =
     let refused = tables-refused _ _ _ _ _ c.in-Ok.tables c.in-Err-admit.tables c.in-Err-admit.fault c.in-Err-admit.ensures.handed_back c.in-Ok.ensures.ok
-    (λ a. cc (c.in-Err-admit.ensures.exact.1 a)) c.in-Err-admit.ensures.first c.refuse_tables.ensures in
+    (λ a. not-ok c.admit.result _ c.in-Err-admit.is (c.admit.ensures.exact.1 a)) c.in-Err-admit.ensures.first c.refuse_tables.ensures in
     inr (tables-not-sent _ _ _ _ _ _ (record { tables = c.in-Ok.tables; spelled = c.in-Ok.ensures.ok; system = c.in-Some.place.0; named = sym c.in-Some.ensures.place }) refused, refl, refl)
