@@ -175,12 +175,8 @@ const LISTS: [(u64, &str, &str); 8] = [
 ];
 
 /// Lists over the base tables, and the whole text of their replay. `N05` is the frame of link 1 with number 5.
-const REPLAYS: [(&str, &str); 5] = [
+const REPLAYS: [(&str, &str); 4] = [
     ("", ""),
-    (
-        "F 0 A 2 H2\nF 0 A 1 H1\n",
-        "V 1 A accept\nV 2 A accept\nD 2 6720 A 3\nM 6720 s3 1 68656c6c6f\nD 1 13440 A 3\nM 13440 s3 2 776f726c64\n",
-    ),
     (
         "F 0 A 1 H1\nF 0 B 1 H1\n",
         "V 1 A accept\nV 2 B accept\nD 1 6720 A 3\nM 6720 s3 1 68656c6c6f\nD 2 6720 B 3\nX 6720 s3 2 redundant\n",
@@ -283,8 +279,8 @@ fn fail_writes(
     Ok(())
 }
 
-/// The list of a replay on readers and writers: of two kinds in freely replayed tables, and of one where they are
-/// admitted, which is the same loop.
+/// The list of a replay on readers and writers that fail once, or take none. Each run takes far more memory than one
+/// that polices; what is read and written is by the same calls, of which all kinds are tried there.
 fn fail_replays(
     rt: &impl Abort,
     alloc: Global,
@@ -293,13 +289,11 @@ fn fail_replays(
     list: &[u8],
     text: &[u8],
 ) -> Result<(), Fail> {
-    fail_reads(rt, alloc, freely, list, text, 16, 0, Break::Fails)?;
-    fail_reads(rt, alloc, freely, list, text, 1, ENOUGH, Break::Fails)?;
-    fail_writes(rt, alloc, freely, list, text, 16, 0, Break::FailsOnce)?;
-    fail_writes(rt, alloc, freely, list, text, 16, 0, Break::TakesNone)?;
-    fail_writes(rt, alloc, freely, list, text, 1, ENOUGH, Break::Fails)?;
-    fail_reads(rt, alloc, admitted, list, text, 64, 0, Break::FailsOnce)?;
-    fail_writes(rt, alloc, admitted, list, text, 16, 0, Break::Fails)
+    fail_reads(rt, alloc, freely, list, text, 16, 0, Break::FailsOnce)?;
+    fail_reads(rt, alloc, admitted, list, text, 1, ENOUGH, Break::Fails)?;
+    fail_writes(rt, alloc, admitted, list, text, 16, 0, Break::FailsOnce)?;
+    fail_writes(rt, alloc, freely, list, text, 16, 3, Break::TakesNone)?;
+    fail_writes(rt, alloc, freely, list, text, 1, ENOUGH, Break::Fails)
 }
 
 /// The list on readers and writers of all kinds.
