@@ -175,12 +175,8 @@ const LISTS: [(u64, &str, &str); 8] = [
 ];
 
 /// Lists over the base tables, and the whole text of their replay. `N05` is the frame of link 1 with number 5.
-const REPLAYS: [(&str, &str); 9] = [
+const REPLAYS: [(&str, &str); 4] = [
     ("", ""),
-    (
-        "F 0 A 2 H2\nF 0 A 1 H1\n",
-        "V 1 A accept\nV 2 A accept\nD 2 6720 A 3\nM 6720 s3 1 68656c6c6f\nD 1 13440 A 3\nM 13440 s3 2 776f726c64\n",
-    ),
     (
         "F 0 A 1 H1\nF 0 B 1 H1\n",
         "V 1 A accept\nV 2 B accept\nD 1 6720 A 3\nM 6720 s3 1 68656c6c6f\nD 2 6720 B 3\nX 6720 s3 2 redundant\n",
@@ -188,16 +184,6 @@ const REPLAYS: [(&str, &str); 9] = [
     (
         "F 0 A 1 N05\nF 1000000 A 1 N08\nF 2000000 A 1 N09\n",
         "V 1 A accept\nD 1 6720 A 3\nM 6720 s3 1 68656c6c6f\nV 2 A accept\nD 2 1006720 A 3\nX 1006720 s3 2 sequence\nV 3 A accept\nD 3 2006720 A 3\nM 2006720 s3 1 68656c6c6f\n",
-    ),
-    (
-        "F 0 A 1 N03\nF 1000000 A 1 N00\n",
-        "V 1 A accept\nD 1 6720 A 3\nM 6720 s3 1 68656c6c6f\nV 2 A accept\nD 2 1006720 A 3\nX 1006720 s3 2 redundant\n",
-    ),
-    ("F 0 A 1 H1\nF 0 A 1 030", "V 1 A accept\n"),
-    ("F 0 A 1 H1\nF 0 A 25 00\n", "V 1 A accept\n"),
-    (
-        "F 0 A 1 H1\nF 0 A 1 0300",
-        "V 1 A accept\nV 2 A drop too-short\nD 1 6720 A 3\nM 6720 s3 1 68656c6c6f\n",
     ),
     (
         "F 0 A 1 H1\nF 20000 A 2 H2\nF 19999 A 2 H2\n",
@@ -293,8 +279,8 @@ fn fail_writes(
     Ok(())
 }
 
-/// The list of a replay on readers and writers: of two kinds in freely replayed tables, and of one where they are
-/// admitted, which is the same loop.
+/// The list of a replay on readers and writers that fail once, or take none. Each run takes far more memory than one
+/// that polices; what is read and written is by the same calls, of which all kinds are tried there.
 fn fail_replays(
     rt: &impl Abort,
     alloc: Global,
@@ -303,13 +289,11 @@ fn fail_replays(
     list: &[u8],
     text: &[u8],
 ) -> Result<(), Fail> {
-    fail_reads(rt, alloc, freely, list, text, 16, 0, Break::Fails)?;
-    fail_reads(rt, alloc, freely, list, text, 1, ENOUGH, Break::Fails)?;
-    fail_writes(rt, alloc, freely, list, text, 16, 0, Break::FailsOnce)?;
-    fail_writes(rt, alloc, freely, list, text, 16, 0, Break::TakesNone)?;
-    fail_writes(rt, alloc, freely, list, text, 1, ENOUGH, Break::Fails)?;
-    fail_reads(rt, alloc, admitted, list, text, 64, 0, Break::FailsOnce)?;
-    fail_writes(rt, alloc, admitted, list, text, 16, 0, Break::Fails)
+    fail_reads(rt, alloc, freely, list, text, 16, 0, Break::FailsOnce)?;
+    fail_reads(rt, alloc, admitted, list, text, 1, ENOUGH, Break::Fails)?;
+    fail_writes(rt, alloc, admitted, list, text, 16, 0, Break::FailsOnce)?;
+    fail_writes(rt, alloc, freely, list, text, 16, 3, Break::TakesNone)?;
+    fail_writes(rt, alloc, freely, list, text, 1, ENOUGH, Break::Fails)
 }
 
 /// The list on readers and writers of all kinds.
@@ -356,37 +340,40 @@ fn tables_of(alloc: Global, config: &[u8]) -> Result<Tables, Fail> {
     }
 }
 
+/// A free replay in the tables of these bytes.
+fn free_run(alloc: Global, config: &[u8]) -> Result<Run, Fail> {
+    Ok(Run::Unadmitted(tables_of(alloc, config)?))
+}
+
+/// A replay in the base tables, which are admitted.
+fn admitted_run(alloc: Global) -> Result<Run, Fail> {
+    match admit(tables_of(alloc, BASE.as_bytes())?) {
+        Ok(admitted) => Ok(Run::Admitted(admitted)),
+        Err(_) => Err("admission".into()),
+    }
+}
+
 #[test]
 fn each_read_and_write_of_a_replay_fails(rt: HostRuntime) -> Result<(), Fail> {
-    let freely = Run::Unadmitted(tables_of(rt.alloc(), BASE.as_bytes())?);
-    let Ok(admitted) = admit(tables_of(rt.alloc(), BASE.as_bytes())?) else {
-        return Err("admission".into());
-    };
-    let admitted = Run::Admitted(admitted);
+    let freely = free_run(rt.alloc(), BASE.as_bytes())?;
+    let admitted = admitted_run(rt.alloc())?;
     for (list, text) in REPLAYS {
         let list = numbered(rt.alloc(), list)?;
-        fail_replays(
-            &rt,
-            rt.alloc(),
-            &freely,
-            &admitted,
-            list.as_bytes(),
-            text.as_bytes(),
-        )?;
+        let (list, text) = (list.as_bytes(), text.as_bytes());
+        fail_replays(&rt, rt.alloc(), &freely, &admitted, list, text)?;
     }
+    Ok(())
+}
+
+#[test]
+fn each_read_and_write_fails_where_a_copy_is_lost(rt: HostRuntime) -> Result<(), Fail> {
     let small = changed(rt.alloc(), BASE, "buffer = 252", "buffer = 64")?;
-    let small = Run::Unadmitted(tables_of(rt.alloc(), small.as_bytes())?);
+    let small = free_run(rt.alloc(), small.as_bytes())?;
     let list = numbered(rt.alloc(), "F 0 A 1 H1\nF 0 A 2 H2\nF 1 A 2 H2\n")?;
     let text =
         "V 1 A accept\nV 2 A accept\nL 2 A 3\nV 3 A drop over-rate\nD 1 6720 A 3\nM 6720 s3 1 68656c6c6f\n";
-    fail_replays(
-        &rt,
-        rt.alloc(),
-        &small,
-        &small,
-        list.as_bytes(),
-        text.as_bytes(),
-    )
+    let (list, text) = (list.as_bytes(), text.as_bytes());
+    fail_replays(&rt, rt.alloc(), &small, &small, list, text)
 }
 
 #[test]

@@ -58,8 +58,11 @@ fn each_prefix_of_a_frame_list(rt: HostRuntime) -> Result<(), Fail> {
     for length in 0..=bytes.len() {
         let front = bytes.get(..length).ok_or("a front")?;
         let n = last_line(front);
-        let (result, _) = replayed(rt.alloc(), &tables, front);
-        assert!(rt; is_done_or_at(&result, n), "{length} bytes");
+        // A replay takes far more memory than policing, and reads by the same calls.
+        if length % 9 == 0 {
+            let (result, _) = replayed(rt.alloc(), &tables, front);
+            assert!(rt; is_done_or_at(&result, n), "{length} bytes");
+        }
         let (result, _) = answer(rt.alloc(), &link, front);
         assert!(rt; is_done_or_at(&result, n), "{length} bytes");
     }
@@ -86,7 +89,9 @@ fn each_prefix_of_the_tables(rt: HostRuntime) -> Result<(), Fail> {
         let front = BASE.get(..length).ok_or("a front")?;
         let (status, output, errors) = checked(rt.alloc(), front.as_bytes());
         let is_refused = status == 1 && output.is_empty() && errors.starts_with(b"config ");
-        let is_answered = status <= 1 && output.starts_with(b"P 1 ") && errors.is_empty();
+        // Tables without a system are lawful.
+        let has_text = output.starts_with(b"P 1 ") || output.as_slice() == b"ok\n".as_slice();
+        let is_answered = status <= 1 && has_text && errors.is_empty();
         assert!(rt; is_refused || is_answered, "{length} bytes");
     }
     Ok(())
@@ -172,7 +177,11 @@ fn with_digits(alloc: Global, digit: char, count: usize, is_port: bool) -> Resul
 #[test]
 fn numbers_of_1_to_5000_digits(rt: HostRuntime) -> Result<(), Fail> {
     let link = rule(64).ok_or("a rule")?;
-    for count in 0..5_000_usize {
+    for count in 0..5_001_usize {
+        // All short numbers, those about the longest line, and some of the others.
+        if 40 < count && count % 61 != 0 && count.abs_diff(4_190) > 12 {
+            continue;
+        }
         for is_port in [false, true] {
             let zeros = with_digits(rt.alloc(), '0', count, is_port)?;
             let nines = with_digits(rt.alloc(), '9', count, is_port)?;
