@@ -2,7 +2,7 @@
 
 use super::checks::{BASE, changed, checked};
 use super::replays::both_spelled;
-use super::sends::sent;
+use super::sends::{admitted, sent};
 use super::{H1, answer, rule};
 use crate::{RunFault, Summary, Watched, run, run_unadmitted};
 use afdx_admit::admit;
@@ -72,9 +72,10 @@ fn each_prefix_of_a_frame_list(rt: HostRuntime) -> Result<(), Fail> {
 #[test]
 fn each_prefix_of_a_submission_list(rt: HostRuntime) -> Result<(), Fail> {
     let list = "# begins\n0 1 1 1000 61\n\r\n0 1 2 1000 -\n5 2 1 1000 00\n1000000 1 1 65535 6162\n";
+    let tables = admitted(rt.alloc(), BASE)?;
     for length in 0..=list.len() {
         let front = list.get(..length).ok_or("a front")?;
-        let (result, _) = sent(rt.alloc(), 0, front)?;
+        let (result, _) = sent(rt.alloc(), &tables, 0, front)?;
         assert!(rt;
             is_done_or_at(&result, last_line(front.as_bytes())),
             "{length} bytes"

@@ -7,7 +7,7 @@ use afdx_config::{SystemId, read_tables};
 use std::alloc::Global;
 use std::test::Fail;
 
-fn admitted(alloc: Global, config: &str) -> Result<Admitted, Fail> {
+pub(super) fn admitted(alloc: Global, config: &str) -> Result<Admitted, Fail> {
     let Ok(tables) = read_tables(alloc, config.as_bytes()) else {
         return Err("tables".into());
     };
