@@ -2,7 +2,6 @@
 
 mod checks;
 mod devices;
-mod hostile;
 mod premises;
 mod refusals;
 mod replays;
