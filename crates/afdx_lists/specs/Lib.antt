@@ -1,4 +1,5 @@
 pub mod Calls
+pub mod Watching
 pub mod Faults
 pub mod Lines
 pub mod Fields

@@ -6,6 +6,7 @@ use Rattle.afdx_lists.specs.declared.fault.RunFault.{RunFault}
 use Rattle.afdx_lists.specs.declared.fault.RunFault.TheVariants.{TooManyLines, LineTooLong, Read}
 use Rattle.afdx_lists.specs.declared.line_reader.LineReader.{LineReader}
 use Rattle.afdx_lists.specs.declared.watched.Watched.{Watched}
+use Rattle.afdx_lists.specs.Watching.{device_of, has_ended}
 
 -- the parts but a last one with no byte
 abbrev pub but_empty_last : List (List ℕ) → List (List ℕ)
@@ -61,11 +62,11 @@ lines_taken reader = reader.lines
 -- what is left of the list, where it is known: what was read and not yet taken, then what the input
 -- has left
 abbrev pub left : {R : Type 0} → (R → Option (List ℕ)) → LineReader → Watched R → Option (List ℕ)
-left remaining reader input = prepend_known (unread reader) (remaining input.inner)
+left remaining reader input = prepend_known (unread reader) (remaining (device_of input))
 
 -- an input that gave its end has nothing left, where that is known
 abbrev pub IsHonest : {R : Type 0} → (R → Option (List ℕ)) → Watched R → Type 0
-IsHonest remaining input = input.ended ≡ true → IsAtEnd (remaining input.inner)
+IsHonest remaining input = has_ended input ≡ true → IsAtEnd (remaining (device_of input))
 
 -- the first line of the known bytes was taken
 abbrev pub TakesLine : Option (List ℕ) → Option (List ℕ) → List ℕ → Type 0

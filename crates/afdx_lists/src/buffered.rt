@@ -2,7 +2,8 @@
 ghost use Rattle.std.specs.Prelude.{◌≡◌, ◌≤◌, ◌<◌, ◌+◌, ◌-◌, ◌++◌, [], length, take, drop, vec_len, vec_capacity, IfOk, OnOk, OnErr, false, true};
 ghost use Rattle.std.specs.Io.{WritesAtMost};
 ghost use Rattle.std.specs.Io.KnownBytes.{Appends, Keeps, WriteAppends};
-ghost use Rattle.afdx_lists.specs.Gathered.{gathered, held_bytes, has_failed};
+ghost use Rattle.afdx_lists.specs.Gathered.{gathered, held_bytes, inner_device, device_has_failed};
+ghost use Rattle.afdx_lists.specs.Watching.{device_of, has_failed};
 
 use crate::watched::Watched;
 use std::alloc::{AllocError, Global};
@@ -22,10 +23,10 @@ pub struct Buffered<W> {
 
 /// Hands bytes to a device until it fails, or takes none of some, and gives how many it took.
 fn hand_bytes<W: Write>(bytes: &[u8], device: &mut Watched<W>) -> usize
-    requires { device.old.failed ≡ false }
+    requires { has_failed device.old ≡ false }
     ensures within { result ≤ length bytes.now }
-    ensures whole { device.new.failed ≡ false → result ≡ length bytes.now }
-    ensures taken { Appends (W.contents device.old.inner) (W.contents device.new.inner)
+    ensures whole { has_failed device.new ≡ false → result ≡ length bytes.now }
+    ensures taken { Appends (W.contents (device_of device.old)) (W.contents (device_of device.new))
         (take result bytes.now) }
 {
     let mut taken = 0;
@@ -79,17 +80,17 @@ impl<W: Write + Drop> Buffered<W> {
 
     /// The device, as it then is. What is held is lost.
     pub fn into_device(self) -> W
-        ensures { result ≡ self.device.inner }
+        ensures { result ≡ inner_device self }
     {
         self.device.into_inner()
     }
 
     /// Hands all that is held to the device, which has not failed before.
     fn hand_over(&mut self) -> io::Result<()>
-        requires { has_failed self.old ≡ false }
+        requires { device_has_failed self.old ≡ false }
         ensures none_left { OnOk result (held_bytes self.new ≡ []) }
         ensures empty { OnOk result (vec_len self.new.held ≡ 0) }
-        ensures sound { OnOk result (has_failed self.new ≡ false) }
+        ensures sound { OnOk result (device_has_failed self.new ≡ false) }
         ensures capacity { vec_capacity self.new.held ≡ vec_capacity self.old.held }
         ensures bytes { Keeps (gathered W.contents self.old) (gathered W.contents self.new) }
     {
@@ -108,7 +109,7 @@ impl<W: Write + Drop> Buffered<W> {
         ensures bound { WritesAtMost result buf.now }
         ensures bytes { WriteAppends (gathered W.contents self.old)
             (gathered W.contents self.new) result buf.now }
-        ensures unasked { has_failed self.old ≡ true → self.new ≡ self.old }
+        ensures unasked { device_has_failed self.old ≡ true → self.new ≡ self.old }
     {
         if self.device.failed() {
             return Err(refusal());
@@ -130,7 +131,7 @@ impl<W: Write + Drop> Write for Buffered<W> {
         ensures bound { WritesAtMost result buf.now }
         ensures bytes { WriteAppends (gathered W.contents self.old)
             (gathered W.contents self.new) result buf.now }
-        ensures unasked { has_failed self.old ≡ true → self.new ≡ self.old }
+        ensures unasked { device_has_failed self.old ≡ true → self.new ≡ self.old }
     {
         if buf.len() <= self.held.capacity() - self.held.len() && !self.device.failed() {
             append(&mut self.held, buf);
@@ -142,7 +143,7 @@ impl<W: Write + Drop> Write for Buffered<W> {
     fn flush(&mut self) -> io::Result<()>
         ensures bytes { Keeps (gathered W.contents self.old) (gathered W.contents self.new) }
         ensures none_left { OnOk result (held_bytes self.new ≡ []) }
-        ensures unasked { has_failed self.old ≡ true → self.new ≡ self.old }
+        ensures unasked { device_has_failed self.old ≡ true → self.new ≡ self.old }
     {
         if self.device.failed() {
             return Err(refusal());

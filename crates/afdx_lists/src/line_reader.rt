@@ -42,6 +42,7 @@ fn new_chunk(alloc: Global) -> Result<Vec<u8>, AllocError>
 
 impl LineReader {
     ghost use Rattle.afdx_lists.specs.Lines.{unread, latest_line, lines_taken, left, IsHonest, HasNoFeed, IsFirstFeed, TakesLine, TakesBytes, CanStop};
+    ghost use Rattle.afdx_lists.specs.Watching.{calls_of, device_of, has_ended, has_failed};
 
     /// A reader that has taken nothing yet.
     pub fn new(alloc: Global) -> Result<LineReader, AllocError>
@@ -80,10 +81,10 @@ impl LineReader {
     /// again after its end, nor after a fault. A line of at most 4,200 bytes takes at most 4,201
     /// reads.
     pub fn next_line<R: Read>(&mut self, input: &mut Watched<R>) -> Result<bool, RunFault>
-        requires sound { input.old.failed ≡ false }
+        requires sound { has_failed input.old ≡ false }
         requires honest { IsHonest R.remaining input.old }
         ensures honest { IsHonest R.remaining input.new }
-        ensures failed { input.new.failed ≡ is_failed_read result }
+        ensures failed { has_failed input.new ≡ is_failed_read result }
 
         // What is taken, of what is left of the list.
         ensures line { result ≡ Ok true → TakesLine (left R.remaining self.old input.old)
@@ -93,23 +94,24 @@ impl LineReader {
             (lines_taken self.new ≡ lines_taken self.old + 1) × (lines_taken self.new ≤ 1000000) }
         ensures same { result ≢ Ok true → lines_taken self.new ≡ lines_taken self.old }
         ensures last { result ≡ Ok false →
-            (input.new.ended ≡ true) × IsAtEnd (left R.remaining self.old input.old) }
+            (has_ended input.new ≡ true) × IsAtEnd (left R.remaining self.old input.old) }
         ensures fault { IfErr result (λ fault.
             CanStop fault (lines_taken self.old) (left R.remaining self.old input.old)) }
 
         // What is taken, of what the input gave.
-        ensures whole { result ≡ Ok true → input.new.ended ≡ false →
-            (input.old.ended ≡ false) × HasNoFeed (latest_line self.new)
-            × TakesBytes (R.remaining input.old.inner) (R.remaining input.new.inner)
+        ensures whole { result ≡ Ok true → has_ended input.new ≡ false →
+            (has_ended input.old ≡ false) × HasNoFeed (latest_line self.new)
+            × TakesBytes (R.remaining (device_of input.old)) (R.remaining (device_of input.new))
             (unread self.old) (unread self.new) (latest_line self.new ++ 10 ∷ []) }
         ensures read { result ≡ Err RunFault.Read →
-            (input.old.ended ≡ false) × HasNoFeed (unread self.new)
-            × TakesBytes (R.remaining input.old.inner) (R.remaining input.new.inner)
+            (has_ended input.old ≡ false) × HasNoFeed (unread self.new)
+            × TakesBytes (R.remaining (device_of input.old)) (R.remaining (device_of input.new))
             (unread self.old) (unread self.new) [] }
 
         // How often the input is read.
-        ensures calls { input.new.calls ≤ input.old.calls + 4201 }
-        ensures last_call { 1000000 ≤ lines_taken self.old → input.new.calls ≤ input.old.calls + 1 }
+        ensures calls { calls_of input.new ≤ calls_of input.old + 4201 }
+        ensures last_call { 1000000 ≤ lines_taken self.old →
+            calls_of input.new ≤ calls_of input.old + 1 }
     {
         let mut searched = 0usize;
         'reads: loop {
@@ -177,24 +179,25 @@ impl LineReader {
 
     /// Reads once, behind what is unread, which is moved to the front. False: there is no more.
     fn refill<R: Read>(&mut self, input: &mut Watched<R>) -> Result<bool, RunFault>
-        requires sound { input.old.failed ≡ false }
+        requires sound { has_failed input.old ≡ false }
         requires honest { IsHonest R.remaining input.old }
         requires short { self.old.end - self.old.start ≤ 4200 }
         ensures honest { IsHonest R.remaining input.new }
         ensures fault { IfErr result (λ fault. fault ≡ RunFault.Read) }
-        ensures failed { input.new.failed ≡ is_failed_read result }
+        ensures failed { has_failed input.new ≡ is_failed_read result }
         ensures lines { self.new.lines ≡ self.old.lines }
-        ensures bytes { TakesBytes (R.remaining input.old.inner) (R.remaining input.new.inner)
+        ensures bytes { TakesBytes (R.remaining (device_of input.old))
+            (R.remaining (device_of input.new))
             (unread self.old) (unread self.new) [] }
         ensures more { result ≡ Ok true →
             (self.old.end - self.old.start < self.new.end - self.new.start)
-            × (input.new.ended ≡ input.old.ended) }
+            × (has_ended input.new ≡ has_ended input.old) }
         ensures last { result ≡ Ok false →
-            (input.new.ended ≡ true) × (unread self.new ≡ unread self.old)
+            (has_ended input.new ≡ true) × (unread self.new ≡ unread self.old)
             × (self.new.end - self.new.start ≡ self.old.end - self.old.start) }
         ensures err { OnErr result (
-            (input.old.ended ≡ false) × (unread self.new ≡ unread self.old)) }
-        ensures calls { input.new.calls ≤ input.old.calls + 1 }
+            (has_ended input.old ≡ false) × (unread self.new ≡ unread self.old)) }
+        ensures calls { calls_of input.new ≤ calls_of input.old + 1 }
     {
         if input.ended() {
             return Ok(false);

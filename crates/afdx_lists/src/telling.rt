@@ -2,6 +2,7 @@
 ghost use Rattle.std.specs.Prelude.{◌≡◌, false, true};
 ghost use Rattle.afdx_lists.specs.Faults.{fault_line, number_text};
 ghost use Rattle.afdx_lists.specs.Telling.{Tells};
+ghost use Rattle.afdx_lists.specs.Watching.{has_failed};
 
 use crate::fault::RunFault;
 use crate::watched::Watched;
@@ -13,7 +14,7 @@ use std::io::Write;
 /// not asked.
 pub fn tell<W: Write>(device: &mut Watched<W>, text: &[u8])
     ensures told { Tells W.contents device.old device.new text.now }
-    ensures unasked { device.old.failed ≡ true → device.new ≡ device.old }
+    ensures unasked { has_failed device.old ≡ true → device.new ≡ device.old }
 {
     if !device.failed() {
         let _ = write_text(device, text);
@@ -23,7 +24,7 @@ pub fn tell<W: Write>(device: &mut Watched<W>, text: &[u8])
 /// Hands a number to a device, if there is one.
 fn tell_number<W: Write>(device: &mut Watched<W>, number: Option<u64>)
     ensures told { Tells W.contents device.old device.new (number_text number) }
-    ensures unasked { device.old.failed ≡ true → device.new ≡ device.old }
+    ensures unasked { has_failed device.old ≡ true → device.new ≡ device.old }
 {
     match number {
         Some(number) => {

@@ -2,6 +2,7 @@
 ghost use Rattle.std.specs.Prelude.{◌≡◌, OnOk, OnErr, IfErr, false};
 ghost use Rattle.std.specs.Io.KnownBytes.{Appends};
 ghost use Rattle.afdx_lists.specs.Calls.{AppendsFront, is_failed_write};
+ghost use Rattle.afdx_lists.specs.Watching.{device_of, has_failed};
 
 use crate::fault::RunFault;
 use crate::watched::Watched;
@@ -11,13 +12,14 @@ use std::io::Write;
 ///
 /// Nothing is written again after such a failure.
 pub fn write_text<W: Write>(output: &mut Watched<W>, text: &[u8]) -> Result<(), RunFault>
-    requires { output.old.failed ≡ false }
-    ensures failed { output.new.failed ≡ is_failed_write result }
+    requires { has_failed output.old ≡ false }
+    ensures failed { has_failed output.new ≡ is_failed_write result }
     ensures fault { IfErr result (λ fault. fault ≡ RunFault.Write) }
     ensures written { OnOk result (
-        Appends (W.contents output.old.inner) (W.contents output.new.inner) text.now) }
+        Appends (W.contents (device_of output.old)) (W.contents (device_of output.new)) text.now) }
     ensures front { OnErr result (
-        AppendsFront (W.contents output.old.inner) (W.contents output.new.inner) text.now) }
+        AppendsFront (W.contents (device_of output.old)) (W.contents (device_of output.new))
+        text.now) }
 {
     let mut rest = text;
     while !rest.is_empty() {

@@ -15,6 +15,7 @@ use Rattle.afdx_lists.specs.Faults.{fault_line}
 use Rattle.afdx_lists.specs.Telling.{Tells}
 use Rattle.afdx_lists.specs.declared.fault.RunFault.TheVariants.{Write}
 use Rattle.afdx_lists.specs.declared.watched.Watched.{Watched}
+use Rattle.afdx_lists.specs.Watching.{device_of, has_failed}
 use Rattle.afdx_replay.specs.Refusals.{RefusesConfig, WantsMemory}
 
 -- a bound in ns, or a dash where there is none
@@ -63,14 +64,14 @@ module _ {O E : Type 0} (bytes : O → Option (List ℕ)) (error_bytes : E →
   -- the configuration is read, its tables are admitted, and that is written
   pub record IsChecked : Type 0 where
     pub tables : Rows
-    pub writes : WritesCheck config (bytes old.inner) (bytes new.inner) tables
+    pub writes : WritesCheck config (bytes (device_of old)) (bytes (device_of new)) tables
     pub admitted : IsAdmitted tables
     pub told : new_errors ≡ old_errors
 
   -- it is read, its tables are not admitted, and that is written
   pub record IsDenied : Type 0 where
     pub tables : Rows
-    pub writes : WritesCheck config (bytes old.inner) (bytes new.inner) tables
+    pub writes : WritesCheck config (bytes (device_of old)) (bytes (device_of new)) tables
     pub denied : IsAdmitted tables → ⊥
     pub told : new_errors ≡ old_errors
 
@@ -81,9 +82,9 @@ module _ {O E : Type 0} (bytes : O → Option (List ℕ)) (error_bytes : E →
 
   -- the output failed, and a beginning of the text is written
   pub record IsCut : Type 0 where
-    pub failed : new.failed ≡ true
+    pub failed : has_failed new ≡ true
     pub tables : Rows
-    pub begins : BeginsCheck config (bytes old.inner) (bytes new.inner) tables
+    pub begins : BeginsCheck config (bytes (device_of old)) (bytes (device_of new)) tables
     pub told : Tells error_bytes old_errors new_errors (fault_line Write)
 
   -- memory was refused, and nothing is written

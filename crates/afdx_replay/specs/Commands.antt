@@ -4,6 +4,7 @@ use Rattle.afdx_frame.specs.declared.link.Policing.TheVariants.{Byte}
 use Rattle.afdx_police.specs.Rule.{Rule}
 use Rattle.afdx_lists.specs.declared.fault.RunFault.{RunFault}
 use Rattle.afdx_lists.specs.declared.watched.Watched.{Watched}
+use Rattle.afdx_lists.specs.Watching.{has_ended, has_failed}
 use Rattle.afdx_lists.specs.Calls.{is_failed_read, is_failed_write}
 use Rattle.afdx_lists.specs.Faults.{status_of, fault_line}
 use Rattle.afdx_lists.specs.Telling.{Tells}
@@ -40,6 +41,6 @@ pub record EndsAs {R O E : Type 0} (error_bytes : E →
     (answer : Result Summary RunFault) : Type 0 where
   pub status_is : status ≡ status_of_answer answer
   pub told : Tells error_bytes old_errors new_errors (line_of_answer answer)
-  pub ended : OnOk answer (input.ended ≡ true)
-  pub read : input.failed ≡ is_failed_read answer
-  pub write : output.failed ≡ is_failed_write answer
+  pub ended : OnOk answer (has_ended input ≡ true)
+  pub read : has_failed input ≡ is_failed_read answer
+  pub write : has_failed output ≡ is_failed_write answer

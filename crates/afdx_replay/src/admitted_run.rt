@@ -1,6 +1,7 @@
 //! A run of an admitted network: a replay that keeps the promises.
 ghost use Rattle.std.specs.Prelude.{◌≡◌, ℕ, ◌+◌, ◌≤◌, OnOk, IfSome, true, false};
 ghost use Rattle.afdx_lists.specs.Calls.{is_failed_read, is_failed_write};
+ghost use Rattle.afdx_lists.specs.Watching.{calls_of, device_of, has_ended, has_failed};
 ghost use Rattle.afdx_replay.specs.Replayed.{Answers};
 ghost use Rattle.afdx_replay.specs.PromisedRun.{PromisedAnswers};
 
@@ -32,23 +33,23 @@ pub fn run<R: Read, W: Write>(
     input: &mut Watched<R>,
     output: &mut Watched<W>,
 ) -> Result<Summary, RunFault>
-    requires sound_input { input.old.failed ≡ false }
-    requires unended { input.old.ended ≡ false }
-    requires sound_output { output.old.failed ≡ false }
-    ensures ended { OnOk result (input.new.ended ≡ true) }
-    ensures read { input.new.failed ≡ is_failed_read result }
-    ensures write { output.new.failed ≡ is_failed_write result }
-    ensures calls { input.new.calls ≤ input.old.calls + 4201000001 }
+    requires sound_input { has_failed input.old ≡ false }
+    requires unended { has_ended input.old ≡ false }
+    requires sound_output { has_failed output.old ≡ false }
+    ensures ended { OnOk result (has_ended input.new ≡ true) }
+    ensures read { has_failed input.new ≡ is_failed_read result }
+    ensures write { has_failed output.new ≡ is_failed_write result }
+    ensures calls { calls_of input.new ≤ calls_of input.old + 4201000001 }
 
     // Where the input's bytes are known: what is answered and written for the list that they are.
-    ensures answer { IfSome (R.remaining input.old.inner) (λ bytes.
-        Answers admitted.now bytes (R.remaining input.new.inner)
-        (W.contents output.old.inner) (W.contents output.new.inner) result) }
+    ensures answer { IfSome (R.remaining (device_of input.old)) (λ bytes.
+        Answers admitted.now bytes (R.remaining (device_of input.new))
+        (W.contents (device_of output.old)) (W.contents (device_of output.new)) result) }
 
     // And what is written is the text of lines that keep the promises.
-    ensures promised { IfSome (R.remaining input.old.inner) (λ bytes.
-        PromisedAnswers admitted.now bytes (R.remaining input.new.inner)
-        (W.contents output.old.inner) (W.contents output.new.inner) result) }
+    ensures promised { IfSome (R.remaining (device_of input.old)) (λ bytes.
+        PromisedAnswers admitted.now bytes (R.remaining (device_of input.new))
+        (W.contents (device_of output.old)) (W.contents (device_of output.new)) result) }
 {
     run_unadmitted(alloc, admitted.tables(), input, output)
 }

@@ -7,6 +7,7 @@ ghost use Rattle.afdx_config.specs.Rows.{Rows};
 ghost use Rattle.afdx_replay.specs.CheckText.{port_line, line_if_used, port_lines, answer_line};
 ghost use Rattle.afdx_replay.specs.CheckText.{check_text, IsChecked, IsDenied, IsFaulty, IsCut};
 ghost use Rattle.afdx_replay.specs.CheckText.{IsUnchecked};
+ghost use Rattle.afdx_lists.specs.Watching.{has_failed};
 
 use crate::refusing::{refuse_config, want_memory};
 use afdx_admit::{PortBounds, admit, bounds_of};
@@ -100,9 +101,9 @@ pub fn check<O: Write, E: Write>(
     output: &mut Watched<O>,
     errors: &mut Watched<E>,
 ) -> u8
-    requires { output.old.failed ≡ false }
+    requires { has_failed output.old ≡ false }
     ensures statuses { (result ≡ 0) ⊎ (result ≡ 1) ⊎ (result ≡ 4) }
-    ensures device { output.new.failed ≡ true → result ≡ 4 }
+    ensures device { has_failed output.new ≡ true → result ≡ 4 }
     ensures checked { result ≡ 0 →
         IsChecked O.contents E.contents config.now output.old output.new errors.old errors.new }
     ensures refused { result ≡ 1 →

@@ -3,6 +3,7 @@ ghost use Rattle.std.specs.Prelude.{◌≡◌, ◌⊎◌, true};
 ghost use Rattle.std.specs.Io.KnownBytes.{Keeps};
 ghost use Rattle.afdx_lists.specs.Faults.{fault_line};
 ghost use Rattle.afdx_lists.specs.Telling.{Tells};
+ghost use Rattle.afdx_lists.specs.Watching.{device_of, has_failed};
 ghost use Rattle.afdx_replay.specs.Commands.{line_of_answer, status_of_answer};
 
 use crate::summary::Summary;
@@ -33,9 +34,9 @@ pub fn finish<O: Write, E: Write>(
     output: &mut Watched<O>,
     errors: &mut Watched<E>,
 ) -> u8
-    ensures unasked { output.old.failed ≡ true → (result ≡ status) × (output.new ≡ output.old)
+    ensures unasked { has_failed output.old ≡ true → (result ≡ status) × (output.new ≡ output.old)
         × (errors.new ≡ errors.old) }
-    ensures kept { Keeps (O.contents output.old.inner) (O.contents output.new.inner) }
+    ensures kept { Keeps (O.contents (device_of output.old)) (O.contents (device_of output.new)) }
     ensures status { ((result ≡ status) × (errors.new ≡ errors.old))
         ⊎ ((status ≡ 0) × (result ≡ 4)
         × Tells E.contents errors.old errors.new (fault_line RunFault.Write)) }

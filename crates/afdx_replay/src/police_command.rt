@@ -6,6 +6,7 @@ ghost use Rattle.afdx_replay.specs.Commands.{commanded_rule, EndsAs};
 ghost use Rattle.afdx_replay.specs.Policed.{Answers};
 ghost use Rattle.afdx_replay.specs.declared.summary.Summary.{Summary};
 ghost use Rattle.afdx_lists.specs.declared.fault.RunFault.{RunFault};
+ghost use Rattle.afdx_lists.specs.Watching.{calls_of, device_of, has_ended, has_failed};
 
 use crate::ending::end;
 use crate::police_run::run_police;
@@ -37,16 +38,16 @@ pub fn police<R: Read, O: Write, E: Write>(
     output: &mut Watched<O>,
     errors: &mut Watched<E>,
 ) -> u8
-    requires sound_input { input.old.failed ≡ false }
-    requires unended { input.old.ended ≡ false }
-    requires sound_output { output.old.failed ≡ false }
+    requires sound_input { has_failed input.old ≡ false }
+    requires unended { has_ended input.old ≡ false }
+    requires sound_output { has_failed output.old ≡ false }
 
     // 0 comes only where the list came to its end, 4 wherever a device failed.
     ensures statuses { (result ≡ 0) ⊎ (result ≡ 2) ⊎ (result ≡ 3) ⊎ (result ≡ 4) }
-    ensures done { result ≡ 0 → (input.new.ended ≡ true) × (input.new.failed ≡ false)
-        × (output.new.failed ≡ false) }
-    ensures device { (input.new.failed || output.new.failed) ≡ true → result ≡ 4 }
-    ensures calls { input.new.calls ≤ input.old.calls + 4201000001 }
+    ensures done { result ≡ 0 → (has_ended input.new ≡ true) × (has_failed input.new ≡ false)
+        × (has_failed output.new ≡ false) }
+    ensures device { (has_failed input.new || has_failed output.new) ≡ true → result ≡ 4 }
+    ensures calls { calls_of input.new ≤ calls_of input.old + 4201000001 }
 
     // A value out of range: nothing is read and nothing is written.
     ensures out_of_range { (IsRule (commanded_rule bag_ms lmax jitter_us) → ⊥) → result ≡ 2 }
@@ -62,9 +63,9 @@ pub fn police<R: Read, O: Write, E: Write>(
     ensures polices { IsRule (commanded_rule bag_ms lmax jitter_us) →
         (answer : Result Summary RunFault)
         × EndsAs E.contents input.new output.new errors.old errors.new result answer
-        × IfSome (R.remaining input.old.inner) (λ bytes.
-        Answers (commanded_rule bag_ms lmax jitter_us) bytes (R.remaining input.new.inner)
-        (O.contents output.old.inner) (O.contents output.new.inner) answer) }
+        × IfSome (R.remaining (device_of input.old)) (λ bytes.
+        Answers (commanded_rule bag_ms lmax jitter_us) bytes (R.remaining (device_of input.new))
+        (O.contents (device_of output.old)) (O.contents (device_of output.new)) answer) }
 {
     let Some(rule) = LinkRule::new(LINK, PORT, bag_ms, LMIN, lmax, jitter_us, Policing::Byte) else {
         tell(errors, b"words BadRule\n");

@@ -7,6 +7,7 @@ ghost use Rattle.afdx_police.specs.RuleOf.{rule_of};
 ghost use Rattle.afdx_police.specs.Verdicts.{verdict_in};
 ghost use Rattle.afdx_lists.specs.Calls.{is_failed_read, is_failed_write};
 ghost use Rattle.afdx_lists.specs.FrameLines.{frame_of};
+ghost use Rattle.afdx_lists.specs.Watching.{calls_of, device_of, has_ended, has_failed};
 ghost use Rattle.afdx_replay.specs.Listed.{arrival_at};
 ghost use Rattle.afdx_replay.specs.Policed.{Answers};
 
@@ -84,18 +85,18 @@ pub fn run_police<R: Read, W: Write>(
     input: &mut Watched<R>,
     output: &mut Watched<W>,
 ) -> Result<Summary, RunFault>
-    requires sound_input { input.old.failed ≡ false }
-    requires unended { input.old.ended ≡ false }
-    requires sound_output { output.old.failed ≡ false }
-    ensures ended { OnOk result (input.new.ended ≡ true) }
-    ensures read { input.new.failed ≡ is_failed_read result }
-    ensures write { output.new.failed ≡ is_failed_write result }
-    ensures calls { input.new.calls ≤ input.old.calls + 4201000001 }
+    requires sound_input { has_failed input.old ≡ false }
+    requires unended { has_ended input.old ≡ false }
+    requires sound_output { has_failed output.old ≡ false }
+    ensures ended { OnOk result (has_ended input.new ≡ true) }
+    ensures read { has_failed input.new ≡ is_failed_read result }
+    ensures write { has_failed output.new ≡ is_failed_write result }
+    ensures calls { calls_of input.new ≤ calls_of input.old + 4201000001 }
 
     // Where the input's bytes are known: what is answered and written for the list that they are.
-    ensures answer { IfSome (R.remaining input.old.inner) (λ bytes.
-        Answers (rule_of rule.now) bytes (R.remaining input.new.inner)
-        (W.contents output.old.inner) (W.contents output.new.inner) result) }
+    ensures answer { IfSome (R.remaining (device_of input.old)) (λ bytes.
+        Answers (rule_of rule.now) bytes (R.remaining (device_of input.new))
+        (W.contents (device_of output.old)) (W.contents (device_of output.new)) result) }
 {
     let mut reader = LineReader::new(alloc)?;
     let mut policers = Policers::new(rule);

@@ -10,6 +10,7 @@ ghost use Rattle.afdx_systems.specs.StandsFor as systems;
 ghost use Rattle.afdx_network.specs.Events.{Event, Departure, arrivals_in};
 ghost use Rattle.afdx_network.specs.Network as network;
 ghost use Rattle.afdx_lists.specs.FrameLines.{frame_of};
+ghost use Rattle.afdx_lists.specs.Watching.{calls_of, device_of, has_ended, has_failed};
 ghost use Rattle.afdx_replay.specs.Listed.{arrival_at};
 ghost use Rattle.afdx_replay.specs.Replayed.{WritesSome, Answers, ToldAll, TellsDeparture, HasRoom};
 ghost use Rattle.afdx_replay.specs.Replayed.{IsOutputFault};
@@ -98,23 +99,24 @@ impl Replay {
     ) -> Result<(), RunFault>
         requires clock { network.IsUntil self.old.network until }
         requires room { (n : ℕ) × (n ≤ 1000000) × HasRoomFor self.old n }
-        requires sound { output.old.failed ≡ false }
-        ensures failed { output.new.failed ≡ is_failed_write result }
+        requires sound { has_failed output.old ≡ false }
+        ensures failed { has_failed output.new ≡ is_failed_write result }
         ensures fault { IfErr result IsOutputFault }
         ensures clock { network.IsUntil self.new.network until }
         ensures quiet { OnOk result (network.IsQuiet self.new.network until) }
         ensures room { (n : ℕ) → HasRoomFor self.old n → OnOk result (HasRoomFor self.new n) }
         ensures told { (t : Rows) (events : List Event) (start : Option (List ℕ)) →
-            Tells t self.old start (W.contents output.old.inner) events →
-            OnOk result (TellsMore t self.new start (W.contents output.new.inner) events) }
+            Tells t self.old start (W.contents (device_of output.old)) events →
+            OnOk result (TellsMore t self.new start (W.contents (device_of output.new)) events) }
         ensures some { (t : Rows) (events : List Event) (start : Option (List ℕ)) →
-            Tells t self.old start (W.contents output.old.inner) events →
-            OnErr result (WritesSome t start (W.contents output.new.inner) (arrivals_in events)) }
+            Tells t self.old start (W.contents (device_of output.old)) events →
+            OnErr result (WritesSome t start (W.contents (device_of output.new))
+            (arrivals_in events)) }
         ensures all_done { (t : Rows) (events : List Event) (start : Option (List ℕ)) →
-            Tells t self.old start (W.contents output.old.inner) events →
+            Tells t self.old start (W.contents (device_of output.old)) events →
             1200000000000000 ≤ until →
             OnOk result (ToldAll t self.new.counts start
-            (W.contents output.new.inner) (arrivals_in events)) }
+            (W.contents (device_of output.new)) (arrivals_in events)) }
     {
         while let Some(departed) = self.network.take(until) {
             self.put_lines(&departed)?;
@@ -135,19 +137,19 @@ impl Replay {
         requires sealed { heading.now.is_sealed ≡ is_sealed frame.now }
         requires clock { network.IsUntil self.old.network heading.now.time }
         requires room { (m : ℕ) × (m < 1000000) × HasRoomFor self.old m }
-        requires sound { output.old.failed ≡ false }
-        ensures failed { output.new.failed ≡ is_failed_write result }
+        requires sound { has_failed output.old ≡ false }
+        ensures failed { has_failed output.new ≡ is_failed_write result }
         ensures fault { IfErr result IsOutputFault }
         ensures clock { OnOk result (network.IsUntil self.new.network heading.now.time) }
         ensures room { (m : ℕ) → HasRoomFor self.old m → OnOk result (HasRoomFor self.new (m + 1)) }
         ensures told { (t : Rows) (start : Option (List ℕ)) (past : List Arrival) →
-            TellsArrivals t self.old start (W.contents output.old.inner) past →
-            OnOk result (TellsArrivals t self.new start (W.contents output.new.inner)
+            TellsArrivals t self.old start (W.contents (device_of output.old)) past →
+            OnOk result (TellsArrivals t self.new start (W.contents (device_of output.new))
             (arrival_at n (frame_of heading.now frame.now) ∷ past)) }
         ensures some { (t : Rows) (start : Option (List ℕ)) (past : List Arrival) →
-            TellsArrivals t self.old start (W.contents output.old.inner) past →
-            OnErr result (WritesSome t start (W.contents output.new.inner) past
-            ⊎ WritesSome t start (W.contents output.new.inner)
+            TellsArrivals t self.old start (W.contents (device_of output.old)) past →
+            OnErr result (WritesSome t start (W.contents (device_of output.new)) past
+            ⊎ WritesSome t start (W.contents (device_of output.new))
             (arrival_at n (frame_of heading.now frame.now) ∷ past)) }
     {
         self.tell_departures(heading.time, output)?;
@@ -179,18 +181,18 @@ pub fn run_unadmitted<R: Read, W: Write>(
     input: &mut Watched<R>,
     output: &mut Watched<W>,
 ) -> Result<Summary, RunFault>
-    requires sound_input { input.old.failed ≡ false }
-    requires unended { input.old.ended ≡ false }
-    requires sound_output { output.old.failed ≡ false }
-    ensures ended { OnOk result (input.new.ended ≡ true) }
-    ensures read { input.new.failed ≡ is_failed_read result }
-    ensures write { output.new.failed ≡ is_failed_write result }
-    ensures calls { input.new.calls ≤ input.old.calls + 4201000001 }
+    requires sound_input { has_failed input.old ≡ false }
+    requires unended { has_ended input.old ≡ false }
+    requires sound_output { has_failed output.old ≡ false }
+    ensures ended { OnOk result (has_ended input.new ≡ true) }
+    ensures read { has_failed input.new ≡ is_failed_read result }
+    ensures write { has_failed output.new ≡ is_failed_write result }
+    ensures calls { calls_of input.new ≤ calls_of input.old + 4201000001 }
 
     // Where the input's bytes are known: what is answered and written for the list that they are.
-    ensures answer { IfSome (R.remaining input.old.inner) (λ bytes.
-        Answers tables.now bytes (R.remaining input.new.inner)
-        (W.contents output.old.inner) (W.contents output.new.inner) result) }
+    ensures answer { IfSome (R.remaining (device_of input.old)) (λ bytes.
+        Answers tables.now bytes (R.remaining (device_of input.new))
+        (W.contents (device_of output.old)) (W.contents (device_of output.new)) result) }
 {
     let mut reader = LineReader::new(alloc)?;
     let network = Network::new(alloc, tables)?;

@@ -1,6 +1,7 @@
 //! The command `send`.
 ghost use Rattle.std.specs.Prelude.{◌≡◌, ◌≤◌, ◌+◌, ◌||◌, ◌⊎◌, Result, false, true};
 ghost use Rattle.afdx_lists.specs.declared.fault.RunFault.{RunFault};
+ghost use Rattle.afdx_lists.specs.Watching.{calls_of, device_of, has_ended, has_failed};
 ghost use Rattle.afdx_replay.specs.Commands.{EndsAs};
 ghost use Rattle.afdx_replay.specs.SendCommand.{Sends, IsNotSent};
 ghost use Rattle.afdx_replay.specs.declared.summary.Summary.{Summary};
@@ -29,23 +30,24 @@ pub fn send<R: Read, O: Write, E: Write>(
     output: &mut Watched<O>,
     errors: &mut Watched<E>,
 ) -> u8
-    requires sound_input { input.old.failed ≡ false }
-    requires unended { input.old.ended ≡ false }
-    requires sound_output { output.old.failed ≡ false }
+    requires sound_input { has_failed input.old ≡ false }
+    requires unended { has_ended input.old ≡ false }
+    requires sound_output { has_failed output.old ≡ false }
 
     // 0 comes only where the list came to its end, 4 wherever a device failed.
     ensures statuses { (result ≡ 0) ⊎ (result ≡ 1) ⊎ (result ≡ 2) ⊎ (result ≡ 3) ⊎ (result ≡ 4) }
     ensures done { result ≡ 0 →
-        (input.new.ended ≡ true) × (input.new.failed ≡ false) × (output.new.failed ≡ false) }
-    ensures device { (input.new.failed || output.new.failed) ≡ true → result ≡ 4 }
-    ensures calls { input.new.calls ≤ input.old.calls + 4201000001 }
+        (has_ended input.new ≡ true) × (has_failed input.new ≡ false)
+        × (has_failed output.new ≡ false) }
+    ensures device { (has_failed input.new || has_failed output.new) ≡ true → result ≡ 4 }
+    ensures calls { calls_of input.new ≤ calls_of input.old + 4201000001 }
 
     // The command ends as a run over the list answered, or nothing is read and nothing is written.
     ensures sends { ((answer : Result Summary RunFault)
         × EndsAs E.contents input.new output.new errors.old errors.new result answer
-        × Sends config.now system.now (R.remaining input.old.inner)
-        (R.remaining input.new.inner) (O.contents output.old.inner)
-        (O.contents output.new.inner) answer)
+        × Sends config.now system.now (R.remaining (device_of input.old))
+        (R.remaining (device_of input.new)) (O.contents (device_of output.old))
+        (O.contents (device_of output.new)) answer)
         ⊎ (IsNotSent E.contents config.now system.now errors.old errors.new result
         × (input.new ≡ input.old) × (output.new ≡ output.old)) }
 {

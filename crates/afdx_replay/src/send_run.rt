@@ -3,6 +3,7 @@ ghost use Rattle.std.specs.Prelude.{◌≡◌, ◌<◌, ◌≤◌, ◌+◌, ◌^
 ghost use Rattle.afdx_config.specs.Rows.{SystemRow};
 ghost use Rattle.afdx_lists.specs.Texts.{text_bytes};
 ghost use Rattle.afdx_lists.specs.Calls.{is_failed_read, is_failed_write};
+ghost use Rattle.afdx_lists.specs.Watching.{calls_of, device_of, has_ended, has_failed};
 ghost use Rattle.afdx_send.specs.Sender.{StandsFor, IsQuiet, frames_held, last_time, sending_of};
 ghost use Rattle.afdx_replay.specs.SendEvents.{Handed as HandedSubmission, Event, submissions_in, calls_in};
 ghost use Rattle.afdx_replay.specs.SendText.{sent_line, emission_lines, refusal_line, refusal_text, send_counts};
@@ -116,8 +117,8 @@ impl Sending {
         requires clock { last_time self.old.sender ≤ until }
         requires room { (n : ℕ) × (n ≤ 1000000) ×
             HasRoom self.old.counts (frames_held self.old.sender) n }
-        requires sound { output.old.failed ≡ false }
-        ensures failed { output.new.failed ≡ is_failed_write result }
+        requires sound { has_failed output.old ≡ false }
+        ensures failed { has_failed output.new ≡ is_failed_write result }
         ensures fault { IfErr result (λ fault.
             (fault ≡ RunFault.Write) ⊎ (fault ≡ RunFault.Memory)) }
         ensures clock { OnOk result (last_time self.new.sender ≡ until) }
@@ -126,14 +127,14 @@ impl Sending {
             OnOk result (HasRoom self.new.counts (frames_held self.new.sender) n) }
         ensures told { (s : Source) (events : List Event) (start : Option (List ℕ)) →
             HasTold s self.old.sender self.old.port self.old.counts start
-            (W.contents output.old.inner) events →
+            (W.contents (device_of output.old)) events →
             OnOk result (ToldUntil s until self.new.sender self.new.port self.new.counts start
-            (W.contents output.new.inner) events) }
+            (W.contents (device_of output.new)) events) }
         ensures some { (s : Source) (events : List Event) (start : Option (List ℕ)) →
             HasTold s self.old.sender self.old.port self.old.counts start
-            (W.contents output.old.inner) events →
+            (W.contents (device_of output.old)) events →
             OnErr result
-            (WritesSome s start (W.contents output.new.inner) (submissions_in events)) }
+            (WritesSome s start (W.contents (device_of output.new)) (submissions_in events)) }
     {
         while let Some(emission) = self.sender.emit(until)? {
             put_emission(&mut self.text, self.port, &emission)?;
@@ -193,8 +194,8 @@ impl Sending {
         requires clock { last_time self.old.sender ≤ handed.now.time }
         requires room { (m : ℕ) × (m < 1000000) ×
             HasRoom self.old.counts (frames_held self.old.sender) m }
-        requires sound { output.old.failed ≡ false }
-        ensures failed { output.new.failed ≡ is_failed_write result }
+        requires sound { has_failed output.old ≡ false }
+        ensures failed { has_failed output.new ≡ is_failed_write result }
         ensures fault { IfErr result (λ fault.
             (fault ≡ RunFault.Write) ⊎ (fault ≡ RunFault.Memory)) }
         ensures clock { OnOk result (last_time self.new.sender ≡ handed.now.time) }
@@ -202,14 +203,14 @@ impl Sending {
             OnOk result (HasRoom self.new.counts (frames_held self.new.sender) (m + 1)) }
         ensures told { (s : Source) (start : Option (List ℕ)) (past : List HandedSubmission) →
             AreTold s self.old.sender self.old.port self.old.counts start
-            (W.contents output.old.inner) past →
+            (W.contents (device_of output.old)) past →
             OnOk result (AreTold s self.new.sender self.new.port self.new.counts start
-            (W.contents output.new.inner) (handed_at n handed.now payload.now ∷ past)) }
+            (W.contents (device_of output.new)) (handed_at n handed.now payload.now ∷ past)) }
         ensures some { (s : Source) (start : Option (List ℕ)) (past : List HandedSubmission) →
             AreTold s self.old.sender self.old.port self.old.counts start
-            (W.contents output.old.inner) past →
-            OnErr result (WritesSome s start (W.contents output.new.inner) past
-            ⊎ WritesSome s start (W.contents output.new.inner)
+            (W.contents (device_of output.old)) past →
+            OnErr result (WritesSome s start (W.contents (device_of output.new)) past
+            ⊎ WritesSome s start (W.contents (device_of output.new))
             (handed_at n handed.now payload.now ∷ past)) }
     {
         self.tell_emissions(handed.time, output)?;
@@ -238,19 +239,19 @@ pub fn run_send<R: Read, W: Write>(
     output: &mut Watched<W>,
 ) -> Result<Summary, RunFault>
     requires system { system.0 < length tables.now.systems }
-    requires sound_input { input.old.failed ≡ false }
-    requires unended { input.old.ended ≡ false }
-    requires sound_output { output.old.failed ≡ false }
-    ensures ended { OnOk result (input.new.ended ≡ true) }
-    ensures read { input.new.failed ≡ is_failed_read result }
-    ensures write { output.new.failed ≡ is_failed_write result }
-    ensures calls { input.new.calls ≤ input.old.calls + 4201000001 }
+    requires sound_input { has_failed input.old ≡ false }
+    requires unended { has_ended input.old ≡ false }
+    requires sound_output { has_failed output.old ≡ false }
+    ensures ended { OnOk result (has_ended input.new ≡ true) }
+    ensures read { has_failed input.new ≡ is_failed_read result }
+    ensures write { has_failed output.new ≡ is_failed_write result }
+    ensures calls { calls_of input.new ≤ calls_of input.old + 4201000001 }
 
     // Where the input's bytes are known: what is answered and written for the list that they are.
     ensures answer { (row : SystemRow) → slice_get tables.now.systems system.0 ≡ Some row →
-        IfSome (R.remaining input.old.inner) (λ bytes.
-        Answers (source_at tables.now system.0 row) bytes (R.remaining input.new.inner)
-        (W.contents output.old.inner) (W.contents output.new.inner) result) }
+        IfSome (R.remaining (device_of input.old)) (λ bytes.
+        Answers (source_at tables.now system.0 row) bytes (R.remaining (device_of input.new))
+        (W.contents (device_of output.old)) (W.contents (device_of output.new)) result) }
 {
     let mut reader = LineReader::new(alloc)?;
     let sender = Sender::new(alloc, tables, system)?;

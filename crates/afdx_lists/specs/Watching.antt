@@ -1,0 +1,19 @@
+-- What is known of a watched reader or writer.
+use Rattle.std.specs.Prelude.{ℕ, Bool}
+use Rattle.afdx_lists.specs.declared.watched.Watched.{Watched}
+
+-- the reader or writer that is watched
+abbrev pub device_of : {T : Type 0} → Watched T → T
+device_of watched = watched.inner
+
+-- whether a call failed, or a write of some bytes took none of them
+abbrev pub has_failed : {T : Type 0} → Watched T → Bool
+has_failed watched = watched.failed
+
+-- whether a read into some room gave no byte
+abbrev pub has_ended : {T : Type 0} → Watched T → Bool
+has_ended watched = watched.ended
+
+-- how many reads and writes were made, up to the greatest u64
+abbrev pub calls_of : {T : Type 0} → Watched T → ℕ
+calls_of watched = watched.calls
