@@ -8,6 +8,7 @@ use Rattle.afdx_police.specs.declared.shape.Reason.{Reason}
 use Rattle.afdx_port.specs.Due.{IsBy}
 use Rattle.afdx_port.specs.History.{left_of, due_at}
 use Rattle.afdx_port.specs.Schedule.{Turn}
+use Rattle.afdx_switch.specs.Departures.{as_given, giving_port}
 use Rattle.afdx_switch.specs.Carried.{Carried}
 use Rattle.afdx_switch.specs.Switching as switch
 use Rattle.afdx_switch.specs.Switching.{IsNextAt, taken_at}
@@ -89,8 +90,8 @@ pub record StandsFor (t : Rows) (n : Network) (events : List Event) : Type 0 whe
 -- what is handed out for a departure
 pub record Hands (value : Departed) (d : Departure) : Type 0 where
   pub side : value.side ≡ d.side
-  pub port : value.departure.port ≡ d.port
-  pub left : value.departure.left ≡ left_of d.turn
+  pub port : giving_port value.departure ≡ d.port
+  pub left : as_given value.departure ≡ left_of d.turn
 
 -- the next event is a departure, it is given by then, and its frame is handed out
 pub record Gives (t : Rows) (events : List Event) (until : ℕ) (value : Departed)

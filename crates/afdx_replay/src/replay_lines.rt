@@ -2,6 +2,7 @@
 ghost use Rattle.std.specs.Prelude.{◌≡◌, ℕ, ◌++◌, ◌≤◌, [], if◌then◌else◌, OnOk, IfOk, length};
 ghost use Rattle.afdx_lists.specs.Texts.{text_bytes};
 ghost use Rattle.afdx_network.specs.Network.{reason_in, ports_in, lost_in};
+ghost use Rattle.afdx_switch.specs.Departures.{as_given, giving_port};
 ghost use Rattle.afdx_replay.specs.PoliceText.{verdict_line};
 ghost use Rattle.afdx_replay.specs.ReplayText.{loss_line, loss_lines, departure_line};
 
@@ -81,9 +82,10 @@ pub(crate) fn put_admission(
 
 /// Puts the D or T line of a departure in the place of `text`.
 pub(crate) fn put_departure(text: &mut Text, departed: &Departed) -> Result<(), AllocError>
-    ensures { let d = departed.now.departure in
+    ensures { let left = as_given departed.now.departure in
         OnOk result (text_bytes text.new
-        ≡ departure_line d.left.too_old d.left.item.tag d.left.end departed.now.side d.port) }
+        ≡ departure_line left.too_old left.item.tag left.end departed.now.side
+        (giving_port departed.now.departure)) }
 {
     let side = side_letter(departed.side);
     let n = departed.departure.tag();

@@ -4,10 +4,12 @@ pub mod CarriedLaw
 pub mod Tables
 pub mod Verdicts
 pub mod Lines
+pub mod Departures
 pub mod Switching
 pub mod Sound
 pub mod Shares
 pub mod New
 pub mod Laws
+pub mod LinkFrames
 pub mod Admitted
 pub mod Regular

@@ -13,6 +13,7 @@ use Rattle.afdx_port.specs.declared.pending.Pending.{Pending}
 use Rattle.afdx_bounds.specs.Outputs.{Row}
 use Rattle.afdx_switch.specs.Carried.{Carried, facts}
 use Rattle.afdx_switch.specs.Tables.{rows_of, byte_ns_at, buffer_at, entries_at}
+use Rattle.afdx_switch.specs.Departures.{as_given, giving_port}
 use Rattle.afdx_switch.specs.declared.line.Line.{Line}
 use Rattle.afdx_switch.specs.declared.switch.Departure.{Departure}
 use Rattle.afdx_switch.specs.declared.working.Working.{Working}
@@ -114,8 +115,8 @@ frames_held w = sum_by (λ p. held.frames_held p) w.ports.items
 
 -- what a departure hands out
 pub record Hands (d : Departure) (gone : PortTurn) : Type 0 where
-  pub port : d.port ≡ gone.port
-  pub left : d.left ≡ queue.left_of gone.turn
+  pub port : giving_port d ≡ gone.port
+  pub left : as_given d ≡ queue.left_of gone.turn
 
 -- the next turn is given, which is given by then
 pub record Gives (t : Rows) (side : Side) (h : History) (until : ℕ) (d : Departure)

@@ -2,6 +2,7 @@
 //! stand on them.
 ghost use Rattle.afdx_switch.specs.Admitted.{AcceptedIsKept, AcceptedEnter, TurnsAreInTime, AllHaveLeft};
 ghost use Rattle.afdx_switch.specs.Laws.{VerdictsAreOwn, EntriesGrow, TakenAreTurns, LinksGoInOrder, OtherSideIsApart, LostPortsAreListed, PortsAreOfSystems};
+ghost use Rattle.afdx_switch.specs.LinkFrames.{FramesAreOwn, AllFramesAreOwn, OthersGetNone};
 
 /// A verdict comes from the own arrivals of the link that the frame names.
 pub fn verdicts_are_own()
@@ -23,6 +24,16 @@ pub fn taken_are_turns()
 /// At each port the frames of a link have their turns in the order in which they came.
 pub fn links_go_in_order()
     ensures { LinksGoInOrder }
+{}
+
+/// What a port gives of a link's frames is a beginning of what entered there of the link's own
+/// arrivals on that side: those that are accepted, less those that are lost, byte for byte, with
+/// their tags and in order; all of it once each entry has had its turn. At a port that the link
+/// doesn't go to there is none. So it is on any tables, admitted or not.
+pub fn frames_are_own()
+    ensures given { FramesAreOwn }
+    ensures all { AllFramesAreOwn }
+    ensures others { OthersGetNone }
 {}
 
 /// What arrives at the switch of the other side changes nothing.

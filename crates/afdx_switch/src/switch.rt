@@ -21,31 +21,32 @@ pub struct Departure {
 impl Departure {
     ghost use Rattle.std.specs.Prelude.{true};
     ghost use Rattle.afdx_frame.specs.Sealing.{is_sealed};
+    ghost use Rattle.afdx_switch.specs.Departures.{as_given, giving_port};
 
     /// When its slot ended, in ns. For a frame that was dropped as too old, the moment of its turn.
     pub fn time(&self) -> u64
-        ensures { result ≡ self.now.left.end }
+        ensures { result ≡ (as_given self.now).end }
     {
         self.left.end
     }
 
     /// The output port, 1 to 24.
     pub fn port(&self) -> u8
-        ensures { result ≡ self.now.port }
+        ensures { result ≡ giving_port self.now }
     {
         self.port
     }
 
     /// The tag of its arrival.
     pub fn tag(&self) -> u64
-        ensures { result ≡ self.now.left.item.tag }
+        ensures { result ≡ (as_given self.now).item.tag }
     {
         self.left.item.tag()
     }
 
     /// All bytes of the frame. Its check sequence was right when it arrived, and is.
     pub fn bytes(&self) -> &[u8]
-        ensures bytes { result.now ≡ self.now.left.item.bytes }
+        ensures bytes { result.now ≡ (as_given self.now).item.bytes }
         ensures sealed { is_sealed result.now ≡ true }
     {
         self.left.item.bytes()
@@ -53,7 +54,7 @@ impl Departure {
 
     /// The frame was dropped: its turn came when it had waited too long.
     pub fn too_old(&self) -> bool
-        ensures { result ≡ self.now.left.too_old }
+        ensures { result ≡ (as_given self.now).too_old }
     {
         self.left.too_old
     }
