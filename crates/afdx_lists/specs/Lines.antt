@@ -37,6 +37,10 @@ abbrev pub WholeLinesAreFirst : Type 0
 WholeLinesAreFirst = (front rest : List ℕ) →
     take (length (whole_lines_of front)) (lines_of (front ++ rest)) ≡ whole_lines_of front
 
+-- the most reads of a list: 4,201 for each of 1,000,000 lines, and the one that finds the end
+abbrev pub most_reads : ℕ
+most_reads = 4201000001
+
 -- no byte is a line feed
 abbrev pub HasNoFeed : List ℕ → Type 0
 HasNoFeed bytes = All (λ byte. (byte == 10) ≡ false) bytes

@@ -1,5 +1,6 @@
 //! The switches of both sides as one.
 ghost use Rattle.std.specs.Prelude.{◌≡◌, ℕ, ◌+◌, ◌≤◌, ◌∷◌, [], List, Option, IfSome, IfNone, IfOk, OnOk, OnErr, MatchOption, None};
+ghost use Rattle.afdx_port.specs.Times.{drain_end, latest_put};
 ghost use Rattle.afdx_network.specs.First.{IsFirstSide, IsOrder};
 
 use afdx_config::Tables;
@@ -83,7 +84,7 @@ impl Network {
         bytes: &[u8],
         sealed: bool,
     ) -> Result<Verdict, AllocError>
-        requires limit { time ≤ 1000032768000000 }
+        requires limit { time ≤ latest_put }
         requires sealed { sealed ≡ is_sealed bytes.now }
         requires clock { IsUntil self.old time }
         requires quiet { IsQuiet self.old time }
@@ -119,7 +120,7 @@ impl Network {
         ensures none { IfNone result (self.new ≡ self.old) }
         ensures quiet { IfNone result (IsQuiet self.new until) }
         ensures all_done { (t : Rows) (events : List Event) → StandsFor t self.old events →
-            1200000000000000 ≤ until → IfNone result (AreEvents t (arrivals_in events) events) }
+            drain_end ≤ until → IfNone result (AreEvents t (arrivals_in events) events) }
         ensures held { MatchOption result (frames_held self.new ≡ frames_held self.old)
             (λ _. frames_held self.new + 1 ≡ frames_held self.old) }
         ensures clock { IsUntil self.new until }

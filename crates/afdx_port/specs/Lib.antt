@@ -1,3 +1,4 @@
+pub mod Times
 pub mod Facts
 pub mod Schedule
 pub mod ScheduleOf

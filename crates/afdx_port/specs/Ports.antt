@@ -1,5 +1,6 @@
 -- Which of several ports gives its turn first.
 use Rattle.std.specs.Prelude.{◌≡◌, ℕ, ◌<◌, ◌≤◌, nat_lt, if◌then◌else◌, List, length, Option, Some, None, slice_get}
+use Rattle.afdx_port.specs.Times.{drain_end}
 use Rattle.afdx_port.specs.declared.left.Due.{Due}
 use Rattle.afdx_port.specs.declared.pending.Pending.{Pending}
 use Rattle.afdx_port.specs.Facts.{Facts}
@@ -25,7 +26,7 @@ module _ {X : Type 0} where
   -- what is due at the first n ports is given by 1.2e15 ns
   abbrev pub AreLimited : (X → Facts) → List (Pending X) → ℕ → Type 0
   AreLimited facts ports n = (place : ℕ) (p : Pending X) (d : Due) → place < n →
-      slice_get ports place ≡ Some p → due_of facts p ≡ Some d → given_at d ≤ 1200000000000000
+      slice_get ports place ≡ Some p → due_of facts p ≡ Some d → given_at d ≤ drain_end
 
   -- of these ports this one's turn is the first; if none has a turn to come, it is the first port
   pub record IsFirst (facts : X → Facts) (ports : List (Pending X)) (place : ℕ) : Type 0 where

@@ -1,6 +1,7 @@
 -- What is true of every port, and what a step leaves as it was.
 use Rattle.std.specs.Prelude.{◌≡◌, ◌+◌, ◌*◌, ◌<◌, ◌≤◌, length, sum_by}
 use Rattle.std.specs.List.{AllByRecursion}
+use Rattle.afdx_port.specs.Times.{latest_put, longest_slot}
 use Rattle.afdx_frame.specs.declared.link.Priority.{Priority}
 use Rattle.afdx_frame.specs.declared.link.Priority.TheVariants.{High, Low}
 use Rattle.afdx_port.specs.declared.pending.Pending.{Pending}
@@ -28,8 +29,8 @@ module _ {X : Type 0} where
     pub within : p.waiting ≤ p.buffer
     pub high_room : p.buffer < 64 * (p.high.capacity + 1)
     pub low_room : p.buffer < 64 * (p.low.capacity + 1)
-    pub high_times : AllByRecursion (λ w. w.time ≤ 1000032768000000) p.high.items
-    pub low_times : AllByRecursion (λ w. w.time ≤ 1000032768000000) p.low.items
+    pub high_times : AllByRecursion (λ w. w.time ≤ latest_put) p.high.items
+    pub low_times : AllByRecursion (λ w. w.time ≤ latest_put) p.low.items
     -- a slot takes at most 1,230,400 ns
-    pub soon : p.free ≤ p.clock + 1230400
-    pub ends : p.free + (length p.high.items + length p.low.items) * 1230400 ≤ 1100000000000000
+    pub soon : p.free ≤ p.clock + longest_slot
+    pub ends : p.free + (length p.high.items + length p.low.items) * longest_slot ≤ 1100000000000000

@@ -1,5 +1,6 @@
 //! What leaves a port, and when.
 ghost use Rattle.std.specs.Prelude.{◌<◌, ◌↔◌, IsTrue};
+ghost use Rattle.afdx_port.specs.Times.{drain_end};
 
 use afdx_frame::Priority;
 
@@ -40,7 +41,7 @@ impl Due {
     /// The place of the turn in the order in which ports are served together: by time, and at one
     /// time slots before drops.
     pub(crate) fn order(&self) -> u64
-        requires { given_at self.now ≤ 1200000000000000 }
+        requires { given_at self.now ≤ drain_end }
         ensures { result ≡ order_of self.now }
     {
         if self.too_old {

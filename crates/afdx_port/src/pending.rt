@@ -1,5 +1,6 @@
 //! What a port still has to do: its two queues, and the frame that is being sent.
 ghost use Rattle.std.specs.Prelude.{◌≡◌, ℕ, ◌+◌, ◌-◌, ◌*◌, ◌/◌, ◌<◌, ◌≤◌, ◌^◌, ◌⊎◌, ◌↔◌, [], ◌∷◌, ◌++◌, List, Some, None, IfOk, IfErr, OnOk, OnErr, IsErr, IfSome, OnSome, IfNone, MatchOption, MatchResult, option_copied, slice_get};
+ghost use Rattle.afdx_port.specs.Times.{drain_end, latest_put, longest_slot};
 ghost use Rattle.afdx_frame.specs.declared.link.Priority.{Priority};
 ghost use Rattle.afdx_port.specs.Schedule.{Entry, Turn, is_past, IsNext, IsSchedule, IsLost};
 
@@ -106,7 +107,7 @@ impl<T: HasLength> Pending<T> {
     fn turn_of(&self, waiting: &Waiting<T>, moment: u64) -> Due
         requires came { waiting.now.time ≤ moment }
         requires rate { self.now.byte_ns ≤ 800 }
-        requires fits { moment + 1230400 < 2 ^ 64 }
+        requires fits { moment + longest_slot < 2 ^ 64 }
         ensures { result ≡ due_from T.facts self.now.byte_ns waiting.now moment }
     {
         let too_old = is_too_old(waiting.item.longest_wait(), waiting.time, moment);
@@ -122,7 +123,7 @@ impl<T: HasLength> Pending<T> {
     pub(crate) fn due(&self) -> Option<Due>
         requires sound { IsSound T.facts self.now }
         ensures due { result ≡ due_of T.facts self.now }
-        ensures limit { IfSome result (λ due. given_at due ≤ 1200000000000000) }
+        ensures limit { IfSome result (λ due. given_at due ≤ drain_end) }
     {
         if let Some(left) = &self.sending {
             return Some(Due {
@@ -202,7 +203,7 @@ impl<T: HasLength> Pending<T> {
 
     pub(crate) fn put(&mut self, time: u64, priority: Priority, item: T) -> Result<(), T>
         requires clock { self.old.clock ≤ time }
-        requires limit { time ≤ 1000032768000000 }
+        requires limit { time ≤ latest_put }
         requires quiet { IsQuiet T.facts self.old time }
         requires sound { IsSound T.facts self.old }
         ensures sound { IsSound T.facts self.new }
@@ -252,7 +253,7 @@ impl<T: HasLength> Pending<T> {
         ensures no_more { (h : History T) (s : Turn T) → StandsFor T.facts self.old h →
             IsNext h.byte_ns h.entries h.taken s → IfNone result (IsAfter until (due_at s)) }
         ensures all_done { (h : History T) → StandsFor T.facts self.old h →
-            1200000000000000 ≤ until → IfNone result (IsSchedule h.byte_ns h.entries h.taken) }
+            drain_end ≤ until → IfNone result (IsSchedule h.byte_ns h.entries h.taken) }
     {
         self.advance(until);
         let is_over = self.free <= until;

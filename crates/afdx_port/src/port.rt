@@ -1,5 +1,6 @@
 //! An output port.
 ghost use Rattle.std.specs.Prelude.{◌≡◌, ℕ, ◌+◌, ◌<◌, ◌≤◌, ◌↔◌, ◌++◌, List, Some, None, IfOk, IfErr, OnOk, OnErr, IsErr, IsTrue, IfSome, IfNone, MatchOption, MatchResult};
+ghost use Rattle.afdx_port.specs.Times.{drain_end, latest_put};
 ghost use Rattle.afdx_port.specs.Schedule.{Turn, IsNext, AreTurns, IsSchedule, IsLost};
 ghost use Rattle.afdx_port.specs.ScheduleOf.{AreInOrder, schedule_of};
 ghost use Rattle.afdx_port.specs.Due.{given_at};
@@ -26,7 +27,7 @@ pub struct Port<T: HasLength> {
 
 /// The place of a turn in the order in which ports are served together.
 fn order(due: Option<Due>) -> u64
-    requires { IfSome due (λ d. given_at d ≤ 1200000000000000) }
+    requires { IfSome due (λ d. given_at d ≤ drain_end) }
     ensures { result ≡ order_at due }
 {
     match due {
@@ -83,7 +84,7 @@ impl<T: HasLength> Port<T> {
     /// last time used.
     pub fn put(&mut self, time: u64, priority: Priority, item: T) -> Result<(), T>
         requires clock { last_time self.old ≤ time }
-        requires limit { time ≤ 1000032768000000 }
+        requires limit { time ≤ latest_put }
         requires quiet { IsQuiet T.facts self.old time }
         ensures ok { (h : History T) → StandsFor T.facts self.old h →
             OnOk result (StandsFor T.facts self.new
@@ -119,7 +120,7 @@ impl<T: HasLength> Port<T> {
             × (due ≡ due_at s)) }
         ensures all_done { (h : History T) → StandsFor T.facts self.now h →
             IfNone result (IsSchedule h.byte_ns h.entries h.taken) }
-        ensures limit { IfSome result (λ due. given_at due ≤ 1200000000000000) }
+        ensures limit { IfSome result (λ due. given_at due ≤ drain_end) }
     {
         self.due
     }
@@ -128,7 +129,7 @@ impl<T: HasLength> Port<T> {
     /// number if the port holds nothing.
     pub(crate) fn order(&self) -> u64
         ensures is { result ≡ order_at (due_of T.facts self.now) }
-        ensures limit { IfSome (due_of T.facts self.now) (λ due. given_at due ≤ 1200000000000000) }
+        ensures limit { IfSome (due_of T.facts self.now) (λ due. given_at due ≤ drain_end) }
     {
         self.order
     }
@@ -152,7 +153,7 @@ impl<T: HasLength> Port<T> {
         ensures no_more { (h : History T) (s : Turn T) → StandsFor T.facts self.old h →
             IsNext h.byte_ns h.entries h.taken s → IfNone result (IsAfter until (due_at s)) }
         ensures all_done { (h : History T) → StandsFor T.facts self.old h →
-            1200000000000000 ≤ until → IfNone result (IsSchedule h.byte_ns h.entries h.taken) }
+            drain_end ≤ until → IfNone result (IsSchedule h.byte_ns h.entries h.taken) }
         ensures quiet { IfNone result (IsQuiet T.facts self.new until) }
         ensures held { MatchOption result (frames_held self.new ≡ frames_held self.old)
             (λ _. frames_held self.new + 1 ≡ frames_held self.old) }

@@ -1,6 +1,7 @@
 -- The events of a run that sends: what its system emits, and what became of each submission.
 -- Lists of events and of submissions have the latest first.
 use Rattle.std.specs.Prelude.{ℕ, ◌<◌, ◌≤◌, ◌≡◌, ◌==◌, if◌then◌else◌, List, [], ◌∷◌, ◌++◌, length, map, Option, Some, None}
+use Rattle.afdx_port.specs.Times.{drain_end}
 use Rattle.afdx_config.specs.Rows.{SystemRow, LinkRow}
 use Rattle.afdx_lists.specs.SubmissionLines.{Submission, submission_said}
 use Rattle.afdx_port.specs.Schedule.{Turn, end_of}
@@ -98,4 +99,4 @@ IsAtSubmission (Submitted x fault ∷ before) = Unit {0}
 
 -- all messages that were taken are emitted
 abbrev pub AreDone : SystemRow → List LinkRow → List Event → Type 0
-AreDone s links events = AreAllEmitted (calls_in s links events 1200000000000000)
+AreDone s links events = AreAllEmitted (calls_in s links events drain_end)

@@ -1,6 +1,7 @@
 -- How far a run that sends has come, and what it works with.
 use Rattle.std.specs.Prelude.{ℕ, ◌+◌, ◌<◌, ◌≤◌, ◌≡◌, List, ◌∷◌, Option}
 use Rattle.std.specs.Io.KnownBytes.{Appends}
+use Rattle.afdx_port.specs.Times.{drain_end}
 use Rattle.afdx_lists.specs.SubmissionLines.{submission_of}
 use Rattle.afdx_lists.specs.declared.submission_line.Handed.{Handed as HandedLine}
 use Rattle.afdx_port.specs.Schedule.{Turn, end_of}
@@ -48,7 +49,7 @@ pub record ToldUntil (s : Source) (until : ℕ) (w : Working) (port : ℕ) (coun
   pub told : ToldMore s w port counts old new events
   pub no_more : (turn : Turn Frame) →
       IsNextIn (calls_in s.row s.links told.more until) turn → until < turn.end
-  pub done : 1200000000000000 ≤ until → AreDone s.row s.links told.more
+  pub done : drain_end ≤ until → AreDone s.row s.links told.more
 
 -- a submission that comes after these events was handed to the sender, which took it or refused
 -- it, and it is counted

@@ -1,5 +1,6 @@
 //! A run of an admitted network: a replay that keeps the promises.
 ghost use Rattle.std.specs.Prelude.{◌≡◌, ℕ, ◌+◌, ◌≤◌, OnOk, IfSome, true, false};
+ghost use Rattle.afdx_lists.specs.Lines.{most_reads};
 ghost use Rattle.afdx_lists.specs.Calls.{is_failed_read, is_failed_write};
 ghost use Rattle.afdx_lists.specs.Watching.{calls_of, device_of, has_ended, has_failed};
 ghost use Rattle.afdx_replay.specs.Replayed.{Answers};
@@ -39,7 +40,7 @@ pub fn run<R: Read, W: Write>(
     ensures ended { OnOk result (has_ended input.new ≡ true) }
     ensures read { has_failed input.new ≡ is_failed_read result }
     ensures write { has_failed output.new ≡ is_failed_write result }
-    ensures calls { calls_of input.new ≤ calls_of input.old + 4201000001 }
+    ensures calls { calls_of input.new ≤ calls_of input.old + most_reads }
 
     // Where the input's bytes are known: what is answered and written for the list that they are.
     ensures answer { IfSome (R.remaining (device_of input.old)) (λ bytes.

@@ -1,5 +1,6 @@
 //! The command `police`.
 ghost use Rattle.std.specs.Prelude.{◌≡◌, ◌≤◌, ◌+◌, ◌||◌, ◌⊎◌, ℕ, Result, IfSome, codes, false, true};
+ghost use Rattle.afdx_lists.specs.Lines.{most_reads};
 ghost use Rattle.afdx_police.specs.Rule.{IsRule};
 ghost use Rattle.afdx_lists.specs.Telling.{Tells};
 ghost use Rattle.afdx_replay.specs.Commands.{commanded_rule, EndsAs};
@@ -47,7 +48,7 @@ pub fn police<R: Read, O: Write, E: Write>(
     ensures done { result ≡ 0 → (has_ended input.new ≡ true) × (has_failed input.new ≡ false)
         × (has_failed output.new ≡ false) }
     ensures device { (has_failed input.new || has_failed output.new) ≡ true → result ≡ 4 }
-    ensures calls { calls_of input.new ≤ calls_of input.old + 4201000001 }
+    ensures calls { calls_of input.new ≤ calls_of input.old + most_reads }
 
     // A value out of range: nothing is read and nothing is written.
     ensures out_of_range { (IsRule (commanded_rule bag_ms lmax jitter_us) → ⊥) → result ≡ 2 }

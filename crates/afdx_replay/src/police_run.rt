@@ -1,5 +1,6 @@
 //! A run that polices the frames of one link.
 ghost use Rattle.std.specs.Prelude.{◌≡◌, ◌<◌, ◌≤◌, ◌+◌, ◌-◌, ◌^◌, if◌then◌else◌, ◌∷◌, [], ℕ, List, IfSome, OnOk, true, false};
+ghost use Rattle.afdx_lists.specs.Lines.{most_reads};
 ghost use Rattle.afdx_frame.specs.Sealing.{is_sealed};
 ghost use Rattle.afdx_police.specs.Arrival.{Arrival};
 ghost use Rattle.afdx_police.specs.Rule.{Rule};
@@ -91,7 +92,7 @@ pub fn run_police<R: Read, W: Write>(
     ensures ended { OnOk result (has_ended input.new ≡ true) }
     ensures read { has_failed input.new ≡ is_failed_read result }
     ensures write { has_failed output.new ≡ is_failed_write result }
-    ensures calls { calls_of input.new ≤ calls_of input.old + 4201000001 }
+    ensures calls { calls_of input.new ≤ calls_of input.old + most_reads }
 
     // Where the input's bytes are known: what is answered and written for the list that they are.
     ensures answer { IfSome (R.remaining (device_of input.old)) (λ bytes.

@@ -1,5 +1,6 @@
 //! The command `replay`.
 ghost use Rattle.std.specs.Prelude.{◌≡◌, ◌≤◌, ◌+◌, ◌||◌, ◌⊎◌, Result, false, true};
+ghost use Rattle.afdx_lists.specs.Lines.{most_reads};
 ghost use Rattle.afdx_lists.specs.declared.fault.RunFault.{RunFault};
 ghost use Rattle.afdx_lists.specs.Watching.{calls_of, device_of, has_ended, has_failed};
 ghost use Rattle.afdx_replay.specs.Commands.{EndsAs};
@@ -38,7 +39,7 @@ pub fn replay<R: Read, O: Write, E: Write>(
     ensures done { result ≡ 0 → (has_ended input.new ≡ true) × (has_failed input.new ≡ false)
         × (has_failed output.new ≡ false) }
     ensures device { (has_failed input.new || has_failed output.new) ≡ true → result ≡ 4 }
-    ensures calls { calls_of input.new ≤ calls_of input.old + 4201000001 }
+    ensures calls { calls_of input.new ≤ calls_of input.old + most_reads }
 
     // The command ends as a run over the list answered, or nothing is read and nothing is written.
     ensures replays { ((answer : Result Summary RunFault)

@@ -1,5 +1,7 @@
 //! A run that replays a list through the switches of both sides and the systems behind them.
 ghost use Rattle.std.specs.Prelude.{◌≡◌, ℕ, ◌+◌, ◌*◌, ◌-◌, ◌^◌, ◌≤◌, ◌<◌, ◌⊎◌, ◌++◌, ◌∷◌, [], List, Option, length, OnOk, OnErr, IfErr, IfSome, true, false};
+ghost use Rattle.afdx_port.specs.Times.{drain_end};
+ghost use Rattle.afdx_lists.specs.Lines.{most_reads};
 ghost use Rattle.afdx_config.specs.Rows.{Rows};
 ghost use Rattle.afdx_frame.specs.Sealing.{is_sealed};
 ghost use Rattle.afdx_police.specs.Arrival.{Arrival};
@@ -114,7 +116,7 @@ impl Replay {
             (arrivals_in events)) }
         ensures all_done { (t : Rows) (events : List Event) (start : Option (List ℕ)) →
             Tells t self.old start (W.contents (device_of output.old)) events →
-            1200000000000000 ≤ until →
+            drain_end ≤ until →
             OnOk result (ToldAll t self.new.counts start
             (W.contents (device_of output.new)) (arrivals_in events)) }
     {
@@ -187,7 +189,7 @@ pub fn run_unadmitted<R: Read, W: Write>(
     ensures ended { OnOk result (has_ended input.new ≡ true) }
     ensures read { has_failed input.new ≡ is_failed_read result }
     ensures write { has_failed output.new ≡ is_failed_write result }
-    ensures calls { calls_of input.new ≤ calls_of input.old + 4201000001 }
+    ensures calls { calls_of input.new ≤ calls_of input.old + most_reads }
 
     // Where the input's bytes are known: what is answered and written for the list that they are.
     ensures answer { IfSome (R.remaining (device_of input.old)) (λ bytes.

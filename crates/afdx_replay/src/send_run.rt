@@ -1,5 +1,6 @@
 //! A run that sends the messages of a list.
 ghost use Rattle.std.specs.Prelude.{◌≡◌, ◌<◌, ◌≤◌, ◌+◌, ◌^◌, ◌⊎◌, ◌++◌, ◌∷◌, ℕ, List, Option, Some, IfOk, IfErr, IfSome, OnOk, OnErr, length, slice_get, true, false};
+ghost use Rattle.afdx_lists.specs.Lines.{most_reads};
 ghost use Rattle.afdx_config.specs.Rows.{SystemRow};
 ghost use Rattle.afdx_lists.specs.Texts.{text_bytes};
 ghost use Rattle.afdx_lists.specs.Calls.{is_failed_read, is_failed_write};
@@ -245,7 +246,7 @@ pub fn run_send<R: Read, W: Write>(
     ensures ended { OnOk result (has_ended input.new ≡ true) }
     ensures read { has_failed input.new ≡ is_failed_read result }
     ensures write { has_failed output.new ≡ is_failed_write result }
-    ensures calls { calls_of input.new ≤ calls_of input.old + 4201000001 }
+    ensures calls { calls_of input.new ≤ calls_of input.old + most_reads }
 
     // Where the input's bytes are known: what is answered and written for the list that they are.
     ensures answer { (row : SystemRow) → slice_get tables.now.systems system.0 ≡ Some row →

@@ -1,5 +1,6 @@
 //! A sending end system, as its callers see it.
 ghost use Rattle.std.specs.Prelude.{◌≡◌, ℕ, ◌+◌, ◌<◌, ◌≤◌, IfOk, IfErr, OnOk, OnErr, IfSome, IfNone, MatchOption, length, slice_get, Some};
+ghost use Rattle.afdx_port.specs.Times.{drain_end};
 
 use crate::build::build;
 use crate::fault::SendFault;
@@ -108,7 +109,7 @@ impl Sender {
             IfOk result (λ o. IfNone o (StandsFor self.new (at h until))) }
         ensures no_more { (h : History) (s : Turn Frame) → StandsFor self.old h → IsNextIn h s →
             IfOk result (λ o. IfNone o (until < s.end)) }
-        ensures all_done { (h : History) → StandsFor self.old h → 1200000000000000 ≤ until →
+        ensures all_done { (h : History) → StandsFor self.old h → drain_end ≤ until →
             IfOk result (λ o. IfNone o (AreAllEmitted h)) }
         ensures again { (h : History) → StandsFor self.old h →
             OnErr result (StandsFor self.new (at h until)) }

@@ -1,5 +1,6 @@
 //! What a sender does with its links and its output port.
 ghost use Rattle.std.specs.Prelude.{◌≡◌, ℕ, ◌+◌, ◌^◌, ◌<◌, ◌≤◌, ◌↔◌, Option, Some, None, IfSome, IfNone, IfOk, IfErr, OnOk, OnErr, MatchOption, length, slice_get, sum_by, vec_len};
+ghost use Rattle.afdx_port.specs.Times.{drain_end};
 
 use crate::agenda::Agenda;
 use crate::fault::SendFault;
@@ -73,7 +74,7 @@ impl Working {
         ensures port_clock { held.last_time self.new.output ≡ until }
         ensures held { held.frames_held self.new.output + ready_count self.new.ready
             ≡ held.frames_held self.old.output }
-        ensures done { (h : History) → StandsFor self.old h → 1200000000000000 ≤ until →
+        ensures done { (h : History) → StandsFor self.old h → drain_end ≤ until →
             self.new.ready ≡ None → AreAllEmitted h }
         ensures rest { self.new ≡ record self.old {
           output = self.new.output;
@@ -115,7 +116,7 @@ impl Working {
         requires idle { self.old.ready ≡ None }
         ensures stands { (h : History) → StandsFor self.old h → StandsFor self.new h }
         ensures idle { self.new.ready ≡ None → IsIdle self.new }
-        ensures done { (h : History) → StandsFor self.old h → 1200000000000000 ≤ self.old.clock →
+        ensures done { (h : History) → StandsFor self.old h → drain_end ≤ self.old.clock →
             self.new.ready ≡ None → AreAllEmitted h }
         ensures clock { self.new.clock ≡ self.old.clock }
         ensures held { frames_held self.new ≡ frames_held self.old }
@@ -137,7 +138,7 @@ impl Working {
         requires clock { self.old.clock ≤ until }
         ensures stands { (h : History) → StandsFor self.old h → StandsFor self.new (at h until) }
         ensures idle { self.new.ready ≡ None → IsIdle self.new }
-        ensures done { (h : History) → StandsFor self.old h → 1200000000000000 ≤ until →
+        ensures done { (h : History) → StandsFor self.old h → drain_end ≤ until →
             self.new.ready ≡ None → AreAllEmitted h }
         ensures clock { self.new.clock ≡ until }
         ensures held { frames_held self.new ≡ frames_held self.old }
@@ -182,7 +183,7 @@ impl Working {
             IfOk result (λ o. IfNone o (StandsFor self.new (at h until))) }
         ensures no_more { (h : History) (s : Turn Frame) → StandsFor self.old h → IsNextIn h s →
             IfOk result (λ o. IfNone o (until < s.end)) }
-        ensures all_done { (h : History) → StandsFor self.old h → 1200000000000000 ≤ until →
+        ensures all_done { (h : History) → StandsFor self.old h → drain_end ≤ until →
             IfOk result (λ o. IfNone o (AreAllEmitted h)) }
         ensures again { (h : History) → StandsFor self.old h →
             OnErr result (StandsFor self.new (at h until)) }

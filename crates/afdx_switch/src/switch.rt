@@ -1,5 +1,6 @@
 //! One switch, as its callers see it.
 ghost use Rattle.std.specs.Prelude.{◌≡◌, ◌↔◌, ℕ, ◌≤◌, ◌+◌, IfOk, OnOk, OnErr, IfSome, IfNone, MatchOption, ◌∷◌, Some, slice_get, true, None};
+ghost use Rattle.afdx_port.specs.Times.{drain_end, latest_put};
 
 use crate::build::build;
 use crate::frame::Frame;
@@ -121,7 +122,7 @@ impl Switch {
         tag: u64,
         bytes: &[u8],
     ) -> Result<Verdict, AllocError>
-        requires limit { time ≤ 1000032768000000 }
+        requires limit { time ≤ latest_put }
         requires clock { last_time self.old ≤ time }
         requires quiet { IsQuiet self.old time }
         ensures verdict { (t : Rows) (side : Side) (h : History) → StandsFor t side self.old h →
@@ -157,7 +158,7 @@ impl Switch {
         bytes: &[u8],
         sealed: bool,
     ) -> Result<Verdict, AllocError>
-        requires limit { time ≤ 1000032768000000 }
+        requires limit { time ≤ latest_put }
         requires sealed { sealed ≡ is_sealed bytes.now }
         requires clock { last_time self.old ≤ time }
         requires quiet { IsQuiet self.old time }
@@ -194,7 +195,7 @@ impl Switch {
             IfNone result (IsDone t side h port) }
         ensures quiet { (time : ℕ) → IsQuiet self.now time ↔
             IfSome result (λ due. IsAfter time due) }
-        ensures limit { IfSome result (λ due. given_at due ≤ 1200000000000000) }
+        ensures limit { IfSome result (λ due. given_at due ≤ drain_end) }
     {
         self.working.due()
     }
@@ -220,7 +221,7 @@ impl Switch {
             let entries = entries_at t side port h.arrivals in
             IfNone result (HaveLeft l until entries (taken_at port h.taken)) }
         ensures all_done { (t : Rows) (side : Side) (h : History) (port : ℕ) →
-            StandsFor t side self.old h → 1200000000000000 ≤ until → 1 ≤ port → port ≤ 24 →
+            StandsFor t side self.old h → drain_end ≤ until → 1 ≤ port → port ≤ 24 →
             IfNone result (IsDone t side h port) }
         ensures gives { IfNone result (IsQuiet self.old until) }
         ensures quiet { IfNone result (IsQuiet self.new until) }

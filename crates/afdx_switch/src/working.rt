@@ -1,5 +1,6 @@
 //! What a switch does with its accounts and its ports.
 ghost use Rattle.std.specs.Prelude.{[], ◌≢◌, ◌≡◌, ◌↔◌, ℕ, ◌≤◌, ◌<◌, ◌+◌, List, Option, None, Some, IfOk, OnOk, OnErr, IfSome, IfNone, MatchOption, length, slice_get, true, false, not, All, vec_len};
+ghost use Rattle.afdx_port.specs.Times.{drain_end, latest_put};
 ghost use Rattle.afdx_frame.specs.declared.link.Priority.{Priority};
 ghost use Rattle.afdx_frame.specs.Sealing.{is_sealed};
 ghost use Rattle.afdx_port.specs.declared.pending.Pending.{Pending};
@@ -57,7 +58,7 @@ fn share_out(
 
 /// Offers a port its share. Answers whether it was lost.
 fn offer(port: &mut Port<Frame>, time: u64, priority: Priority, share: Frame) -> bool
-    requires limit { time ≤ 1000032768000000 }
+    requires limit { time ≤ latest_put }
     requires clock { held.last_time port.old ≤ time }
     requires quiet { held.IsQuiet facts port.old time }
     ensures { IsOffered time priority (Some share) port.old port.new result }
@@ -77,7 +78,7 @@ fn forward(
     requires places { ArePlaces places.now }
     requires share_count { length shares.old.items ≡ length places.now }
     requires shares { All (λ s. s ≢ None) shares.old.items }
-    requires limit { time ≤ 1000032768000000 }
+    requires limit { time ≤ latest_put }
     requires clocks { All (λ p. held.last_time p ≤ time) ports.old }
     requires quiet { All (λ p. held.IsQuiet facts p time) ports.old }
     ensures count { length ports.new ≡ 24 }
@@ -133,7 +134,7 @@ impl Working {
         bytes: &[u8],
         sealed: bool,
     ) -> Result<Verdict, AllocError>
-        requires limit { time ≤ 1000032768000000 }
+        requires limit { time ≤ latest_put }
         requires sealed { sealed ≡ is_sealed bytes.now }
         requires sound { IsSound self.old }
         requires clock { last_time self.old ≤ time }
@@ -186,7 +187,7 @@ impl Working {
             IfNone result (IsDone t side h port) }
         ensures quiet { (time : ℕ) → IsQuiet self.now time ↔
             IfSome result (λ due. IsAfter time due) }
-        ensures limit { IfSome result (λ due. given_at due ≤ 1200000000000000) }
+        ensures limit { IfSome result (λ due. given_at due ≤ drain_end) }
     {
         let place = first_due(&self.ports, self.first, u64::MAX)?;
         self.ports[place].due()
@@ -204,7 +205,7 @@ impl Working {
             StandsFor t side self.old h → 1 ≤ port → port ≤ 24 → IsNextAt t side h port s →
             IfNone result (IsAfter until (queue.due_at s)) }
         ensures all_done { (t : Rows) (side : Side) (h : History) (port : ℕ) →
-            StandsFor t side self.old h → 1200000000000000 ≤ until → 1 ≤ port → port ≤ 24 →
+            StandsFor t side self.old h → drain_end ≤ until → 1 ≤ port → port ≤ 24 →
             IfNone result (IsDone t side h port) }
         ensures gives { IfNone result (IsQuiet self.old until) }
         ensures quiet { IfNone result (IsQuiet self.new until) }
