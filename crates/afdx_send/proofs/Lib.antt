@@ -13,3 +13,5 @@ mod SubmitLemmas
 mod NewLemmas
 mod LawLemmas
 mod DoneLemmas
+mod OrderLemmas
+mod CompleteLemmas
