@@ -9,3 +9,7 @@ pub mod SentLineLemmas
 pub mod PromisedLemmas
 pub mod LossLemmas
 pub mod AdmittedRunLemmas
+mod SaidLemmas
+mod PortLineLemmas
+mod SendLineLemmas
+mod EndToEndLemmas

@@ -19,3 +19,4 @@ pub mod Sent
 pub mod SendProgress
 pub mod SendCommand
 pub mod SendLaws
+pub mod EndToEnd

@@ -10,7 +10,7 @@ mod NextLemmas
 mod EmitLemmas
 mod AddLemmas
 mod SubmitLemmas
-mod NewLemmas
+pub mod NewLemmas
 mod LawLemmas
 mod DoneLemmas
 mod OrderLemmas
