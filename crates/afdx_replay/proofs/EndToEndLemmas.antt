@@ -39,7 +39,7 @@ use Rattle.afdx_replay.specs.SendLaws.{AreOfFrame}
 use Rattle.afdx_replay.specs.SendText.{send_text}
 use Rattle.afdx_replay.proofs.PortLineLemmas.{AreSaidBy, said-by}
 use Rattle.afdx_replay.proofs.SaidLemmas.{IsSaid, all-said}
-use Rattle.afdx_replay.proofs.SendLineLemmas.{line_on, lines_on, CanBeRead, IsFine, turn-says, text-at-port}
+use Rattle.afdx_replay.proofs.SendLineLemmas.{line_on, lines_on, CanBeRead, IsFine, turn-says, text-at-port, text-off-port}
 
 -- ---- what was taken can be sent
 
@@ -220,7 +220,7 @@ pub record Laws : Type 0 where
   pub once : ReleasedAreToldOnce
   pub computed : BuiltIsComputed
 
-module _ (laws : Laws) (t : Rows) (list : List (List ℕ)) (lawful : IsLawful t) (admitted : IsAdmitted t) (sound : AreSound list (length list)) (sender : ℕ) (s : SystemRow) (given : List (List ℕ)) (events : List Event) (sent : HasSent t sender s given events) where
+module _ (laws : Laws) (t : Rows) (lawful : IsLawful t) (admitted : IsAdmitted t) (sender : ℕ) (s : SystemRow) (given : List (List ℕ)) (events : List Event) (sent : HasSent t sender s given events) where
   abbrev links : List LinkRow
   links = links_from t.links sender
 
@@ -264,15 +264,18 @@ module _ (laws : Laws) (t : Rows) (list : List (List ℕ)) (lawful : IsLawful t)
   fine : AllByRecursion (IsFine s) events
   fine = all-fine s events can said
 
-  merged : HoldsText s list (send_text s events) → (side : Side) → AreSentAs s side (turns_in events) (arrivals_at side s.port (arrivals_of list (length list)))
-  merged holds side =
+  pub text-elsewhere : (side : Side) (port : ℕ) → port ≢ s.port → lines_at side port (lines_of (send_text s events)) ≡ []
+  text-elsewhere side port ne = text-off-port s is_system.port.0 is_system.port.1 side port events ne fine
+
+  merged : (list : List (List ℕ)) → AreSound list (length list) → HoldsText s list (send_text s events) → (side : Side) → AreSentAs s side (turns_in events) (arrivals_at side s.port (arrivals_of list (length list)))
+  merged list sound holds side =
       let by_lines = said-by side s.port list (length list) (omega arith) sound in
       let whole = subst (λ (z : List (List ℕ)). AreSaidBy (arrivals_at side s.port (arrivals_of list (length list))) (lines_at side s.port z)) (take-all list) by_lines in
       let of_text = subst (λ (z : List (List ℕ)). AreSaidBy (arrivals_at side s.port (arrivals_of list (length list))) z) (holds side ∙ text-at-port s is_system.port.0 is_system.port.1 side events fine) whole in
       sent-as s side is_system.port.0 is_system.port.1 (turns_in events) (arrivals_at side s.port (arrivals_of list (length list))) can of_text
 
-  told : (lines : List Line) → EachIsToldOnce t (arrivals_of list (length list)) lines → HoldsText s list (send_text s events) → EachIsToldAsTaken t sender events lines
-  told lines once holds system place receiver l stands link from to =
+  told : (list : List (List ℕ)) (lines : List Line) → AreSound list (length list) → EachIsToldOnce t (arrivals_of list (length list)) lines → HoldsText s list (send_text s events) → EachIsToldAsTaken t sender events lines
+  told list lines sound once holds system place receiver l stands link from to =
       let among = place-among t.links sender place l link from in
       let i = among.0 in
       let stream = stream_of s l.vl (turns_in events) in
@@ -284,7 +287,7 @@ module _ (laws : Laws) (t : Rows) (list : List (List ℕ)) (lawful : IsLawful t)
       λ m g. record { buildable = buildable (length t.systems) t.profile s l m.message 0 is_system is g.for.some g.for.fits g.udp; bytes = g.bytes } in
       let ms = all-messages (CanBeSent s l) _ l.subs (taken_by l.vl events) rs (all-weaker (IsGood l) (λ m. CanBeSent s l m.message) (taken_by l.vl events) can_send (good i l among.1)) all.are_releases in
       let sends : slice_get t.systems l.from ≡ Some s = subst (λ (z : ℕ). slice_get t.systems z ≡ Some s) (sym from) sent.stands in
-      let first = laws.once t (arrivals_of list (length list)) lines h system place i receiver l once stands link to sends build (merged holds) k.emits (sendable s l (sent_list rs) ms) in
+      let first = laws.once t (arrivals_of list (length list)) lines h system place i receiver l once stands link to sends build (merged list sound holds) k.emits (sendable s l (sent_list rs) ms) in
       let told_all : reverse (messages_told system l.vl lines) ≡ heard_of t system l (submissions_of rs) = first ∙ ap (filter (λ m. has_port t.ports system l.vl m.udp)) (sent-messages rs) in
       record {
         releases = rs;
@@ -294,7 +297,7 @@ module _ (laws : Laws) (t : Rows) (list : List (List ℕ)) (lawful : IsLawful t)
       }
 
 pub taken-is-told : Laws → TakenIsToldOnce
-taken-is-told laws t list lines lawful admitted sound once sender s given events sent holds = told laws t list lawful admitted sound sender s given events sent lines once holds
+taken-is-told laws t list lines lawful admitted sound once sender s given events sent holds = told laws t lawful admitted sender s given events sent list lines sound once holds
 
 -- ---- of the two runs
 

@@ -13,3 +13,4 @@ mod SaidLemmas
 mod PortLineLemmas
 mod SendLineLemmas
 mod EndToEndLemmas
+mod MergedLemmas

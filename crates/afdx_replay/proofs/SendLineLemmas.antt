@@ -178,3 +178,25 @@ module _ (s : SystemRow) (one : 1 ≤ s.port) (most : s.port ≤ 24) where
 
   pub text-at-port : (side : Side) (events : List Event) → AllByRecursion (IsFine s) events → lines_at side s.port (lines_of (send_text s events)) ≡ lines_on s side (turns_in events)
   text-at-port side events all = ap (lines_at side s.port) (lines-of-text events all) ∙ lines-at-port side events all
+
+  -- ---- and at other ports
+
+  turn-off : (side own : Side) (port : ℕ) (turn : Turn send.Frame) → (port ≡ s.port → ⊥) → CanBeRead s turn → says_at side port (line_says 0 (line_on s own turn)) ≡ false
+  turn-off side own port turn ne can = ap (says_at side port) (turn-says own turn can) ∙ ap (λ b. is_side side own && b) (eqb-other port s.port ne) ∙ and-false (is_side side own)
+    where
+      and-false : (b : Bool) → (b && false) ≡ false
+      and-false true = refl
+      and-false false = refl
+
+  event-off : (side : Side) (port : ℕ) (e : Event) → (port ≡ s.port → ⊥) → IsFine s e → lines_at side port (lines_in s e) ≡ []
+  event-off side port (Emitted turn) ne can = rw (turn-off side A port turn ne can, turn-off side B port turn ne can) refl
+  event-off side port (Submitted x (Some fault)) ne few = ap (λ r. if says_at side port r then refused x.line fault ∷ [] else []) (refused-says x.line fault few)
+  event-off side port (Submitted x None) ne few = refl
+
+  lines-off : (side : Side) (port : ℕ) (events : List Event) → (port ≡ s.port → ⊥) → AllByRecursion (IsFine s) events → lines_at side port (all_lines s events) ≡ []
+  lines-off side port [] ne all = refl
+  lines-off side port (e ∷ before) ne all =
+      filter-append (λ line. says_at side port (line_says 0 line)) (all_lines s before) (lines_in s e) ∙ ap (λ (z : List (List ℕ)). z ++ lines_at side port (lines_in s e)) (lines-off side port before ne all.1) ∙ event-off side port e ne all.0
+
+  pub text-off-port : (side : Side) (port : ℕ) (events : List Event) → (port ≡ s.port → ⊥) → AllByRecursion (IsFine s) events → lines_at side port (lines_of (send_text s events)) ≡ []
+  text-off-port side port events ne all = ap (lines_at side port) (lines-of-text events all) ∙ lines-off side port events ne all

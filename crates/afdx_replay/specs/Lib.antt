@@ -20,3 +20,4 @@ pub mod SendProgress
 pub mod SendCommand
 pub mod SendLaws
 pub mod EndToEnd
+pub mod Merged

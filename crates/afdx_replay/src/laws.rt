@@ -1,5 +1,6 @@
 //! What is true of the definitions of a replay.
 ghost use Rattle.afdx_replay.specs.EndToEnd.{TakenIsToldOnce, RunsTellTakenOnce};
+ghost use Rattle.afdx_replay.specs.Merged.{MergedAreToldOnce};
 ghost use Rattle.afdx_replay.specs.ReplayPromises.{ArrivalsAreListed, NoneIsCounted};
 ghost use Rattle.afdx_replay.specs.ReplayPromises.{ReplayIsAsPromised, ReplaySoFarIsAsPromised};
 ghost use Rattle.afdx_replay.specs.SendLaws.{SentLinesAreArrivals};
@@ -46,6 +47,7 @@ pub fn sent_lines_are_arrivals()
 pub fn taken_is_told_once()
     ensures lines { TakenIsToldOnce }
     ensures runs { RunsTellTakenOnce }
+    ensures merged { MergedAreToldOnce }
 {
     all_is_sent();
     sent_is_told_once();
