@@ -39,6 +39,7 @@ use Rattle.afdx_replay.specs.SendLaws.{AreOfFrame}
 use Rattle.afdx_replay.specs.SendText.{send_text}
 use Rattle.afdx_replay.proofs.PortLineLemmas.{AreSaidBy, said-by}
 use Rattle.afdx_replay.proofs.SaidLemmas.{IsSaid, all-said}
+use Rattle.afdx_replay.proofs.TakenLemmas.{all-more, taken-each, own-taken}
 use Rattle.afdx_replay.proofs.SendLineLemmas.{line_on, lines_on, CanBeRead, IsFine, turn-says, text-at-port, text-off-port}
 
 -- ---- what was taken can be sent
@@ -49,45 +50,14 @@ record IsGood (l : LinkRow) (m : Submission) : Type 0 where
   bytes : AreBytes m.message.payload
   udp : m.message.udp ≤ 65535
 
-all-more : {Y : Type 0} (P : Y → Type 0) (xs : List Y) (x : Y) → AllByRecursion P xs → P x → AllByRecursion P (xs ++ x ∷ [])
-all-more P [] x all p = (p, tt)
-all-more P (y ∷ ys) x all p = (all.0, all-more P ys x all.1 p)
-
 all-weaker : {Y : Type 0} (P Q : Y → Type 0) (xs : List Y) → ((x : Y) → P x → Q x) → AllByRecursion P xs → AllByRecursion Q xs
 all-weaker P Q [] f all = tt
 all-weaker P Q (x ∷ xs) f all = (f x all.0, all-weaker P Q xs f all.1)
 
-same_get : {Y : Type 0} (xs : List Y) (i : ℕ) (a b : Y) → slice_get xs i ≡ Some a → slice_get xs i ≡ Some b → a ≡ b
-same_get xs i a b h k = let e : Some a ≡ Some b = sym h ∙ k in cc e
-
-nat_eq-true : (a b : ℕ) → (a == b) ≡ true → a ≡ b
-nat_eq-true a b h = grind (arith, nat_tests, h)
-
-same-row : (links : List LinkRow) → AreDistinct (λ l. l.vl) links → (i j : ℕ) (a b : LinkRow) → slice_get links i ≡ Some a → slice_get links j ≡ Some b → a.vl ≡ b.vl → a ≡ b
-unfolding AreDistinct
-same-row links distinct i j a b h k e = (let at : i ≡ j = distinct i j a b h k e in same_get links j a b (subst (λ (z : ℕ). slice_get links z ≡ Some a) at h) k)
-
 taken-good : (n : ℕ) (s : SystemRow) (links : List LinkRow) → AreDistinct (λ l. l.vl) links → (events : List Event) → EachFollows s links events → AllByRecursion (IsSaid n) (submissions_in events) →
     (i : ℕ) (l : LinkRow) → slice_get links i ≡ Some l → AllByRecursion (IsGood l) (taken_by l.vl events)
-taken-good n s links distinct [] follow said i l at = tt
-taken-good n s links distinct (Emitted turn ∷ before) follow said i l at = taken-good n s links distinct before follow.1 said i l at
-taken-good n s links distinct (Submitted x (Some fault) ∷ before) follow said i l at = taken-good n s links distinct before follow.1 said.1 i l at
-taken-good n s links distinct (Submitted x None ∷ before) follow said i l at = by (x.submission.vl == l.vl) refl (taken-good n s links distinct before follow.1 said.1 i l at)
-  where
-    good : (place : ℕ) → IsTaken (calls_in s links before x.submission.time) place x.submission.vl (message_of x.submission) → x.submission.vl ≡ l.vl → IsGood l (message_of x.submission)
-    good place k e =
-        let row : k.row ≡ l = same-row links distinct place i k.row l k.link.0 at (k.link.1 ∙ e) in
-        subst (λ (z : LinkRow). IsGood z (message_of x.submission)) row (record { for = record { sub = k.sub; some = k.some; fits = k.fits }; bytes = said.0.bytes; udp = said.0.udp })
-
-    by : (b : Bool) → (x.submission.vl == l.vl) ≡ b → AllByRecursion (IsGood l) (taken_by l.vl before) →
-        AllByRecursion (IsGood l) (if b then taken_by l.vl before ++ message_of x.submission ∷ [] else taken_by l.vl before)
-    by true e rest = all-more (IsGood l) (taken_by l.vl before) (message_of x.submission) rest (good follow.0.answered.0 follow.0.answered.1 (nat_eq-true x.submission.vl l.vl e))
-    by false e rest = rest
-
-own-taken : (f : ℕ → List Submission) (links : List LinkRow) (i : ℕ) (l : LinkRow) → slice_get links i ≡ Some l → slice_index_or (map (λ l. f l.vl) links) i [] ≡ f l.vl
-own-taken f [] i l at = absurd (cc at)
-own-taken f (x ∷ links) zero l at = (let e : x ≡ l = cc at in ap (λ z. f z.vl) e)
-own-taken f (x ∷ links) (suc i) l at = own-taken f links i l at
+taken-good n s links distinct events follow said i l at =
+    taken-each (λ l m. IsGood l m) (IsSaid n) (λ l x can q. record { for = can; bytes = q.bytes; udp = q.udp }) s links distinct events follow said i l at
 
 -- ---- its frames can be built
 

@@ -12,5 +12,7 @@ pub mod AdmittedRunLemmas
 mod SaidLemmas
 mod PortLineLemmas
 mod SendLineLemmas
+mod TakenLemmas
 mod EndToEndLemmas
 mod MergedLemmas
+mod OneRunLemmas

@@ -3,7 +3,7 @@ ghost use Rattle.afdx_replay.specs.EndToEnd.{TakenIsToldOnce, RunsTellTakenOnce}
 ghost use Rattle.afdx_replay.specs.Merged.{MergedAreToldOnce};
 ghost use Rattle.afdx_replay.specs.ReplayPromises.{ArrivalsAreListed, NoneIsCounted};
 ghost use Rattle.afdx_replay.specs.ReplayPromises.{ReplayIsAsPromised, ReplaySoFarIsAsPromised};
-ghost use Rattle.afdx_replay.specs.SendLaws.{SentLinesAreArrivals};
+ghost use Rattle.afdx_replay.specs.SendLaws.{SentLinesAreArrivals, EventsAreOne, SendsAreOne};
 
 use afdx_frame::laws::built_is_computed;
 use afdx_promises::laws::sent_is_told_once;
@@ -34,6 +34,13 @@ pub fn arrivals_are_listed()
 /// is the arrival of its frame: with its bytes, at its time, on its side and at its port.
 pub fn sent_lines_are_arrivals()
     ensures { SentLinesAreArrivals }
+{}
+
+/// What a run that sends tells is determined by its list: there is one list of events of the
+/// submissions, after which all that was taken is emitted, and so one text and one summary.
+pub fn events_are_one()
+    ensures events { EventsAreOne }
+    ensures texts { SendsAreOne }
 {}
 
 /// Exactly once, end to end: where what `run_send` writes for a system is merged into a list that

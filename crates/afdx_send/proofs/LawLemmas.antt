@@ -61,7 +61,7 @@ element [] i lt = absurd (omega arith)
 element (x ∷ xs) zero lt = (x, refl)
 element (x ∷ xs) (suc i) lt = element xs i (omega arith)
 
-next_place : (b n : ℕ) (es : List (Entry Frame)) (earlier : List (Turn Frame)) (s : Turn Frame) → AreOurs es → GoInOrder n earlier → IsNext b es earlier s → s.place ≡ n
+pub next_place : (b n : ℕ) (es : List (Entry Frame)) (earlier : List (Turn Frame)) (s : Turn Frame) → AreOurs es → GoInOrder n earlier → IsNext b es earlier s → s.place ≡ n
 next_place b n es earlier s ours g k =
     let within = slice_get_within es s.place s.entry k.own.stands in
     elim (cases_lt s.place n) [
@@ -75,7 +75,7 @@ or_true : (a b : Bool) → b ≡ true → (a || b) ≡ true
 or_true true b h = refl
 or_true false b h = h
 
-order_after : (n : ℕ) (earlier : List (Turn Frame)) (s : Turn Frame) → s.place ≡ n → GoInOrder n earlier → GoInOrder (n + 1) (s ∷ earlier)
+pub order_after : (n : ℕ) (earlier : List (Turn Frame)) (s : Turn Frame) → s.place ≡ n → GoInOrder n earlier → GoInOrder (n + 1) (s ∷ earlier)
 order_after n earlier s at g = record {
   yes = λ p lt. elim (cases_eq p n) [
     | inl e ↦ rw (eqb-same s.place p (at ∙ sym e)) refl
