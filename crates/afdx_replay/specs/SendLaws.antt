@@ -1,4 +1,5 @@
--- What is true of the texts of senders: what a replay reads of a line, and that a list has one text.
+-- What is true of the texts of senders: what a replay reads of a line, and that a list of
+-- submissions has one text.
 use Rattle.std.specs.Prelude.{ℕ, ◌^◌, ◌≡◌, ◌≤◌, List, [], ◌∷◌, length, Some}
 use Rattle.afdx_frame.specs.Sealing.{AreBytes}
 use Rattle.afdx_frame.specs.declared.link.Side.{Side}
@@ -32,8 +33,8 @@ SentLinesAreArrivals = (side : Side) (port time : ℕ) (bytes : List ℕ) →
     1 ≤ port → port ≤ 24 → time ≤ 10 ^ 15 → AreOfFrame bytes →
     IsArrival (sent_line side port time bytes) (arrival_with 1 time side port bytes)
 
--- What a run that sends tells is determined by its list: events of the same submissions, after which
--- all is emitted, are the same.
+-- What a run that sends tells is determined by its list: events of the same submissions, after
+-- which all is emitted, are the same.
 abbrev pub EventsAreOne : Type 0
 EventsAreOne = (t : Rows) (sender : ℕ) (s : SystemRow) (past : List Handed)
     (ones others : List Event) → IsLawful t →

@@ -1,12 +1,12 @@
 -- What is emitted next, and what is released before a time, is one thing, by the calls alone.
-use Rattle.std.proofs.Common.{◌≡◌, ℕ, zero, suc, ◌+◌, ◌<◌, ◌≤◌, Bool, true, false, List, [], ◌∷◌, ◌++◌, length, Some, ◌⊎◌, inl, inr, refl, sym, ap, subst, ◌∙◌, arith}
+use Rattle.std.proofs.Common.{◌≡◌, ℕ, ◌+◌, ◌<◌, true, false, List, [], ◌∷◌, ◌++◌, length, Some, inl, inr, refl, sym, ap, subst, ◌∙◌, arith}
 use Rattle.std.specs.List.{slice_get, AllByRecursion}
 use Rattle.std.proofs.lemmas.Option.{slice_get_within}
 use Rattle.afdx_config.specs.Rows.{LinkRow}
 use Rattle.afdx_port.specs.Schedule.{Entry, Turn, IsNext, has_turn, is_past, lasting}
-use Rattle.afdx_send.specs.Emissions.{LinkRelease, own, own_submissions, AreAllReleases, AreReleasedBefore, entries_of, IsNextEmission}
+use Rattle.afdx_send.specs.Emissions.{LinkRelease, own_submissions, AreAllReleases, AreReleasedBefore, entries_of, IsNextEmission}
 use Rattle.afdx_send.specs.Frames.{Frame}
-use Rattle.afdx_send.specs.Releases.{Submission, has_release}
+use Rattle.afdx_send.specs.Releases.{Submission}
 use Rattle.afdx_send.specs.Sender.{History, IsNextIn, AreAllEmitted}
 use Rattle.afdx_send.proofs.EmitLemmas.{are_ours, get_more, more_of}
 use Rattle.afdx_send.proofs.LawLemmas.{GoInOrder, next_place, order_after}
