@@ -1,5 +1,5 @@
 -- From what the senders took to what the receivers are told.
-use Rattle.std.proofs.Common.{◌≡◌, ◌≢◌, ℕ, zero, suc, ◌+◌, ◌<◌, ◌≤◌, ◌^◌, ◌==◌, Bool, true, false, if◌then◌else◌, List, [], ◌∷◌, ◌++◌, length, take, filter, map, nat_eq, Some, None, refl, sym, ap, subst, ◌∙◌, arith, slice_index_or}
+use Rattle.std.proofs.Common.{◌≡◌, ◌≢◌, ℕ, zero, suc, ◌+◌, ◌<◌, ◌≤◌, ◌^◌, Bool, true, false, if◌then◌else◌, List, [], ◌∷◌, ◌++◌, length, take, filter, map, nat_eq, Some, refl, sym, ap, subst, ◌∙◌, arith}
 use Rattle.std.specs.Prelude.{reverse}
 use Rattle.std.specs.List.{slice_get, AllByRecursion}
 use Rattle.std.proofs.lemmas.Bool.Decides.{nat_tests}
@@ -27,18 +27,19 @@ use Rattle.afdx_send.specs.Complete.{IsFor, HasSentAll, EmitsAll, IsOfTaken, All
 use Rattle.afdx_send.specs.Emissions.{own, own_submissions, sent_list}
 use Rattle.afdx_send.specs.Frames.{Frame, frame_with, address_with}
 use Rattle.afdx_send.specs.Releases.{Submission, Release, AreReleases}
-use Rattle.afdx_send.specs.Sender.{History, IsTaken}
+use Rattle.afdx_send.specs.Sender.{History}
 use Rattle.afdx_send.proofs.NewLemmas.{from_filter, distinct_links}
 use Rattle.afdx_promises.specs.Lines.{Line, messages_told}
 use Rattle.afdx_promises.specs.Promises.{EachIsToldOnce}
 use Rattle.afdx_promises.specs.Sent.{frame_on, sent_in, stream_of, IsBuildable, AreSentAs, arrivals_at, StreamIsOfSendings, ReleasedAreToldOnce}
-use Rattle.afdx_replay.specs.EndToEnd.{lines_at, HoldsText, HasSent, heard_of, EachIsToldAsTaken, TakenIsToldOnce, RunsTellTakenOnce}
+use Rattle.afdx_replay.specs.EndToEnd.{lines_at, HoldsText, HasSent, heard_of, EachIsToldAsTaken, TakenIsToldOnce, RunsTellTakenOnce, TextsAreLists}
 use Rattle.afdx_replay.specs.Listed.{AreSound, arrivals_of}
-use Rattle.afdx_replay.specs.SendEvents.{Handed, message_of, Event, Emitted, Submitted, submissions_in, turns_in, taken_by, calls_in, EachFollows}
+use Rattle.afdx_replay.specs.SendEvents.{Handed, Event, Emitted, Submitted, submissions_in, turns_in, taken_by, calls_in, EachFollows}
 use Rattle.afdx_replay.specs.SendLaws.{AreOfFrame}
 use Rattle.afdx_replay.specs.SendText.{send_text}
 use Rattle.afdx_replay.proofs.PortLineLemmas.{AreSaidBy, said-by}
 use Rattle.afdx_replay.proofs.SaidLemmas.{IsSaid, all-said}
+use Rattle.afdx_replay.proofs.TextListLemmas.{text-is-list}
 use Rattle.afdx_replay.proofs.TakenLemmas.{all-more, taken-each, own-taken}
 use Rattle.afdx_replay.proofs.SendLineLemmas.{line_on, lines_on, CanBeRead, IsFine, turn-says, text-at-port, text-off-port}
 
@@ -190,6 +191,9 @@ pub record Laws : Type 0 where
   pub once : ReleasedAreToldOnce
   pub computed : BuiltIsComputed
 
+pub laws-of : AllIsSent → EmissionsAreOfTaken → StreamIsOfSendings → ReleasedAreToldOnce → BuiltIsComputed → Laws
+laws-of sent frames stream once computed = record { sent = sent; frames = frames; stream = stream; once = once; computed = computed }
+
 module _ (laws : Laws) (t : Rows) (lawful : IsLawful t) (admitted : IsAdmitted t) (sender : ℕ) (s : SystemRow) (given : List (List ℕ)) (events : List Event) (sent : HasSent t sender s given events) where
   abbrev links : List LinkRow
   links = links_from t.links sender
@@ -237,6 +241,9 @@ module _ (laws : Laws) (t : Rows) (lawful : IsLawful t) (admitted : IsAdmitted t
   pub text-elsewhere : (side : Side) (port : ℕ) → port ≢ s.port → lines_at side port (lines_of (send_text s events)) ≡ []
   text-elsewhere side port ne = text-off-port s is_system.port.0 is_system.port.1 side port events ne fine
 
+  text-sound : length (lines_of (send_text s events)) ≤ 1000000 → AreSound (lines_of (send_text s events)) (length (lines_of (send_text s events)))
+  text-sound few = text-is-list s links is_system.port.0 is_system.port.1 events sent.are_events.follow fine few
+
   merged : (list : List (List ℕ)) → AreSound list (length list) → HoldsText s list (send_text s events) → (side : Side) → AreSentAs s side (turns_in events) (arrivals_at side s.port (arrivals_of list (length list)))
   merged list sound holds side =
       let by_lines = said-by side s.port list (length list) (omega arith) sound in
@@ -268,6 +275,9 @@ module _ (laws : Laws) (t : Rows) (lawful : IsLawful t) (admitted : IsAdmitted t
 
 pub taken-is-told : Laws → TakenIsToldOnce
 taken-is-told laws t list lines lawful admitted sound once sender s given events sent holds = told laws t lawful admitted sender s given events sent list lines sound once holds
+
+pub texts-are-lists : Laws → TextsAreLists
+texts-are-lists laws t sender s given events lawful admitted sent few = text-sound laws t lawful admitted sender s given events sent few
 
 -- ---- of the two runs
 

@@ -12,6 +12,7 @@ pub mod AdmittedRunLemmas
 mod SaidLemmas
 mod PortLineLemmas
 mod SendLineLemmas
+mod TextListLemmas
 mod TakenLemmas
 mod EndToEndLemmas
 mod MergedLemmas

@@ -49,7 +49,7 @@ all-join P (x ∷ xs) ys a b = (a.0, all-join P xs ys a.1 b)
 
 -- ---- a refusal's line
 
-abbrev refused : ℕ → SendFault → List ℕ
+abbrev pub refused : ℕ → SendFault → List ℕ
 refused n fault = 35 ∷ 32 ∷ (decimal n ++ 32 ∷ refusal_text fault)
 
 refused-feed : (n : ℕ) (fault : SendFault) → refused n fault ++ 10 ∷ [] ≡ refusal_line n fault
@@ -63,7 +63,7 @@ word-least TooLarge = (omega arith, (omega arith, tt))
 word-least QueueFull = (omega arith, (omega arith, tt))
 word-least Memory = (omega arith, (omega arith, tt))
 
-refused-least : (n : ℕ) (fault : SendFault) → n ≤ 1000000 → AtLeast 32 (refused n fault)
+pub refused-least : (n : ℕ) (fault : SendFault) → n ≤ 1000000 → AtLeast 32 (refused n fault)
 refused-least n fault few = (
   omega arith,
   (
@@ -79,7 +79,7 @@ eqb-same : (a : ℕ) → (a == a) ≡ true
 eqb-same a = grind (arith, nat_tests)
 
 -- no line that has no byte below a space ends with a carriage return
-no-return : (line : List ℕ) → 0 < length line → AtLeast 32 line → line ≡ strip_carriage_return line
+pub no-return : (line : List ℕ) → 0 < length line → AtLeast 32 line → line ≡ strip_carriage_return line
 no-return line some least =
     rw (eqb-other (slice_index line (length line - 1)) 13 (λ e. (let k = index-least 32 (length line - 1) line (omega (arith, some)) least in absurd (omega (arith, e, k))))) refl
 
@@ -92,12 +92,12 @@ refused-says n fault few = line_says_nothing 0 (refused n fault) (refused n faul
 abbrev pub line_on : SystemRow → Side → Turn send.Frame → List ℕ
 line_on s side turn = line_of side s.port turn.end (encode_lower (frame_on s side turn.entry.item))
 
-abbrev lines_in : SystemRow → Event → List (List ℕ)
+abbrev pub lines_in : SystemRow → Event → List (List ℕ)
 lines_in s (Emitted turn) = line_on s A turn ∷ line_on s B turn ∷ []
 lines_in s (Submitted x (Some fault)) = refused x.line fault ∷ []
 lines_in s (Submitted x None) = []
 
-abbrev all_lines : SystemRow → List Event → List (List ℕ)
+abbrev pub all_lines : SystemRow → List Event → List (List ℕ)
 all_lines s [] = []
 all_lines s (e ∷ before) = all_lines s before ++ lines_in s e
 
@@ -143,7 +143,7 @@ module _ (s : SystemRow) (one : 1 ≤ s.port) (most : s.port ≤ 24) where
   no-feed [] all = tt
   no-feed (e ∷ before) all = all-join HasNoFeed (all_lines s before) (lines_in s e) (no-feed before all.1) (event-feed e all.0)
 
-  lines-of-text : (events : List Event) → AllByRecursion (IsFine s) events → lines_of (send_text s events) ≡ all_lines s events
+  pub lines-of-text : (events : List Event) → AllByRecursion (IsFine s) events → lines_of (send_text s events) ≡ all_lines s events
   lines-of-text events all = ap lines_of (text-fed s events) ∙ lines-of-fed (all_lines s events) (no-feed events all)
 
   -- ---- those at the system's port

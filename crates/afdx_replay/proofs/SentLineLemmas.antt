@@ -160,8 +160,8 @@ whole : (fields : FrameFields) → fields.time ≤ 10 ^ 15 → fields.port ≤ 2
 whole fields early most =
     let t : min fields.time (2 ^ 64 - 1) ≡ fields.time = omega (arith, early) in let n : min fields.port (2 ^ 64 - 1) ≡ fields.port = omega (arith, most) in rw (t, n) refl
 
-no-fault : (time port : ℕ) → 1 ≤ port → port ≤ 24 → time ≤ 10 ^ 15 → None ≡ numbers_fault time port 0
-no-fault time port one most early = grind (arith, nat_tests, one, most, early)
+no-fault : (time port latest : ℕ) → 1 ≤ port → port ≤ 24 → time ≤ 10 ^ 15 → latest ≤ time → None ≡ numbers_fault time port latest
+no-fault time port latest one most early late = grind (arith, nat_tests, one, most, early, late)
 
 abbrev pub line_of : Side → ℕ → ℕ → List ℕ → List ℕ
 line_of side port time digits = 82 ∷ 32 ∷ (decimal time ++ 32 ∷ (side_text side ++ 32 ∷ (decimal port ++ 32 ∷ digits)))
@@ -248,12 +248,19 @@ module _ (side : Side) (port time : ℕ) (bytes : List ℕ) (one : 1 ≤ port) (
   r_one : 1 ≤ r.fields.port
   r_one = let n = r.port_is in omega (arith, n, one)
 
-  pub says : line_says 0 line ≡ Ok (Some (record { time = time; side = side; port = port; bytes = bytes }))
-  says =
-      says_frame 0 line line r.fields no-return refl (sym (ap (option_map saturated) fields-are ∙ ap Some (whole r.fields r_early r_most))) (no-fault r.fields.time r.fields.port r_one r_most r_early) r_early r_most
+  r_late : (latest : ℕ) → latest ≤ time → latest ≤ r.fields.time
+  r_late latest late = let t = r.time_is in omega (arith, t, late)
+
+  pub says-after : (latest : ℕ) → latest ≤ time → line_says latest line ≡ Ok (Some (record { time = time; side = side; port = port; bytes = bytes }))
+  says-after latest late =
+      says_frame latest line line r.fields no-return refl (sym (ap (option_map saturated) fields-are ∙ ap Some (whole r.fields r_early r_most)))
+      (no-fault r.fields.time r.fields.port latest r_one r_most r_early (r_late latest late)) r_early r_most
       ∙ ap (frame_with r.fields) (ap bytes_of_digits r.digits_are ∙ bytes-back bytes frame.are_bytes frame.least) ∙ r.frame
 
-  short : length line ≤ 4200
+  pub says : line_says 0 line ≡ Ok (Some (record { time = time; side = side; port = port; bytes = bytes }))
+  says = says-after 0 (omega arith)
+
+  pub short : length line ≤ 4200
   short =
       let t = length-decimal-le 16 time (omega arith) (omega (arith, early)) time_fits in
       let p = length-decimal-le 2 port (omega arith) (omega (arith, most)) port_fits in

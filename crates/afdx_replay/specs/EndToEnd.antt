@@ -97,3 +97,10 @@ RunsTellTakenOnce = (t : Rows) (sender : ℕ) (s : SystemRow) (given text bytes 
     HoldsText s (lines_of bytes) text →
     (told : WritesPromised t (lines_of bytes) old new replays) →
     EachIsToldAsTaken t sender sent.writes.events told.lines
+
+-- A text of at most a million lines is itself such a list, which holds it.
+abbrev pub TextsAreLists : Type 0
+TextsAreLists = (t : Rows) (sender : ℕ) (s : SystemRow) (given : List (List ℕ))
+    (events : List Event) → IsLawful t → IsAdmitted t → HasSent t sender s given events →
+    length (lines_of (send_text s events)) ≤ 1000000 →
+    AreSound (lines_of (send_text s events)) (length (lines_of (send_text s events)))

@@ -1,5 +1,5 @@
 //! What is true of the definitions of a replay.
-ghost use Rattle.afdx_replay.specs.EndToEnd.{TakenIsToldOnce, RunsTellTakenOnce};
+ghost use Rattle.afdx_replay.specs.EndToEnd.{TakenIsToldOnce, RunsTellTakenOnce, TextsAreLists};
 ghost use Rattle.afdx_replay.specs.Merged.{MergedAreToldOnce};
 ghost use Rattle.afdx_replay.specs.ReplayPromises.{ArrivalsAreListed, NoneIsCounted};
 ghost use Rattle.afdx_replay.specs.ReplayPromises.{ReplayIsAsPromised, ReplaySoFarIsAsPromised};
@@ -51,10 +51,13 @@ pub fn events_are_one()
 ///
 /// All tables that are lawful and admitted. The lists have no fault, and each emission ends by
 /// 10^15 ns, the last time of a list.
+///
+/// What a system sends is such a list by itself, where it has at most a million lines.
 pub fn taken_is_told_once()
     ensures lines { TakenIsToldOnce }
     ensures runs { RunsTellTakenOnce }
     ensures merged { MergedAreToldOnce }
+    ensures alone { TextsAreLists }
 {
     all_is_sent();
     sent_is_told_once();
