@@ -9,3 +9,11 @@ pub mod SentLineLemmas
 pub mod PromisedLemmas
 pub mod LossLemmas
 pub mod AdmittedRunLemmas
+mod SaidLemmas
+mod PortLineLemmas
+mod SendLineLemmas
+mod TextListLemmas
+mod TakenLemmas
+mod EndToEndLemmas
+mod MergedLemmas
+mod OneRunLemmas

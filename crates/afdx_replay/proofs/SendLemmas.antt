@@ -13,6 +13,7 @@ use Rattle.afdx_config.specs.Rows.{SystemRow, LinkRow, Rows}
 use Rattle.afdx_lists.specs.Calls.{AppendsFront}
 use Rattle.afdx_lists.specs.Lines.{lines_of}
 use Rattle.afdx_lists.specs.declared.fault.RunFault.{RunFault}
+use Rattle.afdx_promises.specs.Sent.{sent_in}
 use Rattle.afdx_send.specs.Releases as send
 use Rattle.afdx_send.specs.Sender.{StandsFor, Emits, IsTaken, IsRefused, AreAllEmitted, no_calls, at, with_submission, with_emission, sending_of, last_time}
 use Rattle.afdx_send.specs.declared.fault.SendFault.{SendFault}
@@ -21,7 +22,7 @@ use Rattle.afdx_send.specs.declared.sender.Emission.{Emission}
 use Rattle.afdx_send.specs.declared.working.Working.{Working}
 use Rattle.afdx_replay.specs.ReplayText.{no_counts, with_lines}
 use Rattle.afdx_replay.specs.SendEvents.{Handed, submissions, message_of, Event, Emitted, Submitted, submissions_in, turns_in, taken_by, calls_in, EachFollows, AreDone}
-use Rattle.afdx_replay.specs.SendText.{emission_lines, sending_in, event_lines, send_text, with_event, send_counts}
+use Rattle.afdx_replay.specs.SendText.{emission_lines, event_lines, send_text, with_event, send_counts}
 use Rattle.afdx_replay.specs.Sent.{Source, source_at, WritesSoFar, WritesSome, WritesEvents, WritesAll, Answers}
 use Rattle.afdx_replay.specs.SendCommand.{Sends}
 use Rattle.afdx_replay.specs.SendProgress.{HasTold, AreTold, ToldUntil, TellsSubmission, HasRoom}
@@ -29,11 +30,11 @@ use Rattle.afdx_replay.specs.declared.summary.Summary.{Summary}
 use Rattle.afdx_replay.proofs.RunLemmas.{IsDone}
 use Rattle.afdx_replay.proofs.TextLemmas.{front-whole, front-more}
 
-text-none : (s : SystemRow) → send_text s [] ≡ []
+pub text-none : (s : SystemRow) → send_text s [] ≡ []
 unfolding send_text
 text-none s = refl
 
-text-more : (s : SystemRow) (e : Event) (before : List Event) → send_text s (e ∷ before) ≡ send_text s before ++ event_lines s e
+pub text-more : (s : SystemRow) (e : Event) (before : List Event) → send_text s (e ∷ before) ≡ send_text s before ++ event_lines s e
 unfolding send_text
 text-more s e before = refl
 
@@ -159,7 +160,7 @@ sent time a b = record { time = time; a = a; b = b }
 lines-emitted : (s : Source) (w after : Working) (port until : ℕ) (before : List Event) (e : Emission) → port ≡ s.row.port → (g : Emits (calls_in s.row s.links before (last_time w)) until e after) →
     emission_lines port (sending_of e) ≡ event_lines s.row (Emitted g.slot)
 lines-emitted s w after port until before e is g =
-    let y = sending_in s.row g.slot in
+    let y = sent_in s.row g.slot in
     let sending : sending_of e ≡ y = ap (λ t. sent t e.a.items e.b.items) g.time ∙ ap (λ a. sent g.slot.end a e.b.items) g.a ∙ ap (λ b. sent g.slot.end y.a b) g.b in
     ap (λ z. emission_lines port z) sending ∙ ap (λ p. emission_lines p y) is
 

@@ -32,26 +32,26 @@ use Rattle.afdx_replay.specs.SendText.{sent_line}
 
 -- ---- bytes that are no less than one of them
 
-abbrev AtLeast : ℕ → List ℕ → Type 0
+abbrev pub AtLeast : ℕ → List ℕ → Type 0
 AtLeast n xs = AllByRecursion (λ x. n ≤ x) xs
 
-append-least : (n : ℕ) (xs ys : List ℕ) → AtLeast n xs → AtLeast n ys → AtLeast n (xs ++ ys)
+pub append-least : (n : ℕ) (xs ys : List ℕ) → AtLeast n xs → AtLeast n ys → AtLeast n (xs ++ ys)
 append-least n [] ys h k = k
 append-least n (x ∷ xs) ys h k = (h.0, append-least n xs ys h.1 k)
 
-lower-least : (m n : ℕ) (xs : List ℕ) → m ≤ n → AtLeast n xs → AtLeast m xs
+pub lower-least : (m n : ℕ) (xs : List ℕ) → m ≤ n → AtLeast n xs → AtLeast m xs
 lower-least m n [] le h = tt
 lower-least m n (x ∷ xs) le h = ((let k : n ≤ x = h.0 in omega (arith, k, le)), lower-least m n xs le h.1)
 
 eqb-other : (a b : ℕ) → (a ≡ b → ⊥) → (a == b) ≡ false
 eqb-other a b h = grind (arith, nat_tests)
 
-none-below : (n b : ℕ) (xs : List ℕ) → b < n → AtLeast n xs → All (λ x. (x == b) ≡ false) xs
+pub none-below : (n b : ℕ) (xs : List ℕ) → b < n → AtLeast n xs → All (λ x. (x == b) ≡ false) xs
 none-below n b [] lt h k d within = absurd (omega (arith, within))
 none-below n b (x ∷ xs) lt h zero d within = eqb-other x b (λ e. (let k : n ≤ x = h.0 in absurd (omega (arith, e, k, lt))))
 none-below n b (x ∷ xs) lt h (suc k) d within = none-below n b xs lt h.1 k d (omega (arith, within))
 
-index-least : (n i : ℕ) (xs : List ℕ) → i < length xs → AtLeast n xs → n ≤ slice_index xs i
+pub index-least : (n i : ℕ) (xs : List ℕ) → i < length xs → AtLeast n xs → n ≤ slice_index xs i
 index-least n i [] lt h = absurd (omega (arith, lt))
 index-least n zero (x ∷ xs) lt h = h.0
 index-least n (suc i) (x ∷ xs) lt h = index-least n i xs (omega (arith, lt)) h.1
@@ -92,7 +92,7 @@ digits-least : (ds : List ℕ) → AreDigits ds → AtLeast 48 ds
 digits-least [] h = tt
 digits-least (c ∷ cs) h = (let k = and_parts (is_ascii_digit c) (all_digits cs) h in ((digit-range c k.0).0, digits-least cs k.1))
 
-decimal-least : (n : ℕ) → n < 2 ^ 64 → AtLeast 48 (decimal n)
+pub decimal-least : (n : ℕ) → n < 2 ^ 64 → AtLeast 48 (decimal n)
 decimal-least n h = digits-least (decimal n) (digits_decimal numerals n h)
 
 table-least : AtLeast 48 lower_digits
@@ -160,10 +160,10 @@ whole : (fields : FrameFields) → fields.time ≤ 10 ^ 15 → fields.port ≤ 2
 whole fields early most =
     let t : min fields.time (2 ^ 64 - 1) ≡ fields.time = omega (arith, early) in let n : min fields.port (2 ^ 64 - 1) ≡ fields.port = omega (arith, most) in rw (t, n) refl
 
-no-fault : (time port : ℕ) → 1 ≤ port → port ≤ 24 → time ≤ 10 ^ 15 → None ≡ numbers_fault time port 0
-no-fault time port one most early = grind (arith, nat_tests, one, most, early)
+no-fault : (time port latest : ℕ) → 1 ≤ port → port ≤ 24 → time ≤ 10 ^ 15 → latest ≤ time → None ≡ numbers_fault time port latest
+no-fault time port latest one most early late = grind (arith, nat_tests, one, most, early, late)
 
-abbrev line_of : Side → ℕ → ℕ → List ℕ → List ℕ
+abbrev pub line_of : Side → ℕ → ℕ → List ℕ → List ℕ
 line_of side port time digits = 82 ∷ 32 ∷ (decimal time ++ 32 ∷ (side_text side ++ 32 ∷ (decimal port ++ 32 ∷ digits)))
 
 -- the letter of the side is one byte
@@ -175,15 +175,15 @@ feed-at letter port time bytes =
     let time_on = append_assoc (decimal time) (32 ∷ letter ∷ 32 ∷ (decimal port ++ 32 ∷ d)) (10 ∷ []) ∙ ap (λ (z : List ℕ). decimal time ++ 32 ∷ letter ∷ 32 ∷ z) port_on in
     ap (λ (z : List ℕ). 82 ∷ 32 ∷ z) time_on
 
-line-feed : (side : Side) (port time : ℕ) (bytes : List ℕ) → line_of side port time (encode_lower bytes) ++ 10 ∷ [] ≡ sent_line side port time bytes
+pub line-feed : (side : Side) (port time : ℕ) (bytes : List ℕ) → line_of side port time (encode_lower bytes) ++ 10 ∷ [] ≡ sent_line side port time bytes
 line-feed A port time bytes = feed-at 65 port time bytes ∙ grind (arith, common_steps)
 line-feed B port time bytes = feed-at 66 port time bytes ∙ grind (arith, common_steps)
 
 module _ (side : Side) (port time : ℕ) (bytes : List ℕ) (one : 1 ≤ port) (most : port ≤ 24) (early : time ≤ 10 ^ 15) (frame : AreOfFrame bytes) where
-  abbrev digits : List ℕ
+  abbrev pub digits : List ℕ
   digits = encode_lower bytes
 
-  abbrev line : List ℕ
+  abbrev pub line : List ℕ
   line = line_of side port time digits
 
   time_fits : time < 2 ^ 64
@@ -195,7 +195,7 @@ module _ (side : Side) (port time : ℕ) (bytes : List ℕ) (one : 1 ≤ port) (
   digits_least : AtLeast 48 digits
   digits_least = hex-least bytes frame.are_bytes
 
-  line-least : AtLeast 32 line
+  pub line-least : AtLeast 32 line
   line-least = (
     omega arith,
     (
@@ -248,12 +248,19 @@ module _ (side : Side) (port time : ℕ) (bytes : List ℕ) (one : 1 ≤ port) (
   r_one : 1 ≤ r.fields.port
   r_one = let n = r.port_is in omega (arith, n, one)
 
-  says : line_says 0 line ≡ Ok (Some (record { time = time; side = side; port = port; bytes = bytes }))
-  says =
-      says_frame 0 line line r.fields no-return refl (sym (ap (option_map saturated) fields-are ∙ ap Some (whole r.fields r_early r_most))) (no-fault r.fields.time r.fields.port r_one r_most r_early) r_early r_most
+  r_late : (latest : ℕ) → latest ≤ time → latest ≤ r.fields.time
+  r_late latest late = let t = r.time_is in omega (arith, t, late)
+
+  pub says-after : (latest : ℕ) → latest ≤ time → line_says latest line ≡ Ok (Some (record { time = time; side = side; port = port; bytes = bytes }))
+  says-after latest late =
+      says_frame latest line line r.fields no-return refl (sym (ap (option_map saturated) fields-are ∙ ap Some (whole r.fields r_early r_most)))
+      (no-fault r.fields.time r.fields.port latest r_one r_most r_early (r_late latest late)) r_early r_most
       ∙ ap (frame_with r.fields) (ap bytes_of_digits r.digits_are ∙ bytes-back bytes frame.are_bytes frame.least) ∙ r.frame
 
-  short : length line ≤ 4200
+  pub says : line_says 0 line ≡ Ok (Some (record { time = time; side = side; port = port; bytes = bytes }))
+  says = says-after 0 (omega arith)
+
+  pub short : length line ≤ 4200
   short =
       let t = length-decimal-le 16 time (omega arith) (omega (arith, early)) time_fits in
       let p = length-decimal-le 2 port (omega arith) (omega (arith, most)) port_fits in

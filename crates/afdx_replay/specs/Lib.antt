@@ -19,3 +19,5 @@ pub mod Sent
 pub mod SendProgress
 pub mod SendCommand
 pub mod SendLaws
+pub mod EndToEnd
+pub mod Merged

@@ -5,11 +5,9 @@ use Rattle.std.specs.Fmt.{decimal}
 use Rattle.hex.specs.Hex.{encode_lower}
 use Rattle.afdx_frame.specs.declared.link.Side.{Side}
 use Rattle.afdx_frame.specs.declared.link.Side.TheVariants.{A, B}
-use Rattle.afdx_frame.specs.Grammar.{built_frame}
 use Rattle.afdx_config.specs.LawfulStream.{Sending}
 use Rattle.afdx_config.specs.Rows.{SystemRow}
-use Rattle.afdx_port.specs.Schedule.{Turn}
-use Rattle.afdx_send.specs.Frames.{Frame, address_with}
+use Rattle.afdx_promises.specs.Sent.{sent_in}
 use Rattle.afdx_send.specs.declared.fault.SendFault.{SendFault}
 use Rattle.afdx_send.specs.declared.fault.SendFault.TheVariants.{NotMyLink, NoSuchSub, Empty, TooLarge, QueueFull, Memory}
 use Rattle.afdx_replay.specs.PoliceText.{side_text}
@@ -27,15 +25,6 @@ sent_line side port time bytes =
 abbrev pub emission_lines : ℕ → Sending → List ℕ
 emission_lines port y = sent_line A port y.time y.a ++ sent_line B port y.time y.b
 
--- the frame of an emission, as it is built for a network
-abbrev pub frame_on : SystemRow → Side → Frame → List ℕ
-frame_on s side f = built_frame (address_with s.id s.partition f) f.number side f.message.payload
-
--- what is sent in a slot
-abbrev pub sending_in : SystemRow → Turn Frame → Sending
-sending_in s turn =
-    record { time = turn.end; a = frame_on s A turn.entry.item; b = frame_on s B turn.entry.item }
-
 abbrev pub refusal_text : SendFault → List ℕ
 refusal_text NotMyLink = codes "S1"
 refusal_text NoSuchSub = codes "S2"
@@ -50,7 +39,7 @@ refusal_line n fault = codes "# " ++ decimal n ++ codes " " ++ refusal_text faul
 
 -- the lines of an event: a submission has one only where it is refused
 abbrev pub event_lines : SystemRow → Event → List ℕ
-event_lines s (Emitted turn) = emission_lines s.port (sending_in s turn)
+event_lines s (Emitted turn) = emission_lines s.port (sent_in s turn)
 event_lines s (Submitted x (Some fault)) = refusal_line x.line fault
 event_lines s (Submitted x None) = []
 

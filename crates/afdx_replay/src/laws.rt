@@ -1,7 +1,13 @@
 //! What is true of the definitions of a replay.
+ghost use Rattle.afdx_replay.specs.EndToEnd.{TakenIsToldOnce, RunsTellTakenOnce, TextsAreLists};
+ghost use Rattle.afdx_replay.specs.Merged.{MergedAreToldOnce};
 ghost use Rattle.afdx_replay.specs.ReplayPromises.{ArrivalsAreListed, NoneIsCounted};
 ghost use Rattle.afdx_replay.specs.ReplayPromises.{ReplayIsAsPromised, ReplaySoFarIsAsPromised};
-ghost use Rattle.afdx_replay.specs.SendLaws.{SentLinesAreArrivals};
+ghost use Rattle.afdx_replay.specs.SendLaws.{SentLinesAreArrivals, EventsAreOne, SendsAreOne};
+
+use afdx_frame::laws::built_is_computed;
+use afdx_promises::laws::sent_is_told_once;
+use afdx_send::laws::all_is_sent;
 
 /// Where the tables are admitted, what a replay tells is as promised: each virtual link's verdicts,
 /// and its frames that leave each switch port, in order, are the window rule's answer on that
@@ -29,3 +35,31 @@ pub fn arrivals_are_listed()
 pub fn sent_lines_are_arrivals()
     ensures { SentLinesAreArrivals }
 {}
+
+/// What a run that sends tells is determined by its list: there is one list of events of the
+/// submissions, after which all that was taken is emitted, and so one text and one summary.
+pub fn events_are_one()
+    ensures events { EventsAreOne }
+    ensures texts { SendsAreOne }
+{}
+
+/// Exactly once, end to end: where what `run_send` writes for a system is merged into a list that
+/// `run` reads, in any way that keeps its lines at the system's port in order, and whatever else
+/// the list holds, the M lines that `run` writes for each receiver of each link of that system are
+/// the messages which the sender took for the link, of those to the receiver's UDP ports: each
+/// once, in order of their releases; so, of a sub-VL, in the order in which they were handed over.
+///
+/// All tables that are lawful and admitted. The lists have no fault, and each emission ends by
+/// 10^15 ns, the last time of a list.
+///
+/// What a system sends is such a list by itself, where it has at most a million lines.
+pub fn taken_is_told_once()
+    ensures lines { TakenIsToldOnce }
+    ensures runs { RunsTellTakenOnce }
+    ensures merged { MergedAreToldOnce }
+    ensures alone { TextsAreLists }
+{
+    all_is_sent();
+    sent_is_told_once();
+    built_is_computed()
+}

@@ -2,6 +2,7 @@
 
 mod checks;
 mod devices;
+mod end_to_end;
 mod premises;
 mod refusals;
 mod replays;

@@ -52,16 +52,16 @@ emitted_in_time w h law in_time st =
     (released_all h.system h.links h.taken st.are_sent (all_fit w h st) st.released st.are_releases) (emitted_are w h law st)
 
 -- turns of one class go in the order of the entries
-record GoInOrder (n : ℕ) (turns : List (Turn Frame)) : Type 0 where
-  yes : (p : ℕ) → p < n → has_turn turns p ≡ true
-  no : (p : ℕ) → n ≤ p → has_turn turns p ≡ false
+pub record GoInOrder (n : ℕ) (turns : List (Turn Frame)) : Type 0 where
+  pub yes : (p : ℕ) → p < n → has_turn turns p ≡ true
+  pub no : (p : ℕ) → n ≤ p → has_turn turns p ≡ false
 
 element : {Y : Type 0} (xs : List Y) (i : ℕ) → i < length xs → (x : Y) × (slice_get xs i ≡ Some x)
 element [] i lt = absurd (omega arith)
 element (x ∷ xs) zero lt = (x, refl)
 element (x ∷ xs) (suc i) lt = element xs i (omega arith)
 
-next_place : (b n : ℕ) (es : List (Entry Frame)) (earlier : List (Turn Frame)) (s : Turn Frame) → AreOurs es → GoInOrder n earlier → IsNext b es earlier s → s.place ≡ n
+pub next_place : (b n : ℕ) (es : List (Entry Frame)) (earlier : List (Turn Frame)) (s : Turn Frame) → AreOurs es → GoInOrder n earlier → IsNext b es earlier s → s.place ≡ n
 next_place b n es earlier s ours g k =
     let within = slice_get_within es s.place s.entry k.own.stands in
     elim (cases_lt s.place n) [
@@ -75,7 +75,7 @@ or_true : (a b : Bool) → b ≡ true → (a || b) ≡ true
 or_true true b h = refl
 or_true false b h = h
 
-order_after : (n : ℕ) (earlier : List (Turn Frame)) (s : Turn Frame) → s.place ≡ n → GoInOrder n earlier → GoInOrder (n + 1) (s ∷ earlier)
+pub order_after : (n : ℕ) (earlier : List (Turn Frame)) (s : Turn Frame) → s.place ≡ n → GoInOrder n earlier → GoInOrder (n + 1) (s ∷ earlier)
 order_after n earlier s at g = record {
   yes = λ p lt. elim (cases_eq p n) [
     | inl e ↦ rw (eqb-same s.place p (at ∙ sym e)) refl
@@ -84,7 +84,7 @@ order_after n earlier s at g = record {
   no = λ p le. rw (eqb-other s.place p (λ e. omega arith)) (g.no p (omega arith));
 }
 
-go_in_order : (b : ℕ) (es : List (Entry Frame)) (turns : List (Turn Frame)) → AreOurs es → AreTurns b es turns → GoInOrder (length turns) turns
+pub go_in_order : (b : ℕ) (es : List (Entry Frame)) (turns : List (Turn Frame)) → AreOurs es → AreTurns b es turns → GoInOrder (length turns) turns
 go_in_order b es [] ours are = record { yes = λ p lt. absurd (omega arith); no = λ p le. refl }
 go_in_order b es (s ∷ earlier) ours are =
     let g = go_in_order b es earlier ours are.1 in
@@ -93,20 +93,20 @@ go_in_order b es (s ∷ earlier) ours are =
     subst (λ (z : ℕ). GoInOrder z (s ∷ earlier)) n a
 
 -- each turn is that of the release at its place
-pub Pairs : List (Turn Frame) → List LinkRelease → Type 0
+unfoldable pub Pairs : List (Turn Frame) → List LinkRelease → Type 0
 Pairs [] [] = Unit {0}
 Pairs [] (x ∷ xs) = ⊥
 Pairs (s ∷ ss) [] = ⊥
 Pairs (s ∷ ss) (x ∷ xs) = (s.entry ≡ entry_for x (length (own x.place xs))) × Pairs ss xs
 
-pairs_length : (ss : List (Turn Frame)) (xs : List LinkRelease) → Pairs ss xs → length ss ≡ length xs
+pub pairs_length : (ss : List (Turn Frame)) (xs : List LinkRelease) → Pairs ss xs → length ss ≡ length xs
 unfolding Pairs
 pairs_length [] [] p = refl
 pairs_length [] (x ∷ xs) p = absurd p
 pairs_length (s ∷ ss) [] p = absurd p
 pairs_length (s ∷ ss) (x ∷ xs) p = ap (λ n. suc n) (pairs_length ss xs p.1)
 
-entries_length : (xs : List LinkRelease) → length (entries_of xs) ≡ length xs
+pub entries_length : (xs : List LinkRelease) → length (entries_of xs) ≡ length xs
 entries_length [] = refl
 entries_length (x ∷ xs) = length_push (entries_of xs) (entry_for x (length (own x.place xs))) ∙ (let e = entries_length xs in omega arith)
   where
@@ -114,13 +114,13 @@ entries_length (x ∷ xs) = length_push (entries_of xs) (entry_for x (length (ow
     length_push [] y = refl
     length_push (z ∷ zs) y = (let r = length_push zs y in omega arith)
 
-record Paired (all : List LinkRelease) (turns : List (Turn Frame)) : Type 0 where
-  first : List LinkRelease
-  later : List LinkRelease
-  is : all ≡ later ++ first
-  pairs : Pairs turns first
+pub record Paired (all : List LinkRelease) (turns : List (Turn Frame)) : Type 0 where
+  pub first : List LinkRelease
+  pub later : List LinkRelease
+  pub is : all ≡ later ++ first
+  pub pairs : Pairs turns first
 
-paired : (links : List LinkRow) (taken : List (List Submission)) (b : ℕ) (all : List LinkRelease) (turns : List (Turn Frame)) → AreAllReleases links taken all → AreTurns b (entries_of all) turns → Paired all turns
+pub paired : (links : List LinkRow) (taken : List (List Submission)) (b : ℕ) (all : List LinkRelease) (turns : List (Turn Frame)) → AreAllReleases links taken all → AreTurns b (entries_of all) turns → Paired all turns
 unfolding Pairs
 paired links taken b all [] h are = record { first = []; later = all; is = sym (append_none all); pairs = tt }
 paired links taken b all (s ∷ earlier) h are =
@@ -168,9 +168,9 @@ last_moment b t k r (q ∷ rs) le h e = elim (get_either (moments_of rs) q.time 
   | inr new ↦ (let s : r ≡ q.time = new.1 in omega arith)
 ]
 
-record Lawful (s : SystemRow) (l : LinkRow) (rs : List Release) (stream : List Sending) : Type 0 where
-  lawful : IsLawfulStream s l (sent_list rs) stream
-  moments : lawful.moments ≡ moments_of rs
+pub record Lawful (s : SystemRow) (l : LinkRow) (rs : List Release) (stream : List Sending) : Type 0 where
+  pub lawful : IsLawfulStream s l (sent_list rs) stream
+  pub moments : lawful.moments ≡ moments_of rs
 
 none_yet : (s : SystemRow) (l : LinkRow) → Lawful s l [] []
 none_yet s l = record {
@@ -263,7 +263,7 @@ is_sent s l n x k end y row lawful fits is =
     record { a = own.a; b = own.b; a_length = (omega arith, omega arith); b_length = (omega arith, omega arith) }
 
 -- the emissions of one link
-stream_of : (s : SystemRow) (links : List LinkRow) (taken : List (List Submission)) (b span : ℕ) (es : List (Entry Frame)) (place : ℕ) (l : LinkRow) → AreSent s links → AllFit links taken → slice_get links place ≡ Some l → span ≤ jitter (regulation_of l) →
+pub stream_of : (s : SystemRow) (links : List LinkRow) (taken : List (List Submission)) (b span : ℕ) (es : List (Entry Frame)) (place : ℕ) (l : LinkRow) → AreSent s links → AllFit links taken → slice_get links place ≡ Some l → span ≤ jitter (regulation_of l) →
     (turns : List (Turn Frame)) (xs : List LinkRelease) (stream : List Sending) → AreOurs es → AreTurns b es turns → All (λ t. t.end ≤ t.entry.time + span) turns → AreAllReleases links taken xs → Pairs turns xs → AreSendings s l.vl turns stream →
     Lawful s l (own place xs) stream
 unfolding Pairs AreDistinct

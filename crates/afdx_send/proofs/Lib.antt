@@ -6,10 +6,13 @@ mod OwnLemmas
 mod StandLemmas
 mod FullLemmas
 mod KeptLemmas
-mod NextLemmas
+pub mod NextLemmas
 mod EmitLemmas
 mod AddLemmas
 mod SubmitLemmas
-mod NewLemmas
-mod LawLemmas
+pub mod NewLemmas
+pub mod LawLemmas
 mod DoneLemmas
+mod OrderLemmas
+mod CompleteLemmas
+pub mod OneLemmas

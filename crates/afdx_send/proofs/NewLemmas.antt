@@ -139,7 +139,7 @@ passes_filter p (y ∷ ys) i x h = by (p y) refl i h (λ k g. passes_filter p ys
     by true e (suc k) g rec = rec k g
     by false e k g rec = rec k g
 
-from_filter : {Y : Type 0} (p : Y → Bool) (xs : List Y) (i : ℕ) (x : Y) → slice_get (filter p xs) i ≡ Some x → (j : ℕ) × (slice_get xs j ≡ Some x)
+pub from_filter : {Y : Type 0} (p : Y → Bool) (xs : List Y) (i : ℕ) (x : Y) → slice_get (filter p xs) i ≡ Some x → (j : ℕ) × (slice_get xs j ≡ Some x)
 from_filter p [] i x h = absurd (cc h)
 from_filter p (y ∷ ys) i x h = by (p y) i h (λ k g. from_filter p ys k x g)
   where
@@ -162,7 +162,7 @@ filter_distinct f p (x ∷ xs) d i j a b h k e = by (p x) i j h k (filter_distin
     by true (suc m) (suc n) g l rest = ap (λ z. suc z) (rest m n a b g l e)
     by false m n g l rest = rest m n a b g l e
 
-distinct_links : (links : List LinkRow) (system : ℕ) → AreDistinct (λ l. l.vl) links → AreDistinct (λ l. l.vl) (links_from links system)
+pub distinct_links : (links : List LinkRow) (system : ℕ) → AreDistinct (λ l. l.vl) links → AreDistinct (λ l. l.vl) (links_from links system)
 unfolding AreDistinct
 distinct_links links system d = filter_distinct (λ l. l.vl) (λ l. nat_eq l.from system) links d
 

@@ -7,3 +7,4 @@ pub mod Lines
 pub mod Sender
 pub mod New
 pub mod Laws
+pub mod Complete

@@ -1,8 +1,9 @@
 //! What is true of each sender that stands for calls, over definitions alone.
 ghost use Rattle.afdx_send.specs.Laws.{EmissionsAreInTime, EmissionsAreLawful, FirstReleasesAgree};
+ghost use Rattle.afdx_send.specs.Complete.{AllIsSent, EmissionsAreOfTaken};
 
 use crate::released::Released;
-use afdx_bounds::laws::sender_is_bounded;
+use afdx_bounds::laws::{sender_is_bounded, tables_are_served};
 use afdx_port::laws::taken_are_on_schedule;
 
 /// Each emission ends when one frame of each of the system's links could have been sent since its
@@ -22,3 +23,17 @@ pub fn emissions_are_lawful()
 pub fn first_releases_agree()
     ensures { FirstReleasesAgree }
 {}
+
+/// Where admitted tables' system has emitted all that it took, what each of its links has emitted
+/// is a lawful stream of the messages that the link took: each once, and those of a sub-VL in the
+/// order in which they came.
+///
+/// Each emission is the frame of one of them. This is so for all emissions that are the slots of
+/// all releases, whatever sent them.
+pub fn all_is_sent()
+    ensures sent { AllIsSent }
+    ensures frames { EmissionsAreOfTaken }
+{
+    sender_is_bounded::<Released>();
+    tables_are_served()
+}
