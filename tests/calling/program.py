@@ -5,7 +5,9 @@ import os
 import subprocess
 import sys
 import tempfile
+import threading
 import time
+from concurrent.futures import ThreadPoolExecutor
 from typing import Callable, NamedTuple
 
 TOP = os.path.dirname(os.path.dirname(os.path.dirname(os.path.abspath(__file__))))
@@ -27,14 +29,18 @@ class Wrong(Exception):
 def must(holds: bool, text: str) -> None:
     """Raises the text where something doesn't hold."""
     if not holds:
-        raise Wrong(text)
+        raise Wrong(text or "not as wanted")
 
 
 class Program:
     """The program, with a folder for its files."""
 
     def __init__(self, path: str, folder: str) -> None:
-        self.path, self.folder, self.runs = os.path.abspath(path), folder, 0
+        self.path, self.folder = os.path.abspath(path), folder
+
+    def apart(self) -> Program:
+        """The same program, with a folder of its own."""
+        return Program(self.path, tempfile.mkdtemp(dir=self.folder))
 
     def write(self, name: str, content: bytes) -> str:
         """A file in the folder; its path."""
@@ -45,7 +51,6 @@ class Program:
 
     def run(self, *words: str, given: bytes = b"", env: dict[str, str] | None = None) -> Answer:
         """One run; `given` is what it reads on standard input."""
-        self.runs += 1
         try:
             done = subprocess.run(
                 [self.path, *words],
@@ -91,7 +96,7 @@ class Cases:
 
     def __init__(self) -> None:
         self.passed = self.failed = 0
-        self.began = time.monotonic()
+        self.telling = threading.Lock()
 
     def try_case(self, name: str, case: Callable[..., None], *given: object) -> None:
         """One case: it passes where it raises nothing."""
@@ -99,12 +104,21 @@ class Cases:
         try:
             case(*given)
         except Wrong as wrong:
-            self.failed += 1
-            print(f"FAILED {name}\n    {wrong}", flush=True)
+            fault = str(wrong)
         else:
-            self.passed += 1
-            took = time.monotonic() - began
-            print(f"ok {name}" + (f" ({took:.0f} s)" if took >= 2 else ""), flush=True)
+            fault = ""
+        took = time.monotonic() - began
+        with self.telling:
+            self.passed += not fault
+            self.failed += bool(fault)
+            text = f"FAILED {name}\n    {fault}" if fault else f"ok {name}"
+            print(text + (f" ({took:.0f} s)" if took >= 2 and not fault else ""), flush=True)
+
+    def try_at_once(self, cases: list[tuple]) -> None:
+        """So many cases at a time as there are processors; each is a name, a case, and what it is given."""
+        with ThreadPoolExecutor(os.cpu_count()) as pool:
+            for future in [pool.submit(self.try_case, *case) for case in cases]:
+                future.result()
 
     def told(self) -> int:
         """The last line; the status to end with."""
