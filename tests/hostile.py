@@ -240,6 +240,8 @@ def large_configs() -> list[tuple[str, bytes, bytes]]:
     link = b"[[link]]\nvl = 1\nfrom = 's1'\nto = ["
     known = b"[[system]]\nname = 's1'\nport = 1\nid = 1\npartition = 1\nrate = 100\n"
     return [
+        ("arrays 80 deep", head + b"x = " + b"[" * 80 + b"]" * 80, b"UnknownKey top 0 key 0"),
+        ("arrays 81 deep", head + b"x = " + b"[" * 81 + b"]" * 81, b"NotToml"),
         ("arrays in arrays, open", head + b"x = " + b"[" * room, b"NotToml"),
         ("arrays in arrays", head + b"x = " + b"[" * (room // 2) + b"]" * (room // 2), b"NotToml"),
         ("tables in tables, open", head + b"x = " + b"{a=" * (room // 3), b"NotToml"),
