@@ -220,7 +220,11 @@ fn tables_print(rt: HostRuntime) -> Result<(), Fail> {
 fn refused_readings_are_made_again(rt: HostRuntime) -> Result<(), Fail> {
     let tables = read(rt.alloc(), BASE.as_bytes())?;
     assert_eq!(rt;
-        (tables.system_count(), tables.link_count(), tables.com_count()),
+        (
+            tables.system_count(),
+            tables.link_count(),
+            tables.com_count()
+        ),
         (3, 2, 2)
     );
     let fault = last(rt.alloc(), "depth = 4", "depth = 65")?;

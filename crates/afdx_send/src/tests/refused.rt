@@ -56,13 +56,22 @@ fn a_refused_emission_is_left_to_be_taken(rt: HostRuntime) -> Result<(), Fail> {
     let first = emit(&mut sender, 6720)?.ok_or("an emission")?;
     assert_eq!(rt; first.time, 6720);
     assert_eq!(rt; (byte_at(&first.a, 59), byte_at(&first.b, 59)), (0, 0));
-    assert_eq!(rt; (byte_at(&first.a, 42), byte_at(&first.b, 42)), (0x61, 0x61));
+    assert_eq!(rt;
+        (byte_at(&first.a, 42), byte_at(&first.b, 42)),
+        (0x61, 0x61)
+    );
     let second = emit(&mut sender, 1006720)?.ok_or("an emission")?;
     assert_eq!(rt; second.time, 1006720);
     assert_eq!(rt; (byte_at(&second.a, 59), byte_at(&second.b, 59)), (1, 1));
-    assert_eq!(rt; (byte_at(&second.a, 42), byte_at(&second.b, 42)), (0x63, 0x63));
+    assert_eq!(rt;
+        (byte_at(&second.a, 42), byte_at(&second.b, 42)),
+        (0x63, 0x63)
+    );
     let third = emit(&mut sender, 3000000)?.ok_or("an emission")?;
     assert_eq!(rt; third.time, 2006720);
-    assert_eq!(rt; (byte_at(&third.a, 42), byte_at(&third.b, 42)), (0x62, 0x62));
+    assert_eq!(rt;
+        (byte_at(&third.a, 42), byte_at(&third.b, 42)),
+        (0x62, 0x62)
+    );
     Ok(())
 }
