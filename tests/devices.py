@@ -183,6 +183,22 @@ def many_writes(weak: Weak) -> None:
                 never_again(calls, "w")
 
 
+def large_texts(weak: Weak) -> None:
+    """A text of several buffers: where one can't be handed over, the list isn't read on."""
+    for most in (0, 5000):
+        found, calls = weak.run(most)
+        weak.ends(found, (0, b""), weak.whole.out)
+        written = of_kind(calls, "w")
+        must(len(written) > 3, f"{len(written)} writes")
+        must(most > 0 or max(call.asked for call in written) <= 65_536 + 4_200, "more is held than a buffer and a line")
+        for k in (1, 2, 3, len(written)):
+            for how in ("fails", "once", "none"):
+                found, calls = weak.run(most, write=f"{k}:{how}")
+                weak.ends(found, WRITE, weak.whole.out[: sum(call.answer for call in written[: k - 1])])
+                never_again(calls, "w")
+                must(calls[-1].kind == "w", "more was read after a failed write")
+
+
 def weak_check(program: Program, tables: dict, status: int) -> None:
     """`check`: each write of its text, and each read of its configuration, in turn."""
     shim = os.path.join(program.folder, "devices.so")
@@ -279,6 +295,12 @@ def try_all(cases: Cases, program: Program) -> None:
         ("send", ["send", config, "s1"], MESSAGES["four messages"]),
     ):
         all_cases.append((f"{command}: more than 1,000 writes", many_writes, Weak(program, words, given, False)))
+    for command, words, line in (
+        ("police", POLICE, b"R 0 A 1 -\n"),
+        ("replay", ["replay", config], b"R 0 A 1 -\n"),
+        ("send", ["send", config, "s1"], b"0 2 1 1000 61\n"),
+    ):
+        all_cases.append((f"{command}: more than a buffer", large_texts, Weak(program, words, line * 30_000, True)))
     all_cases.append(("check", weak_check, program, TABLES, 0))
     all_cases.append(("check, not admitted", weak_check, program, TABLES | {"buffer": 64}, 1))
     for name, words, given, status in (

@@ -6,9 +6,10 @@
 What `send` writes is compared byte for byte with frames and times that tests/calling computes apart from the
 program. Its replay must accept every frame, lose none, and deliver each message once and in order to each
 system that has a port for it. Tried are messages of every length, numbers that go round, all systems of
-examples/network.toml at once, strangers under the links' names, a side that dies or is late, long lists, and
-the largest tables. Prints `ok NAME` or `FAILED NAME` for each case, then `N passed, M failed`; ends with
-status 1 if a case failed. Needs Python 3, and for examples/network.toml Python 3.11.
+examples/network.toml at once, strangers under the links' names, a side that dies or is late, long lists, how
+much memory they take, and the largest tables. Prints `ok NAME` or `FAILED NAME` for each case, then
+`N passed, M failed`; ends with status 1 if a case failed. Needs Python 3, and for examples/network.toml
+Python 3.11.
 """
 from __future__ import annotations
 
@@ -260,6 +261,39 @@ def long_stream(program: Program, count: int) -> None:
     same_text("the replay", wanted, replayed(program, tables, text))
 
 
+def least_memory(program: Program, words: list[str]) -> int:
+    """The least address space, in KiB and to the nearest 64, in which the run doesn't want memory."""
+    low, high = 0, 1 << 20
+    while high - low > 64:
+        middle = (low + high) // 2
+        if program.run_limited(middle, *words).status == 0:
+            high = middle
+        else:
+            low = middle
+    return high
+
+
+def bounded_memory(program: Program, count: int) -> None:
+    """So many accepted frames, or messages, take the memory that a hundredth of them takes."""
+    tables = made.base_tables()
+    config = program.write("config", made.text_of(tables))
+    frame = frame_of(tables["system"][0], 1, 1000, b"hello", 0, "A").hex().encode()
+    lines = [b"R %d A 1 %s\n" % (k * MS, frame) for k in range(count)]
+    messages = [b"%d 1 1 1000 61\n" % (k * MS) for k in range(count)]
+    for words, all_lines in (
+        (["police", "1", "64", "500"], lines),
+        (["replay", config], lines),
+        (["replay", "--no-admission", config], lines),
+        (["send", config, "s1"], messages),
+    ):
+        few = program.write("few", b"".join(all_lines[: count // 100]))
+        room = least_memory(program, [*words, few])
+        many = program.write("many", b"".join(all_lines))
+        found = program.run_limited(room + 64, *words, many)
+        answers(found, 0, None, b"")
+        must(found.out.count(b"\n") >= count, f"{words[0]} writes {found.out.count(10)} lines")
+
+
 def largest(program: Program) -> None:
     """A message on each of 4,096 links at once, each frame to 23 ports."""
     tables = made.largest_tables()
@@ -323,6 +357,7 @@ def try_all(cases: Cases, program: Program) -> None:
         cases.try_case("every system of network.toml", every_system, program, network, 12)
     cases.try_case("5,000 accepted frames policed", long_police, program, 5000)
     cases.try_case("5,000 messages sent and replayed", long_stream, program, 5000)
+    cases.try_case("memory that doesn't grow with the list", bounded_memory, program, 100_000)
     cases.try_case("the largest tables: one frame", largest_one_frame, program)
     cases.try_case("the largest tables: a message on each link", largest, program)
 

@@ -65,6 +65,12 @@ class Program:
             raise Wrong(f"{' '.join(words)} takes more than {LONGEST} s") from None
         return Answer(done.returncode, done.stdout, done.stderr)
 
+    def run_limited(self, room: int, *words: str) -> Answer:
+        """One run in an address space of so many KiB."""
+        limited = ["sh", "-c", 'ulimit -v "$0" && exec "$@"', str(room), self.path, *words]
+        done = subprocess.run(limited, capture_output=True, cwd=self.folder, timeout=LONGEST, check=False)
+        return Answer(done.returncode, done.stdout, done.stderr)
+
 
 def short(text: bytes | str) -> str:
     """The text, or its beginning where it is long."""
