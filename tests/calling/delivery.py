@@ -5,7 +5,6 @@ import re
 
 from frames import Sent, slot
 from program import must
-from tables import system_named
 
 
 def told_pairs(tables: dict, sent: list[Sent], port: int, first: int = 1) -> bytes:
@@ -65,7 +64,6 @@ def check_delivered(tables: dict, sent: list[Sent], out: bytes) -> None:
     open_ports = {(row["system"], row["link"], row["udp"]) for row in tables["port"]}
     for link in tables["link"]:
         for name in link["to"]:
-            system_named(tables, name)
             of_link = by_link.get(link["vl"], [])
             wanted = [one.payload for one in of_link if (name, one.vl, one.udp) in open_ports]
             found = read.pop((name, link["vl"]), [])

@@ -5,7 +5,6 @@ import zlib
 from typing import NamedTuple
 
 OVERHEAD = 20  # bytes of the line beside a frame: preamble, delimiter, gap
-HEAD = 42  # bytes before the payload
 AROUND = 47  # bytes of a frame beside payload and padding
 NETWORK = {"A": 0x20, "B": 0x40}
 
