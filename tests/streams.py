@@ -20,7 +20,7 @@ import sys
 sys.dont_write_bytecode = True
 sys.path.insert(0, os.path.join(os.path.dirname(os.path.abspath(__file__)), "calling"))
 import tables as made  # noqa: E402
-from delivery import check_all_accepted, check_delivered, lines_to, renumbered, told_pairs  # noqa: E402
+from delivery import bounds_of, check_all_accepted, check_delivered, lines_to, renumbered, told_pairs  # noqa: E402
 from frames import frame_of, number_of, slot  # noqa: E402
 from program import Cases, Program, answers, main_of, must, same_text  # noqa: E402
 from sender import Message, emissions, list_sent, submission_list  # noqa: E402
@@ -44,6 +44,14 @@ def replayed(program: Program, tables: dict, text: bytes) -> bytes:
     answers(first, 0, None, b"")
     answers(second, 0, first.out, b"")
     return first.out
+
+
+def bounds(program: Program, tables: dict) -> dict[tuple[int, str], int]:
+    """What `check` says that a frame takes at most, in tables that are admitted."""
+    found = program.run("check", program.write("config", made.text_of(tables)))
+    answers(found, 0, None, b"")
+    must(found.out.endswith(b"ok\n"), "check doesn't end with ok")
+    return bounds_of(found.out)
 
 
 def letters(count: int) -> bytes:
@@ -152,7 +160,7 @@ def every_system(program: Program, tables: dict, count: int) -> None:
         sent += emissions(tables, system["name"], messages)
     text = merged(lists)
     out = replayed(program, tables, text)
-    check_all_accepted(tables, text, out)
+    check_all_accepted(tables, bounds(program, tables), text, out)
     check_delivered(tables, sorted(sent, key=lambda one: one.end), out)
     last = int(text.splitlines()[-1].split(b" ")[1])
     others = strangers(tables, last, 2000, chance)
@@ -297,11 +305,7 @@ def bounded_memory(program: Program, count: int) -> None:
 def largest(program: Program) -> None:
     """A message on each of 4,096 links at once, each frame to 23 ports."""
     tables = made.largest_tables()
-    config = program.write("config", made.text_of(tables))
-    found = program.run("check", config)
-    answers(found, 0, None, b"")
-    bounds = found.out.splitlines()
-    must(len(bounds) == 25 and bounds[-1] == b"ok", "check doesn't tell 24 ports and ok")
+    must(len(bounds(program, tables)) == 2 * 24, "check doesn't tell of 24 ports")
     lists, sent = [], []
     for system in tables["system"]:
         own = [link for link in tables["link"] if link["from"] == system["name"]]
@@ -311,7 +315,7 @@ def largest(program: Program) -> None:
     text = merged(lists)
     out = replayed(program, tables, text)
     must(out.count(b"\nD ") == 2 * 4096 * 23, f"{out.count(b'D ')} copies left")
-    check_all_accepted(tables, text, out)
+    check_all_accepted(tables, bounds(program, tables), text, out)
     check_delivered(tables, sent, out)
 
 

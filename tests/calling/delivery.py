@@ -23,8 +23,18 @@ def told_pairs(tables: dict, sent: list[Sent], port: int, first: int = 1) -> byt
     return b"".join(lines)
 
 
-def check_all_accepted(tables: dict, text: bytes, out: bytes) -> None:
-    """Each frame of the list is accepted, and each of its copies leaves once and within the link's latency."""
+def bounds_of(told: bytes) -> dict[tuple[int, str], int]:
+    """The bounds that `check` tells of admitted tables, in ns, by port and priority."""
+    bounds = {}
+    for line in told.splitlines()[:-1]:
+        _, port, high, low, _ = line.split(b" ")
+        bounds[int(port), "high"], bounds[int(port), "low"] = int(high), int(low)
+    return bounds
+
+
+def check_all_accepted(tables: dict, bounds: dict[tuple[int, str], int], text: bytes, out: bytes) -> None:
+    """Each frame of the list is accepted, and each of its copies leaves once, within the port's bound and the
+    link's latency."""
     links = {link["vl"]: link for link in tables["link"]}
     ports = {system["name"]: system["port"] for system in tables["system"]}
     waiting = {}
@@ -41,10 +51,11 @@ def check_all_accepted(tables: dict, text: bytes, out: bytes) -> None:
             must(words[1:] == [b"%d" % accepted, waiting[accepted][1], b"accept"], f"a verdict is {line!r}")
         elif words[0] == b"D":
             time, side, link = waiting[int(words[1])]
-            stay = int(words[2]) - time
-            must(words[3] == side and 0 < stay <= 1000 * link["latency_us"], f"{line!r} after {stay} ns")
-            must(int(words[4]) not in left[int(words[1])], f"{line!r} came before")
-            left[int(words[1])].add(int(words[4]))
+            stay, port = int(words[2]) - time, int(words[4])
+            longest = min(1000 * link["latency_us"], bounds[port, link["priority"]])
+            must(words[3] == side and 0 < stay <= longest, f"{line!r} after {stay} ns")
+            must(port not in left[int(words[1])], f"{line!r} came before")
+            left[int(words[1])].add(port)
     must(accepted == len(waiting), f"{accepted} of {len(waiting)} frames have a verdict")
     for number, (_, _, link) in waiting.items():
         must(left[number] == {ports[name] for name in link["to"]}, f"line {number} left ports {left[number]}")
