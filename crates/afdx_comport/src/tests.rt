@@ -126,7 +126,7 @@ fn takes(rt: &impl Abort, ports: &mut ComPorts, byte: u8) -> bool {
 }
 
 #[test]
-fn first_in_is_first_out(rt: HostRuntime) -> Result<(), Fail> {
+fn first_in_is_first_out_through_refused_puts(rt: HostRuntime) -> Result<(), Fail> {
     let mut ports = base_ports(rt.alloc())?;
     for byte in 1..5 {
         assert_eq!(rt; put(&rt, &mut ports, 2, 2000, 0, byte), Ok(()));

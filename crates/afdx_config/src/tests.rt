@@ -215,3 +215,19 @@ fn tables_print(rt: HostRuntime) -> Result<(), Fail> {
     );
     Ok(())
 }
+
+#[test]
+fn refused_readings_are_made_again(rt: HostRuntime) -> Result<(), Fail> {
+    let tables = read(rt.alloc(), BASE.as_bytes())?;
+    assert_eq!(rt;
+        (
+            tables.system_count(),
+            tables.link_count(),
+            tables.com_count()
+        ),
+        (3, 2, 2)
+    );
+    let fault = last(rt.alloc(), "depth = 4", "depth = 65")?;
+    assert_eq!(rt; fault, Some(ConfigFault::OutOfRange(at(Part::Port, 2, 5))));
+    Ok(())
+}

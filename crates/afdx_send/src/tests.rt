@@ -9,6 +9,8 @@ use afdx_frame::VlId;
 use std::alloc::{AllocError, Global};
 use std::test::Fail;
 
+mod refused;
+
 /// Three systems and two links to the third, one high and one low.
 const BASE: &str = r#"profile = 1
 buffer = 252
@@ -175,7 +177,7 @@ fn sub_vls_are_served_in_turn(rt: HostRuntime) -> Result<(), Fail> {
 }
 
 #[test]
-fn refused_messages_are_named(rt: HostRuntime) -> Result<(), Fail> {
+fn wrong_messages_are_named(rt: HostRuntime) -> Result<(), Fail> {
     let alloc = rt.alloc();
     let mut sender = sender(alloc, BASE, 0)?;
     let zeros = [0; 18];

@@ -9,6 +9,8 @@ use afdx_police::Reason;
 use std::alloc::{AllocError, Global};
 use std::test::Fail;
 
+mod refused;
+
 /// Three systems and two links to the third, one high and one low.
 const BASE: &str = r#"profile = 1
 buffer = 252

@@ -85,7 +85,7 @@ fn messages_are_sent_in_turn(rt: HostRuntime) -> Result<(), Fail> {
 }
 
 #[test]
-fn refused_messages_are_written(rt: HostRuntime) -> Result<(), Fail> {
+fn wrong_messages_are_written(rt: HostRuntime) -> Result<(), Fail> {
     let zeros = "000000000000000000000000000000000000";
     let list = format!(in rt.alloc();
         "0 2 1 1000 00\n0 1 3 1000 00\n0 1 1 1000 -\n0 1 1 1000 {zeros}\n"

@@ -1,0 +1,184 @@
+"""The first fault of a configuration and of a list, by the orders of docs/FORMATS.md, apart from the program."""
+from __future__ import annotations
+
+import re
+from typing import Iterator
+
+from tables import tomllib
+
+BAGS = (1, 2, 4, 8, 16, 32, 64, 128)
+MOST_LINES, LONGEST_LINE, LATEST = 1_000_000, 4_200, 10**15
+KEYS = {
+    "top": ["profile", "buffer", "system", "link", "port"],
+    "system": ["name", "port", "id", "partition", "rate"],
+    "link": ["vl", "from", "to", "bag_ms", "lmin", "lmax", "jitter_us", "priority", "policing"]
+    + ["latency_us", "skew_us", "subs"],
+    "port": ["system", "link", "udp", "kind", "depth"],
+}
+MOST_ROWS = {"system": 24, "link": 4096, "port": 4096}
+TEXTS = ("name", "from", "priority", "policing", "kind")
+RANGES = {
+    **{"port": (1, 24), "id": (0, 65535), "partition": (0, 255), "vl": (0, 65535), "lmin": (64, 1518)},
+    **{"latency_us": (1, 100000), "skew_us": (1, 100000), "subs": (1, 4), "udp": (1, 65535)},
+}
+
+
+def is_whole(value: object) -> bool:
+    """A whole number; in Python a truth value is one too."""
+    return isinstance(value, int) and not isinstance(value, bool)
+
+
+def is_of_kind(part: str, key: str, value: object) -> bool:
+    """The value is of the key's kind."""
+    if key == "to":
+        return isinstance(value, list) and all(isinstance(name, str) for name in value)
+    if key in TEXTS or (part, key) == ("port", "system"):
+        return isinstance(value, str)
+    return is_whole(value)
+
+
+def in_range(tables: dict, part: str, row: dict, key: str) -> bool:
+    """The value, of its kind, is in its range."""
+    value = row[key]
+    lower = {"name": r"[A-Za-z0-9]{1,16}", "priority": "high|low", "policing": "byte|frame", "kind": "sampling|queuing"}
+    if key in lower:
+        return re.fullmatch(lower[key], value) is not None
+    if key == "to":
+        return 1 <= len(value) <= 24
+    if (part, key) == ("port", "link"):
+        return any(link["vl"] == value and row["system"] in link["to"] for link in tables["link"])
+    if key in ("from", "system"):
+        return True
+    if key == "rate":
+        return value in ((10, 100, 1000) if tables["profile"] == 2 else (10, 100))
+    if key == "bag_ms":
+        return value in BAGS
+    low, high = RANGES.get(key, (0, 0))
+    if key == "lmax":
+        low, high = row["lmin"], 1518
+    if key == "jitter_us":
+        low, high = 0, 1000 * row["bag_ms"]
+    if key == "depth":
+        low, high = 1, 1 if row["kind"] == "sampling" else 64
+    return low <= value <= high
+
+
+def names_systems(tables: dict, part: str, row: dict, key: str) -> bool:
+    """Each system that the value names is there."""
+    if key not in ("from", "to") and (part, key) != ("port", "system"):
+        return True
+    names = [system["name"] for system in tables["system"]]
+    return all(name in names for name in (row["to"] if key == "to" else [row[key]]))
+
+
+def is_new(tables: dict, part: str, place: int, key: str) -> bool:
+    """The value stood not earlier."""
+    rows, row = tables[part][:place], tables[part][place]
+    if (part == "system" and key in ("name", "port", "id")) or (part, key) == ("link", "vl"):
+        return all(other[key] != row[key] for other in rows)
+    if key == "to":
+        return len(set(row["to"])) == len(row["to"]) and row["from"] not in row["to"]
+    if (part, key) == ("port", "udp"):
+        three = ("system", "link", "udp")
+        return all(any(other[each] != row[each] for each in three) for other in rows)
+    return True
+
+
+def faults_of(tables: dict) -> Iterator[str]:
+    """The faults of tables in their order; only the first one counts."""
+    if not is_whole(tables.get("profile")) or tables["profile"] not in (1, 2):
+        yield "BadProfile"
+    if "buffer" not in tables:
+        yield "Missing top 0 key 2"
+    if not is_whole(tables["buffer"]):
+        yield "WrongKind top 0 key 2"
+    if not 64 <= tables["buffer"] <= 4194304:
+        yield "OutOfRange top 0 key 2"
+    for part, most in MOST_ROWS.items():
+        rows = tables.setdefault(part, [])
+        if not isinstance(rows, list) or not all(isinstance(row, dict) for row in rows):
+            yield f"WrongKind top 0 key {KEYS['top'].index(part) + 1}"
+        if len(rows) > most:
+            yield f"OutOfRange top 0 key {KEYS['top'].index(part) + 1}"
+    if set(tables) - set(KEYS["top"]):
+        yield "UnknownKey top 0 key 0"
+    for part in MOST_ROWS:
+        for place, row in enumerate(tables[part]):
+            at = f"{part} {place + 1} key"
+            for number, key in enumerate(KEYS[part], 1):
+                if key not in row:
+                    yield f"Missing {at} {number}"
+                if not is_of_kind(part, key, row[key]):
+                    yield f"WrongKind {at} {number}"
+                if not in_range(tables, part, row, key):
+                    yield f"OutOfRange {at} {number}"
+                if not names_systems(tables, part, row, key):
+                    yield f"NoSuchSystem {at} {number}"
+                if not is_new(tables, part, place, key):
+                    yield f"Twice {at} {number}"
+            if set(row) - set(KEYS[part]):
+                yield f"UnknownKey {at} 0"
+
+
+def config_fault(text: bytes) -> bytes:
+    """The line on standard error; none where the configuration has no fault."""
+    try:
+        tables = tomllib.loads(text.decode("utf-8"))
+    except ValueError:
+        return b"config NotToml\n"
+    fault = next(faults_of(tables), None)
+    return b"" if fault is None else f"config {fault}\n".encode()
+
+
+def list_lines(text: bytes) -> list[bytes]:
+    """The lines of a list; a last one of no byte is none."""
+    lines = text.split(b"\n")
+    return lines[:-1] if lines[-1] == b"" else lines
+
+
+def is_digits(field: bytes) -> bool:
+    """One or more decimal digits."""
+    return re.fullmatch(rb"[0-9]+", field) is not None
+
+
+def field_faults(fields: list[bytes], latest: int, is_frames: bool) -> Iterator[str]:
+    """The faults of a line's fields in their order; only the first one counts."""
+    if len(fields) != 5 or b"" in fields:
+        yield "BadLine"
+    time, numbers = fields[0], fields[1:4]
+    if is_frames:
+        time, numbers = fields[1], fields[3:4]
+        if fields[0] not in (b"F", b"B", b"R") or fields[2] not in (b"A", b"B"):
+            yield "BadLine"
+    if not is_digits(time) or not all(map(is_digits, numbers)):
+        yield "BadLine"
+    limits = (65535, 255, 65535)
+    if not is_frames and any(int(number) > most for number, most in zip(numbers, limits)):
+        yield "BadLine"
+    if int(time) > LATEST:
+        yield "TimeTooLarge"
+    if int(time) < latest:
+        yield "TimeBack"
+    if is_frames and not 1 <= int(numbers[0]) <= 24:
+        yield "BadPort"
+    if not re.fullmatch(rb"-|([0-9a-fA-F]{2})+", fields[4]):
+        yield "BadHex"
+
+
+def list_fault(text: bytes, is_frames: bool) -> bytes:
+    """The line on standard error; none where the list has no fault."""
+    latest = 0
+    for number, line in enumerate(list_lines(text), 1):
+        if number > MOST_LINES:
+            return b"list TooManyLines\n"
+        if len(line) > LONGEST_LINE:
+            return b"list LineTooLong %d\n" % number
+        line = line[:-1] if line.endswith(b"\r") else line
+        if line == b"" or line.startswith(b"#"):
+            continue
+        fields = line.split(b" ")
+        fault = next(field_faults(fields, latest, is_frames), None)
+        if fault is not None:
+            return f"list {fault} {number}\n".encode()
+        latest = int(fields[1 if is_frames else 0])
+    return b""

@@ -1,0 +1,144 @@
+"""Runs the built program, and counts the cases that pass."""
+from __future__ import annotations
+
+import os
+import subprocess
+import sys
+import tempfile
+import threading
+import time
+from concurrent.futures import ThreadPoolExecutor
+from typing import Callable, NamedTuple
+
+TOP = os.path.dirname(os.path.dirname(os.path.dirname(os.path.abspath(__file__))))
+LONGEST = 120  # seconds of one run
+
+
+class Answer(NamedTuple):
+    """What a run leaves: its status and both streams."""
+
+    status: int
+    out: bytes
+    err: bytes
+
+
+class Wrong(Exception):
+    """What is not as wanted."""
+
+
+def must(holds: bool, text: str) -> None:
+    """Raises the text where something doesn't hold."""
+    if not holds:
+        raise Wrong(text or "not as wanted")
+
+
+class Program:
+    """The program, with a folder for its files."""
+
+    def __init__(self, path: str, folder: str) -> None:
+        self.path, self.folder = os.path.abspath(path), folder
+
+    def apart(self) -> Program:
+        """The same program, with a folder of its own."""
+        return Program(self.path, tempfile.mkdtemp(dir=self.folder))
+
+    def write(self, name: str, content: bytes) -> str:
+        """A file in the folder; its path."""
+        path = os.path.join(self.folder, name)
+        with open(path, "wb") as file:
+            file.write(content)
+        return path
+
+    def run(self, *words: str, given: bytes = b"", env: dict[str, str] | None = None) -> Answer:
+        """One run; `given` is what it reads on standard input."""
+        try:
+            done = subprocess.run(
+                [self.path, *words],
+                input=given,
+                capture_output=True,
+                cwd=self.folder,
+                env=None if env is None else {**os.environ, **env},
+                timeout=LONGEST,
+                check=False,
+            )
+        except subprocess.TimeoutExpired:
+            raise Wrong(f"{' '.join(words)} takes more than {LONGEST} s") from None
+        return Answer(done.returncode, done.stdout, done.stderr)
+
+    def run_limited(self, room: int, *words: str) -> Answer:
+        """One run in an address space of so many KiB."""
+        limited = ["sh", "-c", 'ulimit -v "$0" && exec "$@"', str(room), self.path, *words]
+        done = subprocess.run(limited, capture_output=True, cwd=self.folder, timeout=LONGEST, check=False)
+        return Answer(done.returncode, done.stdout, done.stderr)
+
+
+def short(text: bytes | str) -> str:
+    """The text, or its beginning where it is long."""
+    shown = repr(text)
+    return shown if len(shown) < 300 else f"{shown[:300]}.. ({len(text)} bytes)"
+
+
+def same_text(what: str, wanted: bytes, found: bytes) -> None:
+    """The two texts are equal; if not, the first line that differs is told."""
+    if wanted == found:
+        return
+    pairs = zip(wanted.split(b"\n"), found.split(b"\n"))
+    for number, (one, other) in enumerate(pairs, 1):
+        if one != other:
+            raise Wrong(f"{what}, line {number}: wanted {short(one)}, found {short(other)}")
+    raise Wrong(f"{what}: wanted {wanted.count(10)} lines, found {found.count(10)}")
+
+
+def answers(found: Answer, status: int, out: bytes | None, err: bytes) -> None:
+    """The run ended so; `out` is not looked at where it is None."""
+    told = f"status {found.status}, on standard error: {short(found.err)}"
+    must((found.status, found.err) == (status, err), f"wanted {status} with {short(err)}: {told}")
+    if out is not None:
+        same_text("standard output", out, found.out)
+
+
+class Cases:
+    """Counts the cases, and tells each."""
+
+    def __init__(self) -> None:
+        self.passed = self.failed = 0
+        self.telling = threading.Lock()
+
+    def try_case(self, name: str, case: Callable[..., None], *given: object) -> None:
+        """One case: it passes where it raises nothing."""
+        began = time.monotonic()
+        try:
+            case(*given)
+        except Wrong as wrong:
+            fault = str(wrong)
+        else:
+            fault = ""
+        took = time.monotonic() - began
+        with self.telling:
+            self.passed += not fault
+            self.failed += bool(fault)
+            text = f"FAILED {name}\n    {fault}" if fault else f"ok {name}"
+            print(text + (f" ({took:.0f} s)" if took >= 2 and not fault else ""), flush=True)
+
+    def try_at_once(self, cases: list[tuple]) -> None:
+        """So many cases at a time as there are processors; each is a name, a case, and what it is given."""
+        with ThreadPoolExecutor(os.cpu_count()) as pool:
+            for future in [pool.submit(self.try_case, *case) for case in cases]:
+                future.result()
+
+    def told(self) -> int:
+        """The last line; the status to end with."""
+        print(f"{self.passed} passed, {self.failed} failed", flush=True)
+        return 1 if self.failed else 0
+
+
+def main_of(text: str, try_all: Callable[[Cases, Program], None]) -> None:
+    """Takes PROGRAM from the words, tries all cases in a folder that is removed, and ends."""
+    if len(sys.argv) != 2 or not os.access(sys.argv[1], os.X_OK):
+        print(text.strip(), file=sys.stderr)
+        sys.exit(2)
+    cases = Cases()
+    with tempfile.TemporaryDirectory(prefix="afdx-tests-") as folder:
+        program = Program(sys.argv[1], folder)
+        try_all(cases, program)
+    sys.exit(cases.told())

@@ -1,0 +1,328 @@
+#!/usr/bin/env python3
+"""Gives the built program what breaks off, is malicious, or is as large as it may be.
+
+    tests/hostile.py PROGRAM
+
+Tried are all beginnings of a configuration, of frame lists, of a submission list and of frames; lines as long
+as they may be and one byte longer; fields that are nearly right; numbers of up to 5,000 digits; as many lines
+as there may be and one more; configurations of 4 MB. Each run must end at once with the status and the one line of
+the first fault, by the orders of docs/FORMATS.md, which tests/calling/first_fault.py follows apart from the
+program, and with the output of the lines before it. Prints `ok NAME` or `FAILED NAME` for each case, then
+`N passed, M failed`; ends with status 1 if a case failed. Needs Python 3, and for the beginnings of a
+configuration Python 3.11.
+"""
+from __future__ import annotations
+
+import os
+import sys
+import time
+
+sys.dont_write_bytecode = True
+sys.path.insert(0, os.path.join(os.path.dirname(os.path.abspath(__file__)), "calling"))
+import tables as made  # noqa: E402
+from first_fault import config_fault, list_fault, list_lines  # noqa: E402
+from frames import HELLO, frame_of, sealed  # noqa: E402
+from program import Answer, Cases, Program, answers, main_of, must, same_text  # noqa: E402
+from sender import Message, list_sent, submission_list  # noqa: E402
+
+MS = 1_000_000
+SOON = 20  # seconds
+POLICE = ["police", "1", "64", "500"]
+H1 = HELLO.hex().encode()
+BEYOND = b"!\n"  # a line that is none: what stands before it is written, and no more
+
+
+class Command:
+    """A command that reads a list."""
+
+    def __init__(self, program: Program, words: list[str], is_frames: bool = True) -> None:
+        self.program, self.words, self.is_frames = program, words, is_frames
+        self.known: dict[bytes, Answer] = {}
+
+    def run(self, given: bytes) -> Answer:
+        """The answer to a list, which must come soon."""
+        if len(given) > 10_000 or given not in self.known:
+            began = time.monotonic()
+            found = self.program.run(*self.words, "-", given=given)
+            must(time.monotonic() - began < SOON, f"it takes more than {SOON} s")
+            if len(given) > 10_000:
+                return found
+            self.known[given] = found
+        return self.known[given]
+
+    def before(self, front: bytes) -> bytes:
+        """What these whole lines give, where the run then stops."""
+        found = self.run(front + BEYOND)
+        answers(found, 3, None, b"list BadLine %d\n" % (front.count(b"\n") + 1))
+        return found.out
+
+    def is_told(self, given: bytes) -> Answer:
+        """The first fault is told, and the output is that of the lines before it."""
+        fault, found = list_fault(given, self.is_frames), self.run(given)
+        answers(found, 3 if fault else 0, None, fault)
+        if fault:
+            words = fault.split()
+            lines = list_lines(given)[: int(words[2]) - 1 if len(words) == 3 else 1_000_000]
+            front = b"".join(line + b"\n" for line in lines)
+            if len(lines) < 1_000_000:
+                same_text("standard output", self.before(front), found.out)
+        return found
+
+
+def commands_of(program: Program) -> dict[str, Command]:
+    """Every command that reads a list, with base tables."""
+    config = program.write("config", made.text_of(made.base_tables()))
+    return {
+        "police": Command(program, POLICE),
+        "replay": Command(program, ["replay", config]),
+        "replay --no-admission": Command(program, ["replay", "--no-admission", config]),
+        "send": Command(program, ["send", config, "s1"], is_frames=False),
+    }
+
+
+# ---- beginnings ----------------------------------------------------------------------------------
+
+
+def config_beginnings(program: Program, text: bytes, part: int, parts: int) -> None:
+    """Every beginning of a configuration, of which every so many-th is tried here."""
+    program = program.apart()
+    for count in range(part, len(text) + 1, parts):
+        path, fault = program.write("config", text[:count]), config_fault(text[:count])
+        found = program.run("check", path)
+        if fault:
+            answers(found, 1, b"", fault)
+        else:
+            last = found.out.splitlines()[-1][:2]
+            must(found.err == b"" and (found.status, last) in ((0, b"ok"), (1, b"no")), f"{count} bytes: {found}")
+        for words in (["replay", "--no-admission", path], ["send", path, "s1"]) if fault else ():
+            answers(program.run(*words, "-"), 1, b"", fault)
+
+
+def frame_list_beginnings(command: Command, text: bytes) -> None:
+    """Every beginning of a list of frames: one that breaks off is too short."""
+    for count in range(len(text) + 1):
+        found, front = command.is_told(text[:count]), text[: text.rfind(b"\n", 0, count) + 1]
+        last = text[len(front) : count]
+        breaks_off = last[:1] in (b"F", b"R") and text[count : count + 1] not in (b"\r", b"\n", b"")
+        if found.status == 0 and breaks_off:
+            short = front + last[: last.rfind(b" ") + 1].replace(b"F", b"R") + b"-"
+            same_text("standard output", command.run(short).out, found.out)
+
+
+def submission_list_beginnings(command: Command, messages: list[Message]) -> None:
+    """Every beginning of a submission list: one that breaks off in its bytes is a shorter message."""
+    text, tables = submission_list(messages), made.base_tables()
+    for count in range(len(text) + 1):
+        found = command.is_told(text[:count])
+        if found.status == 0:
+            whole = messages[: text.count(b"\n", 0, count)]
+            last = text[text.rfind(b"\n", 0, count) + 1 : count]
+            if last:
+                cut = bytes.fromhex(last.split(b" ")[4].decode())
+                whole = whole + [messages[len(whole)]._replace(payload=cut)]
+            same_text("standard output", list_sent(tables, "s1", whole), found.out)
+
+
+def frame_beginnings(program: Program) -> None:
+    """Every beginning of a frame of 300 bytes that carries 100, raw, sealed, and sealed wrongly."""
+    tables = made.long_tables()
+    tables["link"][0] |= {"skew_us": 999, "latency_us": 999}
+    config = program.write("config", made.text_of(tables))
+    frame = frame_of(tables["system"][0], 1, 1000, bytes(100), 0, "A", 300)
+    lines, wanted = [], []
+    for kind, added in (("R", 0), ("F", 4), ("B", 4)):
+        for count in range(len(frame) - added + 1):
+            n, at, length = len(lines) + 1, len(lines) * MS, count + added
+            lines.append(b"%s %d A 1 %s\n" % (kind.encode(), at, frame[:count].hex().encode() or b"-"))
+            whole = kind == "F" or (kind == "R" and count == len(frame))
+            word = "drop too-short" if length < 64 else "accept" if whole else "drop bad-fcs"
+            wanted.append(f"V {n} A {word}\n")
+            end = at + (length + 20) * 80
+            if word == "accept":
+                is_cut = length - 19 < 128  # before the end of the datagram
+                told = f"X {end} s3 {n} bad-ip-header" if is_cut else f"M {end} s3 1 {bytes(100).hex()}"
+                wanted.append(f"D {n} {end} A 3\n{told}\n")
+    found = program.run("replay", "--no-admission", config, "-", given=b"".join(lines))
+    answers(found, 0, "".join(wanted).encode(), b"")
+
+
+# ---- lines ---------------------------------------------------------------------------------------
+
+
+def longest_lines(command: Command) -> None:
+    """Lines of 4,200 and of 4,201 bytes, with a line feed and without, first and later."""
+    good = b"F 5 A 1 %s\n" % H1 if command.is_frames else b"5 1 1 1000 61\n"
+    head = b"R 5 A 1 " if command.is_frames else b"5 1 1 1000 "
+    for size in (4199, 4200, 4201, 4202, 9000, 70_000, 1_000_000):
+        for line in (
+            b"#" * size,
+            b"#" * (size - 1) + b"\r",
+            head + b"0" * (size - len(head)),
+            head.replace(b"5", b"0" * (size - len(head) - 1) + b"5", 1) + b"00",
+            b" " * size,
+            b"\0" * size,
+            b"\r" * size,
+        ):
+            for given in (line, line + b"\n", good + line, good + line + b"\n" + good, line + b"\r\n" + good):
+                command.is_told(given)
+
+
+ODD_FRAMES = [
+    *(b"\0", b"F\0 5 A 1 00", b"\xef\xbb\xbfF 5 A 1 00", b"F 5 A 1 00\r\r", b"\r\r", b"\rF 5 A 1 00", b" # x"),
+    *(b"F 5 A 1 00 ", b" F 5 A 1 00", b"F  5 A 1 00", b"F\t5 A 1 00", b"f 5 A 1 00", b"F 5 a 1 00", b"FF 5 A 1 00"),
+    *(b"F +5 A 1 00", b"F 0x5 A 1 00", b"F 5. A 1 00", b"F 5e0 A 1 00", b"F 5_0 A 1 00", b"F \xd9\xa5 A 1 00"),
+    *(b"F 5 A 1.0 00", b"F 5 A +1 00", b"F 5 AB 1 00", b"F 5 A 1 0X", b"F 5 A 1 0x00", b"F 5 A 1 -0", b"F 5 A 1 --"),
+    *(b"F 5 A 1 \xff\xff", b"F 5 A 1 00\0", b"F 5 A 1 0\r", b"F 5 A 1", b"F 5 A 1 ", b"F", b"R 5 A 24 -", b"B 5 A 1 -"),
+    *(b"F 5 A 24 00", b"F 5 A 25 00", b"F 5 A 00 00", b"F 4 A 25 0", b"F 4 C 25 0", b"V 5 A accept", b"R 5 A 1 -\r"),
+    *(b"F 1000000000000000 A 1 -", b"F 1000000000000001 A 1 -", b"F 1000000000000001 A 25 0", b"F 5 A 1 aAfF"),
+]
+ODD_MESSAGES = [
+    *(b"\0", b"5\0 1 1 1000 61", b"\xef\xbb\xbf5 1 1 1000 61", b"5 1 1 1000 61\r\r", b"\r\r", b" # x", b"5 1 1 1000 61 "),
+    *(b"5  1 1 1000 61", b"+5 1 1 1000 61", b"5 -1 1 1000 61", b"5 1 1 65536 61", b"5 65536 1 1000 61", b"5 1 256 1000 61"),
+    *(b"5 65535 255 65535 61", b"5 1 0 1000 61", b"5 1 1 0 61", b"5 1 1 1000 6", b"5 1 1 1000 6g", b"5 1 1 1000"),
+    *(b"4 1 1 65536 6", b"4 1 1 1000 6", b"1000000000000001 1 1 1000 6", b"1000000000000001 1 1 65536 6", b"5 1 1 1000 --"),
+    *(b"R 5 A 1 00", b"5 1 1 1000 -", b"5 1 1 1000 61\r", b"5 1 1 1000 0\r", b"5 1.0 1 1000 61", b"5 1 1 1000 \xff\xff"),
+]
+
+
+def odd_lines(command: Command) -> None:
+    """Lines that are nearly right, first, later, and last without a line feed."""
+    good = b"F 5 A 1 %s\n" % H1 if command.is_frames else b"5 1 1 1000 61\n"
+    for line in ODD_FRAMES if command.is_frames else ODD_MESSAGES:
+        for given in (line, line + b"\n", good + line, good + line + b"\n" + good, b"\n#\n\r\n" + line + b"\r\n" + good):
+            command.is_told(given)
+
+
+def long_numbers(command: Command) -> None:
+    """Numbers of 1 to 5,000 digits in each field."""
+    fields = [b"R", b"0", b"A", b"1", b"-"] if command.is_frames else [b"0", b"1", b"1", b"1000", b"61"]
+    places = (1, 3) if command.is_frames else (0, 1, 2, 3)
+    around = sum(map(len, fields)) + 4
+    for place in places:
+        lines = []
+        for count in range(0, 4201 - around):
+            lines.append(b" ".join([*fields[:place], b"0" * count + fields[place], *fields[place + 1 :]]))
+        found = command.is_told(b"\n".join(lines) + b"\n")
+        must(found.status == 0 and len(lines[-1]) == 4200, f"status {found.status}")
+        if command.is_frames:
+            must(found.out.count(b"too-short") == len(lines), "a line with zeros before a number is not read")
+        for count in [*range(1, 41), 64, 65, 100, 1000, 4000, *range(4185, 4201), 5000]:
+            for digit in (b"1", b"9"):
+                odd = [*fields[:place], digit * count, *fields[place + 1 :]]
+                command.is_told(b" ".join(odd))
+
+
+def most_lines(command: Command) -> None:
+    """1,000,000 lines, and one more."""
+    one = b"R 0 A 1 -\n" if command.is_frames else b"0 9 1 1000 61\n"
+    told = b"V %d A drop too-short\n" if command.is_frames else b"# %d S1\n"
+    last = told % 1_000_000
+    for filler in (b"\n", b"#\n", b"\r\n"):
+        text = filler * 999_999 + one
+        answers(command.run(text), 0, last, b"")
+        answers(command.run(text[:-1]), 0, last, b"")
+        for more in (b"\n", b"#", b"\0", one):
+            answers(command.run(text + more), 3, last, b"list TooManyLines\n")
+    whole = b"".join(told % n for n in range(1, 1_000_001))
+    answers(command.run(one * 1_000_000), 0, whole, b"")
+    answers(command.run(one * 1_000_001), 3, whole, b"list TooManyLines\n")
+
+
+# ---- configurations of 4 MB ----------------------------------------------------------------------
+
+
+def large_configs() -> list[tuple[str, bytes, bytes]]:
+    """Name, text and fault."""
+    head, most = b"profile = 1\nbuffer = 252\n", 4_194_304
+    room = most - len(head) - 20
+    keys = [b"k%d = 1" % n for n in range(100_000)]
+    names = b"".join(b'"n%d", ' % n for n in range(300_000))
+    systems = b"".join(b"[[system]]\nname = 's%d'\n" % n for n in range(100_000))
+    link = b"[[link]]\nvl = 1\nfrom = 's1'\nto = ["
+    known = b"[[system]]\nname = 's1'\nport = 1\nid = 1\npartition = 1\nrate = 100\n"
+    return [
+        ("arrays 80 deep", head + b"x = " + b"[" * 80 + b"]" * 80, b"UnknownKey top 0 key 0"),
+        ("arrays 81 deep", head + b"x = " + b"[" * 81 + b"]" * 81, b"NotToml"),
+        ("arrays in arrays, open", head + b"x = " + b"[" * room, b"NotToml"),
+        ("arrays in arrays", head + b"x = " + b"[" * (room // 2) + b"]" * (room // 2), b"NotToml"),
+        ("tables in tables, open", head + b"x = " + b"{a=" * (room // 3), b"NotToml"),
+        ("tables in tables", head + b"x = " + b"{a=" * (room // 4) + b"1" + b"}" * (room // 4), b"NotToml"),
+        ("a key of many parts", head + b"x" + b".x" * (room // 2) + b" = 1", b"NotToml"),
+        ("a head of many parts", head + b"[x" + b".x" * (room // 2) + b"]", b"NotToml"),
+        ("100,000 keys", head + b"\n".join(keys), b"UnknownKey top 0 key 0"),
+        ("100,000 keys in a table", head + known + b"\n".join(keys), b"UnknownKey system 1 key 0"),
+        ("100,000 keys in a table in a line", head + b"system = [{" + b", ".join(keys) + b"}]", b"Missing system 1 key 1"),
+        ("100,000 systems", head + systems, b"OutOfRange top 0 key 3"),
+        ("300,000 receivers", head + known + link + names + b"]\n", b"OutOfRange link 1 key 3"),
+        ("a long text", head + b'x = "' + b"a" * room + b'"', b"UnknownKey top 0 key 0"),
+        ("a long text, open", head + b'x = "' + b"a" * room, b"NotToml"),
+        ("a long name", head + b'[[system]]\nname = "' + b"a" * (room - 20) + b'"', b"OutOfRange system 1 key 1"),
+        ("a long number", head + b"x = " + b"1" * room, b"NotToml"),
+        ("zeros before a number", b"profile = 1\nbuffer = " + b"0" * room + b"252\n", b"NotToml"),
+        ("bytes of zero", b"\0" * most, b"NotToml"),
+        ("bytes that are no text", head + b"# \xff\n", b"NotToml"),
+        ("two byte order marks", b"\xef\xbb\xbf" * 2 + made.example("base.toml"), b"NotToml"),
+        ("text of 16 bits", made.example("base.toml").decode().encode("utf-16"), b"NotToml"),
+        ("a long remark", head + b"#" * room, b""),
+        ("many empty lines", head + b"\n" * room, b""),
+        ("a byte order mark", b"\xef\xbb\xbf" + made.example("base.toml"), b""),
+        ("carriage returns", made.example("base.toml").replace(b"\n", b"\r\n"), b""),
+    ]
+
+
+def large_config(program: Program, text: bytes, fault: bytes) -> None:
+    """It is answered soon, by each command."""
+    program = program.apart()
+    path = program.write("config", text)
+    began = time.monotonic()
+    wanted = b"config %s\n" % fault if fault else b""
+    found = program.run("check", path)
+    answers(found, 1 if fault else 0, b"" if fault else None, wanted)
+    if fault:
+        answers(program.run("replay", path, "-"), 1, b"", wanted)
+        answers(program.run("send", path, "s1", "-"), 1, b"", wanted)
+    else:
+        must(found.out.endswith(b"ok\n"), "it is not admitted")
+    must(time.monotonic() - began < SOON, f"it takes more than {SOON} s")
+
+
+def long_words(program: Program) -> None:
+    """Words of 100,000 bytes."""
+    for word in ("9" * 100_000, "0" * 100_000 + "x", "-" * 100_000):
+        found = program.run("police", "1", word, "500", "-")
+        must(found.status == 2 and found.out == b"" and found.err != b"", f"status {found.status}")
+    answers(program.run("police", "1", "0" * 100_000 + "64", "500", "-"), 0, b"", b"")
+    answers(program.run("police", "1", "64", "500", "x" * 100_000), 4, b"", b"device List\n")
+    config = program.write("config", made.text_of(made.base_tables()))
+    answers(program.run("send", config, "s" * 100_000, "-"), 2, b"", b"words NoSuchSystem\n")
+
+
+def try_all(cases: Cases, program: Program) -> None:
+    """All cases."""
+    base, commands = made.example("base.toml"), commands_of(program)
+    frames = b"F 0 A 1 %s\r\n# a remark\n\nF 0 A 1 %s\nR 1000000 A 1 %s" % (H1, H1, sealed(HELLO).hex().encode())
+    messages = [Message(0, 1, 1, 1000, b"first"), Message(7, 1, 2, 1000, bytes(range(17)))]
+    messages.append(Message(10**7, 1, 1, 1000, b"x"))
+    all_cases: list[tuple] = [("beginnings of a frame", frame_beginnings, program.apart())]
+    if made.tomllib is None:
+        print("skipped the beginnings of a configuration: they need Python 3.11")
+    for part in range(4) if made.tomllib else ():
+        name = f"beginnings of a configuration, {part + 1} of 4"
+        all_cases.append((name, config_beginnings, program, base, part, 4))
+    for name, command in commands.items():
+        if command.is_frames:
+            all_cases.append((f"{name}: beginnings of a list", frame_list_beginnings, command, frames))
+        else:
+            all_cases.append((f"{name}: beginnings of a list", submission_list_beginnings, command, messages))
+        all_cases.append((f"{name}: the longest lines", longest_lines, command))
+        all_cases.append((f"{name}: odd lines", odd_lines, command))
+        all_cases.append((f"{name}: long numbers", long_numbers, command))
+        all_cases.append((f"{name}: the most lines", most_lines, command))
+    all_cases.append(("long words", long_words, program.apart()))
+    for name, text, fault in large_configs():
+        all_cases.append((f"a configuration: {name}", large_config, program, text, fault))
+    cases.try_at_once(all_cases)
+
+
+if __name__ == "__main__":
+    main_of(__doc__, try_all)
