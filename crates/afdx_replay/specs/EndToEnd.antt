@@ -77,7 +77,7 @@ EachIsToldAsTaken t sender events lines =
     AreToldAsTaken t system l (taken_by l.vl events) lines
 
 -- End to end: where a system's text is merged into a list without fault, whatever else the list
--- holds, the lines that a replay of it promises tell what the system's links took.
+-- holds at other ports, the lines that a replay of it promises tell what the system's links took.
 abbrev pub TakenIsToldOnce : Type 0
 TakenIsToldOnce = (t : Rows) (list : List (List ℕ)) (lines : List Line) →
     IsLawful t → IsAdmitted t → AreSound list (length list) →
