@@ -26,7 +26,7 @@ the-frame : BuiltIsComputed → (s : SystemRow) (turn : Turn Frame) (side : Side
     IsTheFrame (address_with s.id s.partition turn.entry.item) turn.entry.item.number side turn.entry.item.message.payload (frame_on s side turn.entry.item)
 the-frame computed s turn side is = computed (address_with s.id s.partition turn.entry.item) turn.entry.item.number side turn.entry.item.message.payload is.buildable is.bytes is.number
 
-copy-is : (s : SystemRow) (turn : Turn Frame) (side : Side) → copy_on side (sent_in s turn) ≡ frame_on s side turn.entry.item
+pub copy-is : (s : SystemRow) (turn : Turn Frame) (side : Side) → copy_on side (sent_in s turn) ≡ frame_on s side turn.entry.item
 copy-is s turn A = refl
 copy-is s turn B = refl
 
@@ -148,7 +148,7 @@ stream-more s vl (turn ∷ later) earlier = by (turn.entry.item.vl == vl) (strea
     by true rest = (rest.0 ++ sent_in s turn ∷ [], ap (λ z. z ++ sent_in s turn ∷ []) rest.1 ∙ append_assoc (stream_of s vl earlier) rest.0 (sent_in s turn ∷ []))
     by false rest = rest
 
-all-earlier : {Y : Type 0} (P : Y → Type 0) (later earlier : List Y) → AllByRecursion P (later ++ earlier) → AllByRecursion P earlier
+pub all-earlier : {Y : Type 0} (P : Y → Type 0) (later earlier : List Y) → AllByRecursion P (later ++ earlier) → AllByRecursion P earlier
 all-earlier P [] earlier all = all
 all-earlier P (y ∷ later) earlier all = all-earlier P later earlier all.1
 
@@ -170,7 +170,7 @@ released-so-far computed t arrivals lines h system place at s l once stands link
     (record { sender = h.system; stands = from; sendable = sendable; lawful = e.lawful })
     (sent-so-far computed t arrivals h.system l h.emitted from all merged)
 
-take-all : {Y : Type 0} (n : ℕ) (xs : List Y) → length xs ≤ n → take n xs ≡ xs
+pub take-all : {Y : Type 0} (n : ℕ) (xs : List Y) → length xs ≤ n → take n xs ≡ xs
 take-all zero [] le = refl
 take-all zero (x ∷ xs) le = absurd (omega (arith, le))
 take-all (suc n) [] le = refl

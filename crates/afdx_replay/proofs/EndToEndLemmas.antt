@@ -8,7 +8,6 @@ use Rattle.afdx_frame.specs.Grammar.{Buildable}
 use Rattle.afdx_frame.specs.Reading.{BuiltIsComputed}
 use Rattle.afdx_frame.specs.Sealing.{AreBytes}
 use Rattle.afdx_frame.specs.declared.link.Side.{Side}
-use Rattle.afdx_frame.specs.declared.link.Side.TheVariants.{A, B}
 use Rattle.afdx_config.specs.Admission.{IsAdmitted, links_from}
 use Rattle.afdx_config.specs.Lawful.{IsSystem, IsLink, IsLawful, AreDistinct}
 use Rattle.afdx_config.specs.LawfulStream.{address_of}
@@ -22,7 +21,7 @@ use Rattle.afdx_lists.specs.FrameLines.{line_says}
 use Rattle.afdx_lists.specs.Lines.{lines_of}
 use Rattle.afdx_police.specs.Arrival.{Arrival}
 use Rattle.afdx_port.specs.Schedule.{Turn}
-use Rattle.afdx_receive.specs.Copies.{copy_on, AreSendable}
+use Rattle.afdx_receive.specs.Copies.{AreSendable}
 use Rattle.afdx_send.specs.Complete.{IsFor, HasSentAll, EmitsAll, IsOfTaken, AllIsSent, EmissionsAreOfTaken, submissions_of, AreReleasesOfAll}
 use Rattle.afdx_send.specs.Emissions.{own, own_submissions, sent_list}
 use Rattle.afdx_send.specs.Frames.{Frame, frame_with, address_with}
@@ -32,8 +31,10 @@ use Rattle.afdx_send.proofs.NewLemmas.{from_filter, distinct_links}
 use Rattle.afdx_send.proofs.NextLemmas.{split_last}
 use Rattle.afdx_promises.specs.Lines.{Line, messages_told}
 use Rattle.afdx_promises.specs.Promises.{EachIsToldOnce, EachIsToldOnceSoFar, most_come}
-use Rattle.afdx_promises.specs.Sent.{frame_on, sent_in, stream_of, IsBuildable, AreSentAs, arrivals_at, StreamIsOfSendings, ReleasedAreToldOnce, IsMergedSoFar, ReleasedAreToldSoFar, OneSideIsEnough}
-use Rattle.afdx_replay.specs.EndToEnd.{lines_at, HoldsText, HasSent, heard_of, EachIsToldAsTaken, TakenIsToldOnce, RunsTellTakenOnce, TextsAreLists, AreToldAsTaken}
+use Rattle.afdx_promises.specs.Sent.{frame_on, stream_of, IsBuildable, AreSentAs, arrivals_at, StreamIsOfSendings, ReleasedAreToldOnce, IsMergedSoFar, ReleasedAreToldSoFar, OneSideIsEnough}
+use Rattle.afdx_promises.proofs.ListLemmas.{all-imply}
+use Rattle.afdx_promises.proofs.SentLemmas.{copy-is, all-earlier, take-all}
+use Rattle.afdx_replay.specs.EndToEnd.{lines_at, HoldsText, HasSent, heard_of, EachIsToldAsTaken, TakenIsToldOnce, WrittenIsSent, RunsTellTakenOnce, TextsAreLists, AreToldAsTaken}
 use Rattle.afdx_replay.specs.Listed.{AreSound, arrivals_of}
 use Rattle.afdx_replay.specs.OneSide.{HoldsFirst, AreToldSoFar, TakenIsToldSoFar, TakenIsToldByOneSide}
 use Rattle.afdx_replay.specs.SendEvents.{Handed, Event, Emitted, Submitted, submissions_in, turns_in, taken_by, calls_in, EachFollows}
@@ -52,10 +53,6 @@ record IsGood (l : LinkRow) (m : Submission) : Type 0 where
   for : IsFor l m
   bytes : AreBytes m.message.payload
   udp : m.message.udp ≤ 65535
-
-all-weaker : {Y : Type 0} (P Q : Y → Type 0) (xs : List Y) → ((x : Y) → P x → Q x) → AllByRecursion P xs → AllByRecursion Q xs
-all-weaker P Q [] f all = tt
-all-weaker P Q (x ∷ xs) f all = (f x all.0, all-weaker P Q xs f all.1)
 
 taken-good : (n : ℕ) (s : SystemRow) (links : List LinkRow) → AreDistinct (λ l. l.vl) links → (events : List Event) → EachFollows s links events → AllByRecursion (IsSaid n) (submissions_in events) →
     (i : ℕ) (l : LinkRow) → slice_get links i ≡ Some l → AllByRecursion (IsGood l) (taken_by l.vl events)
@@ -132,10 +129,6 @@ not-empty : {Y : Type 0} (xs : List Y) (x : Y) → xs ++ x ∷ [] ≡ [] → ⊥
 not-empty [] x h = cc h
 not-empty (y ∷ ys) x h = cc h
 
-copy-is : (s : SystemRow) (turn : Turn Frame) (side : Side) → copy_on side (sent_in s turn) ≡ frame_on s side turn.entry.item
-copy-is s turn A = refl
-copy-is s turn B = refl
-
 sent-as : (s : SystemRow) (side : Side) → 1 ≤ s.port → s.port ≤ 24 → (turns : List (Turn Frame)) (xs : List Arrival) → AllByRecursion (CanBeRead s) turns → AreSaidBy xs (lines_on s side turns) → AreSentAs s side turns xs
 sent-as s side one most [] [] can said = tt
 sent-as s side one most [] (x ∷ past) can said = not-empty said.0 said.1 (sym said.2)
@@ -148,10 +141,6 @@ sent-as s side one most (turn ∷ earlier) (x ∷ past) can said =
       record { time = said.3.time ∙ sym (ap (λ (z : frame.Frame). z.time) is); bytes = said.3.bytes ∙ sym (ap (λ (z : frame.Frame). z.bytes) is) ∙ sym (copy-is s turn side) },
       sent-as s side one most earlier past can.1 (subst (λ (z : List (List ℕ)). AreSaidBy past z) (sym same.0) said.4),
     )
-
-take-all : {Y : Type 0} (xs : List Y) → take (length xs) xs ≡ xs
-take-all [] = refl
-take-all (x ∷ xs) = ap (λ z. x ∷ z) (take-all xs)
 
 take-map : {Y Z : Type 0} (f : Y → Z) (n : ℕ) (xs : List Y) → take n (map f xs) ≡ map f (take n xs)
 take-map f zero xs = refl
@@ -170,10 +159,6 @@ lines-first s side (turn ∷ turns) xs later h = elim (split_last later) [
       let r = lines-first s side turns xs some.0 same.0 in
       (turn ∷ r.0, r.1, ap (λ z. turn ∷ z) r.2, r.3))
 ]
-
-all-earlier : {Y : Type 0} (P : Y → Type 0) (later earlier : List Y) → AllByRecursion P (later ++ earlier) → AllByRecursion P earlier
-all-earlier P [] earlier all = all
-all-earlier P (y ∷ later) earlier all = all-earlier P later earlier all.1
 
 -- ---- the link's place among those of its system
 
@@ -251,12 +236,12 @@ module _ (laws : Laws) (t : Rows) (lawful : IsLawful t) (admitted : IsAdmitted t
     admitted = admitted;
     row = sent.stands;
     links = refl;
-    fit = λ i l at. all-weaker (IsGood l) (IsFor l) (own_submissions h.taken i) (λ m g. g.for) (own-good i l at);
+    fit = λ i l at. all-imply (IsGood l) (IsFor l) (own_submissions h.taken i) (λ m g. g.for) (own-good i l at);
     done = sent.are_done;
   }
 
   build : AllByRecursion (IsBuildable s) (turns_in events)
-  build = all-weaker (IsOfTaken h) (IsBuildable s) (turns_in events) (turn-buildable (length t.systems) t.profile s h is_system is_link own-good) (laws.frames t sender h all-sent)
+  build = all-imply (IsOfTaken h) (IsBuildable s) (turns_in events) (turn-buildable (length t.systems) t.profile s h is_system is_link own-good) (laws.frames t sender h all-sent)
 
   can : AllByRecursion (CanBeRead s) (turns_in events)
   can = can-be-read laws.computed s (turns_in events) build sent.early
@@ -272,7 +257,7 @@ module _ (laws : Laws) (t : Rows) (lawful : IsLawful t) (admitted : IsAdmitted t
 
   by-lines : (list : List (List ℕ)) → AreSound list (length list) → (side : Side) → AreSaidBy (arrivals_at side s.port (arrivals_of list (length list))) (lines_at side s.port list)
   by-lines list sound side =
-      subst (λ (z : List (List ℕ)). AreSaidBy (arrivals_at side s.port (arrivals_of list (length list))) (lines_at side s.port z)) (take-all list) (said-by side s.port list (length list) (omega arith) sound)
+      subst (λ (z : List (List ℕ)). AreSaidBy (arrivals_at side s.port (arrivals_of list (length list))) (lines_at side s.port z)) (take-all (length list) list (omega arith)) (said-by side s.port list (length list) (omega arith) sound)
 
   side-merged : (list : List (List ℕ)) → AreSound list (length list) → (side : Side) → lines_at side s.port list ≡ lines_at side s.port (lines_of (send_text s events)) →
       AreSentAs s side (turns_in events) (arrivals_at side s.port (arrivals_of list (length list)))
@@ -300,7 +285,7 @@ module _ (laws : Laws) (t : Rows) (lawful : IsLawful t) (admitted : IsAdmitted t
       let is = is_link i l among.1 in
       let can_send : (m : Submission) → IsGood l m → CanBeSent s l m.message =
       λ m g. record { buildable = buildable (length t.systems) t.profile s l m.message 0 is_system is g.for.some g.for.fits g.udp; bytes = g.bytes } in
-      let ms = all-messages (CanBeSent s l) _ l.subs (taken_by l.vl events) rs (all-weaker (IsGood l) (λ m. CanBeSent s l m.message) (taken_by l.vl events) can_send (good i l among.1)) all.are_releases in
+      let ms = all-messages (CanBeSent s l) _ l.subs (taken_by l.vl events) rs (all-imply (IsGood l) (λ m. CanBeSent s l m.message) (taken_by l.vl events) can_send (good i l among.1)) all.are_releases in
       (i, k, all, sendable s l (sent_list rs) ms)
 
   as-taken : (system : ℕ) (l : LinkRow) (lines : List Line) (k : IsReady l) → reverse (messages_told system l.vl lines) ≡ filter (λ m. has_port t.ports system l.vl m.udp) (sent_list (own k.0 k.1.emits.released)) →
@@ -368,9 +353,11 @@ texts-are-lists laws t sender s given events lawful admitted sent few = text-sou
 
 -- ---- of the two runs
 
+pub written-is-sent : WrittenIsSent
+written-is-sent t sender s given text sends stands sent early =
+    (record { stands = stands; sound = sent.sound; are_events = sent.writes.are_events; are_done = sent.writes.are_done; early = early }, sent.writes.written)
+
 pub runs-tell-taken : Laws → RunsTellTakenOnce
 runs-tell-taken laws t sender s given text bytes old new sends replays lawful admitted stands sent early holds tells =
-    let events = sent.writes.events in
-    let is : text ≡ send_text s events = sent.writes.written in
-    taken-is-told laws t (lines_of bytes) tells.lines lawful admitted tells.sound tells.once sender s (lines_of given) events
-    (record { stands = stands; sound = sent.sound; are_events = sent.writes.are_events; are_done = sent.writes.are_done; early = early }) (subst (λ (z : List ℕ). HoldsText s (lines_of bytes) z) is holds)
+    let w = written-is-sent t sender s given text sends stands sent early in
+    taken-is-told laws t (lines_of bytes) tells.lines lawful admitted tells.sound tells.once sender s (lines_of given) sent.writes.events w.0 (subst (λ (z : List ℕ). HoldsText s (lines_of bytes) z) w.1 holds)

@@ -1,5 +1,6 @@
 //! What is true of the definitions of a replay.
-ghost use Rattle.afdx_replay.specs.EndToEnd.{TakenIsToldOnce, RunsTellTakenOnce, TextsAreLists};
+ghost use Rattle.afdx_replay.specs.EndToEnd.{TakenIsToldOnce, WrittenIsSent, RunsTellTakenOnce};
+ghost use Rattle.afdx_replay.specs.EndToEnd.{TextsAreLists};
 ghost use Rattle.afdx_replay.specs.Merged.{MergedAreToldOnce};
 ghost use Rattle.afdx_replay.specs.OneSide.{TakenIsToldByOneSide, TakenIsToldSoFar};
 ghost use Rattle.afdx_replay.specs.ReplayPromises.{ArrivalsAreListed, NoneIsCounted};
@@ -58,6 +59,7 @@ pub fn events_are_one()
 /// most a million lines.
 pub fn taken_is_told_once()
     ensures lines { TakenIsToldOnce }
+    ensures written { WrittenIsSent }
     ensures runs { RunsTellTakenOnce }
     ensures merged { MergedAreToldOnce }
     ensures one_side { TakenIsToldByOneSide }
