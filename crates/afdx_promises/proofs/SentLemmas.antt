@@ -1,5 +1,5 @@
 -- What the systems of a network send feeds both sides.
-use Rattle.std.proofs.Common.{◌≡◌, ℕ, zero, suc, ◌==◌, Bool, true, false, List, [], ◌∷◌, ◌++◌, length, filter, refl, sym, ap, ◌∙◌, subst}
+use Rattle.std.proofs.Common.{◌≡◌, ℕ, zero, suc, ◌==◌, Bool, true, false, List, [], ◌∷◌, ◌++◌, length, filter, take, refl, sym, ap, ◌∙◌, subst, ◌≤◌, arith, append_assoc, append-nil}
 use Rattle.std.specs.Prelude.{Some, slice_get, if◌then◌else◌}
 use Rattle.std.specs.List.{AllByRecursion}
 use Rattle.afdx_frame.specs.Reading.{IsTheFrame, BuiltIsComputed}
@@ -15,8 +15,9 @@ use Rattle.afdx_send.specs.Emissions as send
 use Rattle.afdx_send.specs.Frames.{Frame, address_with}
 use Rattle.afdx_switch.specs.Tables.{rule_of}
 use Rattle.afdx_switch.proofs.NewLemmas.{rule-is}
-use Rattle.afdx_promises.specs.Sent.{frame_on, sent_in, stream_of, IsBuildable, IsSentAs, AreSentAs, arrivals_at, SentIsFed, StreamIsOfSendings, ReleasedAreToldOnce}
-use Rattle.afdx_promises.specs.Streams.{at_own_port, AreSendings}
+use Rattle.afdx_promises.specs.Sent.{frame_on, sent_in, stream_of, IsBuildable, IsSentAs, AreSentAs, arrivals_at, SentIsFed, StreamIsOfSendings, ReleasedAreToldOnce, IsMergedSoFar, ReleasedAreToldSoFar, OneSideIsEnough}
+use Rattle.afdx_promises.specs.Promises.{most_come}
+use Rattle.afdx_promises.specs.Streams.{at_own_port, AreSendings, IsFed}
 use Rattle.afdx_promises.proofs.ReceiverLemmas.{names-frame}
 
 -- ---- frames
@@ -25,7 +26,7 @@ the-frame : BuiltIsComputed → (s : SystemRow) (turn : Turn Frame) (side : Side
     IsTheFrame (address_with s.id s.partition turn.entry.item) turn.entry.item.number side turn.entry.item.message.payload (frame_on s side turn.entry.item)
 the-frame computed s turn side is = computed (address_with s.id s.partition turn.entry.item) turn.entry.item.number side turn.entry.item.message.payload is.buildable is.bytes is.number
 
-copy-is : (s : SystemRow) (turn : Turn Frame) (side : Side) → copy_on side (sent_in s turn) ≡ frame_on s side turn.entry.item
+pub copy-is : (s : SystemRow) (turn : Turn Frame) (side : Side) → copy_on side (sent_in s turn) ≡ frame_on s side turn.entry.item
 copy-is s turn A = refl
 copy-is s turn B = refl
 
@@ -116,15 +117,73 @@ swapped vl port side (x ∷ past) = by (is_side side x.side) (names vl x.bytes) 
 port-is : (t : Rows) (l : LinkRow) (s : SystemRow) → slice_get t.systems l.from ≡ Some s → (rule_of t l).port ≡ s.port
 port-is t l s at = ap (λ (r : Rule). r.port) (rule-is t l s at)
 
-pub sent-is-fed : BuiltIsComputed → SentIsFed
-sent-is-fed computed t arrivals s l emitted at all merged side =
-    let same : at_own_port t l side arrivals ≡ filter (λ (x : Arrival). names l.vl x.bytes) (arrivals_at side s.port arrivals) =
-    ap (λ port. filter (λ (x : Arrival). port == x.port) (own l.vl side arrivals)) (port-is t l s at) ∙ swapped l.vl s.port side arrivals in
-    let are = sent-are computed s side l.vl emitted (arrivals_at side s.port arrivals) all (merged side) in
+same-arrivals : (t : Rows) (arrivals : List Arrival) (s : SystemRow) (l : LinkRow) (side : Side) → slice_get t.systems l.from ≡ Some s → at_own_port t l side arrivals ≡ filter (λ (x : Arrival). names l.vl x.bytes) (arrivals_at side s.port arrivals)
+same-arrivals t arrivals s l side at = ap (λ port. filter (λ (x : Arrival). port == x.port) (own l.vl side arrivals)) (port-is t l s at) ∙ swapped l.vl s.port side arrivals
+
+side-is-fed : BuiltIsComputed → (t : Rows) (arrivals : List Arrival) (s : SystemRow) (l : LinkRow) (emitted : List (Turn Frame)) (side : Side) → slice_get t.systems l.from ≡ Some s → AllByRecursion (IsBuildable s) emitted →
+    AreSentAs s side emitted (arrivals_at side s.port arrivals) → IsFed t l (stream_of s l.vl emitted) side arrivals
+side-is-fed computed t arrivals s l emitted side at all sent =
+    let same = same-arrivals t arrivals s l side at in
+    let are = sent-are computed s side l.vl emitted (arrivals_at side s.port arrivals) all sent in
     record { frames = subst (AreSendings side (stream_of s l.vl emitted)) (sym same) are.frames; whole = ap length same ∙ are.whole }
+
+pub sent-is-fed : BuiltIsComputed → SentIsFed
+sent-is-fed computed t arrivals s l emitted at all merged side = side-is-fed computed t arrivals s l emitted side at all (merged side)
 
 pub released-once : BuiltIsComputed → ReleasedAreToldOnce
 released-once computed t arrivals lines h system place at s l once stands link goes from all merged e sendable =
     once system place s l _ (stream_of h.system l.vl h.emitted) stands link goes
     (record { sender = h.system; stands = from; sendable = sendable; lawful = e.lawful })
     (sent-is-fed computed t arrivals h.system l h.emitted from all merged)
+
+-- ---- where a network fails in the middle
+
+stream-more : (s : SystemRow) (vl : ℕ) (later earlier : List (Turn Frame)) → (more : List Sending) × (stream_of s vl (later ++ earlier) ≡ stream_of s vl earlier ++ more)
+unfolding stream_of
+stream-more s vl [] earlier = ([], sym (append-nil (stream_of s vl earlier)))
+stream-more s vl (turn ∷ later) earlier = by (turn.entry.item.vl == vl) (stream-more s vl later earlier)
+  where
+    by : (b : Bool) → (more : List Sending) × (stream_of s vl (later ++ earlier) ≡ stream_of s vl earlier ++ more) →
+        (more : List Sending) × ((if b then stream_of s vl (later ++ earlier) ++ sent_in s turn ∷ [] else stream_of s vl (later ++ earlier)) ≡ stream_of s vl earlier ++ more)
+    by true rest = (rest.0 ++ sent_in s turn ∷ [], ap (λ z. z ++ sent_in s turn ∷ []) rest.1 ∙ append_assoc (stream_of s vl earlier) rest.0 (sent_in s turn ∷ []))
+    by false rest = rest
+
+pub all-earlier : {Y : Type 0} (P : Y → Type 0) (later earlier : List Y) → AllByRecursion P (later ++ earlier) → AllByRecursion P earlier
+all-earlier P [] earlier all = all
+all-earlier P (y ∷ later) earlier all = all-earlier P later earlier all.1
+
+sent-so-far : BuiltIsComputed → (t : Rows) (arrivals : List Arrival) (s : SystemRow) (l : LinkRow) (emitted : List (Turn Frame)) → slice_get t.systems l.from ≡ Some s → AllByRecursion (IsBuildable s) emitted →
+    IsMergedSoFar s emitted arrivals → (side : Side) → AreSendings side (stream_of s l.vl emitted) (at_own_port t l side arrivals)
+sent-so-far computed t arrivals s l emitted at all merged side =
+    let k = merged side in
+    let build = all-earlier (IsBuildable s) k.0 k.1 (subst (λ (z : List (Turn Frame)). AllByRecursion (IsBuildable s) z) k.2 all) in
+    let are = sent-are computed s side l.vl k.1 (arrivals_at side s.port arrivals) build k.3 in
+    let more = stream-more s l.vl k.0 k.1 in
+    let longer = more-sendings side (stream_of s l.vl k.1) more.0 (filter (λ (x : Arrival). names l.vl x.bytes) (arrivals_at side s.port arrivals)) are.frames in
+    let whole : stream_of s l.vl k.1 ++ more.0 ≡ stream_of s l.vl emitted = sym more.1 ∙ ap (stream_of s l.vl) (sym k.2) in
+    subst (AreSendings side (stream_of s l.vl emitted)) (sym (same-arrivals t arrivals s l side at))
+    (subst (λ (z : List Sending). AreSendings side z (filter (λ (x : Arrival). names l.vl x.bytes) (arrivals_at side s.port arrivals))) whole longer)
+
+pub released-so-far : BuiltIsComputed → ReleasedAreToldSoFar
+released-so-far computed t arrivals lines h system place at s l once stands link goes from all merged e sendable =
+    once system place s l _ (stream_of h.system l.vl h.emitted) stands link goes
+    (record { sender = h.system; stands = from; sendable = sendable; lawful = e.lawful })
+    (sent-so-far computed t arrivals h.system l h.emitted from all merged)
+
+pub take-all : {Y : Type 0} (n : ℕ) (xs : List Y) → length xs ≤ n → take n xs ≡ xs
+take-all zero [] le = refl
+take-all zero (x ∷ xs) le = absurd (omega (arith, le))
+take-all (suc n) [] le = refl
+take-all (suc n) (x ∷ xs) le = ap (λ zs. x ∷ zs) (take-all n xs (omega (arith, le)))
+
+most-on : (t : Rows) (l : LinkRow) (arrivals : List Arrival) (side : Side) → length (at_own_port t l side arrivals) ≤ most_come t l arrivals
+most-on t l arrivals A = omega arith
+most-on t l arrivals B = omega arith
+
+pub one-side : BuiltIsComputed → OneSideIsEnough
+one-side computed t arrivals h at l whole from all sent e =
+    let fed = side-is-fed computed t arrivals h.system l h.emitted whole from all sent in
+    let count = e.lawful.message_count in
+    let come = fed.whole in
+    let most = most-on t l arrivals whole in
+    take-all (most_come t l arrivals) (send.sent_list (send.own at e.released)) (omega (arith, count, come, most))

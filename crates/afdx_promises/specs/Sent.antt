@@ -1,6 +1,6 @@
 -- What the systems of a network send, as what arrives at its switches. Lists of turns and of
 -- arrivals have the newest first.
-use Rattle.std.specs.Prelude.{◌≡◌, ℕ, ◌<◌, ◌^◌, ◌==◌, ◌&&◌, true, if◌then◌else◌, Some, List, [], ◌∷◌, ◌++◌, filter, reverse, slice_get}
+use Rattle.std.specs.Prelude.{◌≡◌, ℕ, ◌<◌, ◌^◌, ◌==◌, ◌&&◌, true, if◌then◌else◌, Some, List, [], ◌∷◌, ◌++◌, filter, reverse, slice_get, take}
 use Rattle.std.specs.List.{AllByRecursion}
 use Rattle.afdx_frame.specs.Grammar.{Buildable, built_frame}
 use Rattle.afdx_frame.specs.Sealing.{AreBytes}
@@ -17,7 +17,7 @@ use Rattle.afdx_send.specs.Frames.{Frame, address_with}
 use Rattle.afdx_send.specs.Laws.{EmitsLawfully}
 use Rattle.afdx_send.specs.Sender.{History}
 use Rattle.afdx_promises.specs.Lines.{Line, messages_told}
-use Rattle.afdx_promises.specs.Promises.{EachIsToldOnce}
+use Rattle.afdx_promises.specs.Promises.{EachIsToldOnce, EachIsToldOnceSoFar, most_come}
 use Rattle.afdx_promises.specs.Streams.{IsFed}
 
 -- a system's frame on a network, and what it sends in a slot
@@ -99,3 +99,33 @@ ReleasedAreToldOnce = (t : Rows) (arrivals : List Arrival) (lines : List Line) (
     AreSendable h.system l (sent_list (own at e.released)) →
     reverse (messages_told system l.vl lines)
     ≡ filter (λ m. has_port t.ports system l.vl m.udp) (sent_list (own at e.released))
+
+-- A network may fail in the middle: on both sides what arrives at the port of a system is the first
+-- of what it sent
+abbrev pub IsMergedSoFar : SystemRow → List (Turn Frame) → List Arrival → Type 0
+IsMergedSoFar s emitted arrivals = (side : Side) →
+    (later : List (Turn Frame)) × (earlier : List (Turn Frame)) × (emitted ≡ later ++ earlier)
+    × AreSentAs s side earlier (arrivals_at side s.port arrivals)
+
+-- Then the released messages are told as far as one of the sides has come.
+abbrev pub ReleasedAreToldSoFar : Type 0
+ReleasedAreToldSoFar = (t : Rows) (arrivals : List Arrival) (lines : List Line) (h : History)
+    (system place at : ℕ) (s : SystemRow) (l : LinkRow) →
+    EachIsToldOnceSoFar t arrivals lines → slice_get t.systems system ≡ Some s → slice_get t.links
+    place ≡ Some l → is_to system l ≡ true →
+    slice_get t.systems l.from ≡ Some h.system → AllByRecursion (IsBuildable h.system) h.emitted →
+    IsMergedSoFar h.system h.emitted arrivals →
+    (e : EmitsLawfully h at l (stream_of h.system l.vl h.emitted)) →
+    AreSendable h.system l (sent_list (own at e.released)) →
+    reverse (messages_told system l.vl lines)
+    ≡ filter (λ m. has_port t.ports system l.vl m.udp)
+    (take (most_come t l arrivals) (sent_list (own at e.released)))
+
+-- So all of them are, where on one side all comes.
+abbrev pub OneSideIsEnough : Type 0
+OneSideIsEnough = (t : Rows) (arrivals : List Arrival) (h : History) (at : ℕ) (l : LinkRow)
+    (whole : Side) → slice_get t.systems l.from ≡ Some h.system →
+    AllByRecursion (IsBuildable h.system) h.emitted →
+    AreSentAs h.system whole h.emitted (arrivals_at whole h.system.port arrivals) →
+    (e : EmitsLawfully h at l (stream_of h.system l.vl h.emitted)) →
+    take (most_come t l arrivals) (sent_list (own at e.released)) ≡ sent_list (own at e.released)

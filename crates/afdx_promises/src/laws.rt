@@ -2,6 +2,7 @@
 ghost use Rattle.afdx_promises.specs.Examples.{PremisesAreMet, AdmissionIsNeeded, TimesAreNeeded};
 ghost use Rattle.afdx_promises.specs.NetworkPromises.{PortsAreAsPromised, LeftSoFarAreFirst, ReceptionsAreOne, ReceptionsExist, EventsBringReceptions, LinksAreApart, StreamIsRegular, StreamIsAccepted, MessagesComeSoFar, MessagesComeOnce, EventsAreAsPromised, EventsSoFarAreAsPromised};
 ghost use Rattle.afdx_promises.specs.Sent.{SentIsFed, StreamIsOfSendings, ReleasedAreToldOnce};
+ghost use Rattle.afdx_promises.specs.Sent.{ReleasedAreToldSoFar, OneSideIsEnough};
 ghost use Rattle.afdx_promises.specs.Promises.{PromisesAreKept, PromisesAreKeptSoFar, MessagesAreToldOnce, MessagesAreToldOnceSoFar};
 
 use afdx_frame::laws::built_is_computed;
@@ -100,10 +101,15 @@ pub fn premises_are_met()
 /// order, both sides are fed with the link's stream, whole; so, where it emitted lawfully, each
 /// receiver's M lines are exactly the released messages to its UDP ports, each once and in order of
 /// their releases.
+///
+/// Where only the first of it arrives, as when a network fails in the middle, they are told as far
+/// as one of the sides has come; so, where on one side all comes, all are.
 pub fn sent_is_told_once()
     ensures fed { SentIsFed }
     ensures stream { StreamIsOfSendings }
     ensures once { ReleasedAreToldOnce }
+    ensures so_far { ReleasedAreToldSoFar }
+    ensures one_side { OneSideIsEnough }
 {
     built_is_computed()
 }

@@ -1,5 +1,5 @@
 -- From what the senders took to what the receivers are told.
-use Rattle.std.proofs.Common.{◌≡◌, ◌≢◌, ℕ, zero, suc, ◌+◌, ◌<◌, ◌≤◌, ◌^◌, Bool, true, false, if◌then◌else◌, List, [], ◌∷◌, ◌++◌, length, take, filter, map, nat_eq, Some, refl, sym, ap, subst, ◌∙◌, arith}
+use Rattle.std.proofs.Common.{◌≡◌, ◌≢◌, ℕ, zero, suc, ◌+◌, ◌<◌, ◌≤◌, ◌^◌, Bool, true, false, if◌then◌else◌, List, [], ◌∷◌, ◌++◌, length, take, filter, map, nat_eq, Some, refl, sym, ap, subst, ◌∙◌, arith, inl, inr, append_assoc, append-nil}
 use Rattle.std.specs.Prelude.{reverse}
 use Rattle.std.specs.List.{slice_get, AllByRecursion}
 use Rattle.std.proofs.lemmas.Bool.Decides.{nat_tests}
@@ -8,13 +8,12 @@ use Rattle.afdx_frame.specs.Grammar.{Buildable}
 use Rattle.afdx_frame.specs.Reading.{BuiltIsComputed}
 use Rattle.afdx_frame.specs.Sealing.{AreBytes}
 use Rattle.afdx_frame.specs.declared.link.Side.{Side}
-use Rattle.afdx_frame.specs.declared.link.Side.TheVariants.{A, B}
 use Rattle.afdx_config.specs.Admission.{IsAdmitted, links_from}
 use Rattle.afdx_config.specs.Lawful.{IsSystem, IsLink, IsLawful, AreDistinct}
 use Rattle.afdx_config.specs.LawfulStream.{address_of}
 use Rattle.afdx_config.specs.Numbers.{next_number, after_steps}
 use Rattle.afdx_config.specs.Reading.{has_port}
-use Rattle.afdx_config.specs.Rows.{SystemRow, LinkRow, Rows}
+use Rattle.afdx_config.specs.Rows.{SystemRow, LinkRow, Rows, is_to}
 use Rattle.afdx_config.specs.SentList.{Message}
 use Rattle.afdx_config.proofs.EachRow.{all_at}
 use Rattle.afdx_lists.specs.FrameLines as frame
@@ -22,18 +21,22 @@ use Rattle.afdx_lists.specs.FrameLines.{line_says}
 use Rattle.afdx_lists.specs.Lines.{lines_of}
 use Rattle.afdx_police.specs.Arrival.{Arrival}
 use Rattle.afdx_port.specs.Schedule.{Turn}
-use Rattle.afdx_receive.specs.Copies.{copy_on, AreSendable}
+use Rattle.afdx_receive.specs.Copies.{AreSendable}
 use Rattle.afdx_send.specs.Complete.{IsFor, HasSentAll, EmitsAll, IsOfTaken, AllIsSent, EmissionsAreOfTaken, submissions_of, AreReleasesOfAll}
 use Rattle.afdx_send.specs.Emissions.{own, own_submissions, sent_list}
 use Rattle.afdx_send.specs.Frames.{Frame, frame_with, address_with}
 use Rattle.afdx_send.specs.Releases.{Submission, Release, AreReleases}
 use Rattle.afdx_send.specs.Sender.{History}
 use Rattle.afdx_send.proofs.NewLemmas.{from_filter, distinct_links}
+use Rattle.afdx_send.proofs.NextLemmas.{split_last}
 use Rattle.afdx_promises.specs.Lines.{Line, messages_told}
-use Rattle.afdx_promises.specs.Promises.{EachIsToldOnce}
-use Rattle.afdx_promises.specs.Sent.{frame_on, sent_in, stream_of, IsBuildable, AreSentAs, arrivals_at, StreamIsOfSendings, ReleasedAreToldOnce}
-use Rattle.afdx_replay.specs.EndToEnd.{lines_at, HoldsText, HasSent, heard_of, EachIsToldAsTaken, TakenIsToldOnce, RunsTellTakenOnce, TextsAreLists}
+use Rattle.afdx_promises.specs.Promises.{EachIsToldOnce, EachIsToldOnceSoFar, most_come}
+use Rattle.afdx_promises.specs.Sent.{frame_on, stream_of, IsBuildable, AreSentAs, arrivals_at, StreamIsOfSendings, ReleasedAreToldOnce, IsMergedSoFar, ReleasedAreToldSoFar, OneSideIsEnough}
+use Rattle.afdx_promises.proofs.ListLemmas.{all-imply}
+use Rattle.afdx_promises.proofs.SentLemmas.{copy-is, all-earlier, take-all}
+use Rattle.afdx_replay.specs.EndToEnd.{lines_at, HoldsText, HasSent, heard_of, EachIsToldAsTaken, TakenIsToldOnce, WrittenIsSent, RunsTellTakenOnce, TextsAreLists, AreToldAsTaken}
 use Rattle.afdx_replay.specs.Listed.{AreSound, arrivals_of}
+use Rattle.afdx_replay.specs.OneSide.{HoldsFirst, AreToldSoFar, TakenIsToldSoFar, TakenIsToldByOneSide}
 use Rattle.afdx_replay.specs.SendEvents.{Handed, Event, Emitted, Submitted, submissions_in, turns_in, taken_by, calls_in, EachFollows}
 use Rattle.afdx_replay.specs.SendLaws.{AreOfFrame}
 use Rattle.afdx_replay.specs.SendText.{send_text}
@@ -50,10 +53,6 @@ record IsGood (l : LinkRow) (m : Submission) : Type 0 where
   for : IsFor l m
   bytes : AreBytes m.message.payload
   udp : m.message.udp ≤ 65535
-
-all-weaker : {Y : Type 0} (P Q : Y → Type 0) (xs : List Y) → ((x : Y) → P x → Q x) → AllByRecursion P xs → AllByRecursion Q xs
-all-weaker P Q [] f all = tt
-all-weaker P Q (x ∷ xs) f all = (f x all.0, all-weaker P Q xs f all.1)
 
 taken-good : (n : ℕ) (s : SystemRow) (links : List LinkRow) → AreDistinct (λ l. l.vl) links → (events : List Event) → EachFollows s links events → AllByRecursion (IsSaid n) (submissions_in events) →
     (i : ℕ) (l : LinkRow) → slice_get links i ≡ Some l → AllByRecursion (IsGood l) (taken_by l.vl events)
@@ -130,10 +129,6 @@ not-empty : {Y : Type 0} (xs : List Y) (x : Y) → xs ++ x ∷ [] ≡ [] → ⊥
 not-empty [] x h = cc h
 not-empty (y ∷ ys) x h = cc h
 
-copy-is : (s : SystemRow) (turn : Turn Frame) (side : Side) → copy_on side (sent_in s turn) ≡ frame_on s side turn.entry.item
-copy-is s turn A = refl
-copy-is s turn B = refl
-
 sent-as : (s : SystemRow) (side : Side) → 1 ≤ s.port → s.port ≤ 24 → (turns : List (Turn Frame)) (xs : List Arrival) → AllByRecursion (CanBeRead s) turns → AreSaidBy xs (lines_on s side turns) → AreSentAs s side turns xs
 sent-as s side one most [] [] can said = tt
 sent-as s side one most [] (x ∷ past) can said = not-empty said.0 said.1 (sym said.2)
@@ -147,9 +142,23 @@ sent-as s side one most (turn ∷ earlier) (x ∷ past) can said =
       sent-as s side one most earlier past can.1 (subst (λ (z : List (List ℕ)). AreSaidBy past z) (sym same.0) said.4),
     )
 
-take-all : {Y : Type 0} (xs : List Y) → take (length xs) xs ≡ xs
-take-all [] = refl
-take-all (x ∷ xs) = ap (λ z. x ∷ z) (take-all xs)
+take-map : {Y Z : Type 0} (f : Y → Z) (n : ℕ) (xs : List Y) → take n (map f xs) ≡ map f (take n xs)
+take-map f zero xs = refl
+take-map f (suc n) [] = refl
+take-map f (suc n) (x ∷ xs) = ap (λ z. f x ∷ z) (take-map f n xs)
+
+-- the first of the lines are those of the first emissions
+lines-first : (s : SystemRow) (side : Side) (turns : List (Turn Frame)) (xs later : List (List ℕ)) → lines_on s side turns ≡ xs ++ later →
+    (newer : List (Turn Frame)) × (earlier : List (Turn Frame)) × (turns ≡ newer ++ earlier) × (lines_on s side earlier ≡ xs)
+lines-first s side [] [] later h = ([], [], refl, refl)
+lines-first s side [] (x ∷ xs) later h = absurd (cc h)
+lines-first s side (turn ∷ turns) xs later h = elim (split_last later) [
+  | inl none ↦ ([], turn ∷ turns, refl, h ∙ ap (λ z. xs ++ z) none ∙ append-nil xs)
+  | inr some ↦ (let moved : lines_on s side turns ++ line_on s side turn ∷ [] ≡ (xs ++ some.0) ++ some.1 ∷ [] = h ∙ ap (λ z. xs ++ z) some.2 ∙ sym (append_assoc xs some.0 (some.1 ∷ [])) in
+      let same = snoc-same (lines_on s side turns) (xs ++ some.0) (line_on s side turn) some.1 moved in
+      let r = lines-first s side turns xs some.0 same.0 in
+      (turn ∷ r.0, r.1, ap (λ z. turn ∷ z) r.2, r.3))
+]
 
 -- ---- the link's place among those of its system
 
@@ -189,10 +198,12 @@ pub record Laws : Type 0 where
   pub frames : EmissionsAreOfTaken
   pub stream : StreamIsOfSendings
   pub once : ReleasedAreToldOnce
+  pub so_far : ReleasedAreToldSoFar
+  pub enough : OneSideIsEnough
   pub computed : BuiltIsComputed
 
-pub laws-of : AllIsSent → EmissionsAreOfTaken → StreamIsOfSendings → ReleasedAreToldOnce → BuiltIsComputed → Laws
-laws-of sent frames stream once computed = record { sent = sent; frames = frames; stream = stream; once = once; computed = computed }
+pub laws-of : AllIsSent → EmissionsAreOfTaken → StreamIsOfSendings → ReleasedAreToldOnce → ReleasedAreToldSoFar → OneSideIsEnough → BuiltIsComputed → Laws
+laws-of sent frames stream once so_far enough computed = record { sent = sent; frames = frames; stream = stream; once = once; so_far = so_far; enough = enough; computed = computed }
 
 module _ (laws : Laws) (t : Rows) (lawful : IsLawful t) (admitted : IsAdmitted t) (sender : ℕ) (s : SystemRow) (given : List (List ℕ)) (events : List Event) (sent : HasSent t sender s given events) where
   abbrev links : List LinkRow
@@ -225,12 +236,12 @@ module _ (laws : Laws) (t : Rows) (lawful : IsLawful t) (admitted : IsAdmitted t
     admitted = admitted;
     row = sent.stands;
     links = refl;
-    fit = λ i l at. all-weaker (IsGood l) (IsFor l) (own_submissions h.taken i) (λ m g. g.for) (own-good i l at);
+    fit = λ i l at. all-imply (IsGood l) (IsFor l) (own_submissions h.taken i) (λ m g. g.for) (own-good i l at);
     done = sent.are_done;
   }
 
   build : AllByRecursion (IsBuildable s) (turns_in events)
-  build = all-weaker (IsOfTaken h) (IsBuildable s) (turns_in events) (turn-buildable (length t.systems) t.profile s h is_system is_link own-good) (laws.frames t sender h all-sent)
+  build = all-imply (IsOfTaken h) (IsBuildable s) (turns_in events) (turn-buildable (length t.systems) t.profile s h is_system is_link own-good) (laws.frames t sender h all-sent)
 
   can : AllByRecursion (CanBeRead s) (turns_in events)
   can = can-be-read laws.computed s (turns_in events) build sent.early
@@ -244,15 +255,27 @@ module _ (laws : Laws) (t : Rows) (lawful : IsLawful t) (admitted : IsAdmitted t
   text-sound : length (lines_of (send_text s events)) ≤ 1000000 → AreSound (lines_of (send_text s events)) (length (lines_of (send_text s events)))
   text-sound few = text-is-list s links is_system.port.0 is_system.port.1 events sent.are_events.follow fine few
 
-  merged : (list : List (List ℕ)) → AreSound list (length list) → HoldsText s list (send_text s events) → (side : Side) → AreSentAs s side (turns_in events) (arrivals_at side s.port (arrivals_of list (length list)))
-  merged list sound holds side =
-      let by_lines = said-by side s.port list (length list) (omega arith) sound in
-      let whole = subst (λ (z : List (List ℕ)). AreSaidBy (arrivals_at side s.port (arrivals_of list (length list))) (lines_at side s.port z)) (take-all list) by_lines in
-      let of_text = subst (λ (z : List (List ℕ)). AreSaidBy (arrivals_at side s.port (arrivals_of list (length list))) z) (holds side ∙ text-at-port s is_system.port.0 is_system.port.1 side events fine) whole in
+  by-lines : (list : List (List ℕ)) → AreSound list (length list) → (side : Side) → AreSaidBy (arrivals_at side s.port (arrivals_of list (length list))) (lines_at side s.port list)
+  by-lines list sound side =
+      subst (λ (z : List (List ℕ)). AreSaidBy (arrivals_at side s.port (arrivals_of list (length list))) (lines_at side s.port z)) (take-all (length list) list (omega arith)) (said-by side s.port list (length list) (omega arith) sound)
+
+  side-merged : (list : List (List ℕ)) → AreSound list (length list) → (side : Side) → lines_at side s.port list ≡ lines_at side s.port (lines_of (send_text s events)) →
+      AreSentAs s side (turns_in events) (arrivals_at side s.port (arrivals_of list (length list)))
+  side-merged list sound side holds =
+      let of_text =
+      subst (λ (z : List (List ℕ)). AreSaidBy (arrivals_at side s.port (arrivals_of list (length list))) z) (holds ∙ text-at-port s is_system.port.0 is_system.port.1 side events fine) (by-lines list sound side) in
       sent-as s side is_system.port.0 is_system.port.1 (turns_in events) (arrivals_at side s.port (arrivals_of list (length list))) can of_text
 
-  told : (list : List (List ℕ)) (lines : List Line) → AreSound list (length list) → EachIsToldOnce t (arrivals_of list (length list)) lines → HoldsText s list (send_text s events) → EachIsToldAsTaken t sender events lines
-  told list lines sound once holds system place receiver l stands link from to =
+  merged : (list : List (List ℕ)) → AreSound list (length list) → HoldsText s list (send_text s events) → (side : Side) → AreSentAs s side (turns_in events) (arrivals_at side s.port (arrivals_of list (length list)))
+  merged list sound holds side = side-merged list sound side (holds side)
+
+  -- what one link of the system sent is a lawful stream of messages that can be sent
+  abbrev IsReady : LinkRow → Type 0
+  IsReady l = (i : ℕ) × (k : EmitsAll h i l (stream_of s l.vl (turns_in events))) × AreReleasesOfAll l (taken_by l.vl events) (own i k.emits.released)
+      × AreSendable s l (sent_list (own i k.emits.released))
+
+  ready : (place : ℕ) (l : LinkRow) → slice_get t.links place ≡ Some l → l.from ≡ sender → IsReady l
+  ready place l link from =
       let among = place-among t.links sender place l link from in
       let i = among.0 in
       let stream = stream_of s l.vl (turns_in events) in
@@ -262,16 +285,65 @@ module _ (laws : Laws) (t : Rows) (lawful : IsLawful t) (admitted : IsAdmitted t
       let is = is_link i l among.1 in
       let can_send : (m : Submission) → IsGood l m → CanBeSent s l m.message =
       λ m g. record { buildable = buildable (length t.systems) t.profile s l m.message 0 is_system is g.for.some g.for.fits g.udp; bytes = g.bytes } in
-      let ms = all-messages (CanBeSent s l) _ l.subs (taken_by l.vl events) rs (all-weaker (IsGood l) (λ m. CanBeSent s l m.message) (taken_by l.vl events) can_send (good i l among.1)) all.are_releases in
-      let sends : slice_get t.systems l.from ≡ Some s = subst (λ (z : ℕ). slice_get t.systems z ≡ Some s) (sym from) sent.stands in
-      let first = laws.once t (arrivals_of list (length list)) lines h system place i receiver l once stands link to sends build (merged list sound holds) k.emits (sendable s l (sent_list rs) ms) in
-      let told_all : reverse (messages_told system l.vl lines) ≡ heard_of t system l (submissions_of rs) = first ∙ ap (filter (λ m. has_port t.ports system l.vl m.udp)) (sent-messages rs) in
+      let ms = all-messages (CanBeSent s l) _ l.subs (taken_by l.vl events) rs (all-imply (IsGood l) (λ m. CanBeSent s l m.message) (taken_by l.vl events) can_send (good i l among.1)) all.are_releases in
+      (i, k, all, sendable s l (sent_list rs) ms)
+
+  as-taken : (system : ℕ) (l : LinkRow) (lines : List Line) (k : IsReady l) → reverse (messages_told system l.vl lines) ≡ filter (λ m. has_port t.ports system l.vl m.udp) (sent_list (own k.0 k.1.emits.released)) →
+      AreToldAsTaken t system l (taken_by l.vl events) lines
+  as-taken system l lines k is =
+      let rs = own k.0 k.1.emits.released in
+      let told_all : reverse (messages_told system l.vl lines) ≡ heard_of t system l (submissions_of rs) = is ∙ ap (filter (λ m. has_port t.ports system l.vl m.udp)) (sent-messages rs) in
+      record { releases = rs; all = k.2; told = told_all; of_one_sub = λ one. told_all ∙ ap (heard_of t system l) (k.2.of_one_sub one) }
+
+  sends : (l : LinkRow) → l.from ≡ sender → slice_get t.systems l.from ≡ Some s
+  sends l from = subst (λ (z : ℕ). slice_get t.systems z ≡ Some s) (sym from) sent.stands
+
+  told : (list : List (List ℕ)) (lines : List Line) → AreSound list (length list) → EachIsToldOnce t (arrivals_of list (length list)) lines → HoldsText s list (send_text s events) → EachIsToldAsTaken t sender events lines
+  told list lines sound once holds system place receiver l stands link from to =
+      let k = ready place l link from in
+      as-taken system l lines k (laws.once t (arrivals_of list (length list)) lines h system place k.0 receiver l once stands link to (sends l from) build (merged list sound holds) k.1.emits k.3)
+
+  -- ---- where a network fails in the middle
+
+  first-merged : (list : List (List ℕ)) → AreSound list (length list) → ((side : Side) → HoldsFirst s side list (send_text s events)) → IsMergedSoFar s (turns_in events) (arrivals_of list (length list))
+  first-merged list sound holds side =
+      let first = lines-first s side (turns_in events) (lines_at side s.port list) (holds side).0 (sym (text-at-port s is_system.port.0 is_system.port.1 side events fine) ∙ (holds side).1) in
+      let of_text = subst (λ (z : List (List ℕ)). AreSaidBy (arrivals_at side s.port (arrivals_of list (length list))) z) (sym first.3) (by-lines list sound side) in
+      let can_first = all-earlier (CanBeRead s) first.0 first.1 (subst (λ (z : List (Turn Frame)). AllByRecursion (CanBeRead s) z) first.2 can) in
+      (first.0, first.1, first.2, sent-as s side is_system.port.0 is_system.port.1 first.1 (arrivals_at side s.port (arrivals_of list (length list))) can_first of_text)
+
+  told-first : (list : List (List ℕ)) (lines : List Line) → AreSound list (length list) → EachIsToldOnceSoFar t (arrivals_of list (length list)) lines → ((side : Side) → HoldsFirst s side list (send_text s events)) →
+      (system place : ℕ) (receiver : SystemRow) (l : LinkRow) → slice_get t.systems system ≡ Some receiver → slice_get t.links place ≡ Some l → (from : l.from ≡ sender) → is_to system l ≡ true → (k : IsReady l) →
+      reverse (messages_told system l.vl lines) ≡ filter (λ m. has_port t.ports system l.vl m.udp) (take (most_come t l (arrivals_of list (length list))) (sent_list (own k.0 k.1.emits.released)))
+  told-first list lines sound once holds system place receiver l stands link from to k =
+      laws.so_far t (arrivals_of list (length list)) lines h system place k.0 receiver l once stands link to (sends l from) build (first-merged list sound holds) k.1.emits k.3
+
+  told-so-far : (list : List (List ℕ)) (lines : List Line) → AreSound list (length list) → EachIsToldOnceSoFar t (arrivals_of list (length list)) lines → ((side : Side) → HoldsFirst s side list (send_text s events)) →
+      (system place : ℕ) (receiver : SystemRow) (l : LinkRow) → slice_get t.systems system ≡ Some receiver → slice_get t.links place ≡ Some l → l.from ≡ sender → is_to system l ≡ true →
+      AreToldSoFar t system l (taken_by l.vl events) (most_come t l (arrivals_of list (length list))) lines
+  told-so-far list lines sound once holds system place receiver l stands link from to =
+      let k = ready place l link from in
+      let n = most_come t l (arrivals_of list (length list)) in
+      let rs = own k.0 k.1.emits.released in
       record {
         releases = rs;
-        all = all;
-        told = told_all;
-        of_one_sub = λ one. told_all ∙ ap (heard_of t system l) (all.of_one_sub one);
+        all = k.2;
+        told = told-first list lines sound once holds system place receiver l stands link from to k
+            ∙ ap (λ ms. filter (λ m. has_port t.ports system l.vl m.udp) (take n ms)) (sent-messages rs) ∙ ap (filter (λ m. has_port t.ports system l.vl m.udp)) (take-map (λ s. s.message) n (submissions_of rs));
       }
+
+  told-by-one : (list : List (List ℕ)) (lines : List Line) → AreSound list (length list) → EachIsToldOnceSoFar t (arrivals_of list (length list)) lines → ((side : Side) → HoldsFirst s side list (send_text s events)) →
+      (whole : Side) → lines_at whole s.port list ≡ lines_at whole s.port (lines_of (send_text s events)) → EachIsToldAsTaken t sender events lines
+  told-by-one list lines sound once holds whole all_come system place receiver l stands link from to =
+      let k = ready place l link from in
+      let enough = laws.enough t (arrivals_of list (length list)) h k.0 l whole (sends l from) build (side-merged list sound whole all_come) k.1.emits in
+      as-taken system l lines k (told-first list lines sound once holds system place receiver l stands link from to k ∙ ap (filter (λ m. has_port t.ports system l.vl m.udp)) enough)
+
+pub taken-so-far : Laws → TakenIsToldSoFar
+taken-so-far laws t list lines lawful admitted sound once sender s given events sent holds = told-so-far laws t lawful admitted sender s given events sent list lines sound once holds
+
+pub taken-by-one : Laws → TakenIsToldByOneSide
+taken-by-one laws t list lines lawful admitted sound once sender s given events sent holds whole all_come = told-by-one laws t lawful admitted sender s given events sent list lines sound once holds whole all_come
 
 pub taken-is-told : Laws → TakenIsToldOnce
 taken-is-told laws t list lines lawful admitted sound once sender s given events sent holds = told laws t lawful admitted sender s given events sent list lines sound once holds
@@ -281,9 +353,11 @@ texts-are-lists laws t sender s given events lawful admitted sent few = text-sou
 
 -- ---- of the two runs
 
+pub written-is-sent : WrittenIsSent
+written-is-sent t sender s given text sends stands sent early =
+    (record { stands = stands; sound = sent.sound; are_events = sent.writes.are_events; are_done = sent.writes.are_done; early = early }, sent.writes.written)
+
 pub runs-tell-taken : Laws → RunsTellTakenOnce
 runs-tell-taken laws t sender s given text bytes old new sends replays lawful admitted stands sent early holds tells =
-    let events = sent.writes.events in
-    let is : text ≡ send_text s events = sent.writes.written in
-    taken-is-told laws t (lines_of bytes) tells.lines lawful admitted tells.sound tells.once sender s (lines_of given) events
-    (record { stands = stands; sound = sent.sound; are_events = sent.writes.are_events; are_done = sent.writes.are_done; early = early }) (subst (λ (z : List ℕ). HoldsText s (lines_of bytes) z) is holds)
+    let w = written-is-sent t sender s given text sends stands sent early in
+    taken-is-told laws t (lines_of bytes) tells.lines lawful admitted tells.sound tells.once sender s (lines_of given) sent.writes.events w.0 (subst (λ (z : List ℕ). HoldsText s (lines_of bytes) z) w.1 holds)

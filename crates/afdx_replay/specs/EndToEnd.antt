@@ -77,7 +77,7 @@ EachIsToldAsTaken t sender events lines =
     AreToldAsTaken t system l (taken_by l.vl events) lines
 
 -- End to end: where a system's text is merged into a list without fault, whatever else the list
--- holds, the lines that a replay of it promises tell what the system's links took.
+-- holds at other ports, the lines that a replay of it promises tell what the system's links took.
 abbrev pub TakenIsToldOnce : Type 0
 TakenIsToldOnce = (t : Rows) (list : List (List ℕ)) (lines : List Line) →
     IsLawful t → IsAdmitted t → AreSound list (length list) →
@@ -86,8 +86,17 @@ TakenIsToldOnce = (t : Rows) (list : List (List ℕ)) (lines : List Line) →
     HasSent t sender s given events → HoldsText s list (send_text s events) →
     EachIsToldAsTaken t sender events lines
 
--- The same of the two runs: what `run_send` answers and writes, to an output that was empty, and
--- what `run` answers and writes for a list that holds this text.
+-- What a system has sent is what `run_send` answers and writes, to an output that was empty.
+abbrev pub WrittenIsSent : Type 0
+WrittenIsSent = (t : Rows) (sender : ℕ) (s : SystemRow) (given text : List ℕ) (sends : Summary) →
+    slice_get t.systems sender ≡ Some s →
+    (sent : WritesAll (source_at t sender s) (lines_of given) (Some []) (Some text) sends) →
+    AllByRecursion (λ turn. turn.end ≤ 10 ^ 15) (turns_in sent.writes.events) →
+    HasSent t sender s (lines_of given) sent.writes.events
+    × (text ≡ send_text s sent.writes.events)
+
+-- So the same is true of the two runs: of what `run_send` answers and writes, and of what `run`
+-- answers and writes for a list that holds this text.
 abbrev pub RunsTellTakenOnce : Type 0
 RunsTellTakenOnce = (t : Rows) (sender : ℕ) (s : SystemRow) (given text bytes : List ℕ)
     (old new : Option (List ℕ)) (sends replays : Summary) →

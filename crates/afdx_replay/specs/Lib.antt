@@ -21,3 +21,4 @@ pub mod SendCommand
 pub mod SendLaws
 pub mod EndToEnd
 pub mod Merged
+pub mod OneSide

@@ -1,6 +1,8 @@
 //! What is true of the definitions of a replay.
-ghost use Rattle.afdx_replay.specs.EndToEnd.{TakenIsToldOnce, RunsTellTakenOnce, TextsAreLists};
+ghost use Rattle.afdx_replay.specs.EndToEnd.{TakenIsToldOnce, WrittenIsSent, RunsTellTakenOnce};
+ghost use Rattle.afdx_replay.specs.EndToEnd.{TextsAreLists};
 ghost use Rattle.afdx_replay.specs.Merged.{MergedAreToldOnce};
+ghost use Rattle.afdx_replay.specs.OneSide.{TakenIsToldByOneSide, TakenIsToldSoFar};
 ghost use Rattle.afdx_replay.specs.ReplayPromises.{ArrivalsAreListed, NoneIsCounted};
 ghost use Rattle.afdx_replay.specs.ReplayPromises.{ReplayIsAsPromised, ReplaySoFarIsAsPromised};
 ghost use Rattle.afdx_replay.specs.SendLaws.{SentLinesAreArrivals, EventsAreOne, SendsAreOne};
@@ -44,19 +46,24 @@ pub fn events_are_one()
 {}
 
 /// Exactly once, end to end: where what `run_send` writes for a system is merged into a list that
-/// `run` reads, in any way that keeps its lines at the system's port in order, and whatever else
-/// the list holds, the M lines that `run` writes for each receiver of each link of that system are
-/// the messages which the sender took for the link, of those to the receiver's UDP ports: each
-/// once, in order of their releases; so, of a sub-VL, in the order in which they were handed over.
+/// `run` reads, in any way that keeps its order, and no other line of the list is at the system's
+/// port, the M lines that `run` writes for each receiver of each link of that system are the
+/// messages which the sender took for the link, of those to the receiver's UDP ports: each once,
+/// in order of their releases; so, of a sub-VL, in the order in which they were handed over.
+///
+/// So it is too where on one side only the first of these lines come, as when a network fails;
+/// where this is so on both sides, as far as one of them has come.
 ///
 /// All tables that are lawful and admitted. The lists have no fault, and each emission ends by
-/// 10^15 ns, the last time of a list.
-///
-/// What a system sends is such a list by itself, where it has at most a million lines.
+/// 10^15 ns, the last time of a list. What a system sends is such a list by itself, where it has at
+/// most a million lines.
 pub fn taken_is_told_once()
     ensures lines { TakenIsToldOnce }
+    ensures written { WrittenIsSent }
     ensures runs { RunsTellTakenOnce }
     ensures merged { MergedAreToldOnce }
+    ensures one_side { TakenIsToldByOneSide }
+    ensures so_far { TakenIsToldSoFar }
     ensures alone { TextsAreLists }
 {
     all_is_sent();

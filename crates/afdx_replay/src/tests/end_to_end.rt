@@ -109,6 +109,37 @@ fn what_is_taken_is_told_once(rt: HostRuntime) -> Result<(), Fail> {
     Ok(())
 }
 
+/// The text without the lines on side B after this time.
+fn without_b(alloc: Global, text: &str, last: u64) -> Result<String, Fail> {
+    let mut kept = String::new(alloc);
+    for line in text.lines() {
+        if !line.contains(" B ") || time_of(line) <= last {
+            kept.push_str(line)?;
+            kept.push_str("\n")?;
+        }
+    }
+    Ok(kept)
+}
+
+#[test]
+fn one_network_is_enough(rt: HostRuntime) -> Result<(), Fail> {
+    let tables = tables(rt.alloc())?;
+    let list = "0 1 1 1000 61\n0 1 1 1001 62\n0 1 2 1000 63\n0 1 2 1000 64\n";
+    let text = sent(rt.alloc(), &tables, 0, list)?;
+    let list = without_b(rt.alloc(), text.as_str(), 1_000_000)?;
+    assert_eq!(rt; list.lines().count(), 5);
+    let (result, text) = replayed(rt.alloc(), &tables, list.as_str())?;
+    assert!(rt; result.is_ok());
+    let wanted = ["M 13440 s3 1 61", "M 1013440 s3 1 63", "M 3013440 s3 1 64"];
+    let told = text.lines().filter(|line| line.starts_with("M "));
+    assert_eq!(rt; told.count(), wanted.len());
+    let told = text.lines().filter(|line| line.starts_with("M "));
+    for (line, row) in told.zip(wanted) {
+        assert_eq!(rt; line, row);
+    }
+    Ok(())
+}
+
 #[test]
 fn frames_after_the_last_time_are_no_list(rt: HostRuntime) -> Result<(), Fail> {
     let tables = tables(rt.alloc())?;
