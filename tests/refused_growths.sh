@@ -129,7 +129,7 @@ refuse_program() { # NAME WORD..
 look_at_test() { # HOW
     fault=
     if [[ $status -eq 0 ]]; then return; fi
-    if [[ $1 == REFUSE_FROM && $met == yes && $err =~ AllocError|Memory|refused ]]; then return; fi
+    if [[ $1 == REFUSE_FROM && $met == yes && $err =~ AllocError|Memory|(was refused) ]]; then return; fi
     fault="status $status"$'\n'"${err:0:600}"
 }
 
