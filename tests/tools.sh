@@ -508,6 +508,8 @@ completes() { # WANTED WORD..
 source tools/afdx.bash
 tell 'words are completed' "$(
     completes 'check' afdx ch
+    completes 'explain' afdx e
+    completes '--explain' afdx check --e
     completes '--no-admission' afdx replay --n
     completes 'examples/base.toml' afdx check examples/ba
     completes 's1 s2 s3' afdx send examples/base.toml ''

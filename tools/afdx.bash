@@ -25,7 +25,7 @@ _afdx() {
     local command=${COMP_WORDS[1]-} given=() word
     COMPREPLY=()
     if ((COMP_CWORD == 1)); then
-        _afdx_words check police replay send --help --version
+        _afdx_words check explain police replay send --help --version
         return
     fi
     for word in "${COMP_WORDS[@]:2:COMP_CWORD-2}"; do
@@ -33,8 +33,10 @@ _afdx() {
     done
     if [[ ${COMP_WORDS[COMP_CWORD]} == -* ]]; then
         case $command in
-            replay) _afdx_words --no-admission --help ;;
-            check | police | send) _afdx_words --help ;;
+            replay) _afdx_words --no-admission --explain --line-buffered --help ;;
+            police | send) _afdx_words --explain --line-buffered --help ;;
+            check) _afdx_words --explain --help ;;
+            explain) _afdx_words --help ;;
         esac
         return
     fi

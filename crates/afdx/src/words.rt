@@ -43,6 +43,14 @@ fn line_buffered<'a>(alloc: Global) -> Arg<'a> {
         .action(ArgAction::SetTrue)
 }
 
+/// The option by which a fault is explained.
+fn explain_option<'a>(alloc: Global) -> Arg<'a> {
+    Arg::new(alloc, "explain")
+        .long("explain")
+        .help("Explains the fault on standard error, behind its one line")
+        .action(ArgAction::SetTrue)
+}
+
 const CHECK_ABOUT: &str = "Says whether a network keeps its latencies";
 
 const CHECK_AFTER: &str = "\
@@ -75,6 +83,7 @@ fn check_command<'a>(alloc: Global) -> Result<Command<'a>, AllocError> {
     Command::new(alloc, "check")
         .about(CHECK_ABOUT)
         .after_help(CHECK_AFTER)
+        .arg(explain_option(alloc))?
         .arg(config)
 }
 
@@ -117,6 +126,7 @@ fn replay_command<'a>(alloc: Global) -> Result<Command<'a>, AllocError> {
         .about(REPLAY_ABOUT)
         .after_help(REPLAY_AFTER)
         .arg(freely)?
+        .arg(explain_option(alloc))?
         .arg(line_buffered(alloc))?
         .arg(config)?
         .arg(list)
@@ -161,6 +171,7 @@ fn send_command<'a>(alloc: Global) -> Result<Command<'a>, AllocError> {
     Command::new(alloc, "send")
         .about(SEND_ABOUT)
         .after_help(SEND_AFTER)
+        .arg(explain_option(alloc))?
         .arg(line_buffered(alloc))?
         .arg(config)?
         .arg(system)?
@@ -186,11 +197,37 @@ fn police_command<'a>(alloc: Global) -> Result<Command<'a>, AllocError> {
     Command::new(alloc, "police")
         .about(POLICE_ABOUT)
         .after_help(POLICE_AFTER)
+        .arg(explain_option(alloc))?
         .arg(line_buffered(alloc))?
         .arg(bag)?
         .arg(lmax)?
         .arg(jitter)?
         .arg(list)
+}
+
+const EXPLAIN_ABOUT: &str = "Says in plain words what a line of the program means";
+
+const EXPLAIN_AFTER: &str = "\
+TEXT is a line that the program printed, as it was printed: a fault on standard
+error, the last line of 'check', a line of 'replay', 'police' or 'send'. Or it is a
+word of such a line: why a frame was dropped, a line of admission, why a message
+was refused. With a text that is none of these the line is 'words UnknownText' and
+the status 2.
+
+Examples:
+  afdx explain 'config Missing link 1 key 7'
+  afdx explain no A2 3 252
+  afdx explain over-rate";
+
+fn explain_command<'a>(alloc: Global) -> Result<Command<'a>, AllocError> {
+    let text = Arg::new(alloc, "TEXT")
+        .help("A line, in quotes or not, or a word of one")
+        .required(true)
+        .num_args(1..);
+    Command::new(alloc, "explain")
+        .about(EXPLAIN_ABOUT)
+        .after_help(EXPLAIN_AFTER)
+        .arg(text)
 }
 
 /// The words that the program takes.
@@ -202,6 +239,7 @@ pub fn afdx_command<'a>(alloc: Global) -> Result<Command<'a>, AllocError> {
         .subcommand_required(true)
         .arg_required_else_help(true)
         .subcommand(check_command(alloc)?)?
+        .subcommand(explain_command(alloc)?)?
         .subcommand(police_command(alloc)?)?
         .subcommand(replay_command(alloc)?)?
         .subcommand(send_command(alloc)?)
