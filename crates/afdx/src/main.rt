@@ -8,7 +8,9 @@ mod words;
 use crate::devices::{Heard, Traced};
 use crate::explaining::{Cause, explain, is_asked, line_of, print_meaning};
 use afdx_explain::meaning_of;
-use afdx_replay::{Buffered, Watched, check, finish, police, replay, send};
+use afdx_replay::{
+    Buffered, CommandedRule, Ended, Policing, Watched, check, finish, police, replay, send,
+};
 use clap::error::ErrorKind;
 use clap::{ArgMatches, Error};
 use std::alloc::AllocError;
@@ -119,15 +121,18 @@ fn output_room(matches: &ArgMatches<'_>) -> usize {
     }
 }
 
-/// What is known after a run over a list, as far as it serves to explain its fault.
-fn explain_run<R: Drop, W: Write + Drop, E: Drop>(
+/// Ends a command that ran over a list: hands over what its output still holds, explains its fault
+/// or prints its counts, if that is asked for, and gives the exit status.
+fn end_run<R: Drop, W: Write + Drop, E: Write + Drop>(
     rt: &HostRuntime,
     matches: &ArgMatches<'_>,
     config: &[u8],
+    ended: Ended,
     input: Watched<Traced<R>>,
-    output: Watched<Buffered<Traced<W>>>,
-    errors: Watched<Heard<E>>,
-) {
+    mut output: Watched<Buffered<Traced<W>>>,
+    mut errors: Watched<Heard<E>>,
+) -> u8 {
+    let status = finish(ended.status, &mut output, &mut errors);
     let path = match matches.get_str("LIST").or(matches.get_str("SUBMISSIONS")) {
         Some("-") | None => "standard input",
         Some(path) => path,
@@ -141,15 +146,35 @@ fn explain_run<R: Drop, W: Write + Drop, E: Drop>(
     };
     let errors = errors.into_inner();
     explain_if_asked(rt, matches, errors.line(), &cause);
+    match ended.summary {
+        Some(summary) if status == DONE && matches.get_flag("summary") => {
+            let _ = eprintln!(rt; "{summary}");
+        }
+        _ => {}
+    }
+    status
+}
+
+/// The rule that the words of `police` give.
+fn commanded_rule(matches: &ArgMatches<'_>) -> Option<CommandedRule> {
+    let policing = match matches.get_str("policing")? {
+        "frame" => Policing::Frame,
+        _ => Policing::Byte,
+    };
+    Some(CommandedRule {
+        vl: matches.get_one::<u64>("vl")?,
+        port: matches.get_one::<u64>("port")?,
+        bag_ms: matches.get_one::<u64>("BAG_MS")?,
+        lmin: matches.get_one::<u64>("lmin")?,
+        lmax: matches.get_one::<u64>("LMAX")?,
+        jitter_us: matches.get_one::<u64>("JITTER_US")?,
+        policing,
+    })
 }
 
 /// Polices what `input` gives, and hands all verdicts to standard output.
 fn police_from<R: Read + Drop>(rt: &HostRuntime, matches: &ArgMatches<'_>, input: R) -> u8 {
-    let (Some(bag), Some(lmax), Some(jitter)) = (
-        matches.get_one::<u64>("BAG_MS"),
-        matches.get_one::<u64>("LMAX"),
-        matches.get_one::<u64>("JITTER_US"),
-    ) else {
+    let Some(given) = commanded_rule(matches) else {
         return WRONG_WORDS;
     };
     let device = Traced::new(rt.stdout());
@@ -159,18 +184,8 @@ fn police_from<R: Read + Drop>(rt: &HostRuntime, matches: &ArgMatches<'_>, input
     let mut input = Watched::new(Traced::new(input));
     let mut output = Watched::new(buffered);
     let mut errors = Watched::new(Heard::new(rt.stderr()));
-    let status = police(
-        rt.alloc(),
-        bag,
-        lmax,
-        jitter,
-        &mut input,
-        &mut output,
-        &mut errors,
-    );
-    let status = finish(status, &mut output, &mut errors);
-    explain_run(rt, matches, &[], input, output, errors);
-    status
+    let ended = police(rt.alloc(), &given, &mut input, &mut output, &mut errors);
+    end_run(rt, matches, &[], ended, input, output, errors)
 }
 
 fn police_list(rt: &HostRuntime, matches: &ArgMatches<'_>) -> u8 {
@@ -200,7 +215,7 @@ fn replay_from<R: Read + Drop>(
     let mut input = Watched::new(Traced::new(input));
     let mut output = Watched::new(buffered);
     let mut errors = Watched::new(Heard::new(rt.stderr()));
-    let status = replay(
+    let ended = replay(
         rt.alloc(),
         admission,
         config,
@@ -208,9 +223,7 @@ fn replay_from<R: Read + Drop>(
         &mut output,
         &mut errors,
     );
-    let status = finish(status, &mut output, &mut errors);
-    explain_run(rt, matches, config, input, output, errors);
-    status
+    end_run(rt, matches, config, ended, input, output, errors)
 }
 
 fn replay_list(rt: &HostRuntime, matches: &ArgMatches<'_>) -> u8 {
@@ -248,7 +261,7 @@ fn send_from<R: Read + Drop>(
     let mut input = Watched::new(Traced::new(input));
     let mut output = Watched::new(buffered);
     let mut errors = Watched::new(Heard::new(rt.stderr()));
-    let status = send(
+    let ended = send(
         rt.alloc(),
         config,
         system,
@@ -256,9 +269,7 @@ fn send_from<R: Read + Drop>(
         &mut output,
         &mut errors,
     );
-    let status = finish(status, &mut output, &mut errors);
-    explain_run(rt, matches, config, input, output, errors);
-    status
+    end_run(rt, matches, config, ended, input, output, errors)
 }
 
 fn send_list(rt: &HostRuntime, matches: &ArgMatches<'_>) -> u8 {

@@ -14,7 +14,8 @@ Give the file another name, or name it by a path that is text.",
         &["words BadRule"],
         "\
 A number of 'police' is out of its range. BAG_MS is 1, 2, 4, 8, 16, 32, 64 or 128, LMAX is
-64 to 1518 bytes, JITTER_US is 0 to 1000 times BAG_MS.",
+64 to 1518 bytes, JITTER_US is 0 to 1000 times BAG_MS, --vl is 0 to 65535, --port is 1 to 24
+and --lmin is 64 to LMAX bytes.",
     ),
     (
         &["words NoSuchSystem"],

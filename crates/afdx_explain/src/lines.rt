@@ -3,7 +3,7 @@
 use crate::entry::Entry;
 
 /// Lines of the output, why frames are dropped, and why messages are refused.
-pub const LINES: [Entry; 32] = [
+pub const LINES: [Entry; 33] = [
     (
         &["too-short", "V n A|B drop too-short", "X n * n too-short"],
         "too-short: the frame has fewer than 64 bytes, check sequence included.",
@@ -31,15 +31,15 @@ is none of a virtual link.",
     (
         &["unknown-link", "V n A|B drop unknown-link"],
         "\
-unknown-link: the frame names a link that isn't there; with 'police', any but the one that
-it polices. The link is the last two bytes of the destination address.
+unknown-link: the frame names a link that isn't there; with 'police', any but that of --vl.
+The link is the last two bytes of the destination address.
 If the frame is to pass, add a link with this vl to the configuration.",
     ),
     (
         &["wrong-port", "V n A|B drop wrong-port"],
         "\
 wrong-port: the frame came at another input port than the link's, which is the key port of
-its sender.
+its sender; with 'police', any but that of --port.
 Another system sends under this link's name, or the list gives the wrong port.",
     ),
     (
@@ -51,7 +51,7 @@ over-lmax: the frame is longer than Lmax: the key lmax of its link, lmin to 1518
         &["under-lmin", "V n A|B drop under-lmin"],
         "\
 under-lmin: the frame is shorter than Lmin, with byte-based policing: the key lmin of its
-link, 64 to 1518 bytes.",
+link, 64 to 1518 bytes; with 'police' the option --lmin.",
     ),
     (
         &["over-rate", "V n A|B drop over-rate"],
@@ -144,6 +144,15 @@ whole line; bytes of buffer that the port needs, rounded up.",
         &["ok"],
         "\
 ok: the network is admitted: no accepted frame is lost in a switch, and each is in time.",
+    ),
+    (
+        &["summary lines n accepted n dropped n lost n departed n too-old n delivered n"],
+        "\
+summary: the counts of a run: the lines that were read; frames that were accepted and those
+that were dropped at a switch; copies that were lost to a full buffer, that left a port, and
+that were dropped as too old; messages that were delivered. With 'send' accepted are the
+messages that were taken, dropped those that were refused, departed the frames that left, one
+for both sides.",
     ),
     (
         &["R", "R n A n *"],
