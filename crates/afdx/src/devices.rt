@@ -28,6 +28,8 @@ impl<T> Traced<T> {
 }
 
 impl<R: Read> Read for Traced<R> {
+    ghost remaining = { λ traced. R.remaining traced.device };
+
     fn read(&mut self, buf: &mut [u8]) -> io::Result<usize> {
         let read = self.device.read(buf);
         if let Err(error) = &read {
@@ -38,6 +40,8 @@ impl<R: Read> Read for Traced<R> {
 }
 
 impl<W: Write> Write for Traced<W> {
+    ghost contents = { λ traced. W.contents traced.device };
+
     fn write(&mut self, buf: &[u8]) -> io::Result<usize> {
         let written = self.device.write(buf);
         if let Err(error) = &written {
@@ -51,22 +55,45 @@ impl<W: Write> Write for Traced<W> {
     }
 }
 
+/// The last line of a text that comes piece by piece. Of one that is too long it is the beginning.
+#[derive(Drop)]
+struct LastLine {
+    bytes: [u8; LONGEST],
+    length: usize,
+    ended: bool,
+}
+
+impl LastLine {
+    fn add(&mut self, piece: &[u8]) {
+        for byte in piece {
+            if self.ended {
+                self.length = 0;
+            }
+            self.ended = *byte == b'\n';
+            if !self.ended && self.length < LONGEST {
+                self.bytes[self.length] = *byte;
+                self.length += 1;
+            }
+        }
+    }
+}
+
 /// A writer, and the last line that was written to it. Each call is passed on as it is.
 #[derive(Drop)]
 pub struct Heard<W> {
     device: W,
-    line: [u8; LONGEST],
-    length: usize,
-    ended: bool,
+    last: LastLine,
 }
 
 impl<W> Heard<W> {
     pub fn new(device: W) -> Heard<W> {
         Heard {
             device,
-            line: [0; LONGEST],
-            length: 0,
-            ended: false,
+            last: LastLine {
+                bytes: [0; LONGEST],
+                length: 0,
+                ended: false,
+            },
         }
     }
 
@@ -74,29 +101,18 @@ impl<W> Heard<W> {
         &self.device
     }
 
-    /// The last line, without its line feed. Of one that is too long it is the beginning.
+    /// The last line, without its line feed.
     pub fn line(&self) -> &str {
-        let length = self.length.min(LONGEST);
-        std::str::from_utf8(&self.line[..length]).unwrap_or("")
-    }
-
-    fn hear(&mut self, bytes: &[u8]) {
-        for byte in bytes {
-            if self.ended {
-                self.length = 0;
-            }
-            self.ended = *byte == b'\n';
-            if !self.ended && self.length < LONGEST {
-                self.line[self.length] = *byte;
-                self.length += 1;
-            }
-        }
+        let length = self.last.length.min(LONGEST);
+        std::str::from_utf8(&self.last.bytes[..length]).unwrap_or("")
     }
 }
 
 impl<W: Write> Write for Heard<W> {
+    ghost contents = { λ heard. W.contents heard.device };
+
     fn write(&mut self, buf: &[u8]) -> io::Result<usize> {
-        self.hear(buf);
+        self.last.add(buf);
         self.device.write(buf)
     }
 
