@@ -162,6 +162,7 @@ if [[ $tests == no ]]; then
     refuse_program 'check base.toml' "$1" check "$top/examples/base.toml"
     input=$work/copies.list
     sed -n 's/^F 0 A/&/p; s/^F 0 A/F 0 B/p' "$top/examples/one_link.list" >"$input"
+    refuse_program 'explain a line' "$1" explain config Missing link 1 key 7
     refuse_program 'replay a frame and its copy' "$1" replay "$top/examples/base.toml" -
     input=$top/examples/gigabit.list
     refuse_program 'replay gigabit.list' "$1" replay --no-admission "$top/examples/gigabit.toml" -

@@ -508,11 +508,16 @@ completes() { # WANTED WORD..
 source tools/afdx.bash
 tell 'words are completed' "$(
     completes 'check' afdx ch
+    completes 'explain' afdx e
+    completes '--explain' afdx check --e
     completes '--no-admission' afdx replay --n
     completes 'examples/base.toml' afdx check examples/ba
     completes 's1 s2 s3' afdx send examples/base.toml ''
     completes 'eec1 eec2' afdx send examples/network.toml eec
     completes '1 128 16' afdx police 1
+    completes '--policing --port' afdx police --po
+    completes 'byte frame' afdx police --policing ''
+    completes '1 128 16' afdx police --vl 501 --port 5 1
     completes 'list pcap' afdx-capture ''
     completes '--fcs' afdx-capture list --f
     completes 'auto' afdx-capture list --fcs a

@@ -22,19 +22,28 @@ _afdx_systems() { # CONFIG : the names of its systems
 }
 
 _afdx() {
-    local command=${COMP_WORDS[1]-} given=() word
+    local command=${COMP_WORDS[1]-} given=() word before=
     COMPREPLY=()
     if ((COMP_CWORD == 1)); then
-        _afdx_words check police replay send --help --version
+        _afdx_words check explain police replay send --help --version
         return
     fi
     for word in "${COMP_WORDS[@]:2:COMP_CWORD-2}"; do
-        [[ $word == --* ]] || given+=("$word")
+        [[ $word == --* || $before == --@(vl|port|lmin|policing) ]] || given+=("$word")
+        before=$word
     done
+    if [[ $before == --policing ]]; then
+        _afdx_words byte frame
+        return
+    fi
     if [[ ${COMP_WORDS[COMP_CWORD]} == -* ]]; then
         case $command in
-            replay) _afdx_words --no-admission --help ;;
-            check | police | send) _afdx_words --help ;;
+            replay) _afdx_words --no-admission --explain --line-buffered --summary --help ;;
+            send) _afdx_words --explain --line-buffered --summary --help ;;
+            police)
+                _afdx_words --vl --port --lmin --policing --explain --line-buffered --summary --help ;;
+            check) _afdx_words --explain --help ;;
+            explain) _afdx_words --help ;;
         esac
         return
     fi

@@ -176,3 +176,74 @@ F 0 A
 full_case 'a full device and a list fault' 3 $'list BadLine 2\n' police 1 64 500 -
 input=/dev/null
 full_case 'a full device and no output' 0 '' police 1 64 500 -
+
+# ---- police: another link ------------------------------------------------------------------
+
+bench() { grep -c "$1" "$work/out" || true; } # WORDS : how many lines have them
+launch police --vl 501 --port 5 2 160 200 examples/bench.list
+tell 'link 501 of the bench, as in its table' "$(
+    has_status 0
+    if [[ $(bench accept) -eq 0 ]]; then echo 'no frame is accepted'; fi
+    if [[ $(bench unknown-link) -eq 0 ]]; then echo 'no other link'; fi
+    "$program" replay examples/network.toml examples/bench.list | grep '^V' >"$work/network"
+    awk 'NR == FNR { verdict[$2] = $0; next } !/unknown-link/ && verdict[$2] != $0' \
+        "$work/network" "$work/out" | head -n 3
+)"
+listed "F 0 A 1 $frame
+F 0 A 7 $frame
+F 0 A 7 ${frame:0:8}0002${frame:12}
+"
+case_of 'another port' 0 $'V 1 A drop wrong-port\nV 2 A accept\nV 3 A drop unknown-link\n' '' \
+    police --port 7 1 64 500 -
+case_of 'another link' 0 $'V 1 A drop unknown-link\nV 2 A drop unknown-link\nV 3 A accept\n' '' \
+    police --vl 2 --port 7 1 64 500 -
+listed "F 0 A 1 $frame
+F 0 A 1 ${frame}00
+"
+case_of 'a least length' 0 $'V 1 A drop under-lmin\nV 2 A accept\n' '' police --lmin 65 1 65 500 -
+case_of 'by frames nothing is too short' 0 $'V 1 A accept\nV 2 A accept\n' '' \
+    police --lmin 65 --policing frame 1 65 1000 -
+case_of 'by bytes, as without the word' 0 $'V 1 A accept\nV 2 A accept\n' '' \
+    police --policing byte 1 65 1000 -
+input=/dev/null
+case_of 'link 65535' 0 '' '' police --vl 65535 1 64 500 -
+case_of 'link 65536' 2 '' $'words BadRule\n' police --vl 65536 1 64 500 -
+case_of 'port 24' 0 '' '' police --port 24 1 64 500 -
+case_of 'port 25' 2 '' $'words BadRule\n' police --port 25 1 64 500 -
+case_of 'port 0' 2 '' $'words BadRule\n' police --port 0 1 64 500 -
+case_of 'port 257' 2 '' $'words BadRule\n' police --port 257 1 64 500 -
+case_of 'Lmin over Lmax' 2 '' $'words BadRule\n' police --lmin 65 1 64 500 -
+case_of 'Lmin 63' 2 '' $'words BadRule\n' police --lmin 63 1 64 500 -
+case_of 'a list that is not there, before a bad port' 4 '' $'device List\n' police --port 0 1 64 500 "$work/none"
+text_case 'a kind of policing that is none' 2 err frame police --policing bit 1 64 500 -
+text_case 'a port that is no number' 2 err x police --port x 1 64 500 -
+
+# ---- counts --------------------------------------------------------------------------------
+
+case_of 'the counts of police' 0 "$three" \
+    $'summary lines 3 accepted 2 dropped 1 lost 0 departed 0 too-old 0 delivered 0\n' \
+    police --summary 1 64 500 examples/one_link.list
+launch replay --summary --no-admission examples/gigabit.toml examples/gigabit.list
+tell 'the counts of a replay' "$(
+    has_status 0
+    count() { grep -c "$1" "$work/out" || true; }
+    lines=$(grep -c '' examples/gigabit.list)
+    wanted="summary lines $lines accepted $(count '^V.*accept') dropped $(count '^V.*drop')"
+    wanted+=" lost $(count '^L') departed $(count '^D') too-old $(count '^T') delivered $(count '^M')"
+    differs 'standard error' "$wanted"$'\n' "$work/err"
+)"
+launch send --summary examples/network.toml fcc1 examples/messages.list
+tell 'the counts of send' "$(
+    has_status 0
+    count() { grep -c "$1" "$work/out" || true; }
+    wanted="summary lines $(grep -c '' examples/messages.list) accepted $(count '^R.* A ')"
+    wanted+=" dropped $(count '^#') lost 0 departed $(count '^R.* B ') too-old 0 delivered 0"
+    differs 'standard error' "$wanted"$'\n' "$work/err"
+)"
+listed "F 0 A 1 $frame
+F 0
+"
+case_of 'no counts behind a fault' 3 "$accept1" $'list BadLine 2\n' police --summary 1 64 500 -
+input=/dev/null
+full_case 'no counts of output that is not there' 4 $'device Write\n' \
+    police --summary 1 64 500 examples/one_link.list

@@ -10,3 +10,17 @@ text_case 'a word too many' 2 err more police 1 64 500 - more
 text_case 'a number that is none' 2 err x police x 64 500 -
 text_case 'a number below 0' 2 err -1 police -1 64 500 -
 text_case 'a number beyond 64 bits' 2 err 99999999999999999999999 police 99999999999999999999999 64 500 -
+text_case 'first steps in the help' 0 out 'afdx check examples/network.toml' --help
+for command in check police replay send; do
+    text_case "help of $command tells of a closed pipe" 0 out "'device Write', status 4" "$command" --help
+done
+for command in check replay send; do
+    text_case "help of $command tells of /dev/stdin" 0 out /dev/stdin "$command" --help
+done
+input=examples/refused.toml
+text_case 'a configuration on standard input' 1 out 'no A3 7 104 267995' check /dev/stdin
+input=/dev/null
+
+if kit=$(rt version 2>/dev/null); then
+    case_of 'the version names the kit' 0 "afdx 0.1.0 ($kit)"$'\n' '' --version
+fi

@@ -1,14 +1,22 @@
 //! The program `afdx`: words, files and streams.
 #![tactic(auto)]
 
+mod devices;
+mod explaining;
 mod words;
 
-use afdx_replay::{Buffered, Watched, check, finish, police, replay, send};
+use crate::devices::{Heard, Traced};
+use crate::explaining::{Cause, explain, is_asked, line_of, print_meaning};
+use afdx_explain::meaning_of;
+use afdx_replay::{
+    Buffered, CommandedRule, Ended, Policing, Watched, check, finish, police, replay, send,
+};
 use clap::error::ErrorKind;
 use clap::{ArgMatches, Error};
 use std::alloc::AllocError;
 use std::fs::File;
-use std::io::Read;
+use std::io;
+use std::io::{Read, Write};
 use std::process::ExitCode;
 
 const DONE: u8 = 0;
@@ -32,41 +40,75 @@ fn memory(rt: &HostRuntime) -> u8 {
     NO_DEVICE_OR_MEMORY
 }
 
-/// Why a configuration is not there.
-enum NoConfig {
-    Device,
-    Memory,
+/// What follows the line of a fault, if that is asked for.
+fn explain_if_asked(rt: &HostRuntime, matches: &ArgMatches<'_>, line: &str, cause: &Cause<'_>) {
+    if is_asked(matches) {
+        explain(rt, line, cause);
+    }
 }
 
-/// The bytes of a configuration. More than it may have are not read.
-fn read_config(rt: &HostRuntime, path: &str) -> Result<Vec<u8>, NoConfig> {
-    let Ok(file) = File::open(rt, path) else {
-        return Err(NoConfig::Device);
+/// Tells that a file can't be had.
+fn no_file(
+    rt: &HostRuntime,
+    matches: &ArgMatches<'_>,
+    line: &str,
+    path: &str,
+    reason: io::Error,
+) -> u8 {
+    complain(rt, line);
+    let cause = Cause {
+        config: &[],
+        path,
+        reason: Some(reason),
+    };
+    explain_if_asked(rt, matches, line, &cause);
+    NO_DEVICE_OR_MEMORY
+}
+
+/// The bytes of a configuration, or the status where it is not there. More than it may have are not
+/// read.
+fn read_config(rt: &HostRuntime, matches: &ArgMatches<'_>) -> Result<Vec<u8>, u8> {
+    let Some(path) = matches.get_str("CONFIG") else {
+        return Err(WRONG_WORDS);
+    };
+    let file = match File::open(rt, path) {
+        Ok(file) => file,
+        Err(reason) => return Err(no_file(rt, matches, "device Config", path, reason)),
     };
     let mut bytes = Vec::new(rt.alloc());
     match file.take(LARGEST_CONFIG + 1).read_to_end(&mut bytes) {
         Ok(count) if count as u64 <= LARGEST_CONFIG => Ok(bytes),
-        Err(error) if error.kind() == std::io::ErrorKind::OutOfMemory => Err(NoConfig::Memory),
-        _ => Err(NoConfig::Device),
+        Ok(_) => {
+            let reason = io::Error::other("more than 4,194,304 bytes");
+            Err(no_file(rt, matches, "device Config", path, reason))
+        }
+        Err(error) if error.kind() == io::ErrorKind::OutOfMemory => Err(memory(rt)),
+        Err(reason) => Err(no_file(rt, matches, "device Config", path, reason)),
     }
 }
 
 fn check_config(rt: &HostRuntime, matches: &ArgMatches<'_>) -> u8 {
-    let Some(path) = matches.get_str("CONFIG") else {
-        return WRONG_WORDS;
+    let config = match read_config(rt, matches) {
+        Ok(config) => config,
+        Err(status) => return status,
     };
-    match read_config(rt, path) {
-        Ok(config) => {
-            let mut output = Watched::new(rt.stdout());
-            let mut errors = Watched::new(rt.stderr());
-            check(rt.alloc(), config.as_slice(), &mut output, &mut errors)
-        }
-        Err(NoConfig::Memory) => memory(rt),
-        Err(NoConfig::Device) => {
-            complain(rt, "device Config");
-            NO_DEVICE_OR_MEMORY
-        }
+    let mut output = Watched::new(Heard::new(Traced::new(rt.stdout())));
+    let mut errors = Watched::new(Heard::new(rt.stderr()));
+    let status = check(rt.alloc(), config.as_slice(), &mut output, &mut errors);
+    let (output, errors) = (output.into_inner(), errors.into_inner());
+    let line = match errors.line() {
+        "" => output.line(),
+        line => line,
+    };
+    let cause = Cause {
+        config: config.as_slice(),
+        path: "",
+        reason: output.device().reason(),
+    };
+    if status != DONE {
+        explain_if_asked(rt, matches, line, &cause);
     }
+    status
 }
 
 /// How many bytes are gathered before they go to standard output: none where each line is to be
@@ -79,31 +121,71 @@ fn output_room(matches: &ArgMatches<'_>) -> usize {
     }
 }
 
+/// Ends a command that ran over a list: hands over what its output still holds, explains its fault
+/// or prints its counts, if that is asked for, and gives the exit status.
+fn end_run<R: Drop, W: Write + Drop, E: Write + Drop>(
+    rt: &HostRuntime,
+    matches: &ArgMatches<'_>,
+    config: &[u8],
+    ended: Ended,
+    input: Watched<Traced<R>>,
+    mut output: Watched<Buffered<Traced<W>>>,
+    mut errors: Watched<Heard<E>>,
+) -> u8 {
+    let status = finish(ended.status, &mut output, &mut errors);
+    let path = match matches.get_str("LIST").or(matches.get_str("SUBMISSIONS")) {
+        Some("-") | None => "standard input",
+        Some(path) => path,
+    };
+    let read = input.into_inner().reason();
+    let written = output.into_inner().into_device().reason();
+    let cause = Cause {
+        config,
+        path,
+        reason: read.or(written),
+    };
+    let errors = errors.into_inner();
+    explain_if_asked(rt, matches, errors.line(), &cause);
+    match ended.summary {
+        Some(summary) if status == DONE && matches.get_flag("summary") => {
+            let _ = eprintln!(rt; "{summary}");
+        }
+        _ => {}
+    }
+    status
+}
+
+/// The rule that the words of `police` give.
+fn commanded_rule(matches: &ArgMatches<'_>) -> Option<CommandedRule> {
+    let policing = match matches.get_str("policing")? {
+        "frame" => Policing::Frame,
+        _ => Policing::Byte,
+    };
+    Some(CommandedRule {
+        vl: matches.get_one::<u64>("vl")?,
+        port: matches.get_one::<u64>("port")?,
+        bag_ms: matches.get_one::<u64>("BAG_MS")?,
+        lmin: matches.get_one::<u64>("lmin")?,
+        lmax: matches.get_one::<u64>("LMAX")?,
+        jitter_us: matches.get_one::<u64>("JITTER_US")?,
+        policing,
+    })
+}
+
 /// Polices what `input` gives, and hands all verdicts to standard output.
 fn police_from<R: Read + Drop>(rt: &HostRuntime, matches: &ArgMatches<'_>, input: R) -> u8 {
-    let (Some(bag), Some(lmax), Some(jitter)) = (
-        matches.get_one::<u64>("BAG_MS"),
-        matches.get_one::<u64>("LMAX"),
-        matches.get_one::<u64>("JITTER_US"),
-    ) else {
+    let Some(given) = commanded_rule(matches) else {
         return WRONG_WORDS;
     };
-    let Ok(buffered) = Buffered::new(rt.alloc(), output_room(matches), rt.stdout()) else {
+    let device = Traced::new(rt.stdout());
+    let Ok(buffered) = Buffered::new(rt.alloc(), output_room(matches), device) else {
         return memory(rt);
     };
-    let mut input = Watched::new(input);
+    let mut input = Watched::new(Traced::new(input));
     let mut output = Watched::new(buffered);
-    let mut errors = Watched::new(rt.stderr());
-    let status = police(
-        rt.alloc(),
-        bag,
-        lmax,
-        jitter,
-        &mut input,
-        &mut output,
-        &mut errors,
-    );
-    finish(status, &mut output, &mut errors)
+    let mut errors = Watched::new(Heard::new(rt.stderr()));
+    let ended = police(rt.alloc(), &given, &mut input, &mut output, &mut errors);
+    end_run(rt, matches, &[], ended, input, output, errors)
 }
 
 fn police_list(rt: &HostRuntime, matches: &ArgMatches<'_>) -> u8 {
@@ -111,10 +193,7 @@ fn police_list(rt: &HostRuntime, matches: &ArgMatches<'_>) -> u8 {
         Some("-") => police_from(rt, matches, rt.stdin()),
         Some(path) => match File::open(rt, path) {
             Ok(file) => police_from(rt, matches, file),
-            Err(_) => {
-                complain(rt, "device List");
-                NO_DEVICE_OR_MEMORY
-            }
+            Err(reason) => no_file(rt, matches, "device List", path, reason),
         },
         None => WRONG_WORDS,
     }
@@ -129,13 +208,14 @@ fn replay_from<R: Read + Drop>(
     input: R,
 ) -> u8 {
     let admission = !matches.get_flag("no-admission");
-    let Ok(buffered) = Buffered::new(rt.alloc(), output_room(matches), rt.stdout()) else {
+    let device = Traced::new(rt.stdout());
+    let Ok(buffered) = Buffered::new(rt.alloc(), output_room(matches), device) else {
         return memory(rt);
     };
-    let mut input = Watched::new(input);
+    let mut input = Watched::new(Traced::new(input));
     let mut output = Watched::new(buffered);
-    let mut errors = Watched::new(rt.stderr());
-    let status = replay(
+    let mut errors = Watched::new(Heard::new(rt.stderr()));
+    let ended = replay(
         rt.alloc(),
         admission,
         config,
@@ -143,30 +223,23 @@ fn replay_from<R: Read + Drop>(
         &mut output,
         &mut errors,
     );
-    finish(status, &mut output, &mut errors)
+    end_run(rt, matches, config, ended, input, output, errors)
 }
 
 fn replay_list(rt: &HostRuntime, matches: &ArgMatches<'_>) -> u8 {
-    let (Some(config), Some(list)) = (matches.get_str("CONFIG"), matches.get_str("LIST")) else {
+    let Some(list) = matches.get_str("LIST") else {
         return WRONG_WORDS;
     };
-    let config = match read_config(rt, config) {
+    let config = match read_config(rt, matches) {
         Ok(config) => config,
-        Err(NoConfig::Memory) => return memory(rt),
-        Err(NoConfig::Device) => {
-            complain(rt, "device Config");
-            return NO_DEVICE_OR_MEMORY;
-        }
+        Err(status) => return status,
     };
     if list == "-" {
         return replay_from(rt, matches, config.as_slice(), rt.stdin());
     }
     match File::open(rt, list) {
         Ok(file) => replay_from(rt, matches, config.as_slice(), file),
-        Err(_) => {
-            complain(rt, "device List");
-            NO_DEVICE_OR_MEMORY
-        }
+        Err(reason) => no_file(rt, matches, "device List", list, reason),
     }
 }
 
@@ -181,13 +254,14 @@ fn send_from<R: Read + Drop>(
     let Some(system) = matches.get_str("SYSTEM") else {
         return WRONG_WORDS;
     };
-    let Ok(buffered) = Buffered::new(rt.alloc(), output_room(matches), rt.stdout()) else {
+    let device = Traced::new(rt.stdout());
+    let Ok(buffered) = Buffered::new(rt.alloc(), output_room(matches), device) else {
         return memory(rt);
     };
-    let mut input = Watched::new(input);
+    let mut input = Watched::new(Traced::new(input));
     let mut output = Watched::new(buffered);
-    let mut errors = Watched::new(rt.stderr());
-    let status = send(
+    let mut errors = Watched::new(Heard::new(rt.stderr()));
+    let ended = send(
         rt.alloc(),
         config,
         system,
@@ -195,37 +269,50 @@ fn send_from<R: Read + Drop>(
         &mut output,
         &mut errors,
     );
-    finish(status, &mut output, &mut errors)
+    end_run(rt, matches, config, ended, input, output, errors)
 }
 
 fn send_list(rt: &HostRuntime, matches: &ArgMatches<'_>) -> u8 {
-    let (Some(config), Some(list)) = (matches.get_str("CONFIG"), matches.get_str("SUBMISSIONS"))
-    else {
+    let Some(list) = matches.get_str("SUBMISSIONS") else {
         return WRONG_WORDS;
     };
-    let config = match read_config(rt, config) {
+    let config = match read_config(rt, matches) {
         Ok(config) => config,
-        Err(NoConfig::Memory) => return memory(rt),
-        Err(NoConfig::Device) => {
-            complain(rt, "device Config");
-            return NO_DEVICE_OR_MEMORY;
-        }
+        Err(status) => return status,
     };
     if list == "-" {
         return send_from(rt, matches, config.as_slice(), rt.stdin());
     }
     match File::open(rt, list) {
         Ok(file) => send_from(rt, matches, config.as_slice(), file),
-        Err(_) => {
-            complain(rt, "device List");
-            NO_DEVICE_OR_MEMORY
-        }
+        Err(reason) => no_file(rt, matches, "device List", list, reason),
     }
+}
+
+/// Says what a line means.
+fn explain_words(rt: &HostRuntime, matches: &ArgMatches<'_>) -> u8 {
+    let Some(words) = matches.get_strs("TEXT") else {
+        return WRONG_WORDS;
+    };
+    let Ok(line) = line_of(rt.alloc(), words) else {
+        return memory(rt);
+    };
+    let line = line.as_str();
+    let Some(meaning) = meaning_of(line) else {
+        complain(rt, "words UnknownText");
+        return WRONG_WORDS;
+    };
+    if print_meaning(rt, line, meaning).is_err() {
+        complain(rt, "device Write");
+        return NO_DEVICE_OR_MEMORY;
+    }
+    DONE
 }
 
 fn run_matches(rt: &HostRuntime, matches: &ArgMatches<'_>) -> u8 {
     match matches.subcommand() {
         Some(("check", matches)) => check_config(rt, matches),
+        Some(("explain", matches)) => explain_words(rt, matches),
         Some(("police", matches)) => police_list(rt, matches),
         Some(("replay", matches)) => replay_list(rt, matches),
         Some(("send", matches)) => send_list(rt, matches),

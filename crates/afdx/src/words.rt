@@ -5,22 +5,31 @@ use std::alloc::{AllocError, Global};
 
 const ABOUT: &str = "A proved simulator of aircraft networks (AFDX, ARINC 664 Part 7)";
 
+/// The version of the program, and the kit that it is proved and built with (`rt version`).
+const VERSION: &str = "0.1.0 (rattle-kit-13b logic dac8208d650f15bf)";
+
 const AFTER: &str = "\
+To begin with, in the repository's folder:
+  afdx check examples/network.toml
+  afdx replay examples/base.toml examples/one_link.list
+  afdx explain over-rate
+
 Exit status:
   0  done
-  1  the configuration is wrong
+  1  the configuration is wrong, or its network isn't admitted
   2  the words of the command are wrong
   3  the list is wrong
   4  a device or memory failed
 
-Each fault is one line on standard error.";
+Each fault is one line on standard error; 'afdx explain' says what it means. A
+closed pipe is a device that failed: 'device Write', status 4.";
 
 const POLICE_ABOUT: &str = "Polices the frames of one virtual link";
 
 const POLICE_AFTER: &str = "\
-The frames of LIST are judged for virtual link 1, which enters at port 1, has
-frames of 64 bytes or more and is policed by bytes. Each switch, A and B, has an
-account of its own. A line is printed for each frame:
+The frames of LIST are judged for one virtual link, by default link 1, which enters
+at port 1, has frames of 64 bytes or more and is policed by bytes. Each switch, A
+and B, has an account of its own. A line is printed for each frame:
 
   V n side accept         the frame of line n was accepted
   V n side drop WORD      it was dropped: too-short, too-long, bad-fcs,
@@ -32,14 +41,36 @@ which is added), B (the same with a wrong check sequence) or R (bytes as they
 are); time is in ns, side A or B, port 1 to 24; HEX is '-' for no bytes. Lines
 that are empty or begin with '#' are skipped.
 
-Example:
-  afdx police 1 64 500 examples/one_link.list";
+A closed pipe, as with '| head', is the fault 'device Write', status 4.
+
+Examples:
+  afdx police 1 64 500 examples/one_link.list
+  afdx police --vl 501 --port 5 2 160 200 examples/bench.list";
+
+const CONFIG_HELP: &str = "The path of a configuration (TOML), at most 4,194,304 bytes; \
+/dev/stdin for standard input";
 
 /// The option by which each line is seen at once.
 fn line_buffered<'a>(alloc: Global) -> Arg<'a> {
     Arg::new(alloc, "line-buffered")
         .long("line-buffered")
         .help("Hands the text of each line over at once, and not in large pieces")
+        .action(ArgAction::SetTrue)
+}
+
+/// The option by which a fault is explained.
+fn explain_option<'a>(alloc: Global) -> Arg<'a> {
+    Arg::new(alloc, "explain")
+        .long("explain")
+        .help("Explains the fault on standard error, behind its one line")
+        .action(ArgAction::SetTrue)
+}
+
+/// The option by which the counts of a run are printed.
+fn summary_option<'a>(alloc: Global) -> Arg<'a> {
+    Arg::new(alloc, "summary")
+        .long("summary")
+        .help("Prints the counts of the run on standard error, once it is done")
         .action(ArgAction::SetTrue)
 }
 
@@ -65,16 +96,17 @@ these lines that is false:
 
 Ports come first, A1 to A4 at each; then systems, then links in the file's order.
 
+A closed pipe, as with '| head', is the fault 'device Write', status 4.
+
 Example:
   afdx check examples/network.toml";
 
 fn check_command<'a>(alloc: Global) -> Result<Command<'a>, AllocError> {
-    let config = Arg::new(alloc, "CONFIG")
-        .help("The path of a configuration (TOML), at most 4,194,304 bytes")
-        .required(true);
+    let config = Arg::new(alloc, "CONFIG").help(CONFIG_HELP).required(true);
     Command::new(alloc, "check")
         .about(CHECK_ABOUT)
         .after_help(CHECK_AFTER)
+        .arg(explain_option(alloc))?
         .arg(config)
 }
 
@@ -99,6 +131,8 @@ the frames that arrive, line by line; then those that are dropped as too old.
 LIST is as for 'police'. The tables of CONFIG have to be admitted, as 'check' says,
 but for the option --no-admission.
 
+A closed pipe, as with '| head', is the fault 'device Write', status 4.
+
 Example:
   afdx replay examples/network.toml examples/bench.list";
 
@@ -107,9 +141,7 @@ fn replay_command<'a>(alloc: Global) -> Result<Command<'a>, AllocError> {
         .long("no-admission")
         .help("Replays also in tables that are not admitted")
         .action(ArgAction::SetTrue);
-    let config = Arg::new(alloc, "CONFIG")
-        .help("The path of a configuration (TOML), at most 4,194,304 bytes")
-        .required(true);
+    let config = Arg::new(alloc, "CONFIG").help(CONFIG_HELP).required(true);
     let list = Arg::new(alloc, "LIST")
         .help("The path of a frame list, or - for standard input")
         .required(true);
@@ -117,7 +149,9 @@ fn replay_command<'a>(alloc: Global) -> Result<Command<'a>, AllocError> {
         .about(REPLAY_ABOUT)
         .after_help(REPLAY_AFTER)
         .arg(freely)?
+        .arg(explain_option(alloc))?
         .arg(line_buffered(alloc))?
+        .arg(summary_option(alloc))?
         .arg(config)?
         .arg(list)
 }
@@ -145,13 +179,13 @@ for each network; they are lines of a list that 'replay' reads:
 Before a message is handed over, all frames are printed that end by its time; at
 the end the others. The tables of CONFIG have to be admitted, as 'check' says.
 
+A closed pipe, as with '| head', is the fault 'device Write', status 4.
+
 Example:
   afdx send examples/network.toml fcc1 examples/submissions.list";
 
 fn send_command<'a>(alloc: Global) -> Result<Command<'a>, AllocError> {
-    let config = Arg::new(alloc, "CONFIG")
-        .help("The path of a configuration (TOML), at most 4,194,304 bytes")
-        .required(true);
+    let config = Arg::new(alloc, "CONFIG").help(CONFIG_HELP).required(true);
     let system = Arg::new(alloc, "SYSTEM")
         .help("The name of the system that sends")
         .required(true);
@@ -161,11 +195,27 @@ fn send_command<'a>(alloc: Global) -> Result<Command<'a>, AllocError> {
     Command::new(alloc, "send")
         .about(SEND_ABOUT)
         .after_help(SEND_AFTER)
+        .arg(explain_option(alloc))?
         .arg(line_buffered(alloc))?
+        .arg(summary_option(alloc))?
         .arg(config)?
         .arg(system)?
         .arg(list)
 }
+
+const LMIN_HELP: &str = "The least length of a frame in bytes, 64 to LMAX";
+
+/// An option with a number.
+fn number_option<'a>(alloc: Global, name: &'a str, usual: &'a str, help: &'a str) -> Arg<'a> {
+    Arg::new(alloc, name)
+        .long(name)
+        .value_name("N")
+        .help(help)
+        .default_value(usual)
+        .value_parser(value_parser!(u64))
+}
+
+const KINDS_OF_POLICING: &[&str] = &["byte", "frame"];
 
 fn police_command<'a>(alloc: Global) -> Result<Command<'a>, AllocError> {
     let bag = Arg::new(alloc, "BAG_MS")
@@ -180,28 +230,66 @@ fn police_command<'a>(alloc: Global) -> Result<Command<'a>, AllocError> {
         .help("The jitter in us, at most the gap")
         .required(true)
         .value_parser(value_parser!(u64));
+    let policing = Arg::new(alloc, "policing")
+        .long("policing")
+        .value_name("KIND")
+        .help("By bytes a frame is charged by its length, by frames as the longest")
+        .default_value("byte")
+        .value_parser(KINDS_OF_POLICING);
     let list = Arg::new(alloc, "LIST")
         .help("The path of a frame list, or - for standard input")
         .required(true);
     Command::new(alloc, "police")
         .about(POLICE_ABOUT)
         .after_help(POLICE_AFTER)
+        .arg(number_option(alloc, "vl", "1", "The link's identifier, 0 to 65535"))?
+        .arg(number_option(alloc, "port", "1", "The input port of its frames, 1 to 24"))?
+        .arg(number_option(alloc, "lmin", "64", LMIN_HELP))?
+        .arg(policing)?
+        .arg(explain_option(alloc))?
         .arg(line_buffered(alloc))?
+        .arg(summary_option(alloc))?
         .arg(bag)?
         .arg(lmax)?
         .arg(jitter)?
         .arg(list)
 }
 
+const EXPLAIN_ABOUT: &str = "Says in plain words what a line of the program means";
+
+const EXPLAIN_AFTER: &str = "\
+TEXT is a line that the program printed, as it was printed: a fault on standard
+error, the last line of 'check', a line of 'replay', 'police' or 'send'. Or it is a
+word of such a line: why a frame was dropped, a line of admission, why a message
+was refused. With a text that is none of these the line is 'words UnknownText' and
+the status 2.
+
+Examples:
+  afdx explain 'config Missing link 1 key 7'
+  afdx explain no A2 3 252
+  afdx explain over-rate";
+
+fn explain_command<'a>(alloc: Global) -> Result<Command<'a>, AllocError> {
+    let text = Arg::new(alloc, "TEXT")
+        .help("A line, in quotes or not, or a word of one")
+        .required(true)
+        .num_args(1..);
+    Command::new(alloc, "explain")
+        .about(EXPLAIN_ABOUT)
+        .after_help(EXPLAIN_AFTER)
+        .arg(text)
+}
+
 /// The words that the program takes.
 pub fn afdx_command<'a>(alloc: Global) -> Result<Command<'a>, AllocError> {
     Command::new(alloc, "afdx")
-        .version("0.1.0")
+        .version(VERSION)
         .about(ABOUT)
         .after_help(AFTER)
         .subcommand_required(true)
         .arg_required_else_help(true)
         .subcommand(check_command(alloc)?)?
+        .subcommand(explain_command(alloc)?)?
         .subcommand(police_command(alloc)?)?
         .subcommand(replay_command(alloc)?)?
         .subcommand(send_command(alloc)?)

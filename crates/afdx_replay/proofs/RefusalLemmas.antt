@@ -1,5 +1,5 @@
 -- How a command refuses a configuration or its tables.
-use Rattle.std.proofs.Common.{◌≡◌, ◌≢◌, ℕ, Bool, true, List, Option, Some, ◌⊎◌, inl, inr, subst, arith}
+use Rattle.std.proofs.Common.{◌≡◌, ◌≢◌, ℕ, Bool, true, List, Option, Some, ◌⊎◌, inl, inr, subst, sym, arith}
 use Rattle.afdx_config.specs.Admission.{IsAdmitted}
 use Rattle.afdx_config.specs.Reading.{Spells, IsFaultOf}
 use Rattle.afdx_config.specs.Rows.{Rows}
@@ -10,7 +10,7 @@ use Rattle.afdx_admit.specs.declared.fault.AdmitFault.{AdmitFault}
 use Rattle.afdx_lists.specs.declared.watched.Watched.{Watched}
 use Rattle.afdx_replay.specs.Refusals.{admit_line, config_line, Refuses, RefusesConfig, RefusesTables, IsToldRefused, WantsMemory}
 use Rattle.afdx_replay.specs.ReplayCommand.{IsNotReplayed}
-use Rattle.afdx_replay.specs.SendCommand.{NamesSystem, RefusesName, IsNotSent}
+use Rattle.afdx_replay.specs.SendCommand.{NamesSystem, IsNotSent}
 
 -- a configuration was refused: it has the fault that is told, or memory was refused
 pub config-refused : {E : Type 0} (bytes : E → Option (List ℕ)) (old new : Watched E) (config : List ℕ) (status : ℕ) (fault : ConfigFault) →
@@ -38,23 +38,23 @@ tables-refused bytes old new config status t back fault same spelled denied firs
     inl (t, spelled, denied, (fault, first, subst (λ (x : Rows). IsToldRefused bytes old new status (admit_line x fault)) same refused))
 
 -- then nothing is replayed
-pub config-not-replayed : {E : Type 0} (bytes : E → Option (List ℕ)) (old new : Watched E) (config : List ℕ) (admission : Bool) (status : ℕ) →
-    RefusesConfig bytes old new config status ⊎ WantsMemory bytes old new status → IsNotReplayed bytes config admission old new status
-config-not-replayed bytes old new config admission status (inl refuses) = inl refuses
-config-not-replayed bytes old new config admission status (inr wants) = inr (inr wants)
+pub config-not-replayed : {E : Type 0} (bytes : E → Option (List ℕ)) (old new : Watched E) (config : List ℕ) (admission : Bool) (status ended : ℕ) → ended ≡ status →
+    RefusesConfig bytes old new config status ⊎ WantsMemory bytes old new status → IsNotReplayed bytes config admission old new ended
+config-not-replayed bytes old new config admission status ended is (inl refuses) = subst (IsNotReplayed bytes config admission old new) (sym is) (inl refuses)
+config-not-replayed bytes old new config admission status ended is (inr wants) = subst (IsNotReplayed bytes config admission old new) (sym is) (inr (inr wants))
 
-pub tables-not-replayed : {E : Type 0} (bytes : E → Option (List ℕ)) (old new : Watched E) (config : List ℕ) (admission : Bool) (status : ℕ) → admission ≡ true →
-    RefusesTables bytes old new config status ⊎ WantsMemory bytes old new status → IsNotReplayed bytes config admission old new status
-tables-not-replayed bytes old new config admission status asked (inl refuses) = inr (inl (asked, refuses))
-tables-not-replayed bytes old new config admission status asked (inr wants) = inr (inr wants)
+pub tables-not-replayed : {E : Type 0} (bytes : E → Option (List ℕ)) (old new : Watched E) (config : List ℕ) (admission : Bool) (status ended : ℕ) → ended ≡ status → admission ≡ true →
+    RefusesTables bytes old new config status ⊎ WantsMemory bytes old new status → IsNotReplayed bytes config admission old new ended
+tables-not-replayed bytes old new config admission status ended is asked (inl refuses) = subst (IsNotReplayed bytes config admission old new) (sym is) (inr (inl (asked, refuses)))
+tables-not-replayed bytes old new config admission status ended is asked (inr wants) = subst (IsNotReplayed bytes config admission old new) (sym is) (inr (inr wants))
 
 -- nor is anything sent
-pub config-not-sent : {E : Type 0} (bytes : E → Option (List ℕ)) (old new : Watched E) (config name : List ℕ) (status : ℕ) →
-    RefusesConfig bytes old new config status ⊎ WantsMemory bytes old new status → IsNotSent bytes config name old new status
-config-not-sent bytes old new config name status (inl refuses) = inl refuses
-config-not-sent bytes old new config name status (inr wants) = inr (inr (inr wants))
+pub config-not-sent : {E : Type 0} (bytes : E → Option (List ℕ)) (old new : Watched E) (config name : List ℕ) (status ended : ℕ) → ended ≡ status →
+    RefusesConfig bytes old new config status ⊎ WantsMemory bytes old new status → IsNotSent bytes config name old new ended
+config-not-sent bytes old new config name status ended is (inl refuses) = subst (IsNotSent bytes config name old new) (sym is) (inl refuses)
+config-not-sent bytes old new config name status ended is (inr wants) = subst (IsNotSent bytes config name old new) (sym is) (inr (inr (inr wants)))
 
-pub tables-not-sent : {E : Type 0} (bytes : E → Option (List ℕ)) (old new : Watched E) (config name : List ℕ) (status : ℕ) → NamesSystem config name →
-    RefusesTables bytes old new config status ⊎ WantsMemory bytes old new status → IsNotSent bytes config name old new status
-tables-not-sent bytes old new config name status named (inl refuses) = inr (inr (inl (named, refuses)))
-tables-not-sent bytes old new config name status named (inr wants) = inr (inr (inr wants))
+pub tables-not-sent : {E : Type 0} (bytes : E → Option (List ℕ)) (old new : Watched E) (config name : List ℕ) (status ended : ℕ) → ended ≡ status → NamesSystem config name →
+    RefusesTables bytes old new config status ⊎ WantsMemory bytes old new status → IsNotSent bytes config name old new ended
+tables-not-sent bytes old new config name status ended is named (inl refuses) = subst (IsNotSent bytes config name old new) (sym is) (inr (inr (inl (named, refuses))))
+tables-not-sent bytes old new config name status ended is named (inr wants) = subst (IsNotSent bytes config name old new) (sym is) (inr (inr (inr wants)))

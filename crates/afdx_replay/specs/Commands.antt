@@ -1,27 +1,26 @@
 -- How a command ends that runs over a list, and what a command does that polices one link.
-use Rattle.std.specs.Prelude.{ℕ, ◌≡◌, List, [], Option, Result, Ok, Err, OnOk, true}
-use Rattle.afdx_frame.specs.declared.link.Policing.TheVariants.{Byte}
-use Rattle.afdx_police.specs.Rule.{Rule}
+use Rattle.std.specs.Prelude.{ℕ, ◌≡◌, ◌≤◌, List, [], ◌++◌, Option, Result, Ok, Err, OnOk, true, codes, decimal}
+use Rattle.std.specs.Result.{result_ok}
+use Rattle.afdx_police.specs.Rule.{IsRule, Rule, rule_with}
 use Rattle.afdx_lists.specs.declared.fault.RunFault.{RunFault}
 use Rattle.afdx_lists.specs.declared.watched.Watched.{Watched}
 use Rattle.afdx_lists.specs.Watching.{has_ended, has_failed}
 use Rattle.afdx_lists.specs.Calls.{is_failed_read, is_failed_write}
 use Rattle.afdx_lists.specs.Faults.{status_of, fault_line}
 use Rattle.afdx_lists.specs.Telling.{Tells}
+use Rattle.afdx_replay.specs.declared.ending.Ended.{Ended}
+use Rattle.afdx_replay.specs.declared.police_command.CommandedRule.{CommandedRule}
 use Rattle.afdx_replay.specs.declared.summary.Summary.{Summary}
 
--- the rule of the command: link 1, which comes in at port 1, has frames of 64 bytes or more and is
--- policed by bytes
-abbrev pub commanded_rule : ℕ → ℕ → ℕ → Rule
-commanded_rule bag_ms lmax jitter_us = record {
-  vl = 1;
-  port = 1;
-  bag_ms = bag_ms;
-  lmin = 64;
-  lmax = lmax;
-  jitter_us = jitter_us;
-  policing = Byte;
-}
+-- the rule that the command is given
+abbrev pub commanded_rule : CommandedRule → Rule
+commanded_rule given =
+    rule_with given.vl given.port given.bag_ms given.lmin given.lmax given.jitter_us given.policing
+
+-- each of its values is in its range, the link's identifier too
+pub record IsCommanded (given : CommandedRule) : Type 0 where
+  pub rule : IsRule (commanded_rule given)
+  pub link : given.vl ≤ 65535
 
 -- the exit status of what a run answers
 abbrev pub status_of_answer : Result Summary RunFault → ℕ
@@ -33,14 +32,28 @@ abbrev pub line_of_answer : Result Summary RunFault → List ℕ
 line_of_answer (Ok summary) = []
 line_of_answer (Err fault) = fault_line fault
 
--- A command ends as its run answered: that decides the exit status and what the error output is
--- told, and says whether the input came to its end and which device failed.
+-- A command ends as its run answered: that decides the exit status, the counts that are handed out
+-- and what the error output is told, and says whether the input came to its end and which device
+-- failed.
 pub record EndsAs {R O E : Type 0} (error_bytes : E →
     Option (List ℕ)) (input : Watched R) (output : Watched O)
-    (old_errors new_errors : Watched E) (status : ℕ)
+    (old_errors new_errors : Watched E) (ended_with : Ended)
     (answer : Result Summary RunFault) : Type 0 where
-  pub status_is : status ≡ status_of_answer answer
+  pub status_is : ended_with.status ≡ status_of_answer answer
+  pub summary_is : ended_with.summary ≡ result_ok answer
   pub told : Tells error_bytes old_errors new_errors (line_of_answer answer)
   pub ended : OnOk answer (has_ended input ≡ true)
   pub read : has_failed input ≡ is_failed_read answer
   pub write : has_failed output ≡ is_failed_write answer
+
+-- a word, a number, and what follows
+abbrev pub counted : (word : List ℕ) → ℕ → (rest : List ℕ) → List ℕ
+counted word n rest = word ++ (decimal n ++ rest)
+
+-- the counts of a run in one line, without its line feed
+abbrev pub summary_text : Summary → List ℕ
+summary_text s =
+    counted (codes "summary lines ") s.lines (counted (codes " accepted ") s.accepted
+    (counted (codes " dropped ") s.dropped (counted (codes " lost ") s.lost
+    (counted (codes " departed ") s.departed (counted (codes " too-old ") s.too_old
+    (codes " delivered " ++ decimal s.delivered))))))

@@ -1,5 +1,6 @@
 //! How a command ends that ran over a list.
 ghost use Rattle.std.specs.Prelude.{◌≡◌, ◌⊎◌, true};
+ghost use Rattle.std.specs.Result.{result_ok};
 ghost use Rattle.std.specs.Io.KnownBytes.{Keeps};
 ghost use Rattle.afdx_lists.specs.Faults.{fault_line};
 ghost use Rattle.afdx_lists.specs.Telling.{Tells};
@@ -12,16 +13,40 @@ use std::io::Write;
 
 const DONE: u8 = 0;
 
-/// Tells `errors` the fault of a run in one line, if it has one, and gives the exit status.
-pub fn end<E: Write>(answer: &Result<Summary, RunFault>, errors: &mut Watched<E>) -> u8
-    ensures status { result ≡ status_of_answer answer.now }
-    ensures told { Tells E.contents errors.old errors.new (line_of_answer answer.now) }
+/// How a command over a list ended: its exit status and, where that is 0, what the run counted.
+#[derive(Clone, Copy, Debug, PartialEq, Eq)]
+pub struct Ended {
+    pub status: u8,
+    pub summary: Option<Summary>,
+}
+
+impl Ended {
+    /// A command that has nothing to count: it ended with a fault.
+    pub(crate) fn without_counts(status: u8) -> Ended
+        ensures status { result.status ≡ status }
+        ensures summary { result.summary ≡ None }
+    {
+        Ended {
+            status,
+            summary: None,
+        }
+    }
+}
+
+/// Tells `errors` the fault of a run in one line, if it has one.
+pub fn end<E: Write>(answer: Result<Summary, RunFault>, errors: &mut Watched<E>) -> Ended
+    ensures status { result.status ≡ status_of_answer answer }
+    ensures summary { result.summary ≡ result_ok answer }
+    ensures told { Tells E.contents errors.old errors.new (line_of_answer answer) }
 {
     match answer {
-        Ok(_) => DONE,
+        Ok(summary) => Ended {
+            status: DONE,
+            summary: Some(summary),
+        },
         Err(fault) => {
-            tell_fault(errors, fault);
-            fault.status()
+            tell_fault(errors, &fault);
+            Ended::without_counts(fault.status())
         }
     }
 }

@@ -17,10 +17,11 @@ mod summary;
 mod verdict;
 
 pub use admitted_run::run;
+pub use afdx_frame::Policing;
 pub use afdx_lists::{Buffered, RunFault, Watched};
 pub use check_command::check;
-pub use ending::finish;
-pub use police_command::police;
+pub use ending::{Ended, finish};
+pub use police_command::{CommandedRule, police};
 pub use police_run::run_police;
 pub use replay_command::replay;
 pub use replay_run::run_unadmitted;

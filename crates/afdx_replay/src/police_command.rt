@@ -1,15 +1,14 @@
 //! The command `police`.
-ghost use Rattle.std.specs.Prelude.{◌≡◌, ◌≤◌, ◌+◌, ◌||◌, ◌⊎◌, ℕ, Result, IfSome, codes, false, true};
+ghost use Rattle.std.specs.Prelude.{◌≡◌, ◌≤◌, ◌+◌, ◌||◌, ◌⊎◌, ◌↔◌, ℕ, Result, IfSome, IsSome, codes, false, true};
 ghost use Rattle.afdx_lists.specs.Lines.{most_reads};
-ghost use Rattle.afdx_police.specs.Rule.{IsRule};
 ghost use Rattle.afdx_lists.specs.Telling.{Tells};
-ghost use Rattle.afdx_replay.specs.Commands.{commanded_rule, EndsAs};
+ghost use Rattle.afdx_replay.specs.Commands.{commanded_rule, EndsAs, IsCommanded};
 ghost use Rattle.afdx_replay.specs.Policed.{Answers};
 ghost use Rattle.afdx_replay.specs.declared.summary.Summary.{Summary};
 ghost use Rattle.afdx_lists.specs.declared.fault.RunFault.{RunFault};
 ghost use Rattle.afdx_lists.specs.Watching.{calls_of, device_of, has_ended, has_failed};
 
-use crate::ending::end;
+use crate::ending::{Ended, end};
 use crate::police_run::run_police;
 use afdx_frame::{Policing, VlId};
 use afdx_lists::{Watched, tell};
@@ -19,59 +18,93 @@ use std::io::{Read, Write};
 
 const WRONG_WORDS: u8 = 2;
 
-/// The virtual link that the command polices, the port where its frames come in, and their least
-/// length in bytes.
-const LINK: VlId = VlId(1);
+const LARGEST_LINK: u64 = 65_535;
 
-const PORT: u8 = 1;
+const LARGEST_PORT: u64 = 24;
 
-const LMIN: u64 = 64;
+/// The rule of a link as a command is given it: its values may be out of their ranges.
+///
+/// `vl` is the link's identifier, `port` the one input port of its frames, `bag_ms` the gap in
+/// milliseconds, `lmin` and `lmax` the least and greatest frame length in bytes with the check
+/// sequence, `jitter_us` the admitted jitter in microseconds.
+#[derive(Clone, Copy, Debug)]
+pub struct CommandedRule {
+    pub vl: u64,
+    pub port: u64,
+    pub bag_ms: u64,
+    pub lmin: u64,
+    pub lmax: u64,
+    pub jitter_us: u64,
+    pub policing: Policing,
+}
 
-/// Polices the frames of a list for virtual link 1, by bytes: verdicts go to `output`, a fault's
-/// one line to `errors`. It gives the exit status: 0 done, 2 a value out of range, 3 a fault of the
-/// list, 4 a device or memory.
+impl CommandedRule {
+    ghost use Rattle.afdx_police.specs.RuleOf.{rule_of};
+
+    /// The rule, if each value is in its range.
+    fn rule(&self) -> Option<LinkRule>
+        ensures in_range { IsSome result ↔ IsCommanded self.now }
+        ensures given { IfSome result (λ rule. rule_of rule ≡ commanded_rule self.now) }
+    {
+        if self.vl > LARGEST_LINK || self.port > LARGEST_PORT {
+            return None;
+        }
+        LinkRule::new(
+            VlId(self.vl as u16),
+            self.port as u8,
+            self.bag_ms,
+            self.lmin,
+            self.lmax,
+            self.jitter_us,
+            self.policing,
+        )
+    }
+}
+
+/// Polices the frames of a list for one virtual link: verdicts go to `output`, a fault's one line
+/// to `errors`. The exit status is 0 done, 2 a value out of range, 3 a fault of the list, 4 a
+/// device or memory.
 pub fn police<R: Read, O: Write, E: Write>(
     alloc: Global,
-    bag_ms: u64,
-    lmax: u64,
-    jitter_us: u64,
+    given: &CommandedRule,
     input: &mut Watched<R>,
     output: &mut Watched<O>,
     errors: &mut Watched<E>,
-) -> u8
+) -> Ended
     requires sound_input { has_failed input.old ≡ false }
     requires unended { has_ended input.old ≡ false }
     requires sound_output { has_failed output.old ≡ false }
 
     // 0 comes only where the list came to its end, 4 wherever a device failed.
-    ensures statuses { (result ≡ 0) ⊎ (result ≡ 2) ⊎ (result ≡ 3) ⊎ (result ≡ 4) }
-    ensures done { result ≡ 0 → (has_ended input.new ≡ true) × (has_failed input.new ≡ false)
+    ensures statuses { let status = result.status in
+        (status ≡ 0) ⊎ (status ≡ 2) ⊎ (status ≡ 3) ⊎ (status ≡ 4) }
+    ensures done { result.status ≡ 0 → (has_ended input.new ≡ true) × (has_failed input.new ≡ false)
         × (has_failed output.new ≡ false) }
-    ensures device { (has_failed input.new || has_failed output.new) ≡ true → result ≡ 4 }
+    ensures device { (has_failed input.new || has_failed output.new) ≡ true → result.status ≡ 4 }
     ensures calls { calls_of input.new ≤ calls_of input.old + most_reads }
 
     // A value out of range: nothing is read and nothing is written.
-    ensures out_of_range { (IsRule (commanded_rule bag_ms lmax jitter_us) → ⊥) → result ≡ 2 }
-    ensures words { (IsRule (commanded_rule bag_ms lmax jitter_us) → ⊥) →
+    ensures out_of_range { (IsCommanded given.now → ⊥) → result.status ≡ 2 }
+    ensures words { (IsCommanded given.now → ⊥) →
         Tells E.contents errors.old errors.new (codes "words BadRule\n") }
-    ensures nothing_read { (IsRule (commanded_rule bag_ms lmax jitter_us) → ⊥) →
+    ensures nothing_read { (IsCommanded given.now → ⊥) →
         input.new ≡ input.old }
-    ensures nothing_written { (IsRule (commanded_rule bag_ms lmax jitter_us) → ⊥) →
+    ensures nothing_written { (IsCommanded given.now → ⊥) →
         output.new ≡ output.old }
 
     // Else the command ends as a run over the list answered, and where the list's bytes are known
     // what is written is what goes with that answer.
-    ensures polices { IsRule (commanded_rule bag_ms lmax jitter_us) →
+    ensures polices { IsCommanded given.now →
         (answer : Result Summary RunFault)
         × EndsAs E.contents input.new output.new errors.old errors.new result answer
         × IfSome (R.remaining (device_of input.old)) (λ bytes.
-        Answers (commanded_rule bag_ms lmax jitter_us) bytes (R.remaining (device_of input.new))
+        Answers (commanded_rule given.now) bytes (R.remaining (device_of input.new))
         (O.contents (device_of output.old)) (O.contents (device_of output.new)) answer) }
 {
-    let Some(rule) = LinkRule::new(LINK, PORT, bag_ms, LMIN, lmax, jitter_us, Policing::Byte) else {
+    let Some(rule) = given.rule() else {
         tell(errors, b"words BadRule\n");
-        return WRONG_WORDS;
+        return Ended::without_counts(WRONG_WORDS);
     };
     let answer = run_police(alloc, &rule, input, output);
-    end(&answer, errors)
+    end(answer, errors)
 }

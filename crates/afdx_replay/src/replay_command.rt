@@ -8,7 +8,7 @@ ghost use Rattle.afdx_replay.specs.ReplayCommand.{Replays, IsNotReplayed};
 ghost use Rattle.afdx_replay.specs.declared.summary.Summary.{Summary};
 
 use crate::admitted_run::run;
-use crate::ending::end;
+use crate::ending::{Ended, end};
 use crate::refusing::{refuse_config, refuse_tables};
 use crate::replay_run::run_unadmitted;
 use afdx_admit::admit;
@@ -20,7 +20,7 @@ use std::io::{Read, Write};
 /// Replays a list of frames in the tables of a configuration: the lines of all events go to
 /// `output`, a fault's one line to `errors`.
 ///
-/// With `admission` the tables have to be admitted. It gives the exit status: 0 done, 1 a fault of
+/// With `admission` the tables have to be admitted. The exit status is 0 done, 1 a fault of
 /// the configuration or tables that are not admitted, 3 a fault of the list, 4 a device or memory.
 pub fn replay<R: Read, O: Write, E: Write>(
     alloc: Global,
@@ -29,16 +29,17 @@ pub fn replay<R: Read, O: Write, E: Write>(
     input: &mut Watched<R>,
     output: &mut Watched<O>,
     errors: &mut Watched<E>,
-) -> u8
+) -> Ended
     requires sound_input { has_failed input.old ≡ false }
     requires unended { has_ended input.old ≡ false }
     requires sound_output { has_failed output.old ≡ false }
 
     // 0 comes only where the list came to its end, 4 wherever a device failed.
-    ensures statuses { (result ≡ 0) ⊎ (result ≡ 1) ⊎ (result ≡ 3) ⊎ (result ≡ 4) }
-    ensures done { result ≡ 0 → (has_ended input.new ≡ true) × (has_failed input.new ≡ false)
+    ensures statuses { let status = result.status in
+        (status ≡ 0) ⊎ (status ≡ 1) ⊎ (status ≡ 3) ⊎ (status ≡ 4) }
+    ensures done { result.status ≡ 0 → (has_ended input.new ≡ true) × (has_failed input.new ≡ false)
         × (has_failed output.new ≡ false) }
-    ensures device { (has_failed input.new || has_failed output.new) ≡ true → result ≡ 4 }
+    ensures device { (has_failed input.new || has_failed output.new) ≡ true → result.status ≡ 4 }
     ensures calls { calls_of input.new ≤ calls_of input.old + most_reads }
 
     // The command ends as a run over the list answered, or nothing is read and nothing is written.
@@ -47,22 +48,24 @@ pub fn replay<R: Read, O: Write, E: Write>(
         × Replays config.now admission (R.remaining (device_of input.old))
         (R.remaining (device_of input.new))
         (O.contents (device_of output.old)) (O.contents (device_of output.new)) answer)
-        ⊎ (IsNotReplayed E.contents config.now admission errors.old errors.new result
+        ⊎ (IsNotReplayed E.contents config.now admission errors.old errors.new result.status
         × (input.new ≡ input.old) × (output.new ≡ output.old)) }
 {
     let tables = match read_tables(alloc, config) {
         Ok(tables) => tables,
-        Err(fault) => return refuse_config(alloc, fault, errors),
+        Err(fault) => return Ended::without_counts(refuse_config(alloc, fault, errors)),
     };
     if !admission {
         let answer = run_unadmitted(alloc, &tables, input, output);
-        return end(&answer, errors);
+        return end(answer, errors);
     }
     match admit(tables) {
         Ok(admitted) => {
             let answer = run(alloc, &admitted, input, output);
-            end(&answer, errors)
+            end(answer, errors)
         }
-        Err((tables, fault)) => refuse_tables(alloc, &tables, fault, errors),
+        Err((tables, fault)) => {
+            Ended::without_counts(refuse_tables(alloc, &tables, fault, errors))
+        }
     }
 }

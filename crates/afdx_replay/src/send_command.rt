@@ -7,7 +7,7 @@ ghost use Rattle.afdx_replay.specs.Commands.{EndsAs};
 ghost use Rattle.afdx_replay.specs.SendCommand.{Sends, IsNotSent};
 ghost use Rattle.afdx_replay.specs.declared.summary.Summary.{Summary};
 
-use crate::ending::end;
+use crate::ending::{Ended, end};
 use crate::refusing::{refuse_config, refuse_name, refuse_tables};
 use crate::send_run::run_send;
 use afdx_admit::admit;
@@ -19,7 +19,7 @@ use std::io::{Read, Write};
 /// Sends the messages of a list from the system of this name in the tables of a configuration.
 ///
 /// Its frames for both networks go to `output`, as a list that `replay` reads, with a remark for
-/// each message that was refused; a fault's one line goes to `errors`. It gives the exit status:
+/// each message that was refused; a fault's one line goes to `errors`. The exit status is
 /// 0 done, 1 a fault of the configuration or tables that are not admitted, 2 no system has the
 /// name, 3 a fault of the list, 4 a device or memory. Of several causes the first is answered: a
 /// fault of the configuration, the system's name, admission, the list.
@@ -30,17 +30,18 @@ pub fn send<R: Read, O: Write, E: Write>(
     input: &mut Watched<R>,
     output: &mut Watched<O>,
     errors: &mut Watched<E>,
-) -> u8
+) -> Ended
     requires sound_input { has_failed input.old ≡ false }
     requires unended { has_ended input.old ≡ false }
     requires sound_output { has_failed output.old ≡ false }
 
     // 0 comes only where the list came to its end, 4 wherever a device failed.
-    ensures statuses { (result ≡ 0) ⊎ (result ≡ 1) ⊎ (result ≡ 2) ⊎ (result ≡ 3) ⊎ (result ≡ 4) }
-    ensures done { result ≡ 0 →
+    ensures statuses { let status = result.status in
+        (status ≡ 0) ⊎ (status ≡ 1) ⊎ (status ≡ 2) ⊎ (status ≡ 3) ⊎ (status ≡ 4) }
+    ensures done { result.status ≡ 0 →
         (has_ended input.new ≡ true) × (has_failed input.new ≡ false)
         × (has_failed output.new ≡ false) }
-    ensures device { (has_failed input.new || has_failed output.new) ≡ true → result ≡ 4 }
+    ensures device { (has_failed input.new || has_failed output.new) ≡ true → result.status ≡ 4 }
     ensures calls { calls_of input.new ≤ calls_of input.old + most_reads }
 
     // The command ends as a run over the list answered, or nothing is read and nothing is written.
@@ -49,21 +50,23 @@ pub fn send<R: Read, O: Write, E: Write>(
         × Sends config.now system.now (R.remaining (device_of input.old))
         (R.remaining (device_of input.new)) (O.contents (device_of output.old))
         (O.contents (device_of output.new)) answer)
-        ⊎ (IsNotSent E.contents config.now system.now errors.old errors.new result
+        ⊎ (IsNotSent E.contents config.now system.now errors.old errors.new result.status
         × (input.new ≡ input.old) × (output.new ≡ output.old)) }
 {
     let tables = match read_tables(alloc, config) {
         Ok(tables) => tables,
-        Err(fault) => return refuse_config(alloc, fault, errors),
+        Err(fault) => return Ended::without_counts(refuse_config(alloc, fault, errors)),
     };
     let Some(place) = tables.system_named(system) else {
-        return refuse_name(errors);
+        return Ended::without_counts(refuse_name(errors));
     };
     match admit(tables) {
         Ok(admitted) => {
             let answer = run_send(alloc, &admitted, place, input, output);
-            end(&answer, errors)
+            end(answer, errors)
         }
-        Err((tables, fault)) => refuse_tables(alloc, &tables, fault, errors),
+        Err((tables, fault)) => {
+            Ended::without_counts(refuse_tables(alloc, &tables, fault, errors))
+        }
     }
 }

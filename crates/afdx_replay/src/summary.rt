@@ -1,5 +1,7 @@
 //! The counts of a run.
 
+use std::fmt;
+
 /// What a run counted. A count that has no meaning in a run stays 0.
 #[derive(Clone, Copy, Debug, PartialEq, Eq)]
 pub struct Summary {
@@ -17,4 +19,26 @@ pub struct Summary {
     pub too_old: u64,
     /// The messages that were delivered.
     pub delivered: u64,
+}
+
+/// The counts in one line: `summary lines 6 accepted 4 ..`, in the order of the fields.
+impl fmt::Display for Summary {
+    ghost use Rattle.std.specs.Prelude.{Some};
+    ghost use Rattle.afdx_replay.specs.Commands.{summary_text};
+
+    ghost output = { λ summary. Some (summary_text summary) };
+
+    fn fmt<W: fmt::Write>(&self, f: &mut fmt::Formatter<W>) -> fmt::Result {
+        write!(
+            f,
+            "summary lines {} accepted {} dropped {} lost {} departed {} too-old {} delivered {}",
+            self.lines,
+            self.accepted,
+            self.dropped,
+            self.lost,
+            self.departed,
+            self.too_old,
+            self.delivered
+        )
+    }
 }

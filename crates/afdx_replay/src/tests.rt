@@ -8,7 +8,7 @@ mod refusals;
 mod replays;
 mod sends;
 
-use crate::{RunFault, Summary, Watched, police, run_police};
+use crate::{CommandedRule, RunFault, Summary, Watched, police, run_police};
 use afdx_frame::{Policing, VlId};
 use afdx_police::LinkRule;
 use std::alloc::{AllocError, Global};
@@ -212,6 +212,19 @@ fn sizes_of_lines_and_lists(rt: HostRuntime) -> Result<(), Fail> {
     Ok(())
 }
 
+/// A rule for a link at port 1, with frames of 64 bytes.
+fn commanded(vl: u64, bag_ms: u64) -> CommandedRule {
+    CommandedRule {
+        vl,
+        port: 1,
+        bag_ms,
+        lmin: 64,
+        lmax: 64,
+        jitter_us: 500,
+        policing: Policing::Byte,
+    }
+}
+
 #[test]
 fn the_command(rt: HostRuntime) -> Result<(), Fail> {
     let rows = [
@@ -230,16 +243,15 @@ fn the_command(rt: HostRuntime) -> Result<(), Fail> {
         let mut input = Watched::new(list.as_bytes());
         let mut output = Watched::new(Vec::new(rt.alloc()));
         let mut errors = Watched::new(Vec::new(rt.alloc()));
-        let status = police(
+        let ended = police(
             rt.alloc(),
-            bag,
-            64,
-            500,
+            &commanded(1, bag),
             &mut input,
             &mut output,
             &mut errors,
         );
-        assert_eq!(rt; status, want);
+        assert_eq!(rt; ended.status, want);
+        assert_eq!(rt; ended.summary.is_some(), want == 0);
         assert!(rt; output.into_inner().as_slice() == text.as_bytes());
         assert!(rt; errors.into_inner().as_slice() == line.as_bytes());
     }

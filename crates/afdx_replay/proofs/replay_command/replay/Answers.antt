@@ -5,13 +5,14 @@ use Rattle.afdx_replay.proofs.replay_command.replay.Goals as goal
 pub returns-in-Err-clause-replays : goal.returns-in-Err-clause-replays
 returns-in-Err-clause-replays g c =
     let refused = config-refused _ _ _ _ _ _ c.refuse_config.ensures.told c.refuse_config.ensures.memory c.in-Err.ensures.fault in
-    inr (config-not-replayed _ _ _ _ c.args.admission _ refused, refl, refl)
+    inr (config-not-replayed _ _ _ _ c.args.admission _ _ c.without_counts.ensures.status refused, refl, refl)
 
 pub returns-in-Ok-admit-clause-replays : goal.returns-in-Ok-admit-clause-replays
 returns-in-Ok-admit-clause-replays g c = inl (
   c.run-answer.result,
   record {
     status_is = c.end-in-Ok-admit.ensures.status;
+    summary_is = c.end-in-Ok-admit.ensures.summary;
     told = c.end-in-Ok-admit.ensures.told;
     ended = c.run-answer.ensures.ended;
     read = c.run-answer.ensures.read;
@@ -30,4 +31,4 @@ pub returns-in-Err-admit-clause-replays : goal.returns-in-Err-admit-clause-repla
 returns-in-Err-admit-clause-replays g c =
     let refused = tables-refused _ _ _ _ _ c.in-Ok.tables c.in-Err-admit.tables c.in-Err-admit.fault c.in-Err-admit.ensures.handed_back c.in-Ok.ensures.ok
     (λ a. cc (c.in-Err-admit.ensures.exact.1 a)) c.in-Err-admit.ensures.first c.refuse_tables.ensures in
-    inr (tables-not-replayed _ _ _ _ c.args.admission _ c.if-not-admission.false refused, refl, refl)
+    inr (tables-not-replayed _ _ _ _ c.args.admission _ _ c.without_counts-in-Err-admit.ensures.status c.if-not-admission.false refused, refl, refl)

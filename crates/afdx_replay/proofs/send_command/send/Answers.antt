@@ -8,7 +8,7 @@ use Rattle.afdx_replay.proofs.send_command.send.Goals as goal
 pub returns-in-Err-clause-sends : goal.returns-in-Err-clause-sends
 returns-in-Err-clause-sends g c =
     let refused = config-refused _ _ _ _ _ _ c.refuse_config.ensures.told c.refuse_config.ensures.memory c.in-Err.ensures.fault in
-    inr (config-not-sent _ _ _ _ _ _ refused, refl, refl)
+    inr (config-not-sent _ _ _ _ _ _ _ c.without_counts.ensures.status refused, refl, refl)
 
 pub returns-in-Ok-admit-clause-sends : goal.returns-in-Ok-admit-clause-sends
 returns-in-Ok-admit-clause-sends g c =
@@ -20,6 +20,7 @@ returns-in-Ok-admit-clause-sends g c =
       c.run_send-answer.result,
       record {
         status_is = c.end.ensures.status;
+        summary_is = c.end.ensures.summary;
         told = c.end.ensures.told;
         ended = c.run_send-answer.ensures.ended;
         read = c.run_send-answer.ensures.read;
@@ -32,4 +33,4 @@ pub returns-in-Err-admit-clause-sends : goal.returns-in-Err-admit-clause-sends
 returns-in-Err-admit-clause-sends g c =
     let refused = tables-refused _ _ _ _ _ c.in-Ok.tables c.in-Err-admit.tables c.in-Err-admit.fault c.in-Err-admit.ensures.handed_back c.in-Ok.ensures.ok
     (λ a. not-ok c.admit.result _ c.in-Err-admit.is (c.admit.ensures.exact.1 a)) c.in-Err-admit.ensures.first c.refuse_tables.ensures in
-    inr (tables-not-sent _ _ _ _ _ _ (record { tables = c.in-Ok.tables; spelled = c.in-Ok.ensures.ok; system = c.in-Some.place.0; named = sym c.in-Some.ensures.place }) refused, refl, refl)
+    inr (tables-not-sent _ _ _ _ _ _ _ c.without_counts-in-Err-admit.ensures.status (record { tables = c.in-Ok.tables; spelled = c.in-Ok.ensures.ok; system = c.in-Some.place.0; named = sym c.in-Some.ensures.place }) refused, refl, refl)

@@ -1,0 +1,122 @@
+//! Devices that remember what an explanation needs.
+
+use std::io;
+use std::io::{Read, Write};
+
+/// The longest line that is remembered, in bytes: no fault's line is as long.
+const LONGEST: usize = 128;
+
+/// A reader or a writer, and why its last call failed that did. Each call is passed on as it is.
+#[derive(Drop)]
+pub struct Traced<T> {
+    device: T,
+    code: Option<i32>,
+}
+
+impl<T> Traced<T> {
+    pub fn new(device: T) -> Traced<T> {
+        Traced { device, code: None }
+    }
+
+    /// Why the last failed call failed, where the system said so.
+    pub fn reason(&self) -> Option<io::Error> {
+        match self.code {
+            Some(code) => Some(io::Error::from_raw_os_error(code)),
+            None => None,
+        }
+    }
+}
+
+impl<R: Read> Read for Traced<R> {
+    ghost remaining = { λ traced. R.remaining traced.device };
+
+    fn read(&mut self, buf: &mut [u8]) -> io::Result<usize> {
+        let read = self.device.read(buf);
+        if let Err(error) = &read {
+            self.code = error.raw_os_error();
+        }
+        read
+    }
+}
+
+impl<W: Write> Write for Traced<W> {
+    ghost contents = { λ traced. W.contents traced.device };
+
+    fn write(&mut self, buf: &[u8]) -> io::Result<usize> {
+        let written = self.device.write(buf);
+        if let Err(error) = &written {
+            self.code = error.raw_os_error();
+        }
+        written
+    }
+
+    fn flush(&mut self) -> io::Result<()> {
+        self.device.flush()
+    }
+}
+
+/// The last line of a text that comes piece by piece. Of one that is too long it is the beginning.
+#[derive(Drop)]
+struct LastLine {
+    bytes: [u8; LONGEST],
+    length: usize,
+    ended: bool,
+}
+
+impl LastLine {
+    fn add(&mut self, piece: &[u8]) {
+        for byte in piece {
+            if self.ended {
+                self.length = 0;
+            }
+            self.ended = *byte == b'\n';
+            if !self.ended && self.length < LONGEST {
+                self.bytes[self.length] = *byte;
+                self.length += 1;
+            }
+        }
+    }
+}
+
+/// A writer, and the last line that was written to it. Each call is passed on as it is.
+#[derive(Drop)]
+pub struct Heard<W> {
+    device: W,
+    last: LastLine,
+}
+
+impl<W> Heard<W> {
+    pub fn new(device: W) -> Heard<W> {
+        Heard {
+            device,
+            last: LastLine {
+                bytes: [0; LONGEST],
+                length: 0,
+                ended: false,
+            },
+        }
+    }
+
+    pub fn device(&self) -> &W {
+        &self.device
+    }
+
+    /// The last line, without its line feed.
+    pub fn line(&self) -> &str {
+        let length = self.last.length.min(LONGEST);
+        std::str::from_utf8(&self.last.bytes[..length]).unwrap_or("")
+    }
+}
+
+impl<W: Write> Write for Heard<W> {
+    ghost contents = { λ heard. W.contents heard.device };
+
+    fn write(&mut self, buf: &[u8]) -> io::Result<usize> {
+        self.last.add(buf);
+        self.device.write(buf)
+    }
+
+    fn flush(&mut self) -> io::Result<()> {
+        self.device.flush()
+    }
+}

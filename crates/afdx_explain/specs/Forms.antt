@@ -1,0 +1,50 @@
+-- Lines of text by their form.
+use Rattle.std.specs.Prelude.{ℕ, ◌==◌, Bool, true, false, ◌&&◌, List, [], ◌∷◌, length, not, codes, Option, Some, None, if◌then◌else◌}
+use Rattle.std.specs.Borrow.{Bor}
+use Rattle.std.specs.List.{slice_split, list_any}
+use Rattle.std.specs.Str.{bytes_eq}
+use Rattle.afdx_lists.specs.Fields.{all_digits, between_spaces}
+
+-- the words that stand between bars
+abbrev pub between_bars : List ℕ → List (List ℕ)
+between_bars text = slice_split (λ byte. byte == 124) text
+
+-- the parts of what is left of a text after such a byte
+abbrev pub parts_after : ℕ → Option (Bor (List ℕ)) → List (List ℕ)
+parts_after byte None = []
+parts_after byte (Some rest) = slice_split (λ one. one == byte) rest.now
+
+abbrev pub is_empty : List ℕ → Bool
+is_empty text = length text == 0
+
+-- A word of a form stands for the word itself, or for each of several between bars; `n` stands for
+-- a whole number, `*` for any word.
+unfoldable pub stands_for : (wanted word : List ℕ) → Bool
+stands_for wanted word =
+    if bytes_eq wanted (codes "n") then not (is_empty word) && all_digits word
+    else if bytes_eq wanted (codes "*") then not (is_empty word)
+    else list_any (bytes_eq word) (between_bars wanted)
+
+-- as many words, each at its place
+abbrev pub all_stand_for : (wanted words : List (List ℕ)) → Bool
+all_stand_for [] [] = true
+all_stand_for [] (word ∷ words) = false
+all_stand_for (one ∷ wanted) [] = false
+all_stand_for (one ∷ wanted) (word ∷ words) = stands_for one word && all_stand_for wanted words
+
+-- the words of the line, one space apart, are those of the form
+abbrev pub has_form : (line form : List ℕ) → Bool
+has_form line form = all_stand_for (between_spaces form) (between_spaces line)
+
+unfoldable pub has_some_form : (line : List ℕ) (forms : List (List ℕ)) → Bool
+has_some_form line forms = list_any (has_form line) forms
+
+-- what a line means that has one of these forms
+abbrev pub Entry : Type 0
+Entry = List (List ℕ) × List ℕ
+
+-- what the first entry says that has a form of the line
+abbrev pub text_among : List Entry → (line : List ℕ) → Option (List ℕ)
+text_among [] line = None
+text_among (entry ∷ entries) line =
+    if has_some_form line entry.0 then Some entry.1 else text_among entries line

@@ -1,0 +1,77 @@
+//! Whether a line has a form.
+ghost use Rattle.std.specs.Prelude.{◌≡◌, ◌<◌, ◌∷◌, ◌==◌, length, IfSome};
+ghost use Rattle.std.specs.List.{slice_split, list_any};
+ghost use Rattle.std.specs.Str.{bytes_eq};
+ghost use Rattle.afdx_lists.specs.Fields.{all_digits, between_spaces};
+ghost use Rattle.afdx_explain.specs.Forms.{all_stand_for, between_bars, has_form, stands_for, parts_after};
+
+/// What stands before the first such byte, and the rest after it.
+fn cut(text: &[u8], byte: u8) -> (&[u8], Option<&[u8]>)
+    ensures parts { slice_split (λ one. one == byte) text.now
+        ≡ result.0.now ∷ parts_after byte result.1 }
+    ensures shorter { IfSome result.1 (λ rest. length rest.now < length text.now) }
+{
+    match memchr::memchr(byte, text) {
+        Some(at) => (&text[..at], Some(&text[at + 1..])),
+        None => (text, None),
+    }
+}
+
+/// Whether all bytes are digits.
+fn are_digits(mut word: &[u8]) -> bool
+    ensures { result ≡ all_digits word.entry.now }
+{
+    while let [byte, rest @ ..] = word {
+        if !byte.is_ascii_digit() {
+            return false;
+        }
+        word = rest;
+    }
+    true
+}
+
+/// Whether the word is one of those between bars.
+fn is_one_of(word: &[u8], words: &[u8]) -> bool
+    ensures { result ≡ list_any (bytes_eq word.now) (between_bars words.now) }
+{
+    let (first, rest) = cut(words, b'|');
+    if word == first {
+        return true;
+    }
+    match rest {
+        Some(rest) => is_one_of(word, rest),
+        None => false,
+    }
+}
+
+/// Whether a form's word stands for this one.
+#[tactic(auto, unfolding(crate::specs::Forms::stands_for))]
+fn stands_for(wanted: &[u8], word: &[u8]) -> bool
+    ensures { result ≡ stands_for wanted.now word.now }
+{
+    if wanted == b"n".as_slice() {
+        !word.is_empty() && are_digits(word)
+    } else if wanted == b"*".as_slice() {
+        !word.is_empty()
+    } else {
+        is_one_of(word, wanted)
+    }
+}
+
+/// Whether the words of the form stand for those of the line.
+#[tactic(auto, using(crate::proofs::FormLemmas::too_few, crate::proofs::FormLemmas::too_many))]
+pub fn has_form(line: &[u8], form: &[u8]) -> bool
+    ensures { result ≡ has_form line.now form.now }
+{
+    let (wanted, wanted_rest) = cut(form, b' ');
+    let (word, rest) = cut(line, b' ');
+    if !stands_for(wanted, word) {
+        return false;
+    }
+    match (rest, wanted_rest) {
+        (Some(rest), Some(wanted_rest)) => has_form(rest, wanted_rest),
+        (None, None) => true,
+        (None, Some(_)) => false,
+        (Some(_), None) => false,
+    }
+}

@@ -1,0 +1,140 @@
+#!/usr/bin/env python3
+"""Checks that the program explains each line and word of docs/FORMATS.md in the words of its tables.
+
+    tests/explain.py PROGRAM
+
+For each row an example of its line is given to `afdx explain`; the answer must have what the row says
+of it, and for a key of a configuration its name and its range. Prints a line for each that doesn't,
+and nothing where all do; ends with status 1 if there is one.
+"""
+import itertools
+import pathlib
+import re
+import subprocess
+import sys
+
+FORMATS = pathlib.Path(__file__).resolve().parent.parent / "docs" / "FORMATS.md"
+KEY_FAULTS = ["Missing", "WrongKind", "OutOfRange", "Twice", "NoSuchSystem"]
+EXAMPLES = {
+    "n": "7", "port": "3", "side": "A", "time": "6720", "system": "s3", "name": "s3", "vl": "101",
+    "needed": "252", "bound": "16800", "ns": "600000", "hex": "6869", "HEX": "0300", "Sk": "S1",
+    "high": "16800", "low": "-", "buffer": "252",
+}
+
+
+def rows_below(heading: str, texts: str) -> list[list[str]]:
+    """The rows of the first table that begins with this heading."""
+    lines = texts.splitlines()
+    start = lines.index(heading) + 2
+    table = itertools.takewhile(lambda line: line.startswith("|"), lines[start:])
+    return [[cell.strip() for cell in line.strip("|").split(" | ")] for line in table]
+
+
+def plain(text: str) -> str:
+    """In small letters, without marks, one space between words."""
+    text = re.sub(r" \(point \d\)|[`']", "", text)
+    return " ".join(text.lower().split())
+
+
+def example_of(line: str) -> str:
+    return " ".join(EXAMPLES.get(word, word) for word in line.strip("`").split())
+
+
+def wanted_answers(texts: str) -> list[tuple[str, list[str]]]:
+    """Each line that is to be explained, with what has to be said of it."""
+    wanted = []
+    for line, _, when in rows_below("| Line | Status | When |", texts):
+        if line.startswith("`"):
+            wanted.append((line.strip("`"), [when]))
+    for _, line, when in rows_below("| Order | Line on standard error | When |", texts):
+        if line.startswith("`"):
+            wanted.append((example_of(line), [when]))
+    for line, wrong, remedy in rows_below("| Last line | What is wrong | What may help |", texts):
+        for first in ("no", "admit"):
+            wanted.append((re.sub("^no", first, example_of(line)), [wrong, remedy]))
+        wanted.append((line.strip("`").split()[1], [wrong, remedy]))
+    for word, frame in rows_below("| WORD | The frame |", texts):
+        word = word.strip("`")
+        frame = frame.split("; can't come")[0]
+        wanted.append((f"V 3 A drop {word}", [frame]))
+        wanted.append((word, [frame]))
+    for word, frame in rows_below("| WORD of X | The frame |", texts):
+        word = word.strip("`")
+        wanted.append((f"X 6720 s3 2 {word}", [frame]))
+        wanted.append((word, [frame]))
+    for word, when in rows_below("| Text | When |", texts):
+        word = word.strip("`")
+        wanted.append((f"# 7 {word}", [when, "was refused"]))
+        wanted.append((word, [when]))
+    for heading in ("| Line | Meaning |",):
+        for part in texts.split(heading)[1:]:
+            for line, meaning in rows_below(heading, heading + part):
+                if "WORD" not in line and "Sk" not in line:
+                    wanted.append((example_of(line), [meaning]))
+    return wanted
+
+
+def wanted_keys(texts: str) -> list[tuple[str, list[str]]]:
+    """The faults of each key that can come, with what is said of the fault, the key and its range."""
+    whens = {line.split()[1].strip("`"): when for line, when in rows_below("| Line on standard error | When |", texts)}
+    wanted = [(f"config {fault}", [whens[fault]]) for fault in ("NotToml", "BadProfile")]
+    for part, number, key, value in rows_below("| Part | Number | Key | Value |", texts):
+        index = "0" if part == "top" else "12"
+        for fault in KEY_FAULTS:
+            line = f"config {fault} {part} {index} key {number}"
+            wanted.append((line, [whens[fault], f"key {number} of", f"{key}: {value}"]))
+    for part in ("top 0", "system 1", "link 4096", "port 2"):
+        wanted.append((f"config UnknownKey {part} key 0", [whens["UnknownKey"]]))
+    return wanted
+
+
+def answer(program: str, line: str) -> str | None:
+    ran = subprocess.run([program, "explain", line], capture_output=True, text=True, check=False)
+    if ran.returncode != 0:
+        return None
+    return plain(ran.stdout)
+
+
+def can_come(line: str) -> bool:
+    """Which faults a key can have: it is absent or of another kind, but for arrays at the top; only
+    some have to be different, or name a system."""
+    match = re.match(r"config (\w+) (\w+) \d+ key (\d+)", line)
+    if not match:
+        return True
+    fault, key = match.group(1), f"{match.group(2)} {match.group(3)}"
+    return {
+        "Missing": key not in ("top 1", "top 3", "top 4", "top 5"),
+        "WrongKind": key != "top 1",
+        "OutOfRange": key not in ("top 1", "link 2", "port 1"),
+        "Twice": key in ("system 1", "system 2", "system 3", "link 1", "link 3", "port 3"),
+        "NoSuchSystem": key in ("link 2", "link 3", "port 1"),
+    }.get(fault, True)
+
+
+def faults(program: str) -> list[str]:
+    texts = FORMATS.read_text(encoding="utf-8")
+    found = []
+    for line, says in wanted_answers(texts) + wanted_keys(texts):
+        said = answer(program, line)
+        if not can_come(line):
+            if said is not None:
+                found.append(f"'{line}' is explained, and can't come")
+        elif said is None:
+            found.append(f"'{line}' is not explained")
+        else:
+            found += [f"'{line}' is explained without '{plain(part)}'" for part in says if plain(part) not in said]
+    return found
+
+
+def main() -> int:
+    if len(sys.argv) != 2:
+        print(__doc__, file=sys.stderr)
+        return 2
+    found = faults(sys.argv[1])
+    for fault in found:
+        print(fault)
+    return 1 if found else 0
+
+
+if __name__ == "__main__":
+    sys.exit(main())

@@ -1,0 +1,65 @@
+# Cases of `explain` and of the option --explain; tests/program.sh reads this file.
+
+# The fault's one line comes first and as ever, then text that has these words.
+explained_case() { # NAME STATUS OUT FAULT WORDS WORD..
+    local name=$1 wanted=$2 out=$3 fault=$4 find=$5
+    shift 5
+    launch "$@"
+    tell "$name" "$(
+        has_status "$wanted"
+        differs 'standard output' "$out" "$work/out"
+        if [[ $(head -n 1 "$work/err") != "$fault" ]]; then echo "the first line is not '$fault'"; fi
+        if ! grep -qF -- "$find" "$work/err"; then echo "no '$find' in the text"; fi
+    )"
+}
+
+tell 'each row of FORMATS is explained in its words' "$(python3 "$top/tests/explain.py" "$program" 2>&1 || true)"
+
+text_case 'a key by its number' 0 out 'Key 7 of a link is jitter_us: 0 to 1000 times bag_ms.' \
+    explain 'config Missing link 1 key 7'
+text_case 'the same in several words' 0 out 'the key is absent' explain config Missing link 1 key 7
+text_case 'a reason' 0 out 'over-rate: ' explain over-rate
+case_of 'no line of the program' 2 '' $'words UnknownText\n' explain nonsense
+case_of 'a key that is not there' 2 '' $'words UnknownText\n' explain config Missing link 1 key 13
+case_of 'a line feed is none of a line' 2 '' $'words UnknownText\n' explain $'memory\n'
+case_of 'an empty text' 2 '' $'words UnknownText\n' explain ''
+text_case 'help of explain' 0 out 'afdx explain over-rate' explain --help
+full_case 'an explanation to a full device' 4 $'device Write\n' explain memory
+
+sed 's/^bag_ms = .*/bag_ms = 3/' examples/base.toml >"$work/explained.toml"
+explained_case 'check explains a fault' 1 '' 'config OutOfRange link 1 key 4' \
+    'Key 4 of a link is bag_ms: 1, 2, 4, 8, 16, 32, 64 or 128.' check --explain "$work/explained.toml"
+printf 'profile = 1\nbuffer = = 2\n' >"$work/explained.toml"
+explained_case 'where a text stops being TOML' 1 '' 'config NotToml' 'line 2, column 10' \
+    check --explain "$work/explained.toml"
+printf 'profile = 1\n\nbuffer = "\xff"\n' >"$work/explained.toml"
+explained_case 'where a text stops being UTF-8' 1 '' 'config NotToml' 'line 3, column 11' \
+    replay --explain "$work/explained.toml" examples/one_link.list
+launch check --explain examples/refused.toml
+tell 'check explains a line of admission' "$(
+    has_status 1
+    if ! grep -qF 'A3 port vl bound' "$work/err"; then echo 'no explanation'; fi
+    if [[ $(tail -n 1 "$work/out") != 'no A3 7 104 267995' ]]; then echo 'another last line'; fi
+)"
+case_of 'nothing to explain' 0 "$three" '' police --explain 1 64 500 examples/one_link.list
+explained_case 'police explains a number' 2 '' 'words BadRule' 'JITTER_US is 0 to 1000 times BAG_MS' \
+    police --explain 1 64 1001 examples/one_link.list
+explained_case 'police explains a path' 4 '' 'device List' "$work/none: No such file or directory" \
+    police --explain 1 64 500 "$work/none"
+explained_case 'police explains a folder' 4 '' 'device Read' "$work: Is a directory" \
+    police --explain 1 64 500 "$work"
+listed $'F 0 A 1 0\n'
+explained_case 'police explains a line' 3 '' 'list BadHex 1' 'An odd number of digits' \
+    police --explain 1 64 500 -
+input=/dev/null
+explained_case 'replay explains admission' 1 '' 'admit A3 7 104 267995' 'A3 port vl bound' \
+    replay --explain examples/refused.toml -
+explained_case 'send explains a name' 2 '' 'words NoSuchSystem' 'no SYSTEM of that name' \
+    send --explain examples/network.toml nobody -
+status=0
+"$program" police --explain 1 64 500 examples/one_link.list >/dev/full 2>"$work/err" || status=$?
+tell 'why standard output failed' "$(
+    has_status 4
+    if [[ $(head -n 1 "$work/err") != 'device Write' ]]; then echo 'another first line'; fi
+    if ! grep -qF 'standard output: No space left on device' "$work/err"; then echo 'no reason'; fi
+)"
