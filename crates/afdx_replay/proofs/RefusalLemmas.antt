@@ -10,7 +10,7 @@ use Rattle.afdx_admit.specs.declared.fault.AdmitFault.{AdmitFault}
 use Rattle.afdx_lists.specs.declared.watched.Watched.{Watched}
 use Rattle.afdx_replay.specs.Refusals.{admit_line, config_line, Refuses, RefusesConfig, RefusesTables, IsToldRefused, WantsMemory}
 use Rattle.afdx_replay.specs.ReplayCommand.{IsNotReplayed}
-use Rattle.afdx_replay.specs.SendCommand.{NamesSystem, RefusesName, IsNotSent}
+use Rattle.afdx_replay.specs.SendCommand.{NamesSystem, IsNotSent}
 
 -- a configuration was refused: it has the fault that is told, or memory was refused
 pub config-refused : {E : Type 0} (bytes : E → Option (List ℕ)) (old new : Watched E) (config : List ℕ) (status : ℕ) (fault : ConfigFault) →
