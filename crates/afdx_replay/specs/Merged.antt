@@ -1,13 +1,15 @@
 -- Texts of several systems, merged into one list. Lists of lines have the first one first.
-use Rattle.std.specs.Prelude.{ℕ, ◌≡◌, ◌⊎◌, List, [], ◌∷◌, length, Some, slice_get}
+use Rattle.std.specs.Prelude.{ℕ, ◌≡◌, ◌⊎◌, ◌||◌, Bool, List, [], ◌∷◌, length, filter, Some, slice_get}
 use Rattle.afdx_frame.specs.declared.link.Side.{Side}
+use Rattle.afdx_frame.specs.declared.link.Side.TheVariants.{A, B}
 use Rattle.afdx_config.specs.Admission.{IsAdmitted}
 use Rattle.afdx_config.specs.Lawful.{IsLawful, AreDistinct}
 use Rattle.afdx_config.specs.Rows.{SystemRow, Rows}
+use Rattle.afdx_lists.specs.FrameLines.{line_says}
 use Rattle.afdx_lists.specs.Lines.{lines_of}
 use Rattle.afdx_promises.specs.Lines.{Line}
 use Rattle.afdx_promises.specs.Promises.{EachIsToldOnce}
-use Rattle.afdx_replay.specs.EndToEnd.{lines_at, HasSent, EachIsToldAsTaken}
+use Rattle.afdx_replay.specs.EndToEnd.{says_at, lines_at, HasSent, EachIsToldAsTaken}
 use Rattle.afdx_replay.specs.Listed.{AreSound, arrivals_of}
 use Rattle.afdx_replay.specs.SendEvents.{Event}
 use Rattle.afdx_replay.specs.SendText.{send_text}
@@ -26,18 +28,22 @@ pub record Sender : Type 0 where
   pub given : List (List ℕ)
   pub events : List Event
 
--- the lines of its text
-abbrev pub lines_sent : Sender → List (List ℕ)
-lines_sent x = lines_of (send_text x.row x.events)
+-- a line that, read alone, is a frame at this port, on either side
+abbrev pub is_at : ℕ → List ℕ → Bool
+is_at port line = says_at A port (line_says 0 line) || says_at B port (line_says 0 line)
 
--- the texts of these systems, and other lines, are merged into one list in any way
+-- the R lines of its text: those that are frames at its port
+abbrev pub lines_sent : Sender → List (List ℕ)
+lines_sent x = filter (is_at x.row.port) (lines_of (send_text x.row x.events))
+
+-- the R lines of these systems, and other lines, are merged into one list in any way
 abbrev pub AreTextsMerged : List (List ℕ) → List Sender → List (List ℕ) → Type 0
 AreTextsMerged list [] others = list ≡ others
 AreTextsMerged list (x ∷ senders) others = (rest : List (List ℕ))
     × AreMerged list (lines_sent x) rest × AreTextsMerged rest senders others
 
--- Systems of admitted tables, each once, have sent, and their texts are merged with lines that are
--- at none of their ports
+-- Systems of admitted tables, each once, have sent, and their R lines are merged with lines that
+-- are at none of their ports, as remarks are
 pub record AreSentMerged (t : Rows) (list : List (List ℕ)) (senders : List Sender)
     (others : List (List ℕ)) : Type 0 where
   pub lawful : IsLawful t
