@@ -22,7 +22,7 @@ sys.path.insert(0, os.path.join(os.path.dirname(os.path.abspath(__file__)), "cal
 import tables as made  # noqa: E402
 from first_fault import config_fault, list_fault, list_lines  # noqa: E402
 from frames import HELLO, frame_of, sealed  # noqa: E402
-from program import Answer, Cases, Program, answers, main_of, must, same_text  # noqa: E402
+from program import Answer, Cases, Program, answers, main_of, must, same_text, short  # noqa: E402
 from sender import Message, list_sent, submission_list  # noqa: E402
 
 MS = 1_000_000
@@ -66,7 +66,16 @@ class Command:
             front = b"".join(line + b"\n" for line in lines)
             if len(lines) < 1_000_000:
                 same_text("standard output", self.before(front), found.out)
+        elif self.is_frames:
+            told = [line.split(b" ")[1:3] for line in found.out.splitlines() if line.startswith(b"V")]
+            must(told == frames_in(given), f"the verdicts are on {short(told)}")
         return found
+
+
+def frames_in(given: bytes) -> list[list[bytes]]:
+    """Number and side of each line of a sound list that isn't skipped."""
+    lines = [(n, line.rstrip(b"\r")) for n, line in enumerate(list_lines(given), 1)]
+    return [[b"%d" % n, line.split(b" ")[2]] for n, line in lines if line and not line.startswith(b"#")]
 
 
 def commands_of(program: Program) -> dict[str, Command]:

@@ -72,10 +72,10 @@ class Program:
         return Answer(done.returncode, done.stdout, done.stderr)
 
 
-def short(text: bytes | str) -> str:
-    """The text, or its beginning where it is long."""
+def short(text: object) -> str:
+    """How it is spelled, or the beginning where that is long."""
     shown = repr(text)
-    return shown if len(shown) < 300 else f"{shown[:300]}.. ({len(text)} bytes)"
+    return shown if len(shown) < 300 else f"{shown[:300]}.."
 
 
 def same_text(what: str, wanted: bytes, found: bytes) -> None:
