@@ -4,7 +4,7 @@
 #     tests/refused_growths.sh PROGRAM             the built program, as crates/afdx/out/afdx
 #     tests/refused_growths.sh --tests RUNNER..    built test runners, as crates/afdx_police/out/afdx_police_tests
 #
-# PROGRAM polices examples/one_link.list on standard input, checks examples/base.toml, replays a frame
+# PROGRAM polices examples/one_link.list on standard input, checks examples/base.toml, explains a line, replays a frame
 # and its copy in examples/base.toml, replays examples/gigabit.list, and sends five messages, of which one
 # is refused, where it has the command send. Each of these is run with the first request refused, then the
 # second, and so on, until a run meets no refusal; and again with all requests refused from the first on,

@@ -1,5 +1,5 @@
 //! How a command ends that ran over a list.
-ghost use Rattle.std.specs.Prelude.{◌≡◌, ◌⊎◌, true};
+ghost use Rattle.std.specs.Prelude.{◌≡◌, ◌⊎◌, ◌↔◌, IsSome, true};
 ghost use Rattle.std.specs.Result.{result_ok};
 ghost use Rattle.std.specs.Io.KnownBytes.{Keeps};
 ghost use Rattle.afdx_lists.specs.Faults.{fault_line};
@@ -37,6 +37,7 @@ impl Ended {
 pub fn end<E: Write>(answer: Result<Summary, RunFault>, errors: &mut Watched<E>) -> Ended
     ensures status { result.status ≡ status_of_answer answer }
     ensures summary { result.summary ≡ result_ok answer }
+    ensures counts { IsSome result.summary ↔ (result.status ≡ 0) }
     ensures told { Tells E.contents errors.old errors.new (line_of_answer answer) }
 {
     match answer {

@@ -75,9 +75,10 @@ pub fn police<R: Read, O: Write, E: Write>(
     requires unended { has_ended input.old ≡ false }
     requires sound_output { has_failed output.old ≡ false }
 
-    // 0 comes only where the list came to its end, 4 wherever a device failed.
+    // 0 comes only where the list came to its end, 4 wherever a device failed; counts come with 0.
     ensures statuses { let status = result.status in
         (status ≡ 0) ⊎ (status ≡ 2) ⊎ (status ≡ 3) ⊎ (status ≡ 4) }
+    ensures counts { IsSome result.summary ↔ (result.status ≡ 0) }
     ensures done { result.status ≡ 0 → (has_ended input.new ≡ true) × (has_failed input.new ≡ false)
         × (has_failed output.new ≡ false) }
     ensures device { (has_failed input.new || has_failed output.new) ≡ true → result.status ≡ 4 }

@@ -1,5 +1,5 @@
 //! The command `send`.
-ghost use Rattle.std.specs.Prelude.{◌≡◌, ◌≤◌, ◌+◌, ◌||◌, ◌⊎◌, Result, false, true};
+ghost use Rattle.std.specs.Prelude.{◌≡◌, ◌≤◌, ◌+◌, ◌||◌, ◌⊎◌, ◌↔◌, IsSome, Result, false, true};
 ghost use Rattle.afdx_lists.specs.Lines.{most_reads};
 ghost use Rattle.afdx_lists.specs.declared.fault.RunFault.{RunFault};
 ghost use Rattle.afdx_lists.specs.Watching.{calls_of, device_of, has_ended, has_failed};
@@ -35,9 +35,10 @@ pub fn send<R: Read, O: Write, E: Write>(
     requires unended { has_ended input.old ≡ false }
     requires sound_output { has_failed output.old ≡ false }
 
-    // 0 comes only where the list came to its end, 4 wherever a device failed.
+    // 0 comes only where the list came to its end, 4 wherever a device failed; counts come with 0.
     ensures statuses { let status = result.status in
         (status ≡ 0) ⊎ (status ≡ 1) ⊎ (status ≡ 2) ⊎ (status ≡ 3) ⊎ (status ≡ 4) }
+    ensures counts { IsSome result.summary ↔ (result.status ≡ 0) }
     ensures done { result.status ≡ 0 →
         (has_ended input.new ≡ true) × (has_failed input.new ≡ false)
         × (has_failed output.new ≡ false) }
