@@ -1,6 +1,6 @@
 //! The fields of a line: text between spaces, numbers, and bytes in hexadecimal digits.
 ghost use Rattle.hex.specs.Hex.{hex_digit_value, decode_pairs, decode_sized};
-ghost use Rattle.std.specs.Prelude.{nat_le, length, true, MatchResult, Err, ◌*◌, Ok, if◌then◌else◌, ◌≡◌, ◌∷◌, ◌⊎◌, ◌^◌, ◌-◌, min, Some, None, OnOk, IfErr, option_map};
+ghost use Rattle.std.specs.Prelude.{◌≤◌, nat_le, length, true, MatchResult, Err, ◌*◌, Ok, if◌then◌else◌, ◌≡◌, ◌∷◌, ◌⊎◌, ◌^◌, ◌-◌, min, Some, None, OnOk, IfErr, option_map};
 ghost use Rattle.std.specs.Str.Lines.{strip_carriage_return};
 ghost use Rattle.afdx_lists.specs.Fields.{between_spaces, fields_after, number_of, bytes_of_digits, is_skipped};
 ghost use Rattle.afdx_lists.specs.declared.fault.LineFault.TheVariants.{Memory, BadHex};
@@ -58,15 +58,17 @@ pub(crate) fn read_number(text: &[u8]) -> Option<u64>
 }
 
 /// The value of a hexadecimal digit, or a number over 15.
+///
+/// It is arithmetic without a branch, so that it is done for many digits at once: of each of the two
+/// numbers one is the value where the byte is such a digit, and all others are over 15.
 fn digit_value(digit: u8) -> u8
     ensures { hex_digit_value digit ≡ (if nat_le result 15 then Some result else None) }
 {
-    match digit {
-        b'A'..=b'F' => digit - b'A' + 10,
-        b'a'..=b'f' => digit - b'a' + 10,
-        b'0'..=b'9' => digit - b'0',
-        _ => 255,
-    }
+    let moved = digit.wrapping_add(255 - b'9');
+    let figure = moved.saturating_sub(6).wrapping_sub(240);
+    let capital = digit & 0xdf;
+    let letter = capital.wrapping_sub(b'A').saturating_add(10);
+    figure.min(letter)
 }
 
 /// Puts the values of digits in the place of `values`, and the bytes of their pairs in that of
@@ -91,12 +93,14 @@ fn read_block(digits: &[u8], values: &mut [u8], bytes: &mut [u8]) -> bool
     greatest < 16
 }
 
-/// Puts the bytes of pairs of digits in the place of `bytes`. False: not all were digits.
+/// Puts the bytes of pairs of digits, a block or more, in the place of `bytes`. False: not all were
+/// digits.
 ///
 /// A block of digits is a fixed number of them, so that its loops are made into a few steps over
-/// many digits at once.
-fn read_pairs(digits: &[u8], bytes: &mut [u8]) -> bool
-    requires { length digits.now ≡ 2 * length bytes.old }
+/// many digits at once. So is the last one, which begins among digits that were read already.
+fn read_blocks(digits: &[u8], bytes: &mut [u8]) -> bool
+    requires pairs { length digits.now ≡ 2 * length bytes.old }
+    requires long { 32 ≤ length bytes.old }
     ensures { result ≡ true → decode_pairs 0 digits.now ≡ Ok bytes.new }
 {
     let mut values = [0u8; BLOCK];
@@ -108,9 +112,21 @@ fn read_pairs(digits: &[u8], bytes: &mut [u8]) -> bool
             return false;
         }
     }
-    let at = count * (BLOCK / 2);
-    let rest = &digits[2 * at..];
-    read_block(rest, &mut values[..rest.len()], &mut bytes[at..])
+    let at = bytes.len() - BLOCK / 2;
+    let last = &digits[2 * at..];
+    read_block(last, &mut values, &mut bytes[at..])
+}
+
+/// Puts the bytes of pairs of digits in the place of `bytes`. False: not all were digits.
+fn read_pairs(digits: &[u8], bytes: &mut [u8]) -> bool
+    requires { length digits.now ≡ 2 * length bytes.old }
+    ensures { result ≡ true → decode_pairs 0 digits.now ≡ Ok bytes.new }
+{
+    if bytes.len() < BLOCK / 2 {
+        let mut values = [0u8; BLOCK];
+        return read_block(digits, &mut values[..digits.len()], bytes);
+    }
+    read_blocks(digits, bytes)
 }
 
 /// Reads digits as the crate `hex` does, but without a branch for each of them where all are sound.
