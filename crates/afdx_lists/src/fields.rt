@@ -1,6 +1,7 @@
 //! The fields of a line: text between spaces, numbers, and bytes in hexadecimal digits.
 ghost use Rattle.hex.specs.Hex.{hex_digit_value, decode_pairs, decode_sized};
 ghost use Rattle.std.specs.Prelude.{◌≤◌, nat_le, length, true, MatchResult, Err, ◌*◌, Ok, if◌then◌else◌, ◌≡◌, ◌∷◌, ◌⊎◌, ◌^◌, ◌-◌, min, Some, None, OnOk, IfErr, option_map};
+ghost use Rattle.memchr.specs.Find.{IsFirstByte, is_byte};
 ghost use Rattle.std.specs.Str.Lines.{strip_carriage_return};
 ghost use Rattle.afdx_lists.specs.Fields.{between_spaces, fields_after, number_of, bytes_of_digits, is_skipped};
 ghost use Rattle.afdx_lists.specs.declared.fault.LineFault.TheVariants.{Memory, BadHex};
@@ -28,11 +29,22 @@ pub(crate) fn says_nothing(text: &[u8]) -> bool
     matches!(text, [] | [b'#', ..])
 }
 
+/// Where the first space stands. Most fields of a line are one byte.
+#[inline(always)]
+fn find_space(text: &[u8]) -> Option<usize>
+    ensures { IsFirstByte (is_byte 32) text.now result }
+{
+    match text {
+        [first, b' ', ..] if *first != b' ' => Some(1),
+        _ => memchr::memchr(b' ', text),
+    }
+}
+
 /// What stands before the first space, and the rest after it.
 pub(crate) fn split_field(text: &[u8]) -> (&[u8], Option<&[u8]>)
     ensures { between_spaces text.now ≡ result.0.now ∷ fields_after result.1 }
 {
-    match memchr::memchr(b' ', text) {
+    match find_space(text) {
         Some(at) => (&text[..at], Some(&text[at + 1..])),
         None => (text, None),
     }
@@ -97,7 +109,9 @@ fn read_block(digits: &[u8], values: &mut [u8], bytes: &mut [u8]) -> bool
 /// digits.
 ///
 /// A block of digits is a fixed number of them, so that its loops are made into a few steps over
-/// many digits at once. So is the last one, which begins among digits that were read already.
+/// many digits at once. So is the last one, which begins among digits that were read already. It is
+/// a call of its own, where the compiler knows that nothing else holds the two slices.
+#[inline(never)]
 fn read_blocks(digits: &[u8], bytes: &mut [u8]) -> bool
     requires pairs { length digits.now ≡ 2 * length bytes.old }
     requires long { 32 ≤ length bytes.old }
@@ -113,8 +127,8 @@ fn read_blocks(digits: &[u8], bytes: &mut [u8]) -> bool
         }
     }
     let at = bytes.len() - BLOCK / 2;
-    let last = &digits[2 * at..];
-    read_block(last, &mut values, &mut bytes[at..])
+    let last = &digits[2 * at..2 * at + BLOCK];
+    read_block(last, &mut values, &mut bytes[at..at + BLOCK / 2])
 }
 
 /// Puts the bytes of pairs of digits in the place of `bytes`. False: not all were digits.

@@ -6,6 +6,8 @@ use std::alloc::{AllocError, Global};
 
 /// The most digits of a `u64`.
 const MOST_DIGITS: usize = 20;
+/// So many bytes are written in hexadecimal digits at once.
+const BLOCK: usize = 32;
 
 /// Bytes that grow at their end, in memory that is used again after each `clear`.
 ///
@@ -53,13 +55,61 @@ fn encode_to(bytes: &[u8], digits: &mut [u8])
     }
 }
 
+/// Puts the digits of a block of bytes in the place of `digits`.
+///
+/// The first digits of all bytes are made in one place and the second ones in another, and are put
+/// together at the end: each is then a few steps over many bytes.
+#[inline(always)]
+fn encode_block(bytes: &[u8], digits: &mut [u8])
+    requires size { length bytes.now ≡ 32 }
+    requires pairs { length digits.old ≡ 2 * length bytes.now }
+    ensures { digits.new ≡ encode_lower bytes.now }
+{
+    let mut highs = [0u8; BLOCK];
+    let mut lows = [0u8; BLOCK];
+    'halves: for i in 0..BLOCK {
+        let byte = bytes[i];
+        let high = digit_of(byte >> 4);
+        let low = digit_of(byte & 0x0f);
+        highs[i] = high;
+        lows[i] = low;
+    }
+    'pairs: for i in 0..BLOCK {
+        digits[2 * i] = highs[i];
+        digits[2 * i + 1] = lows[i];
+    }
+}
+
+/// Puts the digits of all bytes, a block or more, in the place of `digits`. The last block may begin
+/// among bytes whose digits stand there already.
+fn encode_blocks(bytes: &[u8], digits: &mut [u8])
+    requires pairs { length digits.old ≡ 2 * length bytes.now }
+    requires long { 32 ≤ length bytes.now }
+    ensures { digits.new ≡ encode_lower bytes.now }
+{
+    let count = bytes.len() / BLOCK;
+    for block in 0..count {
+        let at = block * BLOCK;
+        let some = &bytes[at..at + BLOCK];
+        encode_block(some, &mut digits[2 * at..2 * at + 2 * BLOCK]);
+    }
+    let at = bytes.len() - BLOCK;
+    let last = &bytes[at..at + BLOCK];
+    encode_block(last, &mut digits[2 * at..2 * at + 2 * BLOCK]);
+}
+
 /// Puts the digits of all bytes at a place of the room.
 fn encode_at(room: &mut [u8], at: usize, bytes: &[u8])
     requires { at + 2 * length bytes.now ≤ length room.old }
     ensures { room.new
         ≡ take at room.old ++ encode_lower bytes.now ++ drop (at + 2 * length bytes.now) room.old }
 {
-    encode_to(bytes, &mut room[at..at + 2 * bytes.len()]);
+    let digits = &mut room[at..at + 2 * bytes.len()];
+    if bytes.len() < BLOCK {
+        encode_to(bytes, digits);
+    } else {
+        encode_blocks(bytes, digits);
+    }
 }
 
 impl Text {
