@@ -9,6 +9,8 @@ ghost use Rattle.afdx_lists.specs.declared.fault.LineFault.TheVariants.{Memory, 
 use crate::fault::LineFault;
 use hex::FromHexError;
 
+/// The number of so many decimal digits is less than 2^64.
+const FEW_DIGITS: usize = 19;
 /// So many hexadecimal digits are read at once.
 const BLOCK: usize = 64;
 
@@ -50,13 +52,29 @@ pub(crate) fn split_field(text: &[u8]) -> (&[u8], Option<&[u8]>)
     }
 }
 
-/// One or more decimal digits, as a number that stops at the greatest `u64`.
-pub(crate) fn read_number(text: &[u8]) -> Option<u64>
+/// Decimal digits, one or more and so few that their number fits.
+#[inline(always)]
+fn read_few_digits(text: &[u8]) -> Option<u64>
+    requires some { 1 ≤ length text.now }
+    requires few { length text.now ≤ 19 }
+    ensures { result ≡ number_of text.now }
+{
+    let mut value = 0u64;
+    for digit in text {
+        if !digit.is_ascii_digit() {
+            return None;
+        }
+        value = value * 10 + u64::from(*digit - b'0');
+    }
+    Some(value)
+}
+
+/// Decimal digits, one or more, as a number that stops at the greatest `u64`.
+#[inline(never)]
+fn read_many_digits(text: &[u8]) -> Option<u64>
+    requires { 1 ≤ length text.now }
     ensures { result ≡ option_map (λ n. min n (2 ^ 64 - 1)) (number_of text.now) }
 {
-    if text.is_empty() {
-        return None;
-    }
     let mut value = 0u64;
     for digit in text {
         if !digit.is_ascii_digit() {
@@ -69,10 +87,24 @@ pub(crate) fn read_number(text: &[u8]) -> Option<u64>
     Some(value)
 }
 
+/// One or more decimal digits, as a number that stops at the greatest `u64`.
+#[inline(always)]
+pub(crate) fn read_number(text: &[u8]) -> Option<u64>
+    ensures { result ≡ option_map (λ n. min n (2 ^ 64 - 1)) (number_of text.now) }
+{
+    if text.is_empty() {
+        None
+    } else if text.len() <= FEW_DIGITS {
+        read_few_digits(text)
+    } else {
+        read_many_digits(text)
+    }
+}
+
 /// The value of a hexadecimal digit, or a number over 15.
 ///
-/// It is arithmetic without a branch, so that it is done for many digits at once: of each of the two
-/// numbers one is the value where the byte is such a digit, and all others are over 15.
+/// It is arithmetic without a branch, so that it is done for many digits at once. `figure` is the
+/// value of `0` to `9` and over 15 for all others, `letter` is so for `a` to `f` of either case.
 fn digit_value(digit: u8) -> u8
     ensures { hex_digit_value digit ≡ (if nat_le result 15 then Some result else None) }
 {

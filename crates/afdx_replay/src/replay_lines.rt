@@ -38,7 +38,7 @@ fn add_loss(text: &mut Text, n: u64, side: Side, port: u8, is_lost: bool) -> Res
     text.put(b" ")?;
     text.put(side.as_bytes())?;
     text.put(b" ")?;
-    text.put_number(u64::from(port))?;
+    text.put_small(port)?;
     text.put(b"\n")?;
     Ok(1)
 }
@@ -96,12 +96,12 @@ pub(crate) fn put_departure(text: &mut Text, departed: &Departed) -> Result<(), 
     };
     text.clear();
     text.put(kind.as_bytes())?;
-    text.put_number(n)?;
+    text.put_line_number(n)?;
     text.put(b" ")?;
-    text.put_number(time)?;
+    text.put_time(time)?;
     text.put(b" ")?;
     text.put(side.as_bytes())?;
     text.put(b" ")?;
-    text.put_number(u64::from(port))?;
+    text.put_small(port)?;
     text.put(b"\n")
 }
