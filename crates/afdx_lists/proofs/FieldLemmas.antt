@@ -167,3 +167,39 @@ digits_are_bad digits new n fault h half decodes = digits_decode digits n h half
 -- all the elements were written over
 pub written_over : (new old : List ℕ) (n : ℕ) → length new ≡ length old → n ≡ length old → take n (new ++ drop (length new) old) ≡ new
 written_over new old n same whole = grind (arith, common_steps)
+
+-- 10 to the power of n
+ten_to : ℕ → ℕ
+ten_to zero = 1
+ten_to (suc n) = 10 * ten_to n
+
+ten_to_more : (n more : ℕ) → ten_to n ≤ ten_to (n + more)
+unfolding ten_to
+ten_to_more n zero = let same : n + zero ≡ n = omega arith in rw same (omega arith)
+ten_to_more n (suc more) =
+    let next : n + suc more ≡ suc (n + more) = omega arith in
+    let before = ten_to_more n more in
+    rw next (omega (arith, before))
+
+push_below : (n : ℕ) (byte most : ℕ) → is_ascii_digit byte ≡ true → n < most → n * 10 + (byte - 48) < 10 * most
+push_below n byte most digit below = grind (arith, digit, below)
+
+-- so many digits write a number below that power of 10
+number_below : (bytes : List ℕ) (n k : ℕ) → all_digits bytes ≡ true → n < ten_to k → number_after n bytes < ten_to (k + length bytes)
+unfolding ten_to
+number_below [] n k all below = let same : k + 0 ≡ k = omega arith in rw same below
+number_below (byte ∷ bytes) n k all below =
+    let first : is_ascii_digit byte ≡ true = grind (arith, common_steps, all) in
+    let rest : all_digits bytes ≡ true = grind (arith, common_steps, all) in
+    let place : k + suc (length bytes) ≡ suc k + length bytes = omega arith in
+    rw place (number_below bytes (n * 10 + (byte - 48)) (suc k) rest (push_below n byte (ten_to k) first below))
+
+-- the number of 18 digits or fewer leaves room for one more
+pub few_digits : (bytes : List ℕ) → all_digits bytes ≡ true → length bytes ≤ 18 → number_after 0 bytes < 1000000000000000000
+unfolding ten_to
+few_digits bytes all few =
+    let none : 0 + length bytes ≡ length bytes = omega arith in
+    let below = rw none at (number_below bytes 0 0 all (omega arith)) in
+    let most : ten_to (length bytes) ≤ ten_to (length bytes + (18 - length bytes)) = ten_to_more (length bytes) (18 - length bytes) in
+    let place : length bytes + (18 - length bytes) ≡ 18 = omega arith in
+    omega (arith, below, rw place at most)

@@ -7,3 +7,4 @@ pub mod SubmissionLemmas
 mod TextLemmas
 pub mod TellingLemmas
 mod DigitLemmas
+mod EncodingLemmas

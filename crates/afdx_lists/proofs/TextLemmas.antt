@@ -4,7 +4,7 @@ use Rattle.std.proofs.lemmas.List.{take-append-drop, take-append-le, take-take, 
 use Rattle.std.proofs.lemmas.Grind.{common_steps}
 
 -- the first k bytes of a piece, behind a text
-put_front : (xs piece rest : List ℕ) (at k : ℕ) → at ≤ length xs → k ≤ length piece → take (at + k) ((take at xs ++ piece) ++ rest) ≡ take at xs ++ take k piece
+pub put_front : (xs piece rest : List ℕ) (at k : ℕ) → at ≤ length xs → k ≤ length piece → take (at + k) ((take at xs ++ piece) ++ rest) ≡ take at xs ++ take k piece
 put_front xs piece rest at k within few =
     let front = take at xs ++ take k piece in
     let all : (take at xs ++ piece) ++ rest ≡ front ++ (drop k piece ++ rest) = grind (arith, append_assoc, take-append-drop k piece) in
@@ -21,6 +21,12 @@ put_behind old xs room piece rest after new at k n within few long e text front 
     ∙ put_front xs piece (rest ++ after) at k within few
     ∙ ap (λ (ys : List ℕ). ys ++ take k piece) text
     ∙ ap (λ (ys : List ℕ). old ++ ys) front
+
+-- a room in which a text ends later
+pub put_whole : (old xs room after new : List ℕ) (end at n : ℕ) → end ≤ n → end ≤ length room → take end room ≡ take at xs ++ new → take at xs ≡ old →
+    take end (take n (room ++ after)) ≡ old ++ new
+put_whole old xs room after new end at n long within e text =
+    take-take end n (room ++ after) long ∙ take-append-le end room after within ∙ e ∙ ap (λ (ys : List ℕ). ys ++ new) text
 
 -- all of a piece
 pub take_whole : (xs : List ℕ) → take (length xs) xs ≡ xs

@@ -1,6 +1,7 @@
 //! The fields of a line: text between spaces, numbers, and bytes in hexadecimal digits.
 ghost use Rattle.hex.specs.Hex.{hex_digit_value, decode_pairs, decode_sized};
-ghost use Rattle.std.specs.Prelude.{nat_le, length, true, MatchResult, Err, ◌*◌, Ok, if◌then◌else◌, ◌≡◌, ◌∷◌, ◌⊎◌, ◌^◌, ◌-◌, min, Some, None, OnOk, IfErr, option_map};
+ghost use Rattle.std.specs.Prelude.{◌≤◌, nat_le, length, true, MatchResult, Err, ◌*◌, Ok, if◌then◌else◌, ◌≡◌, ◌∷◌, ◌⊎◌, ◌^◌, ◌-◌, min, Some, None, OnOk, IfErr, option_map};
+ghost use Rattle.memchr.specs.Find.{IsFirstByte, is_byte};
 ghost use Rattle.std.specs.Str.Lines.{strip_carriage_return};
 ghost use Rattle.afdx_lists.specs.Fields.{between_spaces, fields_after, number_of, bytes_of_digits, is_skipped};
 ghost use Rattle.afdx_lists.specs.declared.fault.LineFault.TheVariants.{Memory, BadHex};
@@ -8,6 +9,8 @@ ghost use Rattle.afdx_lists.specs.declared.fault.LineFault.TheVariants.{Memory, 
 use crate::fault::LineFault;
 use hex::FromHexError;
 
+/// The number of so many decimal digits is less than 2^64.
+const FEW_DIGITS: usize = 19;
 /// So many hexadecimal digits are read at once.
 const BLOCK: usize = 64;
 
@@ -28,23 +31,50 @@ pub(crate) fn says_nothing(text: &[u8]) -> bool
     matches!(text, [] | [b'#', ..])
 }
 
+/// Where the first space stands. Most fields of a line are one byte.
+#[inline(always)]
+fn find_space(text: &[u8]) -> Option<usize>
+    ensures { IsFirstByte (is_byte 32) text.now result }
+{
+    match text {
+        [first, b' ', ..] if *first != b' ' => Some(1),
+        _ => memchr::memchr(b' ', text),
+    }
+}
+
 /// What stands before the first space, and the rest after it.
 pub(crate) fn split_field(text: &[u8]) -> (&[u8], Option<&[u8]>)
     ensures { between_spaces text.now ≡ result.0.now ∷ fields_after result.1 }
 {
-    match memchr::memchr(b' ', text) {
+    match find_space(text) {
         Some(at) => (&text[..at], Some(&text[at + 1..])),
         None => (text, None),
     }
 }
 
-/// One or more decimal digits, as a number that stops at the greatest `u64`.
-pub(crate) fn read_number(text: &[u8]) -> Option<u64>
+/// Decimal digits, one or more and so few that their number fits.
+#[inline(always)]
+fn read_few_digits(text: &[u8]) -> Option<u64>
+    requires some { 1 ≤ length text.now }
+    requires few { length text.now ≤ 19 }
+    ensures { result ≡ number_of text.now }
+{
+    let mut value = 0u64;
+    for digit in text {
+        if !digit.is_ascii_digit() {
+            return None;
+        }
+        value = value * 10 + u64::from(*digit - b'0');
+    }
+    Some(value)
+}
+
+/// Decimal digits, one or more, as a number that stops at the greatest `u64`.
+#[inline(never)]
+fn read_many_digits(text: &[u8]) -> Option<u64>
+    requires { 1 ≤ length text.now }
     ensures { result ≡ option_map (λ n. min n (2 ^ 64 - 1)) (number_of text.now) }
 {
-    if text.is_empty() {
-        return None;
-    }
     let mut value = 0u64;
     for digit in text {
         if !digit.is_ascii_digit() {
@@ -57,16 +87,32 @@ pub(crate) fn read_number(text: &[u8]) -> Option<u64>
     Some(value)
 }
 
+/// One or more decimal digits, as a number that stops at the greatest `u64`.
+#[inline(always)]
+pub(crate) fn read_number(text: &[u8]) -> Option<u64>
+    ensures { result ≡ option_map (λ n. min n (2 ^ 64 - 1)) (number_of text.now) }
+{
+    if text.is_empty() {
+        None
+    } else if text.len() <= FEW_DIGITS {
+        read_few_digits(text)
+    } else {
+        read_many_digits(text)
+    }
+}
+
 /// The value of a hexadecimal digit, or a number over 15.
+///
+/// It is arithmetic without a branch, so that it is done for many digits at once. `figure` is the
+/// value of `0` to `9` and over 15 for all others, `letter` is so for `a` to `f` of either case.
 fn digit_value(digit: u8) -> u8
     ensures { hex_digit_value digit ≡ (if nat_le result 15 then Some result else None) }
 {
-    match digit {
-        b'A'..=b'F' => digit - b'A' + 10,
-        b'a'..=b'f' => digit - b'a' + 10,
-        b'0'..=b'9' => digit - b'0',
-        _ => 255,
-    }
+    let moved = digit.wrapping_add(255 - b'9');
+    let figure = moved.saturating_sub(6).wrapping_sub(240);
+    let capital = digit & 0xdf;
+    let letter = capital.wrapping_sub(b'A').saturating_add(10);
+    figure.min(letter)
 }
 
 /// Puts the values of digits in the place of `values`, and the bytes of their pairs in that of
@@ -91,12 +137,16 @@ fn read_block(digits: &[u8], values: &mut [u8], bytes: &mut [u8]) -> bool
     greatest < 16
 }
 
-/// Puts the bytes of pairs of digits in the place of `bytes`. False: not all were digits.
+/// Puts the bytes of pairs of digits, a block or more, in the place of `bytes`. False: not all were
+/// digits.
 ///
 /// A block of digits is a fixed number of them, so that its loops are made into a few steps over
-/// many digits at once.
-fn read_pairs(digits: &[u8], bytes: &mut [u8]) -> bool
-    requires { length digits.now ≡ 2 * length bytes.old }
+/// many digits at once. So is the last one, which begins among digits that were read already. It is
+/// a call of its own, where the compiler knows that nothing else holds the two slices.
+#[inline(never)]
+fn read_blocks(digits: &[u8], bytes: &mut [u8]) -> bool
+    requires pairs { length digits.now ≡ 2 * length bytes.old }
+    requires long { 32 ≤ length bytes.old }
     ensures { result ≡ true → decode_pairs 0 digits.now ≡ Ok bytes.new }
 {
     let mut values = [0u8; BLOCK];
@@ -108,9 +158,21 @@ fn read_pairs(digits: &[u8], bytes: &mut [u8]) -> bool
             return false;
         }
     }
-    let at = count * (BLOCK / 2);
-    let rest = &digits[2 * at..];
-    read_block(rest, &mut values[..rest.len()], &mut bytes[at..])
+    let at = bytes.len() - BLOCK / 2;
+    let last = &digits[2 * at..2 * at + BLOCK];
+    read_block(last, &mut values, &mut bytes[at..at + BLOCK / 2])
+}
+
+/// Puts the bytes of pairs of digits in the place of `bytes`. False: not all were digits.
+fn read_pairs(digits: &[u8], bytes: &mut [u8]) -> bool
+    requires { length digits.now ≡ 2 * length bytes.old }
+    ensures { result ≡ true → decode_pairs 0 digits.now ≡ Ok bytes.new }
+{
+    if bytes.len() < BLOCK / 2 {
+        let mut values = [0u8; BLOCK];
+        return read_block(digits, &mut values[..digits.len()], bytes);
+    }
+    read_blocks(digits, bytes)
 }
 
 /// Reads digits as the crate `hex` does, but without a branch for each of them where all are sound.

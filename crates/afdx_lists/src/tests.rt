@@ -1,6 +1,7 @@
 //! Lines, faults and devices that move little at a time and fail.
 ghost use Rattle.std.specs.Prelude.{◌<◌, ◌≤◌, ◌^◌};
 
+use crate::fields::read_bytes;
 use crate::{
     Handed, Heading, LineFault, LineReader, RunFault, Text, Watched, read_frame_line,
     read_submission_line, tell_fault, write_text,
@@ -494,5 +495,53 @@ fn a_text_grows_by_pieces(rt: HostRuntime) -> Result<(), Fail> {
     }
     assert_eq!(rt; text.as_bytes().len(), 10_000usize);
     assert_eq!(rt; &text.as_bytes()[9_990..], b"1000000999".as_slice());
+    Ok(())
+}
+
+#[test]
+fn numbers_that_come_again(rt: HostRuntime) -> Result<(), Fail> {
+    let mut text = Text::new(rt.alloc());
+    for _ in 0..2u32 {
+        text.clear();
+        for time in [0, 7, 7, 1_000_000_000_000_000, 7] {
+            text.put_time(time)?;
+            text.put(b" ")?;
+            text.put_line_number(time / 7)?;
+            text.put(b" ")?;
+        }
+        assert_eq!(rt;
+            text.as_bytes(),
+            b"0 0 7 1 7 1 1000000000000000 142857142857142 7 1 ".as_slice()
+        );
+    }
+    text.clear();
+    for port in [0, 9, 10, 24, 99, 100, 255] {
+        text.put_small(port)?;
+        text.put(b" ")?;
+    }
+    assert_eq!(rt; text.as_bytes(), b"0 9 10 24 99 100 255 ".as_slice());
+    Ok(())
+}
+
+#[test]
+fn digits_of_many_bytes(rt: HostRuntime) -> Result<(), Fail> {
+    let alloc = rt.alloc();
+    let mut text = Text::new(alloc);
+    for size in [1usize, 31, 32, 33, 63, 64, 65, 100] {
+        let mut bytes = Vec::new(alloc);
+        for n in 0..size {
+            bytes.push((n * 37 % 256) as u8)?;
+        }
+        text.clear();
+        text.put_digits(bytes.as_slice())?;
+        let digits = hex::encode(alloc, bytes.as_slice())?;
+        assert_eq!(rt; text.as_bytes(), digits.as_bytes());
+        let mut read = Vec::new(alloc);
+        assert_eq!(rt; read_bytes(text.as_bytes(), &mut read), Ok(()));
+        assert_eq!(rt; read.as_slice(), bytes.as_slice());
+        text.put(b"g0")?;
+        let fault = read_bytes(text.as_bytes(), &mut read);
+        assert_eq!(rt; fault, Err(LineFault::BadHex));
+    }
     Ok(())
 }

@@ -87,3 +87,12 @@ count-more f i b count more total below is e k s =
 pub one-more : (b : Bool) (more : ℕ) → more ≡ (if b then 1 else 0) → more ≤ 1
 one-more true more e = omega (arith, e)
 one-more false more e = omega (arith, e)
+
+none-pass : (f : ℕ → Bool) (xs : List ℕ) → ((p : ℕ) → f p ≡ false) → filter f xs ≡ []
+none-pass f [] none = refl
+none-pass f (x ∷ xs) none = rw (none x) (none-pass f xs none)
+
+-- none of an empty set
+pub none-in : (set : PortSet) → ((p : ℕ) → holds set p ≡ false) → ports_in set ≡ []
+unfolding ports_in
+none-in set none = none-pass (holds set) numbers none

@@ -39,13 +39,13 @@ fn add_loss(text: &mut Text, n: u64, side: Side, port: u8, is_lost: bool) -> Res
     text.put(b" ")?;
     text.put(side.as_bytes())?;
     text.put(b" ")?;
-    text.put_number(u64::from(port))?;
+    text.put_small(port)?;
     text.put(b"\n")?;
     Ok(1)
 }
 
-/// Adds the lines of the copies that were lost, and counts them.
-fn add_losses(text: &mut Text, n: u64, side: Side, lost: &PortSet) -> Result<u64, AllocError>
+/// Adds the lines of the copies that were lost, and counts them, port by port.
+fn add_each_loss(text: &mut Text, n: u64, side: Side, lost: &PortSet) -> Result<u64, AllocError>
     ensures lines { OnOk result (text_bytes text.new
         ≡ text_bytes text.old ++ loss_lines n side (ports_in lost.now)) }
     ensures count { IfOk result (λ count. count ≡ length (ports_in lost.now)) }
@@ -58,6 +58,19 @@ fn add_losses(text: &mut Text, n: u64, side: Side, lost: &PortSet) -> Result<u64
         count += more;
     }
     Ok(count)
+}
+
+/// Adds the lines of the copies that were lost, and counts them. Mostly none was.
+fn add_losses(text: &mut Text, n: u64, side: Side, lost: &PortSet) -> Result<u64, AllocError>
+    ensures lines { OnOk result (text_bytes text.new
+        ≡ text_bytes text.old ++ loss_lines n side (ports_in lost.now)) }
+    ensures count { IfOk result (λ count. count ≡ length (ports_in lost.now)) }
+    ensures few { IfOk result (λ count. count ≤ 24) }
+{
+    if lost.is_empty() {
+        return Ok(0);
+    }
+    add_each_loss(text, n, side, lost)
 }
 
 /// Puts the V line and the L lines of an arrival in the place of `text`, and counts the copies that
@@ -98,12 +111,12 @@ pub(crate) fn put_departure(text: &mut Text, departed: &Departed) -> Result<(), 
     };
     text.clear();
     text.put(kind.as_bytes())?;
-    text.put_number(n)?;
+    text.put_line_number(n)?;
     text.put(b" ")?;
-    text.put_number(time)?;
+    text.put_time(time)?;
     text.put(b" ")?;
     text.put(side.as_bytes())?;
     text.put(b" ")?;
-    text.put_number(u64::from(port))?;
+    text.put_small(port)?;
     text.put(b"\n")
 }

@@ -37,11 +37,11 @@ fn put_sent(
 {
     let letter = side_letter(side);
     text.put(b"R ")?;
-    text.put_number(time)?;
+    text.put_time(time)?;
     text.put(b" ")?;
     text.put(letter.as_bytes())?;
     text.put(b" ")?;
-    text.put_number(u64::from(port))?;
+    text.put_small(port)?;
     text.put(b" ")?;
     text.put_digits(bytes)?;
     text.put(b"\n")

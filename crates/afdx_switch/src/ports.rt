@@ -45,8 +45,13 @@ impl PortSet {
     }
 }
 
+/// Whether one of them is true. All are looked at, which takes a few steps over many at once.
 fn any_held(held: &[bool]) -> bool
     ensures { result ≡ list_any (λ h. h) held.now }
 {
-    held.iter().any(|held| *held)
+    let mut any = false;
+    for one in held {
+        any |= *one;
+    }
+    any
 }

@@ -204,6 +204,7 @@ impl Switch {
     /// or before `until`, or a drop whose moment is before `until`. They go by time, at one time
     /// those that leave before those too old, then by port. If `until` is 1.2e15 or later, None
     /// says that each frame that was accepted and not lost has had its turn at each port.
+    #[inline(always)]
     pub fn take(&mut self, until: u64) -> Option<Departure>
         requires clock { last_time self.old ≤ until }
         ensures given { (t : Rows) (side : Side) (h : History) → StandsFor t side self.old h →

@@ -193,6 +193,7 @@ impl Working {
         self.ports[place].due()
     }
 
+    #[inline(always)]
     pub(crate) fn take(&mut self, until: u64) -> Option<Departure>
         requires sound { IsSound self.old }
         requires clock { last_time self.old ≤ until }

@@ -20,7 +20,7 @@ pub(crate) fn put_message(
         ≡ text_bytes text.old ++ message_line time name.now vl message.now) }
 {
     text.put(b"M ")?;
-    text.put_number(time)?;
+    text.put_time(time)?;
     text.put(b" ")?;
     text.put(name.as_bytes())?;
     text.put(b" ")?;
@@ -43,11 +43,11 @@ pub(crate) fn put_drop(
 {
     let word = why.word();
     text.put(b"X ")?;
-    text.put_number(time)?;
+    text.put_time(time)?;
     text.put(b" ")?;
     text.put(name.as_bytes())?;
     text.put(b" ")?;
-    text.put_number(line)?;
+    text.put_line_number(line)?;
     text.put(b" ")?;
     text.put(word.as_bytes())?;
     text.put(b"\n")

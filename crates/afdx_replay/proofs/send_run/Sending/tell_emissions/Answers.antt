@@ -24,6 +24,13 @@ loop-emission-preserved g c =
           };
     }
 
+pub overflow_add-self : goal.overflow_add-self
+overflow_add-self g c =
+    let room = c.requires.room in
+    let r = c.loop-emission.invariant.room room.0 room.2 in
+    let held = rw c.in-Some.is at c.in_ok-emission.ensures.held in
+    omega (arith, room.1, r.submissions, r.emissions, held)
+
 pub returns-in_err-emission-clause-some : goal.returns-in_err-emission-clause-some
 returns-in_err-emission-clause-some g c s events start h =
     let k = c.loop-emission.invariant.told s events start h in

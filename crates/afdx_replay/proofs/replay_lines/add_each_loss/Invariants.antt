@@ -3,7 +3,7 @@ use Rattle.afdx_lists.specs.Texts.{text_bytes}
 use Rattle.afdx_switch.specs.Ports.{holds}
 use Rattle.afdx_replay.specs.ReplayText.{loss_lines}
 use Rattle.afdx_replay.proofs.LossLemmas.{lost_below}
-use Rattle.afdx_replay.proofs.replay_lines.add_losses.Given as goal
+use Rattle.afdx_replay.proofs.replay_lines.add_each_loss.Given as goal
 
 abbrev pub invariant-loop-place : goal.invariant-loop-place
 invariant-loop-place l = record {

@@ -1,7 +1,7 @@
 use Rattle.std.proofs.Common.{arith, take, get_or, refl, sym, ◌∙◌}
 use Rattle.std.proofs.lemmas.List.{take_more}
 use Rattle.afdx_lists.proofs.FieldLemmas.{all_digits_not, number_of_not, number_after_push, all_digits_push}
-use Rattle.afdx_lists.proofs.fields.read_number.Goals as goal
+use Rattle.afdx_lists.proofs.fields.read_many_digits.Goals as goal
 
 pub returns-then-not-is_ascii_digit : goal.returns-then-not-is_ascii_digit
 returns-then-not-is_ascii_digit c = rw (number_of_not c.args.text.now (all_digits_not c.args.text.now c.loop-digit.digit-index (omega arith) (sym c.is_ascii_digit.ensures.value ∙ c.if-not-is_ascii_digit.true))) refl

@@ -1,6 +1,6 @@
 use Rattle.std.proofs.Common.{◌≡◌, ◌^◌, ◌-◌, min, take, true}
 use Rattle.afdx_lists.specs.Fields.{all_digits, number_after}
-use Rattle.afdx_lists.proofs.fields.read_number.Given as goal
+use Rattle.afdx_lists.proofs.fields.read_many_digits.Given as goal
 
 abbrev pub invariant-loop-digit : goal.invariant-loop-digit
 invariant-loop-digit l = record {
