@@ -26,6 +26,20 @@ case_of 'an empty text' 2 '' $'words UnknownText\n' explain ''
 text_case 'help of explain' 0 out 'afdx explain over-rate' explain --help
 full_case 'an explanation to a full device' 4 $'device Write\n' explain memory
 
+{
+    "$program" check examples/network.toml || true
+    "$program" check examples/refused.toml || true
+    "$program" replay --no-admission examples/gigabit.toml examples/gigabit.list
+    "$program" send --summary examples/network.toml fcc1 examples/messages.list 2>&1
+} >"$work/lines"
+tell 'each line of the examples is explained' "$(
+    sort -u -t ' ' -k 1,1 -k 5,5 "$work/lines" >"$work/some"
+    [[ -s $work/some ]] || echo 'no lines'
+    while IFS= read -r line; do
+        "$program" explain "$line" >/dev/null 2>&1 || echo "'$line' is not explained"
+    done <"$work/some"
+)"
+
 sed 's/^bag_ms = .*/bag_ms = 3/' examples/base.toml >"$work/explained.toml"
 explained_case 'check explains a fault' 1 '' 'config OutOfRange link 1 key 4' \
     'Key 4 of a link is bag_ms: 1, 2, 4, 8, 16, 32, 64 or 128.' check --explain "$work/explained.toml"

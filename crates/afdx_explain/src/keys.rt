@@ -143,7 +143,8 @@ It is the longest in us that a frame may take through a switch.",
         &["config Missing|WrongKind|OutOfRange link n key 11"],
         "\
 Key 11 of a link is skew_us: 1 to 100000.
-It is by how much in us the second copy of a frame may be late; at least latency_us.",
+It is by how much in us the second copy of a frame may be late; 'afdx check' wants at least
+latency_us.",
     ),
     (
         &["config Missing|WrongKind|OutOfRange link n key 12"],

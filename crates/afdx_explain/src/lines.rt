@@ -134,7 +134,7 @@ If it is to read the message, add a port to the configuration with this system, 
         "not-subscribed: the system isn't among the receivers of the frame's link (the key to).",
     ),
     (
-        &["P", "P n n n|- n"],
+        &["P", "P n n n n", "P n n - n"],
         "\
 P port high low buffer: of this switch port the longest time in ns that a high frame can
 take there, rounded up; the same for a low frame; - where the high links alone take the

@@ -17,6 +17,8 @@ fn lines_are_explained(rt: HostRuntime) {
     assert!(rt; says("config NotToml", "The text isn't TOML"));
     assert!(rt; says("list BadHex 12", "An odd number of digits"));
     assert!(rt; says("no A2 3 252", "A2 port needed"));
+    assert!(rt; says("P 3 16800 20297 252", "P port high low buffer"));
+    assert!(rt; says("P 3 16800 - 252", "P port high low buffer"));
     assert!(rt; says("admit A5 s1 600000", "A5 name ns"));
     assert!(rt; says("V 7 A drop over-rate", "over-rate:"));
     assert!(rt; says("over-rate", "over-rate:"));
