@@ -1,4 +1,4 @@
-//! The worked rows, on one switch. They pass also where any one growth is refused.
+//! The worked rows, on one switch. An arrival that is refused memory is made again.
 ghost use Rattle.std.specs.Prelude.{◌≡◌, ℕ, ◌≤◌, IfOk, IsTrue};
 ghost use Rattle.afdx_switch.specs.Switching.{IsQuiet, last_time};
 
