@@ -523,6 +523,28 @@ tell 'words are completed' "$(
     completes 'auto' afdx-capture list --fcs a
 )"
 
+# The program in a folder that holds nothing but it, the C library that it was linked with, and two
+# files.
+bare_tests() {
+    local name='the program runs beside the C library alone' bare=$work/bare library
+    mkdir -p "$bare"
+    if [[ $(id -u) -ne 0 ]]; then
+        skip "$name" 'only root may change the root folder'
+        return
+    fi
+    cp "$program" examples/base.toml examples/one_link.list "$bare"
+    while IFS= read -r library; do
+        mkdir -p "$bare$(dirname "$library")"
+        cp -L "$library" "$bare$library"
+    done < <(ldd "$program" | grep -o '/[^ ]*')
+    "$program" replay examples/base.toml examples/one_link.list >"$work/wanted"
+    launch chroot "$bare" "/$(basename "$program")" replay base.toml one_link.list
+    tell "$name" "$(
+        is_status 0
+        same "$work/wanted" "$work/out"
+    )"
+}
+
 install_tests() {
     local prefix=$work/prefix
     launch bin/install "$prefix"
@@ -568,9 +590,10 @@ guide_tests() {
 
 if [[ -n $built ]]; then
     install_tests
+    bare_tests
     guide_tests
 else
-    skip 'install and the guide' "there is no program $program"
+    skip 'install, the bare folder and the guide' "there is no program $program"
 fi
 
 echo "$passed passed, $failed failed, $skipped skipped"
