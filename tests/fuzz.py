@@ -159,7 +159,7 @@ def try_police(runs, case, chance):
     answer = runs.run_twice(words, case.text)
     checks.check_police(case.text, *answer)
     try_prefix(runs, words, case.text, answer)
-    runs.write("one.toml", made.tables_text(one_link(*rule)))
+    runs.write("one.toml", made.text_of(one_link(*rule)))
     status, out, err = runs.run(["replay", "--no-admission", "one.toml", "list"])
     verdicts = "".join(f"{line}\n" for line in out.split("\n") if line.startswith("V"))
     must((status, verdicts, err) == answer, "police and replay give other verdicts of one link")

@@ -19,20 +19,9 @@ work=$(mktemp -d "${TMPDIR:-/tmp}/afdx-program.XXXXXX")
 trap 'rm -rf "$work"' EXIT
 cd "$top"
 
-passed=0
-failed=0
+# shellcheck source=tests/telling.sh
+source "$top/tests/telling.sh"
 input=/dev/null # what the next cases read on standard input
-
-tell() { # NAME FAULT
-    if [[ -z $2 ]]; then
-        passed=$((passed + 1))
-        echo "ok $1"
-    else
-        failed=$((failed + 1))
-        echo "FAILED $1"
-        echo "    ${2//$'\n'/$'\n'    }"
-    fi
-}
 
 launch() { # WORD.. : runs the program, and leaves both streams in files and the status in `status`
     status=0

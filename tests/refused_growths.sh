@@ -48,18 +48,8 @@ work=$(mktemp -d "${TMPDIR:-/tmp}/afdx-refused.XXXXXX")
 trap 'rm -rf "$work"' EXIT
 cc -shared -fPIC -O1 -o "$work/refuse.so" "$top/tests/refuse.c" -ldl
 
-passed=0
-failed=0
-tell() { # NAME RUNS FAULT
-    if [[ -z $3 ]]; then
-        passed=$((passed + 1))
-        echo "ok $1 ($2 runs with a refusal)"
-    else
-        failed=$((failed + 1))
-        echo "FAILED $1"
-        echo "    ${3//$'\n'/$'\n'    }"
-    fi
-}
+# shellcheck source=tests/telling.sh
+source "$top/tests/telling.sh"
 
 # Runs WORD.. with request number N refused (HOW is REFUSE_AT), or all from that one on (REFUSE_FROM).
 # Leaves what it wrote in `out` and, without the shim's own line, in `err`, its status in `status`, and
@@ -99,29 +89,37 @@ look_at_run() {
     fi
 }
 
-refuse_program() { # NAME WORD..
-    local name=$1 how n runs=0
-    shift
-    launch REFUSE_AT 0 "$@"
-    whole=$out whole_err=$err whole_status=$status
+# Runs WORD.. with each request refused in turn, and again with all from each on; LOOK, given which
+# of these two, leaves in `fault` what is wrong with a run.
+refuse() { # NAME LOOK WORD..
+    local name=$1 look=$2 how n runs=0
+    shift 2
     for how in REFUSE_AT REFUSE_FROM; do
         for ((n = 1; n <= most; n++)); do
             launch "$how" "$n" "$@"
-            look_at_run
+            "$look" "$how"
             if [[ -n $fault ]]; then
-                tell "$name" "$runs" "$how=$n: $fault"
+                tell "$name" "$how=$n: $fault"
                 return
             fi
             if [[ $met == no ]]; then break; fi
             runs=$((runs + 1))
         done
         if [[ $met == yes ]]; then
-            tell "$name" "$runs" "still refused at request $n"
+            tell "$name" "still refused at request $n"
             return
         fi
     done
     if [[ $runs -eq 0 ]]; then fault=$none; fi
-    tell "$name" "$runs" "$fault"
+    tell "$name" "$fault" "$runs runs with a refusal"
+}
+
+refuse_program() { # NAME WORD..
+    local name=$1
+    shift
+    launch REFUSE_AT 0 "$@"
+    whole=$out whole_err=$err whole_status=$status
+    refuse "$name" look_at_run "$@"
 }
 
 # What is wrong with the test that `launch` ran; left in `fault`. It must pass where one request was
@@ -134,26 +132,7 @@ look_at_test() { # HOW
 }
 
 refuse_test() { # RUNNER TEST
-    local name how n runs=0
-    name="$(basename "$1") $2"
-    for how in REFUSE_AT REFUSE_FROM; do
-        for ((n = 1; n <= most; n++)); do
-            launch "$how" "$n" "$1" "$2"
-            look_at_test "$how"
-            if [[ -n $fault ]]; then
-                tell "$name" "$runs" "$how=$n: $fault"
-                return
-            fi
-            if [[ $met == no ]]; then break; fi
-            runs=$((runs + 1))
-        done
-        if [[ $met == yes ]]; then
-            tell "$name" "$runs" "still refused at request $n"
-            return
-        fi
-    done
-    if [[ $runs -eq 0 ]]; then fault=$none; fi
-    tell "$name" "$runs" "$fault"
+    refuse "$(basename "$1") $2" look_at_test "$1" "$2"
 }
 
 if [[ $tests == no ]]; then

@@ -17,20 +17,9 @@ trap 'rm -rf "$work"' EXIT
 export AFDX=$program
 cd "$top" || exit 1
 
-passed=0
-failed=0
+# shellcheck source=tests/telling.sh
+source "$top/tests/telling.sh"
 skipped=0
-
-tell() { # NAME FAULT
-    if [[ -z $2 ]]; then
-        passed=$((passed + 1))
-        echo "ok $1"
-    else
-        failed=$((failed + 1))
-        echo "FAILED $1"
-        echo "    ${2//$'\n'/$'\n'    }"
-    fi
-}
 
 skip() { # NAME WHY
     skipped=$((skipped + 1))

@@ -9,8 +9,9 @@ except ImportError:  # before Python 3.11 the examples are only changed, and not
 
 TOP = os.path.dirname(os.path.dirname(os.path.dirname(os.path.abspath(__file__))))
 EXAMPLES = os.path.join(TOP, "examples")
-sys.path.insert(0, EXAMPLES)
+sys.path[:0] = [EXAMPLES, os.path.join(TOP, "tests", "calling")]
 from make_bench import frame_of, sealed  # noqa: E402
+from tables import text_of  # noqa: E402
 
 BAGS = [1, 2, 4, 8, 16, 32, 64, 128]
 WORDS = [b"F", b"B", b"R", b"A", b"B", b"#", b"-", b"", b"0", b"1", b"24", b"25", b"07", b"1000000000000000"]
@@ -80,24 +81,6 @@ def random_tables(random):
                 coms.append({"system": name, "link": link["vl"], "udp": 1000, "kind": kind, "depth": depth})
     buffer = random.choice([64, 200, 700, 3000]) if not ample else 65536
     return {"profile": profile, "buffer": buffer, "system": systems, "link": links, "port": coms}
-
-
-def value_text(value):
-    if isinstance(value, str):
-        return f'"{value}"'
-    if isinstance(value, list):
-        return "[" + ", ".join(map(value_text, value)) + "]"
-    return str(value)
-
-
-def tables_text(tables):
-    """A configuration that spells the tables."""
-    lines = [f"{key} = {tables[key]}" for key in ("profile", "buffer")]
-    for part in ("system", "link", "port"):
-        for row in tables[part]:
-            lines.append(f"[[{part}]]")
-            lines += [f"{key} = {value_text(value)}" for key, value in row.items()]
-    return ("\n".join(lines) + "\n").encode("ascii")
 
 
 def changed_config(random, text):
@@ -257,7 +240,7 @@ HOMES = {"bench.list": "network.toml", "gigabit.list": "gigabit.toml"}
 def random_case(random, configs, lists):
     if random.random() < 0.65:
         tables = random_tables(random)
-        config = tables_text(tables)
+        config = text_of(tables)
         text = random_list(random, tables)
     else:
         name = random.choice(sorted(lists))

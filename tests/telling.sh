@@ -1,0 +1,15 @@
+# Sourced by the tests in bash: counts cases, and tells each.
+
+passed=0
+failed=0
+
+tell() { # NAME FAULT [NOTE] : a case, its fault if it has one, and what is told of it where it passes
+    if [[ -z $2 ]]; then
+        passed=$((passed + 1))
+        echo "ok $1${3:+ ($3)}"
+    else
+        failed=$((failed + 1))
+        echo "FAILED $1"
+        echo "    ${2//$'\n'/$'\n'    }"
+    fi
+}
