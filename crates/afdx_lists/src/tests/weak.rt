@@ -1,0 +1,88 @@
+//! Devices that move little at a time and fail.
+ghost use Rattle.std.specs.Prelude.{◌<◌};
+
+use std::io;
+use std::io::{ErrorKind, Read, Write};
+
+/// What a device does at the call where it breaks.
+#[derive(Clone, Copy, Debug, PartialEq, Eq)]
+pub(super) enum Break {
+    Fails,
+    TakesNone,
+}
+
+/// Reads from memory, at most `most` bytes a call, and fails once `calls` calls went well.
+#[derive(Drop)]
+pub(super) struct WeakReader<'a> {
+    pub(super) rest: &'a [u8],
+    pub(super) most: usize,
+    pub(super) calls: u64,
+    ghost moves: { 0 < most },
+}
+
+impl Read for WeakReader<'_> {
+    ghost use Rattle.std.specs.Prelude.{Some};
+
+    ghost remaining = { λ reader. Some reader.rest.now };
+
+    fn read(&mut self, buf: &mut [u8]) -> io::Result<usize> {
+        if self.calls == 0 {
+            return Err(io::Error::from(ErrorKind::Other));
+        }
+        self.calls -= 1;
+        let count = buf.len().min(self.most);
+        self.rest.read(&mut buf[..count])
+    }
+}
+
+/// Writes to memory, at most `most` bytes a call, and breaks once `calls` calls went well.
+#[derive(Drop)]
+pub(super) struct WeakWriter {
+    pub(super) written: Vec<u8>,
+    pub(super) most: usize,
+    pub(super) calls: u64,
+    pub(super) at_end: Break,
+}
+
+impl Write for WeakWriter {
+    ghost use Rattle.std.specs.Prelude.{Some};
+
+    ghost contents = { λ writer. Some writer.written.items };
+
+    fn write(&mut self, buf: &[u8]) -> io::Result<usize> {
+        if self.calls == 0 {
+            return match self.at_end {
+                Break::Fails => Err(io::Error::from(ErrorKind::Other)),
+                Break::TakesNone => Ok(0),
+            };
+        }
+        self.calls -= 1;
+        let count = buf.len().min(self.most);
+        self.written.write(&buf[..count])
+    }
+
+    fn flush(&mut self) -> io::Result<()> {
+        Ok(())
+    }
+}
+
+/// Gives so many line feeds.
+#[derive(Drop)]
+pub(super) struct Feeds {
+    pub(super) left: usize,
+}
+
+impl Read for Feeds {
+    ghost use Rattle.std.specs.Prelude.{None};
+
+    ghost remaining = { λ _. None };
+
+    fn read(&mut self, buf: &mut [u8]) -> io::Result<usize> {
+        let count = buf.len().min(self.left);
+        for byte in &mut buf[..count] {
+            *byte = b'\n';
+        }
+        self.left -= count;
+        Ok(count)
+    }
+}
