@@ -1,14 +1,15 @@
 //! How a command ends that ran over a list.
-ghost use Rattle.std.specs.Prelude.{◌≡◌, ◌⊎◌, ◌↔◌, IsSome, true};
+ghost use Rattle.std.specs.Prelude.{◌≡◌, ◌⊎◌, ◌↔◌, [], IsSome, false, true};
 ghost use Rattle.std.specs.Result.{result_ok};
 ghost use Rattle.std.specs.Io.KnownBytes.{Keeps};
 ghost use Rattle.afdx_lists.specs.Faults.{fault_line};
+ghost use Rattle.afdx_lists.specs.Gathered.{gathered, held_bytes};
 ghost use Rattle.afdx_lists.specs.Telling.{Tells};
 ghost use Rattle.afdx_lists.specs.Watching.{device_of, has_failed};
 ghost use Rattle.afdx_replay.specs.Commands.{line_of_answer, status_of_answer};
 
 use crate::summary::Summary;
-use afdx_lists::{RunFault, Watched, tell_fault};
+use afdx_lists::{Buffered, RunFault, Watched, tell_fault};
 use std::io::Write;
 
 const DONE: u8 = 0;
@@ -53,21 +54,24 @@ pub fn end<E: Write>(answer: Result<Summary, RunFault>, errors: &mut Watched<E>)
 }
 
 /// Hands over what an output still holds once its command has ended with this status, and gives the
-/// exit status: a failure of this is `device Write`, status 4, where the status was 0. An output
-/// that failed before is not asked.
-pub fn finish<O: Write, E: Write>(
+/// exit status: 0 only where all of it was handed over. A failure of this is `device Write`, status
+/// 4, where the status was 0. An output that failed before is not asked.
+pub fn finish<O: Write + Drop, E: Write>(
     status: u8,
-    output: &mut Watched<O>,
+    output: &mut Watched<Buffered<O>>,
     errors: &mut Watched<E>,
 ) -> u8
+    ensures handed { has_failed output.old ≡ false → result ≡ 0 →
+        held_bytes (device_of output.new) ≡ [] }
     ensures unasked { has_failed output.old ≡ true → (result ≡ status) × (output.new ≡ output.old)
         × (errors.new ≡ errors.old) }
-    ensures kept { Keeps (O.contents (device_of output.old)) (O.contents (device_of output.new)) }
+    ensures kept { Keeps (gathered O.contents (device_of output.old))
+        (gathered O.contents (device_of output.new)) }
     ensures status { ((result ≡ status) × (errors.new ≡ errors.old))
         ⊎ ((status ≡ 0) × (result ≡ 4)
         × Tells E.contents errors.old errors.new (fault_line RunFault.Write)) }
 {
-    if output.failed() || output.flush().is_ok() || status != DONE {
+    if output.failed() || output.hand_over().is_ok() || status != DONE {
         return status;
     }
     let fault = RunFault::Write;

@@ -2,7 +2,7 @@
 
 use super::weak::{Break, WeakWriter};
 use crate::fields::read_bytes;
-use crate::{LineFault, RunFault, Text, Watched, tell_fault, write_text};
+use crate::{Buffered, LineFault, RunFault, Text, Watched, tell_fault, write_text};
 use std::alloc::Global;
 use std::process::Abort;
 use std::test::Fail;
@@ -33,6 +33,22 @@ fn text_is_written_once(rt: HostRuntime) -> Result<(), Fail> {
             assert_eq!(rt; written.len(), length);
         }
     }
+    Ok(())
+}
+
+#[test]
+fn gathered_text_is_handed_over(rt: HostRuntime) -> Result<(), Fail> {
+    let device = WeakWriter {
+        written: Vec::new(rt.alloc()),
+        most: 2,
+        calls: 9,
+        at_end: Break::Fails,
+    };
+    let mut output = Watched::new(Buffered::new(rt.alloc(), 16, device)?);
+    assert!(rt; write_text(&mut output, b"V 1\n").is_ok());
+    assert!(rt; output.hand_over().is_ok());
+    let written = output.into_inner().into_device().written;
+    assert!(rt; written.as_slice() == b"V 1\n".as_slice());
     Ok(())
 }
 
