@@ -1,5 +1,6 @@
 -- The lines of a list, and how a reader takes them from what it holds and what its input has left.
-use Rattle.std.specs.Prelude.{ℕ, ◌==◌, ◌≡◌, ◌<◌, ◌≤◌, ◌+◌, true, false, List, [], ◌∷◌, ◌++◌, length, take, drop, Option, Some, None, ⊤, IfSome, slice_range}
+use Rattle.std.specs.Prelude.{ℕ, ◌==◌, ◌≡◌, ◌<◌, ◌≤◌, ◌+◌, true, false, List, [], ◌∷◌, ◌++◌, length}
+use Rattle.std.specs.Prelude.{take, drop, Option, Some, None, ⊤, IfSome, slice_range}
 use Rattle.std.specs.List.{slice_split, All}
 use Rattle.std.specs.Io.KnownBytes.{Consumes, prepend_known, IsAtEnd}
 use Rattle.afdx_lists.specs.declared.fault.RunFault.{RunFault}

@@ -1,5 +1,7 @@
 //! Lines of a reader, one at a time.
-ghost use Rattle.std.specs.Prelude.{◌≤◌, ◌<◌, ◌≡◌, ◌≢◌, ◌+◌, ◌-◌, ◌++◌, ◌∷◌, [], Ok, Err, true, false, vec_len, length, take, drop, IfOk, OnOk, OnErr, IfErr, IfSome, IfNone};
+ghost use Rattle.std.specs.Prelude.{◌≤◌, ◌<◌, ◌≡◌, ◌≢◌, ◌+◌, ◌-◌, ◌++◌, ◌∷◌, [], Ok, Err, true};
+ghost use Rattle.std.specs.Prelude.{false, vec_len, length, take, drop, IfOk, OnOk, OnErr, IfErr};
+ghost use Rattle.std.specs.Prelude.{IfSome, IfNone};
 ghost use Rattle.std.specs.Io.KnownBytes.{IsAtEnd};
 ghost use Rattle.afdx_lists.specs.Calls.{is_failed_read};
 
@@ -41,7 +43,9 @@ fn new_chunk(alloc: Global) -> Result<Vec<u8>, AllocError>
 }
 
 impl LineReader {
-    ghost use Rattle.afdx_lists.specs.Lines.{unread, latest_line, lines_taken, left, IsHonest, HasNoFeed, IsFirstFeed, TakesLine, TakesBytes, CanStop};
+    ghost use Rattle.afdx_lists.specs.Lines.{unread, latest_line, lines_taken, left, IsHonest};
+    ghost use Rattle.afdx_lists.specs.Lines.{HasNoFeed, IsFirstFeed, TakesLine, TakesBytes};
+    ghost use Rattle.afdx_lists.specs.Lines.{CanStop};
     ghost use Rattle.afdx_lists.specs.Watching.{calls_of, device_of, has_ended, has_failed};
 
     /// A reader that has taken nothing yet.

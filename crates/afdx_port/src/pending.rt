@@ -1,5 +1,8 @@
 //! What a port still has to do: its two queues, and the frame that is being sent.
-ghost use Rattle.std.specs.Prelude.{◌≡◌, ℕ, ◌+◌, ◌-◌, ◌*◌, ◌/◌, ◌<◌, ◌≤◌, ◌^◌, ◌⊎◌, ◌↔◌, [], ◌∷◌, ◌++◌, List, Some, None, IfOk, IfErr, OnOk, OnErr, IsErr, IfSome, OnSome, IfNone, MatchOption, MatchResult, option_copied, slice_get};
+ghost use Rattle.std.specs.Prelude.{◌≡◌, ℕ, ◌+◌, ◌-◌, ◌*◌, ◌/◌, ◌<◌, ◌≤◌, ◌^◌, ◌⊎◌, ◌↔◌, [], ◌∷◌};
+ghost use Rattle.std.specs.Prelude.{◌++◌, List, Some, None, IfOk, IfErr, OnOk, OnErr, IsErr};
+ghost use Rattle.std.specs.Prelude.{IfSome, OnSome, IfNone, MatchOption, MatchResult};
+ghost use Rattle.std.specs.Prelude.{option_copied, slice_get};
 ghost use Rattle.afdx_port.specs.Times.{drain_end, latest_put, longest_slot};
 ghost use Rattle.afdx_frame.specs.declared.link.Priority.{Priority};
 ghost use Rattle.afdx_port.specs.Schedule.{Entry, Turn, is_past, IsNext, IsSchedule, IsLost};
@@ -51,9 +54,11 @@ fn is_too_old(longest_wait: Option<u64>, time: u64, moment: u64) -> bool
 
 impl<T: HasLength> Pending<T> {
     ghost use Rattle.afdx_port.specs.Due.{given_at, IsAfter};
-    ghost use Rattle.afdx_port.specs.Held.{IsByteTime, choice_of, queue_of, due_from, due_of, IsQuiet, frames_held};
+    ghost use Rattle.afdx_port.specs.Held.{IsByteTime, choice_of, queue_of, due_from, due_of};
+    ghost use Rattle.afdx_port.specs.Held.{IsQuiet, frames_held};
     ghost use Rattle.afdx_port.specs.Sound.{ChangesQueue, HasRoom, IsSound};
-    ghost use Rattle.afdx_port.specs.History.{History, no_calls, at, with_put, entry_of, due_at, StandsFor, Gives};
+    ghost use Rattle.afdx_port.specs.History.{History, no_calls, at, with_put, entry_of, due_at};
+    ghost use Rattle.afdx_port.specs.History.{StandsFor, Gives};
 
     pub(crate) fn new(alloc: Global, byte_ns: u64, buffer: u64) -> Result<Pending<T>, AllocError>
         requires rate { IsByteTime byte_ns }

@@ -1,5 +1,7 @@
 //! An output port.
-ghost use Rattle.std.specs.Prelude.{◌≡◌, ℕ, ◌+◌, ◌<◌, ◌≤◌, ◌↔◌, ◌++◌, List, Some, None, IfOk, IfErr, OnOk, OnErr, IsErr, IsTrue, IfSome, IfNone, MatchOption, MatchResult};
+ghost use Rattle.std.specs.Prelude.{◌≡◌, ℕ, ◌+◌, ◌<◌, ◌≤◌, ◌↔◌, ◌++◌, List, Some, None, IfOk};
+ghost use Rattle.std.specs.Prelude.{IfErr, OnOk, OnErr, IsErr, IsTrue, IfSome, IfNone, MatchOption};
+ghost use Rattle.std.specs.Prelude.{MatchResult};
 ghost use Rattle.afdx_port.specs.Times.{drain_end, latest_put};
 ghost use Rattle.afdx_port.specs.Schedule.{Turn, IsNext, AreTurns, IsSchedule, IsLost};
 ghost use Rattle.afdx_port.specs.ScheduleOf.{AreInOrder, schedule_of};
@@ -57,7 +59,8 @@ impl<T: HasLength> Port<T> {
     ghost use Rattle.afdx_port.specs.Due.{given_at, IsAfter};
     ghost use Rattle.afdx_port.specs.Ports.{order_at};
     ghost use Rattle.afdx_port.specs.Held.{IsByteTime, due_of, IsQuiet, last_time, frames_held};
-    ghost use Rattle.afdx_port.specs.History.{History, no_calls, at, with_put, entry_of, due_at, StandsFor, Gives};
+    ghost use Rattle.afdx_port.specs.History.{History, no_calls, at, with_put, entry_of, due_at};
+    ghost use Rattle.afdx_port.specs.History.{StandsFor, Gives};
 
     /// An idle port at time 0, whose line takes `byte_ns` for a byte: 8, 80 or 800 ns.
     /// The frames that wait may have `buffer` bytes together, 64 to 4,194,304; there is room for

@@ -1,5 +1,6 @@
 //! A sending end system, as its callers see it.
-ghost use Rattle.std.specs.Prelude.{◌≡◌, ℕ, ◌+◌, ◌<◌, ◌≤◌, IfOk, IfErr, OnOk, OnErr, IfSome, IfNone, MatchOption, length, slice_get, Some};
+ghost use Rattle.std.specs.Prelude.{◌≡◌, ℕ, ◌+◌, ◌<◌, ◌≤◌, IfOk, IfErr, OnOk, OnErr, IfSome};
+ghost use Rattle.std.specs.Prelude.{IfNone, MatchOption, length, slice_get, Some};
 ghost use Rattle.afdx_port.specs.Times.{drain_end};
 
 use crate::build::build;
@@ -46,7 +47,9 @@ impl Sender {
     ghost use Rattle.afdx_send.specs.Frames.{Frame};
     ghost use Rattle.afdx_send.specs.Laws.{EachEmitsLawfully};
     ghost use Rattle.afdx_send.specs.Releases.{Submission};
-    ghost use Rattle.afdx_send.specs.Sender.{History, no_calls, at, with_submission, IsNextIn, IsQuiet, StandsFor, Emits, AreAllEmitted, IsTaken, IsRefused, frames_held, last_time, submission};
+    ghost use Rattle.afdx_send.specs.Sender.{History, no_calls, at, with_submission, IsNextIn};
+    ghost use Rattle.afdx_send.specs.Sender.{IsQuiet, StandsFor, Emits, AreAllEmitted, IsTaken};
+    ghost use Rattle.afdx_send.specs.Sender.{IsRefused, frames_held, last_time, submission};
 
     /// The sender of a system of these tables, with nothing submitted, at time 0.
     /// The error says that memory was refused.

@@ -81,7 +81,8 @@ fn sender(alloc: Global, text: &str, system: u8) -> Result<Sender, Fail>
     Ok(Sender::new(alloc, &tables, SystemId(system))?)
 }
 
-/// The next emission by then. Where memory is refused, the call is made again: the emission is left to be taken.
+/// The next emission by then. Where memory is refused, the call is made again: the emission is left
+/// to be taken.
 fn emit(sender: &mut Sender, until: u64) -> Result<Option<Emission>, AllocError>
     requires clock { last_time sender.old ≤ until }
     ensures clock { last_time sender.new ≡ until }

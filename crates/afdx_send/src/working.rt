@@ -1,5 +1,7 @@
 //! What a sender does with its links and its output port.
-ghost use Rattle.std.specs.Prelude.{◌≡◌, ℕ, ◌+◌, ◌^◌, ◌<◌, ◌≤◌, ◌↔◌, Option, Some, None, IfSome, IfNone, IfOk, IfErr, OnOk, OnErr, MatchOption, length, slice_get, sum_by, vec_len};
+ghost use Rattle.std.specs.Prelude.{◌≡◌, ℕ, ◌+◌, ◌^◌, ◌<◌, ◌≤◌, ◌↔◌, Option, Some, None, IfSome};
+ghost use Rattle.std.specs.Prelude.{IfNone, IfOk, IfErr, OnOk, OnErr, MatchOption, length};
+ghost use Rattle.std.specs.Prelude.{slice_get, sum_by, vec_len};
 ghost use Rattle.afdx_port.specs.Times.{drain_end};
 
 use crate::agenda::Agenda;
@@ -44,7 +46,11 @@ impl Working {
     ghost use Rattle.afdx_send.specs.Frames.{Frame, facts, address_with};
     ghost use Rattle.afdx_send.specs.Lines.{CanTake};
     ghost use Rattle.afdx_send.specs.Regulator.{sub_count, submission_of, next_time_of};
-    ghost use Rattle.afdx_send.specs.Sender.{History, at, with_submission, submission, sending_of, IsNextIn, IsPlaceOf, IsTaken, IsRefused, IsSound, IsQuiet, IsIdle, StandsFor, Emits, AreAllEmitted, nexts_of, messages_held, frames_held, ready_count, HoldsMore, HoldsSame, last_time};
+    ghost use Rattle.afdx_send.specs.Sender.{History, at, with_submission, submission, sending_of};
+    ghost use Rattle.afdx_send.specs.Sender.{IsNextIn, IsPlaceOf, IsTaken, IsRefused, IsSound};
+    ghost use Rattle.afdx_send.specs.Sender.{IsQuiet, IsIdle, StandsFor, Emits, AreAllEmitted};
+    ghost use Rattle.afdx_send.specs.Sender.{nexts_of, messages_held, frames_held, ready_count};
+    ghost use Rattle.afdx_send.specs.Sender.{HoldsMore, HoldsSame, last_time};
 
     /// The next release before this time, and its link's place.
     fn next_release(&self, until: u64) -> Option<(u64, usize)>
