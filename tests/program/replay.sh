@@ -326,8 +326,8 @@ closed_case 'replay into a closed pipe, many lines' $'device Write\n' replay "$g
 sed 's/^buffer = 252/buffer = 4194304/' "$good" >"$work/large.toml"
 case_of 'the largest buffers' 0 "$(lines_of "V 1 A accept / D 1 6720 A 3 / M 6720 s3 1 $hello")"$'\n' '' \
     replay "$work/large.toml" "$work/one.list"
-limited() { (ulimit -v 24576 && exec "$program" "$@"); }
-tell 'the largest buffers in 24 MiB' "$(
+limited() { (ulimit -v 12288 && exec "$program" "$@"); }
+tell 'the largest buffers in 12 MiB' "$(
     status=0
     limited replay "$work/large.toml" "$work/one.list" >"$work/out" 2>"$work/err" || status=$?
     has_status 4

@@ -1,5 +1,6 @@
 -- No line is false exactly where the tables are admitted.
-use Rattle.std.proofs.Common.{◌≡◌, inl, inr, ℕ, zero, suc, ◌+◌, ◌-◌, ◌*◌, ◌<◌, ◌≤◌, Bool, true, false, nat_le, List, [], ◌∷◌, ◌++◌, length, map, cond, Option}
+use Rattle.std.proofs.Common.{◌≡◌, inl, inr, ℕ, zero, suc, ◌+◌, ◌-◌, ◌*◌, ◌<◌, ◌≤◌, Bool, true}
+use Rattle.std.proofs.Common.{false, nat_le, List, [], ◌∷◌, ◌++◌, length, map, cond, Option}
 use Rattle.std.proofs.Common.{Some, None, if◌then◌else◌, slice_get, refl, sym, ap, subst, ◌∙◌, arith}
 use Rattle.std.specs.List.{AllByRecursion}
 use Rattle.std.specs.Option.{option_map_or}
@@ -13,17 +14,22 @@ use Rattle.afdx_frame.specs.Regulation.{byte_units}
 use Rattle.afdx_config.specs.Rows.{SystemRow, LinkRow, Rows}
 use Rattle.afdx_config.specs.Lawful.{IsLawful, IsSystem, IsLink}
 use Rattle.afdx_config.specs.Reading.{system_at_port}
-use Rattle.afdx_frame.specs.Flows.{Flow, is_class, of_class, burst, load, high_wait, low_wait, high_load, IsPortAdmitted}
+use Rattle.afdx_frame.specs.Flows.{Flow, is_class, of_class, burst, load, high_wait, low_wait}
+use Rattle.afdx_frame.specs.Flows.{high_load, IsPortAdmitted}
 use Rattle.afdx_config.specs.Admission.{IsAdmitted, byte_ns, links_from, flows_to, sender_jitter}
 use Rattle.afdx_config.proofs.EachRow.{all_at}
 use Rattle.afdx_config.proofs.LookUps.{each_row-found}
 use Rattle.afdx_admit.specs.declared.fault.AdmitFault.{AdmitFault}
-use Rattle.afdx_admit.specs.declared.fault.AdmitFault.TheVariants.{Overload, Buffer, HighLatency, LowLatency, SenderJitter, LinkJitter, Skew}
-use Rattle.afdx_admit.specs.Lines.{Line, line, first_false, each_from, lines, Output, output_to, output_lines, port_lines, sender_lines, link_lines}
+use Rattle.afdx_admit.specs.declared.fault.AdmitFault.TheVariants.{Overload, Buffer, HighLatency}
+use Rattle.afdx_admit.specs.declared.fault.AdmitFault.TheVariants.{LowLatency, SenderJitter}
+use Rattle.afdx_admit.specs.declared.fault.AdmitFault.TheVariants.{LinkJitter, Skew}
+use Rattle.afdx_admit.specs.Lines.{Line, line, first_false, each_from, lines, LoadedOutput}
+use Rattle.afdx_admit.specs.Lines.{loaded_output_to, output_lines, port_lines}
+use Rattle.afdx_admit.specs.Lines.{sender_lines, link_lines}
 use Rattle.afdx_admit.specs.Lines.{lines_of_link, jitter_at, high_line, low_line, high_bound_of, buffer_need_of}
 use Rattle.afdx_admit.proofs.FirstFalse.{first_false-skip, first_false-nil, first_false-append, le-true, true-le}
 use Rattle.afdx_admit.proofs.OutputLemmas.{late_line}
-use Rattle.afdx_admit.proofs.Outputs.{output_at-some, output_at-none, found_within}
+use Rattle.afdx_admit.proofs.Outputs.{loaded_output_at-some, loaded_output_at-none, found_within}
 use Rattle.afdx_admit.proofs.Taken.{at_place}
 
 -- ---- lists of lines
@@ -53,7 +59,8 @@ append_holds (x ∷ xs) ys h =
 holds_append : (xs ys : List Line) → first_false xs ≡ None → first_false ys ≡ None → first_false (xs ++ ys) ≡ None
 holds_append xs ys front back = first_false-append xs ys front ∙ back
 
-each_holds : (f : ℕ → List Line) (from count : ℕ) → first_false (each_from f from count) ≡ None → (k : ℕ) → from ≤ k → k < from + count →
+each_holds : (f : ℕ → List Line) (from count : ℕ) → first_false (each_from f from count) ≡ None
+    → (k : ℕ) → from ≤ k → k < from + count →
     first_false (f k) ≡ None
 unfolding each_from
 each_holds f from zero h k low high = absurd (omega (arith, low, high))
@@ -93,9 +100,11 @@ module _ (class : Priority) (wait left : ℕ) (fault : ℕ → AdmitFault) where
   abbrev late_lines_of : List Flow → List Line
   late_lines_of fs = map (late_line wait left fault) fs
 
-  soon_cons : (f : Flow) (fs : List Flow) → (first_false (late_lines_of (of_class class fs)) ≡ None → AllByRecursion IsSoon fs) → (b : Bool) →
+  soon_cons : (f : Flow) (fs : List Flow)
+      → (first_false (late_lines_of (of_class class fs)) ≡ None → AllByRecursion IsSoon fs) → (b : Bool) →
       is_class class f.priority ≡ b →
-      first_false (late_lines_of (cond b (f ∷ of_class class fs) (of_class class fs))) ≡ None → IsSoon f × AllByRecursion IsSoon fs
+      first_false (late_lines_of (cond b (f ∷ of_class class fs) (of_class class fs))) ≡ None
+      → IsSoon f × AllByRecursion IsSoon fs
   soon_cons f fs later true e h =
       let both = cons_holds (late_line wait left fault f) (late_lines_of (of_class class fs)) h in
       (λ _. true-le wait (f.latency * left) both.one, later both.rest)
@@ -105,10 +114,13 @@ module _ (class : Priority) (wait left : ℕ) (fault : ℕ → AdmitFault) where
   soon [] h = tt
   soon (f ∷ fs) h = soon_cons f fs (soon fs) (is_class class f.priority) refl h
 
-  lines_cons : (f : Flow) (fs : List Flow) → IsSoon f → first_false (late_lines_of (of_class class fs)) ≡ None → (b : Bool) → is_class class f.priority ≡ b →
+  lines_cons : (f : Flow) (fs : List Flow) → IsSoon f
+      → first_false (late_lines_of (of_class class fs)) ≡ None → (b : Bool)
+      → is_class class f.priority ≡ b →
       first_false (late_lines_of (cond b (f ∷ of_class class fs) (of_class class fs))) ≡ None
   lines_cons f fs here later true e =
-      holds_cons (late_line wait left fault f) (late_lines_of (of_class class fs)) (le-true wait (f.latency * left) (here (is_one class f.priority e))) later
+      holds_cons (late_line wait left fault f) (late_lines_of (of_class class fs))
+      (le-true wait (f.latency * left) (here (is_one class f.priority e))) later
   lines_cons f fs here later false e = later
 
   soon_lines : (fs : List Flow) → AllByRecursion IsSoon fs → first_false (late_lines_of (of_class class fs)) ≡ None
@@ -117,32 +129,37 @@ module _ (class : Priority) (wait left : ℕ) (fault : ℕ → AdmitFault) where
 
 -- ---- an output port
 
-abbrev high_fault : ℕ → Output → ℕ → AdmitFault
+abbrev high_fault : ℕ → LoadedOutput → ℕ → AdmitFault
 high_fault port o v = HighLatency port (record { 0 = v }) (high_bound_of o)
 
-abbrev low_fault : ℕ → Output → ℕ → AdmitFault
-low_fault port o v = LowLatency port (record { 0 = v }) (div_ceil (low_wait o.byte_ns o.flows) (byte_units - high_load o.byte_ns o.flows))
+abbrev low_fault : ℕ → LoadedOutput → ℕ → AdmitFault
+low_fault port o v = LowLatency port (record { 0 = v })
+    (div_ceil (low_wait o.byte_ns o.flows) (byte_units - high_load o.byte_ns o.flows))
 
-output_admitted : (buffer port : ℕ) (o : Output) → first_false (output_lines buffer port o) ≡ None → IsPortAdmitted o.byte_ns buffer o.flows
+output_admitted : (buffer port : ℕ) (o : LoadedOutput) → first_false (output_lines buffer port o)
+    ≡ None → IsPortAdmitted o.byte_ns buffer o.flows
 unfolding output_lines
 output_admitted buffer port o h =
     let left = byte_units - high_load o.byte_ns o.flows in
     let highs = map (high_line port o) (of_class High o.flows) in
     let lows = map (low_line port o) (of_class Low o.flows) in
     let buffer_line = line (nat_le (burst o.flows) (buffer * byte_units)) (Buffer port (buffer_need_of o)) in
-    let first = cons_holds (line (nat_le (load o.byte_ns o.flows) byte_units) (Overload port)) (buffer_line ∷ (highs ++ lows)) h in
+    let first = cons_holds (line (nat_le (load o.byte_ns o.flows) byte_units) (Overload port))
+    (buffer_line ∷ (highs ++ lows)) h in
     let second = cons_holds buffer_line (highs ++ lows) first.rest in
     let classes = append_holds highs lows second.rest in
     record {
       no_overload = true-le (load o.byte_ns o.flows) byte_units first.one;
       fits_buffer = true-le (burst o.flows) (buffer * byte_units) second.one;
-      high_in_time = All-from_recursion (IsSoon High (high_wait o.byte_ns o.flows) byte_units (high_fault port o)) o.flows
+      high_in_time = All-from_recursion
+          (IsSoon High (high_wait o.byte_ns o.flows) byte_units (high_fault port o)) o.flows
           (soon High (high_wait o.byte_ns o.flows) byte_units (high_fault port o) o.flows classes.0);
       low_in_time = All-from_recursion (IsSoon Low (low_wait o.byte_ns o.flows) left (low_fault port o)) o.flows
           (soon Low (low_wait o.byte_ns o.flows) left (low_fault port o) o.flows classes.1);
     }
 
-admitted_output : (buffer port : ℕ) (o : Output) → IsPortAdmitted o.byte_ns buffer o.flows → first_false (output_lines buffer port o) ≡ None
+admitted_output : (buffer port : ℕ) (o : LoadedOutput) → IsPortAdmitted o.byte_ns buffer o.flows
+    → first_false (output_lines buffer port o) ≡ None
 unfolding output_lines
 admitted_output buffer port o h =
     let left = byte_units - high_load o.byte_ns o.flows in
@@ -154,50 +171,63 @@ admitted_output buffer port o h =
     (holds_cons buffer_line (highs ++ lows) (le-true (burst o.flows) (buffer * byte_units) h.fits_buffer)
     (holds_append highs lows
     (soon_lines High (high_wait o.byte_ns o.flows) byte_units (high_fault port o) o.flows
-    (recursion_from_All (IsSoon High (high_wait o.byte_ns o.flows) byte_units (high_fault port o)) o.flows h.high_in_time))
+    (recursion_from_All (IsSoon High (high_wait o.byte_ns o.flows) byte_units (high_fault port o))
+    o.flows h.high_in_time))
     (soon_lines Low (low_wait o.byte_ns o.flows) left (low_fault port o) o.flows
     (recursion_from_All (IsSoon Low (low_wait o.byte_ns o.flows) left (low_fault port o)) o.flows h.low_in_time))))
 
 -- ---- all lines
 
 module _ (t : Rows) (lawful : IsLawful t) where
-  jitter_is : (place : ℕ) (s : SystemRow) → slice_get t.systems place ≡ Some s → jitter_at t place ≡ sender_jitter (byte_ns s) (links_from t.links place)
+  jitter_is : (place : ℕ) (s : SystemRow) → slice_get t.systems place ≡ Some s
+      → jitter_at t place ≡ sender_jitter (byte_ns s) (links_from t.links place)
   unfolding jitter_at
-  jitter_is place s at = ap (λ o. option_map_or (λ (r : SystemRow). sender_jitter (byte_ns r) (links_from t.links place)) o 0) at
+  jitter_is place s at = ap
+      (λ o. option_map_or (λ (r : SystemRow). sender_jitter (byte_ns r) (links_from t.links place))
+      o 0) at
 
   port_admitted : (i : ℕ) (s : SystemRow) → slice_get t.systems i ≡ Some s → first_false (port_lines t s.port) ≡ None →
       IsPortAdmitted (byte_ns s) t.buffer (flows_to t.links i)
   unfolding port_lines
   port_admitted i s at h =
       let found = (each_row-found t lawful).by_port i s at in
-      let is = output_at-some t s.port i s found at in
-      output_admitted t.buffer s.port (output_to t i s) (sym (ap (λ o. first_false (option_map_or (output_lines t.buffer s.port) o [])) is) ∙ h)
+      let is = loaded_output_at-some t s.port i s found at in
+      output_admitted t.buffer s.port (loaded_output_to t i s)
+      (sym (ap (λ o. first_false (option_map_or (output_lines t.buffer s.port) o [])) is) ∙ h)
 
-  admitted_port : IsAdmitted t → (port : ℕ) → (o : Option ℕ) → system_at_port t.systems port ≡ o → first_false (port_lines t port) ≡ None
+  admitted_port : IsAdmitted t → (port : ℕ) → (o : Option ℕ) → system_at_port t.systems port ≡ o
+      → first_false (port_lines t port) ≡ None
   unfolding port_lines
-  admitted_port admitted port None e = ap (λ o. first_false (option_map_or (output_lines t.buffer port) o [])) (output_at-none t port e) ∙ first_false-nil
+  admitted_port admitted port None e =
+      ap (λ o. first_false (option_map_or (output_lines t.buffer port) o []))
+      (loaded_output_at-none t port e) ∙ first_false-nil
   admitted_port admitted port (Some place) e =
       let s = at_place t.systems place (found_within t port place e) in
-      ap (λ o. first_false (option_map_or (output_lines t.buffer port) o [])) (output_at-some t port place s.0 e s.1) ∙ admitted_output t.buffer port
-      (output_to t place s.0) (admitted.ports place s.0 s.1)
+      ap (λ o. first_false (option_map_or (output_lines t.buffer port) o []))
+      (loaded_output_at-some t port place s.0 e s.1)
+      ∙ admitted_output t.buffer port
+      (loaded_output_to t place s.0) (admitted.ports place s.0 s.1)
 
   link_holds : (i : ℕ) (l : LinkRow) → slice_get t.links i ≡ Some l → first_false (link_lines t i) ≡ None →
       (jitter_at t l.from ≤ 1000 * l.jitter_us) × (l.latency_us ≤ l.skew_us)
   unfolding link_lines
   link_holds i l at h =
       let skew_line = line (nat_le l.latency_us l.skew_us) (Skew (record { 0 = l.vl })) in
-      let first = cons_holds (line (nat_le (jitter_at t l.from) (1000 * l.jitter_us)) (LinkJitter (record { 0 = l.vl }) (jitter_at t l.from))) (skew_line ∷ [])
+      let first = cons_holds (line (nat_le (jitter_at t l.from) (1000 * l.jitter_us))
+      (LinkJitter (record { 0 = l.vl }) (jitter_at t l.from))) (skew_line ∷ [])
       (sym (ap (λ o. first_false (option_map_or (lines_of_link t) o [])) at) ∙ h) in
       let second = cons_holds skew_line [] first.rest in
       (true-le (jitter_at t l.from) (1000 * l.jitter_us) first.one, true-le l.latency_us l.skew_us second.one)
 
-  holds_link : (i : ℕ) (l : LinkRow) → slice_get t.links i ≡ Some l → jitter_at t l.from ≤ 1000 * l.jitter_us → l.latency_us ≤ l.skew_us →
+  holds_link : (i : ℕ) (l : LinkRow) → slice_get t.links i ≡ Some l
+      → jitter_at t l.from ≤ 1000 * l.jitter_us → l.latency_us ≤ l.skew_us →
       first_false (link_lines t i) ≡ None
   unfolding link_lines
   holds_link i l at jitter skew =
       let skew_line = line (nat_le l.latency_us l.skew_us) (Skew (record { 0 = l.vl })) in
       ap (λ o. first_false (option_map_or (lines_of_link t) o [])) at
-      ∙ holds_cons (line (nat_le (jitter_at t l.from) (1000 * l.jitter_us)) (LinkJitter (record { 0 = l.vl }) (jitter_at t l.from))) (skew_line ∷ [])
+      ∙ holds_cons (line (nat_le (jitter_at t l.from) (1000 * l.jitter_us))
+      (LinkJitter (record { 0 = l.vl }) (jitter_at t l.from))) (skew_line ∷ [])
       (le-true (jitter_at t l.from) (1000 * l.jitter_us) jitter)
       (holds_cons skew_line [] (le-true l.latency_us l.skew_us skew) first_false-nil)
 
@@ -208,7 +238,8 @@ module _ (t : Rows) (lawful : IsLawful t) where
 
   holds_sender : (i : ℕ) → jitter_at t i ≤ 500000 → first_false (sender_lines t i) ≡ None
   unfolding sender_lines
-  holds_sender i h = holds_cons (line (nat_le (jitter_at t i) 500000) (SenderJitter (record { 0 = i }) (jitter_at t i))) []
+  holds_sender i h = holds_cons
+      (line (nat_le (jitter_at t i) 500000) (SenderJitter (record { 0 = i }) (jitter_at t i))) []
       (le-true (jitter_at t i) 500000 h) first_false-nil
 
   pub admitted_from : first_false (lines t) ≡ None → IsAdmitted t
@@ -216,7 +247,8 @@ module _ (t : Rows) (lawful : IsLawful t) where
   admitted_from h =
       let front = append_holds (each_from (port_lines t) 1 24)
       (each_from (sender_lines t) 0 (length t.systems) ++ each_from (link_lines t) 0 (length t.links)) h in
-      let back = append_holds (each_from (sender_lines t) 0 (length t.systems)) (each_from (link_lines t) 0 (length t.links)) front.1 in
+      let back = append_holds (each_from (sender_lines t) 0 (length t.systems))
+      (each_from (link_lines t) 0 (length t.links)) front.1 in
       record {
         ports = λ i s at.
             let row = all_at (IsSystem t.profile) t.systems i s lawful.systems.each at in
@@ -228,16 +260,19 @@ module _ (t : Rows) (lawful : IsLawful t) where
         jitters = λ i l s at from.
             let within = slice_get_within t.links i l at in
             subst (λ n. n ≤ 1000 * l.jitter_us) (jitter_is l.from s from)
-            (link_holds i l at (each_holds (link_lines t) 0 (length t.links) back.1 i (omega arith) (omega (arith, within)))).0;
+            (link_holds i l at (each_holds (link_lines t) 0 (length t.links) back.1 i (omega arith)
+            (omega (arith, within)))).0;
         skews = λ i l at.
             let within = slice_get_within t.links i l at in
-            (link_holds i l at (each_holds (link_lines t) 0 (length t.links) back.1 i (omega arith) (omega (arith, within)))).1;
+            (link_holds i l at (each_holds (link_lines t) 0 (length t.links) back.1 i (omega arith)
+            (omega (arith, within)))).1;
       }
 
   pub from_admitted : IsAdmitted t → first_false (lines t) ≡ None
   unfolding lines
   from_admitted admitted =
-      holds_append (each_from (port_lines t) 1 24) (each_from (sender_lines t) 0 (length t.systems) ++ each_from (link_lines t) 0 (length t.links))
+      holds_append (each_from (port_lines t) 1 24)
+      (each_from (sender_lines t) 0 (length t.systems) ++ each_from (link_lines t) 0 (length t.links))
       (holds_each (port_lines t) 1 24 (λ k low high. admitted_port admitted k (system_at_port t.systems k) refl))
       (holds_append (each_from (sender_lines t) 0 (length t.systems)) (each_from (link_lines t) 0 (length t.links))
       (holds_each (sender_lines t) 0 (length t.systems) (λ k low high.
@@ -247,5 +282,6 @@ module _ (t : Rows) (lawful : IsLawful t) where
       let l = at_place t.links k (omega (arith, high)) in
       let row = all_at (IsLink (length t.systems)) t.links k l.0 lawful.links.each l.1 in
       let s = at_place t.systems l.0.from row.from in
-      holds_link k l.0 l.1 (subst (λ n. n ≤ 1000 * l.0.jitter_us) (sym (jitter_is l.0.from s.0 s.1)) (admitted.jitters k l.0 s.0 l.1 s.1))
+      holds_link k l.0 l.1 (subst (λ n. n ≤ 1000 * l.0.jitter_us) (sym (jitter_is l.0.from s.0 s.1))
+      (admitted.jitters k l.0 s.0 l.1 s.1))
       (admitted.skews k l.0 l.1))))

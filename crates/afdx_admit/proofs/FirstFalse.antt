@@ -1,6 +1,7 @@
 -- The first false line of several, one after the other.
 use Rattle.std.proofs.lemmas.Bool.Decides.{nat_tests}
-use Rattle.std.proofs.Common.{◌≡◌, ℕ, zero, suc, ◌+◌, ◌-◌, ◌<◌, ◌≤◌, nat_le, Bool, true, false, List, [], ◌∷◌, ◌++◌, Option, Some, None, if◌then◌else◌, refl}
+use Rattle.std.proofs.Common.{◌≡◌, ℕ, zero, suc, ◌+◌, ◌-◌, ◌<◌, ◌≤◌, nat_le, Bool, true, false}
+use Rattle.std.proofs.Common.{List, [], ◌∷◌, ◌++◌, Option, Some, None, if◌then◌else◌, refl}
 use Rattle.std.proofs.Common.{sym, ap, ◌∙◌, arith}
 use Rattle.afdx_admit.specs.declared.fault.AdmitFault.{AdmitFault}
 use Rattle.afdx_admit.specs.Lines.{Line, first_false, each_from}
@@ -22,12 +23,14 @@ unfolding first_false
 first_false-append [] ys h = refl
 first_false-append (x ∷ xs) ys h = by x.holds refl h (first_false-append xs ys)
   where
-    by : (b : Bool) → x.holds ≡ b → (if b then first_false xs else Some x.fault) ≡ None → (first_false xs ≡ None → first_false (xs ++ ys) ≡ first_false ys) →
+    by : (b : Bool) → x.holds ≡ b → (if b then first_false xs else Some x.fault) ≡ None
+        → (first_false xs ≡ None → first_false (xs ++ ys) ≡ first_false ys) →
         first_false (x ∷ (xs ++ ys)) ≡ first_false ys
     by true e h later = ap (λ b. if b then first_false (xs ++ ys) else Some x.fault) e ∙ later h
     by false e h later = absurd (cc h)
 
-pub first_false-before : (xs ys : List Line) (fault : AdmitFault) → first_false xs ≡ Some fault → first_false (xs ++ ys) ≡ Some fault
+pub first_false-before : (xs ys : List Line) (fault : AdmitFault) → first_false xs ≡ Some fault
+    → first_false (xs ++ ys) ≡ Some fault
 unfolding first_false
 first_false-before [] ys fault h = absurd (cc h)
 first_false-before (x ∷ xs) ys fault h = by x.holds refl h (first_false-before xs ys fault)
@@ -42,10 +45,16 @@ pub record IsSoFar (lines_of : ℕ → List Line) (place end : ℕ) (all : Optio
   pub rest : (count : ℕ) → place + count ≡ end → first_false (each_from lines_of place count) ≡ all
 
 module _ (lines_of : ℕ → List Line) where
-  pub so_far-start : (from count end : ℕ) → from + count ≡ end → IsSoFar lines_of from end (first_false (each_from lines_of from count))
-  so_far-start from count end e = record { rest = λ n h. let same : n ≡ count = omega arith in ap (λ k. first_false (each_from lines_of from k)) same }
+  pub so_far-start : (from count end : ℕ) → from + count ≡ end
+      → IsSoFar lines_of from end (first_false (each_from lines_of from count))
+  so_far-start from count end e =
+      record {
+        rest = λ n h. let same : n ≡ count = omega arith in
+            ap (λ k. first_false (each_from lines_of from k)) same;
+      }
 
-  pub so_far-next : (place end : ℕ) (all : Option AdmitFault) → IsSoFar lines_of place end all → first_false (lines_of place) ≡ None →
+  pub so_far-next : (place end : ℕ) (all : Option AdmitFault) → IsSoFar lines_of place end all
+      → first_false (lines_of place) ≡ None →
       IsSoFar lines_of (place + 1) end all
   unfolding each_from
   so_far-next place end all h none = record {
@@ -53,7 +62,8 @@ module _ (lines_of : ℕ → List Line) where
         sym (first_false-append (lines_of place) (each_from lines_of (place + 1) n) none) ∙ h.rest (suc n) e';
   }
 
-  pub so_far-found : (place end : ℕ) (all : Option AdmitFault) (fault : AdmitFault) → IsSoFar lines_of place end all → place < end →
+  pub so_far-found : (place end : ℕ) (all : Option AdmitFault) (fault : AdmitFault)
+      → IsSoFar lines_of place end all → place < end →
       first_false (lines_of place) ≡ Some fault → all ≡ Some fault
   unfolding each_from
   so_far-found place end all fault h within found =

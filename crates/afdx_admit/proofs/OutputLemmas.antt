@@ -1,5 +1,6 @@
 -- The first false line of an output port.
-use Rattle.std.proofs.Common.{length, ◌≡◌, ℕ, ◌+◌, ◌-◌, ◌*◌, ◌<◌, ◌≤◌, ◌⊎◌, inl, inr, Bool, true, false, nat_le, List, [], ◌∷◌, ◌++◌, map, cond, Option, Some}
+use Rattle.std.proofs.Common.{length, ◌≡◌, ℕ, ◌+◌, ◌-◌, ◌*◌, ◌<◌, ◌≤◌, ◌⊎◌, inl, inr, Bool, true}
+use Rattle.std.proofs.Common.{false, nat_le, List, [], ◌∷◌, ◌++◌, map, cond, Option, Some}
 use Rattle.std.proofs.Common.{None, if◌then◌else◌, refl, ap, ◌∙◌, arith}
 use Rattle.std.specs.Int.{div_ceil}
 use Rattle.std.specs.List.{AllByRecursion, Contains}
@@ -12,13 +13,15 @@ use Rattle.afdx_frame.specs.Regulation.{byte_units, fill_rate}
 use Rattle.afdx_config.specs.Rows.{LinkRow, is_to}
 use Rattle.afdx_config.specs.Lawful.{IsLink}
 use Rattle.afdx_frame.specs.Flows.{Flow, is_class, of_class, burst, load, high_wait, low_wait, high_load}
-use Rattle.afdx_config.specs.Flows.{flow_of}
+use Rattle.afdx_config.specs.Flows.{flow_of_link}
 use Rattle.afdx_config.specs.Admission.{flows_to, links_to}
 use Rattle.afdx_admit.specs.declared.fault.AdmitFault.{AdmitFault}
 use Rattle.afdx_admit.specs.declared.fault.AdmitFault.TheVariants.{Overload, Buffer, HighLatency, LowLatency}
-use Rattle.afdx_admit.specs.Lines.{Line, line, first_false, Output, output_lines, high_line, low_line, buffer_need_of, high_bound_of}
+use Rattle.afdx_admit.specs.Lines.{Line, line, first_false, LoadedOutput, output_lines, high_line}
+use Rattle.afdx_admit.specs.Lines.{low_line, buffer_need_of, high_bound_of}
 use Rattle.afdx_admit.specs.Late.{first_late}
-use Rattle.afdx_admit.proofs.FirstFalse.{first_false-skip, first_false-stop, first_false-append, first_false-before, le-true, le-false}
+use Rattle.afdx_admit.proofs.FirstFalse.{first_false-skip, first_false-stop, first_false-append}
+use Rattle.afdx_admit.proofs.FirstFalse.{first_false-before, le-true, le-false}
 use Rattle.afdx_admit.proofs.Small.{rate_some}
 
 -- the lines of flows that may be late
@@ -34,9 +37,10 @@ module _ (wait left : ℕ) (fault : ℕ → AdmitFault) where
   late_lines : (fs : List Flow) → first_false (map late_line fs) ≡ option_map fault (first_late wait left fs)
   unfolding first_false first_late
   late_lines [] = refl
-  late_lines (f ∷ fs) = late_by (nat_le wait (f.latency * left)) f.vl (first_late wait left fs) (first_false (map late_line fs)) (late_lines fs)
+  late_lines (f ∷ fs) = late_by (nat_le wait (f.latency * left)) f.vl (first_late wait left fs)
+      (first_false (map late_line fs)) (late_lines fs)
 
-module _ (buffer port : ℕ) (o : Output) where
+module _ (buffer port : ℕ) (o : LoadedOutput) where
   abbrev high_fault : ℕ → AdmitFault
   high_fault v = HighLatency port (record { 0 = v }) (high_bound_of o)
 
@@ -72,25 +76,34 @@ module _ (buffer port : ℕ) (o : Output) where
 
   pub overload : byte_units < load o.byte_ns o.flows → first_false (output_lines buffer port o) ≡ Some (Overload port)
   unfolding output_lines
-  overload over = first_false-stop load_line (buffer_line ∷ (highs ++ lows)) (le-false (load o.byte_ns o.flows) byte_units over)
+  overload over = first_false-stop load_line (buffer_line ∷ (highs ++ lows))
+      (le-false (load o.byte_ns o.flows) byte_units over)
 
   module _ (fits : load o.byte_ns o.flows ≤ byte_units) where
     after_load : first_false (output_lines buffer port o) ≡ first_false (buffer_line ∷ (highs ++ lows))
     unfolding output_lines
-    after_load = first_false-skip load_line (buffer_line ∷ (highs ++ lows)) (le-true (load o.byte_ns o.flows) byte_units fits)
+    after_load = first_false-skip load_line (buffer_line ∷ (highs ++ lows))
+        (le-true (load o.byte_ns o.flows) byte_units fits)
 
-    pub short_buffer : buffer * byte_units < burst o.flows → first_false (output_lines buffer port o) ≡ Some (Buffer port (buffer_need_of o))
-    short_buffer over = after_load ∙ first_false-stop buffer_line (highs ++ lows) (le-false (burst o.flows) (buffer * byte_units) over)
+    pub short_buffer : buffer * byte_units < burst o.flows
+        → first_false (output_lines buffer port o) ≡ Some (Buffer port (buffer_need_of o))
+    short_buffer over = after_load
+        ∙ first_false-stop buffer_line (highs ++ lows)
+        (le-false (burst o.flows) (buffer * byte_units) over)
 
     module _ (room : burst o.flows ≤ buffer * byte_units) where
       pub after_buffer : first_false (output_lines buffer port o) ≡ first_false (highs ++ lows)
-      after_buffer = after_load ∙ first_false-skip buffer_line (highs ++ lows) (le-true (burst o.flows) (buffer * byte_units) room)
+      after_buffer = after_load
+          ∙ first_false-skip buffer_line (highs ++ lows)
+          (le-true (burst o.flows) (buffer * byte_units) room)
 
       pub high_late : (v : ℕ) → late_high ≡ Some v → first_false (output_lines buffer port o) ≡ Some (high_fault v)
-      high_late v late = after_buffer ∙ first_false-before highs lows (high_fault v) (highs_first ∙ ap (option_map high_fault) late)
+      high_late v late = after_buffer
+          ∙ first_false-before highs lows (high_fault v) (highs_first ∙ ap (option_map high_fault) late)
 
       pub highs_soon : late_high ≡ None → first_false (output_lines buffer port o) ≡ option_map low_fault late_low
-      highs_soon soon = after_buffer ∙ first_false-append highs lows (highs_first ∙ ap (option_map high_fault) soon) ∙ lows_first
+      highs_soon soon = after_buffer
+          ∙ first_false-append highs lows (highs_first ∙ ap (option_map high_fault) soon) ∙ lows_first
 
 -- ---- where a low flow stands, the high ones leave some of the line
 
@@ -107,7 +120,8 @@ module _ (byte_ns : ℕ) (some : 1 ≤ byte_ns) where
   abbrev weight : Flow → ℕ
   weight f = fill_rate f.link * byte_ns
 
-  split-cons : (f : Flow) (fs highs lows : List Flow) → 1 ≤ fill_rate f.link → Split byte_ns fs highs lows → (p : Priority) →
+  split-cons : (f : Flow) (fs highs lows : List Flow) → 1 ≤ fill_rate f.link
+      → Split byte_ns fs highs lows → (p : Priority) →
       Split byte_ns (f ∷ fs) (cond (is_class High p) (f ∷ highs) highs) (cond (is_class Low p) (f ∷ lows) lows)
   split-cons f fs highs lows rate s High =
       let all = sum_by-cons weight f fs in
@@ -124,20 +138,24 @@ module _ (byte_ns : ℕ) (some : 1 ≤ byte_ns) where
         less = inr (omega (arith, all, one, s.at_most));
       }
 
-  split : (fs : List Flow) → AllByRecursion (λ f. 1 ≤ fill_rate f.link) fs → Split byte_ns fs (of_class High fs) (of_class Low fs)
+  split : (fs : List Flow) → AllByRecursion (λ f. 1 ≤ fill_rate f.link) fs
+      → Split byte_ns fs (of_class High fs) (of_class Low fs)
   split [] h = record { at_most = omega arith; less = inl refl }
   split (f ∷ fs) h = split-cons f fs (of_class High fs) (of_class Low fs) h.0 (split fs h.1) f.priority
 
-  pub left_some_at : (fs : List Flow) (f : Flow) → AllByRecursion (λ g. 1 ≤ fill_rate g.link) fs → load byte_ns fs ≤ byte_units → Contains (of_class Low fs) f →
+  pub left_some_at : (fs : List Flow) (f : Flow) → AllByRecursion (λ g. 1 ≤ fill_rate g.link) fs
+      → load byte_ns fs ≤ byte_units → Contains (of_class Low fs) f →
       0 < byte_units - load byte_ns (of_class High fs)
   left_some_at fs f rates fits stands =
       let s = split fs rates in
       elim s.less [
-        | inl none ↦ let within : stands.0 < length (of_class Low fs) = stands.1 in absurd (omega (arith, within, ap length none))
+        | inl none ↦ let within : stands.0 < length (of_class Low fs) = stands.1 in
+            absurd (omega (arith, within, ap length none))
         | inr fewer ↦ omega (arith, fewer, fits)
       ]
 
-  pub left_some : (fs : List Flow) (wait rest v : ℕ) → AllByRecursion (λ f. 1 ≤ fill_rate f.link) fs → load byte_ns fs ≤ byte_units →
+  pub left_some : (fs : List Flow) (wait rest v : ℕ) → AllByRecursion (λ f. 1 ≤ fill_rate f.link) fs
+      → load byte_ns fs ≤ byte_units →
       first_late wait rest (of_class Low fs) ≡ Some v → 0 < byte_units - load byte_ns (of_class High fs)
   unfolding first_late
   left_some fs wait rest v rates fits late =
@@ -148,12 +166,14 @@ module _ (byte_ns : ℕ) (some : 1 ≤ byte_ns) where
       ]
 
 -- each flow of lawful links sends something
-rates-cons : (systems : ℕ) (l : LinkRow) (ls : List LinkRow) → IsLink systems l → AllByRecursion (λ f. 1 ≤ fill_rate f.link) (map flow_of ls) → (b : Bool) →
-    AllByRecursion (λ f. 1 ≤ fill_rate f.link) (map flow_of (cond b (l ∷ ls) ls))
+rates-cons : (systems : ℕ) (l : LinkRow) (ls : List LinkRow) → IsLink systems l →
+    AllByRecursion (λ f. 1 ≤ fill_rate f.link) (map flow_of_link ls) → (b : Bool) →
+    AllByRecursion (λ f. 1 ≤ fill_rate f.link) (map flow_of_link (cond b (l ∷ ls) ls))
 rates-cons systems l ls lawful rest true = (rate_some systems l lawful, rest)
 rates-cons systems l ls lawful rest false = rest
 
 pub rates_some : (systems system : ℕ) (links : List LinkRow) → AllByRecursion (IsLink systems) links →
     AllByRecursion (λ f. 1 ≤ fill_rate f.link) (flows_to links system)
 rates_some systems system [] h = tt
-rates_some systems system (l ∷ ls) h = rates-cons systems l (links_to ls system) h.0 (rates_some systems system ls h.1) (is_to system l)
+rates_some systems system (l ∷ ls) h =
+    rates-cons systems l (links_to ls system) h.0 (rates_some systems system ls h.1) (is_to system l)

@@ -4,17 +4,21 @@ use Rattle.std.specs.Option.{option_map, option_and_then}
 use Rattle.std.proofs.lemmas.List.Quantifiers.{position-Some}
 use Rattle.afdx_config.specs.Rows.{SystemRow, Rows}
 use Rattle.afdx_config.specs.Reading.{system_at_port}
-use Rattle.afdx_admit.specs.Lines.{output_at, output_to}
+use Rattle.afdx_admit.specs.Lines.{loaded_output_at, loaded_output_to}
 
-pub output_at-some : (t : Rows) (port place : ℕ) (s : SystemRow) → system_at_port t.systems port ≡ Some place → slice_get t.systems place ≡ Some s →
-    output_at t port ≡ Some (output_to t place s)
-unfolding output_at
-output_at-some t port place s found at =
-    ap (λ o. option_and_then (λ p. option_map (output_to t p) (slice_get t.systems p)) o) found ∙ ap (option_map (output_to t place)) at
+pub loaded_output_at-some : (t : Rows) (port place : ℕ) (s : SystemRow) →
+    system_at_port t.systems port ≡ Some place → slice_get t.systems place ≡ Some s →
+    loaded_output_at t port ≡ Some (loaded_output_to t place s)
+unfolding loaded_output_at
+loaded_output_at-some t port place s found at =
+    ap (λ o. option_and_then (λ p. option_map (loaded_output_to t p) (slice_get t.systems p)) o)
+    found ∙ ap (option_map (loaded_output_to t place)) at
 
-pub output_at-none : (t : Rows) (port : ℕ) → system_at_port t.systems port ≡ None → output_at t port ≡ None
-unfolding output_at
-output_at-none t port none = ap (λ o. option_and_then (λ p. option_map (output_to t p) (slice_get t.systems p)) o) none
+pub loaded_output_at-none : (t : Rows) (port : ℕ) → system_at_port t.systems port ≡ None
+    → loaded_output_at t port ≡ None
+unfolding loaded_output_at
+loaded_output_at-none t port none =
+    ap (λ o. option_and_then (λ p. option_map (loaded_output_to t p) (slice_get t.systems p)) o) none
 
 pub found_within : (t : Rows) (port place : ℕ) → system_at_port t.systems port ≡ Some place → place < length t.systems
 unfolding system_at_port

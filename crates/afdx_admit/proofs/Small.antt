@@ -1,13 +1,15 @@
 -- How great bursts and loads can be.
-use Rattle.std.proofs.Common.{◌≡◌, ℕ, ◌+◌, ◌*◌, ◌/◌, ◌≤◌, Bool, true, false, ◌||◌, ◌==◌, List, [], ◌∷◌, nat_eq, if◌then◌else◌, refl, ap, subst, arith}
+use Rattle.std.proofs.Common.{◌≡◌, ℕ, ◌+◌, ◌*◌, ◌/◌, ◌≤◌, Bool, true, false, ◌||◌, ◌==◌, List, []}
+use Rattle.std.proofs.Common.{◌∷◌, nat_eq, if◌then◌else◌, refl, ap, subst, arith}
 use Rattle.std.proofs.Math.Nat.{mul-le-mul_left}
 use Rattle.std.specs.List.{list_any, AllByRecursion}
+use Rattle.std.specs.Prelude.{IsTrue}
 use Rattle.std.proofs.lemmas.Bool.{eqb-true}
-use Rattle.afdx_frame.specs.Regulation.{cap, fill_rate}
+use Rattle.afdx_frame.specs.Regulation.{gaps, is_bag, cap, fill_rate}
 use Rattle.afdx_config.specs.Rows.{LinkRow}
 use Rattle.afdx_config.specs.Reading.{rates}
-use Rattle.afdx_config.specs.Lawful.{IsLink, IsOneOf, gaps}
-use Rattle.afdx_config.specs.Flows.{regulation_of}
+use Rattle.afdx_config.specs.Lawful.{IsLink, IsOneOf}
+use Rattle.afdx_config.specs.Flows.{regulation_of_link}
 
 -- what holds of each of some numbers holds of one of them
 one_of_each : (P : ℕ → Type 0) (n : ℕ) (ns : List ℕ) → AllByRecursion P ns → IsOneOf ns n → P n
@@ -25,7 +27,7 @@ pub record IsGap (b : ℕ) : Type 0 where
   pub often : 1 ≤ 128 / b
   pub many : 128 / b ≤ 128
 
-pub is_gap : (b : ℕ) → IsOneOf gaps b → IsGap b
+pub is_gap : (b : ℕ) → IsTrue (is_bag b) → IsGap b
 is_gap b h = one_of_each IsGap b gaps (
   record { whole = refl; some = omega arith; often = omega arith; many = omega arith },
   (
@@ -61,7 +63,10 @@ is_rate profile r h = by (profile == 2) h
     by : (b : Bool) → IsOneOf (if b then 10 ∷ 100 ∷ 1000 ∷ [] else 10 ∷ 100 ∷ []) r → IsRate r
     by true h = one_of_each IsRate r (10 ∷ 100 ∷ 1000 ∷ []) (
       record { some = omega arith; fast = omega arith; slow = omega arith },
-      (record { some = omega arith; fast = omega arith; slow = omega arith }, (record { some = omega arith; fast = omega arith; slow = omega arith }, tt)),
+      (
+        record { some = omega arith; fast = omega arith; slow = omega arith },
+        (record { some = omega arith; fast = omega arith; slow = omega arith }, tt),
+      ),
     ) h
     by false h = one_of_each IsRate r (10 ∷ 100 ∷ []) (
       record { some = omega arith; fast = omega arith; slow = omega arith },
@@ -69,37 +74,40 @@ is_rate profile r h = by (profile == 2) h
     ) h
 
 module _ (systems : ℕ) (l : LinkRow) (lawful : IsLink systems l) where
-  pub smax_small : (regulation_of l).smax ≤ 1538
+  pub smax_small : (regulation_of_link l).smax ≤ 1538
   smax_small = let few = lawful.lmax.1 in omega arith
 
-  pub rate_small : fill_rate (regulation_of l) ≤ 196864
+  pub rate_small : fill_rate (regulation_of_link l) ≤ 196864
   rate_small =
       let g = is_gap l.bag_ms lawful.bag_ms in
       let few = smax_small in
       let most : (l.lmax + 20) * (128 / l.bag_ms) ≤ (l.lmax + 20) * 128 = mul-le-mul_left (l.lmax + 20) g.many in
       omega (arith, most, few)
 
-  pub rate_some : 1 ≤ fill_rate (regulation_of l)
+  pub rate_some : 1 ≤ fill_rate (regulation_of_link l)
   rate_some =
       let g = is_gap l.bag_ms lawful.bag_ms in
       let least : (l.lmax + 20) * 1 ≤ (l.lmax + 20) * (128 / l.bag_ms) = mul-le-mul_left (l.lmax + 20) g.often in
       omega (arith, least)
 
-  pub cap_small : cap (regulation_of l) ≤ 393728000000
+  pub cap_small : cap (regulation_of_link l) ≤ 393728000000
   cap_small =
       let g = is_gap l.bag_ms lawful.bag_ms in
       let q = 128 / l.bag_ms in
-      let few : 1000000 * l.bag_ms + 1000 * l.jitter_us ≤ 2000000 * l.bag_ms = let j = lawful.jitter_us.1 in omega arith in
+      let few : 1000000 * l.bag_ms + 1000 * l.jitter_us ≤ 2000000 * l.bag_ms = let j =
+      lawful.jitter_us.1 in omega arith in
       let first : (l.lmax + 20) * q * (1000000 * l.bag_ms + 1000 * l.jitter_us)
       ≤ (l.lmax + 20) * q * (2000000 * l.bag_ms) = mul-le-mul_left ((l.lmax + 20) * q) few in
       let whole : (l.lmax + 20) * (q * l.bag_ms) ≡ (l.lmax + 20) * 128 = ap (λ z. (l.lmax + 20) * z) g.whole in
       let most = lawful.lmax.1 in
       omega (arith, first, whole, most)
 
-pub load_small : (systems : ℕ) (l : LinkRow) → IsLink systems l → (b : ℕ) → b ≤ 800 → fill_rate (regulation_of l) * b ≤ 157491200
+pub load_small : (systems : ℕ) (l : LinkRow) → IsLink systems l → (b : ℕ) → b ≤ 800
+    → fill_rate (regulation_of_link l) * b ≤ 157491200
 load_small systems l lawful b h =
     let r = rate_small systems l lawful in
-    let first : fill_rate (regulation_of l) * b ≤ fill_rate (regulation_of l) * 800 = mul-le-mul_left (fill_rate (regulation_of l)) h in
+    let first : fill_rate (regulation_of_link l) * b ≤ fill_rate (regulation_of_link l) * 800
+    = mul-le-mul_left (fill_rate (regulation_of_link l)) h in
     omega (arith, first, r)
 
 pub frame_small : (smax b : ℕ) → smax ≤ 1538 → b ≤ 800 → smax * b ≤ 1230400

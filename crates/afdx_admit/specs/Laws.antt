@@ -7,7 +7,7 @@ use Rattle.afdx_config.specs.Rows.{SystemRow, Rows}
 use Rattle.afdx_config.specs.Lawful.{IsLawful}
 use Rattle.afdx_frame.specs.Flows.{Flow, of_class, load, low_wait, high_load}
 use Rattle.afdx_config.specs.Admission.{IsAdmitted}
-use Rattle.afdx_admit.specs.Lines.{first_false, lines, output_to, low_bound_of}
+use Rattle.afdx_admit.specs.Lines.{first_false, lines, loaded_output_to, low_bound_of}
 
 -- no line is false exactly where the tables are admitted
 abbrev pub LinesAreAdmission : Type 0
@@ -18,7 +18,7 @@ LinesAreAdmission = (t : Rows) → IsLawful t → (first_false (lines t) ≡ Non
 abbrev pub LowBoundIsANumber : Type 0
 LowBoundIsANumber =
     (t : Rows) → IsLawful t → (place : ℕ) (s : SystemRow) → slice_get t.systems place ≡ Some s →
-    let o = output_to t place s in
+    let o = loaded_output_to t place s in
     load o.byte_ns o.flows ≤ byte_units → (f : Flow) → Contains (of_class Low o.flows) f →
     low_bound_of o
     ≡ Some (div_ceil (low_wait o.byte_ns o.flows) (byte_units - high_load o.byte_ns o.flows))

@@ -30,59 +30,59 @@ first_false (l ∷ ls) = if l.holds then first_false ls else Some l.fault
 
 -- ---- the bounds of an output port
 
--- an output port: the ns of a byte there, and what sends to it
-pub record Output : Type 0 where
+-- an output port with what loads it: the ns of a byte on its line, and what sends to it
+pub record LoadedOutput : Type 0 where
   pub byte_ns : ℕ
   pub flows : List Flow
 
 -- the longest that a high frame takes; a low one, where the high ones leave it some of the line;
 -- the bytes that wait
-unfoldable pub high_bound_of : Output → ℕ
+unfoldable pub high_bound_of : LoadedOutput → ℕ
 high_bound_of o = div_ceil (high_wait o.byte_ns o.flows) byte_units
 
-unfoldable pub low_bound_of : Output → Option ℕ
+unfoldable pub low_bound_of : LoadedOutput → Option ℕ
 low_bound_of o =
     if nat_lt (high_load o.byte_ns o.flows) byte_units
     then Some (div_ceil (low_wait o.byte_ns o.flows) (byte_units - high_load o.byte_ns o.flows))
     else None
 
-unfoldable pub buffer_need_of : Output → ℕ
+unfoldable pub buffer_need_of : LoadedOutput → ℕ
 buffer_need_of o = div_ceil (burst o.flows) byte_units
 
 -- the output port to the system at a place, and the one at a port of the switch, if a system is
 -- there
-abbrev pub output_to : Rows → ℕ → SystemRow → Output
-output_to t place s = record { byte_ns = byte_ns s; flows = flows_to t.links place }
+abbrev pub loaded_output_to : Rows → ℕ → SystemRow → LoadedOutput
+loaded_output_to t place s = record { byte_ns = byte_ns s; flows = flows_to t.links place }
 
-unfoldable pub output_at : Rows → ℕ → Option Output
-output_at t port =
-    option_and_then (λ place. option_map (output_to t place) (slice_get t.systems place))
+unfoldable pub loaded_output_at : Rows → ℕ → Option LoadedOutput
+loaded_output_at t port =
+    option_and_then (λ place. option_map (loaded_output_to t place) (slice_get t.systems place))
     (system_at_port t.systems port)
 
 -- the bounds at a port of the switch
 abbrev pub high_bound_at : Rows → ℕ → ℕ
-high_bound_at t port = option_map_or high_bound_of (output_at t port) 0
+high_bound_at t port = option_map_or high_bound_of (loaded_output_at t port) 0
 
 abbrev pub low_bound_at : Rows → ℕ → Option ℕ
-low_bound_at t port = option_map_or low_bound_of (output_at t port) (Some 0)
+low_bound_at t port = option_map_or low_bound_of (loaded_output_at t port) (Some 0)
 
 abbrev pub buffer_need_at : Rows → ℕ → ℕ
-buffer_need_at t port = option_map_or buffer_need_of (output_at t port) 0
+buffer_need_at t port = option_map_or buffer_need_of (loaded_output_at t port) 0
 
 -- ---- the lines of an output port
 
-abbrev pub high_line : ℕ → Output → Flow → Line
+abbrev pub high_line : ℕ → LoadedOutput → Flow → Line
 high_line port o f =
     line (nat_le (high_wait o.byte_ns o.flows) (f.latency * byte_units))
     (HighLatency port (record { 0 = f.vl }) (high_bound_of o))
 
-abbrev pub low_line : ℕ → Output → Flow → Line
+abbrev pub low_line : ℕ → LoadedOutput → Flow → Line
 low_line port o f =
     let left = byte_units - high_load o.byte_ns o.flows in
     line (nat_le (low_wait o.byte_ns o.flows) (f.latency * left))
     (LowLatency port (record { 0 = f.vl }) (div_ceil (low_wait o.byte_ns o.flows) left))
 
-unfoldable pub output_lines : ℕ → ℕ → Output → List Line
+unfoldable pub output_lines : ℕ → ℕ → LoadedOutput → List Line
 output_lines buffer port o =
     line (nat_le (load o.byte_ns o.flows) byte_units) (Overload port)
     ∷ line (nat_le (burst o.flows) (buffer * byte_units)) (Buffer port (buffer_need_of o))
@@ -90,7 +90,7 @@ output_lines buffer port o =
     ++ map (low_line port o) (of_class Low o.flows))
 
 unfoldable pub port_lines : Rows → ℕ → List Line
-port_lines t port = option_map_or (output_lines t.buffer port) (output_at t port) []
+port_lines t port = option_map_or (output_lines t.buffer port) (loaded_output_at t port) []
 
 -- ---- the lines of systems and links
 

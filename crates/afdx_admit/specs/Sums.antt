@@ -9,9 +9,10 @@ use Rattle.afdx_frame.specs.Flows.{Flow, is_class}
 use Rattle.afdx_frame.specs.Flows as port
 use Rattle.afdx_admit.specs.declared.fault.AdmitFault.{AdmitFault}
 use Rattle.afdx_admit.specs.declared.sums.Sums.{Sums}
-use Rattle.afdx_admit.specs.Lines.{Output, output_to, output_lines, first_false, jitter_at}
+use Rattle.afdx_admit.specs.Lines.{LoadedOutput, loaded_output_to, output_lines, first_false}
+use Rattle.afdx_admit.specs.Lines.{jitter_at}
 
-pub record IsSums (o : Output) (r : Sums) : Type 0 where
+pub record IsSums (o : LoadedOutput) (r : Sums) : Type 0 where
   pub byte_ns : r.byte_ns ≡ o.byte_ns
   pub burst : r.burst ≡ port.burst o.flows
   pub load : r.load ≡ port.load o.byte_ns o.flows
@@ -23,7 +24,7 @@ pub record IsSums (o : Output) (r : Sums) : Type 0 where
 pub record AreSumsTo (t : Rows) (place : ℕ) (r : Sums) : Type 0 where
   pub row : SystemRow
   pub stands : slice_get t.systems place ≡ Some row
-  pub sums : IsSums (output_to t place row) r
+  pub sums : IsSums (loaded_output_to t place row) r
   pub some : 1 ≤ r.byte_ns
 
 -- how great the sums of so many links are at most
@@ -62,4 +63,4 @@ pub record AreJitters (t : Rows) (jitters : List ℕ) : Type 0 where
 pub record IsFaultAt (t : Rows) (port place : ℕ) (result : Option AdmitFault) : Type 0 where
   pub row : SystemRow
   pub stands : slice_get t.systems place ≡ Some row
-  pub first : result ≡ first_false (output_lines t.buffer port (output_to t place row))
+  pub first : result ≡ first_false (output_lines t.buffer port (loaded_output_to t place row))

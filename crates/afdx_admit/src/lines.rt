@@ -12,7 +12,7 @@ ghost use Rattle.afdx_admit.specs.Sums.{AreJitters, CanSend, IsFaultAt};
 ghost use Rattle.afdx_admit.specs.Known.{IsKnown};
 
 use crate::fault::AdmitFault;
-use crate::sums::{byte_ns_of, link_at, sums_to, wire_size};
+use crate::sums::{link_at, sums_to, wire_size};
 use afdx_config::{Link, SystemId, Tables};
 use afdx_frame::{BYTE_UNITS, Priority, VlId};
 
@@ -108,7 +108,7 @@ fn sender_jitter(tables: &Tables, id: SystemId) -> u64
     requires { id.0 < length tables.now.systems }
     ensures { result ≡ spec.jitter_at tables.now id.0 }
 {
-    let byte_ns = byte_ns_of(tables, id);
+    let byte_ns = tables.byte_ns(id);
     let count = tables.link_count();
     let mut sum = 40_000;
     for i in 0..count {

@@ -3,7 +3,7 @@
 ghost use Rattle.std.specs.Prelude.{◌≡◌, ◌*◌, ◌≤◌, ◌<◌, ◌∷◌, [], length, slice_get, Some};
 ghost use Rattle.afdx_frame.specs.Regulation.{cap, fill_rate};
 ghost use Rattle.afdx_config.specs.Rows.{SystemRow, link_row};
-ghost use Rattle.afdx_config.specs.Flows.{flow_of, regulation_of};
+ghost use Rattle.afdx_config.specs.Flows.{flow_of_link, regulation_of_link};
 ghost use Rattle.afdx_config.specs.Admission.{byte_ns};
 ghost use Rattle.afdx_admit.specs.Sums.{CanSend, IsSums, IsSmall, AreSumsTo};
 
@@ -23,7 +23,8 @@ pub(crate) struct Sums {
 
 impl Sums {
     ghost use Rattle.afdx_frame.specs.Flows.{high_wait, low_wait};
-    ghost use Rattle.afdx_admit.specs.Lines.{Output, high_bound_of, low_bound_of, buffer_need_of};
+    ghost use Rattle.afdx_admit.specs.Lines.{LoadedOutput, high_bound_of, low_bound_of};
+    ghost use Rattle.afdx_admit.specs.Lines.{buffer_need_of};
     ghost use Rattle.afdx_admit.specs.Sums.{Adds};
 
     fn empty(byte_ns: u64) -> Sums
@@ -45,7 +46,7 @@ impl Sums {
     fn with(self, link: &Link) -> Sums
         requires small { IsSmall 4095 self }
         requires lawful { CanSend (link_row link.now) }
-        ensures { Adds (flow_of (link_row link.now)) self result }
+        ensures { Adds (flow_of_link (link_row link.now)) self result }
     {
         let burst = burst(link);
         let load = load(self.byte_ns, link);
@@ -70,7 +71,7 @@ impl Sums {
     /// What a high frame waits for at most, in ns times `BYTE_UNITS`.
     pub(crate) fn high_wait(&self) -> u64
         requires { IsSmall 4096 self.now }
-        ensures { (o : Output) → IsSums o self.now → result ≡ high_wait o.byte_ns o.flows }
+        ensures { (o : LoadedOutput) → IsSums o self.now → result ≡ high_wait o.byte_ns o.flows }
     {
         (self.high_burst + BYTE_UNITS * self.longest_low) * self.byte_ns
     }
@@ -78,7 +79,7 @@ impl Sums {
     /// What a low frame waits for at most, in ns times what the high ones leave of `BYTE_UNITS`.
     pub(crate) fn low_wait(&self) -> u64
         requires { IsSmall 4096 self.now }
-        ensures { (o : Output) → IsSums o self.now → result ≡ low_wait o.byte_ns o.flows }
+        ensures { (o : LoadedOutput) → IsSums o self.now → result ≡ low_wait o.byte_ns o.flows }
     {
         self.burst * self.byte_ns
     }
@@ -86,7 +87,7 @@ impl Sums {
     /// The bytes that wait at most, rounded up.
     #[tactic(auto, unfolding(crate::specs::Lines::buffer_need_of))]
     pub(crate) fn buffer_need(&self) -> u64
-        ensures { (o : Output) → IsSums o self.now → result ≡ buffer_need_of o }
+        ensures { (o : LoadedOutput) → IsSums o self.now → result ≡ buffer_need_of o }
     {
         self.burst.div_ceil(BYTE_UNITS)
     }
@@ -95,7 +96,7 @@ impl Sums {
     #[tactic(auto, unfolding(crate::specs::Lines::high_bound_of))]
     pub(crate) fn high_bound(&self) -> u64
         requires { IsSmall 4096 self.now }
-        ensures { (o : Output) → IsSums o self.now → result ≡ high_bound_of o }
+        ensures { (o : LoadedOutput) → IsSums o self.now → result ≡ high_bound_of o }
     {
         self.high_wait().div_ceil(BYTE_UNITS)
     }
@@ -104,7 +105,7 @@ impl Sums {
     #[tactic(auto, unfolding(crate::specs::Lines::low_bound_of))]
     pub(crate) fn low_bound(&self) -> Option<u64>
         requires { IsSmall 4096 self.now }
-        ensures { (o : Output) → IsSums o self.now → result ≡ low_bound_of o }
+        ensures { (o : LoadedOutput) → IsSums o self.now → result ≡ low_bound_of o }
     {
         if self.high_load < BYTE_UNITS {
             Some(self.low_wait().div_ceil(BYTE_UNITS - self.high_load))
@@ -117,7 +118,7 @@ impl Sums {
 /// The greatest wire size of a link's frames, in bytes.
 pub(crate) fn wire_size(link: &Link) -> u64
     requires { CanSend (link_row link.now) }
-    ensures size { result ≡ (regulation_of (link_row link.now)).smax }
+    ensures size { result ≡ (regulation_of_link (link_row link.now)).smax }
     ensures small { result ≤ 1538 }
 {
     link.lmax + WIRE_EXTRA
@@ -126,7 +127,7 @@ pub(crate) fn wire_size(link: &Link) -> u64
 /// What a link may send at once.
 fn burst(link: &Link) -> u64
     requires { CanSend (link_row link.now) }
-    ensures burst { result ≡ cap (regulation_of (link_row link.now)) }
+    ensures burst { result ≡ cap (regulation_of_link (link_row link.now)) }
     ensures small { result ≤ 393728000000 }
 {
     wire_size(link) * (128 / link.bag_ms) * (1_000_000 * link.bag_ms + 1000 * link.jitter_us)
@@ -136,21 +137,10 @@ fn burst(link: &Link) -> u64
 fn load(byte_ns: u64, link: &Link) -> u64
     requires lawful { CanSend (link_row link.now) }
     requires slow { byte_ns ≤ 800 }
-    ensures load { result ≡ fill_rate (regulation_of (link_row link.now)) * byte_ns }
+    ensures load { result ≡ fill_rate (regulation_of_link (link_row link.now)) * byte_ns }
     ensures small { result ≤ 157491200 }
 {
     wire_size(link) * (128 / link.bag_ms) * byte_ns
-}
-
-/// The ns of a byte on a system's line.
-pub(crate) fn byte_ns_of(tables: &Tables, id: SystemId) -> u64
-    requires { id.0 < length tables.now.systems }
-    ensures time { (s : SystemRow) → slice_get tables.now.systems id.0 ≡ Some s →
-        result ≡ byte_ns s }
-    ensures some { 1 ≤ result }
-    ensures small { result ≤ 800 }
-{
-    8000 / tables.system(id).rate
 }
 
 /// The link at a place.
@@ -169,7 +159,7 @@ pub(crate) fn sums_to(tables: &Tables, system: SystemId) -> Sums
     ensures sums { AreSumsTo tables.now system.0 result }
 {
     let count = tables.link_count();
-    let mut sums = Sums::empty(byte_ns_of(tables, system));
+    let mut sums = Sums::empty(tables.byte_ns(system));
     for i in 0..count {
         let link = link_at(tables, i);
         if link.goes_to(system) {

@@ -222,7 +222,7 @@ fn tables_come_back(rt: HostRuntime) -> Result<(), Fail> {
 }
 
 #[test]
-fn one_value_changed(rt: HostRuntime) -> Result<(), Fail> {
+fn latency_changed(rt: HostRuntime) -> Result<(), Fail> {
     let a = rt.alloc();
     for (first, second, text) in [
         (
@@ -241,6 +241,16 @@ fn one_value_changed(rt: HostRuntime) -> Result<(), Fail> {
             },
             "A4 3 2 20297",
         ),
+    ] {
+        assert_eq!(rt; answer(a, base(a, &[first, second])?)?.as_str(), text);
+    }
+    Ok(())
+}
+
+#[test]
+fn jitter_or_skew_changed(rt: HostRuntime) -> Result<(), Fail> {
+    let a = rt.alloc();
+    for (first, second, text) in [
         (
             LinkText {
                 jitter_us: "46",

@@ -1,12 +1,14 @@
 -- The balances of the work left, from the busy time back from a moment.
-use Rattle.std.proofs.Common.{◌≡◌, ℕ, ◌+◌, ◌*◌, ◌-◌, ◌<◌, ◌≤◌, max, true, false, List, [], ◌∷◌, Some, refl, sym, ap, subst, arith, ◌∙◌}
+use Rattle.std.proofs.Common.{◌≡◌, ℕ, ◌+◌, ◌*◌, ◌-◌, ◌<◌, ◌≤◌, max, true, false, List, [], ◌∷◌}
+use Rattle.std.proofs.Common.{Some, refl, sym, ap, subst, arith, ◌∙◌}
 use Rattle.std.specs.List.{slice_get, AllByRecursion}
 use Rattle.std.proofs.lemmas.Option.{slice_get_within}
 use Rattle.afdx_frame.specs.declared.link.Priority.TheVariants.{High, Low}
 use Rattle.afdx_frame.specs.Regulation.{byte_units}
 use Rattle.afdx_port.specs.Schedule.{Entry, Turn, has_turn, end_of, IsWithoutTurn, AreTurns, IsSchedule, begun_before}
 use Rattle.afdx_port.specs.ScheduleOf.{AreInOrder}
-use Rattle.afdx_bounds.specs.Curve.{wire, wire_in, wire_between, left_over, work_left, high_work_left, low_work_left, waiting}
+use Rattle.afdx_bounds.specs.Curve.{wire, wire_in, wire_between, left_over, work_left}
+use Rattle.afdx_bounds.specs.Curve.{high_work_left, low_work_left, waiting}
 use Rattle.afdx_bounds.proofs.RateLemmas.{even, even-high, even-low}
 use Rattle.afdx_bounds.proofs.WorkLemmas.{both_classes, one_class, same_left, left_add, wire_full, wire_later}
 use Rattle.afdx_bounds.proofs.BusyLemmas.{counts-is, counts-not, is-counted, Weighs, busy_at}
@@ -26,11 +28,15 @@ module _ {X : Type 0} where
       let full : (i : ℕ) (e : Entry X) → slice_get entries i ≡ Some e → weight e ≡ e.bytes + 20
       = λ i e g. both_full 0 t t e (omega arith) (λ c. come i e g) (λ c. come i e g) in
       let b = begun_at byte_ns entries turns t schedule.each_next
-      (λ idle place e free. absurd (let has = schedule.all_have_turns place (slice_get_within entries place e free.stands) in cc (has, free.without))) in
+      (λ idle place e free. absurd
+      (let has = schedule.all_have_turns place (slice_get_within entries place e free.stands) in
+      cc (has, free.without))) in
       let now : ℕ = max t (end_of b.begun) in
-      let weighs = each_turn (Weighs weight true 0) byte_ns entries b.begun (λ i e g. record { full = λ c. full i e g; small = λ c. absurd (cc c) }) b.are in
+      let weighs = each_turn (Weighs weight true 0) byte_ns entries b.begun
+      (λ i e g. record { full = λ c. full i e g; small = λ c. absurd (cc c) }) b.are in
       let line = busy_at byte_ns weight true 0 entries b.begun now b.are weighs
-      (λ idle place e free. let later : t ≤ e.time = b.left (omega (arith, idle)) place e free in omega (arith, later, idle)) in
+      (λ idle place e free. let later : t ≤ e.time = b.left (omega (arith, idle)) place e free in
+      omega (arith, later, idle)) in
       let begins : line.since ≤ t = line.begins t (λ idle. omega (arith, idle)) b.started in
       let came = both_classes weight line.earlier line.since t t 0 entries
       (λ i e g free. let own : IsWithoutTurn entries line.earlier i e = record {
@@ -41,11 +47,14 @@ module _ {X : Type 0} where
       let here = wire_later High line.since t e (λ c. from) in
       let there = wire_later Low line.since t e (λ c. from) in
       omega (arith, here, there)) in
-      let waits : waiting wire entries turns t ≡ left_over weight b.begun 0 entries = ap (λ zs. left_over wire zs 0 entries) b.is ∙ sym
+      let waits : waiting wire entries turns t ≡ left_over weight b.begun 0 entries =
+      ap (λ zs. left_over wire zs 0 entries) b.is ∙ sym
       (same_left weight wire b.begun 0 entries full) in
       let ends : end_of (begun_before t turns) ≡ end_of b.begun = ap (λ zs. end_of zs) b.is in
-      let waits-ns : byte_ns * waiting wire entries turns t ≡ byte_ns * left_over weight b.begun 0 entries = ap (λ n. byte_ns * n) waits in
-      even byte_ns hb hr lb lr (t - line.since) (work_left byte_ns entries turns t) (left_over weight line.earlier 0 entries)
+      let waits-ns : byte_ns * waiting wire entries turns t
+      ≡ byte_ns * left_over weight b.begun 0 entries = ap (λ n. byte_ns * n) waits in
+      even byte_ns hb hr lb lr (t - line.since) (work_left byte_ns entries turns t)
+      (left_over weight line.earlier 0 entries)
       (wire_between High line.since t entries) (wire_between Low line.since t entries) rates
       (highs line.since begins) (lows line.since begins) came (omega (arith, waits-ns, ends, line.balance, begins))
 
@@ -60,7 +69,9 @@ module _ {X : Type 0} where
   high_work_bound byte_ns extra hb hr entries turns t rate highs come small schedule =
       let weight : Entry X → ℕ = wire_in High 0 t in
       let b = begun_at byte_ns entries turns t schedule.each_next
-      (λ idle place e free. absurd (let has = schedule.all_have_turns place (slice_get_within entries place e free.stands) in cc (has, free.without))) in
+      (λ idle place e free. absurd
+      (let has = schedule.all_have_turns place (slice_get_within entries place e free.stands) in
+      cc (has, free.without))) in
       let now : ℕ = max t (end_of b.begun) in
       let weighs = each_turn (Weighs weight false extra) byte_ns entries b.begun
       (λ i e g. record {
@@ -68,7 +79,8 @@ module _ {X : Type 0} where
         small = λ c. small i e g (counts-not e.priority c);
       }) b.are in
       let line = busy_at byte_ns weight false extra entries b.begun now b.are weighs
-      (λ idle place e free. let later : t ≤ e.time = b.left (omega (arith, idle)) place e free in omega (arith, later, idle)) in
+      (λ idle place e free. let later : t ≤ e.time = b.left (omega (arith, idle)) place e free in
+      omega (arith, later, idle)) in
       let begins : line.since ≤ t = line.begins t (λ idle. omega (arith, idle)) b.started in
       let came = one_class weight line.earlier High line.since t 0 entries
       (λ i e g free. let own : IsWithoutTurn entries line.earlier i e = record {
@@ -76,10 +88,13 @@ module _ {X : Type 0} where
         without = subst (λ (n : ℕ). has_turn line.earlier n ≡ false) (omega arith) free;
       } in
       wire_later High line.since t e (λ c. line.come i e own (is-counted e.priority c))) in
-      let waits : waiting (wire_in High 0 t) entries turns t ≡ left_over weight b.begun 0 entries = ap (λ zs. left_over (wire_in High 0 t) zs 0 entries) b.is in
+      let waits : waiting (wire_in High 0 t) entries turns t ≡ left_over weight b.begun 0 entries =
+      ap (λ zs. left_over (wire_in High 0 t) zs 0 entries) b.is in
       let ends : end_of (begun_before t turns) ≡ end_of b.begun = ap (λ zs. end_of zs) b.is in
-      let waits-ns : byte_ns * waiting (wire_in High 0 t) entries turns t ≡ byte_ns * left_over weight b.begun 0 entries = ap (λ n. byte_ns * n) waits in
-      even-high byte_ns extra hb hr (t - line.since) (high_work_left byte_ns entries turns t) (left_over weight line.earlier 0 entries)
+      let waits-ns : byte_ns * waiting (wire_in High 0 t) entries turns t
+      ≡ byte_ns * left_over weight b.begun 0 entries = ap (λ n. byte_ns * n) waits in
+      even-high byte_ns extra hb hr (t - line.since) (high_work_left byte_ns entries turns t)
+      (left_over weight line.earlier 0 entries)
       (wire_between High line.since t entries) rate (highs line.since begins) came
       (omega (arith, waits-ns, ends, line.balance, begins))
 
@@ -112,16 +127,23 @@ module _ {X : Type 0} where
   low_work_bound byte_ns hb hr lb lr entries turns t place e rates highs lows come order schedule waits-at low =
       let weight : Entry X → ℕ = λ d. wire_in High 0 t d + wire_in Low 0 e.time d in
       let b = begun_at byte_ns entries turns t schedule.each_next
-      (λ idle p d free. absurd (let has = schedule.all_have_turns p (slice_get_within entries p d free.stands) in cc (has, free.without))) in
+      (λ idle p d free. absurd
+      (let has = schedule.all_have_turns p (slice_get_within entries p d free.stands) in
+      cc (has, free.without))) in
       let now : ℕ = max t (end_of b.begun) in
       let free : IsWithoutTurn entries b.begun place e = record {
         stands = waits-at.stands;
         without = subst (λ (zs : List (Turn X)). has_turn zs place ≡ false) b.is waits-at.without;
       } in
       let late : e.time ≤ t = come place e waits-at.stands in
-      let line = busy_at byte_ns weight true 0 entries b.begun now b.are (begun_weighs byte_ns entries t b.begun place e order b.are free low b.started)
+      let line = busy_at byte_ns weight true 0 entries b.begun now b.are
+      (begun_weighs byte_ns entries t b.begun place e order b.are free low b.started)
       (λ idle p d w. let later : t ≤ d.time = b.left (omega (arith, idle)) p d w in omega (arith, later, idle)) in
-      let begins : line.since ≤ e.time = line.come place e (record { stands = waits-at.stands; without = line.still place free.without }) refl in
+      let begins : line.since ≤ e.time =
+      line.come place e (record {
+        stands = waits-at.stands;
+        without = line.still place free.without;
+      }) refl in
       let came = both_classes weight line.earlier line.since t e.time 0 entries
       (λ j d k w. let own : IsWithoutTurn entries line.earlier j d = record {
         stands = k;
@@ -134,16 +156,23 @@ module _ {X : Type 0} where
       let high-waits : waiting (wire_in High 0 t) entries turns t
       ≡ left_over (wire_in High 0 t) b.begun 0 entries = ap (λ zs. left_over (wire_in High 0 t) zs 0 entries) b.is in
       let low-waits : waiting (wire_in Low 0 e.time) entries turns t
-      ≡ left_over (wire_in Low 0 e.time) b.begun 0 entries = ap (λ zs. left_over (wire_in Low 0 e.time) zs 0 entries) b.is in
+      ≡ left_over (wire_in Low 0 e.time) b.begun 0 entries =
+      ap (λ zs. left_over (wire_in Low 0 e.time) zs 0 entries) b.is in
       let sum = left_add (wire_in High 0 t) (wire_in Low 0 e.time) b.begun 0 entries in
       let ends : end_of (begun_before t turns) ≡ end_of b.begun = ap (λ zs. end_of zs) b.is in
-      let waits : left_over weight b.begun 0 entries ≡ waiting (wire_in High 0 t) entries turns t + waiting (wire_in Low 0 e.time) entries turns t = omega
+      let waits : left_over weight b.begun 0 entries
+      ≡ waiting (wire_in High 0 t) entries turns t + waiting (wire_in Low 0 e.time) entries
+      turns t = omega
       (arith, sum, high-waits, low-waits) in
       let waits-ns : byte_ns * left_over weight b.begun 0 entries
-      ≡ byte_ns * (waiting (wire_in High 0 t) entries turns t + waiting (wire_in Low 0 e.time) entries turns t) = ap (λ n. byte_ns * n) waits in
+      ≡ byte_ns * (waiting (wire_in High 0 t) entries turns t + waiting (wire_in Low 0 e.time)
+      entries turns t) = ap (λ n. byte_ns * n) waits in
       let whole : t - line.since ≡ (e.time - line.since) + (t - e.time) = omega (arith, begins, late) in
       let high-curve = highs line.since (omega (arith, begins, late)) in
       let high-now = rw whole at high-curve in
-      even-low byte_ns hb hr lb lr (byte_units - byte_ns * hr) (e.time - line.since) (t - e.time) (low_work_left byte_ns entries turns e.time t)
-      (left_over weight line.earlier 0 entries) (wire_between High line.since t entries) (wire_between Low line.since e.time entries)
-      rates (omega (arith, rates)) high-now (lows line.since begins) came (omega (arith, waits-ns, ends, line.balance, begins, late))
+      even-low byte_ns hb hr lb lr (byte_units - byte_ns * hr) (e.time - line.since) (t - e.time)
+      (low_work_left byte_ns entries turns e.time t)
+      (left_over weight line.earlier 0 entries) (wire_between High line.since t entries)
+      (wire_between Low line.since e.time entries)
+      rates (omega (arith, rates)) high-now (lows line.since begins) came
+      (omega (arith, waits-ns, ends, line.balance, begins, late))

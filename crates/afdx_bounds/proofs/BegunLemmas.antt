@@ -28,8 +28,14 @@ module _ {X : Type 0} where
       (e.priority ≡ Low → e.time ≤ v) → wire_in High since u e + wire_in Low since v e ≡ e.bytes + 20
   both_full since u v e from high low =
       elim (priority_cases e.priority) [
-        | inl is ↦ rw (wire_full High since u e is from (high is), wire_none Low since v e (low-none e.priority is)) (omega arith)
-        | inr is ↦ rw (wire_full Low since v e is from (low is), wire_none High since u e (high-none e.priority is)) (omega arith)
+        | inl is ↦ rw (
+          wire_full High since u e is from (high is),
+          wire_none Low since v e (low-none e.priority is),
+        ) (omega arith)
+        | inr is ↦ rw (
+          wire_full Low since v e is from (low is),
+          wire_none High since u e (high-none e.priority is),
+        ) (omega arith)
       ]
 
   -- all turns began before t, if the last did
@@ -50,7 +56,8 @@ module _ {X : Type 0} where
   begun_alone : (t : ℕ) (begun : List (Turn X)) → AllByRecursion (λ s. s.moment < t) begun →
       begun_before t begun ≡ begun
   begun_alone t [] h = refl
-  begun_alone t (x ∷ xs) h = let e = begun_alone t xs h.1 in let lt : x.moment < t = h.0 in rw (nat_lt-true x.moment t lt) (ap (λ zs. x ∷ zs) e)
+  begun_alone t (x ∷ xs) h = let e = begun_alone t xs h.1 in let lt : x.moment < t = h.0 in
+      rw (nat_lt-true x.moment t lt) (ap (λ zs. x ∷ zs) e)
 
   -- the turns that begin before t, after which nothing that came before t is left behind in a pause
   pub record Begun (byte_ns : ℕ) (entries : List (Entry X)) (turns : List (Turn X)) (t : ℕ) : Type 0 where
@@ -75,15 +82,23 @@ module _ {X : Type 0} where
             ) in
             record { begun = s ∷ rest; is = begun_alone t (s ∷ rest) all; are = h; started = all; left = left })
         | inr later ↦ (let r = begun_at byte_ns entries rest t h.1 (λ idle place e free. elim (cases_lt e.time t) [
-          | inl early ↦ absurd (let least : s.moment ≤ max e.time (end_of rest) = h.0.least (max e.time (end_of rest)) place e free (omega arith)
+          | inl early ↦ absurd (let least : s.moment ≤ max e.time (end_of rest) =
+              h.0.least (max e.time (end_of rest)) place e free (omega arith)
               (omega arith) in omega arith)
           | inr late ↦ late
         ]) in
-            record { begun = r.begun; is = rw (nat_lt-false s.moment t later) r.is; are = r.are; started = r.started; left = r.left })
+            record {
+              begun = r.begun;
+              is = rw (nat_lt-false s.moment t later) r.is;
+              are = r.are;
+              started = r.started;
+              left = r.left;
+            })
       ]
 
   pub each_turn : (P : Entry X → Type 0) (byte_ns : ℕ) (entries : List (Entry X)) (turns : List (Turn X)) →
       ((place : ℕ) (e : Entry X) → slice_get entries place ≡ Some e → P e) →
       AreTurns byte_ns entries turns → AllByRecursion (λ s. P s.entry) turns
   each_turn P byte_ns entries [] each h = tt
-  each_turn P byte_ns entries (s ∷ rest) each h = (each s.place s.entry h.0.own.stands, each_turn P byte_ns entries rest each h.1)
+  each_turn P byte_ns entries (s ∷ rest) each h =
+      (each s.place s.entry h.0.own.stands, each_turn P byte_ns entries rest each h.1)

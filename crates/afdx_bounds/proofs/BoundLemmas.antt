@@ -1,17 +1,20 @@
 -- Bounds on the bytes that wait and on the ends of turns, from the busy time back from a moment.
-use Rattle.std.proofs.Common.{◌≡◌, ℕ, ◌+◌, ◌*◌, ◌-◌, ◌≤◌, ◌==◌, true, false, List, [], ◌∷◌, ◌++◌, length, Some, refl, sym, ap, subst, arith, ◌∙◌, suc, zero}
+use Rattle.std.proofs.Common.{◌≡◌, ℕ, ◌+◌, ◌*◌, ◌-◌, ◌≤◌, ◌==◌, true, false, List, [], ◌∷◌, ◌++◌}
+use Rattle.std.proofs.Common.{length, Some, refl, sym, ap, subst, arith, ◌∙◌, suc, zero}
 use Rattle.std.specs.List.{slice_get, AllByRecursion}
 use Rattle.std.proofs.Math.Nat.{mul-le-mul_left}
 use Rattle.std.proofs.lemmas.Option.{slice_get_within}
 use Rattle.afdx_frame.specs.declared.link.Priority.TheVariants.{High, Low}
 use Rattle.afdx_frame.specs.Regulation.{byte_units}
-use Rattle.afdx_port.specs.Schedule.{Entry, Turn, has_turn, end_of, IsWithoutTurn, IsNext, AreTurns, bytes_without_turn, waiting_bytes}
+use Rattle.afdx_port.specs.Schedule.{Entry, Turn, has_turn, end_of, IsWithoutTurn, IsNext, AreTurns}
+use Rattle.afdx_port.specs.Schedule.{bytes_without_turn, waiting_bytes}
 use Rattle.afdx_port.specs.ScheduleOf.{AreInOrder}
 use Rattle.afdx_port.proofs.TurnLemmas.{get_longer, get_last}
 use Rattle.afdx_bounds.specs.CurveLaws.{WaitingIsBounded, HighIsBounded, LowIsBounded}
 use Rattle.afdx_bounds.specs.Curve.{Curve, KeepsCurve, wire_in, wire_between, left_over}
 use Rattle.afdx_bounds.proofs.RateLemmas.{few, soon-high, soon-low}
-use Rattle.afdx_bounds.proofs.WorkLemmas.{or-false, served, both_classes, one_class, bytes_weigh, between_push, wire_full, wire_later}
+use Rattle.afdx_bounds.proofs.WorkLemmas.{or-false, served, both_classes, one_class, bytes_weigh}
+use Rattle.afdx_bounds.proofs.WorkLemmas.{between_push, wire_full, wire_later}
 use Rattle.afdx_bounds.proofs.BusyLemmas.{counts-is, counts-not, is-counted, Weighs, lasts-of, pause, busy_at}
 use Rattle.afdx_bounds.proofs.BegunLemmas.{both_full, begun_at, each_turn}
 use Rattle.afdx_bounds.proofs.ListLemmas.{get_all, all_get}
@@ -20,14 +23,18 @@ module _ {X : Type 0} where
   pub few_wait : WaitingIsBounded X
   few_wait byte_ns high low entries turns new some rates order highs lows schedule =
       let come : (i : ℕ) (e : Entry X) → slice_get entries i ≡ Some e → e.time ≤ new.time
-      = λ i e g. order i (length entries) e new (let within = slice_get_within entries i e g in omega arith) (get_longer entries new i e g)
+      = λ i e g. order i (length entries) e new
+      (let within = slice_get_within entries i e g in omega arith) (get_longer entries new i e g)
       (get_last entries new) in
       let weight : Entry X → ℕ = λ e. wire_in High 0 new.time e + wire_in Low 0 new.time e in
       let full : (i : ℕ) (e : Entry X) → slice_get entries i ≡ Some e → weight e ≡ e.bytes + 20
       = λ i e g. both_full 0 new.time new.time e (omega arith) (λ c. come i e g) (λ c. come i e g) in
       let b = begun_at byte_ns entries turns new.time schedule.each_next
-      (λ idle place e free. absurd (let has = schedule.all_have_turns place (slice_get_within entries place e free.stands) in cc (has, free.without))) in
-      let weighs = each_turn (Weighs weight true 0) byte_ns entries b.begun (λ i e g. record { full = λ c. full i e g; small = λ c. absurd (cc c) }) b.are in
+      (λ idle place e free. absurd
+      (let has = schedule.all_have_turns place (slice_get_within entries place e free.stands) in
+      cc (has, free.without))) in
+      let weighs = each_turn (Weighs weight true 0) byte_ns entries b.begun
+      (λ i e g. record { full = λ c. full i e g; small = λ c. absurd (cc c) }) b.are in
       let line = busy_at byte_ns weight true 0 entries b.begun new.time b.are weighs b.left in
       let begins : line.since ≤ new.time = line.begins new.time (λ idle. omega arith) b.started in
       let came = both_classes weight line.earlier line.since new.time new.time 0 entries
@@ -45,12 +52,15 @@ module _ {X : Type 0} where
       let low-push = between_push Low line.since new.time entries new in
       let high-curve = highs line.since new.time begins in
       let low-curve = lows line.since new.time begins in
-      let waits : waiting_bytes entries turns new.time ≡ bytes_without_turn b.begun 0 entries = ap (λ zs. bytes_without_turn zs 0 entries) b.is in
+      let waits : waiting_bytes entries turns new.time ≡ bytes_without_turn b.begun 0 entries =
+      ap (λ zs. bytes_without_turn zs 0 entries) b.is in
       let weigh = bytes_weigh weight b.begun 0 entries (λ i e g. let f = full i e g in omega (arith, f)) in
       let total : left_over weight line.earlier 0 entries + new.bytes
-      ≤ wire_between High line.since new.time (entries ++ new ∷ []) + wire_between Low line.since new.time (entries ++ new ∷ [])
+      ≤ wire_between High line.since new.time (entries ++ new ∷ []) + wire_between Low line.since
+      new.time (entries ++ new ∷ [])
       = omega (arith, came, own, high-push, low-push) in
-      let r = few byte_ns high.burst high.rate low.burst low.rate (new.time - line.since) (left_over weight b.begun 0 entries) new.bytes
+      let r = few byte_ns high.burst high.rate low.burst low.rate (new.time - line.since)
+      (left_over weight b.begun 0 entries) new.bytes
       (left_over weight line.earlier 0 entries)
       (wire_between High line.since new.time (entries ++ new ∷ []))
       (wire_between Low line.since new.time (entries ++ new ∷ [])) some rates high-curve low-curve total
@@ -78,12 +88,19 @@ module _ {X : Type 0} where
       IsWithoutTurn entries (x ∷ earlier) place e → e.priority ≡ x.entry.priority → x.entry.time ≤ e.time
   came_before byte_ns entries earlier x place e order n free same =
       let before : x.place ≤ place = n.in_order place e
-      (record { stands = free.stands; without = or-false (x.place == place) (has_turn earlier place) free.without }) same in
+      (record {
+        stands = free.stands;
+        without = or-false (x.place == place) (has_turn earlier place) free.without;
+      }) same in
       order x.place place x.entry e before n.own.stands free.stands
 
   pub shorter : (x : Turn X) (turns : List (Turn X)) (entries : List (Entry X)) (place : ℕ) (e : Entry X) →
       IsWithoutTurn entries (x ∷ turns) place e → IsWithoutTurn entries turns place e
-  shorter x turns entries place e free = record { stands = free.stands; without = or-false (x.place == place) (has_turn turns place) free.without }
+  shorter x turns entries place e free =
+      record {
+        stands = free.stands;
+        without = or-false (x.place == place) (has_turn turns place) free.without;
+      }
 
   high_weighs : (byte_ns : ℕ) (entries : List (Entry X)) (longest : ℕ) (turns : List (Turn X)) (place : ℕ)
       (e : Entry X) → AreInOrder entries →
@@ -95,7 +112,8 @@ module _ {X : Type 0} where
   high_weighs byte_ns entries longest (x ∷ rest) place e order small h free high = (
     record {
       full = λ c. let is : x.entry.priority ≡ High = counts-is x.entry.priority c in
-          wire_full High 0 e.time x.entry is (omega arith) (came_before byte_ns entries rest x place e order h.0 free (high ∙ sym is));
+          wire_full High 0 e.time x.entry is (omega arith)
+          (came_before byte_ns entries rest x place e order h.0 free (high ∙ sym is));
       small = λ c. small x.place x.entry h.0.own.stands (counts-not x.entry.priority c);
     },
     high_weighs byte_ns entries longest rest place e order small h.1 (shorter x rest entries place e free) high,
@@ -115,19 +133,24 @@ module _ {X : Type 0} where
       (high_weighs byte_ns entries longest at.earlier s.place s.entry order small at.are next.own is)
       (λ idle place e free. pause byte_ns entries at.earlier s next idle place e free) in
       let begins : line.since ≤ s.entry.time
-      = line.come s.place s.entry (record { stands = next.own.stands; without = line.still s.place next.own.without }) (is-counted s.entry.priority is) in
+      = line.come s.place s.entry
+      (record { stands = next.own.stands; without = line.still s.place next.own.without })
+      (is-counted s.entry.priority is) in
       let came = one_class weight line.earlier High line.since s.entry.time 0 entries
       (λ j e k free. let own : IsWithoutTurn entries line.earlier j e = record {
         stands = k;
         without = subst (λ (n : ℕ). has_turn line.earlier n ≡ false) (omega arith) free;
       } in
       wire_later High line.since s.entry.time e (λ c. line.come j e own (is-counted e.priority c))) in
-      let full : weight s.entry ≡ s.entry.bytes + 20 = wire_full High 0 s.entry.time s.entry is (omega arith) (omega arith) in
+      let full : weight s.entry ≡ s.entry.bytes + 20 =
+      wire_full High 0 s.entry.time s.entry is (omega arith) (omega arith) in
       let taken = served weight s at.earlier 0 s.place s.entry entries next.own.stands (omega arith) next.own.without in
-      let lasts : s.end ≤ s.moment + (s.entry.bytes + 20) * byte_ns = (lasts-of byte_ns entries at.earlier s next).most in
+      let lasts : s.end ≤ s.moment + (s.entry.bytes + 20) * byte_ns =
+      (lasts-of byte_ns entries at.earlier s next).most in
       let ends : s.moment ≤ s.end = (lasts-of byte_ns entries at.earlier s next).after in
       let own : s.entry.bytes + 20 ≤ left_over weight at.earlier 0 entries = omega (arith, taken, full) in
-      let own-ns : byte_ns * (s.entry.bytes + 20) ≤ byte_ns * left_over weight at.earlier 0 entries = mul-le-mul_left byte_ns own in
+      let own-ns : byte_ns * (s.entry.bytes + 20)
+      ≤ byte_ns * left_over weight at.earlier 0 entries = mul-le-mul_left byte_ns own in
       let came-ns : byte_ns * left_over weight line.earlier 0 entries
       ≤ byte_ns * wire_between High line.since s.entry.time entries = mul-le-mul_left byte_ns came in
       let sent : s.end ≤ line.since + byte_ns * (longest + wire_between High line.since s.entry.time entries) = omega (
@@ -156,7 +179,8 @@ module _ {X : Type 0} where
               (λ is. came_before byte_ns entries rest x place e order h.0 free (low ∙ sym is));
           small = λ c. absurd (cc c);
         },
-        low_weighs byte_ns entries u rest place e order h.1 (shorter x rest entries place e free) low (omega (arith, lasts, after, over)),
+        low_weighs byte_ns entries u rest place e order h.1 (shorter x rest entries place e free)
+            low (omega (arith, lasts, after, over)),
       )
 
   pub low_soon : (byte_ns : ℕ) (high low : Curve) (entries : List (Entry X)) (turns : List (Turn X)) (i : ℕ)
@@ -174,7 +198,8 @@ module _ {X : Type 0} where
       (low_weighs byte_ns entries s.moment at.earlier s.place s.entry order at.are next.own is next.after)
       (λ idle place e free. pause byte_ns entries at.earlier s next idle place e free) in
       let begins : line.since ≤ s.entry.time
-      = line.come s.place s.entry (record { stands = next.own.stands; without = line.still s.place next.own.without }) refl in
+      = line.come s.place s.entry
+      (record { stands = next.own.stands; without = line.still s.place next.own.without }) refl in
       let come : s.entry.time ≤ s.moment = next.come in
       let came = both_classes weight line.earlier line.since s.moment s.entry.time 0 entries
       (λ j e k free. let own : IsWithoutTurn entries line.earlier j e = record {
@@ -185,32 +210,44 @@ module _ {X : Type 0} where
       let here = wire_later High line.since s.moment e (λ c. from) in
       let there = wire_later Low line.since s.entry.time e (λ c. from) in
       omega (arith, here, there)) in
-      let full : weight s.entry ≡ s.entry.bytes + 20 = both_full 0 s.moment s.entry.time s.entry (omega arith) (λ c. come) (λ c. omega arith) in
+      let full : weight s.entry ≡ s.entry.bytes + 20 =
+      both_full 0 s.moment s.entry.time s.entry (omega arith) (λ c. come) (λ c. omega arith) in
       let taken = served weight s at.earlier 0 s.place s.entry entries next.own.stands (omega arith) next.own.without in
-      let lasts : s.end ≤ s.moment + (s.entry.bytes + 20) * byte_ns = (lasts-of byte_ns entries at.earlier s next).most in
+      let lasts : s.end ≤ s.moment + (s.entry.bytes + 20) * byte_ns =
+      (lasts-of byte_ns entries at.earlier s next).most in
       let ends : s.moment ≤ s.end = (lasts-of byte_ns entries at.earlier s next).after in
       let own : s.entry.bytes + 20 ≤ left_over weight at.earlier 0 entries = omega (arith, taken, full) in
-      let own-ns : byte_ns * (s.entry.bytes + 20) ≤ byte_ns * left_over weight at.earlier 0 entries = mul-le-mul_left byte_ns own in
+      let own-ns : byte_ns * (s.entry.bytes + 20)
+      ≤ byte_ns * left_over weight at.earlier 0 entries = mul-le-mul_left byte_ns own in
       let came-ns : byte_ns * left_over weight line.earlier 0 entries
-      ≤ byte_ns * (wire_between High line.since s.moment entries + wire_between Low line.since s.entry.time entries) = mul-le-mul_left byte_ns came in
-      let sent : s.end ≤ line.since + byte_ns * (wire_between High line.since s.moment entries + wire_between Low line.since s.entry.time entries) = omega
+      ≤ byte_ns * (wire_between High line.since s.moment entries + wire_between Low line.since
+      s.entry.time entries) = mul-le-mul_left byte_ns came in
+      let sent : s.end ≤ line.since + byte_ns *
+      (wire_between High line.since s.moment entries + wire_between Low line.since s.entry.time
+      entries) = omega
       (arith, lasts, own-ns, came-ns, line.balance) in
       let moment : line.since + (s.entry.time - line.since) ≡ s.entry.time = omega arith in
       let end : line.since + (s.end - line.since) ≡ s.end = omega (arith, ends, begins, come) in
-      let r = soon-low byte_ns high.burst high.rate low.burst low.rate (byte_units - byte_ns * high.rate) line.since (s.entry.time - line.since)
+      let r = soon-low byte_ns high.burst high.rate low.burst low.rate
+      (byte_units - byte_ns * high.rate) line.since (s.entry.time - line.since)
       (s.moment - line.since) (s.end - line.since)
-      (wire_between High line.since s.moment entries) (wire_between Low line.since s.entry.time entries) rates (omega (arith, rates))
-      (high-curve line.since s.moment (omega (arith, begins, come))) (low-curve line.since s.entry.time begins) (omega (arith, ends)) (omega (arith, sent)) in
+      (wire_between High line.since s.moment entries)
+      (wire_between Low line.since s.entry.time entries) rates (omega (arith, rates))
+      (high-curve line.since s.moment (omega (arith, begins, come)))
+      (low-curve line.since s.entry.time begins) (omega (arith, ends)) (omega (arith, sent)) in
       rw (moment, end) at r
 
   pub all-high : HighIsBounded X
   all-high byte_ns high longest_low entries turns rate order keeps small are =
-      all_get (λ s. s.entry.priority ≡ High → byte_units * s.end ≤ byte_units * s.entry.time + byte_ns * (high.burst + byte_units * longest_low)) turns
+      all_get (λ s. s.entry.priority ≡ High
+      → byte_units * s.end ≤ byte_units * s.entry.time + byte_ns *
+      (high.burst + byte_units * longest_low)) turns
       (λ i s g is. high_soon byte_ns high longest_low entries turns i s rate order keeps
       (λ place e k. get_all (λ d. d.priority ≡ Low → d.bytes + 20 ≤ longest_low) entries place e small k) are g is)
 
   pub all-low : LowIsBounded X
   all-low byte_ns high low entries turns rate order highs lows are =
-      all_get (λ s. s.entry.priority ≡ Low → (byte_units - byte_ns * high.rate) * s.end ≤ (byte_units - byte_ns * high.rate) * s.entry.time
+      all_get (λ s. s.entry.priority ≡ Low → (byte_units - byte_ns * high.rate) * s.end
+      ≤ (byte_units - byte_ns * high.rate) * s.entry.time
       + byte_ns * (high.burst + low.burst)) turns
       (λ i s g is. low_soon byte_ns high low entries turns i s rate order highs lows are g is)

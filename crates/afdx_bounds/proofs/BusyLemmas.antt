@@ -1,5 +1,6 @@
 -- The busy time of a line, back from a moment: since it began, the line has sent without a pause.
-use Rattle.std.proofs.Common.{◌≡◌, ◌≢◌, ℕ, ◌+◌, ◌*◌, ◌<◌, ◌≤◌, ◌==◌, ◌||◌, max, Bool, true, false, List, [], ◌∷◌, inl, inr, refl, sym, arith}
+use Rattle.std.proofs.Common.{◌≡◌, ◌≢◌, ℕ, ◌+◌, ◌*◌, ◌<◌, ◌≤◌, ◌==◌, ◌||◌, max, Bool, true, false}
+use Rattle.std.proofs.Common.{List, [], ◌∷◌, inl, inr, refl, sym, arith}
 use Rattle.std.specs.List.{AllByRecursion}
 use Rattle.std.proofs.Math.Nat.{mul-le-mul_right}
 use Rattle.std.proofs.lemmas.Bool.{cases_Bool, cases_lt}
@@ -55,7 +56,8 @@ module _ {X : Type 0} where
     pub small : counts both e.priority ≡ false → e.bytes + 20 ≤ extra
 
   -- until `now` the line has sent what counts since the moment `since`, after these earlier turns, and at most one frame that doesn't count
-  pub record Busy (byte_ns : ℕ) (weight : Entry X → ℕ) (both : Bool) (extra : ℕ) (entries : List (Entry X)) (turns : List (Turn X)) (now : ℕ) : Type 0 where
+  pub record Busy (byte_ns : ℕ) (weight : Entry X → ℕ) (both : Bool) (extra : ℕ)
+      (entries : List (Entry X)) (turns : List (Turn X)) (now : ℕ) : Type 0 where
     pub since : ℕ
     pub earlier : List (Turn X)
     pub come : (place : ℕ) (e : Entry X) → IsWithoutTurn entries earlier place e → counts both e.priority ≡ true →
@@ -70,7 +72,8 @@ module _ {X : Type 0} where
       IsNext byte_ns entries earlier s → end_of earlier < s.moment →
       (place : ℕ) (e : Entry X) → IsWithoutTurn entries earlier place e → s.moment ≤ e.time
   pause byte_ns entries earlier s n gap place e free =
-      let soon : s.moment ≤ max e.time (end_of earlier) = n.least (max e.time (end_of earlier)) place e free (omega arith) (omega arith) in
+      let soon : s.moment ≤ max e.time (end_of earlier) =
+      n.least (max e.time (end_of earlier)) place e free (omega arith) (omega arith) in
       omega arith
 
   pub busy : (byte_ns : ℕ) (weight : Entry X → ℕ) (both : Bool) (extra : ℕ) (entries : List (Entry X))
@@ -100,7 +103,11 @@ module _ {X : Type 0} where
                 | inl late ↦ omega arith
                 | inr early ↦ absurd (let apart = counts-high both e.priority s.entry.priority class other in
                     apart.1 (next.high_first place e
-                    (record { stands = free.stands; without = or-false (s.place == place) (has_turn rest place) free.without }) early apart.0))
+                    (record {
+                      stands = free.stands;
+                      without = or-false (s.place == place) (has_turn rest place) free.without;
+                    })
+                    early apart.0))
               ];
               still = λ place free. free;
               begins = λ t idle started. (let first : s.moment < t = started.0 in omega arith);

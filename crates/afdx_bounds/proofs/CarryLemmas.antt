@@ -28,7 +28,8 @@ found-row : (rows : List Row) (vl : ℕ) (r : Row) (charge : Row → ℕ) → Ar
 found-row rows vl r charge are stands is = by_find (find (λ q. q.rule.vl == vl) rows) refl
   where
     by_find : (w : Option Row) → find (λ q. q.rule.vl == vl) rows ≡ w → option_map_or charge w 0 ≡ charge r
-    by_find None h = absurd (let none = find-none (λ q. q.rule.vl == vl) rows r h stands in let own = eqb-same r.rule.vl vl (sym is) in cc (none, own))
+    by_find None h = absurd (let none = find-none (λ q. q.rule.vl == vl) rows r h stands in
+        let own = eqb-same r.rule.vl vl (sym is) in cc (none, own))
     by_find (Some q) h = let found = find-some (λ d. d.rule.vl == vl) rows q h in
         ap charge (are.distinct q r found.stands stands (eqb-true q.rule.vl vl found.holds ∙ is))
 
@@ -36,9 +37,11 @@ module _ {X : Type 0} where
   pub bytes-carry : BytesCarry X
   bytes-carry item_of bytes_of rows are keeps = record {
     link = λ r x stands named. own r x named;
-    charge = λ r x stands named. found-row rows (link_in bytes_of (item_of x)) r (λ q. charge_by q.rule.policing (q.rule.lmax + 20)
+    charge = λ r x stands named. found-row rows (link_in bytes_of (item_of x)) r
+        (λ q. charge_by q.rule.policing (q.rule.lmax + 20)
         (length x.bytes + 20)) are stands (own r x named);
   }
     where
       own : (r : Row) (x : Arrival) → names r.rule.vl x.bytes ≡ true → link_in bytes_of (item_of x) ≡ r.rule.vl
-      own r x named = ap (λ bytes. option_map_or (λ v. v.0) (link_named_by bytes) 65536) (keeps x) ∙ bytes-name r.rule.vl x.bytes named
+      own r x named = ap (λ bytes. option_map_or (λ v. v.0) (link_named_by bytes) 65536) (keeps x)
+          ∙ bytes-name r.rule.vl x.bytes named

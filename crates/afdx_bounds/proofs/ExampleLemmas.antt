@@ -1,5 +1,6 @@
 -- The examples' numbers.
-use Rattle.std.proofs.Common.{◌≡◌, ℕ, ◌+◌, ◌*◌, ◌-◌, ◌≤◌, ◌<◌, List, [], ◌∷◌, length, refl, sym, ap, ◌∙◌, arith, suc, zero}
+use Rattle.std.proofs.Common.{◌≡◌, ℕ, ◌+◌, ◌*◌, ◌-◌, ◌≤◌, ◌<◌, List, [], ◌∷◌, length, refl, sym, ap}
+use Rattle.std.proofs.Common.{◌∙◌, arith, suc, zero}
 use Rattle.std.specs.Prelude.{All, Contains, IsTrue, slice_index_or}
 use Rattle.afdx_frame.specs.declared.link.Priority.TheVariants.{High, Low}
 use Rattle.afdx_frame.specs.Regulation.{byte_units}
@@ -29,9 +30,11 @@ rising-least : (low : ℕ) (flows : List Flow) (i : ℕ) (f : Flow) → Rising l
     slice_index_or flows i f ≡ f → low ≤ f.vl
 unfolding Rising
 rising-least low [] i f h lt at = absurd (omega (arith, lt))
-rising-least low (d ∷ ds) zero f h lt at = let same : d.vl ≡ f.vl = ap (λ z. z.vl) at in let least = h.0 in omega (arith, same, least)
+rising-least low (d ∷ ds) zero f h lt at = let same : d.vl ≡ f.vl = ap (λ z. z.vl) at in let least =
+    h.0 in omega (arith, same, least)
 rising-least low (d ∷ ds) (suc i) f h lt at =
-    let least = h.0 in let rest = rising-least (d.vl + 1) ds i f h.1 (omega (arith, lt)) at in omega (arith, least, rest)
+    let least = h.0 in let rest = rising-least (d.vl + 1) ds i f h.1 (omega (arith, lt)) at in
+    omega (arith, least, rest)
 
 rising-distinct : (low : ℕ) (flows : List Flow) → Rising low flows → (i j : ℕ) (f g : Flow) → i < length flows →
     j < length flows → slice_index_or flows i f ≡ f → slice_index_or flows j g ≡ g → f.vl ≡ g.vl → f ≡ g
@@ -39,10 +42,12 @@ unfolding Rising
 rising-distinct low [] h i j f g lt below at there same = absurd (omega (arith, lt))
 rising-distinct low (d ∷ ds) h zero zero f g lt below at there same = sym at ∙ there
 rising-distinct low (d ∷ ds) h zero (suc j) f g lt below at there same =
-    absurd (let own : d.vl ≡ f.vl = ap (λ z. z.vl) at in let later = rising-least (d.vl + 1) ds j g h.1 (omega (arith, below)) there in
+    absurd (let own : d.vl ≡ f.vl = ap (λ z. z.vl) at in let later =
+    rising-least (d.vl + 1) ds j g h.1 (omega (arith, below)) there in
     omega (arith, own, later, same))
 rising-distinct low (d ∷ ds) h (suc i) zero f g lt below at there same =
-    absurd (let own : d.vl ≡ g.vl = ap (λ z. z.vl) there in let later = rising-least (d.vl + 1) ds i f h.1 (omega (arith, lt)) at in
+    absurd (let own : d.vl ≡ g.vl = ap (λ z. z.vl) there in let later =
+    rising-least (d.vl + 1) ds i f h.1 (omega (arith, lt)) at in
     omega (arith, own, later, same))
 rising-distinct low (d ∷ ds) h (suc i) (suc j) f g lt below at there same =
     rising-distinct (d.vl + 1) ds h.1 i j f g (omega (arith, lt)) (omega (arith, below)) at there same
@@ -55,7 +60,8 @@ abbrev HighLine : Flow → Type 0
 HighLine f = f.priority ≡ High → high_wait 80 (pair 17000 21000) ≤ f.latency * byte_units
 
 abbrev LowLine : Flow → Type 0
-LowLine f = f.priority ≡ Low → low_wait 80 (pair 17000 21000) ≤ f.latency * (byte_units - high_load 80 (pair 17000 21000))
+LowLine f = f.priority ≡ Low → low_wait 80 (pair 17000 21000)
+    ≤ f.latency * (byte_units - high_load 80 (pair 17000 21000))
 
 pub pair-admitted : PairIsAdmitted
 unfolding Rising
@@ -84,12 +90,14 @@ three-sent = record {
   three = record {
     line = omega arith;
     flows_are = record {
-      gaps = all-three (λ f. IsTrue (is_bag f.link.bag_ms)) (long 1 369120) (long 2 369120) (long 3 369120) refl refl refl;
+      gaps = all-three (λ f. IsTrue (is_bag f.link.bag_ms)) (long 1 369120) (long 2 369120)
+          (long 3 369120) refl refl refl;
       distinct = distinct three (omega arith, (omega arith, (omega arith, tt)));
     };
     jitter = omega arith;
     each = all-three (λ f. IsSent 80 High three f) (long 1 369120) (long 2 369120) (long 3 369120)
-        (record { own_class = refl; regular = refl; waits = refl }) (record { own_class = refl; regular = refl; waits = refl })
+        (record { own_class = refl; regular = refl; waits = refl })
+        (record { own_class = refl; regular = refl; waits = refl })
         (record { own_class = refl; regular = refl; waits = refl });
   };
   four = λ h. (let line = h.jitter in omega (arith, line));
@@ -100,9 +108,11 @@ two-rows : (r s : Row) (i j : ℕ) → i < 2 → j < 2 → slice_index_or rows i
 two-rows r s zero zero lt below at there same = sym at ∙ there
 two-rows r s (suc zero) (suc zero) lt below at there same = sym at ∙ there
 two-rows r s zero (suc zero) lt below at there same =
-    absurd (let a : 1 ≡ r.rule.vl = ap (λ z. z.rule.vl) at in let b : 2 ≡ s.rule.vl = ap (λ z. z.rule.vl) there in omega (arith, a, b, same))
+    absurd (let a : 1 ≡ r.rule.vl = ap (λ z. z.rule.vl) at in let b : 2 ≡ s.rule.vl =
+    ap (λ z. z.rule.vl) there in omega (arith, a, b, same))
 two-rows r s (suc zero) zero lt below at there same =
-    absurd (let a : 2 ≡ r.rule.vl = ap (λ z. z.rule.vl) at in let b : 1 ≡ s.rule.vl = ap (λ z. z.rule.vl) there in omega (arith, a, b, same))
+    absurd (let a : 2 ≡ r.rule.vl = ap (λ z. z.rule.vl) at in let b : 1 ≡ s.rule.vl =
+    ap (λ z. z.rule.vl) there in omega (arith, a, b, same))
 two-rows r s (suc (suc i)) j lt below at there same = absurd (omega (arith, lt))
 two-rows r s i (suc (suc j)) lt below at there same = absurd (omega (arith, below))
 

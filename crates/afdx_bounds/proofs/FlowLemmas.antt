@@ -1,5 +1,6 @@
 -- What the window rule accepts of a link keeps a curve. Lists of charged frames have the newest first.
-use Rattle.std.proofs.Common.{◌≡◌, ℕ, ◌+◌, ◌*◌, ◌-◌, ◌≤◌, ◌&&◌, true, List, [], ◌∷◌, ◌++◌, ◌⊎◌, inl, inr, refl, arith, if◌then◌else◌}
+use Rattle.std.proofs.Common.{◌≡◌, ℕ, ◌+◌, ◌*◌, ◌-◌, ◌≤◌, ◌&&◌, true, List, [], ◌∷◌, ◌++◌, ◌⊎◌, inl}
+use Rattle.std.proofs.Common.{inr, refl, arith, if◌then◌else◌}
 use Rattle.std.specs.Prelude.{nat_le, IsTrue}
 use Rattle.std.proofs.Math.Nat.{mul-le-mul_left}
 use Rattle.std.proofs.lemmas.Bool.{cases_Bool, leb-true, and_parts}
@@ -36,7 +37,8 @@ charged_in-some since until x =
 -- what was charged since a moment is overdrawn, but for what was filled since, or nothing was
 Overdraws : Regulation → ℕ → ℕ → ℕ → ℕ → List Charged → Type 0
 Overdraws link since until now taken xs =
-    (charged_between since until xs ≡ 0) ⊎ (byte_units * (taken + charged_between since until xs) ≤ overdrawn link xs taken now
+    (charged_between since until xs ≡ 0)
+    ⊎ (byte_units * (taken + charged_between since until xs) ≤ overdrawn link xs taken now
     + fill_rate link * (now - since))
 
 window-overdraws : (link : Regulation) (since until now taken : ℕ) (xs : List Charged) →
@@ -50,7 +52,8 @@ window-overdraws link since until now taken (x ∷ xs) =
         | inr more ↦ inr (omega (arith, none, more))
       ]
       | inr counted ↦ (let own = counted.0 in
-          let gap : fill_rate link * (now - x.time) ≤ fill_rate link * (now - since) = mul-le-mul_left (fill_rate link) (let from = counted.1 in omega
+          let gap : fill_rate link * (now - x.time) ≤ fill_rate link * (now - since) =
+          mul-le-mul_left (fill_rate link) (let from = counted.1 in omega
           (arith, from)) in
           elim (window-overdraws link since until now (taken + x.charge) xs) [
             | inl nothing ↦ inr (omega (arith, own, nothing, gap))
@@ -63,11 +66,13 @@ pub window-missing : (link : Regulation) (since until now : ℕ) (xs : List Char
     byte_units * charged_between since until xs ≤ missing link xs now + fill_rate link * (now - since)
 unfolding Overdraws
 window-missing link since until now xs =
-    elim (window-overdraws link since until now 0 xs) [ inl nothing ↦ omega (arith, nothing) | inr more ↦ omega (arith, more) ]
+    elim (window-overdraws link since until now 0 xs)
+    [ inl nothing ↦ omega (arith, nothing) | inr more ↦ omega (arith, more) ]
 
 -- the frames keep the link's curve
 abbrev Keeps : Regulation → List Charged → Type 0
-Keeps link xs = (since until : ℕ) → since ≤ until → byte_units * charged_between since until xs ≤ cap link + fill_rate link * (until - since)
+Keeps link xs = (since until : ℕ) → since ≤ until → byte_units * charged_between since until xs
+    ≤ cap link + fill_rate link * (until - since)
 
 keeps-next : EachAccountMoves → (link : Regulation) → IsTrue (is_bag link.bag_ms) →
     (xs : List Charged) (x : Charged) → Keeps link xs → fits link xs x ≡ true → Keeps link (x ∷ xs)
@@ -77,7 +82,8 @@ keeps-next moves link gap xs x keeps fit since until le =
       | inl out ↦ (let old = keeps since until le in omega (arith, out, old))
       | inr counted ↦ (let own = counted.0 in
           let window = window-missing link since until x.time xs in
-          let longer : fill_rate link * (x.time - since) ≤ fill_rate link * (until - since) = mul-le-mul_left (fill_rate link) (let to = counted.2 in omega
+          let longer : fill_rate link * (x.time - since) ≤ fill_rate link * (until - since) =
+          mul-le-mul_left (fill_rate link) (let to = counted.2 in omega
           (arith, to)) in
           omega (arith, own, window, longer, room))
     ]
@@ -89,6 +95,7 @@ unfolding accepted_of
 accepted-keeps moves link gap [] since until le = omega arith
 accepted-keeps moves link gap (x ∷ past) since until le =
     elim (cases_Bool (fits link (accepted_of link past) x)) [
-      | inl fit ↦ rw fit (keeps-next moves link gap (accepted_of link past) x (accepted-keeps moves link gap past) fit since until le)
+      | inl fit ↦ rw fit (keeps-next moves link gap (accepted_of link past) x
+          (accepted-keeps moves link gap past) fit since until le)
       | inr refused ↦ rw refused (accepted-keeps moves link gap past since until le)
     ]

@@ -1,5 +1,6 @@
 -- What has left a port when no further turn is given.
-use Rattle.std.proofs.Common.{◌≡◌, ℕ, ◌+◌, ◌<◌, ◌≤◌, ◌==◌, Bool, true, false, List, [], ◌∷◌, ◌++◌, Some, inl, inr, refl, sym, ap, subst, arith, ◌∙◌, suc}
+use Rattle.std.proofs.Common.{◌≡◌, ℕ, ◌+◌, ◌<◌, ◌≤◌, ◌==◌, Bool, true, false, List, [], ◌∷◌, ◌++◌}
+use Rattle.std.proofs.Common.{Some, inl, inr, refl, sym, ap, subst, arith, ◌∙◌, suc}
 use Rattle.std.proofs.Common.{if◌then◌else◌}
 use Rattle.std.specs.List.{slice_get}
 use Rattle.std.proofs.lemmas.Option.{slice_get_within}
@@ -30,7 +31,8 @@ slot-after until end false kept h = omega (arith, h)
 given : (byte_ns until moment end bytes : ℕ) (too_old : Bool) → 0 < byte_ns →
     end ≡ moment + lasting byte_ns too_old bytes → until ≤ moment → until < end + (if too_old then 1 else 0)
 given byte_ns until moment end bytes true some lasts h = omega (arith, lasts, h)
-given byte_ns until moment end bytes false some lasts h = let long = product-positive (bytes + 20) byte_ns (omega arith) some in omega (arith, lasts, h, long)
+given byte_ns until moment end bytes false some lasts h = let long =
+    product-positive (bytes + 20) byte_ns (omega arith) some in omega (arith, lasts, h, long)
 
 module _ {X : Type 0} where
   -- the turn of a place that is among the later ones
@@ -50,7 +52,8 @@ module _ {X : Type 0} where
   later-given byte_ns entries turns (s ∷ later) until place some are next out has =
       elim (cases_Bool (s.place == place)) [
         | inl same ↦ record { i = 0; s = s; at = refl; own = eqb-true s.place place same; after = first later s are }
-        | inr other ↦ (let r = later-given byte_ns entries turns later until place some are.1 next out (rw other at has) in
+        | inr other ↦ (let r = later-given byte_ns entries turns later until place some are.1 next
+            out (rw other at has) in
             record { i = suc r.i; s = r.s; at = r.at; own = r.own; after = r.after })
       ]
     where
@@ -63,7 +66,8 @@ module _ {X : Type 0} where
           given byte_ns until x.moment x.end x.entry.bytes x.too_old some h.0.lasts (omega (arith, before, after))
 
   pub each-left : EachAccountMoves → EachHasLeft X
-  each-left moves byte_ns buffer flows vl_of charge_of entries turns f until place e regulated are flow next stands named waits over =
+  each-left moves byte_ns buffer flows vl_of charge_of entries turns f until place e regulated are
+      flow next stands named waits over =
       elim (cases_Bool (has_turn turns place)) [
         | inl has ↦ has
         | inr out ↦ absurd (
@@ -71,17 +75,21 @@ module _ {X : Type 0} where
             let r = schedule_begins byte_ns entries (schedule_of byte_ns entries) turns all are in
             let P : List (Turn X) → Type 0 = λ zs. AreTurns byte_ns entries zs in
             let longer : AreTurns byte_ns entries (r.0 ++ turns) = subst P r.1 all.each_next in
-            let has : has_turn (r.0 ++ turns) place ≡ true = subst (λ (zs : List (Turn X)). has_turn zs place ≡ true) r.1 (all.all_have_turns place
+            let has : has_turn (r.0 ++ turns) place ≡ true =
+            subst (λ (zs : List (Turn X)). has_turn zs place ≡ true) r.1 (all.all_have_turns place
             (slice_get_within entries place e stands)) in
             let l = later-given byte_ns entries turns r.0 until place regulated.line longer next out has in
             let own = turn_at byte_ns entries (r.0 ++ turns) l.i l.s longer l.at in
-            let at-place : slice_get entries place ≡ Some l.s.entry = subst (λ (n : ℕ). slice_get entries n ≡ Some l.s.entry) l.own own.next.own.stands in
+            let at-place : slice_get entries place ≡ Some l.s.entry =
+            subst (λ (n : ℕ). slice_get entries n ≡ Some l.s.entry) l.own own.next.own.stands in
             let same : e ≡ l.s.entry = cc (stands, at-place) in
             let names : vl_of l.s.entry.item ≡ f.vl = sym (ap (λ z. vl_of z.item) same) ∙ named in
             let time : e.time ≡ l.s.entry.time = ap (λ z. z.time) same in
             let Q : Entry X → Type 0 = λ z. MayWait f.latency z in
-            let end = turn-in-time moves byte_ns buffer flows vl_of charge_of entries (r.0 ++ turns) f l.i l.s regulated longer flow l.at names in
-            let kept = turn-not-old moves byte_ns buffer flows vl_of charge_of entries (r.0 ++ turns) f l.i l.s regulated longer flow l.at names
+            let end = turn-in-time moves byte_ns buffer flows vl_of charge_of entries (r.0 ++ turns)
+            f l.i l.s regulated longer flow l.at names in
+            let kept = turn-not-old moves byte_ns buffer flows vl_of charge_of entries
+            (r.0 ++ turns) f l.i l.s regulated longer flow l.at names
             (subst Q same waits) in
             let late = slot-after until l.s.end l.s.too_old kept l.after in
             omega (arith, end, late, time, over))

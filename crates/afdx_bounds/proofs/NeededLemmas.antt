@@ -1,5 +1,6 @@
 -- Counterexamples to the promises, for weaker admissions.
-use Rattle.std.proofs.Common.{◌≡◌, ℕ, ◌+◌, ◌*◌, ◌-◌, ◌≤◌, ◌<◌, false, List, [], ◌∷◌, None, refl, sym, subst, arith, ◌∙◌, suc, zero}
+use Rattle.std.proofs.Common.{◌≡◌, ℕ, ◌+◌, ◌*◌, ◌-◌, ◌≤◌, ◌<◌, false, List, [], ◌∷◌, None, refl}
+use Rattle.std.proofs.Common.{sym, subst, arith, ◌∙◌, suc, zero}
 use Rattle.std.specs.Prelude.{All, IsTrue, slice_index_or}
 use Rattle.afdx_frame.specs.declared.link.Priority.{Priority}
 use Rattle.afdx_frame.specs.declared.link.Priority.TheVariants.{High, Low}
@@ -11,12 +12,20 @@ use Rattle.afdx_port.specs.Schedule.{Entry}
 use Rattle.afdx_port.specs.ScheduleOf.{AreInOrder}
 use Rattle.afdx_bounds.specs.Curve.{wire}
 use Rattle.afdx_bounds.specs.Policed.{AreFlows, charged_to, IsCharged, ArePoliced}
-use Rattle.afdx_bounds.specs.Needed.{InTimeWhere, NoneIsLostWhere, NoneIsLostUnpoliced, AdmitsOverload, AdmitsSmallBuffer, AdmitsLate, EachLineIsNeeded}
+use Rattle.afdx_bounds.specs.Needed.{InTimeWhere, NoneIsLostWhere, NoneIsLostUnpoliced}
+use Rattle.afdx_bounds.specs.Needed.{AdmitsOverload, AdmitsSmallBuffer, AdmitsLate}
+use Rattle.afdx_bounds.specs.Needed.{EachLineIsNeeded}
 use Rattle.afdx_bounds.proofs.NextLemmas.{order-push}
 
 -- a link that is alone at its port, with a gap of 1 ms
 abbrev alone : Priority → ℕ → ℕ → ℕ → Flow
-alone class jitter_us smax latency = record { vl = 1; link = record { bag_ms = 1; jitter_us = jitter_us; smax = smax }; priority = class; latency = latency }
+alone class jitter_us smax latency =
+    record {
+      vl = 1;
+      link = record { bag_ms = 1; jitter_us = jitter_us; smax = smax };
+      priority = class;
+      latency = latency;
+    }
 
 abbrev frame : Priority → ℕ → ℕ → Entry ℕ
 frame class time bytes = record { time = time; priority = class; bytes = bytes; longest_wait = None; item = 1 }
@@ -50,22 +59,34 @@ none-in-order : AreInOrder {X = ℕ} []
 none-in-order i j d e le g k = absurd (cc g)
 
 order-two : (d e : Entry ℕ) → d.time ≤ e.time → AreInOrder (d ∷ e ∷ [])
-order-two d e le = order-push (d ∷ []) e (order-push [] d none-in-order (λ k x lt. absurd (omega (arith, lt)))) (all-one (λ z. z.time ≤ e.time) d le)
+order-two d e le = order-push (d ∷ []) e
+    (order-push [] d none-in-order (λ k x lt. absurd (omega (arith, lt))))
+    (all-one (λ z. z.time ≤ e.time) d le)
 
 -- what is accepted of the frames of the one link are all of them
 alone-policed : (f : Flow) (entries : List (Entry ℕ)) → All (λ e. IsCharged (λ vl. vl) wire (f ∷ []) e) entries →
-    charged_to (λ vl. vl) wire f.vl entries ≡ accepted_of f.link (charged_to (λ vl. vl) wire f.vl entries) → ArePoliced (λ vl. vl) wire (f ∷ []) entries
+    charged_to (λ vl. vl) wire f.vl entries
+    ≡ accepted_of f.link (charged_to (λ vl. vl) wire f.vl entries)
+    → ArePoliced (λ vl. vl) wire (f ∷ []) entries
 alone-policed f entries each all = record {
   charged = each;
   accepted = λ g k. (let same = one-at f g k.0 k.1 k.2 in
-      let P : Flow → Type 0 = λ d. (came : List Charged) × (charged_to (λ vl. vl) wire d.vl entries ≡ accepted_of d.link came) in
+      let P : Flow → Type 0 = λ d. (came : List Charged)
+      × (charged_to (λ vl. vl) wire d.vl entries ≡ accepted_of d.link came) in
       subst P same (charged_to (λ vl. vl) wire f.vl entries, all));
 }
 
 is-charged : (class : Priority) (jitter_us smax latency time bytes : ℕ) → bytes + 20 ≤ smax →
     IsCharged (λ vl. vl) wire (alone class jitter_us smax latency ∷ []) (frame class time bytes)
 is-charged class jitter_us smax latency time bytes small =
-    record { flow = alone class jitter_us smax latency; stands = (0, omega arith, refl); named = refl; class = refl; at_least = omega arith; at_most = small }
+    record {
+      flow = alone class jitter_us smax latency;
+      stands = (0, omega arith, refl);
+      named = refl;
+      class = refl;
+      at_least = omega arith;
+      at_most = small;
+    }
 
 -- at 10 Mbit/s a frame of 1518 bytes a millisecond is more than the line carries: the second one is late
 abbrev fast : Flow
@@ -74,7 +95,8 @@ fast = alone High 0 1538 1230400
 load-needed : InTimeWhere AdmitsOverload → ⊥
 unfolding accepted_of keeps_windows
 load-needed h =
-    let late = h 800 1538 (fast ∷ []) (frame High 0 1518 ∷ frame High 1000000 1518 ∷ []) fast (omega arith) (alone-is fast refl)
+    let late = h 800 1538 (fast ∷ []) (frame High 0 1518 ∷ frame High 1000000 1518 ∷ []) fast
+    (omega arith) (alone-is fast refl)
     (record {
       fits_buffer = omega arith;
       high_in_time = all-one (HighLine 800 (fast ∷ [])) fast (λ is. omega arith);
@@ -82,9 +104,12 @@ load-needed h =
     })
     (order-two (frame High 0 1518) (frame High 1000000 1518) (omega arith))
     (alone-policed fast (frame High 0 1518 ∷ frame High 1000000 1518 ∷ [])
-    (all-two (λ e. IsCharged (λ vl. vl) wire (fast ∷ []) e) (frame High 0 1518) (frame High 1000000 1518) (is-charged High 0 1538 1230400 0 1518 (omega arith))
+    (all-two (λ e. IsCharged (λ vl. vl) wire (fast ∷ []) e) (frame High 0 1518)
+    (frame High 1000000 1518) (is-charged High 0 1538 1230400 0 1518 (omega arith))
     (is-charged High 0 1538 1230400 1000000 1518 (omega arith))) refl)
-    (0, omega arith, refl) 0 (record { place = 0; entry = frame High 0 0; moment = 0; end = 0; too_old = false }) (omega arith) refl in
+    (0, omega arith, refl) 0
+    (record { place = 0; entry = frame High 0 0; moment = 0; end = 0; too_old = false })
+    (omega arith) refl in
     omega (arith, late)
 
 -- two frames of 64 bytes may come at once where the jitter is a gap: 127 bytes don't hold both
@@ -107,7 +132,8 @@ buffer-needed h =
     })
     (order-two (frame High 0 64) (frame High 0 64) (omega arith))
     (alone-policed jittery (frame High 0 64 ∷ frame High 0 64 ∷ [])
-    (all-two (λ e. IsCharged (λ vl. vl) wire (jittery ∷ []) e) (frame High 0 64) (frame High 0 64) (is-charged High 1000 84 100000 0 64 (omega arith))
+    (all-two (λ e. IsCharged (λ vl. vl) wire (jittery ∷ []) e) (frame High 0 64) (frame High 0 64)
+    (is-charged High 1000 84 100000 0 64 (omega arith))
     (is-charged High 1000 84 100000 0 64 (omega arith))) refl) in
     cc kept
 
@@ -119,7 +145,8 @@ high-needed : InTimeWhere
     (λ byte_ns buffer flows. AdmitsLate byte_ns buffer flows × All (λ f. f.priority ≡ High) flows) → ⊥
 unfolding accepted_of keeps_windows
 high-needed h =
-    let late = h 80 84 (hasty High ∷ []) (frame High 0 64 ∷ []) (hasty High) (omega arith) (alone-is (hasty High) refl) (
+    let late = h 80 84 (hasty High ∷ []) (frame High 0 64 ∷ []) (hasty High) (omega arith)
+    (alone-is (hasty High) refl) (
       record {
         no_overload = omega arith;
         fits_buffer = omega arith;
@@ -129,9 +156,12 @@ high-needed h =
       all-one (λ f. f.priority ≡ High) (hasty High) refl,
     )
     (order-push [] (frame High 0 64) none-in-order (λ k x lt. absurd (omega (arith, lt))))
-    (alone-policed (hasty High) (frame High 0 64 ∷ []) (all-one (λ e. IsCharged (λ vl. vl) wire (hasty High ∷ []) e) (frame High 0 64)
+    (alone-policed (hasty High) (frame High 0 64 ∷ [])
+    (all-one (λ e. IsCharged (λ vl. vl) wire (hasty High ∷ []) e) (frame High 0 64)
     (is-charged High 0 84 6719 0 64 (omega arith))) refl)
-    (0, omega arith, refl) 0 (record { place = 0; entry = frame High 0 0; moment = 0; end = 0; too_old = false }) (omega arith) refl in
+    (0, omega arith, refl) 0
+    (record { place = 0; entry = frame High 0 0; moment = 0; end = 0; too_old = false })
+    (omega arith) refl in
     omega (arith, late)
 
 low-needed : InTimeWhere
@@ -148,9 +178,12 @@ low-needed h =
       all-one (λ f. f.priority ≡ Low) (hasty Low) refl,
     )
     (order-push [] (frame Low 0 64) none-in-order (λ k x lt. absurd (omega (arith, lt))))
-    (alone-policed (hasty Low) (frame Low 0 64 ∷ []) (all-one (λ e. IsCharged (λ vl. vl) wire (hasty Low ∷ []) e) (frame Low 0 64)
+    (alone-policed (hasty Low) (frame Low 0 64 ∷ [])
+    (all-one (λ e. IsCharged (λ vl. vl) wire (hasty Low ∷ []) e) (frame Low 0 64)
     (is-charged Low 0 84 6719 0 64 (omega arith))) refl)
-    (0, omega arith, refl) 0 (record { place = 0; entry = frame Low 0 0; moment = 0; end = 0; too_old = false }) (omega arith) refl in
+    (0, omega arith, refl) 0
+    (record { place = 0; entry = frame Low 0 0; moment = 0; end = 0; too_old = false })
+    (omega arith) refl in
     omega (arith, late)
 
 -- two frames of 64 bytes at once, where the jitter allows one: 84 bytes don't hold both
@@ -167,9 +200,16 @@ policing-needed h =
       low_in_time = all-one (LowLine 80 (steady ∷ [])) steady (λ is. absurd (cc is));
     })
     (order-two (frame High 0 64) (frame High 0 64) (omega arith))
-    (all-two (λ e. IsCharged (λ vl. vl) wire (steady ∷ []) e) (frame High 0 64) (frame High 0 64) (is-charged High 0 84 6720 0 64 (omega arith))
+    (all-two (λ e. IsCharged (λ vl. vl) wire (steady ∷ []) e) (frame High 0 64) (frame High 0 64)
+    (is-charged High 0 84 6720 0 64 (omega arith))
     (is-charged High 0 84 6720 0 64 (omega arith))) in
     cc kept
 
 pub each-needed : EachLineIsNeeded
-each-needed = record { load = load-needed; buffer = buffer-needed; high_latency = high-needed; low_latency = low-needed; policing = policing-needed }
+each-needed = record {
+  load = load-needed;
+  buffer = buffer-needed;
+  high_latency = high-needed;
+  low_latency = low-needed;
+  policing = policing-needed;
+}

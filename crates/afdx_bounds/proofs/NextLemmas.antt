@@ -1,5 +1,6 @@
 -- A further frame that fits.
-use Rattle.std.proofs.Common.{◌≡◌, ℕ, ◌+◌, ◌<◌, ◌≤◌, ◌==◌, nat_lt, true, false, List, [], ◌∷◌, ◌++◌, inl, inr, refl, sym, ap, subst, arith, ◌∙◌}
+use Rattle.std.proofs.Common.{◌≡◌, ℕ, ◌+◌, ◌<◌, ◌≤◌, ◌==◌, nat_lt, true, false, List, [], ◌∷◌, ◌++◌}
+use Rattle.std.proofs.Common.{inl, inr, refl, sym, ap, subst, arith, ◌∙◌}
 use Rattle.std.specs.Prelude.{All, IsTrue, reverse}
 use Rattle.std.proofs.lemmas.Option.{slice_get_within}
 use Rattle.std.proofs.lemmas.Bool.{cases_Bool, cases_lt, eqb-true, cond-true, cond-false}
@@ -28,7 +29,9 @@ joins : (link : Regulation) (came accepted : List Charged) (x : Charged) → acc
 unfolding accepted_of
 joins link came accepted x is fit =
     let P : List Charged → Type 0 = λ xs. fits link xs x ≡ true in
-    ap (λ xs. x ∷ xs) is ∙ sym (cond-true (fits link (accepted_of link came) x) (x ∷ accepted_of link came) (accepted_of link came) (subst P is fit))
+    ap (λ xs. x ∷ xs) is ∙ sym
+    (cond-true (fits link (accepted_of link came) x) (x ∷ accepted_of link came)
+    (accepted_of link came) (subst P is fit))
 
 -- all but the newest of what is accepted is what is accepted of some frames
 older : (link : Regulation) (x : Charged) (xs came : List Charged) → x ∷ xs ≡ accepted_of link came →
@@ -53,7 +56,8 @@ module _ {X : Type 0} where
   offer-kept moves byte_ns buffer flows vl_of charge_of entries new order regulated =
       elim (cases_Bool (is_lost byte_ns buffer entries new)) [
         | inr stays ↦ stays
-        | inl lost ↦ absurd (none-lost moves byte_ns buffer flows vl_of charge_of entries (schedule_of byte_ns entries) new regulated
+        | inl lost ↦ absurd (none-lost moves byte_ns buffer flows vl_of charge_of entries
+            (schedule_of byte_ns entries) new regulated
             (schedule_of_is byte_ns entries order)
             (true-less buffer (waiting_bytes entries (schedule_of byte_ns entries) new.time + new.bytes) lost))
       ]
@@ -68,7 +72,8 @@ module _ {X : Type 0} where
         ]
         | inr new-j ↦ (let late : e.time ≡ new.time = ap (λ z. z.time) new-j.1 in
             elim (get_either entries new i d g) [
-              | inl old-i ↦ (let came = get_all (λ z. z.time ≤ new.time) entries i d come old-i in omega (arith, came, late))
+              | inl old-i ↦ (let came = get_all (λ z. z.time ≤ new.time) entries i d come old-i in
+                  omega (arith, came, late))
               | inr new-i ↦ (let same : d.time ≡ new.time = ap (λ z. z.time) new-i.1 in omega (arith, same, late))
             ])
       ]
@@ -76,20 +81,31 @@ module _ {X : Type 0} where
   joins-charged : (vl_of : X → ℕ) (charge_of : Entry X → ℕ) (flows : List Flow) (entries : List (Entry X)) (f : Flow)
       (new : Entry X) → Joins vl_of charge_of flows entries f new → IsCharged vl_of charge_of flows new
   joins-charged vl_of charge_of flows entries f new h =
-      record { flow = f; stands = h.stands; named = sym h.named; class = h.class; at_least = h.at_least; at_most = h.at_most }
+      record {
+        flow = f;
+        stands = h.stands;
+        named = sym h.named;
+        class = h.class;
+        at_least = h.at_least;
+        at_most = h.at_most;
+      }
 
   next-policed : (flows : List Flow) (vl_of : X → ℕ) (charge_of : Entry X → ℕ) (entries : List (Entry X)) (f : Flow)
       (new : Entry X) →
       AreFlows flows → ArePoliced vl_of charge_of flows entries → Joins vl_of charge_of flows entries f new →
       ArePoliced vl_of charge_of flows (entries ++ new ∷ [])
   next-policed flows vl_of charge_of entries f new links policed h = record {
-    charged = All-push (λ e. IsCharged vl_of charge_of flows e) entries new policed.charged (joins-charged vl_of charge_of flows entries f new h);
+    charged = All-push (λ e. IsCharged vl_of charge_of flows e) entries new policed.charged
+        (joins-charged vl_of charge_of flows entries f new h);
     accepted = λ g k. (let own = policed.accepted g k in
         let push = charged-push vl_of charge_of g.vl entries new in
         elim (cases_Bool (vl_of new.item == g.vl)) [
           | inr other ↦ (own.0, rw other at push ∙ own.1)
-          | inl is ↦ (let same : f ≡ g = links.distinct f g h.stands k (sym h.named ∙ eqb-true (vl_of new.item) g.vl is) in
-              let P : Flow → Type 0 = λ d. IsTrue (fits d.link (charged_to vl_of charge_of d.vl entries) (charged_as charge_of new)) in
+          | inl is ↦ (let same : f ≡ g =
+              links.distinct f g h.stands k (sym h.named ∙ eqb-true (vl_of new.item) g.vl is) in
+              let P : Flow → Type 0 = λ d.
+              IsTrue (fits d.link (charged_to vl_of charge_of d.vl entries)
+              (charged_as charge_of new)) in
               let fit = subst P same h.fits_in in (
                 charged_as charge_of new ∷ own.0,
                 rw is at push ∙ joins g.link own.0 (charged_to vl_of charge_of g.vl entries)
@@ -116,15 +132,18 @@ module _ {X : Type 0} where
     line = regulated.line;
     flows_are = regulated.flows_are;
     admitted = regulated.admitted;
-    in_order = λ i j d e le g k. regulated.in_order i j d e le (get_longer entries last i d g) (get_longer entries last j e k);
+    in_order = λ i j d e le g k. regulated.in_order i j d e le (get_longer entries last i d g)
+        (get_longer entries last j e k);
     policed = record {
       charged = all_get (λ e. IsCharged vl_of charge_of flows e) entries
-          (λ i e g. get_all (λ d. IsCharged vl_of charge_of flows d) (entries ++ last ∷ []) i e regulated.policed.charged (get_longer entries last i e g));
+          (λ i e g. get_all (λ d. IsCharged vl_of charge_of flows d) (entries ++ last ∷ []) i e
+          regulated.policed.charged (get_longer entries last i e g));
       accepted = λ f k. (let own = regulated.policed.accepted f k in
           let push = charged-push vl_of charge_of f.vl entries last in
           elim (cases_Bool (vl_of last.item == f.vl)) [
             | inr other ↦ (own.0, sym (rw other at push) ∙ own.1)
-            | inl is ↦ older f.link (charged_as charge_of last) (charged_to vl_of charge_of f.vl entries) own.0 (sym (rw is at push) ∙ own.1)
+            | inl is ↦ older f.link (charged_as charge_of last)
+                (charged_to vl_of charge_of f.vl entries) own.0 (sym (rw is at push) ∙ own.1)
           ]);
     };
   }

@@ -1,5 +1,6 @@
 -- The entries of a port over a list of arrivals.
-use Rattle.std.proofs.Common.{◌≡◌, ℕ, ◌+◌, ◌≤◌, ◌==◌, ◌&&◌, Bool, true, false, List, [], ◌∷◌, ◌++◌, length, map, Option, Some, None, inl, inr, refl, sym, ap}
+use Rattle.std.proofs.Common.{◌≡◌, ℕ, ◌+◌, ◌≤◌, ◌==◌, ◌&&◌, Bool, true, false, List, [], ◌∷◌, ◌++◌}
+use Rattle.std.proofs.Common.{length, map, Option, Some, None, inl, inr, refl, sym, ap}
 use Rattle.std.proofs.Common.{subst, arith, ◌∙◌, suc, if◌then◌else◌}
 use Rattle.std.specs.Prelude.{All, Contains, IfSome, find, reverse}
 use Rattle.std.specs.List.{slice_get}
@@ -18,11 +19,13 @@ use Rattle.afdx_police.specs.Window.{Charged, fits, accepted_of}
 use Rattle.afdx_port.specs.Schedule.{Entry}
 use Rattle.afdx_port.specs.ScheduleOf.{AreInOrder}
 use Rattle.afdx_port.proofs.TurnLemmas.{eqb-same}
-use Rattle.afdx_bounds.specs.OutputLaws.{IsServed, SentIsOffered, UnsentIsNot, EntriesAreRegulated, EntriesAreAccepted, OffersEnter, ArrivalIsKept}
+use Rattle.afdx_bounds.specs.OutputLaws.{IsServed, SentIsOffered, UnsentIsNot, EntriesAreRegulated}
+use Rattle.afdx_bounds.specs.OutputLaws.{EntriesAreAccepted, OffersEnter, ArrivalIsKept}
 use Rattle.afdx_bounds.specs.OutputLaws.{ArrivalsAreInTime, ArrivalsAreNotOld, ArrivalsHaveLeft}
 use Rattle.afdx_bounds.specs.Policed.{charged_as, charged_to, MayWait, IsCharged, ArePoliced, IsRegulated}
 use Rattle.afdx_bounds.specs.Admitted.{Joins}
-use Rattle.afdx_bounds.specs.Outputs.{Row, Output, AreRows, flow_of, flows_at, AreTimed, accepts, sends, entry_of, with_sent, offers_at, entries_at, Carries}
+use Rattle.afdx_bounds.specs.Outputs.{Row, Output, AreRows, flow_of, flows_at, AreTimed, accepts}
+use Rattle.afdx_bounds.specs.Outputs.{sends, entry_of, with_sent, offers_at, entries_at, Carries}
 use Rattle.afdx_bounds.specs.Offered.{is_lost, entries_of}
 use Rattle.afdx_bounds.proofs.SumLemmas.{charged-push}
 use Rattle.afdx_bounds.proofs.AdmittedLemmas.{in-time, turn-not-old}
@@ -48,7 +51,9 @@ sends-parts o past x r h =
 -- the row that accepts is one
 one-row : (rows : List Row) (past : List Arrival) (x : Arrival) (r s : Row) → AreRows rows → Contains rows r →
     Contains rows s → accepts past x r ≡ true → accepts past x s ≡ true → r ≡ s
-one-row rows past x r s are k l h g = are.distinct r s k l (one-name r.rule.vl s.rule.vl x.bytes (looks r past x h).named (looks s past x g).named)
+one-row rows past x r s are k l h g =
+    are.distinct r s k l (one-name r.rule.vl s.rule.vl x.bytes (looks r past x h).named
+    (looks s past x g).named)
 
 module _ {X : Type 0} where
   -- an entry may wait as long as its row says
@@ -59,7 +64,8 @@ module _ {X : Type 0} where
     is : e.longest_wait ≡ row.longest_wait
 
   -- what holds of the entries after some arrivals
-  record Inv (vl_of : X → ℕ) (charge_of : Entry X → ℕ) (rows : List Row) (o : Output) (past : List Arrival) (entries : List (Entry X)) : Type 0 where
+  record Inv (vl_of : X → ℕ) (charge_of : Entry X → ℕ) (rows : List Row) (o : Output)
+      (past : List Arrival) (entries : List (Entry X)) : Type 0 where
     order : AreInOrder entries
     charged : All (λ e. IsCharged vl_of charge_of (flows_at o.number rows) e) entries
     waits : All (λ e. Waits vl_of rows e) entries
@@ -73,10 +79,13 @@ module _ {X : Type 0} where
   policed offers vl_of charge_of rows o past entries inv = record {
     charged = inv.charged;
     accepted = λ f k. (let w = flow-from o.number rows k.0 f k.1 k.2 in
-        let came = map (charged_offer (charge_by w.row.rule.policing) (regulation_of w.row.rule)) (offers_of w.row.rule (own w.row.rule.vl o.side past)) in
+        let came = map (charged_offer (charge_by w.row.rule.policing) (regulation_of w.row.rule))
+        (offers_of w.row.rule (own w.row.rule.vl o.side past)) in
         let is : charged_to vl_of charge_of w.row.rule.vl entries
-        ≡ accepted_of (regulation_of w.row.rule) came = inv.owned w.row w.stands w.goes ∙ offers w.row.rule (own w.row.rule.vl o.side past) in
-        let P : Flow → Type 0 = λ d. (xs : List Charged) × (charged_to vl_of charge_of d.vl entries ≡ accepted_of d.link xs) in
+        ≡ accepted_of (regulation_of w.row.rule) came = inv.owned w.row w.stands w.goes
+        ∙ offers w.row.rule (own w.row.rule.vl o.side past) in
+        let P : Flow → Type 0 = λ d. (xs : List Charged)
+        × (charged_to vl_of charge_of d.vl entries ≡ accepted_of d.link xs) in
         subst P w.is (came, is));
   }
 
@@ -108,11 +117,14 @@ module _ {X : Type 0} where
   arrival-joins item_of vl_of charge_of rows o past entries x r carries inv times stands s =
       let l = looks r past x s.accepted in
       let charge = carries.charge r x stands l.named in
-      let c = charge-least r.rule.policing (r.rule.lmax + 20) (length x.bytes + 20) (let short = l.short in omega (arith, short)) in
+      let c = charge-least r.rule.policing (r.rule.lmax + 20) (length x.bytes + 20)
+      (let short = l.short in omega (arith, short)) in
       let is : charged_to vl_of charge_of r.rule.vl entries ≡ accepted_own r.rule (own r.rule.vl x.side past)
-      = inv.owned r stands s.goes ∙ ap (λ side. accepted_own r.rule (own r.rule.vl side past)) (same-side o.side x.side s.side) in
+      = inv.owned r stands s.goes
+      ∙ ap (λ side. accepted_own r.rule (own r.rule.vl side past)) (same-side o.side x.side s.side) in
       let P : List Charged → Type 0 = λ xs. fits (regulation_of r.rule) xs (charged_by r.rule x) ≡ true in
-      let Q : Charged → Type 0 = λ a. fits (regulation_of r.rule) (charged_to vl_of charge_of r.rule.vl entries) a ≡ true in
+      let Q : Charged → Type 0 =
+      λ a. fits (regulation_of r.rule) (charged_to vl_of charge_of r.rule.vl entries) a ≡ true in
       record {
         last = inv.come x.time times;
         stands = flow-to o.number rows r stands s.goes;
@@ -129,22 +141,29 @@ module _ {X : Type 0} where
       All (λ y. y.time ≤ x.time) past → Contains rows r → Sends o past x r →
       is_lost o.byte_ns o.buffer entries (entry_of item_of r x) ≡ false
   kept moves offers item_of vl_of charge_of rows o past entries x r served carries inv times stands s =
-      offer-kept moves o.byte_ns o.buffer (flows_at o.number rows) vl_of charge_of entries (entry_of item_of r x) inv.order
-      (next-regulated o.byte_ns o.buffer (flows_at o.number rows) vl_of charge_of entries (flow_of r) (entry_of item_of r x)
+      offer-kept moves o.byte_ns o.buffer (flows_at o.number rows) vl_of charge_of entries
+      (entry_of item_of r x) inv.order
+      (next-regulated o.byte_ns o.buffer (flows_at o.number rows) vl_of charge_of entries
+      (flow_of r) (entry_of item_of r x)
       (regulated offers vl_of charge_of rows o past entries served inv)
       (arrival-joins item_of vl_of charge_of rows o past entries x r carries inv times stands s))
 
   -- no row sends the arrival there
   stays : (vl_of : X → ℕ) (charge_of : Entry X → ℕ) (rows : List Row) (o : Output) (past : List Arrival)
       (entries : List (Entry X)) (x : Arrival) →
-      Inv vl_of charge_of rows o past entries → ((r : Row) → Contains rows r → sends o past x r ≡ false) → Inv vl_of charge_of rows o (x ∷ past) entries
+      Inv vl_of charge_of rows o past entries
+      → ((r : Row) → Contains rows r → sends o past x r ≡ false)
+      → Inv vl_of charge_of rows o (x ∷ past) entries
   stays vl_of charge_of rows o past entries x inv none = record {
     order = inv.order;
     charged = inv.charged;
     waits = inv.waits;
     come = λ t times. inv.come t (λ k d lt. times (suc k) d (omega (arith, lt)));
-    owned = λ r k goes. inv.owned r k goes ∙ sym (accepted-more r o.side past x ∙ unsent (accepts past x r) (is_side o.side x.side) (r.goes_to o.number)
-        (charged_by r.rule x ∷ accepted_own r.rule (own r.rule.vl o.side past)) (accepted_own r.rule (own r.rule.vl o.side past)) goes (none r k));
+    owned = λ r k goes. inv.owned r k goes
+        ∙ sym (accepted-more r o.side past x
+        ∙ unsent (accepts past x r) (is_side o.side x.side) (r.goes_to o.number)
+        (charged_by r.rule x ∷ accepted_own r.rule (own r.rule.vl o.side past))
+        (accepted_own r.rule (own r.rule.vl o.side past)) goes (none r k));
   }
     where
       unsent : (a s g : Bool) (xs ys : List Charged) → g ≡ true → (a && (s && g)) ≡ false →
@@ -164,21 +183,35 @@ module _ {X : Type 0} where
       let l = looks r past x s.accepted in
       record {
         order = order-push entries (entry_of item_of r x) inv.order j.last;
-        charged = All-push (λ e. IsCharged vl_of charge_of (flows_at o.number rows) e) entries (entry_of item_of r x) inv.charged
-            (record { flow = flow_of r; stands = j.stands; named = sym j.named; class = refl; at_least = j.at_least; at_most = j.at_most });
-        waits = All-push (λ e. Waits vl_of rows e) entries (entry_of item_of r x) inv.waits (record { row = r; stands = stands; named = j.named; is = refl });
-        come = λ t all. All-push (λ e. e.time ≤ t) entries (entry_of item_of r x) (inv.come t (λ k d lt. all (suc k) d (omega (arith, lt))))
+        charged = All-push (λ e. IsCharged vl_of charge_of (flows_at o.number rows) e) entries
+            (entry_of item_of r x) inv.charged
+            (record {
+              flow = flow_of r;
+              stands = j.stands;
+              named = sym j.named;
+              class = refl;
+              at_least = j.at_least;
+              at_most = j.at_most;
+            });
+        waits = All-push (λ e. Waits vl_of rows e) entries (entry_of item_of r x) inv.waits
+            (record { row = r; stands = stands; named = j.named; is = refl });
+        come = λ t all. All-push (λ e. e.time ≤ t) entries (entry_of item_of r x)
+            (inv.come t (λ k d lt. all (suc k) d (omega (arith, lt))))
             (all 0 x (omega arith));
         owned = λ q k goes. (let push = charged-push vl_of charge_of q.rule.vl entries (entry_of item_of r x) in
             let more = accepted-more q o.side past x in
             let old = inv.owned q k goes in
             elim (cases_Bool (vl_of (item_of x) == q.rule.vl)) [
-              | inl is ↦ (let same : r ≡ q = are.distinct r q stands k (sym j.named ∙ eqb-true (vl_of (item_of x)) q.rule.vl is) in
+              | inl is ↦ (let same : r ≡ q =
+                  are.distinct r q stands k (sym j.named ∙ eqb-true (vl_of (item_of x)) q.rule.vl is) in
                   let P : Row → Type 0 = λ z. accepts past x z ≡ true in
                   let accepted = subst P same s.accepted in
-                  let charge = same-charged charge_of item_of r x (carries.charge r x stands l.named) ∙ ap (λ z. charged_by z.rule x) same in
-                  rw is at push ∙ ap (λ a. a ∷ charged_to vl_of charge_of q.rule.vl entries) charge ∙ ap (λ xs. charged_by q.rule x ∷ xs) old
-                  ∙ both-then (accepts past x q) (is_side o.side x.side) (charged_by q.rule x ∷ accepted_own q.rule (own q.rule.vl o.side past))
+                  let charge = same-charged charge_of item_of r x
+                  (carries.charge r x stands l.named) ∙ ap (λ z. charged_by z.rule x) same in
+                  rw is at push ∙ ap (λ a. a ∷ charged_to vl_of charge_of q.rule.vl entries) charge
+                  ∙ ap (λ xs. charged_by q.rule x ∷ xs) old
+                  ∙ both-then (accepts past x q) (is_side o.side x.side)
+                  (charged_by q.rule x ∷ accepted_own q.rule (own q.rule.vl o.side past))
                   (accepted_own q.rule (own q.rule.vl o.side past)) accepted s.side ∙ sym more)
               | inr other ↦ rw other at push ∙ old ∙ sym (elim (cases_Bool (accepts past x q)) [
                 | inr refused ↦ rw refused at more
@@ -194,18 +227,23 @@ module _ {X : Type 0} where
       (rows : List Row) (o : Output) (past : List Arrival) (earlier : List (Entry X)) (x : Arrival) →
       IsServed rows o → Carries item_of vl_of charge_of rows →
       Inv vl_of charge_of rows o past (entries_of o.byte_ns o.buffer earlier) → All (λ y. y.time ≤ x.time) past →
-      Inv vl_of charge_of rows o (x ∷ past) (entries_of o.byte_ns o.buffer (with_sent item_of x (find (sends o past x) rows) earlier))
-  next moves offers item_of vl_of charge_of rows o past earlier x served carries inv times = by_find (find (sends o past x) rows) refl
+      Inv vl_of charge_of rows o (x ∷ past)
+      (entries_of o.byte_ns o.buffer (with_sent item_of x (find (sends o past x) rows) earlier))
+  next moves offers item_of vl_of charge_of rows o past earlier x served carries inv times =
+      by_find (find (sends o past x) rows) refl
     where
       by_find : (w : Option Row) → find (sends o past x) rows ≡ w →
           Inv vl_of charge_of rows o (x ∷ past) (entries_of o.byte_ns o.buffer (with_sent item_of x w earlier))
-      by_find None h = stays vl_of charge_of rows o past (entries_of o.byte_ns o.buffer earlier) x inv (λ r k. find-none (sends o past x) rows r h k)
+      by_find None h = stays vl_of charge_of rows o past (entries_of o.byte_ns o.buffer earlier) x
+          inv (λ r k. find-none (sends o past x) rows r h k)
       by_find (Some r) h =
           let found = find-some (sends o past x) rows r h in
           let s = sends-parts o past x r found.holds in
           let fits-in = kept moves offers item_of vl_of charge_of rows o past
           (entries_of o.byte_ns o.buffer earlier) x r served carries inv times found.stands s in
-          rw fits-in (grows item_of vl_of charge_of rows o past (entries_of o.byte_ns o.buffer earlier) x r served.rows_are carries inv times found.stands s)
+          rw fits-in (grows item_of vl_of charge_of rows o past
+          (entries_of o.byte_ns o.buffer earlier) x r served.rows_are carries inv times
+          found.stands s)
 
   all-of : EachAccountMoves → ArrivalsAreOffers → (item_of : Arrival → X) (vl_of : X → ℕ) (charge_of : Entry X → ℕ)
       (rows : List Row) (o : Output) (arrivals : List Arrival) →
@@ -235,7 +273,8 @@ module _ {X : Type 0} where
   pub arrival-kept : EachAccountMoves → ArrivalsAreOffers → ArrivalIsKept X
   arrival-kept moves offers item_of vl_of charge_of rows o past x r served carries timed stands h =
       kept moves offers item_of vl_of charge_of rows o past (entries_at item_of rows o past) x r served carries
-      (all-of moves offers item_of vl_of charge_of rows o past served carries timed.1) timed.0 stands (sends-parts o past x r h)
+      (all-of moves offers item_of vl_of charge_of rows o past served carries timed.1) timed.0
+      stands (sends-parts o past x r h)
 
   entry-waits : EachAccountMoves → ArrivalsAreOffers →
       (item_of : Arrival → X) (vl_of : X → ℕ) (charge_of : Entry X → ℕ) (rows : List Row) (o : Output)
@@ -243,7 +282,8 @@ module _ {X : Type 0} where
       IsServed rows o → Carries item_of vl_of charge_of rows → AreTimed arrivals → Contains rows r →
       IfSome r.longest_wait (λ wait. r.latency ≤ wait) →
       slice_get (entries_at item_of rows o arrivals) place ≡ Some e → vl_of e.item ≡ r.rule.vl → MayWait r.latency e
-  entry-waits moves offers item_of vl_of charge_of rows o arrivals r place e served carries timed stands waits at named =
+  entry-waits moves offers item_of vl_of charge_of rows o arrivals r place e served carries timed
+      stands waits at named =
       let inv = all-of moves offers item_of vl_of charge_of rows o arrivals served carries timed in
       let w = get_all (λ d. Waits vl_of rows d) (entries_at item_of rows o arrivals) place e inv.waits at in
       let same : r ≡ w.row = served.rows_are.distinct r w.row stands w.stands (sym named ∙ w.named) in
@@ -253,32 +293,40 @@ module _ {X : Type 0} where
 
   pub arrivals-in-time : EachAccountMoves → ArrivalsAreOffers → ArrivalsAreInTime X
   arrivals-in-time moves offers item_of vl_of charge_of rows o arrivals turns r served carries timed stands goes are =
-      in-time moves o.byte_ns o.buffer (flows_at o.number rows) vl_of charge_of (entries_at item_of rows o arrivals) turns (flow_of r)
+      in-time moves o.byte_ns o.buffer (flows_at o.number rows) vl_of charge_of
+      (entries_at item_of rows o arrivals) turns (flow_of r)
       (entries-regulated moves offers item_of vl_of charge_of rows o arrivals served carries timed) are
       (flow-to o.number rows r stands goes)
 
   pub arrivals-not-old : EachAccountMoves → ArrivalsAreOffers → ArrivalsAreNotOld X
-  arrivals-not-old moves offers item_of vl_of charge_of rows o arrivals turns r served carries timed stands goes are waits =
+  arrivals-not-old moves offers item_of vl_of charge_of rows o arrivals turns r served carries timed
+      stands goes are waits =
       all_get (λ s. vl_of s.entry.item ≡ r.rule.vl → s.too_old ≡ false) turns
       (λ i s g named. let own = turn_at o.byte_ns (entries_at item_of rows o arrivals) turns i s are g in
-      turn-not-old moves o.byte_ns o.buffer (flows_at o.number rows) vl_of charge_of (entries_at item_of rows o arrivals) turns (flow_of r) i s
+      turn-not-old moves o.byte_ns o.buffer (flows_at o.number rows) vl_of charge_of
+      (entries_at item_of rows o arrivals) turns (flow_of r) i s
       (entries-regulated moves offers item_of vl_of charge_of rows o arrivals served carries timed) are
       (flow-to o.number rows r stands goes) g named
-      (entry-waits moves offers item_of vl_of charge_of rows o arrivals r s.place s.entry served carries timed stands waits own.next.own.stands named))
+      (entry-waits moves offers item_of vl_of charge_of rows o arrivals r s.place s.entry served
+      carries timed stands waits own.next.own.stands named))
 
   pub arrivals-left : EachAccountMoves → ArrivalsAreOffers → ArrivalsHaveLeft X
-  arrivals-left moves offers item_of vl_of charge_of rows o arrivals turns r until place e served carries timed stands goes are waits next at named over =
-      each-left moves o.byte_ns o.buffer (flows_at o.number rows) vl_of charge_of (entries_at item_of rows o arrivals) turns (flow_of r) until place e
+  arrivals-left moves offers item_of vl_of charge_of rows o arrivals turns r until place e served
+      carries timed stands goes are waits next at named over =
+      each-left moves o.byte_ns o.buffer (flows_at o.number rows) vl_of charge_of
+      (entries_at item_of rows o arrivals) turns (flow_of r) until place e
       (entries-regulated moves offers item_of vl_of charge_of rows o arrivals served carries timed) are
       (flow-to o.number rows r stands goes) next at named
-      (entry-waits moves offers item_of vl_of charge_of rows o arrivals r place e served carries timed stands waits at named) over
+      (entry-waits moves offers item_of vl_of charge_of rows o arrivals r place e served carries
+      timed stands waits at named) over
 
   -- nothing is lost
   pub offers-enter : EachAccountMoves → ArrivalsAreOffers → OffersEnter X
   unfolding offers_at
   offers-enter moves offers item_of vl_of charge_of rows o [] served carries timed = refl
   offers-enter moves offers item_of vl_of charge_of rows o (x ∷ past) served carries timed =
-      by_find (find (sends o past x) rows) refl (offers-enter moves offers item_of vl_of charge_of rows o past served carries timed.1)
+      by_find (find (sends o past x) rows) refl
+      (offers-enter moves offers item_of vl_of charge_of rows o past served carries timed.1)
     where
       by_find : (w : Option Row) → find (sends o past x) rows ≡ w →
           entries_at item_of rows o past ≡ reverse (offers_at item_of rows o past) →
@@ -287,10 +335,13 @@ module _ {X : Type 0} where
       by_find None h rest = rest
       by_find (Some r) h rest =
           let found = find-some (sends o past x) rows r h in
-          let fits-in = arrival-kept moves offers item_of vl_of charge_of rows o past x r served carries timed found.stands found.holds in
-          cond-false (is_lost o.byte_ns o.buffer (entries_at item_of rows o past) (entry_of item_of r x)) (entries_at item_of rows o past)
+          let fits-in = arrival-kept moves offers item_of vl_of charge_of rows o past x r served
+          carries timed found.stands found.holds in
+          cond-false (is_lost o.byte_ns o.buffer (entries_at item_of rows o past)
+          (entry_of item_of r x)) (entries_at item_of rows o past)
           (entries_at item_of rows o past ++ entry_of item_of r x ∷ []) fits-in
-          ∙ ap (λ es. es ++ entry_of item_of r x ∷ []) rest ∙ sym (reverse-append (entry_of item_of r x ∷ []) (offers_at item_of rows o past))
+          ∙ ap (λ es. es ++ entry_of item_of r x ∷ []) rest
+          ∙ sym (reverse-append (entry_of item_of r x ∷ []) (offers_at item_of rows o past))
 
   with-found : (item_of : Arrival → X) (x : Arrival) (p : Row → Bool) (rows : List Row) (offers : List (Entry X))
       (r : Row) → find p rows ≡ Some r →
@@ -311,8 +362,10 @@ module _ {X : Type 0} where
       by_find None g = absurd (let none = find-none (sends o past x) rows r g stands in cc (h, none))
       by_find (Some q) g =
           let found = find-some (sends o past x) rows q g in
-          let same = one-row rows past x q r are found.stands stands (sends-parts o past x q found.holds).accepted (sends-parts o past x r h).accepted in
-          with-found item_of x (sends o past x) rows (offers_at item_of rows o past) q g ∙ ap (λ z. entry_of item_of z x ∷ offers_at item_of rows o past) same
+          let same = one-row rows past x q r are found.stands stands
+          (sends-parts o past x q found.holds).accepted (sends-parts o past x r h).accepted in
+          with-found item_of x (sends o past x) rows (offers_at item_of rows o past) q g
+          ∙ ap (λ z. entry_of item_of z x ∷ offers_at item_of rows o past) same
 
   pub unsent-not : UnsentIsNot X
   unfolding offers_at
@@ -322,4 +375,5 @@ module _ {X : Type 0} where
           with_sent item_of x (find (sends o past x) rows)
           (offers_at item_of rows o past) ≡ offers_at item_of rows o past
       by_find None g = with-none item_of x (sends o past x) rows (offers_at item_of rows o past) g
-      by_find (Some q) g = absurd (let found = find-some (sends o past x) rows q g in let out = none q found.stands in cc (found.holds, out))
+      by_find (Some q) g = absurd (let found = find-some (sends o past x) rows q g in let out =
+          none q found.stands in cc (found.holds, out))

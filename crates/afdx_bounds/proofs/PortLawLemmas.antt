@@ -30,14 +30,17 @@ module _ {X : Type 0} where
 
   pub taken-in-time : EachAccountMoves → (facts : X → Facts) → TakenAreTurns facts → TakenAreInTime facts
   taken-in-time moves facts are p h flows vl_of charge_of f port flow =
-      in-time moves h.byte_ns h.buffer flows vl_of charge_of h.entries h.taken f port.regulated (are p h port.stands) flow
+      in-time moves h.byte_ns h.buffer flows vl_of charge_of h.entries h.taken f port.regulated
+      (are p h port.stands) flow
 
   pub taken-not-old : EachAccountMoves → (facts : X → Facts) → TakenAreTurns facts → TakenAreNotOld facts
   taken-not-old moves facts are p h flows vl_of charge_of f port flow =
-      none-too-old moves h.byte_ns h.buffer flows vl_of charge_of h.entries h.taken f port.regulated (are p h port.stands) flow
+      none-too-old moves h.byte_ns h.buffer flows vl_of charge_of h.entries h.taken f port.regulated
+      (are p h port.stands) flow
 
   pub all-taken : EachAccountMoves → (facts : X → Facts) → TakenAreTurns facts → QuietIsNext facts →
       AllWereTaken facts
   all-taken moves facts are next p h flows vl_of charge_of f t place e port flow quiet =
-      each-left moves h.byte_ns h.buffer flows vl_of charge_of h.entries h.taken f t place e port.regulated (are p h port.stands) flow
+      each-left moves h.byte_ns h.buffer flows vl_of charge_of h.entries h.taken f t place e
+      port.regulated (are p h port.stands) flow
       ((next p h t port.stands).0 quiet)

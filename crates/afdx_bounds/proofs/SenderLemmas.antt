@@ -1,5 +1,6 @@
 -- A sender's own port is admitted with its links.
-use Rattle.std.proofs.Common.{◌≡◌, ℕ, ◌+◌, ◌*◌, ◌≤◌, ◌/◌, List, [], ◌∷◌, ◌++◌, false, refl, sym, ap, arith, ◌∙◌, suc, zero}
+use Rattle.std.proofs.Common.{◌≡◌, ℕ, ◌+◌, ◌*◌, ◌≤◌, ◌/◌, List, [], ◌∷◌, ◌++◌, false, refl, sym, ap}
+use Rattle.std.proofs.Common.{arith, ◌∙◌, suc, zero}
 use Rattle.std.specs.Prelude.{All, IsTrue}
 use Rattle.std.proofs.Math.Nat.{mul-le-mul_left, mul-le-mul_right}
 use Rattle.std.proofs.lemmas.List.Sums.{sum_by-cons}
@@ -35,18 +36,26 @@ load-le : (byte_ns : ℕ) (flows : List Flow) → All (λ f. IsTrue (is_bag f.li
 load-le byte_ns [] gaps = omega arith
 load-le byte_ns (f ∷ fs) gaps =
     let rest = load-le byte_ns fs (λ k d lt. gaps (suc k) d (omega (arith, lt))) in
-    let part : 128 / f.link.bag_ms ≤ 128 = part-le f.link.bag_ms (128 / f.link.bag_ms) (is_bag-divides f.link.bag_ms (gaps 0 f (omega arith))) in
-    let scaled : (f.link.smax * byte_ns) * (128 / f.link.bag_ms) ≤ (f.link.smax * byte_ns) * 128 = mul-le-mul_left (f.link.smax * byte_ns) part in
+    let part : 128 / f.link.bag_ms ≤ 128 =
+    part-le f.link.bag_ms (128 / f.link.bag_ms)
+    (is_bag-divides f.link.bag_ms (gaps 0 f (omega arith))) in
+    let scaled : (f.link.smax * byte_ns) * (128 / f.link.bag_ms) ≤ (f.link.smax * byte_ns) * 128 =
+    mul-le-mul_left (f.link.smax * byte_ns) part in
     let first : fill_rate f.link * byte_ns ≡ (f.link.smax * byte_ns) * (128 / f.link.bag_ms) = grind arith in
-    rw (sum_by-cons (λ f. fill_rate f.link * byte_ns) f fs, sum_by-cons (λ f. f.link.smax * byte_ns) f fs) (omega (arith, rest, first, scaled))
+    rw (
+      sum_by-cons (λ f. fill_rate f.link * byte_ns) f fs,
+      sum_by-cons (λ f. f.link.smax * byte_ns) f fs,
+    ) (omega (arith, rest, first, scaled))
 
 burst-ns : (byte_ns : ℕ) (flows : List Flow) → All (λ f. IsTrue (is_bag f.link.bag_ms)) flows →
     All (λ f. f.link.jitter_us ≡ 0) flows → burst flows * byte_ns ≡ byte_units * one_of_each byte_ns flows
 burst-ns byte_ns [] gaps none = omega arith
 burst-ns byte_ns (f ∷ fs) gaps none =
-    let rest = burst-ns byte_ns fs (λ k d lt. gaps (suc k) d (omega (arith, lt))) (λ k d lt. none (suc k) d (omega (arith, lt))) in
+    let rest = burst-ns byte_ns fs (λ k d lt. gaps (suc k) d (omega (arith, lt)))
+    (λ k d lt. none (suc k) d (omega (arith, lt))) in
     let first : cap f.link ≡ byte_units * f.link.smax
-    = cap-one f.link.bag_ms (128 / f.link.bag_ms) f.link.smax f.link.jitter_us (is_bag-divides f.link.bag_ms (gaps 0 f (omega arith)))
+    = cap-one f.link.bag_ms (128 / f.link.bag_ms) f.link.smax f.link.jitter_us
+    (is_bag-divides f.link.bag_ms (gaps 0 f (omega arith)))
     (none 0 f (omega arith)) in
     let scaled : cap f.link * byte_ns ≡ byte_units * f.link.smax * byte_ns = ap (λ n. n * byte_ns) first in
     rw (sum_by-cons (λ f. cap f.link) f fs, sum_by-cons (λ f. f.link.smax * byte_ns) f fs) (omega (arith, rest, scaled))
@@ -59,7 +68,8 @@ none-of : (a b : Priority) (flows : List Flow) → is_class a b ≡ false → Al
     of_class a flows ≡ []
 none-of a b [] other each = refl
 none-of a b (f ∷ fs) other each =
-    rw (not-class a b f.priority other (each 0 f (omega arith))) (none-of a b fs other (λ k d lt. each (suc k) d (omega (arith, lt))))
+    rw (not-class a b f.priority other (each 0 f (omega arith)))
+    (none-of a b fs other (λ k d lt. each (suc k) d (omega (arith, lt))))
 
 pub sender-admitted : SenderIsAdmitted
 sender-admitted byte_ns class flows is =
@@ -68,15 +78,18 @@ sender-admitted byte_ns class flows is =
     let bursts = burst-ns byte_ns flows is.flows_are.gaps (λ k d lt. (is.each k d lt).regular) in
     let slow : burst flows * 8 ≤ burst flows * byte_ns = mul-le-mul_left (burst flows) is.line in
     let split = sum-classes (λ f. cap f.link) flows in
-    let part : burst (of_class High flows) * byte_ns ≤ burst flows * byte_ns = mul-le-mul_right byte_ns (omega (arith, split)) in
+    let part : burst (of_class High flows) * byte_ns ≤ burst flows * byte_ns =
+    mul-le-mul_right byte_ns (omega (arith, split)) in
     record {
       no_overload = omega (arith, loads, within);
       fits_buffer = omega (arith, bursts, slow, within);
       high_in_time = λ k d lt high. (let own = (is.each k d lt).waits in
-          let none = none-of Low High flows refl (λ i f below. (is.each i f below).own_class ∙ sym (is.each k d lt).own_class ∙ high) in
+          let none = none-of Low High flows refl
+          (λ i f below. (is.each i f below).own_class ∙ sym (is.each k d lt).own_class ∙ high) in
           rw (none, own) (omega (arith, part, bursts)));
       low_in_time = λ k d lt low. (let own = (is.each k d lt).waits in
-          let none = none-of High Low flows refl (λ i f below. (is.each i f below).own_class ∙ sym (is.each k d lt).own_class ∙ low) in
+          let none = none-of High Low flows refl
+          (λ i f below. (is.each i f below).own_class ∙ sym (is.each k d lt).own_class ∙ low) in
           rw (none, own) (omega (arith, bursts)));
     }
 
@@ -109,5 +122,6 @@ module _ {X : Type 0} where
       let sent = All-contains (λ f. IsSent byte_ns class flows f) flows c.flow is.each c.stands in
       let waits : c.flow.latency ≡ one_of_each byte_ns flows = sent.waits in
       let soon = turn-in-time moves byte_ns 65536 flows vl_of charge_of entries turns c.flow i s
-      (sender-regulated accepted byte_ns class flows vl_of charge_of entries is order charged released) are c.stands g (sym c.named) in
+      (sender-regulated accepted byte_ns class flows vl_of charge_of entries is order charged
+      released) are c.stands g (sym c.named) in
       omega (arith, waits, soon))

@@ -1,5 +1,6 @@
 -- The sums over the flows at a port.
-use Rattle.std.proofs.Common.{◌≡◌, ℕ, ◌+◌, ◌*◌, ◌-◌, ◌<◌, ◌≤◌, ◌==◌, ◌&&◌, ◌||◌, Bool, true, false, List, [], ◌∷◌, ◌++◌, length, map, filter, inl, inr, refl}
+use Rattle.std.proofs.Common.{◌≡◌, ℕ, ◌+◌, ◌*◌, ◌-◌, ◌<◌, ◌≤◌, ◌==◌, ◌&&◌, ◌||◌, Bool, true, false}
+use Rattle.std.proofs.Common.{List, [], ◌∷◌, ◌++◌, length, map, filter, inl, inr, refl}
 use Rattle.std.proofs.Common.{sym, ap, arith, ◌∙◌, suc, zero, if◌then◌else◌}
 use Rattle.std.specs.Prelude.{nat_le, IsTrue, sum_by, All, Contains, slice_index_or, reverse}
 use Rattle.std.specs.List.{list_any}
@@ -49,8 +50,12 @@ sum-classes g [] = refl
 sum-classes g (f ∷ fs) =
     let rest = sum-classes g fs in
     elim (priority_cases f.priority) [
-      | inl is ↦ (let c = is-high f.priority is in rw (c.own, c.other, sum_by-cons g f fs, sum_by-cons g f (of_class High fs)) (omega (arith, rest)))
-      | inr is ↦ (let c = is-low f.priority is in rw (c.own, c.other, sum_by-cons g f fs, sum_by-cons g f (of_class Low fs)) (omega (arith, rest)))
+      | inl is ↦ (let c = is-high f.priority is in
+          rw (c.own, c.other, sum_by-cons g f fs, sum_by-cons g f (of_class High fs))
+          (omega (arith, rest)))
+      | inr is ↦ (let c = is-low f.priority is in
+          rw (c.own, c.other, sum_by-cons g f fs, sum_by-cons g f (of_class Low fs))
+          (omega (arith, rest)))
     ]
 
 -- a low flow is one of the sum
@@ -94,7 +99,11 @@ pub load-rates : (byte_ns : ℕ) (flows : List Flow) → load byte_ns flows ≡ 
 load-rates byte_ns [] = omega arith
 load-rates byte_ns (f ∷ fs) =
     let rest = load-rates byte_ns fs in
-    rw (sum_by-cons (λ f. fill_rate f.link * byte_ns) f fs, sum_by-cons (λ f. fill_rate f.link) f fs, rest) (grind arith)
+    rw (
+      sum_by-cons (λ f. fill_rate f.link * byte_ns) f fs,
+      sum_by-cons (λ f. fill_rate f.link) f fs,
+      rest,
+    ) (grind arith)
 
 -- a bound of each flow is one of the sums of a class
 pub sum-bound : (g h r : Flow → ℕ) (gap : ℕ) (class : Priority) (fs : List Flow) →
@@ -105,7 +114,12 @@ sum-bound g h r gap class (f ∷ fs) each =
     let rest = sum-bound g h r gap class fs (λ d k. each d (contains_tail f fs d k)) in
     let first = each f (contains_head f fs) in
     elim (cases_Bool (is_class class f.priority)) [
-      | inl is ↦ rw (is, sum_by-cons g f (of_class class fs), sum_by-cons h f (of_class class fs), sum_by-cons r f (of_class class fs))
+      | inl is ↦ rw (
+        is,
+        sum_by-cons g f (of_class class fs),
+        sum_by-cons h f (of_class class fs),
+        sum_by-cons r f (of_class class fs),
+      )
           (omega (arith, rest, first))
       | inr is ↦ rw is rest
     ]
@@ -121,8 +135,10 @@ or-right false b h = h
 among-at : (fs : List Flow) (i : ℕ) (f : Flow) (vl : ℕ) → i < length fs → slice_index_or fs i f ≡ f → vl ≡ f.vl →
     among fs vl ≡ true
 among-at [] i f vl lt h same = absurd (omega (arith, lt))
-among-at (d ∷ ds) zero f vl lt h same = let named : vl ≡ d.vl = same ∙ sym (ap (λ z. z.vl) h) in rw (eqb-same vl d.vl named) refl
-among-at (d ∷ ds) (suc i) f vl lt h same = or-right (vl == d.vl) (among ds vl) (among-at ds i f vl (omega (arith, lt)) h same)
+among-at (d ∷ ds) zero f vl lt h same = let named : vl ≡ d.vl = same ∙ sym (ap (λ z. z.vl) h) in
+    rw (eqb-same vl d.vl named) refl
+among-at (d ∷ ds) (suc i) f vl lt h same =
+    or-right (vl == d.vl) (among ds vl) (among-at ds i f vl (omega (arith, lt)) h same)
 
 pub classes-load : (byte_ns : ℕ) (flows : List Flow) →
     load byte_ns flows ≡ byte_ns * (rates (of_class High flows) + rates (of_class Low flows))
@@ -157,7 +173,8 @@ module _ {X : Type 0} where
   abbrev charged_own : (X → ℕ) → (Entry X → ℕ) → ℕ → ℕ → ℕ → List (Entry X) → ℕ
   charged_own vl_of charge_of since until vl [] = 0
   charged_own vl_of charge_of since until vl (e ∷ es) =
-      (if vl_of e.item == vl then charged_in since until (charged_as charge_of e) else 0) + charged_own vl_of charge_of since until vl es
+      (if vl_of e.item == vl then charged_in since until (charged_as charge_of e) else 0) +
+      charged_own vl_of charge_of since until vl es
 
   own-is : (vl_of : X → ℕ) (charge_of : Entry X → ℕ) (since until vl : ℕ) (es : List (Entry X)) →
       charged_own vl_of charge_of since until vl es ≡ charged_between since until (charged_to vl_of charge_of vl es)
@@ -166,7 +183,8 @@ module _ {X : Type 0} where
       let rest = own-is vl_of charge_of since until vl es in
       elim (cases_Bool (vl_of e.item == vl)) [
         | inr other ↦ rw other (omega (arith, rest))
-        | inl own ↦ (let last = reverse-append (charged_as charge_of e ∷ []) (map (charged_as charge_of) (filter (λ d. vl_of d.item == vl) es)) in
+        | inl own ↦ (let last = reverse-append (charged_as charge_of e ∷ [])
+            (map (charged_as charge_of) (filter (λ d. vl_of d.item == vl) es)) in
             let append = between-append since until (charged_to vl_of charge_of vl es) (charged_as charge_of e ∷ []) in
             let whole = ap (λ xs. charged_between since until xs) last in
             rw own (omega (arith, rest, append, whole)))
@@ -187,11 +205,13 @@ module _ {X : Type 0} where
   step : (vl_of : X → ℕ) (charge_of : Entry X → ℕ) (flows : List Flow) (class : Priority) (since until : ℕ)
       (f : Flow) (fs : List Flow) → AreFlows flows → Contains flows f → (es : List (Entry X)) →
       All (λ e. IsCharged vl_of charge_of flows e) es →
-      wire_among vl_of class since until (f ∷ fs) es ≤ (if is_class class f.priority then charged_own vl_of charge_of since until f.vl es else 0)
+      wire_among vl_of class since until (f ∷ fs) es
+      ≤ (if is_class class f.priority then charged_own vl_of charge_of since until f.vl es else 0)
       + wire_among vl_of class since until fs es
   step vl_of charge_of flows class since until f fs links own [] each = omega arith
   step vl_of charge_of flows class since until f fs links own (e ∷ es) each =
-      let rest = step vl_of charge_of flows class since until f fs links own es (λ k d lt. each (suc k) d (omega (arith, lt))) in
+      let rest = step vl_of charge_of flows class since until f fs links own es
+      (λ k d lt. each (suc k) d (omega (arith, lt))) in
       let here : IsCharged vl_of charge_of flows e = each 0 e (omega arith) in
       elim (cases_Bool (vl_of e.item == f.vl)) [
         | inl same ↦ (let named : vl_of e.item ≡ f.vl = eqb-true (vl_of e.item) f.vl same in
@@ -215,20 +235,28 @@ module _ {X : Type 0} where
   among-flows : (vl_of : X → ℕ) (charge_of : Entry X → ℕ) (flows : List Flow) (class : Priority) (since until : ℕ)
       (es : List (Entry X)) → AreFlows flows → All (λ e. IsCharged vl_of charge_of flows e) es →
       (fs : List Flow) → ((f : Flow) → Contains fs f → Contains flows f) →
-      wire_among vl_of class since until fs es ≤ sum_by (λ f. charged_own vl_of charge_of since until f.vl es) (of_class class fs)
-  among-flows vl_of charge_of flows class since until es links each [] part = omega (arith, among-none vl_of class since until es)
+      wire_among vl_of class since until fs es
+      ≤ sum_by (λ f. charged_own vl_of charge_of since until f.vl es) (of_class class fs)
+  among-flows vl_of charge_of flows class since until es links each [] part =
+      omega (arith, among-none vl_of class since until es)
   among-flows vl_of charge_of flows class since until es links each (f ∷ fs) part =
-      let rest = among-flows vl_of charge_of flows class since until es links each fs (λ d k. part d (contains_tail f fs d k)) in
+      let rest = among-flows vl_of charge_of flows class since until es links each fs
+      (λ d k. part d (contains_tail f fs d k)) in
       let first = step vl_of charge_of flows class since until f fs links (part f (contains_head f fs)) es each in
       elim (cases_Bool (is_class class f.priority)) [
         | inl is ↦ (let split = rw is at first in
-            rw (is, sum_by-cons (λ d. charged_own vl_of charge_of since until d.vl es) f (of_class class fs)) (omega (arith, split, rest)))
+            rw (
+              is,
+              sum_by-cons (λ d. charged_own vl_of charge_of since until d.vl es) f
+                  (of_class class fs),
+            ) (omega (arith, split, rest)))
         | inr is ↦ (let split = rw is at first in rw is (omega (arith, split, rest)))
       ]
 
   pub wire-charged : (vl_of : X → ℕ) (charge_of : Entry X → ℕ) (flows : List Flow) (class : Priority)
       (since until : ℕ) (es : List (Entry X)) → AreFlows flows → All (λ e. IsCharged vl_of charge_of flows e) es →
-      wire_between class since until es ≤ sum_by (λ f. charged_own vl_of charge_of since until f.vl es) (of_class class flows)
+      wire_between class since until es
+      ≤ sum_by (λ f. charged_own vl_of charge_of since until f.vl es) (of_class class flows)
   wire-charged vl_of charge_of flows class since until es links each =
       let all = among-all vl_of charge_of flows class since until es each in
       let sum = among-flows vl_of charge_of flows class since until es links each flows (λ f k. k) in
@@ -243,7 +271,8 @@ module _ {X : Type 0} where
       let all = wire-charged vl_of charge_of flows class since until entries links policed.charged in
       let each : (f : Flow) → Contains flows f → byte_units * g f ≤ cap f.link + fill_rate f.link * (until - since)
       = λ f k. let own = policed.accepted f k in
-      let kept = accepted-keeps moves f.link (All-contains (λ d. IsTrue (is_bag d.link.bag_ms)) flows f links.gaps k) own.0 since until le in
+      let kept = accepted-keeps moves f.link
+      (All-contains (λ d. IsTrue (is_bag d.link.bag_ms)) flows f links.gaps k) own.0 since until le in
       let same = ap (λ xs. charged_between since until xs) own.1 in
       let is = own-is vl_of charge_of since until f.vl entries in
       omega (arith, kept, same, is) in
@@ -259,21 +288,27 @@ module _ {X : Type 0} where
   missing-keep vl_of charge_of flows entries class since now links each =
       let g : Flow → ℕ = λ f. charged_own vl_of charge_of since now f.vl entries in
       let all = wire-charged vl_of charge_of flows class since now entries links each in
-      let sum = sum-bound g (λ f. missing f.link (charged_to vl_of charge_of f.vl entries) now) (λ f. fill_rate f.link) (now - since) class flows
+      let sum = sum-bound g (λ f. missing f.link (charged_to vl_of charge_of f.vl entries) now)
+      (λ f. fill_rate f.link) (now - since) class flows
       (λ f k. let is = own-is vl_of charge_of since now f.vl entries in
       omega (arith, is, window-missing f.link since now now (charged_to vl_of charge_of f.vl entries))) in
       omega (arith, all, sum)
 
   -- a further entry is the newest of its link
   pub charged-push : (vl_of : X → ℕ) (charge_of : Entry X → ℕ) (vl : ℕ) (es : List (Entry X)) (e : Entry X) →
-      charged_to vl_of charge_of vl (es ++ e ∷ []) ≡ (if vl_of e.item == vl then charged_as charge_of e ∷ charged_to vl_of charge_of vl es
+      charged_to vl_of charge_of vl (es ++ e ∷ [])
+      ≡ (if vl_of e.item == vl then charged_as charge_of e ∷ charged_to vl_of charge_of vl es
       else charged_to vl_of charge_of vl es)
   charged-push vl_of charge_of vl es e =
       let own = filter-append (λ d. vl_of d.item == vl) es (e ∷ []) in
       let split = ap (λ ds. reverse (map (charged_as charge_of) ds)) own in
       elim (cases_Bool (vl_of e.item == vl)) [
         | inl is ↦ (let seen = map-append (charged_as charge_of) (filter (λ d. vl_of d.item == vl) es) (e ∷ []) in
-            let back = reverse-append (map (charged_as charge_of) (filter (λ d. vl_of d.item == vl) es)) (charged_as charge_of e ∷ []) in
+            let back = reverse-append
+            (map (charged_as charge_of) (filter (λ d. vl_of d.item == vl) es))
+            (charged_as charge_of e ∷ []) in
             rw is at split ∙ rw is (ap reverse seen ∙ back))
-        | inr other ↦ rw other at split ∙ rw other (ap (λ ds. reverse (map (charged_as charge_of) ds)) (append-nil (filter (λ d. vl_of d.item == vl) es)))
+        | inr other ↦ rw other at split
+            ∙ rw other (ap (λ ds. reverse (map (charged_as charge_of) ds))
+            (append-nil (filter (λ d. vl_of d.item == vl) es)))
       ]

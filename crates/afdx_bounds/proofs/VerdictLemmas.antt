@@ -1,5 +1,6 @@
 -- What an accepted arrival looks like, and what it adds to its link's accepted ones.
-use Rattle.std.proofs.Common.{◌≡◌, ℕ, ◌≤◌, ◌==◌, ◌&&◌, Bool, true, false, List, [], ◌∷◌, length, Option, Some, None, inl, inr, refl, sym, subst, arith, ◌∙◌}
+use Rattle.std.proofs.Common.{◌≡◌, ℕ, ◌≤◌, ◌==◌, ◌&&◌, Bool, true, false, List, [], ◌∷◌, length}
+use Rattle.std.proofs.Common.{Option, Some, None, inl, inr, refl, sym, subst, arith, ◌∙◌}
 use Rattle.std.proofs.Common.{if◌then◌else◌}
 use Rattle.std.specs.Prelude.{find, nat_lt, is_none, option_map}
 use Rattle.std.specs.Option.{option_map_or, option_or}
@@ -25,7 +26,10 @@ use Rattle.afdx_bounds.specs.Outputs.{Row, accepts}
 find-none : (xs : List (Bool × Reason)) → find (λ f. f.0) xs ≡ None → AllByRecursion (λ f. f.0 ≡ false) xs
 find-none [] h = tt
 find-none (x ∷ xs) h =
-    elim (cases_Bool x.0) [ inl found ↦ absurd (let k = rw found at h in cc k) | inr not-found ↦ (not-found, find-none xs (rw not-found at h)) ]
+    elim (cases_Bool x.0) [
+      | inl found ↦ absurd (let k = rw found at h in cc k)
+      | inr not-found ↦ (not-found, find-none xs (rw not-found at h))
+    ]
 
 map-none : {Y Z : Type 0} (f : Y → Z) (o : Option Y) → option_map f o ≡ None → o ≡ None
 map-none f None h = refl
@@ -53,8 +57,10 @@ looks-from : (rule : Rule) (accepted : List Charged) (x : Arrival) → is_none (
     Looks rule accepted x
 unfolding fault_of
 looks-from rule accepted x h =
-    let c = clean-from (fault_of (Some rule) x.port x.bytes) (fits (regulation_of rule) accepted (charged_by rule x)) h in
-    let all = find-none (faults (Some rule) x.port x.bytes) (map-none (λ f. f.1) (find (λ f. f.0) (faults (Some rule) x.port x.bytes)) c.clean) in
+    let c = clean-from (fault_of (Some rule) x.port x.bytes)
+    (fits (regulation_of rule) accepted (charged_by rule x)) h in
+    let all = find-none (faults (Some rule) x.port x.bytes)
+    (map-none (λ f. f.1) (find (λ f. f.0) (faults (Some rule) x.port x.bytes)) c.clean) in
     record {
       named = not-false (names rule.vl x.bytes) all.1.1.1.1.0;
       short = not-less rule.lmax (length x.bytes) all.1.1.1.1.1.1.0;
@@ -91,7 +97,9 @@ one-name a b bytes h k = same-named (link_named_by bytes) a b h k
 own-more : (rule : Rule) (side : Side) (past : List Arrival) (x : Arrival) (accepted : Bool) → side ≡ x.side →
     is_none (reason_after rule (own rule.vl x.side past) x) ≡ accepted → names rule.vl x.bytes ≡ true →
     is_side side x.side ≡ true →
-    accepted_own rule (own rule.vl side (x ∷ past)) ≡ (if accepted then charged_by rule x ∷ accepted_own rule (own rule.vl side past) else accepted_own rule
+    accepted_own rule (own rule.vl side (x ∷ past))
+    ≡ (if accepted then charged_by rule x ∷ accepted_own rule (own rule.vl side past) else
+    accepted_own rule
     (own rule.vl side past))
 unfolding reason_after accepted_own
 own-more rule side past x accepted same is named on =
@@ -106,18 +114,22 @@ both-then false b xs ys h k = absurd (cc h)
 
 -- one more arrival is among the accepted ones of its link on its side, if it is accepted
 pub accepted-more : (r : Row) (side : Side) (past : List Arrival) (x : Arrival) →
-    accepted_own r.rule (own r.rule.vl side (x ∷ past)) ≡ (if accepts past x r && is_side side x.side then charged_by r.rule x ∷ accepted_own r.rule
+    accepted_own r.rule (own r.rule.vl side (x ∷ past))
+    ≡ (if accepts past x r && is_side side x.side then charged_by r.rule x ∷ accepted_own r.rule
     (own r.rule.vl side past) else accepted_own r.rule (own r.rule.vl side past))
 accepted-more r side past x =
     elim (cases_Bool (is_side side x.side)) [
-      | inr other ↦ elim (cases_Bool (accepts past x r)) [ inl is ↦ rw (other, is) refl | inr isnt ↦ rw (other, isnt) refl ]
+      | inr other ↦ elim (cases_Bool (accepts past x r))
+          [ inl is ↦ rw (other, is) refl | inr isnt ↦ rw (other, isnt) refl ]
       | inl on ↦ elim (cases_Bool (accepts past x r)) [
         | inl is ↦ (let l = looks r past x is in
             own-more r.rule side past x true (same-side side x.side on) is l.named on
-            ∙ both-then (accepts past x r) (is_side side x.side) (charged_by r.rule x ∷ accepted_own r.rule (own r.rule.vl side past))
+            ∙ both-then (accepts past x r) (is_side side x.side)
+            (charged_by r.rule x ∷ accepted_own r.rule (own r.rule.vl side past))
             (accepted_own r.rule (own r.rule.vl side past)) is on)
         | inr isnt ↦ elim (cases_Bool (names r.rule.vl x.bytes)) [
-          | inl named ↦ (let more = own-more r.rule side past x false (same-side side x.side on) isnt named on in rw isnt more)
+          | inl named ↦ (let more = own-more r.rule side past x false (same-side side x.side on)
+              isnt named on in rw isnt more)
           | inr other ↦ rw (isnt, on, other) refl
         ]
       ]

@@ -1,5 +1,6 @@
 -- The weights of the entries without a turn.
-use Rattle.std.proofs.Common.{◌≡◌, ◌≢◌, ℕ, ◌+◌, ◌<◌, ◌≤◌, ◌&&◌, ◌||◌, Bool, true, false, List, [], ◌∷◌, ◌++◌, Some, inl, inr, refl, ap, subst, arith}
+use Rattle.std.proofs.Common.{◌≡◌, ◌≢◌, ℕ, ◌+◌, ◌<◌, ◌≤◌, ◌&&◌, ◌||◌, Bool, true, false, List, []}
+use Rattle.std.proofs.Common.{◌∷◌, ◌++◌, Some, inl, inr, refl, ap, subst, arith}
 use Rattle.std.proofs.Common.{if◌then◌else◌, suc, zero}
 use Rattle.std.specs.Prelude.{nat_le}
 use Rattle.std.specs.List.{slice_get}
@@ -59,7 +60,8 @@ module _ {X : Type 0} where
 
   -- the weights are at most what came of both classes, if that is so of each entry without a turn
   pub both_classes : (weight : Entry X → ℕ) (turns : List (Turn X)) (since u v place : ℕ) (es : List (Entry X)) →
-      ((i : ℕ) (e : Entry X) → slice_get es i ≡ Some e → has_turn turns (place + i) ≡ false → weight e ≤ wire_in High since u e + wire_in Low since v e) →
+      ((i : ℕ) (e : Entry X) → slice_get es i ≡ Some e → has_turn turns (place + i) ≡ false
+      → weight e ≤ wire_in High since u e + wire_in Low since v e) →
       left_over weight turns place es ≤ wire_between High since u es + wire_between Low since v es
   both_classes weight turns since u v place [] each = omega arith
   both_classes weight turns since u v place (e ∷ es) each =
@@ -67,13 +69,16 @@ module _ {X : Type 0} where
       (λ i d g free. each (suc i) d g (subst (λ (p : ℕ). has_turn turns p ≡ false) (omega arith) free)) in
       elim (cases_Bool (has_turn turns place)) [
         | inl has ↦ rw has (omega (arith, rest))
-        | inr free ↦ (let here = each 0 e refl (subst (λ (p : ℕ). has_turn turns p ≡ false) (omega arith) free) in rw free (omega (arith, rest, here)))
+        | inr free ↦ (let here =
+            each 0 e refl (subst (λ (p : ℕ). has_turn turns p ≡ false) (omega arith) free) in
+            rw free (omega (arith, rest, here)))
       ]
 
   -- and of one class
   pub one_class : (weight : Entry X → ℕ) (turns : List (Turn X)) (class : Priority) (since until place : ℕ)
       (es : List (Entry X)) →
-      ((i : ℕ) (e : Entry X) → slice_get es i ≡ Some e → has_turn turns (place + i) ≡ false → weight e ≤ wire_in class since until e) →
+      ((i : ℕ) (e : Entry X) → slice_get es i ≡ Some e → has_turn turns (place + i) ≡ false
+      → weight e ≤ wire_in class since until e) →
       left_over weight turns place es ≤ wire_between class since until es
   one_class weight turns class since until place [] each = omega arith
   one_class weight turns class since until place (e ∷ es) each =
@@ -81,7 +86,9 @@ module _ {X : Type 0} where
       (λ i d g free. each (suc i) d g (subst (λ (p : ℕ). has_turn turns p ≡ false) (omega arith) free)) in
       elim (cases_Bool (has_turn turns place)) [
         | inl has ↦ rw has (omega (arith, rest))
-        | inr free ↦ (let here = each 0 e refl (subst (λ (p : ℕ). has_turn turns p ≡ false) (omega arith) free) in rw free (omega (arith, rest, here)))
+        | inr free ↦ (let here =
+            each 0 e refl (subst (λ (p : ℕ). has_turn turns p ≡ false) (omega arith) free) in
+            rw free (omega (arith, rest, here)))
       ]
 
   -- the lengths of the entries without a turn are at most their weights, if that is so of each
@@ -92,7 +99,8 @@ module _ {X : Type 0} where
   bytes_weigh weight turns place (e ∷ es) each =
       let rest = bytes_weigh weight turns (place + 1) es (λ i d g. each (suc i) d g) in
       let here = each 0 e refl in
-      elim (cases_Bool (has_turn turns place)) [ inl has ↦ rw has (omega (arith, rest)) | inr free ↦ rw free (omega (arith, rest, here)) ]
+      elim (cases_Bool (has_turn turns place))
+      [ inl has ↦ rw has (omega (arith, rest)) | inr free ↦ rw free (omega (arith, rest, here)) ]
 
   pub same_left : (v w : Entry X → ℕ) (turns : List (Turn X)) (place : ℕ) (es : List (Entry X)) →
       ((i : ℕ) (e : Entry X) → slice_get es i ≡ Some e → v e ≡ w e) →
@@ -108,7 +116,8 @@ module _ {X : Type 0} where
   left_add v w turns place [] = refl
   left_add v w turns place (e ∷ es) =
       let rest = left_add v w turns (place + 1) es in
-      elim (cases_Bool (has_turn turns place)) [ inl has ↦ rw has (omega (arith, rest)) | inr free ↦ rw free (omega (arith, rest)) ]
+      elim (cases_Bool (has_turn turns place))
+      [ inl has ↦ rw has (omega (arith, rest)) | inr free ↦ rw free (omega (arith, rest)) ]
 
   -- a further entry
   pub between_push : (class : Priority) (since until : ℕ) (es : List (Entry X)) (e : Entry X) →
@@ -119,7 +128,8 @@ module _ {X : Type 0} where
   -- an entry of the class in the interval counts in full
   pub wire_full : (class : Priority) (since until : ℕ) (e : Entry X) → e.priority ≡ class → since ≤ e.time →
       e.time ≤ until → wire_in class since until e ≡ e.bytes + 20
-  wire_full class since until e same from to = rw (class_same e.priority class same, le-leb since e.time from, le-leb e.time until to) refl
+  wire_full class since until e same from to =
+      rw (class_same e.priority class same, le-leb since e.time from, le-leb e.time until to) refl
 
   -- an interval that begins later misses nothing, if the class's entries come later
   pub wire_later : (class : Priority) (since until : ℕ) (e : Entry X) → (e.priority ≡ class → since ≤ e.time) →
@@ -127,7 +137,8 @@ module _ {X : Type 0} where
   wire_later class since until e later =
       elim (cases_Bool (comes_between class 0 until e)) [
         | inr out ↦ rw out (omega arith)
-        | inl counted ↦ (let both = and_split (is_class class e.priority) (nat_le 0 e.time && nat_le e.time until) counted in
+        | inl counted ↦ (let both =
+            and_split (is_class class e.priority) (nat_le 0 e.time && nat_le e.time until) counted in
             let same : e.priority ≡ class = class_other e.priority class both.0 in
             let times = and_split (nat_le 0 e.time) (nat_le e.time until) both.1 in
             let full = wire_full class since until e same (later same) (leb-true e.time until times.1) in

@@ -1,4 +1,5 @@
--- Why each line of admission, and policing, is needed: with a weaker one, the promise is false.
+-- Why each line of admission at an output port, and policing, is needed: with a weaker one, the
+-- promise is false.
 use Rattle.std.specs.Prelude.{◌≡◌, ℕ, ◌+◌, ◌*◌, ◌-◌, ◌<◌, ◌≤◌, false, All, Contains, List, [], ◌∷◌}
 use Rattle.std.specs.Prelude.{◌++◌, map}
 use Rattle.afdx_frame.specs.declared.link.Priority.TheVariants.{High, Low}

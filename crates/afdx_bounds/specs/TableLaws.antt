@@ -10,7 +10,7 @@ use Rattle.afdx_port.specs.Due.{IsAfter}
 use Rattle.afdx_port.specs.History.{due_at}
 use Rattle.afdx_port.specs.Schedule.{Entry, Turn, has_turn, IsNext, AreTurns}
 use Rattle.afdx_bounds.specs.Outputs.{AreTimed, offers_at, entries_at, link_in}
-use Rattle.afdx_bounds.specs.Tables.{rows_of, output_to}
+use Rattle.afdx_bounds.specs.Tables.{rows_of, byte_ns_at, output_at}
 
 module _ {X : Type 0} where
   -- the output port to a system on a side, of lawful and admitted tables, to which all of these
@@ -23,11 +23,10 @@ module _ {X : Type 0} where
     pub keeps_bytes : (x : Arrival) → bytes_of (item_of x) ≡ x.bytes
     pub timed : AreTimed arrivals
 
-  -- its entries
-  abbrev pub entries_to : (Arrival → X) → Rows → Side → ℕ → SystemRow → List Arrival →
-      List (Entry X)
-  entries_to item_of t side system s arrivals =
-      entries_at item_of (rows_of t) (output_to t side system s) arrivals
+  -- the entries of the output port with this number
+  abbrev pub entries_to : (Arrival → X) → Rows → Side → ℕ → List Arrival → List (Entry X)
+  entries_to item_of t side port arrivals =
+      entries_at item_of (rows_of t) (output_at t side port) arrivals
 
 -- nothing is lost: its entries are all that is accepted of the links that go there
 abbrev pub NothingIsLost : Type 0 → Type 0
@@ -35,8 +34,8 @@ NothingIsLost X =
     (item_of : Arrival → X) (bytes_of : X → List ℕ) (t : Rows) (side : Side) (system : ℕ)
     (s : SystemRow) (arrivals : List Arrival) →
     IsOutputOf item_of bytes_of t system s arrivals →
-    entries_to item_of t side system s arrivals ≡ reverse
-    (offers_at item_of (rows_of t) (output_to t side system s) arrivals)
+    entries_to item_of t side s.port arrivals ≡ reverse
+    (offers_at item_of (rows_of t) (output_at t side s.port) arrivals)
 
 -- each frame of a link has a slot that ends within the link's latency
 abbrev pub EachHasItsSlot : Type 0 → Type 0
@@ -45,8 +44,7 @@ EachHasItsSlot X =
     (s : SystemRow) (arrivals : List Arrival) (turns : List (Turn X)) (place : ℕ) (l : LinkRow) →
     IsOutputOf item_of bytes_of t system s arrivals → slice_get t.links place ≡ Some l →
     is_to system l ≡ true →
-    AreTurns (output_to t side system s).byte_ns
-    (entries_to item_of t side system s arrivals) turns →
+    AreTurns (byte_ns_at t s.port) (entries_to item_of t side s.port arrivals) turns →
     All
     (λ z. link_in bytes_of z.entry.item ≡ l.vl →
     (z.too_old ≡ false) × (z.end ≤ z.entry.time + 1000 * l.latency_us)) turns
@@ -60,11 +58,10 @@ EachSlotHasCome X =
     (e : Entry X) →
     IsOutputOf item_of bytes_of t system s arrivals → slice_get t.links place ≡ Some l →
     is_to system l ≡ true →
-    AreTurns (output_to t side system s).byte_ns
-    (entries_to item_of t side system s arrivals) turns →
+    AreTurns (byte_ns_at t s.port) (entries_to item_of t side s.port arrivals) turns →
     ((z : Turn X) →
-    IsNext (output_to t side system s).byte_ns
-    (entries_to item_of t side system s arrivals) turns z → IsAfter until (due_at z)) →
-    slice_get (entries_to item_of t side system s arrivals) entry ≡ Some e →
+    IsNext (byte_ns_at t s.port) (entries_to item_of t side s.port arrivals) turns z →
+    IsAfter until (due_at z)) →
+    slice_get (entries_to item_of t side s.port arrivals) entry ≡ Some e →
     link_in bytes_of e.item ≡ l.vl →
     e.time + 1000 * l.latency_us ≤ until → has_turn turns entry ≡ true

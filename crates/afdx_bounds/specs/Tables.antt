@@ -1,5 +1,6 @@
 -- The output ports of a switch, and a sender's own, as the tables have them.
-use Rattle.std.specs.Prelude.{◌≡◌, ℕ, ◌*◌, ◌==◌, if◌then◌else◌, Option, Some, None, List, map}
+use Rattle.std.specs.Prelude.{◌≡◌, ℕ, ◌*◌, ◌==◌, Bool, false, if◌then◌else◌, Option, Some, None}
+use Rattle.std.specs.Prelude.{List, map}
 use Rattle.std.specs.Prelude.{slice_get, sum_by}
 use Rattle.std.specs.Option.{option_map_or}
 use Rattle.afdx_frame.specs.declared.link.Priority.{Priority}
@@ -8,54 +9,73 @@ use Rattle.afdx_frame.specs.Flows.{Flow}
 use Rattle.afdx_frame.specs.Regulation.{regulation_with, wire_of}
 use Rattle.afdx_config.specs.Admission.{IsAdmitted, byte_ns, flows_to, links_from}
 use Rattle.afdx_config.specs.Lawful.{IsLawful}
+use Rattle.afdx_config.specs.Reading.{system_at_port}
 use Rattle.afdx_config.specs.Rows.{SystemRow, LinkRow, Rows, is_to}
-use Rattle.afdx_police.specs.Rule.{Rule}
+use Rattle.afdx_police.specs.Rule.{Rule, rule_with}
 use Rattle.afdx_bounds.specs.Outputs.{Row, Output, flows_at}
 use Rattle.afdx_bounds.specs.OutputLaws.{IsServed}
 use Rattle.afdx_bounds.specs.Sender.{IsSender}
 
 -- the port of the switch of the system at this place
-abbrev pub port_of : Rows → ℕ → ℕ
+unfoldable pub port_of : Rows → ℕ → ℕ
 port_of t system = option_map_or (λ s. s.port) (slice_get t.systems system) 0
 
--- how a link is filtered and policed: its frames come in from its sender
-abbrev pub rule_of : Rows → LinkRow → Rule
-rule_of t l = record {
-  vl = l.vl;
-  port = port_of t l.from;
-  bag_ms = l.bag_ms;
-  lmin = l.lmin;
-  lmax = l.lmax;
-  jitter_us = l.jitter_us;
-  policing = l.policing;
-}
+-- how a link is filtered and policed: its frames come in at its sender's port
+unfoldable pub rule_of : Rows → LinkRow → Rule
+rule_of t l = rule_with l.vl (port_of t l.from) l.bag_ms l.lmin l.lmax l.jitter_us l.policing
 
--- how long its frames may wait for a turn: in profile 2 as long as its latency, in ns
-abbrev pub longest_wait_of : Rows → LinkRow → Option ℕ
+-- how long a frame of the link may wait for its turn, in ns: its link's latency in profile 2, for
+-- ever in profile 1
+unfoldable pub longest_wait_of : Rows → LinkRow → Option ℕ
 longest_wait_of t l = if t.profile == 2 then Some (1000 * l.latency_us) else None
 
--- an output port is named by the place of its system
+-- the link goes to the system that has this port
+unfoldable pub goes_to : Rows → LinkRow → ℕ → Bool
+goes_to t l port = option_map_or (λ system. is_to system l) (system_at_port t.systems port) false
+
+-- an output port is named by its number
 abbrev pub row_of : Rows → LinkRow → Row
 row_of t l = record {
   rule = rule_of t l;
   priority = l.priority;
   latency = 1000 * l.latency_us;
   longest_wait = longest_wait_of t l;
-  goes_to = λ system. is_to system l;
+  goes_to = goes_to t l;
 }
 
-abbrev pub rows_of : Rows → List Row
+unfoldable pub rows_of : Rows → List Row
 rows_of t = map (row_of t) t.links
 
--- the output port to a system on a side
-abbrev pub output_to : Rows → Side → ℕ → SystemRow → Output
-output_to t side system s =
-    record { side = side; number = system; byte_ns = byte_ns s; buffer = t.buffer }
+-- the time of a byte in ns on the line of the system at this place; a port that no system has is
+-- taken as one of 100 Mbit/s
+abbrev pub byte_ns_of : Rows → Option ℕ → ℕ
+byte_ns_of t None = 80
+byte_ns_of t (Some system) = option_map_or byte_ns (slice_get t.systems system) 80
 
--- where the tables are admitted, each output port is, with the flows that they say go there
+unfoldable pub byte_ns_at : Rows → ℕ → ℕ
+byte_ns_at t port = byte_ns_of t (system_at_port t.systems port)
+
+-- an output port of the switch of a side
+abbrev pub output_at : Rows → Side → ℕ → Output
+output_at t side port =
+    record { side = side; number = port; byte_ns = byte_ns_at t port; buffer = t.buffer }
+
+-- the output port with a system's number has that system's line, and the links that go there are
+-- those that go to the system
+pub record IsPortOf (t : Rows) (system : ℕ) (s : SystemRow) : Type 0 where
+  pub line : byte_ns_at t s.port ≡ byte_ns s
+  pub goes : (l : LinkRow) → goes_to t l s.port ≡ is_to system l
+
+abbrev pub PortsAreOfSystems : Type 0
+PortsAreOfSystems =
+    (t : Rows) (system : ℕ) (s : SystemRow) → IsLawful t → slice_get t.systems system ≡ Some s →
+    IsPortOf t system s
+
+-- where the tables are admitted, each system's output port is, with the flows that they say go
+-- there
 pub record ServesTables (t : Rows) (side : Side) (system : ℕ) (s : SystemRow) : Type 0 where
-  pub flows : flows_at system (rows_of t) ≡ flows_to t.links system
-  pub served : IsServed (rows_of t) (output_to t side system s)
+  pub flows : flows_at s.port (rows_of t) ≡ flows_to t.links system
+  pub served : IsServed (rows_of t) (output_at t side s.port)
 
 abbrev pub EachOutputIsServed : Type 0
 EachOutputIsServed =

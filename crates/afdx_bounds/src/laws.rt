@@ -20,7 +20,8 @@ ghost use Rattle.afdx_bounds.specs.PortLaws.{PutIsKept, TakenAreInTime, TakenAre
 ghost use Rattle.afdx_bounds.specs.PortLaws.{AllWereTaken};
 ghost use Rattle.afdx_bounds.specs.Sender.{SenderIsAdmitted, SenderIsRegulated, SenderIsNeverFull};
 ghost use Rattle.afdx_bounds.specs.Sender.{SenderIsInTime};
-ghost use Rattle.afdx_bounds.specs.Tables.{EachOutputIsServed, EachSystemIsSender};
+ghost use Rattle.afdx_bounds.specs.Tables.{PortsAreOfSystems, EachOutputIsServed};
+ghost use Rattle.afdx_bounds.specs.Tables.{EachSystemIsSender};
 ghost use Rattle.afdx_bounds.specs.TableLaws.{NothingIsLost, EachHasItsSlot, EachSlotHasCome};
 
 use afdx_police::laws::{accounts_move, arrivals_are_offers, regular_is_accepted};
@@ -142,6 +143,12 @@ pub fn arrivals_are_in_time<T>()
     accounts_move();
     arrivals_are_offers()
 }
+
+/// The output port with a system's number has that system's line, and the links that go there are
+/// those that go to the system.
+pub fn ports_are_of_systems()
+    ensures { PortsAreOfSystems }
+{}
 
 /// Where the tables are admitted, each output port is admitted with the flows that they say go
 /// there, and each system's own port with the links that it sends.

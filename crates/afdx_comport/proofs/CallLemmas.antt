@@ -1,12 +1,14 @@
 -- Ports after a list of calls.
-use Rattle.std.proofs.Common.{◌≡◌, ℕ, ◌≤◌, Bool, true, false, cond, List, [], ◌∷◌, ◌++◌, length, nat_eq, refl, ap, sym, subst, arith, ◌∙◌, None}
+use Rattle.std.proofs.Common.{◌≡◌, ℕ, ◌≤◌, Bool, true, false, cond, List, [], ◌∷◌, ◌++◌, length}
+use Rattle.std.proofs.Common.{nat_eq, refl, ap, sym, subst, arith, ◌∙◌, None}
 use Rattle.std.proofs.lemmas.List.{append_assoc, length_push}
 use Rattle.std.proofs.lemmas.Bool.{eqb-false}
 use Rattle.afdx_comport.specs.Messages.{Message}
 use Rattle.afdx_comport.specs.declared.held.Held.{Held}
 use Rattle.afdx_comport.specs.declared.held.Held.TheVariants.{Sampling, Queuing}
 use Rattle.afdx_comport.specs.Held.{is_full, first_of, without_first}
-use Rattle.afdx_comport.specs.Calls.{Call, Put, Take, with_put, held_after, put_in, and_then, taken_from, waiting, newest, empty_queue, IsFirstInFirstOut}
+use Rattle.afdx_comport.specs.Calls.{Call, Put, Take, with_put, held_after, put_in, and_then}
+use Rattle.afdx_comport.specs.Calls.{taken_from, waiting, newest, empty_queue, IsFirstInFirstOut}
 
 -- what waits in the queue then
 record Queued (depth : ℕ) (held : Held) (came left : List (List ℕ)) : Type 0 where
@@ -18,11 +20,13 @@ record Queued (depth : ℕ) (held : Held) (came left : List (List ℕ)) : Type 0
 queue-put : (depth : ℕ) (m : Message) (held : Held) (came left : List (List ℕ)) → Queued depth held came left →
     Queued depth (with_put m held) (cond (is_full held) came (came ++ m.bytes ∷ [])) left
 queue-put depth m held came left q =
-    subst (λ h. Queued depth (with_put m h) (cond (is_full h) came (came ++ m.bytes ∷ [])) left) (sym q.holds) (by (nat_eq (length q.messages) depth) refl)
+    subst (λ h. Queued depth (with_put m h) (cond (is_full h) came (came ++ m.bytes ∷ [])) left)
+    (sym q.holds) (by (nat_eq (length q.messages) depth) refl)
   where
     by : (b : Bool) → nat_eq (length q.messages) depth ≡ b →
         Queued depth (cond b (Queuing (record { depth = depth; messages = q.messages }))
-        (Queuing (record { depth = depth; messages = q.messages ++ m.bytes ∷ [] }))) (cond b came (came ++ m.bytes ∷ [])) left
+        (Queuing (record { depth = depth; messages = q.messages ++ m.bytes ∷ [] })))
+        (cond b came (came ++ m.bytes ∷ [])) left
     by true full = record { messages = q.messages; holds = refl; in_order = q.in_order; within = q.within }
     by false room = record {
       messages = q.messages ++ m.bytes ∷ [];
@@ -34,7 +38,8 @@ queue-put depth m held came left q =
 queue-take : (depth : ℕ) (held : Held) (came left : List (List ℕ)) → Queued depth held came left →
     Queued depth (without_first held) came (and_then left (first_of held))
 queue-take depth held came left q =
-    subst (λ h. Queued depth (without_first h) came (and_then left (first_of h))) (sym q.holds) (by q.messages q.in_order q.within)
+    subst (λ h. Queued depth (without_first h) came (and_then left (first_of h))) (sym q.holds)
+    (by q.messages q.in_order q.within)
   where
     by : (ms : List (List ℕ)) → came ≡ left ++ ms → length ms ≤ depth →
         Queued depth (without_first (Queuing (record { depth = depth; messages = ms }))) came
@@ -48,13 +53,16 @@ queue-take depth held came left q =
     }
 
 queued : (depth : ℕ) (calls : List Call) →
-    Queued depth (held_after (empty_queue depth) calls) (put_in (empty_queue depth) calls) (taken_from (empty_queue depth) calls)
+    Queued depth (held_after (empty_queue depth) calls) (put_in (empty_queue depth) calls)
+    (taken_from (empty_queue depth) calls)
 unfolding held_after put_in taken_from
 queued depth [] = record { messages = []; holds = refl; in_order = refl; within = omega arith }
 queued depth (Put m ∷ past) =
-    queue-put depth m (held_after (empty_queue depth) past) (put_in (empty_queue depth) past) (taken_from (empty_queue depth) past) (queued depth past)
+    queue-put depth m (held_after (empty_queue depth) past) (put_in (empty_queue depth) past)
+    (taken_from (empty_queue depth) past) (queued depth past)
 queued depth (Take ∷ past) =
-    queue-take depth (held_after (empty_queue depth) past) (put_in (empty_queue depth) past) (taken_from (empty_queue depth) past) (queued depth past)
+    queue-take depth (held_after (empty_queue depth) past) (put_in (empty_queue depth) past)
+    (taken_from (empty_queue depth) past) (queued depth past)
 
 pub first_in_first_out : (depth : ℕ) (calls : List Call) → IsFirstInFirstOut depth calls
 first_in_first_out depth calls =

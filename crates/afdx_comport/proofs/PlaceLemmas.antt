@@ -1,4 +1,5 @@
-use Rattle.std.proofs.Common.{◌≡◌, ℕ, zero, suc, ◌+◌, ◌<◌, Bool, true, false, cond, ◌||◌, ◌&&◌, inl, inr, Option, Some, None, List, [], ◌∷◌, ◌++◌, take, length}
+use Rattle.std.proofs.Common.{◌≡◌, ℕ, zero, suc, ◌+◌, ◌<◌, Bool, true, false, cond, ◌||◌, ◌&&◌, inl}
+use Rattle.std.proofs.Common.{inr, Option, Some, None, List, [], ◌∷◌, ◌++◌, take, length}
 use Rattle.std.proofs.Common.{map, nat_eq, refl, sym, subst, ◌∙◌, ap, arith, append-nil}
 use Rattle.std.specs.Prelude.{slice_get, slice_set, position, filter, is_some, IfSome, nat_lt}
 use Rattle.std.specs.List.{list_any, position_from, position_or_len}
@@ -30,12 +31,15 @@ place_push p n [] x = ap (λ (k : ℕ). cond (p x) (Some k) None) (zero_plus n)
     zero_plus : (n : ℕ) → n ≡ 0 + n
     zero_plus n = omega arith
 place_push p n (y ∷ ys) x =
-    at (p y) (place_push p (n + 1) ys x ∙ ap (λ (k : ℕ). option_or (position_from p (n + 1) ys) (cond (p x) (Some k) None)) (moved (length ys) n))
+    at (p y) (place_push p (n + 1) ys x
+    ∙ ap (λ (k : ℕ). option_or (position_from p (n + 1) ys) (cond (p x) (Some k) None))
+    (moved (length ys) n))
   where
     moved : (m n : ℕ) → m + (n + 1) ≡ suc m + n
     moved m n = omega arith
 
-    at : (b : Bool) → position_from p (n + 1) (ys ++ x ∷ []) ≡ option_or (position_from p (n + 1) ys) (cond (p x) (Some (length (y ∷ ys) + n)) None) →
+    at : (b : Bool) → position_from p (n + 1) (ys ++ x ∷ [])
+        ≡ option_or (position_from p (n + 1) ys) (cond (p x) (Some (length (y ∷ ys) + n)) None) →
         cond b (Some n) (position_from p (n + 1) (ys ++ x ∷ []))
         ≡ option_or (cond b (Some n) (position_from p (n + 1) ys)) (cond (p x) (Some (length (y ∷ ys) + n)) None)
     at true e = refl
@@ -44,7 +48,8 @@ place_push p n (y ∷ ys) x =
 position_push : (p : ComPort → Bool) (xs : List ComPort) (x : ComPort) →
     position p (xs ++ x ∷ []) ≡ option_or (position p xs) (cond (p x) (Some (length xs)) None)
 position_push p xs x =
-    position_from-zero p (xs ++ x ∷ []) ∙ place_push p 0 xs x ∙ ap (λ (k : ℕ). option_or (position_from p 0 xs) (cond (p x) (Some k) None))
+    position_from-zero p (xs ++ x ∷ []) ∙ place_push p 0 xs x
+    ∙ ap (λ (k : ℕ). option_or (position_from p 0 xs) (cond (p x) (Some k) None))
     (plus_zero (length xs))
     ∙ ap (λ (o : Option ℕ). option_or o (cond (p x) (Some (length xs)) None)) (sym (position_from-zero p xs))
   where
@@ -61,17 +66,21 @@ position_none : (p : ComPort → Bool) (xs : List ComPort) → list_any p xs ≡
 position_none p xs h = position_from-zero p xs ∙ place_none p 0 xs h
 
 -- a place that is found is one of the list
-pub known_at : (p : ComPort → Bool) (xs : List ComPort) (o : Option ℕ) → o ≡ position p xs → IfSome o (λ i. i < length xs)
-known_at p xs o e = subst (λ (o : Option ℕ). IfSome o (λ i. i < length xs)) (sym e) (at (nat_lt (position_or_len p xs) (length xs)) refl)
+pub known_at : (p : ComPort → Bool) (xs : List ComPort) (o : Option ℕ) → o ≡ position p xs
+    → IfSome o (λ i. i < length xs)
+known_at p xs o e = subst (λ (o : Option ℕ). IfSome o (λ i. i < length xs)) (sym e)
+    (at (nat_lt (position_or_len p xs) (length xs)) refl)
   where
-    at : (b : Bool) → nat_lt (position_or_len p xs) (length xs) ≡ b → IfSome (cond b (Some (position_or_len p xs)) None) (λ i. i < length xs)
+    at : (b : Bool) → nat_lt (position_or_len p xs) (length xs) ≡ b
+        → IfSome (cond b (Some (position_or_len p xs)) None) (λ i. i < length xs)
     at true e = ltb-true (position_or_len p xs) (length xs) e
     at false e = tt
 
 -- ---- the rows so far
 
 one_more : {X : Type 0} (xs : List X) (i : ℕ) (x : X) → slice_get xs i ≡ Some x → take (i + 1) xs ≡ take i xs ++ x ∷ []
-one_more xs i x here = take_more xs i x (slice_get_within xs i x here) ∙ ap (λ y. take i xs ++ y ∷ []) (get_or_from_slice_get xs i x x here)
+one_more xs i x here = take_more xs i x (slice_get_within xs i x here)
+    ∙ ap (λ y. take i xs ++ y ∷ []) (get_or_from_slice_get xs i x x here)
 
 -- whether a port is that of the same system, link and UDP port
 abbrev is_same_port : PortRow → PortRow → Bool
@@ -80,8 +89,10 @@ is_same_port port other = nat_eq other.system port.system && nat_eq other.link p
 same_triple : (a b : PortRow) → is_same_port a b ≡ true → triple b ≡ triple a
 same_triple a b h =
     let outer : ((nat_eq b.system a.system && nat_eq b.link a.link) ≡ true)
-    × (nat_eq b.udp a.udp ≡ true) = and_parts (nat_eq b.system a.system && nat_eq b.link a.link) (nat_eq b.udp a.udp) h in
-    let inner : (nat_eq b.system a.system ≡ true) × (nat_eq b.link a.link ≡ true) = and_parts (nat_eq b.system a.system) (nat_eq b.link a.link) outer.0 in
+    × (nat_eq b.udp a.udp ≡ true) = and_parts (nat_eq b.system a.system && nat_eq b.link a.link)
+    (nat_eq b.udp a.udp) h in
+    let inner : (nat_eq b.system a.system ≡ true) × (nat_eq b.link a.link ≡ true) =
+    and_parts (nat_eq b.system a.system) (nat_eq b.link a.link) outer.0 in
     rw (eqb-true b.system a.system inner.0, eqb-true b.link a.link inner.1, eqb-true b.udp a.udp outer.1) refl
 
 -- a row before a place that passes a test
@@ -93,7 +104,8 @@ found_before p (x ∷ xs) zero h = absurd (cc)
 found_before p (x ∷ xs) (suc i) h =
     elim (or_cases (p x) (list_any p (take i xs)) h) [
       | inl here ↦ (0, x, omega arith, refl, here)
-      | inr later ↦ let found = found_before p xs i later in (suc found.0, found.1, omega (arith, found.2), found.3, found.4)
+      | inr later ↦ let found = found_before p xs i later in
+          (suc found.0, found.1, omega (arith, found.2), found.3, found.4)
     ]
 
 -- the rows are distinct: none before one has its system, link and UDP port
@@ -105,13 +117,17 @@ none_before rows i row distinct here = false_from_ne_true (list_any (is_same_por
     let same : found.0 ≡ i = distinct found.0 i found.1 row found.3 here (same_triple row found.1 found.4) in
     omega (arith, found.2, same))
 
-any_listed : (row : PortRow) (rows : List PortRow) → list_any (is_for row.link row.udp) (ports_at_first row.system rows) ≡ list_any (is_same_port row) rows
+any_listed : (row : PortRow) (rows : List PortRow)
+    → list_any (is_for row.link row.udp) (ports_at_first row.system rows)
+    ≡ list_any (is_same_port row) rows
 any_listed row [] = refl
 any_listed row (x ∷ xs) = at (nat_eq x.system row.system) (any_listed row xs)
   where
-    at : (b : Bool) → list_any (is_for row.link row.udp) (ports_at_first row.system xs) ≡ list_any (is_same_port row) xs →
+    at : (b : Bool) → list_any (is_for row.link row.udp) (ports_at_first row.system xs)
+        ≡ list_any (is_same_port row) xs →
         list_any (is_for row.link row.udp) (map port_at_first
-        (cond b (x ∷ filter (λ (r : PortRow). nat_eq r.system row.system) xs) (filter (λ (r : PortRow). nat_eq r.system row.system) xs)))
+        (cond b (x ∷ filter (λ (r : PortRow). nat_eq r.system row.system) xs)
+        (filter (λ (r : PortRow). nat_eq r.system row.system) xs)))
         ≡ ((b && nat_eq x.link row.link && nat_eq x.udp row.udp) || list_any (is_same_port row) xs)
     at true e = ap (λ c. (nat_eq x.link row.link && nat_eq x.udp row.udp) || c) e
     at false e = e
@@ -121,29 +137,36 @@ listed_one : (system : ℕ) (rows : List PortRow) (i : ℕ) (row : PortRow) → 
 listed_one system rows i row here =
     ap (ports_at_first system) (one_more rows i row here)
     ∙ ap (map port_at_first) (filter-append (λ (r : PortRow). nat_eq r.system system) (take i rows) (row ∷ []))
-    ∙ map-append port_at_first (filter (λ (r : PortRow). nat_eq r.system system) (take i rows)) (filter (λ (r : PortRow). nat_eq r.system system) (row ∷ []))
+    ∙ map-append port_at_first (filter (λ (r : PortRow). nat_eq r.system system) (take i rows))
+    (filter (λ (r : PortRow). nat_eq r.system system) (row ∷ []))
 
-pub listed_passed : (system : ℕ) (rows : List PortRow) (i : ℕ) (row : PortRow) → slice_get rows i ≡ Some row → nat_eq row.system system ≡ false →
+pub listed_passed : (system : ℕ) (rows : List PortRow) (i : ℕ) (row : PortRow)
+    → slice_get rows i ≡ Some row → nat_eq row.system system ≡ false →
     ports_at_first system (take (i + 1) rows) ≡ ports_at_first system (take i rows)
-listed_passed system rows i row here other = listed_one system rows i row here ∙ rw other (append-nil (ports_at_first system (take i rows)))
+listed_passed system rows i row here other = listed_one system rows i row here
+    ∙ rw other (append-nil (ports_at_first system (take i rows)))
 
-pub listed_added : (system : ℕ) (rows : List PortRow) (i : ℕ) (row : PortRow) → slice_get rows i ≡ Some row → nat_eq row.system system ≡ true →
+pub listed_added : (system : ℕ) (rows : List PortRow) (i : ℕ) (row : PortRow)
+    → slice_get rows i ≡ Some row → nat_eq row.system system ≡ true →
     ports_at_first system (take (i + 1) rows) ≡ ports_at_first system (take i rows) ++ port_at_first row ∷ []
 listed_added system rows i row here own = listed_one system rows i row here ∙ rw own refl
 
-pub places_added : {S : Type 0} (system : ℕ) (rows : List PortRow) (i : ℕ) (row : PortRow) (places after : HashMap (VlId × ℕ) ℕ S) →
+pub places_added : {S : Type 0} (system : ℕ) (rows : List PortRow) (i : ℕ) (row : PortRow)
+    (places after : HashMap (VlId × ℕ) ℕ S) →
     AreDistinct triple rows → slice_get rows i ≡ Some row → nat_eq row.system system ≡ true →
     PlacesAreOf places (ports_at_first system (take i rows)) →
     ((q : VlId × ℕ) → hash.get is_same_key after q ≡ cond (is_same_key (record { 0 = row.link }, row.udp) q) (Some
     (length (ports_at_first system (take i rows)))) (hash.get is_same_key places q)) →
     PlacesAreOf after (ports_at_first system (take i rows) ++ port_at_first row ∷ [])
-places_added system rows i row places after apart here own before updates q = at (is_same_key (record { 0 = row.link }, row.udp) q) refl
+places_added system rows i row places after apart here own before updates q =
+    at (is_same_key (record { 0 = row.link }, row.udp) q) refl
   where
     listed : List ComPort
     listed = ports_at_first system (take i rows)
 
     step : position (is_for q.0.0 q.1) (listed ++ port_at_first row ∷ [])
-        ≡ option_or (position (is_for q.0.0 q.1) listed) (cond (is_for q.0.0 q.1 (port_at_first row)) (Some (length listed)) None)
+        ≡ option_or (position (is_for q.0.0 q.1) listed)
+        (cond (is_for q.0.0 q.1 (port_at_first row)) (Some (length listed)) None)
     step = position_push (is_for q.0.0 q.1) listed (port_at_first row)
 
     or_none : (o : Option ℕ) → option_or o None ≡ o
@@ -153,18 +176,22 @@ places_added system rows i row places after apart here own before updates q = at
     absent : row.link ≡ q.0.0 → row.udp ≡ q.1 → position (is_for q.0.0 q.1) listed ≡ None
     absent link udp =
         position_none (is_for q.0.0 q.1) listed
-        (rw (← link, ← udp, ← eqb-true row.system system own) (any_listed row (take i rows) ∙ none_before rows i row apart here))
+        (rw (← link, ← udp, ← eqb-true row.system system own)
+        (any_listed row (take i rows) ∙ none_before rows i row apart here))
 
     at : (b : Bool) → is_same_key (record { 0 = row.link }, row.udp) q ≡ b →
         hash.get is_same_key after q ≡ position (is_for q.0.0 q.1) (listed ++ port_at_first row ∷ [])
     at true e =
-        let both : (nat_eq row.link q.0.0 ≡ true) × (nat_eq row.udp q.1 ≡ true) = and_parts (nat_eq row.link q.0.0) (nat_eq row.udp q.1) e in
+        let both : (nat_eq row.link q.0.0 ≡ true) × (nat_eq row.udp q.1 ≡ true) =
+        and_parts (nat_eq row.link q.0.0) (nat_eq row.udp q.1) e in
         updates q ∙ ap (λ b. cond b (Some (length listed)) (hash.get is_same_key places q)) e
         ∙ sym (step ∙ ap (λ b. option_or (position (is_for q.0.0 q.1) listed) (cond b (Some (length listed)) None)) e
-        ∙ ap (λ (o : Option ℕ). option_or o (Some (length listed))) (absent (eqb-true row.link q.0.0 both.0) (eqb-true row.udp q.1 both.1)))
+        ∙ ap (λ (o : Option ℕ). option_or o (Some (length listed)))
+        (absent (eqb-true row.link q.0.0 both.0) (eqb-true row.udp q.1 both.1)))
     at false e =
         updates q ∙ ap (λ b. cond b (Some (length listed)) (hash.get is_same_key places q)) e ∙ before q
-        ∙ sym (step ∙ ap (λ b. option_or (position (is_for q.0.0 q.1) listed) (cond b (Some (length listed)) None)) e ∙ or_none
+        ∙ sym (step ∙ ap (λ b. option_or (position (is_for q.0.0 q.1) listed)
+        (cond b (Some (length listed)) None)) e ∙ or_none
         (position (is_for q.0.0 q.1) listed))
 
 -- ---- laws
@@ -173,13 +200,16 @@ some_any : (p : ComPort → Bool) (n : ℕ) (ports : List ComPort) → is_some (
 some_any p n [] = refl
 some_any p n (x ∷ xs) = at (p x) (some_any p (n + 1) xs)
   where
-    at : (b : Bool) → is_some (position_from p (n + 1) xs) ≡ list_any p xs → is_some (cond b (Some n) (position_from p (n + 1) xs)) ≡ (b || list_any p xs)
+    at : (b : Bool) → is_some (position_from p (n + 1) xs) ≡ list_any p xs
+        → is_some (cond b (Some n) (position_from p (n + 1) xs)) ≡ (b || list_any p xs)
     at true e = refl
     at false e = e
 
-any_configured : (rows : List PortRow) (system link udp : ℕ) → list_any (is_for link udp) (ports_at_first system rows) ≡ has_port rows system link udp
+any_configured : (rows : List PortRow) (system link udp : ℕ)
+    → list_any (is_for link udp) (ports_at_first system rows) ≡ has_port rows system link udp
 unfolding has_port
-any_configured rows system link udp = any_listed (record { system = system; link = link; udp = udp; kind = Sampling; depth = 1 }) rows
+any_configured rows system link udp =
+    any_listed (record { system = system; link = link; udp = udp; kind = Sampling; depth = 1 }) rows
 
 pub found_configured : (rows : List PortRow) (system link udp : ℕ) →
     is_some (position (is_for link udp) (ports_at_first system rows)) ≡ has_port rows system link udp
@@ -187,9 +217,13 @@ found_configured rows system link udp =
     ap is_some (position_from-zero (is_for link udp) (ports_at_first system rows)) ∙ some_any (is_for link udp) 0
     (ports_at_first system rows) ∙ any_configured rows system link udp
 
-pub stays : (ports : List ComPort) (place link udp : ℕ) (port : ComPort) (held : Held) → slice_get ports place ≡ Some port →
+pub stays : (ports : List ComPort) (place link udp : ℕ) (port : ComPort) (held : Held)
+    → slice_get ports place ≡ Some port →
     position (is_for link udp) (slice_set ports place (record port { held = held })) ≡ position (is_for link udp) ports
 stays ports place link udp port held here =
     let same : is_for link udp port ≡ is_for link udp (get_or ports place port) = ap (is_for link udp) (sym
     (get_or_from_slice_get ports place port port here)) in
-    rw (position_or_len-set (is_for link udp) ports place (record port { held = held }) port same, length-set ports place (record port { held = held })) refl
+    rw (
+      position_or_len-set (is_for link udp) ports place (record port { held = held }) port same,
+      length-set ports place (record port { held = held }),
+    ) refl

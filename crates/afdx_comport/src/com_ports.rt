@@ -144,4 +144,14 @@ impl ComPorts {
     {
         self.ports[port].held.take()
     }
+
+    /// Gives the queuing port at this place a message back that was taken out of it, when its bytes
+    /// were read: the next one is put into its room, and takes no memory where that is enough. What
+    /// the ports hold stays the same.
+    pub fn give_back(&mut self, port: usize, message: Vec<u8>)
+        requires { port < length self.old }
+        ensures { self.new ≡ self.old }
+    {
+        self.ports[port].held.give_back(message);
+    }
 }

@@ -48,6 +48,8 @@ impl Sample {
 pub(crate) struct Queue {
     depth: usize,
     messages: VecDeque<Vec<u8>>,
+    /// Room for the next message.
+    spare: Option<Vec<u8>>,
 }
 
 impl Model for Queue {
@@ -70,7 +72,11 @@ impl Queue {
         ensures { IfOk result (λ q. q ≡ record { depth = depth; messages = [] }) }
     {
         let messages = VecDeque::with_capacity(alloc, depth)?;
-        Ok(Queue { depth, messages })
+        Ok(Queue {
+            depth,
+            messages,
+            spare: None,
+        })
     }
 
     /// Whether it holds as many messages as its depth. It never holds more.
@@ -79,6 +85,29 @@ impl Queue {
         ensures bounded { length self.now.messages ≤ self.now.depth }
     {
         self.messages.len() == self.depth
+    }
+
+    /// A copy of a message, in the room that was given back where that is enough.
+    pub(crate) fn copy(&mut self, alloc: Global, message: &[u8]) -> Result<Vec<u8>, AllocError>
+        ensures copy { IfOk result (λ bytes. bytes.items ≡ message.now) }
+        ensures stays { self.new ≡ self.old }
+    {
+        let Some(mut room) = self.spare.take() else {
+            return Vec::from_slice(alloc, message);
+        };
+        if room.capacity() < message.len() {
+            return Vec::from_slice(alloc, message);
+        }
+        room.clear();
+        room.extend_from_slice(message)?;
+        Ok(room)
+    }
+
+    /// Keeps room for the next message.
+    pub(crate) fn give_back(&mut self, room: Vec<u8>)
+        ensures { self.new ≡ self.old }
+    {
+        self.spare = Some(room);
     }
 
     /// Puts a message behind the others. The room is there.
@@ -123,7 +152,8 @@ impl Held {
                 if queue.is_full() {
                     return Err(PutFault::Full);
                 }
-                queue.push(Vec::from_slice(alloc, message)?);
+                let bytes = queue.copy(alloc, message)?;
+                queue.push(bytes);
             }
         }
         Ok(())
@@ -148,6 +178,15 @@ impl Held {
         match self {
             Held::Sampling(_) => None,
             Held::Queuing(queue) => queue.pop(),
+        }
+    }
+
+    /// Gives room for the next message, if this is a queuing port.
+    pub(crate) fn give_back(&mut self, room: Vec<u8>)
+        ensures { self.new ≡ self.old }
+    {
+        if let Held::Queuing(queue) = self {
+            queue.give_back(room);
         }
     }
 }

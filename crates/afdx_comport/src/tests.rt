@@ -193,6 +193,32 @@ fn put_and_read_at_once(rt: HostRuntime) -> Result<(), Fail> {
     Ok(())
 }
 
+// The message is put to the queue of link 2, taken out of it and given back.
+fn passes(rt: &impl Abort, ports: &mut ComPorts, message: &[u8]) -> bool {
+    let port = ports.find(VlId(2), 2000).expect(rt, "a port");
+    if ports.put(port, 0, message) == Err(PutFault::Memory) {
+        assert_eq!(rt; ports.put(port, 0, message), Ok(()));
+    }
+    match ports.take_queued(port) {
+        Some(bytes) => {
+            let is_same = bytes.as_slice() == message;
+            ports.give_back(port, bytes);
+            is_same && ports.take_queued(port).is_none()
+        }
+        None => false,
+    }
+}
+
+#[test]
+fn given_back_room_holds_the_next_message(rt: HostRuntime) -> Result<(), Fail> {
+    let mut ports = base_ports(rt.alloc())?;
+    assert!(rt; passes(&rt, &mut ports, [1, 2].as_slice()));
+    assert!(rt; passes(&rt, &mut ports, [3, 4, 5].as_slice()));
+    assert!(rt; passes(&rt, &mut ports, [6].as_slice()));
+    assert!(rt; passes(&rt, &mut ports, [7, 8, 9].as_slice()));
+    Ok(())
+}
+
 #[test]
 fn each_port_by_itself(rt: HostRuntime) -> Result<(), Fail> {
     let mut ports = base_ports(rt.alloc())?;

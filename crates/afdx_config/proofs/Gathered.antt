@@ -1,5 +1,7 @@
 -- Items that are read one after the other, as a loop does.
-use Rattle.std.proofs.Common.{◌≡◌, ℕ, ◌≤◌, arith, Bool, true, false, List, [], ◌∷◌, ◌++◌, Option, Some, None, refl, sym, ap, ◌∙◌, append_assoc, ◌&&◌, ◌||◌, string_bytes, String, Global, nat_eq}
+use Rattle.std.proofs.Common.{◌≡◌, ℕ, ◌≤◌, arith, Bool, true, false, List, [], ◌∷◌, ◌++◌, Option}
+use Rattle.std.proofs.Common.{Some, None, refl, sym, ap, ◌∙◌, append_assoc, ◌&&◌, ◌||◌}
+use Rattle.std.proofs.Common.{string_bytes, String, Global, nat_eq}
 use Rattle.std.specs.Option.{option_map, option_and_then}
 use Rattle.std.specs.List.{list_all, list_any}
 use Rattle.std.specs.Map.{keys_of}
@@ -20,27 +22,36 @@ use Rattle.afdx_config.specs.Keys.{all_as, are_among}
 abbrev pub with_front : {A : Type 0} → List A → Option (List A) → Option (List A)
 with_front front rest = option_map (λ xs. front ++ xs) rest
 
-regroup : {A : Type 0} (front : List A) (x : A) (rest : Option (List A)) → with_front front (option_map (λ xs. x ∷ xs) rest) ≡ with_front (front ++ x ∷ []) rest
+regroup : {A : Type 0} (front : List A) (x : A) (rest : Option (List A))
+    → with_front front (option_map (λ xs. x ∷ xs) rest) ≡ with_front (front ++ x ∷ []) rest
 regroup front x None = refl
 regroup front x (Some xs) = ap Some (simp append_assoc)
 
 module _ {A : Type 0} (f : Data → Option A) (front : List A) (d : Data) (ds : Items) (total : Option (List A)) where
-  pub goes_on : (x : A) → f d ≡ Some x → with_front front (all_as f (item d ds)) ≡ total → with_front (front ++ x ∷ []) (all_as f ds) ≡ total
-  goes_on x h so_far = sym (regroup front x (all_as f ds)) ∙ ap (λ o. with_front front (option_and_then (λ y. option_map (λ ys. y ∷ ys) (all_as f ds)) o)) (sym h) ∙ so_far
+  pub goes_on : (x : A) → f d ≡ Some x → with_front front (all_as f (item d ds)) ≡ total
+      → with_front (front ++ x ∷ []) (all_as f ds) ≡ total
+  goes_on x h so_far = sym (regroup front x (all_as f ds))
+      ∙ ap (λ o. with_front front (option_and_then (λ y. option_map (λ ys. y ∷ ys) (all_as f ds))
+      o)) (sym h) ∙ so_far
 
   pub stops : f d ≡ None → with_front front (all_as f (item d ds)) ≡ total → total ≡ None
-  stops h so_far = sym so_far ∙ ap (λ o. with_front front (option_and_then (λ y. option_map (λ ys. y ∷ ys) (all_as f ds)) o)) h
+  stops h so_far = sym so_far
+      ∙ ap (λ o. with_front front (option_and_then (λ y. option_map (λ ys. y ∷ ys) (all_as f ds)) o)) h
 
-pub are_among-keys : (known : List (Bor (List ℕ))) (es : List (String Global × Value)) → are_among (lent_texts known) (members_view es) ≡ list_all (λ k. list_any (λ s. bytes_eq s.now (string_bytes k)) known) (keys_of es)
+pub are_among-keys : (known : List (Bor (List ℕ))) (es : List (String Global × Value))
+    → are_among (lent_texts known) (members_view es)
+    ≡ list_all (λ k. list_any (λ s. bytes_eq s.now (string_bytes k)) known) (keys_of es)
 unfolding are_among
 are_among-keys known [] = refl
 are_among-keys known (e ∷ es) = (λ j. among known (string_bytes e.0) j && are_among-keys known es j)
   where
-    among : (ss : List (Bor (List ℕ))) (k : List ℕ) → list_any (λ s. bytes_eq s k) (lent_texts ss) ≡ list_any (λ s. bytes_eq s.now k) ss
+    among : (ss : List (Bor (List ℕ))) (k : List ℕ) → list_any (λ s. bytes_eq s k) (lent_texts ss)
+        ≡ list_any (λ s. bytes_eq s.now k) ss
     among [] k = refl
     among (s ∷ ss) k = ap (λ b. bytes_eq s.now k || b) (among ss k)
 
-pub any_places : (ids : List SystemId) (n : ℕ) → list_any (λ j. nat_eq j n) (system_places ids) ≡ list_any (λ i. nat_eq i.0 n) ids
+pub any_places : (ids : List SystemId) (n : ℕ) → list_any (λ j. nat_eq j n) (system_places ids)
+    ≡ list_any (λ i. nat_eq i.0 n) ids
 any_places [] n = refl
 any_places (i ∷ ids) n = ap (λ b. nat_eq i.0 n || b) (any_places ids n)
 
@@ -53,7 +64,8 @@ pub at_most : (n k : ℕ) (ns : List ℕ) → AllByRecursion (λ m. m ≤ k) ns 
 at_most n k [] h e = absurd cc
 at_most n k (m ∷ ns) h e = by (nat_eq m n) refl (at_most n k ns h.1) e
   where
-    by : (b : Bool) → nat_eq m n ≡ b → (list_any (λ x. nat_eq x n) ns ≡ true → n ≤ k) → b || list_any (λ x. nat_eq x n) ns ≡ true → n ≤ k
+    by : (b : Bool) → nat_eq m n ≡ b → (list_any (λ x. nat_eq x n) ns ≡ true → n ≤ k)
+        → b || list_any (λ x. nat_eq x n) ns ≡ true → n ≤ k
     by true same later e = omega (arith, h.0, eqb-true _ _ same)
     by false other later e = later e
 

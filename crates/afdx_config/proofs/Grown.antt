@@ -1,6 +1,7 @@
 -- Lawful rows stay lawful when a new one is added.
 use Rattle.std.proofs.lemmas.Bool.{eq-eqb}
-use Rattle.std.proofs.Common.{◌≡◌, ℕ, ◌<◌, Bool, true, false, ◌&&◌, ◌==◌, List, [], ◌∷◌, ◌++◌, length, None, nat_eq, refl, sym, ap, arith, length-append}
+use Rattle.std.proofs.Common.{◌≡◌, ℕ, ◌<◌, Bool, true, false, ◌&&◌, ◌==◌, List, [], ◌∷◌, ◌++◌}
+use Rattle.std.proofs.Common.{length, None, nat_eq, refl, sym, ap, arith, length-append}
 use Rattle.std.specs.Str.{bytes_eq}
 use Rattle.std.proofs.lemmas.Bool.Decides.{nat_tests}
 use Rattle.std.proofs.lemmas.Slice.Eq.{bytes_eq-Decides}
@@ -18,27 +19,41 @@ bytes_eq-same : (xs ys : List ℕ) → xs ≡ ys → bytes_eq ys xs ≡ true
 bytes_eq-same xs ys h = (bytes_eq-Decides ys xs).1 (sym h)
 
 pub no_systems : (profile : ℕ) → AreSystems profile []
-no_systems profile = record { count = omega arith; each = tt; names = distinct-nil (λ s. s.name); ports = distinct-nil (λ s. s.port); ids = distinct-nil (λ s. s.id) }
+no_systems profile = record {
+  count = omega arith;
+  each = tt;
+  names = distinct-nil (λ s. s.name);
+  ports = distinct-nil (λ s. s.port);
+  ids = distinct-nil (λ s. s.id);
+}
 
-pub systems_push : (profile : ℕ) (rows : List SystemRow) (new : SystemRow) → AreSystems profile rows → length rows < 24 → IsSystem profile new → IsNewSystem rows new → AreSystems profile (rows ++ new ∷ [])
+pub systems_push : (profile : ℕ) (rows : List SystemRow) (new : SystemRow) → AreSystems profile rows
+    → length rows < 24 → IsSystem profile new → IsNewSystem rows new
+    → AreSystems profile (rows ++ new ∷ [])
 unfolding system_named system_at_port has_id
 systems_push profile rows new old room lawful fresh = record {
   count = omega (arith, length-append rows (new ∷ []));
   each = all_push (IsSystem profile) rows new old.each lawful;
-  names = distinct-push (λ s. s.name) (λ s. bytes_eq new.name s.name) rows new old.names (none_found (λ s. bytes_eq new.name s.name) rows fresh.name) (λ a e. bytes_eq-same a.name new.name e);
-  ports = distinct-push (λ s. s.port) (λ s. s.port == new.port) rows new old.ports (none_found (λ s. s.port == new.port) rows fresh.port) (λ a e. eq-eqb a.port new.port e);
+  names = distinct-push (λ s. s.name) (λ s. bytes_eq new.name s.name) rows new old.names
+      (none_found (λ s. bytes_eq new.name s.name) rows fresh.name)
+      (λ a e. bytes_eq-same a.name new.name e);
+  ports = distinct-push (λ s. s.port) (λ s. s.port == new.port) rows new old.ports
+      (none_found (λ s. s.port == new.port) rows fresh.port) (λ a e. eq-eqb a.port new.port e);
   ids = distinct-push (λ s. s.id) (λ s. s.id == new.id) rows new old.ids fresh.id (λ a e. eq-eqb a.id new.id e);
 }
 
 pub no_links : (systems : ℕ) → AreLinks systems []
 no_links systems = record { count = omega arith; each = tt; identifiers = distinct-nil (λ l. l.vl) }
 
-pub links_push : (systems : ℕ) (rows : List LinkRow) (new : LinkRow) → AreLinks systems rows → length rows < 4096 → IsLink systems new → link_of rows new.vl ≡ None → AreLinks systems (rows ++ new ∷ [])
+pub links_push : (systems : ℕ) (rows : List LinkRow) (new : LinkRow) → AreLinks systems rows
+    → length rows < 4096 → IsLink systems new → link_of rows new.vl ≡ None
+    → AreLinks systems (rows ++ new ∷ [])
 unfolding link_of
 links_push systems rows new old room lawful fresh = record {
   count = omega (arith, length-append rows (new ∷ []));
   each = all_push (IsLink systems) rows new old.each lawful;
-  identifiers = distinct-push (λ l. l.vl) (λ l. nat_eq new.vl l.vl) rows new old.identifiers (none_found (λ l. nat_eq new.vl l.vl) rows fresh) (λ a e. nat_eq-same new.vl a.vl (sym e));
+  identifiers = distinct-push (λ l. l.vl) (λ l. nat_eq new.vl l.vl) rows new old.identifiers
+      (none_found (λ l. nat_eq new.vl l.vl) rows fresh) (λ a e. nat_eq-same new.vl a.vl (sym e));
 }
 
 pub no_ports : (systems : ℕ) (links : List LinkRow) → ArePorts systems links []
@@ -50,11 +65,17 @@ all_three false b c x y z = absurd cc
 all_three true false c x y z = absurd cc
 all_three true true false x y z = absurd cc
 
-pub ports_push : (systems : ℕ) (links : List LinkRow) (rows : List PortRow) (new : PortRow) → ArePorts systems links rows → length rows < 4096 → IsPort systems links new → has_port rows new.system new.link new.udp ≡ false → ArePorts systems links (rows ++ new ∷ [])
+pub ports_push : (systems : ℕ) (links : List LinkRow) (rows : List PortRow) (new : PortRow)
+    → ArePorts systems links rows → length rows < 4096 → IsPort systems links new
+    → has_port rows new.system new.link new.udp ≡ false → ArePorts systems links (rows ++ new ∷ [])
 unfolding has_port
 ports_push systems links rows new old room lawful fresh = record {
   count = omega (arith, length-append rows (new ∷ []));
   each = all_push (IsPort systems links) rows new old.each lawful;
-  triples = distinct-push triple (λ p. (nat_eq p.system new.system && nat_eq p.link new.link) && nat_eq p.udp new.udp) rows new old.triples fresh
-      (λ a e. all_three (nat_eq a.system new.system) (nat_eq a.link new.link) (nat_eq a.udp new.udp) (nat_eq-same _ _ (ap (λ t. t.0) e)) (nat_eq-same _ _ (ap (λ t. t.1) e)) (nat_eq-same _ _ (ap (λ t. t.2) e)));
+  triples = distinct-push triple
+      (λ p. (nat_eq p.system new.system && nat_eq p.link new.link) && nat_eq p.udp new.udp) rows new
+      old.triples fresh
+      (λ a e. all_three (nat_eq a.system new.system) (nat_eq a.link new.link) (nat_eq a.udp new.udp)
+      (nat_eq-same _ _ (ap (λ t. t.0) e)) (nat_eq-same _ _ (ap (λ t. t.1) e))
+      (nat_eq-same _ _ (ap (λ t. t.2) e)));
 }

@@ -14,7 +14,11 @@ same a b h = grind (arith, nat_tests)
 pub each_row-found : EachRowIsFound
 unfolding system_named system_at_port link_of
 each_row-found t lawful = record {
-  by_name = λ i s at. found (λ r. r.name) (λ r. bytes_eq s.name r.name) t.systems i s lawful.systems.names at ((bytes_eq-Decides s.name s.name).1 refl) (λ b h. sym ((bytes_eq-Decides s.name b.name).0 h));
-  by_port = λ i s at. found (λ r. r.port) (λ r. r.port == s.port) t.systems i s lawful.systems.ports at (same s.port s.port refl) (λ b h. eqb-true b.port s.port h);
-  by_vl = λ i l at. found (λ r. r.vl) (λ r. nat_eq l.vl r.vl) t.links i l lawful.links.identifiers at (same l.vl l.vl refl) (λ b h. sym (eqb-true l.vl b.vl h));
+  by_name = λ i s at. found (λ r. r.name) (λ r. bytes_eq s.name r.name) t.systems i s
+      lawful.systems.names at ((bytes_eq-Decides s.name s.name).1 refl)
+      (λ b h. sym ((bytes_eq-Decides s.name b.name).0 h));
+  by_port = λ i s at. found (λ r. r.port) (λ r. r.port == s.port) t.systems i s lawful.systems.ports
+      at (same s.port s.port refl) (λ b h. eqb-true b.port s.port h);
+  by_vl = λ i l at. found (λ r. r.vl) (λ r. nat_eq l.vl r.vl) t.links i l lawful.links.identifiers
+      at (same l.vl l.vl refl) (λ b h. sym (eqb-true l.vl b.vl h));
 }

@@ -5,7 +5,7 @@ use Rattle.std.specs.Prelude.{Some}
 use Rattle.std.specs.List.{sum_by}
 use Rattle.afdx_config.specs.Rows.{SystemRow, LinkRow, Rows, is_to}
 use Rattle.afdx_frame.specs.Flows.{Flow, IsPortAdmitted}
-use Rattle.afdx_config.specs.Flows.{flow_of, regulation_of}
+use Rattle.afdx_config.specs.Flows.{flow_of_link, regulation_of_link}
 
 -- the ns of a byte on a system's line, whose rate is in Mbit/s
 abbrev pub byte_ns : SystemRow → ℕ
@@ -20,12 +20,12 @@ links_from links system = filter (λ l. nat_eq l.from system) links
 
 -- what sends to the output port of the system at this place
 abbrev pub flows_to : List LinkRow → ℕ → List Flow
-flows_to links system = map flow_of (links_to links system)
+flows_to links system = map flow_of_link (links_to links system)
 
 -- the jitter at the output of a system that sends these links, in ns: 40 us, and one frame of each
 -- link
 abbrev pub sender_jitter : ℕ → List LinkRow → ℕ
-sender_jitter byte_ns own = 40000 + sum_by (λ l. (regulation_of l).smax * byte_ns) own
+sender_jitter byte_ns own = 40000 + sum_by (λ l. (regulation_of_link l).smax * byte_ns) own
 
 pub record IsAdmitted (t : Rows) : Type 0 where
   -- no overload, buffer, and the latency of high and of low frames

@@ -5,14 +5,14 @@ use Rattle.afdx_frame.specs.Flows.{Flow}
 use Rattle.afdx_config.specs.Rows.{LinkRow}
 
 -- how a link is regulated
-abbrev pub regulation_of : LinkRow → Regulation
-regulation_of l = regulation_with l.bag_ms l.jitter_us l.lmax
+abbrev pub regulation_of_link : LinkRow → Regulation
+regulation_of_link l = regulation_with l.bag_ms l.jitter_us l.lmax
 
 -- with its class, and its latency in ns
-abbrev pub flow_of : LinkRow → Flow
-flow_of l = record {
+abbrev pub flow_of_link : LinkRow → Flow
+flow_of_link l = record {
   vl = l.vl;
-  link = regulation_of l;
+  link = regulation_of_link l;
   priority = l.priority;
   latency = 1000 * l.latency_us;
 }

@@ -1,8 +1,9 @@
 -- Every rule of the format, as a fact of the rows.
 use Rattle.std.specs.Prelude.{◌≡◌, ℕ, ◌*◌, ◌<◌, ◌≤◌, true, List, length, nat_eq, slice_get}
-use Rattle.std.specs.Prelude.{Some}
+use Rattle.std.specs.Prelude.{IsTrue, Some}
 use Rattle.std.specs.List.{list_any, AllByRecursion}
-pub use Rattle.afdx_frame.specs.Regulation.{gaps}
+use Rattle.afdx_frame.specs.Lengths.{least_frame, greatest_frame, greatest_buffer}
+use Rattle.afdx_frame.specs.Regulation.{is_bag}
 use Rattle.afdx_config.specs.declared.read_links.Traffic.{Traffic}
 use Rattle.afdx_config.specs.declared.read_links.Treatment.{Treatment}
 use Rattle.afdx_config.specs.Rows.{SystemRow, LinkRow, PortRow, Rows}
@@ -28,9 +29,9 @@ pub record IsSystem (profile : ℕ) (s : SystemRow) : Type 0 where
 
 -- how much a link may send
 pub record IsTraffic (x : Traffic) : Type 0 where
-  pub bag_ms : IsOneOf gaps x.bag_ms
-  pub lmin : IsWithin 64 1518 x.lmin
-  pub lmax : IsWithin x.lmin 1518 x.lmax
+  pub bag_ms : IsTrue (is_bag x.bag_ms)
+  pub lmin : IsWithin least_frame greatest_frame x.lmin
+  pub lmax : IsWithin x.lmin greatest_frame x.lmax
   pub jitter_us : IsWithin 0 (1000 * x.bag_ms) x.jitter_us
 
 -- how a link's frames are treated
@@ -45,9 +46,9 @@ pub record IsLink (systems : ℕ) (l : LinkRow) : Type 0 where
   pub to : AllByRecursion (λ i. i < systems) l.to
   pub to_count : IsWithin 1 24 (length l.to)
   pub apart : are_apart l.from l.to ≡ true
-  pub bag_ms : IsOneOf gaps l.bag_ms
-  pub lmin : IsWithin 64 1518 l.lmin
-  pub lmax : IsWithin l.lmin 1518 l.lmax
+  pub bag_ms : IsTrue (is_bag l.bag_ms)
+  pub lmin : IsWithin least_frame greatest_frame l.lmin
+  pub lmax : IsWithin l.lmin greatest_frame l.lmax
   pub jitter_us : IsWithin 0 (1000 * l.bag_ms) l.jitter_us
   pub latency_us : IsWithin 1 100000 l.latency_us
   pub skew_us : IsWithin 1 100000 l.skew_us
@@ -82,7 +83,7 @@ pub record ArePorts (systems : ℕ) (links : List LinkRow) (ports : List PortRow
 
 pub record IsLawful (t : Rows) : Type 0 where
   pub profile : IsWithin 1 2 t.profile
-  pub buffer : IsWithin 64 4194304 t.buffer
+  pub buffer : IsWithin least_frame greatest_buffer t.buffer
   pub systems : AreSystems t.profile t.systems
   pub links : AreLinks (length t.systems) t.links
   pub ports : ArePorts (length t.systems) t.links t.ports

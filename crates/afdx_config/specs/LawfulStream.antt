@@ -5,7 +5,7 @@ use Rattle.afdx_frame.specs.declared.builder.Address.{Address}
 use Rattle.afdx_frame.specs.Grammar.{Built}
 use Rattle.afdx_frame.specs.Regulation.{bag, jitter}
 use Rattle.afdx_config.specs.Rows.{SystemRow, LinkRow}
-use Rattle.afdx_config.specs.Flows.{regulation_of}
+use Rattle.afdx_config.specs.Flows.{regulation_of_link}
 use Rattle.afdx_config.specs.Lawful.{IsWithin}
 use Rattle.afdx_config.specs.SentList.{Message, Sent, sent_at}
 
@@ -41,8 +41,8 @@ pub record IsLawfulStream (s : SystemRow) (l : LinkRow) (messages : List Message
   pub moment_count : length moments ≡ length stream
   pub message_count : length messages ≡ length stream
   pub apart : (k r later : ℕ) → slice_get moments k ≡ Some r →
-      slice_get moments (k + 1) ≡ Some later → r + bag (regulation_of l) ≤ later
+      slice_get moments (k + 1) ≡ Some later → r + bag (regulation_of_link l) ≤ later
   pub shaped : (k r : ℕ) (y : Sending) → slice_get moments k ≡ Some r →
-      slice_get stream k ≡ Some y → (r ≤ y.time) × (y.time ≤ r + jitter (regulation_of l))
+      slice_get stream k ≡ Some y → (r ≤ y.time) × (y.time ≤ r + jitter (regulation_of_link l))
   pub sent : (k : ℕ) (x : Sent) (y : Sending) → sent_at messages k ≡ Some x →
       slice_get stream k ≡ Some y → IsSent s l x y

@@ -8,6 +8,7 @@ use Rattle.std.specs.List.{list_any, list_all}
 use Rattle.std.specs.Option.{option_map_or}
 use Rattle.std.specs.Str.{bytes_eq}
 use Rattle.std.specs.Char.{is_ascii_alphanumeric}
+use Rattle.afdx_frame.specs.Lengths.{least_frame, greatest_frame, greatest_buffer}
 use Rattle.afdx_frame.specs.declared.link.Priority.TheVariants.{High, Low}
 use Rattle.afdx_frame.specs.declared.link.Policing.TheVariants.{Byte, Frame}
 use Rattle.toml.specs.Parse.{parse_document}
@@ -113,8 +114,8 @@ link_of links vl = position (λ l. nat_eq vl l.vl) links
 unfoldable pub traffic_at : (ℕ → Place) → Members → Result Traffic ConfigFault
 traffic_at at t = do
   bag_ms ← one_of (at 4) (codes "bag_ms") gaps t
-  lmin ← whole (at 5) (codes "lmin") 64 1518 t
-  lmax ← whole (at 6) (codes "lmax") lmin 1518 t
+  lmin ← whole (at 5) (codes "lmin") least_frame greatest_frame t
+  lmax ← whole (at 6) (codes "lmax") lmin greatest_frame t
   jitter_us ← whole (at 7) (codes "jitter_us") 0 (1000 * bag_ms) t
   Ok (record { bag_ms = bag_ms; lmin = lmin; lmax = lmax; jitter_us = jitter_us })
 
@@ -208,7 +209,7 @@ or_bad_profile (Err e) = Err BadProfile
 unfoldable pub tables_at : Members → Result Rows ConfigFault
 tables_at t = do
   profile ← or_bad_profile (whole (place part.Top 0 1) (codes "profile") 1 2 t)
-  buffer ← whole (place part.Top 0 2) (codes "buffer") 64 4194304 t
+  buffer ← whole (place part.Top 0 2) (codes "buffer") least_frame greatest_buffer t
   systems ← tables (place part.Top 0 3) (codes "system") 24 t
   links ← tables (place part.Top 0 4) (codes "link") 4096 t
   ports ← tables (place part.Top 0 5) (codes "port") 4096 t

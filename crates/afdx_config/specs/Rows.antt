@@ -50,6 +50,10 @@ pub record Rows : Type 0 where
   pub links : List LinkRow
   pub ports : List PortRow
 
+abbrev pub rows_with : ℕ → ℕ → List SystemRow → List LinkRow → List PortRow → Rows
+rows_with profile buffer systems links ports =
+    record { profile = profile; buffer = buffer; systems = systems; links = links; ports = ports }
+
 -- the link goes to this system
 abbrev pub is_to : ℕ → LinkRow → Bool
 is_to system link = list_any (λ place. nat_eq place system) link.to

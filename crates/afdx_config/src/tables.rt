@@ -18,19 +18,22 @@ pub struct Tables {
 }
 
 impl Model for Tables {
-    ghost use Rattle.afdx_config.specs.Rows.{Rows, port_rows};
+    ghost use Rattle.afdx_config.specs.Rows.{Rows, rows_with, port_rows};
     ghost use Rattle.afdx_config.specs.Lawful.{IsLawful};
 
     ghost Value = { Rows };
 
-    ghost view = { λ t. record { profile = t.profile; buffer = t.buffer; systems = t.systems; links = t.links; ports = port_rows t.coms.items } };
+    ghost view = { λ t. rows_with t.profile t.buffer t.systems t.links (port_rows t.coms.items) };
 
-    ghost invariant = { λ t. IsLawful (record { profile = t.profile; buffer = t.buffer; systems = t.systems; links = t.links; ports = port_rows t.coms.items }) };
+    ghost invariant = { λ t.
+        IsLawful (rows_with t.profile t.buffer t.systems t.links (port_rows t.coms.items)) };
 }
 
 impl Tables {
-    ghost use Rattle.std.specs.Prelude.{◌≡◌, ◌<◌, length, slice_get, Some, option_map, IfSome};
-    ghost use Rattle.afdx_config.specs.Rows.{LinkRow, system_row, link_row, port_row, port_rows, is_to};
+    ghost use Rattle.std.specs.Prelude.{◌≡◌, ◌<◌, ◌≤◌, length, slice_get, Some, option_map, IfSome};
+    ghost use Rattle.afdx_config.specs.Rows.{SystemRow, LinkRow, system_row, link_row, port_row};
+    ghost use Rattle.afdx_config.specs.Rows.{port_rows, rows_with, is_to};
+    ghost use Rattle.afdx_config.specs.Admission.{byte_ns};
     ghost use Rattle.afdx_config.specs.Reading.{system_named, system_at_port, link_of};
     ghost use Rattle.afdx_config.specs.Lawful.{IsLawful, IsSystem, IsLink, IsPort};
 
@@ -41,8 +44,8 @@ impl Tables {
         links: Links,
         coms: Vec<ComRow>,
     ) -> Tables
-        requires { IsLawful (record { profile = profile; buffer = buffer; systems = systems; links = links; ports = port_rows coms.items }) }
-        ensures { result ≡ record { profile = profile; buffer = buffer; systems = systems; links = links; ports = port_rows coms.items } }
+        requires { IsLawful (rows_with profile buffer systems links (port_rows coms.items)) }
+        ensures { result ≡ rows_with profile buffer systems links (port_rows coms.items) }
     {
         Tables {
             profile,
@@ -85,6 +88,17 @@ impl Tables {
         ensures lawful { IsLawful self.now }
     {
         self.systems.at(id)
+    }
+
+    /// The time of a byte on the line of the system at this place, in ns: 8, 80 or 800.
+    pub fn byte_ns(&self, id: SystemId) -> u64
+        requires { id.0 < length self.now.systems }
+        ensures time { (s : SystemRow) → slice_get self.now.systems id.0 ≡ Some s →
+            result ≡ byte_ns s }
+        ensures some { 1 ≤ result }
+        ensures small { result ≤ 800 }
+    {
+        8000 / self.system(id).rate
     }
 
     /// The system of this name, if there is one. A look-up.
@@ -133,7 +147,8 @@ impl Tables {
     /// Whether the link at this place goes to the system. It tries each of the link's systems.
     pub fn goes_to(&self, link: usize, system: SystemId) -> bool
         requires { link < length self.now.links }
-        ensures { (l : LinkRow) → slice_get self.now.links link ≡ Some l → result ≡ is_to system.0 l }
+        ensures { (l : LinkRow) → slice_get self.now.links link ≡ Some l →
+            result ≡ is_to system.0 l }
     {
         self.links.at(link).goes_to(system)
     }

@@ -169,6 +169,7 @@ fn base_rows(rt: HostRuntime) -> Result<(), Fail> {
     assert_eq!(rt; system.name.as_str(), "s3");
     assert_eq!(rt; (system.port, system.id, system.partition), (3, 3, 1));
     assert_eq!(rt; system.rate, 100);
+    assert_eq!(rt; tables.byte_ns(SystemId(2)), 80);
     let link = tables.link(0);
     assert_eq!(rt; (link.vl, link.from), (VlId(1), SystemId(0)));
     assert_eq!(rt; link.to.as_slice(), [SystemId(2)].as_slice());

@@ -39,7 +39,8 @@ named (a ∷ b ∷ c ∷ d ∷ high ∷ low ∷ rest) vl h e =
     let second = both (a == 3) (b == 0) third.0 in
     subst (λ (v : VlId). IsTo (a ∷ b ∷ c ∷ d ∷ high ∷ low ∷ rest) v.0) told.1
     (is_to (a ∷ b ∷ c ∷ d ∷ high ∷ low ∷ rest) (high * 256 + low) h (omega arith)
-    ((Decides-eqb a 3).0 second.0) ((Decides-eqb b 0).0 second.1) ((Decides-eqb c 0).0 third.1) ((Decides-eqb d 0).0 fourth.1)
+    ((Decides-eqb a 3).0 second.0) ((Decides-eqb b 0).0 second.1) ((Decides-eqb c 0).0 third.1)
+    ((Decides-eqb d 0).0 fourth.1)
     (omega (arith, h 4, h 5)) refl)
 
 pub link_is_computed : LinkIsComputed

@@ -1,5 +1,7 @@
 -- What computes of a check sequence agrees with the remainder.
-use Rattle.std.proofs.Common.{◌≡◌, ℕ, zero, suc, ◌+◌, ◌-◌, ◌*◌, ◌/◌, ◌%◌, ◌^◌, ◌<◌, ◌≤◌, inl, inr, Bool, true, false, cond, List, [], ◌∷◌, ◌++◌, length, take, drop, refl, sym, ap, ap₂, subst, ◌∙◌, arith}
+use Rattle.std.proofs.Common.{◌≡◌, ℕ, zero, suc, ◌+◌, ◌-◌, ◌*◌, ◌/◌, ◌%◌, ◌^◌, ◌<◌, ◌≤◌, inl, inr}
+use Rattle.std.proofs.Common.{Bool, true, false, cond, List, [], ◌∷◌, ◌++◌, length, take, drop}
+use Rattle.std.proofs.Common.{refl, sym, ap, ap₂, subst, ◌∙◌, arith}
 use Rattle.std.specs.Prelude.{bit_xor, ◌==◌, ◌&&◌, nat_le}
 use Rattle.std.specs.Bool.{Decides}
 use Rattle.std.specs.Str.{bytes_eq}
@@ -13,14 +15,15 @@ use Rattle.std.proofs.lemmas.Slice.Eq.{bytes_eq-Decides}
 use Rattle.std.proofs.lemmas.List.{take_at, drop_at, length-append}
 use Rattle.afdx_frame.specs.Sequence.{IsSequence, IsSealed}
 use Rattle.afdx_frame.specs.Register.{shifted, shift, number}
-use Rattle.afdx_frame.specs.Sealing.{sequence_of, sealed, sealed_wrongly, is_sealed, AreBytes, SequenceIsComputed, SealingIsComputed}
+use Rattle.afdx_frame.specs.Sealing.{sequence_of, sealed, sealed_wrongly, is_sealed, AreBytes}
+use Rattle.afdx_frame.specs.Sealing.{SequenceIsComputed, SealingIsComputed}
 use Rattle.afdx_frame.proofs.Registers.{sequence_is, number_lt}
 use Rattle.afdx_frame.proofs.OnlyOne.{only_one}
 use Rattle.afdx_frame.proofs.SealedLemmas as last
 
 -- ---- the register keeps to its 32 bits
 
-wide : (k : ℕ) → 2 ^ 32 ≤ 2 ^ (32 + k)
+pub wide : (k : ℕ) → 2 ^ 32 ≤ 2 ^ (32 + k)
 wide k = omega (arith, pow-add 2 32 k, pow_pos k)
 
 shifted_lt : (w n : ℕ) → 2 ^ 32 ≤ 2 ^ w → n < 2 ^ w * 2 → shifted n < 2 ^ w
@@ -30,10 +33,11 @@ shifted_lt w n l h =
       | false ↦ omega arith
     ]
 
-shift_lt : (k j n : ℕ) → j ≡ 32 + k → n < 2 ^ j → shift k n < 2 ^ 32
+pub shift_lt : (k j n : ℕ) → j ≡ 32 + k → n < 2 ^ j → shift k n < 2 ^ 32
 unfolding shift
 shift_lt zero j n e h = subst (λ (m : ℕ). n < 2 ^ m) e h
-shift_lt (suc k) j n e h = shift_lt k (32 + k) (shifted n) refl (shifted_lt (32 + k) n (wide k) (omega (arith, h, twice)))
+shift_lt (suc k) j n e h =
+    shift_lt k (32 + k) (shifted n) refl (shifted_lt (32 + k) n (wide k) (omega (arith, h, twice)))
   where
     j_is : j ≡ suc (32 + k)
     j_is = omega (arith, e)
@@ -42,7 +46,8 @@ shift_lt (suc k) j n e h = shift_lt k (32 + k) (shifted n) refl (shifted_lt (32 
     twice = ap (λ (m : ℕ). 2 ^ m) j_is ∙ pow-suc 2 (32 + k)
 
 -- what a message leaves in the register
-pub register_lt : (message : List ℕ) → AreBytes message → shift (8 * length message) (bit_xor 0xffff_ffff (number message)) < 2 ^ 32
+pub register_lt : (message : List ℕ) → AreBytes message
+    → shift (8 * length message) (bit_xor 0xffff_ffff (number message)) < 2 ^ 32
 register_lt message h =
     let long : number message < 2 ^ (32 + 8 * length message) =
     omega (arith, number_lt message h, pow-add 2 32 (8 * length message), pow_pos (8 * length message)) in
@@ -53,9 +58,13 @@ register_lt message h =
 pub sequence_computed : (message : List ℕ) → AreBytes message → IsSequence message (sequence_of message)
 unfolding sequence_of
 sequence_computed message h =
-    sequence_is message (shift (8 * length message) (bit_xor 0xffff_ffff (number message))) (0xffff_ffff - shift (8 * length message) (bit_xor 0xffff_ffff (number message))) h refl (register_lt message h) refl
+    sequence_is message (shift (8 * length message) (bit_xor 0xffff_ffff (number message)))
+    (0xffff_ffff - shift (8 * length message) (bit_xor 0xffff_ffff (number message))) h refl
+    (register_lt message h) refl
 
-pub computed_from : (message : List ℕ) (register : ℕ) → register ≡ shift (8 * length message) (bit_xor 0xffff_ffff (number message)) → 0xffff_ffff - register ≡ sequence_of message
+pub computed_from : (message : List ℕ) (register : ℕ)
+    → register ≡ shift (8 * length message) (bit_xor 0xffff_ffff (number message))
+    → 0xffff_ffff - register ≡ sequence_of message
 unfolding sequence_of
 computed_from message register e = ap (λ (r : ℕ). 0xffff_ffff - r) e
 
@@ -66,15 +75,18 @@ sequence_lt message = omega arith
 -- ---- what is sealed
 
 is_sealed-long : (bytes : List ℕ) → 4 ≤ length bytes
-    → is_sealed bytes ≡ bytes_eq (drop (length bytes - 4) bytes) (to_le_bytes w32 (sequence_of (take (length bytes - 4) bytes)))
+    → is_sealed bytes ≡ bytes_eq (drop (length bytes - 4) bytes)
+    (to_le_bytes w32 (sequence_of (take (length bytes - 4) bytes)))
 unfolding is_sealed
 is_sealed-long bytes h =
-    ap (λ (b : Bool). b && bytes_eq (drop (length bytes - 4) bytes) (to_le_bytes w32 (sequence_of (take (length bytes - 4) bytes)))) (le-leb 4 (length bytes) h)
+    ap (λ (b : Bool). b && bytes_eq (drop (length bytes - 4) bytes)
+    (to_le_bytes w32 (sequence_of (take (length bytes - 4) bytes)))) (le-leb 4 (length bytes) h)
 
 pub is_sealed-short : (bytes : List ℕ) → length bytes < 4 → is_sealed bytes ≡ false
 unfolding is_sealed
 is_sealed-short bytes h =
-    ap (λ (b : Bool). b && bytes_eq (drop (length bytes - 4) bytes) (to_le_bytes w32 (sequence_of (take (length bytes - 4) bytes))))
+    ap (λ (b : Bool). b && bytes_eq (drop (length bytes - 4) bytes)
+    (to_le_bytes w32 (sequence_of (take (length bytes - 4) bytes))))
     (false_from_ne_true (nat_le 4 (length bytes)) (λ e. absurd (omega (arith, leb-true 4 (length bytes) e))))
 
 pub AreBytes-take : (n : ℕ) (bytes : List ℕ) → AreBytes bytes → AreBytes (take n bytes)
@@ -90,15 +102,23 @@ is_sealed-decides bytes h = elim (cases_lt (length bytes) 4) [
     λ s. absurd (omega (arith, last.sealed_long bytes s, short)),
   )
   | inr long ↦ (
-    λ e. last.sealed bytes (length bytes - 4) (sequence_of (take (length bytes - 4) bytes)) (sequence_computed (take (length bytes - 4) bytes) (AreBytes-take (length bytes - 4) bytes h))
-        ((bytes_eq-Decides (drop (length bytes - 4) bytes) (to_le_bytes w32 (sequence_of (take (length bytes - 4) bytes)))).0 (sym (is_sealed-long bytes long) ∙ e)),
-    λ s. is_sealed-long bytes long ∙ (bytes_eq-Decides (drop (length bytes - 4) bytes) (to_le_bytes w32 (sequence_of (take (length bytes - 4) bytes)))).1
-        (last.sealed_last bytes (length bytes - 4) (sequence_of (take (length bytes - 4) bytes)) (omega (arith, long)) (sequence_computed (take (length bytes - 4) bytes) (AreBytes-take (length bytes - 4) bytes h)) s),
+    λ e. last.sealed bytes (length bytes - 4) (sequence_of (take (length bytes - 4) bytes))
+        (sequence_computed (take (length bytes - 4) bytes) (AreBytes-take (length bytes - 4) bytes h))
+        ((bytes_eq-Decides (drop (length bytes - 4) bytes)
+        (to_le_bytes w32 (sequence_of (take (length bytes - 4) bytes)))).0
+        (sym (is_sealed-long bytes long) ∙ e)),
+    λ s. is_sealed-long bytes long
+        ∙ (bytes_eq-Decides (drop (length bytes - 4) bytes)
+        (to_le_bytes w32 (sequence_of (take (length bytes - 4) bytes)))).1
+        (last.sealed_last bytes (length bytes - 4) (sequence_of (take (length bytes - 4) bytes))
+        (omega (arith, long)) (sequence_computed (take (length bytes - 4) bytes)
+        (AreBytes-take (length bytes - 4) bytes h)) s),
   )
 ]
 
 -- bytes with any number after them
-ends : (bytes : List ℕ) (n : ℕ) → is_sealed (bytes ++ to_le_bytes w32 n) ≡ bytes_eq (to_le_bytes w32 n) (to_le_bytes w32 (sequence_of bytes))
+ends : (bytes : List ℕ) (n : ℕ) → is_sealed (bytes ++ to_le_bytes w32 n)
+    ≡ bytes_eq (to_le_bytes w32 n) (to_le_bytes w32 (sequence_of bytes))
 ends bytes n =
     is_sealed-long (bytes ++ to_le_bytes w32 n) (omega (arith, long))
     ∙ ap₂ (λ (x y : List ℕ). bytes_eq x (to_le_bytes w32 (sequence_of y)))
@@ -109,12 +129,16 @@ ends bytes n =
     long = length-append bytes (to_le_bytes w32 n)
 
 pub sealed-is : (bytes : List ℕ) → is_sealed (sealed bytes) ≡ true
-sealed-is bytes = ends bytes (sequence_of bytes) ∙ (bytes_eq-Decides (to_le_bytes w32 (sequence_of bytes)) (to_le_bytes w32 (sequence_of bytes))).1 refl
+sealed-is bytes = ends bytes (sequence_of bytes)
+    ∙ (bytes_eq-Decides (to_le_bytes w32 (sequence_of bytes))
+    (to_le_bytes w32 (sequence_of bytes))).1 refl
 
 pub sealed_wrongly-is : (bytes : List ℕ) → is_sealed (sealed_wrongly bytes) ≡ false
 sealed_wrongly-is bytes = false_from_ne_true (is_sealed (sealed_wrongly bytes)) (λ e.
     let same : to_le_bytes w32 (0xffff_ffff - sequence_of bytes) ≡ to_le_bytes w32 (sequence_of bytes) =
-    (bytes_eq-Decides (to_le_bytes w32 (0xffff_ffff - sequence_of bytes)) (to_le_bytes w32 (sequence_of bytes))).0 (sym (ends bytes (0xffff_ffff - sequence_of bytes)) ∙ e) in
+    (bytes_eq-Decides (to_le_bytes w32 (0xffff_ffff - sequence_of bytes))
+    (to_le_bytes w32 (sequence_of bytes))).0 (sym (ends bytes (0xffff_ffff - sequence_of bytes))
+    ∙ e) in
     let equal : 0xffff_ffff - sequence_of bytes ≡ sequence_of bytes =
     sym (from_le_bytes-to_le_bytes_4 (0xffff_ffff - sequence_of bytes) (omega arith)) ∙ ap (from_le_bytes w32) same
     ∙ from_le_bytes-to_le_bytes_4 (sequence_of bytes) (sequence_lt bytes) in

@@ -2,6 +2,7 @@
 -- them.
 use Rattle.std.specs.Prelude.{◌≡◌, ℕ, ◌+◌, ◌-◌, ◌*◌, ◌↔◌, not, nat_lt, if◌then◌else◌, Option, Some}
 use Rattle.std.specs.Prelude.{None, Result, Ok, Err, List, length, take, drop, slice_index}
+use Rattle.afdx_frame.specs.Lengths.{least_frame, greatest_frame}
 use Rattle.afdx_frame.specs.declared.link.VlId.{VlId}
 use Rattle.afdx_frame.specs.declared.fault.MacFault.{MacFault}
 use Rattle.afdx_frame.specs.declared.fault.MacFault.TheVariants.{TooShort, TooLong, BadFcs}
@@ -52,8 +53,8 @@ frame_with bytes (Some vl) =
 -- the frame of a link that the bytes are, or the first fault
 unfoldable pub frame_of : List ℕ → Result FrameParts MacFault
 frame_of bytes =
-    if nat_lt (length bytes) 64 then Err TooShort
-    else (if nat_lt 1518 (length bytes) then Err TooLong
+    if nat_lt (length bytes) least_frame then Err TooShort
+    else (if nat_lt greatest_frame (length bytes) then Err TooLong
     else (if not (is_sealed bytes) then Err BadFcs
     else frame_with bytes (link_named_by bytes)))
 

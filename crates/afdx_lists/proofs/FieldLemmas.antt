@@ -1,21 +1,24 @@
 -- The fields of a line.
-use Rattle.std.proofs.Common.{◌≡◌, ℕ, ◌+◌, ◌-◌, ◌*◌, ◌^◌, ◌<◌, ◌≤◌, min, List, [], ◌∷◌, ◌++◌, length, get_or, take, drop, Bool, true, false, cond, ◌&&◌, refl, ap, sym, ◌∙◌, arith, eqb, eq-eqb, Option, Some, None, suc, zero}
+use Rattle.std.proofs.Common.{◌≡◌, ℕ, ◌+◌, ◌-◌, ◌*◌, ◌^◌, ◌<◌, ◌≤◌, min, List, [], ◌∷◌, ◌++◌}
+use Rattle.std.proofs.Common.{length, get_or, take, drop, Bool, true, false, cond, ◌&&◌, refl, ap}
+use Rattle.std.proofs.Common.{sym, ◌∙◌, arith, eqb, eq-eqb, Option, Some, None, suc, zero}
 use Rattle.std.proofs.lemmas.Grind.{common_steps}
 use Rattle.std.specs.Char.{is_ascii_digit}
 use Rattle.std.specs.List.{slice_split}
 use Rattle.std.proofs.lemmas.List.Splits.{slice_split_at, slice_split_none}
 use Rattle.memchr.specs.Find.{IsFirstByte, is_byte}
-use Rattle.afdx_lists.proofs.LineLemmas.{piece_before, no_feed_at_all, HasFirst, slice_split-has_first}
-use Rattle.std.specs.Option.{option_map, is_some}
-use Rattle.std.specs.Borrow.{Bor}
+use Rattle.afdx_lists.proofs.LineLemmas.{piece_before, no_feed_at_all}
+use Rattle.std.specs.Option.{option_map}
 use Rattle.std.specs.Str.Lines.{strip_carriage_return}
 use Rattle.std.proofs.Common.{Result, Ok, Err}
 use Rattle.afdx_frame.specs.declared.link.Side.{Side}
 use Rattle.afdx_lists.specs.declared.frame_line.Kind.{Kind}
 use Rattle.afdx_lists.specs.declared.fault.LineFault.{LineFault}
 use Rattle.afdx_lists.specs.declared.fault.LineFault.TheVariants.{BadLine}
-use Rattle.afdx_lists.specs.Fields.{fields_after, number_of, number_after, all_digits, is_skipped, bytes_of_digits, ok_of}
-use Rattle.afdx_lists.specs.FrameLines.{FrameFields, fields_of_parts, fields_with, saturated, frame_fields, fields_say, fields_say_with, numbers_fault, line_says, frame_with}
+use Rattle.afdx_lists.specs.Fields.{number_of, number_after, all_digits, is_skipped, bytes_of_digits, ok_of}
+use Rattle.afdx_lists.specs.FrameLines.{FrameFields, fields_with, saturated, frame_fields}
+use Rattle.afdx_lists.specs.FrameLines.{fields_say, fields_say_with, numbers_fault, line_says}
+use Rattle.afdx_lists.specs.FrameLines.{frame_with}
 use Rattle.hex.specs.Hex.{decode_of, decode_sized}
 use Rattle.hex.specs.declared.error.FromHexError.{FromHexError}
 use Rattle.std.specs.Prelude.{MatchResult, ◌/◌, ◌%◌}
@@ -23,13 +26,18 @@ use Rattle.std.specs.Str.{bytes_eq}
 use Rattle.hex.specs.declared.error.FromHexError.TheVariants.{OddLength}
 
 -- the first part ends at the first such byte
-pub split_at_byte : (b : ℕ) (text : List ℕ) (at : ℕ) → IsFirstByte (is_byte b) text (Some at) → slice_split (λ byte. eqb byte b) text ≡ take at text ∷ slice_split (λ byte. eqb byte b) (take (length text - (at + 1)) (drop (at + 1) text))
+pub split_at_byte : (b : ℕ) (text : List ℕ) (at : ℕ) → IsFirstByte (is_byte b) text (Some at)
+    → slice_split (λ byte. eqb byte b) text ≡ take at text
+    ∷ slice_split (λ byte. eqb byte b) (take (length text - (at + 1)) (drop (at + 1) text))
 split_at_byte b text at h =
     let cut = piece_before b text at h in
     let rest : take (length text - (at + 1)) (drop (at + 1) text) ≡ drop (at + 1) text = grind (arith, common_steps) in
-    rw rest (ap (slice_split (λ byte. eqb byte b)) cut.1 ∙ slice_split_at (λ byte. eqb byte b) (take at text) b (drop (at + 1) text) cut.0 (grind (arith, common_steps)))
+    rw rest (ap (slice_split (λ byte. eqb byte b)) cut.1
+    ∙ slice_split_at (λ byte. eqb byte b) (take at text) b (drop (at + 1) text) cut.0
+    (grind (arith, common_steps)))
 
-pub split_at_none : (b : ℕ) (text : List ℕ) → IsFirstByte (is_byte b) text None → slice_split (λ byte. eqb byte b) text ≡ text ∷ []
+pub split_at_none : (b : ℕ) (text : List ℕ) → IsFirstByte (is_byte b) text None
+    → slice_split (λ byte. eqb byte b) text ≡ text ∷ []
 split_at_none b text h = slice_split_none (λ byte. eqb byte b) text (no_feed_at_all b text h)
 
 and_false : (b : Bool) → (b && false) ≡ false
@@ -37,24 +45,29 @@ and_false true = refl
 and_false false = refl
 
 -- one byte that is no digit
-pub all_digits_not : (bytes : List ℕ) (i : ℕ) → i < length bytes → is_ascii_digit (get_or bytes i 0) ≡ false → all_digits bytes ≡ false
+pub all_digits_not : (bytes : List ℕ) (i : ℕ) → i < length bytes → is_ascii_digit (get_or bytes i 0)
+    ≡ false → all_digits bytes ≡ false
 all_digits_not [] i h wrong = absurd (omega arith)
 all_digits_not (byte ∷ bytes) zero h wrong = rw wrong refl
-all_digits_not (byte ∷ bytes) (suc i) h wrong = rw (all_digits_not bytes i (omega arith) wrong) (and_false (is_ascii_digit byte))
+all_digits_not (byte ∷ bytes) (suc i) h wrong =
+    rw (all_digits_not bytes i (omega arith) wrong) (and_false (is_ascii_digit byte))
 
 pub number_of_not : (bytes : List ℕ) → all_digits bytes ≡ false → number_of bytes ≡ None
 number_of_not [] h = refl
 number_of_not (byte ∷ bytes) h = rw h refl
 
-pub number_of_digits : (bytes : List ℕ) → 0 < length bytes → all_digits bytes ≡ true → number_of bytes ≡ Some (number_after 0 bytes)
+pub number_of_digits : (bytes : List ℕ) → 0 < length bytes → all_digits bytes ≡ true
+    → number_of bytes ≡ Some (number_after 0 bytes)
 number_of_digits [] some h = absurd (omega arith)
 number_of_digits (byte ∷ bytes) some h = rw h refl
 
-pub number_after_push : (n : ℕ) (bytes : List ℕ) (byte : ℕ) → number_after n (bytes ++ byte ∷ []) ≡ number_after n bytes * 10 + (byte - 48)
+pub number_after_push : (n : ℕ) (bytes : List ℕ) (byte : ℕ) → number_after n (bytes ++ byte ∷ [])
+    ≡ number_after n bytes * 10 + (byte - 48)
 number_after_push n [] byte = refl
 number_after_push n (first ∷ bytes) byte = number_after_push (n * 10 + (first - 48)) bytes byte
 
-pub all_digits_push : (bytes : List ℕ) (byte : ℕ) → all_digits bytes ≡ true → is_ascii_digit byte ≡ true → all_digits (bytes ++ byte ∷ []) ≡ true
+pub all_digits_push : (bytes : List ℕ) (byte : ℕ) → all_digits bytes ≡ true
+    → is_ascii_digit byte ≡ true → all_digits (bytes ++ byte ∷ []) ≡ true
 all_digits_push [] byte all one = rw one refl
 all_digits_push (first ∷ bytes) byte all one = grind (arith, common_steps, all_digits_push bytes byte)
 
@@ -62,22 +75,11 @@ pub rest_is_none : {X : Type 0} (o : Option X) → ((x : X) → o ≡ Some x →
 rest_is_none None h = refl
 rest_is_none (Some x) h = absurd (h x refl)
 
--- a sixth part
-fields_of_six : (kind time side port digits : List ℕ) (parts : List (List ℕ)) → HasFirst parts → fields_of_parts (kind ∷ time ∷ side ∷ port ∷ digits ∷ parts) ≡ None
-fields_of_six kind time side port digits parts h = rw h.2 refl
-
-pub fields_of_more : (kind time side port digits : List ℕ) (rest : Option (Bor (List ℕ))) → is_some rest ≡ true → fields_of_parts (kind ∷ time ∷ side ∷ port ∷ digits ∷ fields_after rest) ≡ None
-fields_of_more kind time side port digits None h = cc
-fields_of_more kind time side port digits (Some rest) h = fields_of_six kind time side port digits _ (slice_split-has_first (λ byte. eqb byte 32) rest.now)
-
-pub not_some_is_none : {X : Type 0} (o : Option X) → is_some o ≡ false → o ≡ None
-not_some_is_none None h = refl
-not_some_is_none (Some x) h = cc
-
-sat : ℕ → ℕ
-sat n = min n (2 ^ 64 - 1)
-
-pub fields_with-saturated : (kind : Option Kind) (time : Option ℕ) (side : Option Side) (port : Option ℕ) (digits : List ℕ) → fields_with kind (option_map (λ n. min n (2 ^ 64 - 1)) time) side (option_map (λ n. min n (2 ^ 64 - 1)) port) digits ≡ option_map saturated (fields_with kind time side port digits)
+pub fields_with-saturated : (kind : Option Kind) (time : Option ℕ) (side : Option Side)
+    (port : Option ℕ) (digits : List ℕ)
+    → fields_with kind (option_map (λ n. min n (2 ^ 64 - 1)) time) side
+    (option_map (λ n. min n (2 ^ 64 - 1)) port) digits
+    ≡ option_map saturated (fields_with kind time side port digits)
 fields_with-saturated None time side port digits = refl
 fields_with-saturated (Some kind) None side port digits = refl
 fields_with-saturated (Some kind) (Some time) None port digits = refl
@@ -85,40 +87,59 @@ fields_with-saturated (Some kind) (Some time) (Some side) None digits = refl
 fields_with-saturated (Some kind) (Some time) (Some side) (Some port) [] = refl
 fields_with-saturated (Some kind) (Some time) (Some side) (Some port) (digit ∷ digits) = refl
 
-pub line_says_nothing : (latest : ℕ) (line text : List ℕ) → text ≡ strip_carriage_return line → is_skipped text ≡ true → line_says latest line ≡ Ok None
+pub line_says_nothing : (latest : ℕ) (line text : List ℕ) → text ≡ strip_carriage_return line
+    → is_skipped text ≡ true → line_says latest line ≡ Ok None
 unfolding line_says
 line_says_nothing latest line text e h = rw (← e, h) refl
 
-line_says_fields : (latest : ℕ) (line text : List ℕ) → text ≡ strip_carriage_return line → is_skipped text ≡ false → line_says latest line ≡ fields_say latest (frame_fields text)
+line_says_fields : (latest : ℕ) (line text : List ℕ) → text ≡ strip_carriage_return line
+    → is_skipped text ≡ false → line_says latest line ≡ fields_say latest (frame_fields text)
 unfolding line_says
 line_says_fields latest line text e h = rw (← e, h) refl
 
-numbers_fault-sat : (time port latest : ℕ) → latest ≤ 10 ^ 15 → numbers_fault (min time (2 ^ 64 - 1)) (min port (2 ^ 64 - 1)) latest ≡ numbers_fault time port latest
+numbers_fault-sat : (time port latest : ℕ) → latest ≤ 10 ^ 15
+    → numbers_fault (min time (2 ^ 64 - 1)) (min port (2 ^ 64 - 1)) latest
+    ≡ numbers_fault time port latest
 numbers_fault-sat time port latest h = grind (arith, common_steps)
 
 -- no field is cut off where no check of the numbers is false
 same_fields : (fields : FrameFields) (latest : ℕ) → fields.time ≤ 10 ^ 15 → fields.port ≤ 24 → saturated fields ≡ fields
-same_fields fields latest t p = let same_time : min fields.time (2 ^ 64 - 1) ≡ fields.time = omega arith in let same_port : min fields.port (2 ^ 64 - 1) ≡ fields.port = omega arith in rw (same_time, same_port) refl
+same_fields fields latest t p = let same_time : min fields.time (2 ^ 64 - 1) ≡ fields.time =
+    omega arith in let same_port : min fields.port (2 ^ 64 - 1) ≡ fields.port = omega arith in
+    rw (same_time, same_port) refl
 
 -- what is read of a line whose numbers may be cut off
 none_from : (o : Option FrameFields) → None ≡ option_map saturated o → o ≡ None
 none_from None h = refl
 none_from (Some fields) h = cc
 
-pub says_bad_line : (latest : ℕ) (line text : List ℕ) → text ≡ strip_carriage_return line → is_skipped text ≡ false → None ≡ option_map saturated (frame_fields text) → line_says latest line ≡ Err BadLine
-says_bad_line latest line text e h none = line_says_fields latest line text e h ∙ ap (fields_say latest) (none_from (frame_fields text) none)
+pub says_bad_line : (latest : ℕ) (line text : List ℕ) → text ≡ strip_carriage_return line
+    → is_skipped text ≡ false → None ≡ option_map saturated (frame_fields text)
+    → line_says latest line ≡ Err BadLine
+says_bad_line latest line text e h none = line_says_fields latest line text e h
+    ∙ ap (fields_say latest) (none_from (frame_fields text) none)
 
-fields_fault : (latest : ℕ) (o : Option FrameFields) (fields : FrameFields) (fault : LineFault) → Some fields ≡ option_map saturated o → latest ≤ 10 ^ 15 → Some fault ≡ numbers_fault fields.time fields.port latest → fields_say latest o ≡ Err fault
+fields_fault : (latest : ℕ) (o : Option FrameFields) (fields : FrameFields) (fault : LineFault)
+    → Some fields ≡ option_map saturated o → latest ≤ 10 ^ 15
+    → Some fault ≡ numbers_fault fields.time fields.port latest → fields_say latest o ≡ Err fault
 fields_fault latest None fields fault same low h = cc
 fields_fault latest (Some whole) fields fault same low h =
     let cut : fields ≡ saturated whole = cc in
-    let found : Some fault ≡ numbers_fault whole.time whole.port latest = rw cut at h ∙ numbers_fault-sat whole.time whole.port latest low in
+    let found : Some fault ≡ numbers_fault whole.time whole.port latest = rw cut at h
+    ∙ numbers_fault-sat whole.time whole.port latest low in
     ap (fields_say_with whole) (sym found)
 
-pub says_fault : (latest : ℕ) (line text : List ℕ) (fields : FrameFields) (fault : LineFault) → text ≡ strip_carriage_return line → is_skipped text ≡ false → Some fields ≡ option_map saturated (frame_fields text) → latest ≤ 10 ^ 15 → Some fault ≡ numbers_fault fields.time fields.port latest → line_says latest line ≡ Err fault
-says_fault latest line text fields fault e h same low found = line_says_fields latest line text e h ∙ fields_fault latest (frame_fields text) fields fault same low found
+pub says_fault : (latest : ℕ) (line text : List ℕ) (fields : FrameFields) (fault : LineFault)
+    → text ≡ strip_carriage_return line → is_skipped text ≡ false
+    → Some fields ≡ option_map saturated (frame_fields text) → latest ≤ 10 ^ 15
+    → Some fault ≡ numbers_fault fields.time fields.port latest → line_says latest line ≡ Err fault
+says_fault latest line text fields fault e h same low found = line_says_fields latest line text e h
+    ∙ fields_fault latest (frame_fields text) fields fault same low found
 
-fields_frame : (latest : ℕ) (o : Option FrameFields) (fields : FrameFields) → Some fields ≡ option_map saturated o → None ≡ numbers_fault fields.time fields.port latest → fields.time ≤ 10 ^ 15 → fields.port ≤ 24 → fields_say latest o ≡ frame_with fields (bytes_of_digits fields.digits)
+fields_frame : (latest : ℕ) (o : Option FrameFields) (fields : FrameFields)
+    → Some fields ≡ option_map saturated o → None ≡ numbers_fault fields.time fields.port latest
+    → fields.time ≤ 10 ^ 15 → fields.port ≤ 24
+    → fields_say latest o ≡ frame_with fields (bytes_of_digits fields.digits)
 fields_frame latest None fields same h t p = cc
 fields_frame latest (Some whole) fields same h t p =
     let cut : fields ≡ saturated whole = cc in
@@ -127,22 +148,31 @@ fields_frame latest (Some whole) fields same h t p =
     let same_fields : fields ≡ whole = cut ∙ same_fields whole latest small_time small_port in
     rw same_fields (ap (fields_say_with whole) (sym (rw same_fields at h)))
 
-pub says_frame : (latest : ℕ) (line text : List ℕ) (fields : FrameFields) → text ≡ strip_carriage_return line → is_skipped text ≡ false → Some fields ≡ option_map saturated (frame_fields text) → None ≡ numbers_fault fields.time fields.port latest → fields.time ≤ 10 ^ 15 → fields.port ≤ 24 → line_says latest line ≡ frame_with fields (bytes_of_digits fields.digits)
-says_frame latest line text fields e h same found t p = line_says_fields latest line text e h ∙ fields_frame latest (frame_fields text) fields same found t p
+pub says_frame : (latest : ℕ) (line text : List ℕ) (fields : FrameFields)
+    → text ≡ strip_carriage_return line → is_skipped text ≡ false
+    → Some fields ≡ option_map saturated (frame_fields text)
+    → None ≡ numbers_fault fields.time fields.port latest → fields.time ≤ 10 ^ 15 → fields.port ≤ 24
+    → line_says latest line ≡ frame_with fields (bytes_of_digits fields.digits)
+says_frame latest line text fields e h same found t p = line_says_fields latest line text e h
+    ∙ fields_frame latest (frame_fields text) fields same found t p
 
 -- digits are decoded into half as many bytes
-decode_sized_half-by : (b c : Bool) (odd whole wrong : Result (List ℕ) FromHexError) → c ≡ true → cond b odd (cond c whole wrong) ≡ cond b odd whole
+decode_sized_half-by : (b c : Bool) (odd whole wrong : Result (List ℕ) FromHexError) → c ≡ true
+    → cond b odd (cond c whole wrong) ≡ cond b odd whole
 decode_sized_half-by true c odd whole wrong h = refl
 decode_sized_half-by false c odd whole wrong h = rw h refl
 
 decode_sized_half : (text : List ℕ) (n : ℕ) → n ≡ length text / 2 → decode_sized text n ≡ decode_of text
-decode_sized_half text n h = decode_sized_half-by (eqb (length text % 2) 1) (eqb (length text / 2) n) (Err OddLength) _ _ (eq-eqb (length text / 2) n (sym h))
+decode_sized_half text n h =
+    decode_sized_half-by (eqb (length text % 2) 1) (eqb (length text / 2) n) (Err OddLength) _ _
+    (eq-eqb (length text / 2) n (sym h))
 
 pub dash_is_no_bytes : (digits : List ℕ) → bytes_eq digits (45 ∷ []) ≡ true → bytes_of_digits digits ≡ Some []
 unfolding bytes_of_digits
 dash_is_no_bytes digits h = rw h refl
 
-digits_decode : (digits : List ℕ) (n : ℕ) → bytes_eq digits (45 ∷ []) ≡ false → n ≡ length digits / 2 → bytes_of_digits digits ≡ ok_of (decode_sized digits n)
+digits_decode : (digits : List ℕ) (n : ℕ) → bytes_eq digits (45 ∷ []) ≡ false
+    → n ≡ length digits / 2 → bytes_of_digits digits ≡ ok_of (decode_sized digits n)
 unfolding bytes_of_digits
 digits_decode digits n h half = rw (h, decode_sized_half digits n half) refl
 
@@ -154,18 +184,25 @@ decoded_ok : (sized : Result (List ℕ) FromHexError) (new : List ℕ) → Decod
 decoded_ok (Ok bytes) new h = ap Some (sym h.1)
 decoded_ok (Err e) new h = cc
 
-decoded_err : (sized : Result (List ℕ) FromHexError) (fault : FromHexError) (new : List ℕ) → Decodes sized (Err fault) new → ok_of sized ≡ None
+decoded_err : (sized : Result (List ℕ) FromHexError) (fault : FromHexError) (new : List ℕ)
+    → Decodes sized (Err fault) new → ok_of sized ≡ None
 decoded_err (Ok bytes) fault new h = let wrong = h.0 in cc
 decoded_err (Err e) fault new h = refl
 
-pub digits_are : (digits new : List ℕ) (n : ℕ) → bytes_eq digits (45 ∷ []) ≡ false → n ≡ length digits / 2 → Decodes (decode_sized digits n) (Ok tt) new → bytes_of_digits digits ≡ Some new
+pub digits_are : (digits new : List ℕ) (n : ℕ) → bytes_eq digits (45 ∷ []) ≡ false
+    → n ≡ length digits / 2 → Decodes (decode_sized digits n) (Ok tt) new → bytes_of_digits digits
+    ≡ Some new
 digits_are digits new n h half decodes = digits_decode digits n h half ∙ decoded_ok (decode_sized digits n) new decodes
 
-pub digits_are_bad : (digits new : List ℕ) (n : ℕ) (fault : FromHexError) → bytes_eq digits (45 ∷ []) ≡ false → n ≡ length digits / 2 → Decodes (decode_sized digits n) (Err fault) new → bytes_of_digits digits ≡ None
-digits_are_bad digits new n fault h half decodes = digits_decode digits n h half ∙ decoded_err (decode_sized digits n) fault new decodes
+pub digits_are_bad : (digits new : List ℕ) (n : ℕ) (fault : FromHexError)
+    → bytes_eq digits (45 ∷ []) ≡ false → n ≡ length digits / 2
+    → Decodes (decode_sized digits n) (Err fault) new → bytes_of_digits digits ≡ None
+digits_are_bad digits new n fault h half decodes = digits_decode digits n h half
+    ∙ decoded_err (decode_sized digits n) fault new decodes
 
 -- all the elements were written over
-pub written_over : (new old : List ℕ) (n : ℕ) → length new ≡ length old → n ≡ length old → take n (new ++ drop (length new) old) ≡ new
+pub written_over : (new old : List ℕ) (n : ℕ) → length new ≡ length old → n ≡ length old
+    → take n (new ++ drop (length new) old) ≡ new
 written_over new old n same whole = grind (arith, common_steps)
 
 -- 10 to the power of n
@@ -185,7 +222,8 @@ push_below : (n : ℕ) (byte most : ℕ) → is_ascii_digit byte ≡ true → n 
 push_below n byte most digit below = grind (arith, digit, below)
 
 -- so many digits write a number below that power of 10
-number_below : (bytes : List ℕ) (n k : ℕ) → all_digits bytes ≡ true → n < ten_to k → number_after n bytes < ten_to (k + length bytes)
+number_below : (bytes : List ℕ) (n k : ℕ) → all_digits bytes ≡ true → n < ten_to k
+    → number_after n bytes < ten_to (k + length bytes)
 unfolding ten_to
 number_below [] n k all below = let same : k + 0 ≡ k = omega arith in rw same below
 number_below (byte ∷ bytes) n k all below =
@@ -195,11 +233,13 @@ number_below (byte ∷ bytes) n k all below =
     rw place (number_below bytes (n * 10 + (byte - 48)) (suc k) rest (push_below n byte (ten_to k) first below))
 
 -- the number of 18 digits or fewer leaves room for one more
-pub few_digits : (bytes : List ℕ) → all_digits bytes ≡ true → length bytes ≤ 18 → number_after 0 bytes < 1000000000000000000
+pub few_digits : (bytes : List ℕ) → all_digits bytes ≡ true → length bytes ≤ 18
+    → number_after 0 bytes < 1000000000000000000
 unfolding ten_to
 few_digits bytes all few =
     let none : 0 + length bytes ≡ length bytes = omega arith in
     let below = rw none at (number_below bytes 0 0 all (omega arith)) in
-    let most : ten_to (length bytes) ≤ ten_to (length bytes + (18 - length bytes)) = ten_to_more (length bytes) (18 - length bytes) in
+    let most : ten_to (length bytes) ≤ ten_to (length bytes + (18 - length bytes)) =
+    ten_to_more (length bytes) (18 - length bytes) in
     let place : length bytes + (18 - length bytes) ≡ 18 = omega arith in
     omega (arith, below, rw place at most)

@@ -8,3 +8,6 @@ mod TextLemmas
 pub mod TellingLemmas
 mod DigitLemmas
 mod EncodingLemmas
+mod SpaceLemmas
+mod FrameLemmas
+mod BlockLemmas

@@ -1,5 +1,6 @@
 -- What a device is told piece by piece.
-use Rattle.std.proofs.Common.{◌≡◌, ℕ, Bool, true, false, List, [], ◌++◌, Option, refl, sym, ap, ◌∙◌, subst, append_assoc}
+use Rattle.std.proofs.Common.{◌≡◌, ℕ, Bool, true, false, List, [], ◌++◌, Option, refl, sym, ap, ◌∙◌}
+use Rattle.std.proofs.Common.{subst, append_assoc}
 use Rattle.std.proofs.KnownBytes.{Appends-nil, Appends-trans}
 use Rattle.std.specs.Io.KnownBytes.{Appends}
 use Rattle.afdx_lists.specs.Calls.{AppendsFront}
@@ -11,16 +12,24 @@ front-first : (a b : Option (List ℕ)) (x y : List ℕ) → AppendsFront a b x 
 front-first a b x y h = (h.0, h.1 ++ y, ap (λ (l : List ℕ). l ++ y) h.2 ∙ append_assoc h.0 h.1 y, h.3)
 
 front-more : (a b c : Option (List ℕ)) (x y : List ℕ) → Appends a b x → AppendsFront b c y → AppendsFront a c (x ++ y)
-front-more a b c x y first h = (x ++ h.0, h.1, ap (λ (l : List ℕ). x ++ l) h.2 ∙ sym (append_assoc x h.0 h.1), Appends-trans a b c x h.0 first h.3)
+front-more a b c x y first h = (
+  x ++ h.0,
+  h.1,
+  ap (λ (l : List ℕ). x ++ l) h.2 ∙ sym (append_assoc x h.0 h.1),
+  Appends-trans a b c x h.0 first h.3,
+)
 
 -- one piece more
-pub Tells-more : {W : Type 0} (contents : W → Option (List ℕ)) (a b c : Watched W) (x y : List ℕ) → Tells contents a b x → Tells contents b c y → (b.failed ≡ true → c ≡ b) → Tells contents a c (x ++ y)
+pub Tells-more : {W : Type 0} (contents : W → Option (List ℕ)) (a b c : Watched W) (x y : List ℕ)
+    → Tells contents a b x → Tells contents b c y → (b.failed ≡ true → c ≡ b)
+    → Tells contents a c (x ++ y)
 Tells-more {W = W} contents a b c x y first second unasked = by b.failed refl
   where
     by : (failed : Bool) → b.failed ≡ failed → Tells contents a c (x ++ y)
     by true is = record {
       whole = λ sound. absurd (cc (sound, unasked is, is));
-      begun = subst (λ (w : Watched W). AppendsFront (contents a.inner) (contents w.inner) (x ++ y)) (sym (unasked is)) (front-first _ _ x y first.begun);
+      begun = subst (λ (w : Watched W). AppendsFront (contents a.inner) (contents w.inner) (x ++ y))
+          (sym (unasked is)) (front-first _ _ x y first.begun);
     }
     by false is = record {
       whole = λ sound. Appends-trans _ _ _ x y (first.whole is) (second.whole sound);

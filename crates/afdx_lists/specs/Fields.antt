@@ -1,5 +1,6 @@
 -- Numbers and bytes as the fields of a line write them.
-use Rattle.std.specs.Prelude.{ℕ, ◌+◌, ◌-◌, ◌*◌, ◌==◌, Bool, true, ◌&&◌, List, [], ◌∷◌, Option, Some, None, Result, Ok, Err, if◌then◌else◌}
+use Rattle.std.specs.Prelude.{ℕ, ◌+◌, ◌-◌, ◌*◌, ◌^◌, min, ◌==◌, ◌≡◌, Bool, true, false, ◌&&◌, ◌||◌, List, [], ◌∷◌, Option}
+use Rattle.std.specs.Prelude.{Some, None, Result, Ok, Err, if◌then◌else◌, option_map}
 use Rattle.std.specs.Borrow.{Bor}
 use Rattle.std.specs.List.{slice_split}
 use Rattle.std.specs.Str.{bytes_eq}
@@ -39,6 +40,21 @@ ok_of (Err error) = None
 -- the bytes that a field of hexadecimal digits writes, or `-` for none
 unfoldable pub bytes_of_digits : List ℕ → Option (List ℕ)
 bytes_of_digits digits = if bytes_eq digits (45 ∷ []) then Some [] else ok_of (decode_of digits)
+
+-- as much of a number as 64 bits hold
+abbrev pub cut_number : Option ℕ → Option ℕ
+cut_number number = option_map (λ n. min n (2 ^ 64 - 1)) number
+
+-- a text begins with a field that is this number, as much as 64 bits hold of it, or none, and has
+-- this rest after it
+abbrev pub SplitsNumber : List ℕ → Option ℕ → Option (Bor (List ℕ)) → Type 0
+SplitsNumber text number rest = (field : List ℕ) × (number ≡ cut_number (number_of field))
+    × (between_spaces text ≡ field ∷ fields_after rest)
+
+-- a space stands among these bytes
+unfoldable pub holds_space : List ℕ → Bool
+holds_space [] = false
+holds_space (byte ∷ bytes) = byte == 32 || holds_space bytes
 
 -- nothing, or a remark
 abbrev pub is_skipped : List ℕ → Bool

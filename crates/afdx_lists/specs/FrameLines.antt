@@ -4,7 +4,7 @@ use Rattle.std.specs.Str.Lines.{strip_carriage_return}
 use Rattle.afdx_frame.specs.Sealing.{sealed, sealed_wrongly}
 use Rattle.afdx_frame.specs.declared.link.Side.{Side}
 use Rattle.afdx_frame.specs.declared.link.Side.TheVariants.{A, B}
-use Rattle.afdx_lists.specs.Fields.{between_spaces, number_of, bytes_of_digits, is_skipped}
+use Rattle.afdx_lists.specs.Fields.{between_spaces, number_of, bytes_of_digits, holds_space, is_skipped}
 use Rattle.afdx_lists.specs.declared.frame_line.Kind.{Kind}
 use Rattle.afdx_lists.specs.declared.frame_line.Kind.TheVariants.{Good, Bad, Raw}
 use Rattle.afdx_lists.specs.declared.frame_line.Fields.{Fields}
@@ -57,6 +57,11 @@ fields_of_parts _ = None
 -- the fields of a text, which stand between spaces
 unfoldable pub frame_fields : List ℕ → Option FrameFields
 frame_fields text = fields_of_parts (between_spaces text)
+
+-- fields of a text that has five: the last one holds no space
+abbrev pub if_five : Option FrameFields → Option FrameFields
+if_five None = None
+if_five (Some fields) = if holds_space fields.digits then None else Some fields
 
 -- the frame of a line: sealed, sealed wrongly, or the bytes as they are
 unfoldable pub frame_bytes : Kind → List ℕ → List ℕ

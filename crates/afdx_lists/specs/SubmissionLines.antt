@@ -1,7 +1,7 @@
 -- What one line of a submission list says.
 use Rattle.std.specs.Prelude.{ℕ, ◌-◌, ◌^◌, nat_lt, min, List, [], ◌∷◌, Option, Some, None, Result, Ok, Err, if◌then◌else◌}
 use Rattle.std.specs.Str.Lines.{strip_carriage_return}
-use Rattle.afdx_lists.specs.Fields.{between_spaces, number_of, bytes_of_digits, is_skipped}
+use Rattle.afdx_lists.specs.Fields.{between_spaces, number_of, bytes_of_digits, holds_space, is_skipped}
 use Rattle.afdx_lists.specs.declared.submission_line.Handed.{Handed}
 use Rattle.afdx_lists.specs.declared.submission_line.Fields.{Fields}
 use Rattle.afdx_lists.specs.declared.fault.LineFault.{LineFault}
@@ -45,6 +45,11 @@ fields_of_parts _ = None
 -- the fields of a text, which stand between spaces
 unfoldable pub submission_fields : List ℕ → Option SubmissionFields
 submission_fields text = fields_of_parts (between_spaces text)
+
+-- fields of a text that has five: the last one holds no space
+abbrev pub if_five : Option SubmissionFields → Option SubmissionFields
+if_five None = None
+if_five (Some fields) = if holds_space fields.digits then None else Some fields
 
 -- what fields say whose digits write these bytes, if any
 abbrev pub submission_with : SubmissionFields → Option (List ℕ) →

@@ -1,10 +1,11 @@
 //! The fields of a line: text between spaces, numbers, and bytes in hexadecimal digits.
 ghost use Rattle.hex.specs.Hex.{hex_digit_value, decode_pairs, decode_sized};
-ghost use Rattle.std.specs.Prelude.{◌≤◌, nat_le, length, true, MatchResult, Err, ◌*◌, Ok, if◌then◌else◌, ◌≡◌, ◌∷◌, ◌⊎◌, ◌^◌, ◌-◌, min, Some, None, OnOk, IfErr, option_map};
+ghost use Rattle.std.specs.Prelude.{◌≤◌, nat_le, length, true, IfSome, MatchResult, Err, ◌*◌, Ok, if◌then◌else◌, ◌≡◌, ◌∷◌, ◌⊎◌, ◌^◌, ◌-◌, min, Some, None, OnOk, IfErr, option_map};
 ghost use Rattle.memchr.specs.Find.{IsFirstByte, is_byte};
 ghost use Rattle.std.specs.Str.Lines.{strip_carriage_return};
 ghost use Rattle.afdx_lists.specs.Fields.{between_spaces, fields_after, number_of, bytes_of_digits, is_skipped};
-ghost use Rattle.afdx_lists.specs.declared.fault.LineFault.TheVariants.{Memory, BadHex};
+ghost use Rattle.afdx_lists.specs.Fields.{SplitsNumber, holds_space};
+ghost use Rattle.afdx_lists.specs.declared.fault.LineFault.TheVariants.{BadLine, Memory, BadHex};
 
 use crate::fault::LineFault;
 use hex::FromHexError;
@@ -52,21 +53,25 @@ pub(crate) fn split_field(text: &[u8]) -> (&[u8], Option<&[u8]>)
     }
 }
 
-/// Decimal digits, one or more and so few that their number fits.
+/// The number that a text begins with, where it has few digits and a space behind them, and the
+/// rest after the space. Each digit is read once, and a space isn't searched for.
 #[inline(always)]
-fn read_few_digits(text: &[u8]) -> Option<u64>
-    requires some { 1 ≤ length text.now }
-    requires few { length text.now ≤ 19 }
-    ensures { result ≡ number_of text.now }
+fn split_few_digits(text: &[u8]) -> Option<(u64, &[u8])>
+    ensures { IfSome result (λ split. SplitsNumber text.now (Some split.0) (Some split.1)) }
 {
     let mut value = 0u64;
-    for digit in text {
-        if !digit.is_ascii_digit() {
-            return None;
+    let most = text.len().min(FEW_DIGITS);
+    for at in 0..most {
+        let byte = text[at];
+        if !byte.is_ascii_digit() {
+            if byte != b' ' || at == 0 {
+                return None;
+            }
+            return Some((value, &text[at + 1..]));
         }
-        value = value * 10 + u64::from(*digit - b'0');
+        value = value * 10 + u64::from(byte - b'0');
     }
-    Some(value)
+    None
 }
 
 /// Decimal digits, one or more, as a number that stops at the greatest `u64`.
@@ -87,17 +92,55 @@ fn read_many_digits(text: &[u8]) -> Option<u64>
     Some(value)
 }
 
-/// One or more decimal digits, as a number that stops at the greatest `u64`.
-#[inline(always)]
-pub(crate) fn read_number(text: &[u8]) -> Option<u64>
-    ensures { result ≡ option_map (λ n. min n (2 ^ 64 - 1)) (number_of text.now) }
+/// A number of any length, and what `split_number` says of it.
+#[cold]
+#[inline(never)]
+fn split_any_number(text: &[u8]) -> (Option<u64>, Option<&[u8]>)
+    ensures { SplitsNumber text.now result.0 result.1 }
 {
-    if text.is_empty() {
+    let (field, rest) = split_field(text);
+    let number = if field.is_empty() {
         None
-    } else if text.len() <= FEW_DIGITS {
-        read_few_digits(text)
     } else {
-        read_many_digits(text)
+        read_many_digits(field)
+    };
+    (number, rest)
+}
+
+/// The number before the first space, which stops at the greatest `u64`, and the rest after it.
+#[inline(always)]
+pub(crate) fn split_number(text: &[u8]) -> (Option<u64>, Option<&[u8]>)
+    ensures { SplitsNumber text.now result.0 result.1 }
+{
+    match split_few_digits(text) {
+        Some((number, rest)) => (Some(number), Some(rest)),
+        None => split_any_number(text),
+    }
+}
+
+/// Whether a space stands among these bytes.
+#[cold]
+#[inline(never)]
+fn has_space(bytes: &[u8]) -> bool
+    ensures { result ≡ holds_space bytes.now }
+{
+    match find_space(bytes) {
+        Some(_) => true,
+        None => false,
+    }
+}
+
+/// What is wrong with a line of which one check is false and this is what stands behind the fourth
+/// space. A space in it is the first fault, since the line then has more than five fields.
+///
+/// So a space is searched for only in lines that can't be read: hexadecimal digits have none.
+pub(crate) fn first_fault(last: &[u8], fault: LineFault) -> LineFault
+    ensures { result ≡ (if holds_space last.now then BadLine else fault) }
+{
+    if has_space(last) {
+        LineFault::BadLine
+    } else {
+        fault
     }
 }
 
@@ -150,7 +193,7 @@ fn read_blocks(digits: &[u8], bytes: &mut [u8]) -> bool
     ensures { result ≡ true → decode_pairs 0 digits.now ≡ Ok bytes.new }
 {
     let mut values = [0u8; BLOCK];
-    let count = bytes.len() / (BLOCK / 2);
+    let count = (bytes.len() - 1) / (BLOCK / 2);
     for block in 0..count {
         let at = block * (BLOCK / 2);
         let some = &digits[2 * at..2 * at + BLOCK];

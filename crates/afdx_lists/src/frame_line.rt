@@ -1,11 +1,11 @@
 //! One line of a frame list.
 ghost use Rattle.std.specs.Prelude.{◌≡◌, ◌⊎◌, ◌^◌, ◌≤◌, None, Ok, Err, IfOk, IfSome, IfErr, OnOk, option_map};
 ghost use Rattle.afdx_frame.specs.Sealing.{is_sealed, sealed_wrongly};
-ghost use Rattle.afdx_lists.specs.FrameLines.{kind_of, side_of, frame_fields, frame_bytes, frame_of, line_says, saturated, fields_of, fields_with, numbers_fault};
+ghost use Rattle.afdx_lists.specs.FrameLines.{kind_of, side_of, frame_fields, frame_bytes, frame_of, line_says, saturated, fields_of, fields_with, if_five, numbers_fault};
 ghost use Rattle.afdx_lists.specs.declared.fault.LineFault.TheVariants.{Memory};
 
 use crate::fault::LineFault;
-use crate::fields::{read_bytes, read_number, says_nothing, split_field, trim_line};
+use crate::fields::{first_fault, read_bytes, says_nothing, split_field, split_number, trim_line};
 use afdx_frame::{Side, fcs, is_sealed, seal};
 use std::alloc::AllocError;
 
@@ -88,14 +88,17 @@ fn fields_from<'a>(
     })
 }
 
+/// The fields of a text. The last one is all that stands behind the fourth space: it isn't searched
+/// for a further one.
 fn read_fields(text: &[u8]) -> Option<Fields<'_>>
-    ensures { option_map fields_of result ≡ option_map saturated (frame_fields text.now) }
+    ensures { if_five (option_map fields_of result)
+        ≡ option_map saturated (frame_fields text.now) }
 {
     let (kind, rest) = split_field(text);
     let Some(text) = rest else {
         return None;
     };
-    let (time, rest) = split_field(text);
+    let (time, rest) = split_number(text);
     let Some(text) = rest else {
         return None;
     };
@@ -103,21 +106,11 @@ fn read_fields(text: &[u8]) -> Option<Fields<'_>>
     let Some(text) = rest else {
         return None;
     };
-    let (port, rest) = split_field(text);
-    let Some(text) = rest else {
+    let (port, rest) = split_number(text);
+    let Some(digits) = rest else {
         return None;
     };
-    let (digits, rest) = split_field(text);
-    if rest.is_some() {
-        return None;
-    }
-    fields_from(
-        read_kind(kind),
-        read_number(time),
-        read_side(side),
-        read_number(port),
-        digits,
-    )
+    fields_from(read_kind(kind), time, read_side(side), port, digits)
 }
 
 /// The first false check of a line's numbers.
@@ -197,11 +190,11 @@ pub fn read_frame_line(
         None => return Err(LineFault::BadLine),
     };
     if let Some(fault) = fault_of_numbers(fields.time, fields.port, latest) {
-        return Err(fault);
+        return Err(first_fault(fields.digits, fault));
     }
     match read_bytes(fields.digits, frame) {
         Ok(()) => {}
-        Err(fault) => return Err(fault),
+        Err(fault) => return Err(first_fault(fields.digits, fault)),
     }
     let is_sealed = finish_frame(fields.kind, frame)?;
     Ok(Some(Heading {

@@ -1,11 +1,10 @@
 //! One line of a submission list.
 ghost use Rattle.std.specs.Prelude.{◌≡◌, ◌⊎◌, ◌^◌, ◌-◌, ◌<◌, ◌≤◌, min, None, Ok, Err, IfOk, IfSome, IfErr, option_map};
-ghost use Rattle.afdx_lists.specs.Fields.{number_of};
-ghost use Rattle.afdx_lists.specs.SubmissionLines.{at_most, submission_fields, submission_of, submission_said, saturated, fields_of, fields_with, time_fault};
+ghost use Rattle.afdx_lists.specs.SubmissionLines.{at_most, submission_fields, submission_of, submission_said, saturated, fields_of, fields_with, if_five, time_fault};
 ghost use Rattle.afdx_lists.specs.declared.fault.LineFault.TheVariants.{Memory};
 
 use crate::fault::LineFault;
-use crate::fields::{read_bytes, read_number, says_nothing, split_field, trim_line};
+use crate::fields::{first_fault, read_bytes, says_nothing, split_number, trim_line};
 
 /// When a message is handed to a sender, and for what.
 #[derive(Clone, Copy, Debug, PartialEq, Eq)]
@@ -33,30 +32,29 @@ struct Fields<'a> {
 const LAST_TIME: u64 = 1_000_000_000_000_000;
 
 /// A number that isn't over its limit.
-fn read_small(text: &[u8], limit: u64) -> Option<u64>
-    requires { limit < 2 ^ 64 - 1 }
-    ensures is { result ≡ at_most limit (number_of text.now) }
+fn small_of(number: Option<u64>, limit: u64) -> Option<u64>
+    ensures is { result ≡ at_most limit number }
     ensures small { IfSome result (λ n. n ≤ limit) }
 {
-    match read_number(text) {
+    match number {
         Some(n) if n <= limit => Some(n),
         _ => None,
     }
 }
 
-fn read_port(text: &[u8]) -> Option<u16>
-    ensures { result ≡ at_most 65535 (number_of text.now) }
+fn port_of(number: Option<u64>) -> Option<u16>
+    ensures { result ≡ at_most 65535 number }
 {
-    match read_small(text, 65535) {
+    match small_of(number, 65535) {
         Some(n) => Some(n as u16),
         None => None,
     }
 }
 
-fn read_sub(text: &[u8]) -> Option<u8>
-    ensures { result ≡ at_most 255 (number_of text.now) }
+fn sub_of(number: Option<u64>) -> Option<u8>
+    ensures { result ≡ at_most 255 number }
 {
-    match read_small(text, 255) {
+    match small_of(number, 255) {
         Some(n) => Some(n as u8),
         None => None,
     }
@@ -84,36 +82,29 @@ fn fields_from<'a>(
     })
 }
 
+/// The fields of a text. The last one is all that stands behind the fourth space: it isn't searched
+/// for a further one.
 fn read_fields(text: &[u8]) -> Option<Fields<'_>>
-    ensures { option_map fields_of result ≡ option_map saturated (submission_fields text.now) }
+    ensures { if_five (option_map fields_of result)
+        ≡ option_map saturated (submission_fields text.now) }
 {
-    let (time, rest) = split_field(text);
+    let (time, rest) = split_number(text);
     let Some(text) = rest else {
         return None;
     };
-    let (vl, rest) = split_field(text);
+    let (vl, rest) = split_number(text);
     let Some(text) = rest else {
         return None;
     };
-    let (sub, rest) = split_field(text);
+    let (sub, rest) = split_number(text);
     let Some(text) = rest else {
         return None;
     };
-    let (udp, rest) = split_field(text);
-    let Some(text) = rest else {
+    let (udp, rest) = split_number(text);
+    let Some(digits) = rest else {
         return None;
     };
-    let (digits, rest) = split_field(text);
-    if rest.is_some() {
-        return None;
-    }
-    fields_from(
-        read_number(time),
-        read_port(vl),
-        read_sub(sub),
-        read_port(udp),
-        digits,
-    )
+    fields_from(time, port_of(vl), sub_of(sub), port_of(udp), digits)
 }
 
 /// The first false check of a line's time.
@@ -159,11 +150,11 @@ pub fn read_submission_line(
         None => return Err(LineFault::BadLine),
     };
     if let Some(fault) = fault_of_time(fields.time, latest) {
-        return Err(fault);
+        return Err(first_fault(fields.digits, fault));
     }
     match read_bytes(fields.digits, payload) {
         Ok(()) => {}
-        Err(fault) => return Err(fault),
+        Err(fault) => return Err(first_fault(fields.digits, fault)),
     }
     Ok(Some(Handed {
         time: fields.time,

@@ -1,13 +1,17 @@
 //! Text that is put together piece by piece.
 ghost use Rattle.std.specs.Prelude.{◌≡◌, ◌≤◌, ◌<◌, ◌+◌, ◌-◌, ◌*◌, ◌++◌, [], OnOk, length, take, drop, vec_len, slice_index, decimal};
+ghost use Rattle.std.specs.Prelude.{◌/◌, ◌%◌, map};
 ghost use Rattle.hex.specs.Hex.{encode_lower, lower_digits};
 
 use std::alloc::{AllocError, Global};
+use std::simd::prelude::*;
 
 /// The most digits of a `u64`.
 const MOST_DIGITS: usize = 20;
 /// So many bytes are written in hexadecimal digits at once.
-const BLOCK: usize = 32;
+const BLOCK: usize = 16;
+/// The digits, each at the place of its value.
+const DIGITS: [u8; BLOCK] = *b"0123456789abcdef";
 
 /// A number and its digits.
 #[derive(Debug, Drop)]
@@ -117,39 +121,43 @@ fn encode_to(bytes: &[u8], digits: &mut [u8])
     }
 }
 
+/// The first digits of bytes: each is read from the table in one step for all of them.
+#[inline(always)]
+fn high_digits(bytes: u8x16) -> u8x16
+    ensures { result ≡ map (λ byte. slice_index lower_digits (byte / 16)) bytes }
+{
+    u8x16::from_array(DIGITS).swizzle_dyn(bytes >> u8x16::splat(4))
+}
+
+/// The second digits of bytes.
+#[inline(always)]
+fn low_digits(bytes: u8x16) -> u8x16
+    ensures { result ≡ map (λ byte. slice_index lower_digits (byte % 16)) bytes }
+{
+    u8x16::from_array(DIGITS).swizzle_dyn(bytes & u8x16::splat(15))
+}
+
 /// Puts the digits of a block of bytes in the place of `digits`.
-///
-/// The first digits of all bytes are made in one place and the second ones in another, and are put
-/// together at the end: each is then a few steps over many bytes.
 #[inline(always)]
 fn encode_block(bytes: &[u8], digits: &mut [u8])
-    requires size { length bytes.now ≡ 32 }
+    requires size { length bytes.now ≡ 16 }
     requires pairs { length digits.old ≡ 2 * length bytes.now }
     ensures { digits.new ≡ encode_lower bytes.now }
 {
-    let mut highs = [0u8; BLOCK];
-    let mut lows = [0u8; BLOCK];
-    'halves: for i in 0..BLOCK {
-        let byte = bytes[i];
-        let high = digit_of(byte >> 4);
-        let low = digit_of(byte & 0x0f);
-        highs[i] = high;
-        lows[i] = low;
-    }
-    'pairs: for i in 0..BLOCK {
-        digits[2 * i] = highs[i];
-        digits[2 * i + 1] = lows[i];
-    }
+    let block = u8x16::from_slice(bytes);
+    let (front, back) = high_digits(block).interleave(low_digits(block));
+    front.copy_to_slice(digits);
+    back.copy_to_slice(&mut digits[BLOCK..]);
 }
 
 /// Puts the digits of all bytes, a block or more, in the place of `digits`. The last block may
 /// begin among bytes whose digits stand there already.
 fn encode_blocks(bytes: &[u8], digits: &mut [u8])
     requires pairs { length digits.old ≡ 2 * length bytes.now }
-    requires long { 32 ≤ length bytes.now }
+    requires long { 16 ≤ length bytes.now }
     ensures { digits.new ≡ encode_lower bytes.now }
 {
-    let count = bytes.len() / BLOCK;
+    let count = (bytes.len() - 1) / BLOCK;
     for block in 0..count {
         let at = block * BLOCK;
         let some = &bytes[at..at + BLOCK];

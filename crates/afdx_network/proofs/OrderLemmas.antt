@@ -1,5 +1,7 @@
 -- The order of events.
-use Rattle.std.proofs.Common.{◌≡◌, ℕ, ◌<◌, ◌≤◌, List, [], ◌∷◌, ◌++◌, refl, ap, sym, ◌∙◌, subst, Bool, true, false, IsTrue, nat_lt, arith, ◌⊎◌, inl, inr, if◌then◌else◌}
+use Rattle.std.proofs.Common.{◌≡◌, ℕ, ◌<◌, ◌≤◌, List, [], ◌∷◌, ◌++◌, refl, ap, sym, ◌∙◌, subst}
+use Rattle.std.proofs.Common.{Bool, true, false, IsTrue, nat_lt, arith, ◌⊎◌, inl, inr}
+use Rattle.std.proofs.Common.{if◌then◌else◌}
 use Rattle.std.proofs.lemmas.Grind.{common_steps}
 use Rattle.std.specs.List.{AllByRecursion}
 use Rattle.afdx_network.specs.Events.{Event}
@@ -21,7 +23,9 @@ below_back [] (n ∷ ns) h = refl
 below_back (m ∷ ms) [] h = absurd (grind (arith, common_steps, h))
 below_back (m ∷ ms) (n ∷ ns) h = by_first (below_back ms ns) (nat_lt m n) (nat_lt n m) refl refl h
   where
-    by_first : (is_below ms ns ≡ true → is_below ns ms ≡ false) → (a b : Bool) → nat_lt m n ≡ a → nat_lt n m ≡ b → (if a then true else if b then false else is_below ms ns) ≡ true → (if b then true else if a then false else is_below ns ms) ≡ false
+    by_first : (is_below ms ns ≡ true → is_below ns ms ≡ false) → (a b : Bool) → nat_lt m n ≡ a
+        → nat_lt n m ≡ b → (if a then true else if b then false else is_below ms ns) ≡ true
+        → (if b then true else if a then false else is_below ns ms) ≡ false
     by_first later true true p q r = absurd (grind (arith, common_steps, p, q))
     by_first later true false p q r = refl
     by_first later false true p q r = absurd (grind (arith, common_steps, r))
@@ -33,10 +37,16 @@ below_trans [] (m ∷ ms) [] h k = absurd (grind (arith, common_steps, k))
 below_trans [] (m ∷ ms) (n ∷ ns) h k = refl
 below_trans (l ∷ ls) [] ns h k = absurd (grind (arith, common_steps, h))
 below_trans (l ∷ ls) (m ∷ ms) [] h k = absurd (grind (arith, common_steps, k))
-below_trans (l ∷ ls) (m ∷ ms) (n ∷ ns) h k = by_first (below_trans ls ms ns) (nat_lt l m) (nat_lt m l) (nat_lt m n) (nat_lt n m) (nat_lt l n) (nat_lt n l) refl refl refl refl refl refl h k
+below_trans (l ∷ ls) (m ∷ ms) (n ∷ ns) h k =
+    by_first (below_trans ls ms ns) (nat_lt l m) (nat_lt m l) (nat_lt m n) (nat_lt n m) (nat_lt l n)
+    (nat_lt n l) refl refl refl refl refl refl h k
   where
-    by_first : (is_below ls ms ≡ true → is_below ms ns ≡ true → is_below ls ns ≡ true) → (a b c d e f : Bool) → nat_lt l m ≡ a → nat_lt m l ≡ b → nat_lt m n ≡ c → nat_lt n m ≡ d → nat_lt l n ≡ e → nat_lt n l ≡ f →
-        (if a then true else if b then false else is_below ls ms) ≡ true → (if c then true else if d then false else is_below ms ns) ≡ true → (if e then true else if f then false else is_below ls ns) ≡ true
+    by_first : (is_below ls ms ≡ true → is_below ms ns ≡ true → is_below ls ns ≡ true)
+        → (a b c d e f : Bool) → nat_lt l m ≡ a → nat_lt m l ≡ b → nat_lt m n ≡ c → nat_lt n m ≡ d
+        → nat_lt l n ≡ e → nat_lt n l ≡ f →
+        (if a then true else if b then false else is_below ls ms) ≡ true
+        → (if c then true else if d then false else is_below ms ns) ≡ true
+        → (if e then true else if f then false else is_below ls ns) ≡ true
     by_first later a b c d true f p q r s t u h k = refl
     by_first later true b true d false f p q r s t u h k = absurd (grind (arith, common_steps, p, r, t))
     by_first later true b false true false f p q r s t u h k = absurd (grind (arith, common_steps, k))
@@ -44,7 +54,8 @@ below_trans (l ∷ ls) (m ∷ ms) (n ∷ ns) h k = by_first (below_trans ls ms n
     by_first later false true c d false f p q r s t u h k = absurd (grind (arith, common_steps, h))
     by_first later false false true d false f p q r s t u h k = absurd (grind (arith, common_steps, p, q, r, t))
     by_first later false false false true false f p q r s t u h k = absurd (grind (arith, common_steps, k))
-    by_first later false false false false false true p q r s t u h k = absurd (grind (arith, common_steps, p, q, r, s, u))
+    by_first later false false false false false true p q r s t u h k =
+        absurd (grind (arith, common_steps, p, q, r, s, u))
     by_first later false false false false false false p q r s t u h k = later h k
 
 pub before_trans : (c d e : Event) → is_before c d ≡ true → is_before d e ≡ true → is_before c e ≡ true
@@ -69,11 +80,14 @@ below_total [] (n ∷ ns) h k = absurd (grind (arith, common_steps, h))
 below_total (m ∷ ms) [] h k = absurd (grind (arith, common_steps, k))
 below_total (m ∷ ms) (n ∷ ns) h k = by_first (below_total ms ns) (nat_lt m n) (nat_lt n m) refl refl h k
   where
-    by_first : (is_below ms ns ≡ false → is_below ns ms ≡ false → ms ≡ ns) → (a b : Bool) → nat_lt m n ≡ a → nat_lt n m ≡ b →
-        (if a then true else if b then false else is_below ms ns) ≡ false → (if b then true else if a then false else is_below ns ms) ≡ false → m ∷ ms ≡ n ∷ ns
+    by_first : (is_below ms ns ≡ false → is_below ns ms ≡ false → ms ≡ ns) → (a b : Bool)
+        → nat_lt m n ≡ a → nat_lt n m ≡ b →
+        (if a then true else if b then false else is_below ms ns) ≡ false
+        → (if b then true else if a then false else is_below ns ms) ≡ false → m ∷ ms ≡ n ∷ ns
     by_first later true b p q h k = absurd (grind (arith, common_steps, h))
     by_first later false true p q h k = absurd (grind (arith, common_steps, k))
-    by_first later false false p q h k = let same : m ≡ n = grind (arith, common_steps, p, q) in ap (λ x. x ∷ ms) same ∙ ap (λ xs. n ∷ xs) (later h k)
+    by_first later false false p q h k = let same : m ≡ n = grind (arith, common_steps, p, q) in
+        ap (λ x. x ∷ ms) same ∙ ap (λ xs. n ∷ xs) (later h k)
 
 pub all_among : (p : Event → Type 0) (e : Event) (ds : List Event) → AllByRecursion p ds → IsAmong e ds → p e
 all_among p e [] all among = elim among [ ]
@@ -100,14 +114,16 @@ among_either e (x ∷ xs) ys (inl same) = inl (inl same)
 among_either e (x ∷ xs) ys (inr later) = elim (among_either e xs ys later) [ inl a ↦ inl (inr a) | inr b ↦ inr b ]
 
 -- the latest event of one list is that of another with the same events
-same_latest : (is_meant : Event → Type 0) (d e : Event) (ds es : List Event) → AreThose is_meant (d ∷ ds) → AreThose is_meant (e ∷ es) → d ≡ e
+same_latest : (is_meant : Event → Type 0) (d e : Event) (ds es : List Event)
+    → AreThose is_meant (d ∷ ds) → AreThose is_meant (e ∷ es) → d ≡ e
 same_latest is_meant d e ds es a b = by_places (b.all d (a.own d (inl refl))) (a.all e (b.own e (inl refl)))
   where
     by_places : IsAmong d (e ∷ es) → IsAmong e (d ∷ ds) → d ≡ e
     by_places (inl same) q = same
     by_places (inr earlier) (inl same) = sym same
     by_places (inr earlier) (inr later) = absurd (
-        let below : is_below (key d) (key e) ≡ true = all_among (λ x. IsTrue (is_before x e)) d es b.in_order.0 earlier in
+        let below : is_below (key d) (key e) ≡ true =
+        all_among (λ x. IsTrue (is_before x e)) d es b.in_order.0 earlier in
         let above : is_below (key e) (key d) ≡ true = all_among (λ x. IsTrue (is_before x d)) e ds a.in_order.0 later in
         grind (arith, common_steps, above, below_back (key d) (key e) below))
 
@@ -118,7 +134,8 @@ not_again e ds all among =
     grind (arith, common_steps, below, below_self (key e))
 
 -- without its latest event
-without_latest : (is_meant : Event → Type 0) (e : Event) (es : List Event) → AreThose is_meant (e ∷ es) → AreThose (λ d. is_meant d × (d ≡ e → ⊥)) es
+without_latest : (is_meant : Event → Type 0) (e : Event) (es : List Event)
+    → AreThose is_meant (e ∷ es) → AreThose (λ d. is_meant d × (d ≡ e → ⊥)) es
 without_latest is_meant e es a = record {
   in_order = a.in_order.1;
   own = λ d among. (a.own d (inr among), λ same. not_again e es a.in_order.0 (subst (λ x. IsAmong x es) same among));
@@ -132,5 +149,6 @@ same_events is_meant (d ∷ ds) [] a b = elim (b.all d (a.own d (inl refl))) [ ]
 same_events is_meant (d ∷ ds) (e ∷ es) a b =
     let same = same_latest is_meant d e ds es a b in
     let there = subst (λ x. AreThose is_meant (x ∷ es)) (sym same) b in
-    let rest = same_events (λ x. is_meant x × (x ≡ d → ⊥)) ds es (without_latest is_meant d ds a) (without_latest is_meant d es there) in
+    let rest = same_events (λ x. is_meant x × (x ≡ d → ⊥)) ds es (without_latest is_meant d ds a)
+    (without_latest is_meant d es there) in
     ap (λ xs. d ∷ xs) rest ∙ ap (λ x. x ∷ es) same

@@ -14,7 +14,9 @@ use Rattle.afdx_police.specs.Charge.{charge_by}
 use Rattle.afdx_police.specs.Rule.{Rule}
 use Rattle.afdx_police.specs.Shape.{IsSound, faults, is_byte_based, fault_of}
 use Rattle.afdx_police.specs.declared.shape.Reason.{Reason}
-use Rattle.afdx_police.specs.declared.shape.Reason.TheVariants.{TooShort, TooLong, BadFcs, BadAddress, UnknownLink, WrongPort, OverLmax, UnderLmin}
+use Rattle.afdx_police.specs.declared.shape.Reason.TheVariants.{TooShort, TooLong, BadFcs}
+use Rattle.afdx_police.specs.declared.shape.Reason.TheVariants.{BadAddress, UnknownLink, WrongPort}
+use Rattle.afdx_police.specs.declared.shape.Reason.TheVariants.{OverLmax, UnderLmin}
 
 -- the first of these whose test is true
 abbrev first_of : List (Bool × Reason) → Option Reason
@@ -22,8 +24,10 @@ first_of faults = option_map (λ fault. fault.1) (find (λ fault. fault.0) fault
 
 -- what follows a true test isn't looked at
 first_of-same : (short long unsealed nameless : Bool) (more less : List (Bool × Reason)) →
-    first_of ((short, TooShort) ∷ (long, TooLong) ∷ (unsealed, BadFcs) ∷ (nameless, BadAddress) ∷ (true, UnknownLink) ∷ more)
-    ≡ first_of ((short, TooShort) ∷ (long, TooLong) ∷ (unsealed, BadFcs) ∷ (nameless, BadAddress) ∷ (true, UnknownLink) ∷ less)
+    first_of ((short, TooShort) ∷ (long, TooLong) ∷ (unsealed, BadFcs) ∷ (nameless, BadAddress)
+    ∷ (true, UnknownLink) ∷ more)
+    ≡ first_of ((short, TooShort) ∷ (long, TooLong) ∷ (unsealed, BadFcs) ∷ (nameless, BadAddress)
+    ∷ (true, UnknownLink) ∷ less)
 first_of-same true long unsealed nameless more less = refl
 first_of-same false true unsealed nameless more less = refl
 first_of-same false false true nameless more less = refl
@@ -31,7 +35,8 @@ first_of-same false false false true more less = refl
 first_of-same false false false false more less = refl
 
 first_of-some : (short long unsealed nameless : Bool) (more : List (Bool × Reason)) →
-    IsSome (first_of ((short, TooShort) ∷ (long, TooLong) ∷ (unsealed, BadFcs) ∷ (nameless, BadAddress) ∷ (true, UnknownLink) ∷ more))
+    IsSome (first_of ((short, TooShort) ∷ (long, TooLong) ∷ (unsealed, BadFcs)
+    ∷ (nameless, BadAddress) ∷ (true, UnknownLink) ∷ more))
 first_of-some true long unsealed nameless more = search
 first_of-some false true unsealed nameless more = search
 first_of-some false false true nameless more = search
@@ -41,16 +46,21 @@ first_of-some false false false false more = search
 -- the faults that follow where a rule's link is named, and where there is no rule
 abbrev later_faults : Rule → ℕ → List ℕ → List (Bool × Reason)
 later_faults rule port bytes =
-    (not (rule.port == port), WrongPort) ∷ (nat_lt rule.lmax (length bytes), OverLmax) ∷ (is_byte_based rule.policing && nat_lt (length bytes) rule.lmin, UnderLmin) ∷ []
+    (not (rule.port == port), WrongPort) ∷ (nat_lt rule.lmax (length bytes), OverLmax)
+    ∷ (is_byte_based rule.policing && nat_lt (length bytes) rule.lmin, UnderLmin) ∷ []
 
 abbrev later_without : List (Bool × Reason)
 later_without = (true, WrongPort) ∷ (false, OverLmax) ∷ (false, UnderLmin) ∷ []
 
-pub stranger_refused : (rule : Rule) (port : ℕ) (bytes : List ℕ) → names rule.vl bytes ≡ false → StrangerIsRefused rule port bytes
+pub stranger_refused : (rule : Rule) (port : ℕ) (bytes : List ℕ) → names rule.vl bytes ≡ false
+    → StrangerIsRefused rule port bytes
 unfolding fault_of
 stranger_refused rule port bytes e = record {
-  same = rw e (first_of-same (nat_lt (length bytes) 64) (nat_lt 1518 (length bytes)) (not (is_sealed bytes)) (is_none (link_named_by bytes)) (later_faults rule port bytes) later_without);
-  refused = rw e (first_of-some (nat_lt (length bytes) 64) (nat_lt 1518 (length bytes)) (not (is_sealed bytes)) (is_none (link_named_by bytes)) (later_faults rule port bytes));
+  same = rw e (first_of-same (nat_lt (length bytes) 64) (nat_lt 1518 (length bytes))
+      (not (is_sealed bytes)) (is_none (link_named_by bytes)) (later_faults rule port bytes)
+      later_without);
+  refused = rw e (first_of-some (nat_lt (length bytes) 64) (nat_lt 1518 (length bytes))
+      (not (is_sealed bytes)) (is_none (link_named_by bytes)) (later_faults rule port bytes));
 }
 
 -- none of the tests is true
@@ -62,7 +72,8 @@ none-false : (faults : List (Bool × Reason)) → first_of faults ≡ None → A
 none-false [] h = tt
 none-false (fault ∷ faults) h = at fault.0 fault.1 h (none-false faults)
   where
-    at : (b : Bool) (r : Reason) → first_of ((b, r) ∷ faults) ≡ None → (first_of faults ≡ None → AllFalse faults) → (b ≡ false) × AllFalse faults
+    at : (b : Bool) (r : Reason) → first_of ((b, r) ∷ faults) ≡ None
+        → (first_of faults ≡ None → AllFalse faults) → (b ≡ false) × AllFalse faults
     at true r e rest = absurd (cc)
     at false r e rest = (refl, rest e)
 
@@ -75,11 +86,13 @@ false-none (fault ∷ faults) h = at fault.0 fault.1 h.0 (false-none faults h.1)
     at false r e rest = rest
 
 -- the least length counts only where frames are charged by bytes
-least-of : (policing : Policing) (short : Bool) → (is_byte_based policing && short) ≡ false → policing ≡ Byte → short ≡ false
+least-of : (policing : Policing) (short : Bool) → (is_byte_based policing && short) ≡ false
+    → policing ≡ Byte → short ≡ false
 least-of Byte short h e = h
 least-of Frame short h e = absurd (cc)
 
-of-least : (policing : Policing) (short : Bool) → (policing ≡ Byte → short ≡ false) → (is_byte_based policing && short) ≡ false
+of-least : (policing : Policing) (short : Bool) → (policing ≡ Byte → short ≡ false)
+    → (is_byte_based policing && short) ≡ false
 of-least Byte short h = h refl
 of-least Frame short h = refl
 
@@ -92,7 +105,8 @@ names-some : (vl : ℕ) (bytes : List ℕ) → names vl bytes ≡ true → is_no
 unfolding names
 names-some vl bytes h = named-some vl (link_named_by bytes) h
 
-faultless-sound : (rule : Rule) (port : ℕ) (bytes : List ℕ) → fault_of (Some rule) port bytes ≡ None → IsSound rule port bytes
+faultless-sound : (rule : Rule) (port : ℕ) (bytes : List ℕ) → fault_of (Some rule) port bytes ≡ None
+    → IsSound rule port bytes
 unfolding fault_of
 faultless-sound rule port bytes h =
     let tests = none-false (faults (Some rule) port bytes) h in
@@ -103,10 +117,12 @@ faultless-sound rule port bytes h =
       named = not-false (names rule.vl bytes) tests.1.1.1.1.0;
       at_port = eqb-true rule.port port (not-false (rule.port == port) tests.1.1.1.1.1.0);
       within = ltb-false rule.lmax (length bytes) tests.1.1.1.1.1.1.0;
-      least = λ e. ltb-false (length bytes) rule.lmin (least-of rule.policing (nat_lt (length bytes) rule.lmin) tests.1.1.1.1.1.1.1.0 e);
+      least = λ e. ltb-false (length bytes) rule.lmin
+          (least-of rule.policing (nat_lt (length bytes) rule.lmin) tests.1.1.1.1.1.1.1.0 e);
     }
 
-sound-faultless : (rule : Rule) (port : ℕ) (bytes : List ℕ) → IsSound rule port bytes → fault_of (Some rule) port bytes ≡ None
+sound-faultless : (rule : Rule) (port : ℕ) (bytes : List ℕ) → IsSound rule port bytes
+    → fault_of (Some rule) port bytes ≡ None
 unfolding fault_of
 sound-faultless rule port bytes h =
     false-none (faults (Some rule) port bytes) (
@@ -123,7 +139,11 @@ sound-faultless rule port bytes h =
                 not_from_true (rule.port == port) (eq-eqb rule.port port h.at_port),
                 (
                   le-ltb rule.lmax (length bytes) h.within,
-                  (of-least rule.policing (nat_lt (length bytes) rule.lmin) (λ e. le-ltb (length bytes) rule.lmin (h.least e)), tt),
+                  (
+                    of-least rule.policing (nat_lt (length bytes) rule.lmin)
+                        (λ e. le-ltb (length bytes) rule.lmin (h.least e)),
+                    tt,
+                  ),
                 ),
               ),
             ),
@@ -132,15 +152,19 @@ sound-faultless rule port bytes h =
       ),
     )
 
-pub faultless-is-sound : (rule : Rule) (port : ℕ) (bytes : List ℕ) → (fault_of (Some rule) port bytes ≡ None) ↔ IsSound rule port bytes
+pub faultless-is-sound : (rule : Rule) (port : ℕ) (bytes : List ℕ)
+    → (fault_of (Some rule) port bytes ≡ None) ↔ IsSound rule port bytes
 faultless-is-sound rule port bytes = (faultless-sound rule port bytes, sound-faultless rule port bytes)
 
-charged_for : (policing : Policing) (lmax wire : ℕ) → wire ≤ lmax + 20 → (wire ≤ charge_by policing (lmax + 20) wire) × (charge_by policing (lmax + 20) wire ≤ lmax + 20)
+charged_for : (policing : Policing) (lmax wire : ℕ) → wire ≤ lmax + 20
+    → (wire ≤ charge_by policing (lmax + 20) wire) × (charge_by policing (lmax + 20) wire ≤ lmax + 20)
 charged_for Byte lmax wire h = (omega arith, h)
 charged_for Frame lmax wire h = (h, omega arith)
 
 pub sound-charged : (rule : Rule) (x : Arrival) → IsSound rule x.port x.bytes → IsChargedFor rule x
 sound-charged rule x sound =
-    let both : (length x.bytes + 20 ≤ charge_by rule.policing (rule.lmax + 20) (length x.bytes + 20)) × (charge_by rule.policing (rule.lmax + 20) (length x.bytes + 20) ≤ rule.lmax + 20)
+    let both : (length x.bytes + 20
+    ≤ charge_by rule.policing (rule.lmax + 20) (length x.bytes + 20))
+    × (charge_by rule.policing (rule.lmax + 20) (length x.bytes + 20) ≤ rule.lmax + 20)
     = charged_for rule.policing rule.lmax (length x.bytes + 20) (omega (arith, sound.within)) in
     record { at_least = both.0; at_most = both.1 }

@@ -1,5 +1,6 @@
 -- The rule of a link: how its frames are filtered and policed.
 use Rattle.std.specs.Prelude.{ℕ, ◌*◌, ◌≤◌, IsTrue}
+use Rattle.afdx_frame.specs.Lengths.{least_frame, greatest_frame}
 pub use Rattle.afdx_frame.specs.Regulation.{is_bag}
 use Rattle.afdx_frame.specs.Regulation.{Regulation, regulation_with}
 use Rattle.afdx_frame.specs.declared.link.Policing.{Policing}
@@ -33,9 +34,9 @@ pub record IsRule (rule : Rule) : Type 0 where
   pub port_first : 1 ≤ rule.port
   pub port_last : rule.port ≤ 24
   pub bag : IsTrue (is_bag rule.bag_ms)
-  pub shortest : 64 ≤ rule.lmin
+  pub shortest : least_frame ≤ rule.lmin
   pub ordered : rule.lmin ≤ rule.lmax
-  pub longest : rule.lmax ≤ 1518
+  pub longest : rule.lmax ≤ greatest_frame
   pub jitter : rule.jitter_us ≤ 1000 * rule.bag_ms
 
 -- how the link is regulated

@@ -2,6 +2,7 @@
 use Rattle.std.specs.Prelude.{◌≡◌, ◌≤◌, ℕ, IsTrue, Bool, false, true, not, ◌&&◌, ◌==◌, nat_lt}
 use Rattle.std.specs.Prelude.{is_none, Option, List, [], ◌∷◌, length, find, option_map}
 use Rattle.std.specs.Option.{option_map_or}
+use Rattle.afdx_frame.specs.Lengths.{least_frame, greatest_frame}
 use Rattle.afdx_frame.specs.declared.link.Policing.{Policing}
 use Rattle.afdx_frame.specs.declared.link.Policing.TheVariants.{Byte, Frame}
 use Rattle.afdx_frame.specs.Layout.{link_named_by}
@@ -25,8 +26,8 @@ is_under_lmin rule bytes = is_byte_based rule.policing && nat_lt (length bytes) 
 -- the tables is named
 abbrev pub faults : Option Rule → ℕ → List ℕ → List (Bool × Reason)
 faults rule port bytes =
-    (nat_lt (length bytes) 64, TooShort) ∷
-    (nat_lt 1518 (length bytes), TooLong) ∷
+    (nat_lt (length bytes) least_frame, TooShort) ∷
+    (nat_lt greatest_frame (length bytes), TooLong) ∷
     (not (is_sealed bytes), BadFcs) ∷
     (is_none (link_named_by bytes), BadAddress) ∷
     (not (option_map_or (λ r. names r.vl bytes) rule false), UnknownLink) ∷
@@ -41,8 +42,8 @@ fault_of rule port bytes =
 
 -- an arrival of the rule's link in which nothing is wrong
 pub record IsSound (rule : Rule) (port : ℕ) (bytes : List ℕ) : Type 0 where
-  pub shortest : 64 ≤ length bytes
-  pub longest : length bytes ≤ 1518
+  pub shortest : least_frame ≤ length bytes
+  pub longest : length bytes ≤ greatest_frame
   pub sealed : IsTrue (is_sealed bytes)
   pub named : IsTrue (names rule.vl bytes)
   pub at_port : rule.port ≡ port

@@ -2,6 +2,7 @@
 //! arrivals.
 
 ghost use Rattle.std.specs.Prelude.{◌≡◌, ℕ, ◌≤◌, if◌then◌else◌, List, [], ◌∷◌};
+ghost use Rattle.afdx_frame.specs.Lengths.{least_frame};
 ghost use Rattle.afdx_police.specs.Shape.{fault_of};
 ghost use Rattle.afdx_police.specs.declared.shape.Reason.{Reason};
 ghost use Rattle.afdx_frame.specs.Sealing.{is_sealed};
@@ -53,7 +54,7 @@ impl LinkAccount {
     /// its length in bytes. One that is refused is charged nothing.
     pub fn offer(&mut self, time: u64, length: u64) -> bool
         requires in_time { last_time self.old ≤ time }
-        requires shortest { 64 ≤ length }
+        requires shortest { least_frame ≤ length }
         requires longest { length ≤ (account_of self.old).rule.lmax }
 
         ensures rule { (account_of self.new).rule ≡ (account_of self.old).rule }

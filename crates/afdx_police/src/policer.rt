@@ -1,6 +1,7 @@
 //! The policer of a link: an account of one number and one time.
 
 ghost use Rattle.std.specs.Prelude.{◌≡◌, ◌≤◌, List, [], ◌∷◌};
+ghost use Rattle.afdx_frame.specs.Lengths.{least_frame};
 
 use crate::charge::Charge;
 use crate::rule::LinkRule;
@@ -66,7 +67,7 @@ impl<C: Charge> Policer<C> {
     /// refused is charged nothing.
     pub fn offer(&mut self, time: u64, length: u64) -> bool
         requires in_time { self.old.time ≤ time }
-        requires shortest { 64 ≤ length }
+        requires shortest { least_frame ≤ length }
         requires longest { length ≤ self.old.rule.lmax }
 
         ensures rule { self.new.rule ≡ self.old.rule }

@@ -2,6 +2,7 @@
 
 ghost use Rattle.std.specs.Prelude.{◌≡◌, ◌≤◌, IfNone, IfSome, length, option_map, true};
 ghost use Rattle.std.specs.Option.{option_copied};
+ghost use Rattle.afdx_frame.specs.Lengths.{least_frame};
 ghost use Rattle.afdx_frame.specs.Sealing.{is_sealed};
 ghost use Rattle.afdx_police.specs.RuleOf.{rule_of};
 ghost use Rattle.afdx_police.specs.Shape.{fault_of};
@@ -75,7 +76,7 @@ pub fn judge(rule: Option<&LinkRule>, port: u8, frame: &[u8]) -> Option<Reason>
         fault_of (option_map rule_of (option_copied rule.entry)) port frame.now }
 
     // What has no fault may be offered to a policer.
-    ensures shortest { IfNone result (64 ≤ length frame.now) }
+    ensures shortest { IfNone result (least_frame ≤ length frame.now) }
     ensures longest { IfNone result
         (IfSome (option_copied rule.entry) (λ r. length frame.now ≤ r.lmax)) }
 {
@@ -93,7 +94,7 @@ pub fn judge_checked(
     requires { sealed ≡ is_sealed frame.now }
     ensures reason { result ≡
         fault_of (option_map rule_of (option_copied rule.entry)) port frame.now }
-    ensures shortest { IfNone result (64 ≤ length frame.now) }
+    ensures shortest { IfNone result (least_frame ≤ length frame.now) }
     ensures sealed { IfNone result (is_sealed frame.now ≡ true) }
     ensures longest { IfNone result
         (IfSome (option_copied rule.entry) (λ r. length frame.now ≤ r.lmax)) }

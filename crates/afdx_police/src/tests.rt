@@ -196,7 +196,7 @@ fn at_start(account: &mut LinkAccount, port: u8, frame: &[u8]) -> Option<Reason>
 }
 
 #[test]
-fn one_of_each_fault(rt: HostRuntime) -> Result<(), Fail> {
+fn one_of_each_fault_of_bytes(rt: HostRuntime) -> Result<(), Fail> {
     let rule = rule_of_link_1(64).ok_or("range")?;
     let mut account = LinkAccount::new(&rule);
     let wrong = sealed_wrongly(rt.alloc(), &HELLO)?;
@@ -213,6 +213,14 @@ fn one_of_each_fault(rt: HostRuntime) -> Result<(), Fail> {
         at_start(&mut account, 1, &[3, 0, 0, 0, 0]),
         Some(Reason::TooShort)
     );
+    assert_eq!(rt; at_start(&mut account, 1, &[]), Some(Reason::TooShort));
+    Ok(())
+}
+
+#[test]
+fn one_of_each_fault_of_a_link(rt: HostRuntime) -> Result<(), Fail> {
+    let rule = rule_of_link_1(64).ok_or("range")?;
+    let mut account = LinkAccount::new(&rule);
     let blank = sealed(rt.alloc(), &[0; 60])?;
     assert_eq!(rt;
         at_start(&mut account, 1, blank.as_slice()),
@@ -232,7 +240,6 @@ fn one_of_each_fault(rt: HostRuntime) -> Result<(), Fail> {
         at_start(&mut account, 1, longer.as_slice()),
         Some(Reason::OverLmax)
     );
-    assert_eq!(rt; at_start(&mut account, 1, &[]), Some(Reason::TooShort));
     let hello = sealed(rt.alloc(), &HELLO)?;
     assert_eq!(rt;
         at_start(&mut account, 2, hello.as_slice()),

@@ -1,5 +1,6 @@
 -- A turn begins.
-use Rattle.std.proofs.Common.{◌≡◌, ℕ, ◌+◌, ◌-◌, ◌*◌, ◌<◌, ◌≤◌, List, ◌∷◌, length, Some, None, sum_by, refl, sym, ap, subst, arith, ◌∙◌, max}
+use Rattle.std.proofs.Common.{◌≡◌, ℕ, ◌+◌, ◌-◌, ◌*◌, ◌<◌, ◌≤◌, List, ◌∷◌, length, Some, None}
+use Rattle.std.proofs.Common.{sum_by, refl, sym, ap, subst, arith, ◌∙◌, max}
 use Rattle.std.specs.List.{AllByRecursion, slice_get}
 use Rattle.std.proofs.lemmas.List.Sums.{sum_by-cons}
 use Rattle.afdx_frame.specs.declared.link.Priority.{Priority}
@@ -22,7 +23,8 @@ module _ {X : Type 0} where
   begun mid c x n d = record mid { free = d.time; sending = Some (left x c d); waiting = mid.waiting - n }
 
   -- what is known where a turn begins
-  pub record Begins (facts : X → Facts) (old mid : Pending X) (time moment : ℕ) (c : Priority) (w : Waiting X) (n : ℕ) (d : Due) : Type 0 where
+  pub record Begins (facts : X → Facts) (old mid : Pending X) (time moment : ℕ) (c : Priority)
+      (w : Waiting X) (n : ℕ) (d : Due) : Type 0 where
     pub lawful : (x : X) → AreLawful (facts x)
     pub sound : IsSound facts old
     pub clock : old.clock ≡ time
@@ -36,21 +38,31 @@ module _ {X : Type 0} where
 
   -- the frames that wait, and the front among them
   pub record Counts (facts : X → Facts) (old mid : Pending X) (c : Priority) (w : Waiting X) : Type 0 where
-    pub sums : old.waiting ≡ (facts w.item).bytes + (sum_by (λ v. (facts v.item).bytes) mid.high.items + sum_by (λ v. (facts v.item).bytes) mid.low.items)
+    pub sums : old.waiting ≡ (facts w.item).bytes +
+        (sum_by (λ v. (facts v.item).bytes) mid.high.items + sum_by (λ v. (facts v.item).bytes)
+        mid.low.items)
     pub lengths : length old.high.items + length old.low.items ≡ (length mid.high.items + length mid.low.items) + 1
     pub time : w.time ≤ 1000032768000000
     pub high_times : AllByRecursion (λ v. v.time ≤ 1000032768000000) mid.high.items
     pub low_times : AllByRecursion (λ v. v.time ≤ 1000032768000000) mid.low.items
     pub few : length old.high.items + length old.low.items ≤ 65536
 
-  pub counts : (facts : X → Facts) (old mid : Pending X) (c : Priority) (w : Waiting X) → ((x : X) → AreLawful (facts x)) → IsSound facts old → queue_of c old ≡ w ∷ queue_of c mid → ChangesQueue c old mid → Counts facts old mid c w
+  pub counts : (facts : X → Facts) (old mid : Pending X) (c : Priority) (w : Waiting X)
+      → ((x : X) → AreLawful (facts x)) → IsSound facts old → queue_of c old ≡ w ∷ queue_of c mid
+      → ChangesQueue c old mid → Counts facts old mid c w
   counts facts old mid High w lawful sound front changes =
       let st = stays High old mid changes in
       let P : List (Waiting X) → Type 0 = λ ws. AllByRecursion (λ v. v.time ≤ 1000032768000000) ws in
       let times = subst P front sound.high_times in
-      let sum_high : sum_by (λ v. (facts v.item).bytes) old.high.items ≡ (facts w.item).bytes + sum_by (λ v. (facts v.item).bytes) mid.high.items = ap (λ ws. sum_by (λ v. (facts v.item).bytes) ws) front ∙ sum_by-cons (λ v. (facts v.item).bytes) w mid.high.items in
-      let sum_low : sum_by (λ v. (facts v.item).bytes) mid.low.items ≡ sum_by (λ v. (facts v.item).bytes) old.low.items = ap (λ ws. sum_by (λ v. (facts v.item).bytes) ws) st.others in
-      let all : old.waiting ≡ sum_by (λ v. (facts v.item).bytes) old.high.items + sum_by (λ v. (facts v.item).bytes) old.low.items = sound.waiting in
+      let sum_high : sum_by (λ v. (facts v.item).bytes) old.high.items
+      ≡ (facts w.item).bytes + sum_by (λ v. (facts v.item).bytes) mid.high.items =
+      ap (λ ws. sum_by (λ v. (facts v.item).bytes) ws) front
+      ∙ sum_by-cons (λ v. (facts v.item).bytes) w mid.high.items in
+      let sum_low : sum_by (λ v. (facts v.item).bytes) mid.low.items
+      ≡ sum_by (λ v. (facts v.item).bytes) old.low.items =
+      ap (λ ws. sum_by (λ v. (facts v.item).bytes) ws) st.others in
+      let all : old.waiting ≡ sum_by (λ v. (facts v.item).bytes) old.high.items + sum_by
+      (λ v. (facts v.item).bytes) old.low.items = sound.waiting in
       let within : old.waiting ≤ old.buffer = sound.within in
       let buffer : old.buffer ≤ 4194304 = sound.buffer in
       let one : length old.high.items ≡ length mid.high.items + 1 = omega (arith, ap length front) in
@@ -67,9 +79,15 @@ module _ {X : Type 0} where
       let st = stays Low old mid changes in
       let P : List (Waiting X) → Type 0 = λ ws. AllByRecursion (λ v. v.time ≤ 1000032768000000) ws in
       let times = subst P front sound.low_times in
-      let sum_low : sum_by (λ v. (facts v.item).bytes) old.low.items ≡ (facts w.item).bytes + sum_by (λ v. (facts v.item).bytes) mid.low.items = ap (λ ws. sum_by (λ v. (facts v.item).bytes) ws) front ∙ sum_by-cons (λ v. (facts v.item).bytes) w mid.low.items in
-      let sum_high : sum_by (λ v. (facts v.item).bytes) mid.high.items ≡ sum_by (λ v. (facts v.item).bytes) old.high.items = ap (λ ws. sum_by (λ v. (facts v.item).bytes) ws) st.others in
-      let all : old.waiting ≡ sum_by (λ v. (facts v.item).bytes) old.high.items + sum_by (λ v. (facts v.item).bytes) old.low.items = sound.waiting in
+      let sum_low : sum_by (λ v. (facts v.item).bytes) old.low.items
+      ≡ (facts w.item).bytes + sum_by (λ v. (facts v.item).bytes) mid.low.items =
+      ap (λ ws. sum_by (λ v. (facts v.item).bytes) ws) front
+      ∙ sum_by-cons (λ v. (facts v.item).bytes) w mid.low.items in
+      let sum_high : sum_by (λ v. (facts v.item).bytes) mid.high.items
+      ≡ sum_by (λ v. (facts v.item).bytes) old.high.items =
+      ap (λ ws. sum_by (λ v. (facts v.item).bytes) ws) st.others in
+      let all : old.waiting ≡ sum_by (λ v. (facts v.item).bytes) old.high.items + sum_by
+      (λ v. (facts v.item).bytes) old.low.items = sound.waiting in
       let within : old.waiting ≤ old.buffer = sound.within in
       let buffer : old.buffer ≤ 4194304 = sound.buffer in
       let one : length old.low.items ≡ length mid.low.items + 1 = omega (arith, ap length front) in
@@ -84,17 +102,27 @@ module _ {X : Type 0} where
       }
 
   -- the turn's end
-  pub ends_soon : (facts : X → Facts) (old mid : Pending X) (time moment : ℕ) (c : Priority) (w : Waiting X) (n : ℕ) (d : Due) → Begins facts old mid time moment c w n d →
+  pub ends_soon : (facts : X → Facts) (old mid : Pending X) (time moment : ℕ) (c : Priority)
+      (w : Waiting X) (n : ℕ) (d : Due) → Begins facts old mid time moment c w n d →
       (d.time ≤ moment + 1230400) × (moment ≤ max w.time old.free)
   ends_soon facts old mid time moment c w n d b =
       let st = stays c old mid b.changes in
       let law = b.lawful w.item in
       let rate : mid.byte_ns ≤ 800 = let e = st.byte_ns in let r = b.sound.rate in omega arith in
       let is : moment ≡ max w.time old.free = start_is old c moment w (queue_of c mid) b.chosen b.front in
-      let end : d.time ≡ moment + lasting mid.byte_ns (is_too_old facts w moment) (facts w.item).bytes = ap (λ z. z.time) b.due in
-      (omega (arith, lasting_short mid.byte_ns (facts w.item).bytes (is_too_old facts w moment) law.most rate), omega arith)
+      let end : d.time ≡ moment + lasting mid.byte_ns (is_too_old facts w moment)
+      (facts w.item).bytes = ap (λ z. z.time) b.due in (
+        omega (
+          arith,
+          lasting_short mid.byte_ns (facts w.item).bytes (is_too_old facts w moment)
+              law.most rate,
+        ),
+        omega arith,
+      )
 
-  pub begun_sound : (facts : X → Facts) (old mid : Pending X) (time moment : ℕ) (c : Priority) (w : Waiting X) (n : ℕ) (d : Due) → Begins facts old mid time moment c w n d → IsSound facts (begun mid c w.item n d)
+  pub begun_sound : (facts : X → Facts) (old mid : Pending X) (time moment : ℕ) (c : Priority)
+      (w : Waiting X) (n : ℕ) (d : Due) → Begins facts old mid time moment c w n d
+      → IsSound facts (begun mid c w.item n d)
   begun_sound facts old mid time moment c w n d b =
       let st = stays c old mid b.changes in
       let k = counts facts old mid c w b.lawful b.sound b.front b.changes in
@@ -109,7 +137,8 @@ module _ {X : Type 0} where
       let within : old.waiting ≤ old.buffer = b.sound.within in
       let clock : mid.clock ≡ time = st.clock ∙ b.clock in
       let before : moment < time = b.before in
-      let ends : old.free + (length old.high.items + length old.low.items) * 1230400 ≤ 1100000000000000 = b.sound.ends in
+      let ends : old.free + (length old.high.items + length old.low.items) * 1230400
+      ≤ 1100000000000000 = b.sound.ends in
       record {
         rate = subst (λ (r : ℕ). (1 ≤ r) × (r ≤ 800)) (sym st.byte_ns) b.sound.rate;
         buffer = subst (λ (r : ℕ). r ≤ 4194304) (sym st.buffer) b.sound.buffer;
@@ -123,34 +152,46 @@ module _ {X : Type 0} where
         ends = omega (arith, soon.0, soon.1);
       }
 
-  pub begun_stands : (facts : X → Facts) (old mid : Pending X) (time moment : ℕ) (c : Priority) (w : Waiting X) (n : ℕ) (d : Due) → Begins facts old mid time moment c w n d → (h : History X) → h.time ≤ time → StandsFor facts old h → StandsFor facts (begun mid c w.item n d) (at h time)
+  pub begun_stands : (facts : X → Facts) (old mid : Pending X) (time moment : ℕ) (c : Priority)
+      (w : Waiting X) (n : ℕ) (d : Due) → Begins facts old mid time moment c w n d → (h : History X)
+      → h.time ≤ time → StandsFor facts old h → StandsFor facts (begun mid c w.item n d) (at h time)
   begun_stands facts old mid time moment c w n d b h le s =
       let st = stays c old mid b.changes in
       let k = counts facts old mid c w b.lawful b.sound b.front b.changes in
       let bytes : n ≡ (facts w.item).bytes = b.bytes in
       let waits : mid.waiting ≡ old.waiting = st.waiting in
       let sums = k.sums in
-      let due : d ≡ due_from facts h.byte_ns w moment = b.due ∙ ap (λ m. due_from facts m w moment) (st.byte_ns ∙ s.byte_ns) in
-      begin_stands facts old (begun mid c w.item n d) h time moment c w s le b.before b.idle b.chosen (front_is c b.front) (others_is c st.others)
-      st.byte_ns st.buffer (st.clock ∙ b.clock) (ap (λ z. z.time) due) (ap (λ z. Some (left w.item c z)) due) (omega arith)
+      let due : d ≡ due_from facts h.byte_ns w moment = b.due
+      ∙ ap (λ m. due_from facts m w moment) (st.byte_ns ∙ s.byte_ns) in
+      begin_stands facts old (begun mid c w.item n d) h time moment c w s le b.before b.idle
+      b.chosen (front_is c b.front) (others_is c st.others)
+      st.byte_ns st.buffer (st.clock ∙ b.clock) (ap (λ z. z.time) due)
+      (ap (λ z. Some (left w.item c z)) due) (omega arith)
     where
-      front_is : (e : Priority) → queue_of e old ≡ w ∷ queue_of e mid → queue_of e old ≡ w ∷ queue_of e (begun mid c w.item n d)
+      front_is : (e : Priority) → queue_of e old ≡ w ∷ queue_of e mid
+          → queue_of e old ≡ w ∷ queue_of e (begun mid c w.item n d)
       front_is High e = e
       front_is Low e = e
 
-      others_is : (e : Priority) → queue_of (other e) mid ≡ queue_of (other e) old → queue_of (other e) (begun mid c w.item n d) ≡ queue_of (other e) old
+      others_is : (e : Priority) → queue_of (other e) mid ≡ queue_of (other e) old
+          → queue_of (other e) (begun mid c w.item n d) ≡ queue_of (other e) old
       others_is High e = e
       others_is Low e = e
 
   -- a turn that begins stays the one that is due
-  pub begun_due : (facts : X → Facts) (old mid : Pending X) (time moment : ℕ) (c : Priority) (w : Waiting X) (n : ℕ) (d : Due) → Begins facts old mid time moment c w n d → due_of facts (begun mid c w.item n d) ≡ due_of facts old
+  pub begun_due : (facts : X → Facts) (old mid : Pending X) (time moment : ℕ) (c : Priority)
+      (w : Waiting X) (n : ℕ) (d : Due) → Begins facts old mid time moment c w n d
+      → due_of facts (begun mid c w.item n d) ≡ due_of facts old
   begun_due facts old mid time moment c w n d b =
       let st = stays c old mid b.changes in
       let first : slice_get (queue_of c old) 0 ≡ Some w = ap (λ ws. slice_get ws 0) b.front in
       let due : d ≡ due_from facts old.byte_ns w moment = b.due ∙ ap (λ m. due_from facts m w moment) st.byte_ns in
-      due_busy facts (begun mid c w.item n d) (left w.item c d) refl ∙ (ap (λ z. Some z) due ∙ sym (due_idle facts old c moment w b.idle b.chosen first))
+      due_busy facts (begun mid c w.item n d) (left w.item c d) refl
+      ∙ (ap (λ z. Some z) due ∙ sym (due_idle facts old c moment w b.idle b.chosen first))
 
-  pub begun_held : (facts : X → Facts) (old mid : Pending X) (time moment : ℕ) (c : Priority) (w : Waiting X) (n : ℕ) (d : Due) → Begins facts old mid time moment c w n d → frames_held (begun mid c w.item n d) ≡ frames_held old
+  pub begun_held : (facts : X → Facts) (old mid : Pending X) (time moment : ℕ) (c : Priority)
+      (w : Waiting X) (n : ℕ) (d : Due) → Begins facts old mid time moment c w n d
+      → frames_held (begun mid c w.item n d) ≡ frames_held old
   begun_held facts old mid time moment c w n d b =
       let k = counts facts old mid c w b.lawful b.sound b.front b.changes in
       let lengths = k.lengths in

@@ -9,3 +9,4 @@ pub mod BeginLemmas
 pub mod PutLemmas
 pub mod TakeLemmas
 pub mod FirstLemmas
+pub mod ServingLemmas

@@ -1,5 +1,7 @@
 -- The times of a sound port fit.
-use Rattle.std.proofs.Common.{IfSome, Bool, true, false, if◌then◌else◌, is_some, ◌≡◌, ℕ, ◌+◌, ◌*◌, ◌<◌, ◌≤◌, ◌^◌, List, [], ◌∷◌, length, Option, Some, None, sum_by, refl, sym, ap, subst, arith, max}
+use Rattle.std.proofs.Common.{IfSome, Bool, true, false, if◌then◌else◌, is_some, ◌≡◌, ℕ, ◌+◌, ◌*◌}
+use Rattle.std.proofs.Common.{◌<◌, ◌≤◌, ◌^◌, List, [], ◌∷◌, length, Option, Some, None, sum_by}
+use Rattle.std.proofs.Common.{refl, sym, ap, subst, arith, max}
 use Rattle.std.specs.List.{AllByRecursion, slice_get}
 use Rattle.std.proofs.lemmas.List.Sums.{sum_by-cons}
 use Rattle.std.proofs.Math.Nat.{mul-le-mul, mul-le-mul_left}
@@ -20,10 +22,12 @@ use Rattle.afdx_port.proofs.HistoryLemmas.{other}
 -- a turn takes at most 1,230,400 ns
 pub lasting_short : (byte_ns bytes : ℕ) (o : Bool) → bytes ≤ 1518 → byte_ns ≤ 800 → lasting byte_ns o bytes ≤ 1230400
 lasting_short byte_ns bytes true b n = omega arith
-lasting_short byte_ns bytes false b n = let h : (bytes + 20) * byte_ns ≤ (bytes + 20) * 800 = mul-le-mul_left (bytes + 20) n in omega arith
+lasting_short byte_ns bytes false b n = let h : (bytes + 20) * byte_ns ≤ (bytes + 20) * 800 =
+    mul-le-mul_left (bytes + 20) n in omega arith
 
 -- a slot takes some time, and a drop is given after its moment
-pub given_later : (byte_ns bytes t : ℕ) (o : Bool) → 1 ≤ byte_ns → t < t + lasting byte_ns o bytes + (if o then 1 else 0)
+pub given_later : (byte_ns bytes t : ℕ) (o : Bool) → 1 ≤ byte_ns
+    → t < t + lasting byte_ns o bytes + (if o then 1 else 0)
 given_later byte_ns bytes t true rate = omega arith
 given_later byte_ns bytes t false rate =
     let a : 1 ≤ bytes + 20 = omega arith in
@@ -36,17 +40,22 @@ none_from_test (Some y) b e f = cc
 
 module _ {X : Type 0} where
   -- frames have at least 64 bytes
-  pub count_least : (facts : X → Facts) → ((x : X) → AreLawful (facts x)) → (ws : List (Waiting X)) → 64 * length ws ≤ sum_by (λ w. (facts w.item).bytes) ws
+  pub count_least : (facts : X → Facts) → ((x : X) → AreLawful (facts x)) → (ws : List (Waiting X))
+      → 64 * length ws ≤ sum_by (λ w. (facts w.item).bytes) ws
   count_least facts lawful [] = omega arith
-  count_least facts lawful (w ∷ ws) = let l = lawful w.item in omega (arith, count_least facts lawful ws, l.least, sum_by-cons (λ v. (facts v.item).bytes) w ws)
+  count_least facts lawful (w ∷ ws) = let l = lawful w.item in
+      omega (arith, count_least facts lawful ws, l.least, sum_by-cons (λ v. (facts v.item).bytes) w ws)
 
   -- the class that is chosen has a frame, and its turn begins when the frame has come and the line is free
-  pub start_is : (p : Pending X) (c : Priority) (moment : ℕ) (w : Waiting X) (ws : List (Waiting X)) → choice_of p ≡ Some (c, moment) → queue_of c p ≡ w ∷ ws → moment ≡ max w.time p.free
+  pub start_is : (p : Pending X) (c : Priority) (moment : ℕ) (w : Waiting X) (ws : List (Waiting X))
+      → choice_of p ≡ Some (c, moment) → queue_of c p ≡ w ∷ ws → moment ≡ max w.time p.free
   start_is p High moment w ws e q =
-      let P : List (Waiting X) → Type 0 = λ vs. choice (ready p.free vs) (ready p.free p.low.items) ≡ Some (High, moment) in
+      let P : List (Waiting X) → Type 0 = λ vs. choice (ready p.free vs) (ready p.free p.low.items)
+      ≡ Some (High, moment) in
       (choice_high (max w.time p.free) (ready p.free p.low.items) moment (subst P q e)).0
   start_is p Low moment w ws e q =
-      let P : List (Waiting X) → Type 0 = λ vs. choice (ready p.free p.high.items) (ready p.free vs) ≡ Some (Low, moment) in
+      let P : List (Waiting X) → Type 0 = λ vs. choice (ready p.free p.high.items) (ready p.free vs)
+      ≡ Some (Low, moment) in
       (choice_low (ready p.free p.high.items) (max w.time p.free) moment (subst P q e)).0
 
   -- what stays where one queue changes
@@ -85,7 +94,8 @@ module _ {X : Type 0} where
     low_room = h.1;
   }
 
-  pub clock_sound : (facts : X → Facts) (p : Pending X) (t : ℕ) → IsSound facts p → p.clock ≤ t → IsSound facts (record p { clock = t })
+  pub clock_sound : (facts : X → Facts) (p : Pending X) (t : ℕ) → IsSound facts p → p.clock ≤ t
+      → IsSound facts (record p { clock = t })
   clock_sound facts p t s le = record {
     rate = s.rate;
     buffer = s.buffer;
@@ -106,11 +116,14 @@ module _ {X : Type 0} where
     pub soon : moment ≤ 1100000000000000
     pub fits : moment + 1230400 < 2 ^ 64
 
-  pub times_of : (facts : X → Facts) (p : Pending X) (c : Priority) → IsSound facts p → AllByRecursion (λ w. w.time ≤ 1000032768000000) (queue_of c p)
+  pub times_of : (facts : X → Facts) (p : Pending X) (c : Priority) → IsSound facts p
+      → AllByRecursion (λ w. w.time ≤ 1000032768000000) (queue_of c p)
   times_of facts p High s = s.high_times
   times_of facts p Low s = s.low_times
 
-  pub timely : (facts : X → Facts) (p : Pending X) (c : Priority) (moment : ℕ) (w : Waiting X) → IsSound facts p → choice_of p ≡ Some (c, moment) → slice_get (queue_of c p) 0 ≡ Some w → IsTimely p w moment
+  pub timely : (facts : X → Facts) (p : Pending X) (c : Priority) (moment : ℕ) (w : Waiting X)
+      → IsSound facts p → choice_of p ≡ Some (c, moment) → slice_get (queue_of c p) 0 ≡ Some w
+      → IsTimely p w moment
   timely facts p c moment w s chosen front = by_queue (queue_of c p) refl
     where
       by_queue : (ws : List (Waiting X)) → queue_of c p ≡ ws → IsTimely p w moment
@@ -126,7 +139,9 @@ module _ {X : Type 0} where
           record { came = omega arith; rate = s.rate.1; soon = omega arith; fits = omega arith }
 
   -- where nothing has begun and what is chosen begins at t or later, nothing is given by t
-  pub idle_quiet : (facts : X → Facts) (p : Pending X) (t : ℕ) → 1 ≤ p.byte_ns → p.sending ≡ None → ((c : Priority) (moment : ℕ) → p.sending ≡ None → choice_of p ≡ Some (c, moment) → t ≤ moment) → IsQuiet facts p t
+  pub idle_quiet : (facts : X → Facts) (p : Pending X) (t : ℕ) → 1 ≤ p.byte_ns → p.sending ≡ None
+      → ((c : Priority) (moment : ℕ) → p.sending ≡ None → choice_of p ≡ Some (c, moment)
+      → t ≤ moment) → IsQuiet facts p t
   idle_quiet facts p t rate none late = by_choice (choice_of p) refl
     where
       by_choice : (o : Option (Priority × ℕ)) → choice_of p ≡ o → IfSome (due_of facts p) (λ d. IsAfter t d)

@@ -1,5 +1,7 @@
 -- A frame is taken, or none.
-use Rattle.std.proofs.Common.{IfSome, IfNone, Bool, true, false, if◌then◌else◌, ◌≡◌, ℕ, ◌+◌, ◌<◌, ◌≤◌, List, [], ◌∷◌, Option, Some, None, inl, inr, refl, sym, ap, subst, arith, ◌∙◌, max}
+use Rattle.std.proofs.Common.{IfSome, IfNone, Bool, true, false, if◌then◌else◌, ◌≡◌, ℕ, ◌+◌, ◌<◌}
+use Rattle.std.proofs.Common.{◌≤◌, List, [], ◌∷◌, Option, Some, None, inl, inr, refl, sym, ap}
+use Rattle.std.proofs.Common.{subst, arith, ◌∙◌, max}
 use Rattle.std.specs.List.{AllByRecursion, slice_get}
 use Rattle.std.proofs.lemmas.Option.{slice_get_cases}
 use Rattle.std.proofs.lemmas.Bool.{cases_lt}
@@ -10,7 +12,8 @@ use Rattle.afdx_port.specs.declared.left.Due.{Due}
 use Rattle.afdx_port.specs.declared.pending.Waiting.{Waiting}
 use Rattle.afdx_port.specs.declared.pending.Pending.{Pending}
 use Rattle.afdx_port.specs.Facts.{Facts, AreLawful}
-use Rattle.afdx_port.specs.Schedule.{Entry, Turn, has_turn, end_of, lasting, IsWithoutTurn, IsNext, AreTurns, IsSchedule}
+use Rattle.afdx_port.specs.Schedule.{Entry, Turn, has_turn, end_of, lasting, IsWithoutTurn, IsNext}
+use Rattle.afdx_port.specs.Schedule.{AreTurns, IsSchedule}
 use Rattle.afdx_port.specs.Due.{given_at, IsAfter}
 use Rattle.afdx_port.specs.Held.{ready, choice, choice_of, queue_of, is_too_old, due_from, due_of, IsQuiet}
 use Rattle.afdx_port.specs.Sound.{IsSound}
@@ -33,7 +36,9 @@ choice_some_low (Some h) n e = choice_some_high h (Some n) e
 
 module _ {X : Type 0} where
   -- the frame of the turn that has begun is taken
-  pub take_gives : (facts : X → Facts) (p : Pending X) (h : History X) (until : ℕ) (l : Left X) → StandsFor facts p (at h until) → p.sending ≡ Some l → p.free ≤ until → Gives facts h until l (record p { sending = None })
+  pub take_gives : (facts : X → Facts) (p : Pending X) (h : History X) (until : ℕ) (l : Left X)
+      → StandsFor facts p (at h until) → p.sending ≡ Some l → p.free ≤ until
+      → Gives facts h until l (record p { sending = None })
   take_gives facts p h until l st is le =
       let P : Option (Left X) → Type 0 = λ o. HasBegun o h.taken st.begun in
       let b : HasBegun (Some l) h.taken st.begun = subst P is st.has_begun in
@@ -64,19 +69,23 @@ module _ {X : Type 0} where
         };
       }
     where
-      by_kind : (o : Bool) (moment end bytes : ℕ) → end ≡ moment + lasting h.byte_ns o bytes → moment < until → end ≤ until → end + (if o then 1 else 0) ≤ until
+      by_kind : (o : Bool) (moment end bytes : ℕ) → end ≡ moment + lasting h.byte_ns o bytes
+          → moment < until → end ≤ until → end + (if o then 1 else 0) ≤ until
       by_kind true moment end bytes lasts before le = omega arith
       by_kind false moment end bytes lasts before le = omega arith
 
   -- the clauses of a take, by what was being sent
-  pub take_some : (facts : X → Facts) (p : Pending X) (h : History X) (until : ℕ) (o after : Option (Left X)) → StandsFor facts p (at h until) → p.free ≤ until → o ≡ p.sending → after ≡ None →
+  pub take_some : (facts : X → Facts) (p : Pending X) (h : History X) (until : ℕ)
+      (o after : Option (Left X)) → StandsFor facts p (at h until) → p.free ≤ until → o ≡ p.sending
+      → after ≡ None →
       IfSome o (λ l. Gives facts h until l (record p { sending = after }))
   take_some facts p h until None after st le is gone = tt
   take_some facts p h until (Some l) after st le is gone =
       let P : Option (Left X) → Type 0 = λ a. Gives facts h until l (record p { sending = a }) in
       subst P (sym gone) (take_gives facts p h until l st (sym is) le)
 
-  pub take_kept : (facts : X → Facts) (p : Pending X) (h : History X) (until : ℕ) (o after : Option (Left X)) → StandsFor facts p (at h until) → o ≡ p.sending → after ≡ None →
+  pub take_kept : (facts : X → Facts) (p : Pending X) (h : History X) (until : ℕ)
+      (o after : Option (Left X)) → StandsFor facts p (at h until) → o ≡ p.sending → after ≡ None →
       IfNone o (StandsFor facts (record p { sending = after }) (at h until))
   take_kept facts p h until None after st is gone =
       let P : Option (Left X) → Type 0 = λ a. StandsFor facts (record p { sending = a }) (at h until) in
@@ -84,7 +93,9 @@ module _ {X : Type 0} where
   take_kept facts p h until (Some l) after st is gone = tt
 
   -- nor where the line is busy at t
-  pub busy_quiet : (facts : X → Facts) (p : Pending X) (t : ℕ) → 1 ≤ p.byte_ns → t < p.free → ((c : Priority) (moment : ℕ) → p.sending ≡ None → choice_of p ≡ Some (c, moment) → t ≤ moment) → IsQuiet facts p t
+  pub busy_quiet : (facts : X → Facts) (p : Pending X) (t : ℕ) → 1 ≤ p.byte_ns → t < p.free
+      → ((c : Priority) (moment : ℕ) → p.sending ≡ None → choice_of p ≡ Some (c, moment)
+      → t ≤ moment) → IsQuiet facts p t
   busy_quiet facts p t rate busy late = by_sending p.sending refl
     where
       by_sending : (o : Option (Left X)) → p.sending ≡ o → IfSome (due_of facts p) (λ d. IsAfter t d)
@@ -93,20 +104,26 @@ module _ {X : Type 0} where
           let P : Option Due → Type 0 = λ o. IfSome o (λ d. IsAfter t d) in
           subst P (sym (due_busy facts p l e)) (omega arith)
 
-  pub take_quiet : (facts : X → Facts) (p : Pending X) (t : ℕ) (o after : Option (Left X)) → 1 ≤ p.byte_ns → o ≡ p.sending → after ≡ None →
-      ((c : Priority) (moment : ℕ) → p.sending ≡ None → choice_of p ≡ Some (c, moment) → t ≤ moment) → IfNone o (IsQuiet facts (record p { sending = after }) t)
+  pub take_quiet : (facts : X → Facts) (p : Pending X) (t : ℕ) (o after : Option (Left X))
+      → 1 ≤ p.byte_ns → o ≡ p.sending → after ≡ None →
+      ((c : Priority) (moment : ℕ) → p.sending ≡ None → choice_of p ≡ Some (c, moment) → t ≤ moment)
+      → IfNone o (IsQuiet facts (record p { sending = after }) t)
   take_quiet facts p t None after rate is gone late =
       let P : Option (Left X) → Type 0 = λ a. IsQuiet facts (record p { sending = a }) t in
       subst P (sym is ∙ sym gone) (idle_quiet facts p t rate (sym is) late)
   take_quiet facts p t (Some l) after rate is gone late = tt
 
-  pub take_no_more : (facts : X → Facts) (p : Pending X) (h : History X) (t : ℕ) (s : Turn X) (o : Option (Left X)) → 1 ≤ p.byte_ns → StandsFor facts p (at h t) → o ≡ p.sending →
-      ((c : Priority) (moment : ℕ) → p.sending ≡ None → choice_of p ≡ Some (c, moment) → t ≤ moment) → IsNext h.byte_ns h.entries h.taken s → IfNone o (IsAfter t (due_at s))
-  take_no_more facts p h t s None rate st is late n = quiet_after facts p (at h t) t s st (idle_quiet facts p t rate (sym is) late) n
+  pub take_no_more : (facts : X → Facts) (p : Pending X) (h : History X) (t : ℕ) (s : Turn X)
+      (o : Option (Left X)) → 1 ≤ p.byte_ns → StandsFor facts p (at h t) → o ≡ p.sending →
+      ((c : Priority) (moment : ℕ) → p.sending ≡ None → choice_of p ≡ Some (c, moment) → t ≤ moment)
+      → IsNext h.byte_ns h.entries h.taken s → IfNone o (IsAfter t (due_at s))
+  take_no_more facts p h t s None rate st is late n =
+      quiet_after facts p (at h t) t s st (idle_quiet facts p t rate (sym is) late) n
   take_no_more facts p h t s (Some l) rate st is late n = tt
 
   -- nothing is due only where nothing is held
-  nothing_held : (facts : X → Facts) (p : Pending X) → due_of facts p ≡ None → (p.sending ≡ None) × (p.high.items ≡ []) × (p.low.items ≡ [])
+  nothing_held : (facts : X → Facts) (p : Pending X) → due_of facts p ≡ None → (p.sending ≡ None)
+      × (p.high.items ≡ []) × (p.low.items ≡ [])
   nothing_held facts p none = by_parts p.sending p.high.items p.low.items refl refl refl
     where
       by_choice : (o : Option (Priority × ℕ)) → choice_of p ≡ o → p.sending ≡ None → choice_of p ≡ None
@@ -116,18 +133,23 @@ module _ {X : Type 0} where
           let due = due_idle facts p c moment w.0 e chosen (ap (λ ws. slice_get ws 0) w.2) in
           absurd (cc (none, due))
 
-      by_parts : (o : Option (Left X)) (highs lows : List (Waiting X)) → p.sending ≡ o → p.high.items ≡ highs → p.low.items ≡ lows → (p.sending ≡ None) × (p.high.items ≡ []) × (p.low.items ≡ [])
+      by_parts : (o : Option (Left X)) (highs lows : List (Waiting X)) → p.sending ≡ o
+          → p.high.items ≡ highs → p.low.items ≡ lows → (p.sending ≡ None) × (p.high.items ≡ [])
+          × (p.low.items ≡ [])
       by_parts (Some l) highs lows e h k = absurd (let due = due_busy facts p l e in cc (none, due))
       by_parts None [] [] e h k = (e, h, k)
       by_parts None (w ∷ ws) lows e h k =
           let P : List (Waiting X) → Type 0 = λ vs. choice (ready p.free vs) (ready p.free p.low.items) ≡ None in
-          absurd (choice_some_high (max w.time p.free) (ready p.free p.low.items) (subst P h (by_choice (choice_of p) refl e)))
+          absurd (choice_some_high (max w.time p.free) (ready p.free p.low.items)
+          (subst P h (by_choice (choice_of p) refl e)))
       by_parts None [] (w ∷ ws) e h k =
           let P : List (Waiting X) → Type 0 = λ vs. choice (ready p.free p.high.items) (ready p.free vs) ≡ None in
-          absurd (choice_some_low (ready p.free p.high.items) (max w.time p.free) (subst P k (by_choice (choice_of p) refl e)))
+          absurd (choice_some_low (ready p.free p.high.items) (max w.time p.free)
+          (subst P k (by_choice (choice_of p) refl e)))
 
   -- all that is held has its turn by this time
-  due_bounded : (facts : X → Facts) (p : Pending X) (d : Due) → ((x : X) → AreLawful (facts x)) → IsSound facts p → due_of facts p ≡ Some d → given_at d ≤ 1200000000000000
+  due_bounded : (facts : X → Facts) (p : Pending X) (d : Due) → ((x : X) → AreLawful (facts x))
+      → IsSound facts p → due_of facts p ≡ Some d → given_at d ≤ 1200000000000000
   due_bounded facts p d lawful s is = by_sending p.sending refl
     where
       by_kind : (o : Bool) (n : ℕ) → n ≤ 1100000001230400 → n + (if o then 1 else 0) ≤ 1200000000000000
@@ -135,7 +157,8 @@ module _ {X : Type 0} where
       by_kind false n le = omega arith
 
       given_same : (e : Due) → due_of facts p ≡ Some e → given_at e ≤ 1200000000000000 → given_at d ≤ 1200000000000000
-      given_same e due le = let same : e ≡ d = cc (is, due) in let P : Due → Type 0 = λ z. given_at z ≤ 1200000000000000 in subst P same le
+      given_same e due le = let same : e ≡ d = cc (is, due) in let P : Due
+          → Type 0 = λ z. given_at z ≤ 1200000000000000 in subst P same le
 
       by_choice : (o : Option (Priority × ℕ)) → choice_of p ≡ o → p.sending ≡ None → given_at d ≤ 1200000000000000
       by_choice None chosen e = absurd (let due = due_nothing facts p e chosen in cc (is, due))
@@ -147,27 +170,37 @@ module _ {X : Type 0} where
           let soon : moment ≤ 1100000000000000 = k.soon in
           let short = lasting_short p.byte_ns (facts w.0.item).bytes (is_too_old facts w.0 moment) law.most k.rate in
           given_same (due_from facts p.byte_ns w.0 moment) (due_idle facts p c moment w.0 e chosen front)
-          (by_kind (is_too_old facts w.0 moment) (moment + lasting p.byte_ns (is_too_old facts w.0 moment) (facts w.0.item).bytes) (omega (arith, short)))
+          (by_kind (is_too_old facts w.0 moment)
+          (moment + lasting p.byte_ns (is_too_old facts w.0 moment) (facts w.0.item).bytes)
+          (omega (arith, short)))
 
       by_sending : (o : Option (Left X)) → p.sending ≡ o → given_at d ≤ 1200000000000000
       by_sending None e = by_choice (choice_of p) refl e
       by_sending (Some l) e =
           let ends = s.ends in
-          given_same (record { time = p.free; too_old = l.too_old }) (due_busy facts p l e) (by_kind l.too_old p.free (omega arith))
+          given_same (record { time = p.free; too_old = l.too_old }) (due_busy facts p l e)
+          (by_kind l.too_old p.free (omega arith))
 
   -- where nothing is held, no entry is without a turn
-  none_left : (facts : X → Facts) (p : Pending X) (h : History X) (place : ℕ) (e : Entry X) → StandsFor facts p h → due_of facts p ≡ None → slice_get h.entries place ≡ Some e → has_turn h.taken place ≡ false → ⊥
+  none_left : (facts : X → Facts) (p : Pending X) (h : History X) (place : ℕ) (e : Entry X)
+      → StandsFor facts p h → due_of facts p ≡ None → slice_get h.entries place ≡ Some e
+      → has_turn h.taken place ≡ false → ⊥
   none_left facts p h place e st none stands without =
       let held = nothing_held facts p none in
       let P : Option (Left X) → Type 0 = λ o. HasBegun o h.taken st.begun in
       let taken : st.begun ≡ h.taken = subst P held.0 st.has_begun in
-      let own : IsWithoutTurn h.entries st.begun place e = record { stands = stands; without = ap (λ zs. has_turn zs place) taken ∙ without } in
+      let own : IsWithoutTurn h.entries st.begun place e =
+      record { stands = stands; without = ap (λ zs. has_turn zs place) taken ∙ without } in
       let H : List (Waiting X) → Type 0 = λ ws. IsQueue facts h.entries st.begun High 0 ws in
       let L : List (Waiting X) → Type 0 = λ ws. IsQueue facts h.entries st.begun Low 0 ws in
-      elim (priority_cases e.priority) [ inl c ↦ (subst H held.1 st.high) place e (omega arith) own c | inr c ↦ (subst L held.2 st.low) place e (omega arith) own c ]
+      elim (priority_cases e.priority) [
+        | inl c ↦ (subst H held.1 st.high) place e (omega arith) own c
+        | inr c ↦ (subst L held.2 st.low) place e (omega arith) own c
+      ]
 
   -- nothing is due where no further turn is given by then
-  none_due : (facts : X → Facts) (p : Pending X) (t : ℕ) → ((x : X) → AreLawful (facts x)) → IsSound facts p → 1200000000000000 ≤ t → IsQuiet facts p t → due_of facts p ≡ None
+  none_due : (facts : X → Facts) (p : Pending X) (t : ℕ) → ((x : X) → AreLawful (facts x))
+      → IsSound facts p → 1200000000000000 ≤ t → IsQuiet facts p t → due_of facts p ≡ None
   none_due facts p t lawful s late quiet = by_due (due_of facts p) refl
     where
       by_due : (o : Option Due) → due_of facts p ≡ o → due_of facts p ≡ None
@@ -179,7 +212,8 @@ module _ {X : Type 0} where
           absurd (omega (arith, after, soon))
 
   -- where nothing is due, each entry has had its turn
-  pub all_done : (facts : X → Facts) (p : Pending X) (h : History X) → StandsFor facts p h → due_of facts p ≡ None → IsSchedule h.byte_ns h.entries h.taken
+  pub all_done : (facts : X → Facts) (p : Pending X) (h : History X) → StandsFor facts p h
+      → due_of facts p ≡ None → IsSchedule h.byte_ns h.entries h.taken
   all_done facts p h st none = record {
     each_next = taken_turns facts p h st;
     all_have_turns = λ place lt. elim (slice_get_cases h.entries place).1 [
@@ -188,19 +222,27 @@ module _ {X : Type 0} where
     ];
   }
     where
-      has : (place : ℕ) (e : Entry X) → slice_get h.entries place ≡ Some e → (b : Bool) → has_turn h.taken place ≡ b → has_turn h.taken place ≡ true
+      has : (place : ℕ) (e : Entry X) → slice_get h.entries place ≡ Some e → (b : Bool)
+          → has_turn h.taken place ≡ b → has_turn h.taken place ≡ true
       has place e stands true is = is
       has place e stands false is = absurd (none_left facts p h place e st none stands is)
 
-  pub if_all_done : (facts : X → Facts) (p : Pending X) (h : History X) (o : Option Due) → StandsFor facts p h → o ≡ due_of facts p → IfNone o (IsSchedule h.byte_ns h.entries h.taken)
+  pub if_all_done : (facts : X → Facts) (p : Pending X) (h : History X) (o : Option Due)
+      → StandsFor facts p h → o ≡ due_of facts p → IfNone o (IsSchedule h.byte_ns h.entries h.taken)
   if_all_done facts p h None st is = all_done facts p h st (sym is)
   if_all_done facts p h (Some d) st is = tt
 
   -- nor is one left where no turn is given by then
-  pub quiet_all_done : (facts : X → Facts) (p : Pending X) (h : History X) (t : ℕ) → ((x : X) → AreLawful (facts x)) → IsSound facts p → StandsFor facts p h → 1200000000000000 ≤ t → IsQuiet facts p t → IsSchedule h.byte_ns h.entries h.taken
+  pub quiet_all_done : (facts : X → Facts) (p : Pending X) (h : History X) (t : ℕ)
+      → ((x : X) → AreLawful (facts x)) → IsSound facts p → StandsFor facts p h
+      → 1200000000000000 ≤ t → IsQuiet facts p t → IsSchedule h.byte_ns h.entries h.taken
   quiet_all_done facts p h t lawful s st late quiet = all_done facts p h st (none_due facts p t lawful s late quiet)
 
-  pub take_all_done : (facts : X → Facts) (p : Pending X) (h : History X) (t : ℕ) (o : Option (Left X)) → ((x : X) → AreLawful (facts x)) → IsSound facts p → StandsFor facts p (at h t) → o ≡ p.sending → 1200000000000000 ≤ t →
-      ((c : Priority) (moment : ℕ) → p.sending ≡ None → choice_of p ≡ Some (c, moment) → t ≤ moment) → IfNone o (IsSchedule h.byte_ns h.entries h.taken)
-  take_all_done facts p h t None lawful s st is late idle = quiet_all_done facts p (at h t) t lawful s st late (idle_quiet facts p t s.rate.0 (sym is) idle)
+  pub take_all_done : (facts : X → Facts) (p : Pending X) (h : History X) (t : ℕ)
+      (o : Option (Left X)) → ((x : X) → AreLawful (facts x)) → IsSound facts p
+      → StandsFor facts p (at h t) → o ≡ p.sending → 1200000000000000 ≤ t →
+      ((c : Priority) (moment : ℕ) → p.sending ≡ None → choice_of p ≡ Some (c, moment) → t ≤ moment)
+      → IfNone o (IsSchedule h.byte_ns h.entries h.taken)
+  take_all_done facts p h t None lawful s st is late idle =
+      quiet_all_done facts p (at h t) t lawful s st late (idle_quiet facts p t s.rate.0 (sym is) idle)
   take_all_done facts p h t (Some l) lawful s st is late idle = tt

@@ -8,3 +8,4 @@ pub mod Held
 pub mod Sound
 pub mod History
 pub mod Ports
+pub mod Serving

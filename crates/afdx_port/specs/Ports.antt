@@ -1,5 +1,5 @@
 -- Which of several ports gives its turn first.
-use Rattle.std.specs.Prelude.{◌≡◌, ℕ, ◌<◌, ◌≤◌, nat_lt, if◌then◌else◌, List, length, Option, Some, None, slice_get}
+use Rattle.std.specs.Prelude.{◌≡◌, ℕ, ◌<◌, ◌≤◌, List, length, Option, Some, None, slice_get}
 use Rattle.afdx_port.specs.Times.{drain_end}
 use Rattle.afdx_port.specs.declared.left.Due.{Due}
 use Rattle.afdx_port.specs.declared.pending.Pending.{Pending}
@@ -7,14 +7,10 @@ use Rattle.afdx_port.specs.Facts.{Facts}
 use Rattle.afdx_port.specs.Due.{given_at, IsBy, order_of}
 use Rattle.afdx_port.specs.Held.{due_of, IsQuiet}
 
--- the order of the turn that is due; where none is, the greatest of all
+-- the order of the turn that is due; where none is, 2^52, which is after each turn
 abbrev pub order_at : Option Due → ℕ
-order_at None = 18446744073709551615
+order_at None = 4503599627370496
 order_at (Some d) = order_of d
-
--- the port that goes first so far and its order, after one at a further place
-abbrev pub earlier_of : (first least place order : ℕ) → ℕ × ℕ
-earlier_of first least place order = if nat_lt order least then (place, order) else (first, least)
 
 module _ {X : Type 0} where
   -- none of the first n ports gives a further turn by then

@@ -7,10 +7,12 @@ mod left;
 mod pending;
 mod port;
 mod ports;
+mod serving;
 #[cfg(test)]
 mod tests;
 
 pub use has_length::HasLength;
 pub use left::{Due, Left};
 pub use port::Port;
-pub use ports::{first_due, first_of};
+pub use ports::first_due;
+pub use serving::Serving;

@@ -2,7 +2,7 @@
 ghost use Rattle.std.specs.Prelude.{◌≡◌, ℕ, ◌+◌, ◌-◌, ◌*◌, ◌/◌, ◌<◌, ◌≤◌, ◌^◌, ◌⊎◌, ◌↔◌, [], ◌∷◌};
 ghost use Rattle.std.specs.Prelude.{◌++◌, List, Some, None, IfOk, IfErr, OnOk, OnErr, IsErr};
 ghost use Rattle.std.specs.Prelude.{IfSome, OnSome, IfNone, MatchOption, MatchResult};
-ghost use Rattle.std.specs.Prelude.{option_copied, slice_get};
+ghost use Rattle.std.specs.Prelude.{is_some, option_copied, slice_get, true};
 ghost use Rattle.afdx_port.specs.Times.{drain_end, latest_put, longest_slot};
 ghost use Rattle.afdx_frame.specs.declared.link.Priority.{Priority};
 ghost use Rattle.afdx_port.specs.Schedule.{Entry, Turn, is_past, IsNext, IsSchedule, IsLost};
@@ -85,6 +85,7 @@ impl<T: HasLength> Pending<T> {
     }
 
     /// The class that goes next, and its moment.
+    #[inline]
     fn next_choice(&self) -> Option<(Priority, u64)>
         ensures { result ≡ choice_of self.now }
     {
@@ -109,6 +110,7 @@ impl<T: HasLength> Pending<T> {
     }
 
     /// The turn of a frame at `moment`.
+    #[inline]
     fn turn_of(&self, waiting: &Waiting<T>, moment: u64) -> Due
         requires came { waiting.now.time ≤ moment }
         requires rate { self.now.byte_ns ≤ 800 }
@@ -124,7 +126,15 @@ impl<T: HasLength> Pending<T> {
         }
     }
 
+    /// Whether a turn has begun whose frame isn't taken.
+    pub(crate) fn is_sending(&self) -> bool
+        ensures { result ≡ is_some self.now.sending }
+    {
+        self.sending.is_some()
+    }
+
     /// When the next turn is over.
+    #[inline]
     pub(crate) fn due(&self) -> Option<Due>
         requires sound { IsSound T.facts self.now }
         ensures due { result ≡ due_of T.facts self.now }
@@ -168,6 +178,7 @@ impl<T: HasLength> Pending<T> {
     }
 
     /// Begins the next turn, if its moment is before `time`.
+    #[inline]
     fn advance(&mut self, time: u64)
         requires clock { self.old.clock ≤ time }
         requires sound { IsSound T.facts self.old }
@@ -206,6 +217,8 @@ impl<T: HasLength> Pending<T> {
         });
     }
 
+    /// Offers a frame. While a turn has begun, that doesn't change when the next one is over.
+    #[inline]
     pub(crate) fn put(&mut self, time: u64, priority: Priority, item: T) -> Result<(), T>
         requires clock { self.old.clock ≤ time }
         requires limit { time ≤ latest_put }
@@ -222,6 +235,8 @@ impl<T: HasLength> Pending<T> {
         ensures err { (h : History T) → StandsFor T.facts self.old h →
             OnErr result (StandsFor T.facts self.new (at h time)) }
         ensures back { IfErr result (λ back. back ≡ item) }
+        ensures due { is_some self.new.sending ≡ true →
+            due_of T.facts self.new ≡ due_of T.facts self.old }
         ensures lost { (h : History T) (turns : List (Turn T)) → StandsFor T.facts self.old h →
             IsSchedule h.byte_ns h.entries turns →
             (IsErr result ↔ IsLost h.buffer h.entries turns time (T.facts item).bytes) }
@@ -243,6 +258,7 @@ impl<T: HasLength> Pending<T> {
         self.clock = time;
     }
 
+    #[inline]
     pub(crate) fn take(&mut self, until: u64) -> Option<Left<T>>
         requires clock { self.old.clock ≤ until }
         requires sound { IsSound T.facts self.old }

@@ -34,7 +34,7 @@ fn order(due: Option<Due>) -> u64
 {
     match due {
         Some(due) => due.order(),
-        None => u64::MAX,
+        None => 1 << 52,
     }
 }
 
@@ -107,8 +107,10 @@ impl<T: HasLength> Port<T> {
         ensures clock { last_time self.new ≡ time }
     {
         let taken = self.pending.put(time, priority, item);
-        self.due = self.pending.due();
-        self.order = order(self.due);
+        if !self.pending.is_sending() {
+            self.due = self.pending.due();
+            self.order = order(self.due);
+        }
         taken
     }
 
@@ -128,10 +130,11 @@ impl<T: HasLength> Port<T> {
         self.due
     }
 
-    /// The place of the next turn in the order in which ports are served together; the greatest
-    /// number if the port holds nothing.
+    /// The place of the next turn in the order in which ports are served together; that after each
+    /// turn if the port holds nothing.
     pub(crate) fn order(&self) -> u64
         ensures is { result ≡ order_at (due_of T.facts self.now) }
+        ensures most { result ≤ 4503599627370496 }
         ensures limit { IfSome (due_of T.facts self.now) (λ due. given_at due ≤ drain_end) }
     {
         self.order

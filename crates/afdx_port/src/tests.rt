@@ -3,7 +3,7 @@ ghost use Rattle.std.specs.Prelude.{◌≡◌, ℕ, ◌≤◌, Some, None, IfOk,
 ghost use Rattle.std.proofs.Common.{arith};
 ghost use Rattle.afdx_port.specs.Held.{IsByteTime, IsQuiet, last_time};
 
-use crate::{Due, HasLength, Port, first_due, first_of};
+use crate::{Due, HasLength, Port, Serving, first_due};
 use afdx_frame::Priority;
 use std::alloc::{AllocError, Global};
 
@@ -218,14 +218,20 @@ fn the_first_of_several_ports(rt: HostRuntime) -> Result<(), AllocError> {
     let mut slow = idle_port(rt.alloc(), 800, 128)?;
     let mut long = idle_port(rt.alloc(), 80, 1518)?;
     let mut short = idle_port(rt.alloc(), 80, 128)?;
-    let idle: Port<Patient> = idle_port(rt.alloc(), 80, 128)?;
     let mut last = idle_port(rt.alloc(), 80, 128)?;
     assert!(rt; slow.put(0, Priority::High, waits_on(64)).is_ok());
     assert!(rt; long.put(0, Priority::High, waits_on(1518)).is_ok());
     assert!(rt; short.put(0, Priority::Low, waits_on(64)).is_ok());
     assert!(rt; last.put(0, Priority::High, waits_on(64)).is_ok());
-    let ports = [slow, long, short, idle, last];
-    let first = first_of(&ports);
+    let mut ports = Vec::new(rt.alloc());
+    ports.push(slow)?;
+    ports.push(long)?;
+    ports.push(short)?;
+    ports.push(last)?;
+    for _ in 4..24_usize {
+        ports.push(idle_port(rt.alloc(), 80, 128)?)?;
+    }
+    let first = Serving::of(&ports).first::<Patient>();
     assert_eq!(rt; first, 2);
     assert_eq!(rt; first_due(&ports, first, 6719), None);
     assert_eq!(rt; first_due(&ports, first, 1000000), Some(2));

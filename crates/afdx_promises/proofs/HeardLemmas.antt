@@ -17,28 +17,41 @@ use Rattle.afdx_receive.proofs.LinkLemmas.{IsOfLink, answer-link}
 use Rattle.afdx_switch.proofs.AdmittedLemmas.{system-at}
 use Rattle.afdx_network.specs.Events.{Event, Came, Left, Departure}
 use Rattle.afdx_network.specs.Order.{IsAmong}
-use Rattle.afdx_promises.specs.Lines.{Departed, Received, Leaving, IsIn, left_in, arrived_as, answers_told, with_told, messages_told, leaving, with_reception, told_by}
+use Rattle.afdx_promises.specs.Lines.{Departed, Received, Leaving, IsIn, left_in, arrived_as}
+use Rattle.afdx_promises.specs.Lines.{answers_told, with_told, messages_told, leaving}
+use Rattle.afdx_promises.specs.Lines.{with_reception, told_by}
 use Rattle.afdx_promises.specs.Promises.{IsHeard}
 use Rattle.afdx_promises.specs.Receptions.{brought, brought_by, with_answer_on, answers_on, messages_in}
 use Rattle.afdx_promises.proofs.ReceiverLemmas.{IsFrameOn, names-frame}
 
 -- ---- an M or X line is of a frame that left
 
-heard-of : (t : Rows) (d : Leaving) (system : ℕ) (answer : Answer) (events : List Event) → IsIn (Received d system answer) (told_by t events) → IsIn d (left_in (told_by t events)) × (system_at_port t.systems d.port ≡ Some system)
+heard-of : (t : Rows) (d : Leaving) (system : ℕ) (answer : Answer) (events : List Event)
+    → IsIn (Received d system answer) (told_by t events) → IsIn d (left_in (told_by t events))
+    × (system_at_port t.systems d.port ≡ Some system)
 unfolding told_by left_in
 heard-of t d system answer [] h = absurd h
 heard-of t d system answer (Came c ∷ before) (inl same) = absurd (cc same)
 heard-of t d system answer (Came c ∷ before) (inr later) = heard-of t d system answer before later
-heard-of t d system answer (Left e ∷ before) h = by (system_at_port t.systems e.port) refl h (λ later. heard-of t d system answer before later)
+heard-of t d system answer (Left e ∷ before) h =
+    by (system_at_port t.systems e.port) refl h (λ later. heard-of t d system answer before later)
   where
-    rest-of : (IsIn (Received d system answer) (told_by t before) → IsIn d (left_in (told_by t before)) × (system_at_port t.systems d.port ≡ Some system)) →
-        IsIn (Received d system answer) (Departed (leaving e) ∷ told_by t before) → IsIn d (left_in (Departed (leaving e) ∷ told_by t before)) × (system_at_port t.systems d.port ≡ Some system)
+    rest-of : (IsIn (Received d system answer) (told_by t before)
+        → IsIn d (left_in (told_by t before)) × (system_at_port t.systems d.port ≡ Some system)) →
+        IsIn (Received d system answer) (Departed (leaving e) ∷ told_by t before)
+        → IsIn d (left_in (Departed (leaving e) ∷ told_by t before))
+        × (system_at_port t.systems d.port ≡ Some system)
     rest-of rest (inl same) = absurd (cc same)
     rest-of rest (inr later) = let r = rest later in (inr r.0, r.1)
 
-    by : (o : Option ℕ) → system_at_port t.systems e.port ≡ o → IsIn (Received d system answer) (with_reception t (brought_by e.port before) (leaving e) o (Departed (leaving e) ∷ told_by t before)) →
-        (IsIn (Received d system answer) (told_by t before) → IsIn d (left_in (told_by t before)) × (system_at_port t.systems d.port ≡ Some system)) →
-        IsIn d (left_in (with_reception t (brought_by e.port before) (leaving e) o (Departed (leaving e) ∷ told_by t before))) × (system_at_port t.systems d.port ≡ Some system)
+    by : (o : Option ℕ) → system_at_port t.systems e.port ≡ o
+        → IsIn (Received d system answer)
+        (with_reception t (brought_by e.port before) (leaving e) o
+        (Departed (leaving e) ∷ told_by t before)) →
+        (IsIn (Received d system answer) (told_by t before) → IsIn d (left_in (told_by t before))
+        × (system_at_port t.systems d.port ≡ Some system)) →
+        IsIn d (left_in (with_reception t (brought_by e.port before) (leaving e) o
+        (Departed (leaving e) ∷ told_by t before))) × (system_at_port t.systems d.port ≡ Some system)
     by None at g rest = rest-of rest g
     by (Some k) at (inl same) rest =
         let d_is : d ≡ leaving e = cc same in
@@ -46,7 +59,8 @@ heard-of t d system answer (Left e ∷ before) h = by (system_at_port t.systems 
         (inl d_is, ap (λ (x : Leaving). system_at_port t.systems x.port) d_is ∙ at ∙ ap (λ n. Some n) (sym k_is))
     by (Some k) at (inr later) rest = rest-of rest later
 
-pub lines-heard : (t : Rows) (events : List Event) (d : Leaving) (system : ℕ) (answer : Answer) → IsIn (Received d system answer) (told_by t events) → IsHeard t (told_by t events) d system
+pub lines-heard : (t : Rows) (events : List Event) (d : Leaving) (system : ℕ) (answer : Answer)
+    → IsIn (Received d system answer) (told_by t events) → IsHeard t (told_by t events) d system
 lines-heard t events d system answer h = let r = heard-of t d system answer events h in record { left = r.0; at = r.1 }
 
 -- ---- a system's answers on a link
@@ -59,8 +73,10 @@ pub record AreSlots (events : List Event) : Type 0 where
 slots-before : (e : Event) (before : List Event) → AreSlots (e ∷ before) → AreSlots before
 slots-before e before are = record { kept = λ d h. are.kept d (inr h); frame = λ d h. are.frame d (inr h) }
 
-told-with : (vl link : ℕ) (answer : Answer) (rest : List sent.Message) → IsOfLink link answer → with_told vl true answer rest ≡ (if link == vl then with_answer answer rest else rest)
-told-with vl link (Message v udp payload) rest is = ap (λ n. if n == vl then record { udp = udp; payload = payload } ∷ rest else rest) is
+told-with : (vl link : ℕ) (answer : Answer) (rest : List sent.Message) → IsOfLink link answer
+    → with_told vl true answer rest ≡ (if link == vl then with_answer answer rest else rest)
+told-with vl link (Message v udp payload) rest is =
+    ap (λ n. if n == vl then record { udp = udp; payload = payload } ∷ rest else rest) is
 told-with vl link (Dropped why) rest is = by (link == vl)
   where
     by : (b : Bool) → rest ≡ (if b then rest else rest)
@@ -71,7 +87,8 @@ told-off : (vl : ℕ) (answer : Answer) (rest : List sent.Message) → with_told
 told-off vl (Message v udp payload) rest = refl
 told-off vl (Dropped why) rest = refl
 
-module _ (t : Rows) (system : ℕ) (s : SystemRow) (vl : ℕ) (lawful : IsLawful t) (stands_at : slice_get t.systems system ≡ Some s) where
+module _ (t : Rows) (system : ℕ) (s : SystemRow) (vl : ℕ) (lawful : IsLawful t)
+    (stands_at : slice_get t.systems system ≡ Some s) where
   -- the system is at its port, and at no other
   at-port : (port : ℕ) → port ≡ s.port → system_at_port t.systems port ≡ Some system
   at-port port here = ap (system_at_port t.systems) here ∙ (each_row-found t lawful).by_port system s stands_at
@@ -94,56 +111,86 @@ module _ (t : Rows) (system : ℕ) (s : SystemRow) (vl : ℕ) (lawful : IsLawful
   abbrev past_at : List Event → List Arrived
   past_at events = brought_by s.port events
 
-  brought-more : (d : Departure) (before : List Event) → d.port ≡ s.port → d.turn.too_old ≡ false → brought_by s.port (Left d ∷ before) ≡ brought d.side d.turn ∷ brought_by s.port before
+  brought-more : (d : Departure) (before : List Event) → d.port ≡ s.port → d.turn.too_old ≡ false
+      → brought_by s.port (Left d ∷ before) ≡ brought d.side d.turn ∷ brought_by s.port before
   unfolding brought_by
   brought-more d before here slot = rw (eq-eqb d.port s.port here, slot) refl
 
-  brought-none : (d : Departure) (before : List Event) → (d.port == s.port) ≡ false → brought_by s.port (Left d ∷ before) ≡ brought_by s.port before
+  brought-none : (d : Departure) (before : List Event) → (d.port == s.port) ≡ false
+      → brought_by s.port (Left d ∷ before) ≡ brought_by s.port before
   unfolding brought_by
   brought-none d before off = rw off refl
 
-  pub answers-by-events : (events : List Event) → AreSlots events → answers_told system vl (told_by t events) ≡ answers_on t system vl (brought_by s.port events)
+  pub answers-by-events : (events : List Event) → AreSlots events
+      → answers_told system vl (told_by t events) ≡ answers_on t system vl (brought_by s.port events)
   unfolding answers_told told_by answers_on brought_by
   answers-by-events [] are = refl
   answers-by-events (Came c ∷ before) are = answers-by-events before (slots-before (Came c) before are)
-  answers-by-events (Left d ∷ before) are = by (d.port == s.port) refl (answers-by-events before (slots-before (Left d) before are))
+  answers-by-events (Left d ∷ before) are =
+      by (d.port == s.port) refl (answers-by-events before (slots-before (Left d) before are))
     where
       frame_is : (v : ℕ) × IsFrameOn v d.turn.entry.item.bytes
       frame_is = are.frame d (inl refl)
 
-      off : (o : Option ℕ) → system_at_port t.systems d.port ≡ o → (d.port == s.port) ≡ false → answers_told system vl (told_by t before) ≡ answers_on t system vl (brought_by s.port before) →
-          answers_told system vl (with_reception t (brought_by d.port before) (leaving d) o (Departed (leaving d) ∷ told_by t before)) ≡ answers_on t system vl (brought_by s.port before)
+      off : (o : Option ℕ) → system_at_port t.systems d.port ≡ o → (d.port == s.port) ≡ false
+          → answers_told system vl (told_by t before)
+          ≡ answers_on t system vl (brought_by s.port before) →
+          answers_told system vl (with_reception t (brought_by d.port before) (leaving d) o
+          (Departed (leaving d) ∷ told_by t before))
+          ≡ answers_on t system vl (brought_by s.port before)
       off None at apart rest = rest
       off (Some k) at apart rest = rw (elsewhere d.port k at apart) rest
 
-      own : (c : Bool) → names vl d.turn.entry.item.bytes ≡ c → d.port ≡ s.port → answers_told system vl (told_by t before) ≡ answers_on t system vl (brought_by s.port before) →
-          answers_told system vl (Received (leaving d) system (answer_to t system (brought_by s.port before) (arrived_as (leaving d))) ∷ Departed (leaving d) ∷ told_by t before)
-          ≡ with_answer_on vl (answer_to t system (brought_by s.port before) (brought d.side d.turn)) (frame_of d.turn.entry.item.bytes) (answers_on t system vl (brought_by s.port before))
+      own : (c : Bool) → names vl d.turn.entry.item.bytes ≡ c → d.port ≡ s.port
+          → answers_told system vl (told_by t before)
+          ≡ answers_on t system vl (brought_by s.port before) →
+          answers_told system vl (Received (leaving d) system
+          (answer_to t system (brought_by s.port before) (arrived_as (leaving d)))
+          ∷ Departed (leaving d) ∷ told_by t before)
+          ≡ with_answer_on vl (answer_to t system (brought_by s.port before)
+          (brought d.side d.turn)) (frame_of d.turn.entry.item.bytes)
+          (answers_on t system vl (brought_by s.port before))
       own c named here rest =
           let parts = frame_is.1.parts in
-          let test : (parts.link.0 == vl) ≡ c = sym (names-frame vl d.turn.entry.item.bytes parts frame_is.1.is_frame) ∙ named in
+          let test : (parts.link.0 == vl) ≡ c =
+          sym (names-frame vl d.turn.entry.item.bytes parts frame_is.1.is_frame) ∙ named in
           rw (eq-eqb system system refl, named, frame_is.1.is_frame, test) (push c)
         where
-          push : (c : Bool) → (if c then answer_to t system (brought_by s.port before) (arrived_as (leaving d)) ∷ answers_told system vl (told_by t before) else answers_told system vl (told_by t before))
-              ≡ (if c then answer_to t system (brought_by s.port before) (brought d.side d.turn) ∷ answers_on t system vl (brought_by s.port before) else answers_on t system vl (brought_by s.port before))
+          push : (c : Bool) → (if c then answer_to t system (brought_by s.port before)
+              (arrived_as (leaving d)) ∷ answers_told system vl (told_by t before) else answers_told
+              system vl (told_by t before))
+              ≡ (if c then answer_to t system (brought_by s.port before) (brought d.side d.turn)
+              ∷ answers_on t system vl (brought_by s.port before) else answers_on t system vl
+              (brought_by s.port before))
           push true = ap (λ zs. answer_to t system (brought_by s.port before) (brought d.side d.turn) ∷ zs) rest
           push false = rest
 
-      by : (b : Bool) → (d.port == s.port) ≡ b → answers_told system vl (told_by t before) ≡ answers_on t system vl (brought_by s.port before) →
-          answers_told system vl (with_reception t (brought_by d.port before) (leaving d) (system_at_port t.systems d.port) (Departed (leaving d) ∷ told_by t before)) ≡ answers_on t system vl (brought_by s.port (Left d ∷ before))
-      by false apart rest = off (system_at_port t.systems d.port) refl apart rest ∙ ap (answers_on t system vl) (sym (brought-none d before apart))
+      by : (b : Bool) → (d.port == s.port) ≡ b → answers_told system vl (told_by t before)
+          ≡ answers_on t system vl (brought_by s.port before) →
+          answers_told system vl (with_reception t (brought_by d.port before) (leaving d)
+          (system_at_port t.systems d.port) (Departed (leaving d) ∷ told_by t before))
+          ≡ answers_on t system vl (brought_by s.port (Left d ∷ before))
+      by false apart rest = off (system_at_port t.systems d.port) refl apart rest
+          ∙ ap (answers_on t system vl) (sym (brought-none d before apart))
       by true is rest =
           let here = eqb-true d.port s.port is in
-          ap (λ o. answers_told system vl (with_reception t (brought_by d.port before) (leaving d) o (Departed (leaving d) ∷ told_by t before))) (at-port d.port here)
-          ∙ ap (λ n. answers_told system vl (Received (leaving d) system (answer_to t system (brought_by n before) (arrived_as (leaving d))) ∷ Departed (leaving d) ∷ told_by t before)) here
+          ap (λ o. answers_told system vl
+          (with_reception t (brought_by d.port before) (leaving d) o
+          (Departed (leaving d) ∷ told_by t before))) (at-port d.port here)
+          ∙ ap (λ n. answers_told system vl
+          (Received (leaving d) system (answer_to t system (brought_by n before)
+          (arrived_as (leaving d))) ∷ Departed (leaving d) ∷ told_by t before)) here
           ∙ own (names vl d.turn.entry.item.bytes) refl here rest
           ∙ ap (answers_on t system vl) (sym (brought-more d before here (are.kept d (inl refl))))
 
-  pub messages-by-events : (events : List Event) → AreSlots events → messages_told system vl (told_by t events) ≡ messages_in (answers_on t system vl (brought_by s.port events))
+  pub messages-by-events : (events : List Event) → AreSlots events
+      → messages_told system vl (told_by t events)
+      ≡ messages_in (answers_on t system vl (brought_by s.port events))
   unfolding messages_told told_by answers_on brought_by
   messages-by-events [] are = refl
   messages-by-events (Came c ∷ before) are = messages-by-events before (slots-before (Came c) before are)
-  messages-by-events (Left d ∷ before) are = by (d.port == s.port) refl (messages-by-events before (slots-before (Left d) before are))
+  messages-by-events (Left d ∷ before) are =
+      by (d.port == s.port) refl (messages-by-events before (slots-before (Left d) before are))
     where
       frame_is : (v : ℕ) × IsFrameOn v d.turn.entry.item.bytes
       frame_is = are.frame d (inl refl)
@@ -151,32 +198,57 @@ module _ (t : Rows) (system : ℕ) (s : SystemRow) (vl : ℕ) (lawful : IsLawful
       answer : Answer
       answer = answer_to t system (brought_by s.port before) (brought d.side d.turn)
 
-      off : (o : Option ℕ) → system_at_port t.systems d.port ≡ o → (d.port == s.port) ≡ false → messages_told system vl (told_by t before) ≡ messages_in (answers_on t system vl (brought_by s.port before)) →
-          messages_told system vl (with_reception t (brought_by d.port before) (leaving d) o (Departed (leaving d) ∷ told_by t before)) ≡ messages_in (answers_on t system vl (brought_by s.port before))
+      off : (o : Option ℕ) → system_at_port t.systems d.port ≡ o → (d.port == s.port) ≡ false
+          → messages_told system vl (told_by t before)
+          ≡ messages_in (answers_on t system vl (brought_by s.port before)) →
+          messages_told system vl (with_reception t (brought_by d.port before) (leaving d) o
+          (Departed (leaving d) ∷ told_by t before))
+          ≡ messages_in (answers_on t system vl (brought_by s.port before))
       off None at apart rest = rest
-      off (Some k) at apart rest = rw (elsewhere d.port k at apart) (told-off vl (answer_to t k (brought_by d.port before) (arrived_as (leaving d))) (messages_told system vl (told_by t before)) ∙ rest)
+      off (Some k) at apart rest =
+          rw (elsewhere d.port k at apart)
+          (told-off vl (answer_to t k (brought_by d.port before) (arrived_as (leaving d)))
+          (messages_told system vl (told_by t before)) ∙ rest)
 
-      own : messages_told system vl (told_by t before) ≡ messages_in (answers_on t system vl (brought_by s.port before)) →
+      own : messages_told system vl (told_by t before)
+          ≡ messages_in (answers_on t system vl (brought_by s.port before)) →
           messages_told system vl (Received (leaving d) system answer ∷ Departed (leaving d) ∷ told_by t before)
-          ≡ messages_in (with_answer_on vl answer (frame_of d.turn.entry.item.bytes) (answers_on t system vl (brought_by s.port before)))
+          ≡ messages_in (with_answer_on vl answer (frame_of d.turn.entry.item.bytes)
+          (answers_on t system vl (brought_by s.port before)))
       own rest =
           let parts = frame_is.1.parts in
           ap (λ b. with_told vl b answer (messages_told system vl (told_by t before))) (eq-eqb system system refl)
-          ∙ told-with vl parts.link.0 answer (messages_told system vl (told_by t before)) (answer-link t system (brought_by s.port before) (brought d.side d.turn) parts frame_is.1.is_frame)
+          ∙ told-with vl parts.link.0 answer (messages_told system vl (told_by t before))
+          (answer-link t system (brought_by s.port before) (brought d.side d.turn) parts
+          frame_is.1.is_frame)
           ∙ push (parts.link.0 == vl)
-          ∙ ap (λ (r : Result FrameParts MacFault). messages_in (with_answer_on vl answer r (answers_on t system vl (brought_by s.port before)))) (sym frame_is.1.is_frame)
+          ∙ ap (λ (r : Result FrameParts MacFault).
+          messages_in (with_answer_on vl answer r
+          (answers_on t system vl (brought_by s.port before)))) (sym frame_is.1.is_frame)
         where
-          push : (c : Bool) → (if c then with_answer answer (messages_told system vl (told_by t before)) else messages_told system vl (told_by t before))
-              ≡ messages_in (if c then answer ∷ answers_on t system vl (brought_by s.port before) else answers_on t system vl (brought_by s.port before))
+          push : (c : Bool) → (if c then with_answer answer
+              (messages_told system vl (told_by t before)) else messages_told system vl
+              (told_by t before))
+              ≡ messages_in (if c then answer ∷ answers_on t system vl (brought_by s.port before)
+              else answers_on t system vl (brought_by s.port before))
           push true = ap (with_answer answer) rest
           push false = rest
 
-      by : (b : Bool) → (d.port == s.port) ≡ b → messages_told system vl (told_by t before) ≡ messages_in (answers_on t system vl (brought_by s.port before)) →
-          messages_told system vl (with_reception t (brought_by d.port before) (leaving d) (system_at_port t.systems d.port) (Departed (leaving d) ∷ told_by t before)) ≡ messages_in (answers_on t system vl (brought_by s.port (Left d ∷ before)))
-      by false apart rest = off (system_at_port t.systems d.port) refl apart rest ∙ ap (λ zs. messages_in (answers_on t system vl zs)) (sym (brought-none d before apart))
+      by : (b : Bool) → (d.port == s.port) ≡ b → messages_told system vl (told_by t before)
+          ≡ messages_in (answers_on t system vl (brought_by s.port before)) →
+          messages_told system vl (with_reception t (brought_by d.port before) (leaving d)
+          (system_at_port t.systems d.port) (Departed (leaving d) ∷ told_by t before))
+          ≡ messages_in (answers_on t system vl (brought_by s.port (Left d ∷ before)))
+      by false apart rest = off (system_at_port t.systems d.port) refl apart rest
+          ∙ ap (λ zs. messages_in (answers_on t system vl zs)) (sym (brought-none d before apart))
       by true is rest =
           let here = eqb-true d.port s.port is in
-          ap (λ o. messages_told system vl (with_reception t (brought_by d.port before) (leaving d) o (Departed (leaving d) ∷ told_by t before))) (at-port d.port here)
-          ∙ ap (λ n. messages_told system vl (Received (leaving d) system (answer_to t system (brought_by n before) (arrived_as (leaving d))) ∷ Departed (leaving d) ∷ told_by t before)) here
+          ap (λ o. messages_told system vl
+          (with_reception t (brought_by d.port before) (leaving d) o
+          (Departed (leaving d) ∷ told_by t before))) (at-port d.port here)
+          ∙ ap (λ n. messages_told system vl
+          (Received (leaving d) system (answer_to t system (brought_by n before)
+          (arrived_as (leaving d))) ∷ Departed (leaving d) ∷ told_by t before)) here
           ∙ own rest
-          ∙ ap (λ zs. messages_in (answers_on t system vl zs)) (sym (brought-more d before here (are.kept d (inl refl))))
+          ∙ ap (λ zs. messages_in (answers_on t system vl zs))
+          (sym (brought-more d before here (are.kept d (inl refl))))

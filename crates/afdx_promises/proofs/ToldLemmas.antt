@@ -13,18 +13,24 @@ use Rattle.afdx_network.specs.Events.{Event, all_events}
 use Rattle.afdx_network.specs.Order.{IsAmong, AreInOrder, events_of, events_so_far}
 use Rattle.afdx_network.proofs.OrderedLemmas.{are-events, are-so-far}
 use Rattle.afdx_promises.specs.Lines.{judged_in, told_by}
-use Rattle.afdx_promises.specs.Promises.{AreFirstFrames, AreReceived, PromisesAreKept, PromisesAreKeptSoFar, MessagesAreToldOnce, MessagesAreToldOnceSoFar, told, told_so_far}
+use Rattle.afdx_promises.specs.Promises.{AreFirstFrames, AreReceived, PromisesAreKept}
+use Rattle.afdx_promises.specs.Promises.{PromisesAreKeptSoFar, MessagesAreToldOnce}
+use Rattle.afdx_promises.specs.Promises.{MessagesAreToldOnceSoFar, told, told_so_far}
 use Rattle.afdx_promises.specs.Receptions.{ComeInOrder, answers_by_rules}
 use Rattle.afdx_promises.proofs.EventLemmas.{brought-in-order, events-bring}
-use Rattle.afdx_promises.proofs.HeadlineLemmas.{verdicts-are, frames-are, first-frames, all-are-first, line-of, frame-of, lines-in-time, lines-are-alone}
+use Rattle.afdx_promises.proofs.HeadlineLemmas.{verdicts-are, frames-are, first-frames}
+use Rattle.afdx_promises.proofs.HeadlineLemmas.{all-are-first, line-of, frame-of, lines-in-time}
+use Rattle.afdx_promises.proofs.HeadlineLemmas.{lines-are-alone}
 use Rattle.afdx_promises.proofs.HeardLemmas.{AreSlots, lines-heard, answers-by-events, messages-by-events}
 use Rattle.afdx_promises.proofs.LineLemmas.{verdicts-told, verdicts-told-so-far, came-told}
 use Rattle.afdx_promises.proofs.OnceLemmas.{messages-once, messages-so-far}
 use Rattle.afdx_promises.proofs.ReceiverLemmas.{answers-own}
 use Rattle.afdx_promises.proofs.RuleLemmas.{verdicts_of}
 
-module _ (t : Rows) (arrivals : List Arrival) (events : List Event) (run : IsAdmittedRun t arrivals) (judged : judged_in (told_by t events) ≡ verdicts_of t arrivals)
-    (own_events : (e : Event) → IsAmong e events → IsAmong e (all_events t arrivals)) (first : AreFirstFrames t (told_by t events)) where
+module _ (t : Rows) (arrivals : List Arrival) (events : List Event) (run : IsAdmittedRun t arrivals)
+    (judged : judged_in (told_by t events) ≡ verdicts_of t arrivals)
+    (own_events : (e : Event) → IsAmong e events → IsAmong e (all_events t arrivals))
+    (first : AreFirstFrames t (told_by t events)) where
   are-slots : AreSlots events
   are-slots = record {
     kept = λ d h. (line-of t arrivals events run judged own_events first d h).in_time.not_old;
@@ -34,11 +40,13 @@ module _ (t : Rows) (arrivals : List Arrival) (events : List Event) (run : IsAdm
   lines-received : AreInOrder events → AreReceived t (told_by t events)
   lines-received order = record {
     heard = λ d system answer h. lines-heard t events d system answer h;
-    in_order = λ port. subst ComeInOrder (sym (came-told t port events are-slots.kept)) (brought-in-order port events order);
+    in_order = λ port. subst ComeInOrder (sym (came-told t port events are-slots.kept))
+        (brought-in-order port events order);
     answers = λ system place s l stands at goes.
         answers-by-events t system s l.vl run.lawful stands events are-slots
         ∙ answers-own t system place l run.lawful at goes _
-        ∙ ap (λ zs. answers_by_rules (1000 * l.skew_us) (has_port t.ports system l.vl) (frames_of l.vl zs)) (sym (came-told t s.port events are-slots.kept));
+        ∙ ap (λ zs. answers_by_rules (1000 * l.skew_us) (has_port t.ports system l.vl)
+        (frames_of l.vl zs)) (sym (came-told t s.port events are-slots.kept));
   }
 
 pub kept : PromisesAreKept
@@ -75,7 +83,9 @@ kept-so-far t arrivals run =
 
 module _ (t : Rows) (arrivals : List Arrival) (run : IsAdmittedRun t arrivals) where
   slots : AreSlots (events_of t arrivals)
-  slots = are-slots t arrivals (events_of t arrivals) run (verdicts-told t arrivals (events_of t arrivals) run.timed (are-events t arrivals)) (are-events t arrivals).own
+  slots = are-slots t arrivals (events_of t arrivals) run
+      (verdicts-told t arrivals (events_of t arrivals) run.timed (are-events t arrivals))
+      (are-events t arrivals).own
       (all-are-first t (told t arrivals) (frames-are t arrivals run))
 
 pub told-once : BuiltIsComputed → MessagesAreToldOnce
@@ -83,11 +93,13 @@ told-once computed t arrivals run system place s l messages stream stands at goe
     let row : IsSystem t.profile s = all_at (IsSystem t.profile) t.systems system s run.lawful.systems.each stands in
     ap reverse (messages-by-events t system s l.vl run.lawful stands (events_of t arrivals) (slots t arrivals run))
     ∙ messages-once computed t arrivals system place s l messages stream _ run stands at goes is fed
-    (events-bring t arrivals (events_of t arrivals) s.port run.lawful run.timed row.port.0 row.port.1 (are-events t arrivals))
+    (events-bring t arrivals (events_of t arrivals) s.port run.lawful run.timed row.port.0
+    row.port.1 (are-events t arrivals))
 
 pub told-once-so-far : BuiltIsComputed → MessagesAreToldOnceSoFar
 told-once-so-far computed t arrivals run system place s l messages stream stands at goes is sent =
     let row : IsSystem t.profile s = all_at (IsSystem t.profile) t.systems system s run.lawful.systems.each stands in
     ap reverse (messages-by-events t system s l.vl run.lawful stands (events_of t arrivals) (slots t arrivals run))
     ∙ messages-so-far computed t arrivals system place s l messages stream _ run stands at goes is sent
-    (events-bring t arrivals (events_of t arrivals) s.port run.lawful run.timed row.port.0 row.port.1 (are-events t arrivals))
+    (events-bring t arrivals (events_of t arrivals) s.port run.lawful run.timed row.port.0
+    row.port.1 (are-events t arrivals))

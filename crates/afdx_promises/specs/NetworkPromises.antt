@@ -3,6 +3,7 @@
 use Rattle.std.specs.Prelude.{◌≡◌, ℕ, ◌*◌, ◌≤◌, true, false, if◌then◌else◌, Some, None, List, [], ◌∷◌, ◌++◌, filter, length, map, max, reverse, slice_get, take}
 use Rattle.afdx_frame.specs.declared.link.Side.{Side}
 use Rattle.afdx_frame.specs.declared.link.Side.TheVariants.{A, B}
+use Rattle.afdx_frame.specs.Sides.{is_side}
 use Rattle.afdx_config.specs.LawfulStream.{Sending, IsLawfulStream}
 use Rattle.afdx_config.specs.Lawful.{IsLawful}
 use Rattle.afdx_config.specs.Reading.{has_port}
@@ -21,7 +22,6 @@ use Rattle.afdx_switch.specs.Tables.{rule_of, goes_to, byte_ns_at, entries_at}
 use Rattle.afdx_switch.specs.Verdicts.{reason_of, is_lost_at}
 use Rattle.afdx_receive.specs.Arrivals.{Arrived, frames_of}
 use Rattle.afdx_receive.specs.Copies.{AreSendable}
-use Rattle.afdx_receive.specs.Integrity.{is_same_side}
 use Rattle.afdx_network.specs.Events.{Event, Came, Left, Admission, Departure, admission_after, turns_at, turns_on}
 use Rattle.afdx_promises.specs.Ports.{AreItsTurns}
 use Rattle.afdx_network.specs.Order.{IsAmong, AreEvents, AreEventsSoFar}
@@ -43,7 +43,7 @@ pub record IsReceivedAlone (t : Rows) (arrivals : List Arrival) (system : ℕ) (
     (came : List Arrived) : Type 0 where
   -- by each side come the link's accepted frames, in order
   pub frames : (side : Side) → map (λ f. f.bytes)
-      (filter (λ f. is_same_side f.side side) (frames_of l.vl came))
+      (filter (λ f. is_side f.side side) (frames_of l.vl came))
       ≡ map (λ x. x.bytes) (accepted_on t l side arrivals)
   -- the answers to them are those of integrity and redundancy on them alone
   pub answers : answers_on t system l.vl came

@@ -6,6 +6,7 @@ use Rattle.afdx_frame.specs.declared.link.Side.{Side}
 use Rattle.afdx_frame.specs.declared.link.Side.TheVariants.{A, B}
 use Rattle.afdx_frame.specs.declared.fault.MacFault.{MacFault}
 use Rattle.afdx_frame.specs.Parts.{FrameParts, frame_of}
+use Rattle.afdx_frame.specs.Sides.{is_side}
 use Rattle.afdx_config.specs.Rows.{Rows}
 use Rattle.afdx_config.specs.SentList.{Message}
 use Rattle.afdx_police.specs.Arrival.{Arrival}
@@ -15,7 +16,7 @@ use Rattle.afdx_switch.specs.Carried.{Carried}
 use Rattle.afdx_receive.specs.Answers.{Answer, answer_after, answer_to}
 use Rattle.afdx_receive.specs.Arrivals.{Arrived, arrived}
 use Rattle.afdx_receive.specs.Delivery.{with_answer}
-use Rattle.afdx_receive.specs.Integrity.{Incoming, is_same_side}
+use Rattle.afdx_receive.specs.Integrity.{Incoming}
 use Rattle.afdx_network.specs.Events.{Event, Came, Left, turns_at}
 use Rattle.afdx_network.specs.Order.{side_number}
 
@@ -25,7 +26,7 @@ brought side s = arrived s.end side s.entry.item.bytes
 
 -- it came by this side
 abbrev pub is_from : Side → Arrived → Bool
-is_from side x = is_same_side x.side side
+is_from side x = is_side x.side side
 
 -- frames come by time, at one time that of side A first
 abbrev pub order_of : Arrived → ℕ

@@ -1,6 +1,7 @@
 pub mod AnswerLemmas
 pub mod CopyLemmas
 pub mod DeliveryLemmas
+pub mod KeptLemmas
 pub mod OnceLemmas
 pub mod ReceiverLemmas
 pub mod ReceptionLemmas

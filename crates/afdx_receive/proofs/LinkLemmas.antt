@@ -6,7 +6,8 @@ use Rattle.afdx_frame.specs.Parts.{FrameParts, frame_of}
 use Rattle.afdx_frame.specs.declared.fault.IpFault.{IpFault}
 use Rattle.afdx_config.specs.Reading.{has_port}
 use Rattle.afdx_config.specs.Rows.{Rows, LinkRow}
-use Rattle.afdx_receive.specs.Answers.{Answer, Message, Dropped, subscription, answer_to_carried, answer_by, answer_on, answer_to}
+use Rattle.afdx_receive.specs.Answers.{Answer, Message, Dropped, subscription, answer_to_carried}
+use Rattle.afdx_receive.specs.Answers.{answer_by, answer_on, answer_to}
 use Rattle.afdx_receive.specs.Arrivals.{Arrived, incoming, frames_of}
 use Rattle.afdx_receive.specs.Standing.{standing}
 use Rattle.afdx_receive.specs.declared.memory.Standing.{Standing}
@@ -31,12 +32,17 @@ by-link vl stands.Winner answer is = is
 by-link vl stands.OutOfSequence answer is = tt
 by-link vl stands.Redundant answer is = tt
 
-on-link : (t : Rows) (system : ℕ) (past : List Arrived) (x : Arrived) (parts : FrameParts) (o : Option LinkRow) → IsOfLink parts.link.0 (answer_on t system past x parts o)
+on-link : (t : Rows) (system : ℕ) (past : List Arrived) (x : Arrived) (parts : FrameParts)
+    (o : Option LinkRow) → IsOfLink parts.link.0 (answer_on t system past x parts o)
 on-link t system past x parts None = tt
 on-link t system past x parts (Some l) =
-    by-link parts.link.0 (standing (1000 * l.skew_us) (frames_of parts.link.0 past) (incoming x parts)) (answer_to_carried parts.link.0 (has_port t.ports system parts.link.0) (carried_by x.bytes))
+    by-link parts.link.0 (standing (1000 * l.skew_us) (frames_of parts.link.0 past)
+    (incoming x parts)) (answer_to_carried parts.link.0 (has_port t.ports system parts.link.0)
+    (carried_by x.bytes))
     (carried-link parts.link.0 (has_port t.ports system parts.link.0) (carried_by x.bytes))
 
-pub answer-link : (t : Rows) (system : ℕ) (past : List Arrived) (x : Arrived) (parts : FrameParts) → frame_of x.bytes ≡ Ok parts → IsOfLink parts.link.0 (answer_to t system past x)
+pub answer-link : (t : Rows) (system : ℕ) (past : List Arrived) (x : Arrived) (parts : FrameParts)
+    → frame_of x.bytes ≡ Ok parts → IsOfLink parts.link.0 (answer_to t system past x)
 unfolding answer_to
-answer-link t system past x parts is_frame = rw is_frame (on-link t system past x parts (subscription t system parts.link.0))
+answer-link t system past x parts is_frame =
+    rw is_frame (on-link t system past x parts (subscription t system parts.link.0))

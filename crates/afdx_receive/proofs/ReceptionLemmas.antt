@@ -1,4 +1,5 @@
-use Rattle.std.proofs.Common.{◌≡◌, ℕ, ◌*◌, Bool, true, false, cond, None, Some, Result, Ok, Err, List, ◌∷◌, eqb, nat_eq, refl, sym, ap, ◌∙◌}
+use Rattle.std.proofs.Common.{◌≡◌, ℕ, ◌*◌, Bool, true, false, cond, None, Some, Result, Ok, Err}
+use Rattle.std.proofs.Common.{List, ◌∷◌, eqb, nat_eq, refl, sym, ap, ◌∙◌}
 use Rattle.std.proofs.lemmas.Bool.{eq-eqb, cond-true, cond-false}
 use Rattle.afdx_frame.specs.declared.fault.MacFault.{MacFault}
 use Rattle.afdx_frame.specs.declared.fault.IpFault.{IpFault}
@@ -9,12 +10,15 @@ use Rattle.afdx_frame.specs.declared.link.VlId.{VlId}
 use Rattle.afdx_config.specs.Rows.{Rows, LinkRow}
 use Rattle.afdx_config.specs.Reading.{has_port}
 use Rattle.afdx_receive.specs.Standing.{standing}
-use Rattle.afdx_receive.specs.Answers.{Answer, Message, Dropped, subscription, answer_to_carried, answer_by, answer_after, answer_on, answer_to_frame}
+use Rattle.afdx_receive.specs.Answers.{Answer, Message, Dropped, subscription, answer_to_carried}
+use Rattle.afdx_receive.specs.Answers.{answer_by, answer_after, answer_on, answer_to_frame}
 use Rattle.afdx_receive.specs.Answers.{answer_to}
 use Rattle.afdx_receive.specs.Reception.{IsReceived, IsReadAs, IsAnswer}
 use Rattle.afdx_receive.specs.declared.memory.Standing.{Standing}
 use Rattle.afdx_receive.specs.declared.memory.Standing.TheVariants as stands
-use Rattle.afdx_receive.specs.declared.reception.DropReason.TheVariants.{Mac, NotSubscribed, Sequence, Redundant, Ip, NoPort}
+use Rattle.afdx_receive.specs.declared.reception.DropReason.TheVariants.{Mac, NotSubscribed}
+use Rattle.afdx_receive.specs.declared.reception.DropReason.TheVariants.{Sequence, Redundant, Ip}
+use Rattle.afdx_receive.specs.declared.reception.DropReason.TheVariants.{NoPort}
 use Rattle.afdx_receive.specs.Arrivals.{Arrived, incoming, with_frame, frames_of}
 
 -- ---- a link's frames of what arrived
@@ -27,13 +31,17 @@ frames_with x past frame vl e = ap (λ (r : Result FrameParts MacFault). with_fr
 pub frames_own : (x : Arrived) (past : List Arrived) (frame : FrameParts) → frame_of x.bytes ≡ Ok frame →
     frames_of frame.link.0 (x ∷ past) ≡ incoming x frame ∷ frames_of frame.link.0 past
 frames_own x past frame e =
-    frames_with x past frame frame.link.0 e ∙ cond-true (eqb frame.link.0 frame.link.0) (incoming x frame ∷ frames_of frame.link.0 past)
+    frames_with x past frame frame.link.0 e
+    ∙ cond-true (eqb frame.link.0 frame.link.0) (incoming x frame ∷ frames_of frame.link.0 past)
     (frames_of frame.link.0 past) (eq-eqb frame.link.0 frame.link.0 refl)
 
-pub frames_other : (x : Arrived) (past : List Arrived) (frame : FrameParts) (vl : ℕ) → frame_of x.bytes ≡ Ok frame → nat_eq frame.link.0 vl ≡ false →
+pub frames_other : (x : Arrived) (past : List Arrived) (frame : FrameParts) (vl : ℕ)
+    → frame_of x.bytes ≡ Ok frame → nat_eq frame.link.0 vl ≡ false →
     frames_of vl (x ∷ past) ≡ frames_of vl past
 frames_other x past frame vl e apart =
-    frames_with x past frame vl e ∙ cond-false (eqb frame.link.0 vl) (incoming x frame ∷ frames_of vl past) (frames_of vl past) apart
+    frames_with x past frame vl e
+    ∙ cond-false (eqb frame.link.0 vl) (incoming x frame ∷ frames_of vl past)
+    (frames_of vl past) apart
 
 pub frames_damaged : (x : Arrived) (past : List Arrived) (fault : MacFault) (vl : ℕ) → frame_of x.bytes ≡ Err fault →
     frames_of vl (x ∷ past) ≡ frames_of vl past
@@ -42,45 +50,64 @@ frames_damaged x past fault vl e = ap (λ (r : Result FrameParts MacFault). with
 
 -- ---- answers
 
-pub answer_damaged : (tables : Rows) (system : ℕ) (past : List Arrived) (x : Arrived) (fault : MacFault) → frame_of x.bytes ≡ Err fault →
+pub answer_damaged : (tables : Rows) (system : ℕ) (past : List Arrived) (x : Arrived)
+    (fault : MacFault) → frame_of x.bytes ≡ Err fault →
     Dropped (Mac fault) ≡ answer_to tables system past x
 unfolding answer_to
 answer_damaged tables system past x fault e = sym (ap (answer_to_frame tables system past x) e)
 
 pub answer_of_others : (tables : Rows) (system : ℕ) (past : List Arrived) (x : Arrived) (frame : FrameParts) →
-    frame_of x.bytes ≡ Ok frame → subscription tables system frame.link.0 ≡ None → Dropped NotSubscribed ≡ answer_to tables system past x
+    frame_of x.bytes ≡ Ok frame → subscription tables system frame.link.0 ≡ None
+    → Dropped NotSubscribed ≡ answer_to tables system past x
 unfolding answer_to
-answer_of_others tables system past x frame e other = sym (ap (answer_to_frame tables system past x) e ∙ ap (answer_on tables system past x frame) other)
+answer_of_others tables system past x frame e other =
+    sym (ap (answer_to_frame tables system past x) e ∙ ap (answer_on tables system past x frame) other)
 
-pub answer_received : (tables : Rows) (system : ℕ) (past : List Arrived) (x : Arrived) (frame : FrameParts) (link : LinkRow) (how : Standing) →
+pub answer_received : (tables : Rows) (system : ℕ) (past : List Arrived) (x : Arrived)
+    (frame : FrameParts) (link : LinkRow) (how : Standing) →
     frame_of x.bytes ≡ Ok frame → subscription tables system frame.link.0 ≡ Some link →
     standing (1000 * link.skew_us) (frames_of frame.link.0 past) (incoming x frame) ≡ how →
-    answer_by how (answer_to_carried frame.link.0 (has_port tables.ports system frame.link.0) (carried_by x.bytes)) ≡ answer_to tables system past x
+    answer_by how (answer_to_carried frame.link.0 (has_port tables.ports system frame.link.0)
+    (carried_by x.bytes)) ≡ answer_to tables system past x
 unfolding answer_to
 answer_received tables system past x frame link how e subscribed stood =
-    ap (λ (s : Standing). answer_by s (answer_to_carried frame.link.0 (has_port tables.ports system frame.link.0) (carried_by x.bytes))) (sym stood)
+    ap (λ (s : Standing). answer_by s
+    (answer_to_carried frame.link.0 (has_port tables.ports system frame.link.0)
+    (carried_by x.bytes))) (sym stood)
     ∙ sym (ap (answer_to_frame tables system past x) e ∙ ap (answer_on tables system past x frame) subscribed)
 
-pub answer_own : (tables : Rows) (system : ℕ) (past : List Arrived) (x : Arrived) (frame : FrameParts) (link : LinkRow) → frame_of x.bytes ≡ Ok frame →
+pub answer_own : (tables : Rows) (system : ℕ) (past : List Arrived) (x : Arrived)
+    (frame : FrameParts) (link : LinkRow) → frame_of x.bytes ≡ Ok frame →
     subscription tables system frame.link.0 ≡ Some link →
-    answer_to tables system past x ≡ answer_after (1000 * link.skew_us) (has_port tables.ports system frame.link.0) (frames_of frame.link.0 past)
+    answer_to tables system past x
+    ≡ answer_after (1000 * link.skew_us) (has_port tables.ports system frame.link.0)
+    (frames_of frame.link.0 past)
     (incoming x frame)
 unfolding answer_to
-answer_own tables system past x frame link e subscribed = ap (answer_to_frame tables system past x) e ∙ ap (answer_on tables system past x frame) subscribed
+answer_own tables system past x frame link e subscribed =
+    ap (answer_to_frame tables system past x) e ∙ ap (answer_on tables system past x frame) subscribed
 
-pub answer_no_port : (vl : ℕ) (is_open : ℕ → Bool) (read : Result Carried IpFault) (carried : Carried) → read ≡ Ok carried → is_open carried.to_port ≡ false →
+pub answer_no_port : (vl : ℕ) (is_open : ℕ → Bool) (read : Result Carried IpFault)
+    (carried : Carried) → read ≡ Ok carried → is_open carried.to_port ≡ false →
     Dropped NoPort ≡ answer_to_carried vl is_open read
 answer_no_port vl is_open read carried e shut =
-    sym (ap (answer_to_carried vl is_open) e ∙ cond-false (is_open carried.to_port) (Message vl carried.to_port carried.payload) (Dropped NoPort) shut)
+    sym (ap (answer_to_carried vl is_open) e
+    ∙ cond-false (is_open carried.to_port) (Message vl carried.to_port carried.payload)
+    (Dropped NoPort) shut)
 
-pub answer_message : (vl : ℕ) (is_open : ℕ → Bool) (read : Result Carried IpFault) (carried : Carried) → read ≡ Ok carried → is_open carried.to_port ≡ true →
+pub answer_message : (vl : ℕ) (is_open : ℕ → Bool) (read : Result Carried IpFault)
+    (carried : Carried) → read ≡ Ok carried → is_open carried.to_port ≡ true →
     Message vl carried.to_port carried.payload ≡ answer_to_carried vl is_open read
 answer_message vl is_open read carried e open_port =
-    sym (ap (answer_to_carried vl is_open) e ∙ cond-true (is_open carried.to_port) (Message vl carried.to_port carried.payload) (Dropped NoPort) open_port)
+    sym (ap (answer_to_carried vl is_open) e
+    ∙ cond-true (is_open carried.to_port) (Message vl carried.to_port carried.payload)
+    (Dropped NoPort) open_port)
 
 -- what is made of a frame that won is the whole answer
-pub read_right : (tables : Rows) (system : ℕ) (past : List Arrived) (x : Arrived) (frame : FrameParts) (answer : Answer) →
-    IsReadAs tables system x.bytes frame answer → IsReceived tables system past x frame stands.Winner → IsAnswer tables system past x answer
+pub read_right : (tables : Rows) (system : ℕ) (past : List Arrived) (x : Arrived)
+    (frame : FrameParts) (answer : Answer) →
+    IsReadAs tables system x.bytes frame answer
+    → IsReceived tables system past x frame stands.Winner → IsAnswer tables system past x answer
 read_right tables system past x frame (Message vl udp payload) read received = (frame, received, read)
 read_right tables system past x frame (Dropped (Mac fault)) read received = absurd read
 read_right tables system past x frame (Dropped NotSubscribed) read received = absurd read
@@ -91,13 +118,17 @@ read_right tables system past x frame (Dropped NoPort) read received = (frame, r
 
 -- ---- a UDP port of the system
 
-pub port_known : (tables : Rows) (system : ℕ) (link vl : VlId) (udp port : ℕ) (known : Bool) → known ≡ has_port tables.ports system link.0 udp → link ≡ vl →
+pub port_known : (tables : Rows) (system : ℕ) (link vl : VlId) (udp port : ℕ) (known : Bool)
+    → known ≡ has_port tables.ports system link.0 udp → link ≡ vl →
     udp ≡ port → has_port tables.ports system vl.0 port ≡ known
 port_known tables system link vl udp port known e named to =
-    sym (e ∙ ap (λ (v : VlId). has_port tables.ports system v.0 udp) named ∙ ap (λ (n : ℕ). has_port tables.ports system vl.0 n) to)
+    sym (e ∙ ap (λ (v : VlId). has_port tables.ports system v.0 udp) named
+    ∙ ap (λ (n : ℕ). has_port tables.ports system vl.0 n) to)
 
-pub same_message : (a b m n : ℕ) (xs ys : List ℕ) (answer : Answer) → a ≡ b → m ≡ n → xs ≡ ys → Message b n ys ≡ answer → Message a m xs ≡ answer
+pub same_message : (a b m n : ℕ) (xs ys : List ℕ) (answer : Answer) → a ≡ b → m ≡ n → xs ≡ ys
+    → Message b n ys ≡ answer → Message a m xs ≡ answer
 same_message a b m n xs ys answer e f g h = rw (e, f, g) h
 
-pub same_read : (bytes xs ys : List ℕ) (a b from m n number : ℕ) → a ≡ b → m ≡ n → xs ≡ ys → Read bytes b from n ys number → Read bytes a from m xs number
+pub same_read : (bytes xs ys : List ℕ) (a b from m n number : ℕ) → a ≡ b → m ≡ n → xs ≡ ys
+    → Read bytes b from n ys number → Read bytes a from m xs number
 same_read bytes xs ys a b from m n number e f g h = rw (e, f, g) h

@@ -3,7 +3,7 @@
 use Rattle.std.specs.Prelude.{ℕ, Bool, true, ◌||◌, nat_eq, Option, List, find}
 use Rattle.std.specs.Option.{option_map_or}
 use Rattle.afdx_frame.specs.declared.link.Side.{Side}
-pub use Rattle.afdx_frame.specs.Sides.{is_side as is_same_side}
+use Rattle.afdx_frame.specs.Sides.{is_side}
 use Rattle.afdx_receive.specs.Steps.{is_within_steps}
 
 -- a frame that came to a receiver: when, in ns, by which network, its link and number, and its
@@ -17,7 +17,7 @@ pub record Incoming : Type 0 where
 
 -- the last one before that came by this side
 abbrev pub previous : Side → List Incoming → Option Incoming
-previous side before = find (λ frame. is_same_side frame.side side) before
+previous side before = find (λ frame. is_side frame.side side) before
 
 -- a frame may follow the one before it on its side: its number is 0, or one or two steps after
 abbrev pub may_follow : Incoming → Incoming → Bool

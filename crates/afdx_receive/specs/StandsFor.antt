@@ -1,6 +1,5 @@
 -- What a receiver is after what arrived, and what it makes of what arrives next.
 use Rattle.std.specs.Prelude.{◌≡◌, ℕ, ◌*◌, Bool, ◌&&◌, nat_eq, Option, None, Some, List, ◌∷◌}
-use Rattle.std.specs.HashMap as hash
 use Rattle.std.specs.HashSet as bag
 use Rattle.std.specs.HashSet.{HashSet}
 use Rattle.afdx_frame.specs.declared.link.VlId.{VlId}
@@ -9,6 +8,7 @@ use Rattle.afdx_config.specs.Reading.{has_port}
 use Rattle.afdx_receive.specs.Arrivals.{Arrived, frames_of}
 use Rattle.afdx_receive.specs.Answers.{Answer, subscription, answer_to}
 use Rattle.afdx_receive.specs.Reception.{IsAnswer}
+use Rattle.afdx_receive.specs.Kept.{memory_at}
 use Rattle.afdx_receive.specs.Memory.{Remembers}
 use Rattle.afdx_receive.specs.declared.memory.LinkMemory.{LinkMemory}
 use Rattle.afdx_receive.specs.declared.receiver.Endpoint.{Endpoint}
@@ -41,8 +41,8 @@ PortsStandFor tables system ports = (to : Endpoint) →
 -- a receiver of the system, after what arrived
 pub record StandsFor (tables : Rows) (system : ℕ) (receiver : Receiver)
     (past : List Arrived) : Type 0 where
-  pub links : (vl : VlId) →
-      LinkStandsFor tables system past vl.0 (hash.get is_same_link receiver.links vl)
+  pub links : (vl : ℕ) →
+      LinkStandsFor tables system past vl (memory_at receiver.links vl)
   pub ports : PortsStandFor tables system receiver.ports
 
 -- what arrives after what arrived before has this answer, which is computed and right, and joins

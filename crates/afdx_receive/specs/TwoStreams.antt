@@ -4,7 +4,8 @@ use Rattle.std.specs.Prelude.{length, filter, reverse, map, take, slice_get, if�
 use Rattle.std.specs.Prelude.{max}
 use Rattle.afdx_frame.specs.declared.link.Side.{Side}
 use Rattle.afdx_frame.specs.declared.link.Side.TheVariants.{A, B}
-use Rattle.afdx_receive.specs.Integrity.{Incoming, is_same_side}
+use Rattle.afdx_frame.specs.Sides.{is_side}
+use Rattle.afdx_receive.specs.Integrity.{Incoming}
 use Rattle.afdx_receive.specs.Redundancy.{newest, winners}
 use Rattle.afdx_receive.specs.Standing.{standing}
 use Rattle.afdx_receive.specs.declared.memory.Standing.TheVariants.{Winner, Redundant}
@@ -16,7 +17,7 @@ other_side B = A
 
 -- how many frames came by a side: the place, from 0, of the next one there in the stream
 abbrev pub count_of : Side → List Incoming → ℕ
-count_of side came = length (filter (λ frame. is_same_side frame.side side) came)
+count_of side came = length (filter (λ frame. is_side frame.side side) came)
 
 -- a frame is a first copy if the other side hasn't come further than its own
 abbrev pub is_first_copy : List Incoming → Incoming → Bool

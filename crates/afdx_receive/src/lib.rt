@@ -3,6 +3,7 @@
 #![tactic(auto)]
 
 pub mod laws;
+mod links;
 mod memory;
 mod receiver;
 mod reception;

@@ -1,7 +1,6 @@
 //! The receiving side of an end system.
 
 ghost use Rattle.std.specs.Prelude.{◌≡◌, ℕ, false, List, [], IsTrue, IfOk, option_map};
-ghost use Rattle.std.specs.HashMap as hash;
 ghost use Rattle.afdx_frame.specs.declared.link.VlId.{VlId};
 ghost use Rattle.afdx_frame.specs.Sealing.{is_sealed};
 ghost use Rattle.afdx_frame.specs.Parts.{parts_of, IsFrameOf};
@@ -12,15 +11,17 @@ ghost use Rattle.afdx_receive.specs.Arrivals.{Arrived, arrived};
 ghost use Rattle.afdx_receive.specs.Answers.{subscription, answer_of, answer_to_carried};
 ghost use Rattle.afdx_receive.specs.Answers.{is_ignored};
 ghost use Rattle.afdx_receive.specs.Reception.{IsReadAs};
-ghost use Rattle.afdx_receive.specs.StandsFor.{StandsFor, Receives, PortsStandFor, is_same_link};
+ghost use Rattle.afdx_receive.specs.Kept.{memory_at};
+ghost use Rattle.afdx_receive.specs.StandsFor.{StandsFor, Receives, PortsStandFor};
 ghost use Rattle.afdx_receive.specs.StandsFor.{memory_at_first};
 
+use crate::links::Links;
 use crate::memory::{LinkMemory, Standing};
 use crate::reception::{DropReason, Reception};
 use afdx_config::{SystemId, Tables};
 use afdx_frame::{Datagram, MacView, Side, VlId, is_sealed};
 use std::alloc::{AllocError, Global};
-use std::collections::{HashMap, HashSet};
+use std::collections::HashSet;
 
 /// Where a message goes: a link, and a UDP port on it.
 #[derive(Clone, Copy, Debug, PartialEq, Eq, Hash)]
@@ -35,21 +36,16 @@ pub(crate) struct Endpoint {
 /// that arrived, the newest first.
 #[derive(Drop)]
 pub struct Receiver {
-    links: HashMap<VlId, LinkMemory>,
+    links: Links,
     ports: HashSet<Endpoint>,
 }
 
 /// The memory of each link that goes to the system.
-fn links_of(
-    alloc: Global,
-    tables: &Tables,
-    system: SystemId,
-) -> Result<HashMap<VlId, LinkMemory>, AllocError>
-    ensures { IfOk result (λ links. (vl : VlId) →
-        hash.get is_same_link links vl
-        ≡ option_map memory_at_first (subscription tables.now system.0 vl.0)) }
+fn links_of(alloc: Global, tables: &Tables, system: SystemId) -> Result<Links, AllocError>
+    ensures { IfOk result (λ links. (vl : ℕ) →
+        memory_at links vl ≡ option_map memory_at_first (subscription tables.now system.0 vl)) }
 {
-    let mut links = HashMap::new(alloc);
+    let mut links = Links::new(alloc)?;
     let count = tables.link_count();
     for index in 0..count {
         let link = tables.link(index);
@@ -83,8 +79,8 @@ fn ports_of(
 }
 
 impl Receiver {
-    /// A receiver of the system, to which nothing arrived. It takes room for all that it will keep.
-    /// The error is want of memory alone.
+    /// A receiver of the system, to which nothing arrived. It takes room for all that it will keep,
+    /// and 256 KiB for finding links by their identifiers. The error is want of memory alone.
     pub fn new(alloc: Global, tables: &Tables, system: SystemId) -> Result<Receiver, AllocError>
         ensures stands { IfOk result (λ receiver. StandsFor tables.now system.0 receiver []) }
     {
@@ -100,7 +96,8 @@ impl Receiver {
     /// comes from the frames of the same link that arrived before, and from nothing else. Bytes
     /// that are no frame, and frames of links that don't go to the system, leave the receiver as it
     /// was. A frame that wins counts as the last winner also where its datagram or its UDP port is
-    /// refused. It takes no memory: a frame costs one check sequence and two look-ups.
+    /// refused. It takes no memory: a frame costs one check sequence, its link is found by its
+    /// identifier without a search, and a message costs one look-up of its UDP port.
     pub fn receive<'a>(&mut self, time: u64, side: Side, bytes: &'a [u8]) -> Reception<'a>
         ensures received { (tables : Rows) (system : ℕ) (past : List Arrived) →
             StandsFor tables system self.old past →
@@ -129,11 +126,11 @@ impl Receiver {
             Ok(frame) => frame,
             Err(fault) => return Reception::Dropped(DropReason::Mac(fault)),
         };
-        let vl = frame.vl();
-        let Some(memory) = self.links.get_mut(&vl) else {
+        let number = frame.sequence();
+        let Some(standing) = self.links.consider(frame.vl(), time, side, number) else {
             return Reception::Dropped(DropReason::NotSubscribed);
         };
-        match memory.consider(time, side, frame.sequence()) {
+        match standing {
             Standing::OutOfSequence => Reception::Dropped(DropReason::Sequence),
             Standing::Redundant => Reception::Dropped(DropReason::Redundant),
             Standing::Winner => self.read(frame),

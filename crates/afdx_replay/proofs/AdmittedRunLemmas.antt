@@ -1,5 +1,6 @@
 -- A replay of admitted tables tells what is promised.
-use Rattle.std.proofs.Common.{◌≡◌, ℕ, zero, suc, ◌+◌, ◌^◌, ◌≤◌, ◌||◌, Bool, true, false, nat_lt, List, [], ◌∷◌, length, refl, ap, ◌∙◌, subst, arith, inl, inr}
+use Rattle.std.proofs.Common.{◌≡◌, ℕ, zero, suc, ◌+◌, ◌^◌, ◌≤◌, ◌||◌, Bool, true, false, nat_lt}
+use Rattle.std.proofs.Common.{List, [], ◌∷◌, length, refl, ap, ◌∙◌, subst, arith, inl, inr}
 use Rattle.std.specs.Prelude.{Option, Some, None, Result, Ok, Err, All, IfSome, slice_index_or, if◌then◌else◌}
 use Rattle.std.specs.Str.Lines.{strip_carriage_return}
 use Rattle.std.specs.Io.KnownBytes.{Appends}
@@ -12,12 +13,13 @@ use Rattle.afdx_bounds.specs.Outputs.{AreTimed}
 use Rattle.afdx_switch.specs.Admitted.{IsAdmittedRun}
 use Rattle.afdx_lists.specs.Calls.{AppendsFront}
 use Rattle.afdx_lists.specs.Fields.{bytes_of_digits, is_skipped}
-use Rattle.afdx_lists.specs.FrameLines.{Frame, FrameFields, frame_fields, frame_with, numbers_fault, fields_say_with, fields_say, line_says}
+use Rattle.afdx_lists.specs.FrameLines.{Frame, FrameFields, frame_fields, frame_with, numbers_fault}
+use Rattle.afdx_lists.specs.FrameLines.{fields_say_with, fields_say, line_says}
 use Rattle.afdx_lists.specs.Lines.{lines_of}
 use Rattle.afdx_lists.specs.declared.fault.LineFault.{LineFault}
 use Rattle.afdx_lists.specs.declared.fault.LineFault.TheVariants.{TimeTooLarge, TimeBack, BadPort}
 use Rattle.afdx_lists.specs.declared.fault.RunFault.{RunFault}
-use Rattle.afdx_lists.specs.declared.fault.RunFault.TheVariants.{Read, Write, Memory}
+use Rattle.afdx_lists.specs.declared.fault.RunFault.TheVariants.{Read, Write, Memory, TooManyLines, LineTooLong}
 use Rattle.afdx_replay.specs.Lists.{items_of}
 use Rattle.afdx_replay.specs.Listed.{frames, latest_time, arrival_at, with_said, said_after, arrivals_of}
 use Rattle.afdx_replay.specs.ReplayPromises.{IsListed, ArrivalsAreListed}
@@ -31,9 +33,12 @@ use Rattle.afdx_replay.proofs.PromisedLemmas.{replay-promised, so-far-told, none
 -- ---- the times of a list's arrivals don't decrease
 
 numbers-later : (time port latest : ℕ) → numbers_fault time port latest ≡ None → latest ≤ time
-numbers-later time port latest none = by (nat_lt (10 ^ 15) time) (nat_lt time latest) (nat_lt port 1 || nat_lt 24 port) refl none
+numbers-later time port latest none =
+    by (nat_lt (10 ^ 15) time) (nat_lt time latest) (nat_lt port 1 || nat_lt 24 port) refl none
   where
-    by : (a b c : Bool) → nat_lt time latest ≡ b → (if a then Some TimeTooLarge else if b then Some TimeBack else if c then Some BadPort else None) ≡ None → latest ≤ time
+    by : (a b c : Bool) → nat_lt time latest ≡ b
+        → (if a then Some TimeTooLarge else if b then Some TimeBack else if c then Some BadPort else
+        None) ≡ None → latest ≤ time
     by true b c is h = absurd (cc h)
     by false true c is h = absurd (cc h)
     by false false c is h = ltb-false time latest is
@@ -43,27 +48,32 @@ time_in (Ok (Some frame)) = frame.time
 time_in (Ok None) = 0
 time_in (Err fault) = 0
 
-with-time : (fields : FrameFields) (bytes : Option (List ℕ)) (frame : Frame) → frame_with fields bytes ≡ Ok (Some frame) → fields.time ≡ frame.time
+with-time : (fields : FrameFields) (bytes : Option (List ℕ)) (frame : Frame)
+    → frame_with fields bytes ≡ Ok (Some frame) → fields.time ≡ frame.time
 unfolding time_in
 with-time fields None frame h = absurd (cc h)
 with-time fields (Some bytes) frame h = ap time_in h
 
-fields-later : (latest : ℕ) (o : Option FrameFields) (frame : Frame) → fields_say latest o ≡ Ok (Some frame) → latest ≤ frame.time
+fields-later : (latest : ℕ) (o : Option FrameFields) (frame : Frame)
+    → fields_say latest o ≡ Ok (Some frame) → latest ≤ frame.time
 fields-later latest None frame h = absurd (cc h)
 fields-later latest (Some fields) frame h = by (numbers_fault fields.time fields.port latest) refl h
   where
-    by : (n : Option LineFault) → numbers_fault fields.time fields.port latest ≡ n → fields_say_with fields n ≡ Ok (Some frame) → latest ≤ frame.time
+    by : (n : Option LineFault) → numbers_fault fields.time fields.port latest ≡ n
+        → fields_say_with fields n ≡ Ok (Some frame) → latest ≤ frame.time
     by (Some fault) some is = absurd (cc is)
     by None none is =
         let later = numbers-later fields.time fields.port latest none in
         let same = with-time fields (bytes_of_digits fields.digits) frame is in
         omega (arith, later, same)
 
-says-later : (latest : ℕ) (line : List ℕ) (frame : Frame) → line_says latest line ≡ Ok (Some frame) → latest ≤ frame.time
+says-later : (latest : ℕ) (line : List ℕ) (frame : Frame) → line_says latest line ≡ Ok (Some frame)
+    → latest ≤ frame.time
 unfolding line_says
 says-later latest line frame h = by (is_skipped (strip_carriage_return line)) h
   where
-    by : (b : Bool) → (if b then Ok None else fields_say latest (frame_fields (strip_carriage_return line))) ≡ Ok (Some frame) → latest ≤ frame.time
+    by : (b : Bool) → (if b then Ok None else fields_say latest
+        (frame_fields (strip_carriage_return line))) ≡ Ok (Some frame) → latest ≤ frame.time
     by true is = absurd (cc is)
     by false is = fields-later latest (frame_fields (strip_carriage_return line)) frame is
 
@@ -75,9 +85,12 @@ latest-most (x ∷ past) timed (suc k) d lt = timed.0 k d (omega (arith, lt))
 pub arrivals-timed : (lines : List (List ℕ)) (n : ℕ) → AreTimed (arrivals_of lines n)
 unfolding items_of
 arrivals-timed lines zero = tt
-arrivals-timed lines (suc n) = by (said_after (arrivals_of lines n) (slice_index_or lines n [])) refl (arrivals-timed lines n)
+arrivals-timed lines (suc n) = by (said_after (arrivals_of lines n) (slice_index_or lines n []))
+    refl (arrivals-timed lines n)
   where
-    by : (r : Result (Option Frame) LineFault) → said_after (arrivals_of lines n) (slice_index_or lines n []) ≡ r → AreTimed (arrivals_of lines n) → AreTimed (with_said (suc n) r (arrivals_of lines n))
+    by : (r : Result (Option Frame) LineFault)
+        → said_after (arrivals_of lines n) (slice_index_or lines n []) ≡ r
+        → AreTimed (arrivals_of lines n) → AreTimed (with_said (suc n) r (arrivals_of lines n))
     by (Err fault) is timed = timed
     by (Ok None) is timed = timed
     by (Ok (Some frame)) is timed =
@@ -89,16 +102,34 @@ arrivals-timed lines (suc n) = by (said_after (arrivals_of lines n) (slice_index
 pub arrivals-listed : ArrivalsAreListed
 unfolding items_of
 arrivals-listed list zero x h = absurd h
-arrivals-listed list (suc n) x h = by (said_after (arrivals_of list n) (slice_index_or list n [])) refl h (λ later. arrivals-listed list n x later)
+arrivals-listed list (suc n) x h = by (said_after (arrivals_of list n) (slice_index_or list n []))
+    refl h (λ later. arrivals-listed list n x later)
   where
     earlier : IsListed list n x → IsListed list (suc n) x
-    earlier is = record { place = is.place; below = omega (arith, is.below); frame = is.frame; said = is.said; is = is.is }
+    earlier is = record {
+      place = is.place;
+      below = omega (arith, is.below);
+      frame = is.frame;
+      said = is.said;
+      is = is.is;
+    }
 
-    by : (r : Result (Option Frame) LineFault) → said_after (arrivals_of list n) (slice_index_or list n []) ≡ r → IsIn x (with_said (suc n) r (arrivals_of list n)) → (IsIn x (arrivals_of list n) → IsListed list n x) → IsListed list (suc n) x
+    by : (r : Result (Option Frame) LineFault)
+        → said_after (arrivals_of list n) (slice_index_or list n []) ≡ r
+        → IsIn x (with_said (suc n) r (arrivals_of list n))
+        → (IsIn x (arrivals_of list n) → IsListed list n x) → IsListed list (suc n) x
     by (Err fault) is g rest = earlier (rest g)
     by (Ok None) is g rest = earlier (rest g)
     by (Ok (Some frame)) is (inr later) rest = earlier (rest later)
-    by (Ok (Some frame)) is (inl same) rest = record { place = n; below = omega arith; frame = frame; said = is; is = same ∙ ap (λ k. arrival_at k frame) one }
+    by (Ok (Some frame)) is (inl same) rest =
+        record {
+          place = n;
+          below = omega arith;
+          frame = frame;
+          said = is;
+          is = same
+              ∙ ap (λ k. arrival_at k frame) one;
+        }
       where
         one : suc n ≡ n + 1
         one = omega arith
@@ -109,30 +140,42 @@ module _ (t : Rows) (bytes : List ℕ) (old new : Option (List ℕ)) (lawful : I
   run-of : (n : ℕ) → IsAdmittedRun t (arrivals_of (lines_of bytes) n)
   run-of n = record { lawful = lawful; admitted = admitted; timed = arrivals-timed (lines_of bytes) n }
 
-  all-told : (n : ℕ) → WritesSoFar t old new (arrivals_of (lines_of bytes) n) → WritesPromisedSoFar t old new (arrivals_of (lines_of bytes) n)
+  all-told : (n : ℕ) → WritesSoFar t old new (arrivals_of (lines_of bytes) n)
+      → WritesPromisedSoFar t old new (arrivals_of (lines_of bytes) n)
   all-told n written =
       let told = so-far-told t (arrivals_of (lines_of bytes) n) (run-of n) in
       record { lines = told.lines; written = subst (Appends old new) told.written written; promises = told.promises }
 
-  some-told : (n : ℕ) → WritesSome t old new (arrivals_of (lines_of bytes) n) → WritesPromisedSome t old new (arrivals_of (lines_of bytes) n)
+  some-told : (n : ℕ) → WritesSome t old new (arrivals_of (lines_of bytes) n)
+      → WritesPromisedSome t old new (arrivals_of (lines_of bytes) n)
   some-told n written =
       let told = replay-promised t (arrivals_of (lines_of bytes) n) (run-of n) in
-      record { lines = told.lines; written = subst (AppendsFront old new) told.written written; promises = told.promises }
+      record {
+        lines = told.lines;
+        written = subst (AppendsFront old new) told.written written;
+        promises = told.promises;
+      }
 
-  told-all : (n : ℕ) → IsToldOf frames (WritesSoFar t old new) (lines_of bytes) n → IsToldOf frames (WritesPromisedSoFar t old new) (lines_of bytes) n
+  told-all : (n : ℕ) → IsToldOf frames (WritesSoFar t old new) (lines_of bytes) n
+      → IsToldOf frames (WritesPromisedSoFar t old new) (lines_of bytes) n
   told-all n told = record { within = told.within; sound = told.sound; are_told = all-told n told.are_told }
 
-  told-some : (n : ℕ) → IsToldOf frames (WritesSome t old new) (lines_of bytes) n → IsToldOf frames (WritesPromisedSome t old new) (lines_of bytes) n
+  told-some : (n : ℕ) → IsToldOf frames (WritesSome t old new) (lines_of bytes) n
+      → IsToldOf frames (WritesPromisedSome t old new) (lines_of bytes) n
   told-some n told = record { within = told.within; sound = told.sound; are_told = some-told n told.are_told }
 
-  stops-promised : (rest : Option (List ℕ)) (fault : RunFault) → StopsAt (WritesSoFar t old new) (WritesSome t old new) bytes rest fault →
+  stops-promised : (rest : Option (List ℕ)) (fault : RunFault)
+      → StopsAt (WritesSoFar t old new) (WritesSome t old new) bytes rest fault →
       StopsAt (WritesPromisedSoFar t old new) (WritesPromisedSome t old new) bytes rest fault
   stops-promised rest Read h = (h.0, h.1, told-all h.0 h.2)
-  stops-promised rest Write h = (h.0, told-some h.0 h.1)
-  stops-promised rest Memory h = (h.0, told-some h.0 h.1)
-  stops-promised rest fault h = (h.0, h.1, all-told h.0 h.2)
+  stops-promised rest Write h = (h.0, h.1, told-some h.0 h.2)
+  stops-promised rest Memory h = (h.0, h.1, told-some h.0 h.2)
+  stops-promised rest TooManyLines h = (h.0, h.1, all-told h.0 h.2)
+  stops-promised rest (LineTooLong m) h = (h.0, h.1, all-told h.0 h.2)
+  stops-promised rest fault h = (h.0, h.1, h.2, all-told h.0 h.3)
 
-  pub promised-answers : (rest : Option (List ℕ)) (r : Result Summary RunFault) → Answers t bytes rest old new r → PromisedAnswers t bytes rest old new r
+  pub promised-answers : (rest : Option (List ℕ)) (r : Result Summary RunFault)
+      → Answers t bytes rest old new r → PromisedAnswers t bytes rest old new r
   promised-answers rest (Err fault) stops = stops-promised rest fault stops
   promised-answers rest (Ok summary) all =
       let list = lines_of bytes in
@@ -151,6 +194,8 @@ module _ (t : Rows) (bytes : List ℕ) (old new : Option (List ℕ)) (lawful : I
       }
 
 -- where the input's bytes are known
-pub if-known : (t : Rows) (o rest old new : Option (List ℕ)) (r : Result Summary RunFault) → IsLawful t → IsAdmitted t → IfSome o (λ bytes. Answers t bytes rest old new r) → IfSome o (λ bytes. PromisedAnswers t bytes rest old new r)
+pub if-known : (t : Rows) (o rest old new : Option (List ℕ)) (r : Result Summary RunFault)
+    → IsLawful t → IsAdmitted t → IfSome o (λ bytes. Answers t bytes rest old new r)
+    → IfSome o (λ bytes. PromisedAnswers t bytes rest old new r)
 if-known t None rest old new r lawful admitted h = tt
 if-known t (Some bytes) rest old new r lawful admitted h = promised-answers t bytes old new lawful admitted rest r h

@@ -1,3 +1,4 @@
+pub mod Progress
 pub mod RunLemmas
 pub mod TextLemmas
 pub mod ToldLemmas

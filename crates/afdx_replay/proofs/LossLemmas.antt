@@ -1,5 +1,7 @@
 -- The ports of a switch, one after another, and the lines of the copies that were lost there.
-use Rattle.std.proofs.Common.{◌≡◌, ℕ, zero, suc, ◌+◌, ◌≤◌, ◌<◌, Bool, true, false, List, [], ◌∷◌, ◌++◌, length, take, refl, ap, sym, ◌∙◌, arith, append_assoc, add-one, if◌then◌else◌}
+use Rattle.std.proofs.Common.{◌≡◌, ℕ, zero, suc, ◌+◌, ◌≤◌, ◌<◌, Bool, true, false, List, [], ◌∷◌}
+use Rattle.std.proofs.Common.{◌++◌, length, take, refl, ap, sym, ◌∙◌, arith, append_assoc, add-one}
+use Rattle.std.proofs.Common.{if◌then◌else◌}
 use Rattle.std.specs.Prelude.{filter}
 use Rattle.afdx_frame.specs.declared.link.Side.{Side}
 use Rattle.afdx_switch.specs.Ports.{holds}
@@ -22,14 +24,19 @@ take-count k zero i below = absurd (omega (arith, below))
 take-count k (suc n) zero below = let same : k ≡ k + 0 = omega arith in ap (λ (m : ℕ). m ∷ []) same
 take-count k (suc n) (suc i) below =
     let same : suc k + i ≡ k + suc i = omega arith in
-    ap (λ (xs : List ℕ). k ∷ xs) (take-count (suc k) n i (omega (arith, below)) ∙ ap (λ (m : ℕ). take i (count_from (suc k) n) ++ m ∷ []) same)
+    ap (λ (xs : List ℕ). k ∷ xs)
+    (take-count (suc k) n i (omega (arith, below))
+    ∙ ap (λ (m : ℕ). take i (count_from (suc k) n) ++ m ∷ []) same)
 
 take-ports : (i : ℕ) → i < 24 → take (i + 1) numbers ≡ take i numbers ++ (i + 1) ∷ []
 take-ports i below =
     let same : 1 + i ≡ suc i = omega arith in
-    rw add-one (ap (λ (xs : List ℕ). take (suc i) xs) numbers-are ∙ take-count 1 24 i below ∙ ap (λ (xs : List ℕ). take i xs ++ (1 + i) ∷ []) (sym numbers-are) ∙ ap (λ (m : ℕ). take i numbers ++ m ∷ []) same)
+    rw add-one (ap (λ (xs : List ℕ). take (suc i) xs) numbers-are ∙ take-count 1 24 i below
+    ∙ ap (λ (xs : List ℕ). take i xs ++ (1 + i) ∷ []) (sym numbers-are)
+    ∙ ap (λ (m : ℕ). take i numbers ++ m ∷ []) same)
 
-filter-push : (f : ℕ → Bool) (xs : List ℕ) (y : ℕ) → filter f (xs ++ y ∷ []) ≡ filter f xs ++ (if f y then y ∷ [] else [])
+filter-push : (f : ℕ → Bool) (xs : List ℕ) (y : ℕ) → filter f (xs ++ y ∷ []) ≡ filter f xs
+    ++ (if f y then y ∷ [] else [])
 filter-push f [] y = by (f y)
   where
     by : (b : Bool) → (if b then y ∷ [] else []) ≡ (if b then y ∷ [] else [])
@@ -37,20 +44,27 @@ filter-push f [] y = by (f y)
 filter-push f (x ∷ xs) y = by (f x) (filter-push f xs y)
   where
     by : (b : Bool) → filter f (xs ++ y ∷ []) ≡ filter f xs ++ (if f y then y ∷ [] else []) →
-        (if b then x ∷ filter f (xs ++ y ∷ []) else filter f (xs ++ y ∷ [])) ≡ (if b then x ∷ filter f xs else filter f xs) ++ (if f y then y ∷ [] else [])
+        (if b then x ∷ filter f (xs ++ y ∷ []) else filter f (xs ++ y ∷ []))
+        ≡ (if b then x ∷ filter f xs else filter f xs) ++ (if f y then y ∷ [] else [])
     by true rest = ap (λ (zs : List ℕ). x ∷ zs) rest
     by false rest = rest
 
-lines-push : (n : ℕ) (side : Side) (xs : List ℕ) (y : ℕ) (b : Bool) → loss_lines n side (xs ++ (if b then y ∷ [] else [])) ≡ loss_lines n side xs ++ (if b then loss_line n side y else [])
+lines-push : (n : ℕ) (side : Side) (xs : List ℕ) (y : ℕ) (b : Bool)
+    → loss_lines n side (xs ++ (if b then y ∷ [] else [])) ≡ loss_lines n side xs
+    ++ (if b then loss_line n side y else [])
 lines-push n side [] y true = append_nil (loss_line n side y)
   where
     append_nil : (zs : List ℕ) → zs ++ [] ≡ zs
     append_nil [] = refl
     append_nil (z ∷ zs) = ap (λ (ws : List ℕ). z ∷ ws) (append_nil zs)
 lines-push n side [] y false = refl
-lines-push n side (x ∷ xs) y b = ap (λ (zs : List ℕ). loss_line n side x ++ zs) (lines-push n side xs y b) ∙ sym (append_assoc (loss_line n side x) (loss_lines n side xs) (if b then loss_line n side y else []))
+lines-push n side (x ∷ xs) y b =
+    ap (λ (zs : List ℕ). loss_line n side x ++ zs) (lines-push n side xs y b)
+    ∙ sym (append_assoc (loss_line n side x) (loss_lines n side xs)
+    (if b then loss_line n side y else []))
 
-count-push : (xs : List ℕ) (y : ℕ) (b : Bool) → length (xs ++ (if b then y ∷ [] else [])) ≡ length xs + (if b then 1 else 0)
+count-push : (xs : List ℕ) (y : ℕ) (b : Bool) → length (xs ++ (if b then y ∷ [] else []))
+    ≡ length xs + (if b then 1 else 0)
 count-push [] y true = omega arith
 count-push [] y false = omega arith
 count-push (x ∷ xs) y b = let rest = count-push xs y b in omega (arith, rest)
@@ -59,7 +73,8 @@ count-push (x ∷ xs) y b = let rest = count-push xs y b in omega (arith, rest)
 abbrev pub lost_below : (ℕ → Bool) → ℕ → List ℕ
 lost_below f i = filter f (take i numbers)
 
-lost-more : (f : ℕ → Bool) (i : ℕ) → i < 24 → lost_below f (i + 1) ≡ lost_below f i ++ (if f (i + 1) then (i + 1) ∷ [] else [])
+lost-more : (f : ℕ → Bool) (i : ℕ) → i < 24 → lost_below f (i + 1) ≡ lost_below f i
+    ++ (if f (i + 1) then (i + 1) ∷ [] else [])
 lost-more f i below = ap (λ (xs : List ℕ). filter f xs) (take-ports i below) ∙ filter-push f (take i numbers) (i + 1)
 
 -- at the end all of them
@@ -70,17 +85,25 @@ all-below set i e = ap (λ (k : ℕ). lost_below (holds set) k) e ∙ all
     all : lost_below (holds set) 24 ≡ filter (holds set) numbers
     all = refl
 
-pub lines-more : (n : ℕ) (side : Side) (f : ℕ → Bool) (i : ℕ) (b : Bool) (old text more : List ℕ) → i < 24 → b ≡ f (i + 1) → text ≡ old ++ loss_lines n side (lost_below f i) → more ≡ text ++ (if b then loss_line n side (i + 1) else []) →
+pub lines-more : (n : ℕ) (side : Side) (f : ℕ → Bool) (i : ℕ) (b : Bool) (old text more : List ℕ)
+    → i < 24 → b ≡ f (i + 1) → text ≡ old ++ loss_lines n side (lost_below f i)
+    → more ≡ text ++ (if b then loss_line n side (i + 1) else []) →
     more ≡ old ++ loss_lines n side (lost_below f (i + 1))
 lines-more n side f i b old text more below is e k =
-    k ∙ ap (λ (xs : List ℕ). xs ++ (if b then loss_line n side (i + 1) else [])) e ∙ append_assoc old (loss_lines n side (lost_below f i)) (if b then loss_line n side (i + 1) else [])
+    k ∙ ap (λ (xs : List ℕ). xs ++ (if b then loss_line n side (i + 1) else [])) e
+    ∙ append_assoc old (loss_lines n side (lost_below f i))
+    (if b then loss_line n side (i + 1) else [])
     ∙ ap (λ (c : Bool). old ++ (loss_lines n side (lost_below f i) ++ (if c then loss_line n side (i + 1) else []))) is
     ∙ ap (λ (xs : List ℕ). old ++ xs) (sym (lines-push n side (lost_below f i) (i + 1) (f (i + 1))))
     ∙ ap (λ (xs : List ℕ). old ++ loss_lines n side xs) (sym (lost-more f i below))
 
-pub count-more : (f : ℕ → Bool) (i : ℕ) (b : Bool) (count more total : ℕ) → i < 24 → b ≡ f (i + 1) → count ≡ length (lost_below f i) → more ≡ (if b then 1 else 0) → total ≡ count + more → total ≡ length (lost_below f (i + 1))
+pub count-more : (f : ℕ → Bool) (i : ℕ) (b : Bool) (count more total : ℕ) → i < 24 → b ≡ f (i + 1)
+    → count ≡ length (lost_below f i) → more ≡ (if b then 1 else 0) → total ≡ count + more
+    → total ≡ length (lost_below f (i + 1))
 count-more f i b count more total below is e k s =
-    let pushed : length (lost_below f (i + 1)) ≡ length (lost_below f i) + (if f (i + 1) then 1 else 0) = ap length (lost-more f i below) ∙ count-push (lost_below f i) (i + 1) (f (i + 1)) in
+    let pushed : length (lost_below f (i + 1))
+    ≡ length (lost_below f i) + (if f (i + 1) then 1 else 0) = ap length (lost-more f i below)
+    ∙ count-push (lost_below f i) (i + 1) (f (i + 1)) in
     let one : more ≡ (if f (i + 1) then 1 else 0) = k ∙ ap (λ (c : Bool). if c then 1 else 0) is in
     omega (arith, pushed, one, e, s)
 

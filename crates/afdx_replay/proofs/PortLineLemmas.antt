@@ -1,5 +1,8 @@
 -- The arrivals at a port are those that the lines at the port say.
-use Rattle.std.proofs.Common.{◌≡◌, ℕ, zero, suc, ◌+◌, ◌<◌, ◌≤◌, ◌^◌, ◌==◌, ◌&&◌, ◌||◌, Bool, true, false, if◌then◌else◌, List, [], ◌∷◌, ◌++◌, length, take, filter, Option, Some, None, refl, sym, ap, subst, ◌∙◌, arith, nat_lt, nat_le, slice_index_or}
+use Rattle.std.proofs.Common.{◌≡◌, ℕ, zero, suc, ◌+◌, ◌<◌, ◌≤◌, ◌^◌, ◌==◌, ◌&&◌, ◌||◌, Bool, true}
+use Rattle.std.proofs.Common.{false, if◌then◌else◌, List, [], ◌∷◌, ◌++◌, length, take, filter}
+use Rattle.std.proofs.Common.{Option, Some, None, refl, sym, ap, subst, ◌∙◌, arith, nat_lt, nat_le}
+use Rattle.std.proofs.Common.{slice_index_or}
 use Rattle.std.specs.Prelude.{Result, Ok, Err}
 use Rattle.std.specs.Str.Lines.{strip_carriage_return}
 use Rattle.std.proofs.lemmas.Bool.Decides.{nat_tests}
@@ -25,23 +28,32 @@ none-before : (time : ℕ) → nat_lt time 0 ≡ false
 none-before time = grind (arith, nat_tests)
 
 abbrev with_tests : FrameFields → Bool → Bool → Bool → Result (Option Frame) LineFault
-with_tests fields large back wrong = fields_say_with fields (if large then Some TimeTooLarge else if back then Some TimeBack else if wrong then Some BadPort else None)
+with_tests fields large back wrong =
+    fields_say_with fields (if large then Some TimeTooLarge else if back then Some TimeBack else if
+    wrong then Some BadPort else None)
 
-tests-alone : (fields : FrameFields) (large back wrong : Bool) (o : Option Frame) → with_tests fields large back wrong ≡ Ok o → with_tests fields large false wrong ≡ Ok o
+tests-alone : (fields : FrameFields) (large back wrong : Bool) (o : Option Frame)
+    → with_tests fields large back wrong ≡ Ok o → with_tests fields large false wrong ≡ Ok o
 tests-alone fields true back wrong o h = h
 tests-alone fields false true wrong o h = absurd (cc h)
 tests-alone fields false false wrong o h = h
 
-fields-alone : (latest : ℕ) (found : Option FrameFields) (o : Option Frame) → fields_say latest found ≡ Ok o → fields_say 0 found ≡ Ok o
+fields-alone : (latest : ℕ) (found : Option FrameFields) (o : Option Frame)
+    → fields_say latest found ≡ Ok o → fields_say 0 found ≡ Ok o
 fields-alone latest None o h = h
 fields-alone latest (Some fields) o h =
-    rw (none-before fields.time) (tests-alone fields (nat_lt (10 ^ 15) fields.time) (nat_lt fields.time latest) (nat_lt fields.port 1 || nat_lt 24 fields.port) o h)
+    rw (none-before fields.time)
+    (tests-alone fields (nat_lt (10 ^ 15) fields.time) (nat_lt fields.time latest)
+    (nat_lt fields.port 1 || nat_lt 24 fields.port) o h)
 
-pub says-alone : (latest : ℕ) (line : List ℕ) (o : Option Frame) → line_says latest line ≡ Ok o → line_says 0 line ≡ Ok o
+pub says-alone : (latest : ℕ) (line : List ℕ) (o : Option Frame) → line_says latest line ≡ Ok o
+    → line_says 0 line ≡ Ok o
 unfolding line_says
 says-alone latest line o h = by (is_skipped (strip_carriage_return line)) h
   where
-    by : (b : Bool) → (if b then Ok None else fields_say latest (frame_fields (strip_carriage_return line))) ≡ Ok o → (if b then Ok None else fields_say 0 (frame_fields (strip_carriage_return line))) ≡ Ok o
+    by : (b : Bool) → (if b then Ok None else fields_say latest
+        (frame_fields (strip_carriage_return line))) ≡ Ok o
+        → (if b then Ok None else fields_say 0 (frame_fields (strip_carriage_return line))) ≡ Ok o
     by true k = k
     by false k = fields-alone latest (frame_fields (strip_carriage_return line)) o k
 
@@ -57,46 +69,79 @@ pub record IsSaidBy (line : List ℕ) (x : Arrival) : Type 0 where
 -- arrivals, the newest first, are those of these lines
 abbrev pub AreSaidBy : List Arrival → List (List ℕ) → Type 0
 AreSaidBy [] lines = lines ≡ []
-AreSaidBy (x ∷ past) lines = (front : List (List ℕ)) × (line : List ℕ) × (lines ≡ front ++ line ∷ []) × IsSaidBy line x × AreSaidBy past front
+AreSaidBy (x ∷ past) lines = (front : List (List ℕ)) × (line : List ℕ)
+    × (lines ≡ front ++ line ∷ []) × IsSaidBy line x × AreSaidBy past front
 
 module _ (side : Side) (port : ℕ) where
   abbrev at_port : List ℕ → Bool
   at_port line = says_at side port (line_says 0 line)
 
-  line-more : (list : List (List ℕ)) (n : ℕ) → n < length list → lines_at side port (take (suc n) list) ≡ lines_at side port (take n list) ++ filter at_port (slice_index_or list n [] ∷ [])
-  line-more list n lt = ap (filter at_port) (take-suc list n [] lt) ∙ filter-append at_port (take n list) (slice_index_or list n [] ∷ [])
+  line-more : (list : List (List ℕ)) (n : ℕ) → n < length list
+      → lines_at side port (take (suc n) list) ≡ lines_at side port (take n list)
+      ++ filter at_port (slice_index_or list n [] ∷ [])
+  line-more list n lt = ap (filter at_port) (take-suc list n [] lt)
+      ∙ filter-append at_port (take n list) (slice_index_or list n [] ∷ [])
 
-  line-off : (list : List (List ℕ)) (n : ℕ) → n < length list → at_port (slice_index_or list n []) ≡ false → lines_at side port (take (suc n) list) ≡ lines_at side port (take n list)
-  line-off list n lt off = line-more list n lt ∙ ap (λ b. lines_at side port (take n list) ++ (if b then slice_index_or list n [] ∷ [] else [])) off ∙ append-nil (lines_at side port (take n list))
+  line-off : (list : List (List ℕ)) (n : ℕ) → n < length list → at_port (slice_index_or list n [])
+      ≡ false → lines_at side port (take (suc n) list) ≡ lines_at side port (take n list)
+  line-off list n lt off = line-more list n lt
+      ∙ ap (λ b. lines_at side port (take n list)
+      ++ (if b then slice_index_or list n [] ∷ [] else [])) off
+      ∙ append-nil (lines_at side port (take n list))
 
-  line-on : (list : List (List ℕ)) (n : ℕ) → n < length list → at_port (slice_index_or list n []) ≡ true → lines_at side port (take (suc n) list) ≡ lines_at side port (take n list) ++ slice_index_or list n [] ∷ []
-  line-on list n lt on = line-more list n lt ∙ ap (λ b. lines_at side port (take n list) ++ (if b then slice_index_or list n [] ∷ [] else [])) on
+  line-on : (list : List (List ℕ)) (n : ℕ) → n < length list → at_port (slice_index_or list n [])
+      ≡ true → lines_at side port (take (suc n) list) ≡ lines_at side port (take n list)
+      ++ slice_index_or list n [] ∷ []
+  line-on list n lt on = line-more list n lt
+      ∙ ap (λ b. lines_at side port (take n list) ++ (if b then slice_index_or list n [] ∷ [] else [])) on
 
-  said-ok : (list : List (List ℕ)) (n : ℕ) (fault : LineFault) → fault_in frames list n ≡ None → item_said frames list n ≡ Err fault → ⊥
+  said-ok : (list : List (List ℕ)) (n : ℕ) (fault : LineFault) → fault_in frames list n ≡ None
+      → item_said frames list n ≡ Err fault → ⊥
   said-ok list n fault none e = by (nat_le 1000000 n) (nat_lt 4200 (length (slice_index_or list n []))) (rw e at none)
     where
-      by : (many long : Bool) → (if many then Some run.TooManyLines else if long then Some (run.LineTooLong (n + 1)) else fault_said {Y = Frame} (n + 1) (Err fault)) ≡ None → ⊥
+      by : (many long : Bool) →
+          (if many then Some run.TooManyLines else if long then Some (run.LineTooLong (n + 1)) else
+          fault_said {Y = Frame} (n + 1) (Err fault)) ≡ None → ⊥
       by true long h = cc h
       by false true h = cc h
       by false false h = cc h
 
-  pub said-by : (list : List (List ℕ)) (n : ℕ) → n ≤ length list → AreSound list n → AreSaidBy (arrivals_at side port (arrivals_of list n)) (lines_at side port (take n list))
+  pub said-by : (list : List (List ℕ)) (n : ℕ) → n ≤ length list → AreSound list n
+      → AreSaidBy (arrivals_at side port (arrivals_of list n)) (lines_at side port (take n list))
   unfolding items_of
   said-by list zero le sound = refl
-  said-by list (suc n) le sound = by (item_said frames list n) refl (said-by list n (omega (arith, le)) (λ i lt. sound i (omega (arith, lt))))
+  said-by list (suc n) le sound =
+      by (item_said frames list n) refl
+      (said-by list n (omega (arith, le)) (λ i lt. sound i (omega (arith, lt))))
     where
       line : List ℕ
       line = slice_index_or list n []
 
-      by_test : (f : Frame) → item_said frames list n ≡ Ok (Some f) → (b : Bool) → (is_side side f.side && (port == f.port)) ≡ b → AreSaidBy (arrivals_at side port (arrivals_of list n)) (lines_at side port (take n list)) →
-          AreSaidBy (if b then arrival_at (suc n) f ∷ arrivals_at side port (arrivals_of list n) else arrivals_at side port (arrivals_of list n)) (lines_at side port (take (suc n) list))
-      by_test f e true test rest =
-          (lines_at side port (take n list), line, line-on list n (omega (arith, le)) (ap (says_at side port) (says-alone _ line (Some f) e) ∙ test), record { frame = f; said = says-alone _ line (Some f) e; time = refl; bytes = refl }, rest)
+      by_test : (f : Frame) → item_said frames list n ≡ Ok (Some f) → (b : Bool)
+          → (is_side side f.side && (port == f.port)) ≡ b
+          → AreSaidBy (arrivals_at side port (arrivals_of list n)) (lines_at side port (take n list)) →
+          AreSaidBy (if b then arrival_at (suc n) f ∷ arrivals_at side port (arrivals_of list n)
+          else arrivals_at side port (arrivals_of list n)) (lines_at side port (take (suc n) list))
+      by_test f e true test rest = (
+        lines_at side port (take n list),
+        line,
+        line-on list n (omega (arith, le))
+            (ap (says_at side port) (says-alone _ line (Some f) e) ∙ test),
+        record { frame = f; said = says-alone _ line (Some f) e; time = refl; bytes = refl },
+        rest,
+      )
       by_test f e false test rest =
-          subst (λ (z : List (List ℕ)). AreSaidBy (arrivals_at side port (arrivals_of list n)) z) (sym (line-off list n (omega (arith, le)) (ap (says_at side port) (says-alone _ line (Some f) e) ∙ test))) rest
+          subst (λ (z : List (List ℕ)). AreSaidBy (arrivals_at side port (arrivals_of list n)) z)
+          (sym (line-off list n (omega (arith, le))
+          (ap (says_at side port) (says-alone _ line (Some f) e) ∙ test))) rest
 
-      by : (r : Result (Option Frame) LineFault) → item_said frames list n ≡ r → AreSaidBy (arrivals_at side port (arrivals_of list n)) (lines_at side port (take n list)) →
-          AreSaidBy (arrivals_at side port (with_item frames (suc n) r (arrivals_of list n))) (lines_at side port (take (suc n) list))
+      by : (r : Result (Option Frame) LineFault) → item_said frames list n ≡ r
+          → AreSaidBy (arrivals_at side port (arrivals_of list n)) (lines_at side port (take n list)) →
+          AreSaidBy (arrivals_at side port (with_item frames (suc n) r (arrivals_of list n)))
+          (lines_at side port (take (suc n) list))
       by (Ok (Some f)) e rest = by_test f e (is_side side f.side && (port == f.port)) refl rest
-      by (Ok None) e rest = subst (λ (z : List (List ℕ)). AreSaidBy (arrivals_at side port (arrivals_of list n)) z) (sym (line-off list n (omega (arith, le)) (ap (says_at side port) (says-alone _ line None e)))) rest
+      by (Ok None) e rest = subst
+          (λ (z : List (List ℕ)). AreSaidBy (arrivals_at side port (arrivals_of list n)) z)
+          (sym (line-off list n (omega (arith, le))
+          (ap (says_at side port) (says-alone _ line None e)))) rest
       by (Err fault) e rest = absurd (said-ok list n fault (sound n (omega arith)) e)

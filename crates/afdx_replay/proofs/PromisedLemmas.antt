@@ -1,5 +1,6 @@
 -- What a replay tells of a network whose tables are admitted.
-use Rattle.std.proofs.Common.{append_assoc, ◌≡◌, ℕ, ◌==◌, ◌&&◌, Bool, true, false, not, List, [], ◌∷◌, ◌++◌, length, refl, sym, ap, ◌∙◌, arith, inl, inr}
+use Rattle.std.proofs.Common.{append_assoc, ◌≡◌, ℕ, ◌==◌, ◌&&◌, Bool, true, false, not, List, []}
+use Rattle.std.proofs.Common.{◌∷◌, ◌++◌, length, refl, sym, ap, ◌∙◌, arith, inl, inr}
 use Rattle.std.specs.Prelude.{Option, Some, None, if◌then◌else◌}
 use Rattle.afdx_frame.proofs.BuiltLemmas.{built_is_computed}
 use Rattle.afdx_config.specs.Reading.{system_at_port}
@@ -20,7 +21,9 @@ use Rattle.afdx_systems.specs.Handovers.{came_to, arrival_of}
 use Rattle.afdx_systems.specs.Receptions.{line_at, reception_line, is_delivered}
 use Rattle.afdx_replay.specs.PoliceText.{verdict_line}
 use Rattle.afdx_replay.specs.ReplayPromises.{text_of, ReplayIsAsPromised, ReplaySoFarIsAsPromised, NoneIsCounted}
-use Rattle.afdx_replay.specs.ReplayText.{handed_over, frames_left, loss_lines, departure_line, heard, lines_after, replay_text, replay_counts, with_admission, with_departure}
+use Rattle.afdx_replay.specs.ReplayText.{handed_over, frames_left, loss_lines, departure_line}
+use Rattle.afdx_replay.specs.ReplayText.{heard, lines_after, replay_text, replay_counts}
+use Rattle.afdx_replay.specs.ReplayText.{with_admission, with_departure}
 use Rattle.afdx_replay.specs.declared.summary.Summary.{Summary}
 
 -- ---- events of which no copy is lost and none is too old
@@ -45,38 +48,61 @@ handed-are-brought port (Came c ∷ before) = handed-are-brought port before
 handed-are-brought port (Left d ∷ before) = by d.turn.too_old (d.port == port) (handed-are-brought port before)
   where
     by : (old here : Bool) → came_to port (frames_left before) ≡ brought_by port before →
-        came_to port (if old then frames_left before else handed_over d ∷ frames_left before) ≡ (if (d.port == port) && not old then brought d.side d.turn ∷ brought_by port before else brought_by port before)
-    by true here rest = rest ∙ sym (ap (λ b. if b then brought d.side d.turn ∷ brought_by port before else brought_by port before) (and-false (d.port == port)))
+        came_to port (if old then frames_left before else handed_over d ∷ frames_left before)
+        ≡ (if (d.port == port) && not old then brought d.side d.turn
+        ∷ brought_by port before else brought_by port before)
+    by true here rest = rest
+        ∙ sym (ap (λ b. if b then brought d.side d.turn ∷ brought_by port before else brought_by
+        port before) (and-false (d.port == port)))
       where
         and-false : (b : Bool) → (b && false) ≡ false
         and-false true = refl
         and-false false = refl
     by false here rest = at (d.port == port)
       where
-        at : (b : Bool) → (if b then arrival_of (handed_over d) ∷ came_to port (frames_left before) else came_to port (frames_left before)) ≡ (if b && true then brought d.side d.turn ∷ brought_by port before else brought_by port before)
+        at : (b : Bool) → (if b then arrival_of (handed_over d)
+            ∷ came_to port (frames_left before) else came_to port (frames_left before))
+            ≡ (if b && true then brought d.side d.turn ∷ brought_by port before else brought_by port
+            before)
         at true = ap (λ zs. brought d.side d.turn ∷ zs) rest
         at false = rest
 
 -- its lines are those that tell it
-lines-kept : (t : Rows) (before : List Event) (e : Event) → AreKept (e ∷ before) → text_of t (told_by t before) ++ lines_after t before e ≡ text_of t (told_by t (e ∷ before))
+lines-kept : (t : Rows) (before : List Event) (e : Event) → AreKept (e ∷ before)
+    → text_of t (told_by t before) ++ lines_after t before e ≡ text_of t (told_by t (e ∷ before))
 unfolding text_of told_by reception_line
 lines-kept t before (Came c) kept =
-    ap (λ ports. text_of t (told_by t before) ++ (verdict_line c.arrival.tag c.arrival.side c.reason ++ loss_lines c.arrival.tag c.arrival.side ports)) (kept.came c (inl refl))
+    ap (λ ports. text_of t (told_by t before)
+    ++ (verdict_line c.arrival.tag c.arrival.side c.reason
+    ++ loss_lines c.arrival.tag c.arrival.side ports)) (kept.came c (inl refl))
     ∙ ap (λ zs. text_of t (told_by t before) ++ zs) (append-none (verdict_line c.arrival.tag c.arrival.side c.reason))
 lines-kept t before (Left d) kept =
-    ap (λ b. text_of t (told_by t before) ++ (departure_line b d.turn.entry.item.tag d.turn.end d.side d.port ++ heard b t (frames_left before) (handed_over d))) (kept.left d (inl refl))
-    ∙ ap (λ past. text_of t (told_by t before) ++ (departure_line false d.turn.entry.item.tag d.turn.end d.side d.port ++ line_at t past (handed_over d) (system_at_port t.systems d.port))) (handed-are-brought d.port before)
+    ap (λ b. text_of t (told_by t before)
+    ++ (departure_line b d.turn.entry.item.tag d.turn.end d.side d.port
+    ++ heard b t (frames_left before) (handed_over d))) (kept.left d (inl refl))
+    ∙ ap (λ past. text_of t (told_by t before)
+    ++ (departure_line false d.turn.entry.item.tag d.turn.end d.side d.port
+    ++ line_at t past (handed_over d) (system_at_port t.systems d.port)))
+    (handed-are-brought d.port before)
     ∙ by (system_at_port t.systems d.port)
   where
-    by : (o : Option ℕ) → text_of t (told_by t before) ++ (departure_line false d.turn.entry.item.tag d.turn.end d.side d.port ++ line_at t (brought_by d.port before) (handed_over d) o)
-        ≡ text_of t (with_reception t (brought_by d.port before) (leaving d) o (Departed (leaving d) ∷ told_by t before))
-    by None = ap (λ zs. text_of t (told_by t before) ++ zs) (append-none (departure_line false d.turn.entry.item.tag d.turn.end d.side d.port))
-    by (Some k) = sym (append_assoc (text_of t (told_by t before)) (departure_line false d.turn.entry.item.tag d.turn.end d.side d.port) (line_at t (brought_by d.port before) (handed_over d) (Some k)))
+    by : (o : Option ℕ) → text_of t (told_by t before)
+        ++ (departure_line false d.turn.entry.item.tag d.turn.end d.side d.port
+        ++ line_at t (brought_by d.port before) (handed_over d) o)
+        ≡ text_of t (with_reception t (brought_by d.port before) (leaving d) o
+        (Departed (leaving d) ∷ told_by t before))
+    by None = ap (λ zs. text_of t (told_by t before) ++ zs)
+        (append-none (departure_line false d.turn.entry.item.tag d.turn.end d.side d.port))
+    by (Some k) = sym (append_assoc (text_of t (told_by t before))
+        (departure_line false d.turn.entry.item.tag d.turn.end d.side d.port)
+        (line_at t (brought_by d.port before) (handed_over d) (Some k)))
 
 text-kept : (t : Rows) (events : List Event) → AreKept events → replay_text t events ≡ text_of t (told_by t events)
 unfolding replay_text text_of told_by
 text-kept t [] kept = refl
-text-kept t (e ∷ before) kept = ap (λ text. text ++ lines_after t before e) (text-kept t before (older e before kept)) ∙ lines-kept t before e kept
+text-kept t (e ∷ before) kept =
+    ap (λ text. text ++ lines_after t before e) (text-kept t before (older e before kept))
+    ∙ lines-kept t before e kept
 
 with-none-lost : (s : Summary) (o : Option Reason) (n : ℕ) → n ≡ 0 → s.lost ≡ 0 → (with_admission s o n).lost ≡ 0
 with-none-lost s None n none zero_so_far = omega (arith, none, zero_so_far)
@@ -99,14 +125,23 @@ kept-old s false false slot = refl
 none-lost : (t : Rows) (events : List Event) → AreKept events → (replay_counts t events).lost ≡ 0
 unfolding replay_counts
 none-lost t [] kept = refl
-none-lost t (Came c ∷ before) kept = with-none-lost (replay_counts t before) c.reason (length c.lost) (ap length (kept.came c (inl refl))) (none-lost t before (older (Came c) before kept))
-none-lost t (Left d ∷ before) kept = same-lost (replay_counts t before) d.turn.too_old (is_delivered t (frames_left before) (handed_over d)) ∙ none-lost t before (older (Left d) before kept)
+none-lost t (Came c ∷ before) kept =
+    with-none-lost (replay_counts t before) c.reason (length c.lost)
+    (ap length (kept.came c (inl refl))) (none-lost t before (older (Came c) before kept))
+none-lost t (Left d ∷ before) kept =
+    same-lost (replay_counts t before) d.turn.too_old
+    (is_delivered t (frames_left before) (handed_over d))
+    ∙ none-lost t before (older (Left d) before kept)
 
 none-old : (t : Rows) (events : List Event) → AreKept events → (replay_counts t events).too_old ≡ 0
 unfolding replay_counts
 none-old t [] kept = refl
-none-old t (Came c ∷ before) kept = same-old (replay_counts t before) c.reason (length c.lost) ∙ none-old t before (older (Came c) before kept)
-none-old t (Left d ∷ before) kept = kept-old (replay_counts t before) d.turn.too_old (is_delivered t (frames_left before) (handed_over d)) (kept.left d (inl refl)) ∙ none-old t before (older (Left d) before kept)
+none-old t (Came c ∷ before) kept = same-old (replay_counts t before) c.reason (length c.lost)
+    ∙ none-old t before (older (Came c) before kept)
+none-old t (Left d ∷ before) kept =
+    kept-old (replay_counts t before) d.turn.too_old
+    (is_delivered t (frames_left before) (handed_over d)) (kept.left d (inl refl))
+    ∙ none-old t before (older (Left d) before kept)
 
 -- ---- the laws
 
@@ -134,9 +169,17 @@ so-far-told t arrivals run =
     let promised = promised_so_far t arrivals run in
     record {
       lines = told_so_far t arrivals;
-      written = text-kept t (events_so_far t arrivals) (record { came = λ c h. (promised.admissions c h).lost; left = λ d h. (promised.departures d h).not_old });
+      written = text-kept t (events_so_far t arrivals)
+          (record {
+            came = λ c h. (promised.admissions c h).lost;
+            left = λ d h. (promised.departures d h).not_old;
+          });
       promises = promise.kept-so-far t arrivals run;
     }
 
 pub none-counted : NoneIsCounted
-none-counted t arrivals run = record { lost = none-lost t (events_of t arrivals) (kept t arrivals run); too_old = none-old t (events_of t arrivals) (kept t arrivals run) }
+none-counted t arrivals run =
+    record {
+      lost = none-lost t (events_of t arrivals) (kept t arrivals run);
+      too_old = none-old t (events_of t arrivals) (kept t arrivals run);
+    }

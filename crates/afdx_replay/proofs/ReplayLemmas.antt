@@ -1,5 +1,7 @@
 -- What a replay has told, one event more, and what it answers then.
-use Rattle.std.proofs.Common.{◌≡◌, ℕ, ◌+◌, ◌≤◌, List, [], ◌∷◌, ◌++◌, length, refl, ap, sym, ◌∙◌, subst, Option, Some, None, Bool, true, false, arith, append_assoc, if◌then◌else◌, Result, Ok, Err, OnOk, OnErr}
+use Rattle.std.proofs.Common.{◌≡◌, ℕ, ◌+◌, ◌≤◌, List, [], ◌∷◌, ◌++◌, length, refl, ap, sym, ◌∙◌}
+use Rattle.std.proofs.Common.{subst, Option, Some, None, Bool, true, false, arith, append_assoc}
+use Rattle.std.proofs.Common.{if◌then◌else◌, Result, Ok, Err, OnOk, OnErr}
 use Rattle.std.specs.Prelude.{IfSome}
 use Rattle.std.specs.Io.KnownBytes.{Appends}
 use Rattle.std.proofs.KnownBytes.{Appends-trans, Appends-nil}
@@ -23,12 +25,16 @@ use Rattle.afdx_switch.specs.declared.verdict.Verdict.{Verdict}
 use Rattle.afdx_network.proofs.FirstLemmas.{are-first, so-far}
 use Rattle.afdx_network.proofs.OrderedLemmas.{one-order, one-order-so-far, begins}
 use Rattle.afdx_replay.specs.PoliceText.{verdict_line}
-use Rattle.afdx_replay.specs.ReplayText.{handed_over, frames_left, departure_line, heard, lines_after, loss_lines, admission_lines, replay_text, no_counts, with_admission, with_departure, replay_counts, with_lines}
-use Rattle.afdx_replay.specs.Replayed.{WritesSoFar, WritesSome, WritesAll, HasTold, AreTold, ToldAll, TellsDeparture, HasRoom}
+use Rattle.afdx_replay.specs.ReplayText.{handed_over, frames_left, departure_line, heard}
+use Rattle.afdx_replay.specs.ReplayText.{lines_after, loss_lines, admission_lines, replay_text}
+use Rattle.afdx_replay.specs.ReplayText.{no_counts, with_admission, with_departure, replay_counts}
+use Rattle.afdx_replay.specs.ReplayText.{with_lines}
+use Rattle.afdx_replay.specs.Replayed.{WritesSoFar, WritesSome, WritesAll, HasTold, AreTold}
+use Rattle.afdx_replay.specs.Replayed.{ToldAll, TellsDeparture, HasRoom}
 use Rattle.afdx_replay.specs.Listed.{frames, arrivals_of}
 use Rattle.afdx_replay.specs.declared.summary.Summary.{Summary}
 use Rattle.afdx_replay.specs.Stops.{StopsAt}
-use Rattle.afdx_replay.proofs.RunLemmas.{IsDone}
+use Rattle.afdx_replay.proofs.RunLemmas.{IsDone, GaveLines-start}
 use Rattle.afdx_replay.proofs.TextLemmas.{front-whole, front-more}
 
 abbrev pub hand : Side → ℕ → ℕ → ℕ → List ℕ → HandedOver
@@ -36,7 +42,8 @@ hand side port time line bytes = record { side = side; port = port; time = time;
 
 -- what is handed out for a departure
 module _ (value : Departed) (d : Departure) (h : network.Hands value d) where
-  pub line-is : departure_line value.departure.left.too_old value.departure.left.item.tag value.departure.left.end value.side value.departure.port
+  pub line-is : departure_line value.departure.left.too_old value.departure.left.item.tag
+      value.departure.left.end value.side value.departure.port
       ≡ departure_line d.turn.too_old d.turn.entry.item.tag d.turn.end d.side d.port
   line-is =
       ap (λ l. departure_line l.too_old l.item.tag l.end value.side value.departure.port) h.left
@@ -46,27 +53,40 @@ module _ (value : Departed) (d : Departure) (h : network.Hands value d) where
   pub old-is : value.departure.left.too_old ≡ d.turn.too_old
   old-is = ap (λ l. l.too_old) h.left
 
-  pub handed-is : (port time line : ℕ) (bytes : List ℕ) → port ≡ value.departure.port → time ≡ value.departure.left.end → line ≡ value.departure.left.item.tag → bytes ≡ value.departure.left.item.bytes →
+  pub handed-is : (port time line : ℕ) (bytes : List ℕ) → port ≡ value.departure.port
+      → time ≡ value.departure.left.end → line ≡ value.departure.left.item.tag
+      → bytes ≡ value.departure.left.item.bytes →
       hand value.side port time line bytes ≡ handed_over d
   handed-is port time line bytes p e l b =
       let end : time ≡ d.turn.end = e ∙ ap (λ x. x.end) h.left in
       let tag : line ≡ d.turn.entry.item.tag = l ∙ ap (λ x. x.item.tag) h.left in
       let all : bytes ≡ d.turn.entry.item.bytes = b ∙ ap (λ x. x.item.bytes) h.left in
       let number : port ≡ d.port = p ∙ h.port in
-      ap (λ s. hand s port time line bytes) h.side ∙ ap (λ k. hand d.side k time line bytes) number ∙ ap (λ k. hand d.side d.port k line bytes) end ∙ ap (λ k. hand d.side d.port d.turn.end k bytes) tag
+      ap (λ s. hand s port time line bytes) h.side ∙ ap (λ k. hand d.side k time line bytes) number
+      ∙ ap (λ k. hand d.side d.port k line bytes) end
+      ∙ ap (λ k. hand d.side d.port d.turn.end k bytes) tag
       ∙ ap (λ k. hand d.side d.port d.turn.end d.turn.entry.item.tag k) all
 
 module _ (t : Rows) (before : List Event) (d : Departure) where
   -- a departure that was too old
-  pub tells-old : (s : Systems) (old counts : Summary) (lines : List ℕ) → d.turn.too_old ≡ true → systems.StandsFor t s (frames_left before) → old ≡ replay_counts t before →
-      counts ≡ with_departure old true false → lines ≡ departure_line true d.turn.entry.item.tag d.turn.end d.side d.port → TellsDeparture t s counts before d lines
+  pub tells-old : (s : Systems) (old counts : Summary) (lines : List ℕ) → d.turn.too_old ≡ true
+      → systems.StandsFor t s (frames_left before) → old ≡ replay_counts t before →
+      counts ≡ with_departure old true false
+      → lines ≡ departure_line true d.turn.entry.item.tag d.turn.end d.side d.port
+      → TellsDeparture t s counts before d lines
   unfolding replay_counts
   tells-old s old counts lines e stands counted more is = record {
-    systems_are = subst (λ b. systems.StandsFor t s (if b then frames_left before else handed_over d ∷ frames_left before)) (sym e) stands;
-    counted = more ∙ ap (λ c. with_departure c true (is_delivered t (frames_left before) (handed_over d))) counted ∙ ap (λ b. with_departure (replay_counts t before) b (is_delivered t (frames_left before) (handed_over d))) (sym e);
+    systems_are = subst (λ b.
+        systems.StandsFor t s (if b then frames_left before else handed_over d
+        ∷ frames_left before)) (sym e) stands;
+    counted = more ∙ ap (λ c.
+        with_departure c true (is_delivered t (frames_left before) (handed_over d))) counted
+        ∙ ap (λ b. with_departure (replay_counts t before) b
+        (is_delivered t (frames_left before) (handed_over d))) (sym e);
     lines_are =
         is ∙ sym (append_nil (departure_line true d.turn.entry.item.tag d.turn.end d.side d.port))
-        ∙ ap (λ b. departure_line b d.turn.entry.item.tag d.turn.end d.side d.port ++ heard b t (frames_left before) (handed_over d)) (sym e);
+        ∙ ap (λ b. departure_line b d.turn.entry.item.tag d.turn.end d.side d.port
+        ++ heard b t (frames_left before) (handed_over d)) (sym e);
   }
     where
       append_nil : (xs : List ℕ) → xs ++ [] ≡ xs
@@ -74,30 +94,45 @@ module _ (t : Rows) (before : List Event) (d : Departure) where
       append_nil (x ∷ xs) = ap (λ (ys : List ℕ). x ∷ ys) (append_nil xs)
 
   -- and one whose frame came to its system
-  pub tells-left : (s : Systems) (old counts : Summary) (lines : List ℕ) (delivered : Bool) → d.turn.too_old ≡ false → systems.StandsFor t s (handed_over d ∷ frames_left before) → old ≡ replay_counts t before →
+  pub tells-left : (s : Systems) (old counts : Summary) (lines : List ℕ) (delivered : Bool)
+      → d.turn.too_old ≡ false → systems.StandsFor t s (handed_over d ∷ frames_left before)
+      → old ≡ replay_counts t before →
       delivered ≡ is_delivered t (frames_left before) (handed_over d) → counts ≡ with_departure old false delivered →
-      lines ≡ departure_line false d.turn.entry.item.tag d.turn.end d.side d.port ++ reception_line t (frames_left before) (handed_over d) → TellsDeparture t s counts before d lines
+      lines ≡ departure_line false d.turn.entry.item.tag d.turn.end d.side d.port
+      ++ reception_line t (frames_left before) (handed_over d)
+      → TellsDeparture t s counts before d lines
   unfolding replay_counts
   tells-left s old counts lines delivered e stands counted heard_is more is = record {
-    systems_are = subst (λ b. systems.StandsFor t s (if b then frames_left before else handed_over d ∷ frames_left before)) (sym e) stands;
+    systems_are = subst (λ b.
+        systems.StandsFor t s (if b then frames_left before else handed_over d
+        ∷ frames_left before)) (sym e) stands;
     counted =
-        more ∙ ap (λ c. with_departure c false delivered) counted ∙ ap (λ m. with_departure (replay_counts t before) false m) heard_is
-        ∙ ap (λ b. with_departure (replay_counts t before) b (is_delivered t (frames_left before) (handed_over d))) (sym e);
-    lines_are = is ∙ ap (λ b. departure_line b d.turn.entry.item.tag d.turn.end d.side d.port ++ heard b t (frames_left before) (handed_over d)) (sym e);
+        more ∙ ap (λ c. with_departure c false delivered) counted
+        ∙ ap (λ m. with_departure (replay_counts t before) false m) heard_is
+        ∙ ap (λ b. with_departure (replay_counts t before) b
+        (is_delivered t (frames_left before) (handed_over d))) (sym e);
+    lines_are = is ∙ ap (λ b. departure_line b d.turn.entry.item.tag d.turn.end d.side d.port
+        ++ heard b t (frames_left before) (handed_over d)) (sym e);
   }
 
-pub heard-lines : (t : Rows) (before : List HandedOver) (h other : HandedOver) (text middle line : List ℕ) → text ≡ middle ++ reception_line t before h → middle ≡ line → h ≡ other → text ≡ line ++ reception_line t before other
-heard-lines t before h other text middle line e m s = e ∙ ap (λ (xs : List ℕ). xs ++ reception_line t before h) m ∙ ap (λ (z : HandedOver). line ++ reception_line t before z) s
+pub heard-lines : (t : Rows) (before : List HandedOver) (h other : HandedOver)
+    (text middle line : List ℕ) → text ≡ middle ++ reception_line t before h → middle ≡ line
+    → h ≡ other → text ≡ line ++ reception_line t before other
+heard-lines t before h other text middle line e m s = e
+    ∙ ap (λ (xs : List ℕ). xs ++ reception_line t before h) m
+    ∙ ap (λ (z : HandedOver). line ++ reception_line t before z) s
 
 pub text-start : (t : Rows) → replay_text t [] ≡ []
 unfolding replay_text
 text-start t = refl
 
-pub text-more : (t : Rows) (e : Event) (before : List Event) → replay_text t (e ∷ before) ≡ replay_text t before ++ lines_after t before e
+pub text-more : (t : Rows) (e : Event) (before : List Event) → replay_text t (e ∷ before)
+    ≡ replay_text t before ++ lines_after t before e
 unfolding replay_text
 text-more t e before = refl
 
-counts-came : (t : Rows) (c : Admission) (before : List Event) → replay_counts t (Came c ∷ before) ≡ with_admission (replay_counts t before) c.reason (length c.lost)
+counts-came : (t : Rows) (c : Admission) (before : List Event) → replay_counts t (Came c ∷ before)
+    ≡ with_admission (replay_counts t before) c.reason (length c.lost)
 unfolding replay_counts
 counts-came t c before = refl
 
@@ -106,36 +141,52 @@ unfolding replay_counts
 counts-start t = refl
 
 -- a departure more is told
-pub told-left : (t : Rows) (n after : Network) (s systems_after : Systems) (counts counts_after : Summary) (old middle new : Option (List ℕ)) (before : List Event) (d : Departure) (lines : List ℕ) →
-    HasTold t n s counts old middle before → network.StandsFor t after (Left d ∷ before) → TellsDeparture t systems_after counts_after before d lines → Appends middle new lines →
+pub told-left : (t : Rows) (n after : Network) (s systems_after : Systems)
+    (counts counts_after : Summary) (old middle new : Option (List ℕ)) (before : List Event)
+    (d : Departure) (lines : List ℕ) →
+    HasTold t n s counts old middle before → network.StandsFor t after (Left d ∷ before)
+    → TellsDeparture t systems_after counts_after before d lines → Appends middle new lines →
     HasTold t after systems_after counts_after old new (Left d ∷ before)
 told-left t n after s systems_after counts counts_after old middle new before d lines h stands tells w = record {
   switches_are = stands;
   systems_are = tells.systems_are;
   counted = tells.counted;
   written = subst (λ x. Appends old new x) (sym (text-more t (Left d) before))
-      (Appends-trans old middle new (replay_text t before) (lines_after t before (Left d)) h.written (subst (λ x. Appends middle new x) tells.lines_are w));
+      (Appends-trans old middle new (replay_text t before) (lines_after t before (Left d)) h.written
+      (subst (λ x. Appends middle new x) tells.lines_are w));
 }
 
 -- the lines of a verdict that tells an admission
-pub lines-told : (v : Verdict) (c : Admission) (text : List ℕ) → network.Tells v c → text ≡ verdict_line c.arrival.tag c.arrival.side (network.reason_in v) ++ loss_lines c.arrival.tag c.arrival.side (network.lost_in v) → text ≡ admission_lines c
+pub lines-told : (v : Verdict) (c : Admission) (text : List ℕ) → network.Tells v c
+    → text ≡ verdict_line c.arrival.tag c.arrival.side (network.reason_in v)
+    ++ loss_lines c.arrival.tag c.arrival.side (network.lost_in v) → text ≡ admission_lines c
 lines-told v c text tells is =
-    is ∙ ap (λ r. verdict_line c.arrival.tag c.arrival.side r ++ loss_lines c.arrival.tag c.arrival.side (network.lost_in v)) tells.reason
-    ∙ ap (λ l. verdict_line c.arrival.tag c.arrival.side c.reason ++ loss_lines c.arrival.tag c.arrival.side l) tells.lost
+    is ∙ ap (λ r. verdict_line c.arrival.tag c.arrival.side r
+    ++ loss_lines c.arrival.tag c.arrival.side (network.lost_in v)) tells.reason
+    ∙ ap (λ l. verdict_line c.arrival.tag c.arrival.side c.reason
+    ++ loss_lines c.arrival.tag c.arrival.side l) tells.lost
 
 -- an arrival more is told
-pub told-came : (t : Rows) (n after : Network) (s : Systems) (counts counts_after : Summary) (old middle new : Option (List ℕ)) (before : List Event) (c : Admission) (reason : Option Reason) (lost : ℕ) (lines : List ℕ) →
-    HasTold t n s counts old middle before → network.StandsFor t after (Came c ∷ before) → reason ≡ c.reason → lost ≡ length c.lost → counts_after ≡ with_admission counts reason lost → lines ≡ admission_lines c →
+pub told-came : (t : Rows) (n after : Network) (s : Systems) (counts counts_after : Summary)
+    (old middle new : Option (List ℕ)) (before : List Event) (c : Admission)
+    (reason : Option Reason) (lost : ℕ) (lines : List ℕ) →
+    HasTold t n s counts old middle before → network.StandsFor t after (Came c ∷ before)
+    → reason ≡ c.reason → lost ≡ length c.lost
+    → counts_after ≡ with_admission counts reason lost → lines ≡ admission_lines c →
     Appends middle new lines → HasTold t after s counts_after old new (Came c ∷ before)
-told-came t n after s counts counts_after old middle new before c reason lost lines h stands reason_is lost_is more is w = record {
-  switches_are = stands;
-  systems_are = h.systems_are;
-  counted =
-      more ∙ ap (λ k. with_admission k reason lost) h.counted ∙ ap (λ r. with_admission (replay_counts t before) r lost) reason_is ∙ ap (λ k. with_admission (replay_counts t before) c.reason k) lost_is
-      ∙ sym (counts-came t c before);
-  written = subst (λ x. Appends old new x) (sym (text-more t (Came c) before))
-      (Appends-trans old middle new (replay_text t before) (admission_lines c) h.written (subst (λ x. Appends middle new x) is w));
-}
+told-came t n after s counts counts_after old middle new before c reason lost lines h stands
+    reason_is lost_is more is w = record {
+      switches_are = stands;
+      systems_are = h.systems_are;
+      counted =
+          more ∙ ap (λ k. with_admission k reason lost) h.counted
+          ∙ ap (λ r. with_admission (replay_counts t before) r lost) reason_is
+          ∙ ap (λ k. with_admission (replay_counts t before) c.reason k) lost_is
+          ∙ sym (counts-came t c before);
+      written = subst (λ x. Appends old new x) (sym (text-more t (Came c) before))
+          (Appends-trans old middle new (replay_text t before) (admission_lines c) h.written
+          (subst (λ x. Appends middle new x) is w));
+    }
 
 -- ---- beginnings
 
@@ -144,91 +195,155 @@ append_nothing [] = refl
 append_nothing (x ∷ xs) = ap (λ (ys : List ℕ). x ∷ ys) (append_nothing xs)
 
 -- the text of more events begins with that of these
-text-later : (t : Rows) (later events : List Event) → (rest : List ℕ) × (replay_text t (later ++ events) ≡ replay_text t events ++ rest)
+text-later : (t : Rows) (later events : List Event) → (rest : List ℕ)
+    × (replay_text t (later ++ events) ≡ replay_text t events ++ rest)
 text-later t [] events = ([], sym (append_nothing (replay_text t events)))
 text-later t (e ∷ later) events =
     let r = text-later t later events in (
       r.0 ++ lines_after t (later ++ events) e,
-      text-more t e (later ++ events) ∙ ap (λ (xs : List ℕ). xs ++ lines_after t (later ++ events) e) r.1 ∙ append_assoc (replay_text t events) r.0 (lines_after t (later ++ events) e),
+      text-more t e (later ++ events)
+          ∙ ap (λ (xs : List ℕ). xs ++ lines_after t (later ++ events) e) r.1
+          ∙ append_assoc (replay_text t events) r.0 (lines_after t (later ++ events) e),
     )
 
-front-longer : (old new : Option (List ℕ)) (text more : List ℕ) → AppendsFront old new text → AppendsFront old new (text ++ more)
-front-longer old new text more h = (h.0, h.1 ++ more, ap (λ (xs : List ℕ). xs ++ more) h.2 ∙ append_assoc h.0 h.1 more, h.3)
+front-longer : (old new : Option (List ℕ)) (text more : List ℕ) → AppendsFront old new text
+    → AppendsFront old new (text ++ more)
+front-longer old new text more h =
+    (h.0, h.1 ++ more, ap (λ (xs : List ℕ). xs ++ more) h.2 ∙ append_assoc h.0 h.1 more, h.3)
 
 -- what begins the text of the events so far begins that of all events
-pub some-of : (t : Rows) (n : Network) (events : List Event) (old new : Option (List ℕ)) → network.StandsFor t n events → AppendsFront old new (replay_text t events) → WritesSome t old new (arrivals_in events)
+pub some-of : (t : Rows) (n : Network) (events : List Event) (old new : Option (List ℕ))
+    → network.StandsFor t n events → AppendsFront old new (replay_text t events)
+    → WritesSome t old new (arrivals_in events)
 some-of t n events old new st front =
     let all = begins t events (are-first t n events st) in
     let more = text-later t all.0 events in
-    subst (λ es. AppendsFront old new (replay_text t es)) (sym all.1) (subst (λ x. AppendsFront old new x) (sym more.1) (front-longer old new (replay_text t events) more.0 front))
+    subst (λ es. AppendsFront old new (replay_text t es)) (sym all.1)
+    (subst (λ x. AppendsFront old new x) (sym more.1)
+    (front-longer old new (replay_text t events) more.0 front))
 
-pub told-some : (t : Rows) (n : Network) (s : Systems) (counts : Summary) (old new : Option (List ℕ)) (events : List Event) → HasTold t n s counts old new events → WritesSome t old new (arrivals_in events)
-told-some t n s counts old new events h = some-of t n events old new h.switches_are (front-whole old new (replay_text t events) h.written)
+pub told-some : (t : Rows) (n : Network) (s : Systems) (counts : Summary)
+    (old new : Option (List ℕ)) (events : List Event) → HasTold t n s counts old new events
+    → WritesSome t old new (arrivals_in events)
+told-some t n s counts old new events h =
+    some-of t n events old new h.switches_are (front-whole old new (replay_text t events) h.written)
 
 -- a beginning of the lines of one event more is written
-pub begun-left : (t : Rows) (n after : Network) (s systems_after : Systems) (counts counts_after : Summary) (old middle new : Option (List ℕ)) (before : List Event) (d : Departure) (lines : List ℕ) →
-    HasTold t n s counts old middle before → network.StandsFor t after (Left d ∷ before) → TellsDeparture t systems_after counts_after before d lines → AppendsFront middle new lines →
+pub begun-left : (t : Rows) (n after : Network) (s systems_after : Systems)
+    (counts counts_after : Summary) (old middle new : Option (List ℕ)) (before : List Event)
+    (d : Departure) (lines : List ℕ) →
+    HasTold t n s counts old middle before → network.StandsFor t after (Left d ∷ before)
+    → TellsDeparture t systems_after counts_after before d lines → AppendsFront middle new lines →
     WritesSome t old new (arrivals_in before)
 begun-left t n after s systems_after counts counts_after old middle new before d lines h stands tells w =
-    some-of t after (Left d ∷ before) old new stands (subst (λ x. AppendsFront old new x) (sym (text-more t (Left d) before))
-    (front-more old middle new (replay_text t before) (lines_after t before (Left d)) h.written (subst (λ x. AppendsFront middle new x) tells.lines_are w)))
+    some-of t after (Left d ∷ before) old new stands
+    (subst (λ x. AppendsFront old new x) (sym (text-more t (Left d) before))
+    (front-more old middle new (replay_text t before) (lines_after t before (Left d)) h.written
+    (subst (λ x. AppendsFront middle new x) tells.lines_are w)))
 
-pub begun-came : (t : Rows) (n after : Network) (s : Systems) (counts : Summary) (old middle new : Option (List ℕ)) (before : List Event) (c : Admission) (lines : List ℕ) →
-    HasTold t n s counts old middle before → network.StandsFor t after (Came c ∷ before) → lines ≡ admission_lines c → AppendsFront middle new lines → WritesSome t old new (c.arrival ∷ arrivals_in before)
+pub begun-came : (t : Rows) (n after : Network) (s : Systems) (counts : Summary)
+    (old middle new : Option (List ℕ)) (before : List Event) (c : Admission) (lines : List ℕ) →
+    HasTold t n s counts old middle before → network.StandsFor t after (Came c ∷ before)
+    → lines ≡ admission_lines c → AppendsFront middle new lines
+    → WritesSome t old new (c.arrival ∷ arrivals_in before)
 begun-came t n after s counts old middle new before c lines h stands is w =
-    some-of t after (Came c ∷ before) old new stands (subst (λ x. AppendsFront old new x) (sym (text-more t (Came c) before))
-    (front-more old middle new (replay_text t before) (admission_lines c) h.written (subst (λ x. AppendsFront middle new x) is w)))
+    some-of t after (Came c ∷ before) old new stands
+    (subst (λ x. AppendsFront old new x) (sym (text-more t (Came c) before))
+    (front-more old middle new (replay_text t before) (admission_lines c) h.written
+    (subst (λ x. AppendsFront middle new x) is w)))
 
-pub are-some : (t : Rows) (n : Network) (s : Systems) (counts : Summary) (old new : Option (List ℕ)) (past : List Arrival) → AreTold t n s counts old new past → WritesSome t old new past
-are-some t n s counts old new past h = subst (λ p. WritesSome t old new p) h.arrivals_are (told-some t n s counts old new h.events h.told)
+pub are-some : (t : Rows) (n : Network) (s : Systems) (counts : Summary) (old new : Option (List ℕ))
+    (past : List Arrival) → AreTold t n s counts old new past → WritesSome t old new past
+are-some t n s counts old new past h =
+    subst (λ p. WritesSome t old new p) h.arrivals_are (told-some t n s counts old new h.events h.told)
 
 -- what is told of arrivals is the text of the events up to the last of them
-pub are-so-far : (t : Rows) (n : Network) (s : Systems) (counts : Summary) (old new : Option (List ℕ)) (past : List Arrival) → AreTold t n s counts old new past → WritesSoFar t old new past
+pub are-so-far : (t : Rows) (n : Network) (s : Systems) (counts : Summary)
+    (old new : Option (List ℕ)) (past : List Arrival) → AreTold t n s counts old new past
+    → WritesSoFar t old new past
 are-so-far t n s counts old new past h =
     let st = h.told.switches_are in
-    let is = one-order-so-far t (arrivals_in h.events) h.events (so-far t h.events st.follows (are-first t n h.events st) h.at_arrival) in
-    subst (λ p. WritesSoFar t old new p) h.arrivals_are (subst (λ es. Appends old new (replay_text t es)) is h.told.written)
+    let is = one-order-so-far t (arrivals_in h.events) h.events
+    (so-far t h.events st.follows (are-first t n h.events st) h.at_arrival) in
+    subst (λ p. WritesSoFar t old new p) h.arrivals_are
+    (subst (λ es. Appends old new (replay_text t es)) is h.told.written)
 
 -- where these are all events
-pub told-all : (t : Rows) (n : Network) (s : Systems) (counts : Summary) (old new : Option (List ℕ)) (events : List Event) → HasTold t n s counts old new events → AreEvents t (arrivals_in events) events →
+pub told-all : (t : Rows) (n : Network) (s : Systems) (counts : Summary) (old new : Option (List ℕ))
+    (events : List Event) → HasTold t n s counts old new events
+    → AreEvents t (arrivals_in events) events →
     ToldAll t counts old new (arrivals_in events)
 told-all t n s counts old new events h all =
     let is = one-order t (arrivals_in events) events all in
-    record { counted = h.counted ∙ ap (λ es. replay_counts t es) is; written = subst (λ es. Appends old new (replay_text t es)) is h.written }
+    record {
+      counted = h.counted ∙ ap (λ es. replay_counts t es) is;
+      written = subst (λ es. Appends old new (replay_text t es)) is h.written;
+    }
 
 -- ---- the start and the end
 
-pub are-told-start : (t : Rows) (n : Network) (s : Systems) (output : Option (List ℕ)) → network.StandsFor t n [] → systems.StandsFor t s [] → AreTold t n s no_counts output output []
+pub are-told-start : (t : Rows) (n : Network) (s : Systems) (output : Option (List ℕ))
+    → network.StandsFor t n [] → systems.StandsFor t s [] → AreTold t n s no_counts output output []
 are-told-start t n s output switches hears = record {
   events = [];
   arrivals_are = refl;
   at_arrival = tt;
-  told = record { switches_are = switches; systems_are = hears; counted = sym (counts-start t); written = subst (λ x. Appends output output x) (sym (text-start t)) (Appends-nil output) };
+  told = record {
+    switches_are = switches;
+    systems_are = hears;
+    counted = sym (counts-start t);
+    written = subst (λ x. Appends output output x) (sym (text-start t)) (Appends-nil output);
+  };
 }
 
-done-all : (t : Rows) (told : List Arrival → Type 0) (counts summary : Summary) (n : ℕ) (lines : List (List ℕ)) (old new : Option (List ℕ)) → IsDone frames told n lines → ((past : List Arrival) → told past → ToldAll t counts old new past) →
+done-all : (t : Rows) (told : List Arrival → Type 0) (counts summary : Summary) (n : ℕ)
+    (lines : List (List ℕ)) (old new : Option (List ℕ)) → IsDone frames told n lines
+    → ((past : List Arrival) → told past → ToldAll t counts old new past) →
     summary ≡ with_lines counts n → WritesAll t lines old new summary
 done-all t told counts summary n lines old new h all e =
     let a = all (arrivals_of lines (length lines)) h.are_told in
     record {
       sound = h.sound;
       written = a.written;
-      counted = e ∙ ap (λ c. with_lines c n) a.counted ∙ ap (λ k. with_lines (replay_counts t (events_of t (arrivals_of lines (length lines)))) k) h.all;
+      counted = e ∙ ap (λ c. with_lines c n) a.counted
+          ∙ ap (λ k. with_lines (replay_counts t (events_of t (arrivals_of lines (length lines))))
+          k) h.all;
     }
 
-pub told-done : (t : Rows) (told : List Arrival → Type 0) (counts summary : Summary) (n : ℕ) (input old new : Option (List ℕ)) → IfSome input (λ bytes. IsDone frames told n (lines_of bytes)) →
-    ((past : List Arrival) → told past → ToldAll t counts old new past) → summary ≡ with_lines counts n → IfSome input (λ bytes. WritesAll t (lines_of bytes) old new summary)
+pub told-done : (t : Rows) (told : List Arrival → Type 0) (counts summary : Summary) (n : ℕ)
+    (input old new : Option (List ℕ)) → IfSome input (λ bytes. IsDone frames told n (lines_of bytes)) →
+    ((past : List Arrival) → told past → ToldAll t counts old new past)
+    → summary ≡ with_lines counts n
+    → IfSome input (λ bytes. WritesAll t (lines_of bytes) old new summary)
 told-done t told counts summary n None old new h all e = tt
-told-done t told counts summary n (Some bytes) old new h all e = done-all t told counts summary n (lines_of bytes) old new h all e
+told-done t told counts summary n (Some bytes) old new h all e =
+    done-all t told counts summary n (lines_of bytes) old new h all e
 
 pub room-start : (held n : ℕ) → held ≡ 0 → n ≡ 0 → HasRoom no_counts held n
-room-start held n h k = record { verdicts = omega (arith, k); losses = omega (arith, k); turns = omega (arith, h, k); messages = omega arith }
+room-start held n h k = record {
+  verdicts = omega (arith, k);
+  losses = omega (arith, k);
+  turns = omega (arith, h, k);
+  messages = omega arith;
+}
 
 pub room-more : (counts : Summary) (held n m : ℕ) → m ≡ n + 1 → HasRoom counts held n → HasRoom counts held m
-room-more counts held n m e h = record { verdicts = omega (arith, e, h.verdicts); losses = omega (arith, e, h.losses); turns = omega (arith, e, h.turns); messages = h.messages }
+room-more counts held n m e h =
+    record {
+      verdicts = omega (arith, e, h.verdicts);
+      losses = omega (arith, e, h.losses);
+      turns = omega (arith, e, h.turns);
+      messages = h.messages;
+    }
 
 pub room-less : (counts : Summary) (held more n : ℕ) → held ≤ more → HasRoom counts more n → HasRoom counts held n
-room-less counts held more n le h = record { verdicts = h.verdicts; losses = h.losses; turns = omega (arith, le, h.turns); messages = h.messages }
+room-less counts held more n le h =
+    record {
+      verdicts = h.verdicts;
+      losses = h.losses;
+      turns = omega (arith, le, h.turns);
+      messages = h.messages;
+    }
 
 -- a value of a call that may fail
 pub on-ok : {V E : Type 0} (r : Result V E) (P Q : Type 0) → (P → Q) → OnOk r P → OnOk r Q
@@ -242,11 +357,22 @@ on-err (Err e) P p = p
 -- ---- where a replay stops
 
 -- memory ran out before anything was read
-pub stops-start : (t : Rows) (input after output : Option (List ℕ)) → IfSome input (λ bytes. StopsAt (WritesSoFar t output output) (WritesSome t output output) bytes after run.Memory)
-stops-start t None after output = tt
-stops-start t (Some bytes) after output = (
+pub stops-start : (t : Rows) (input output : Option (List ℕ)) →
+    IfSome input (λ bytes. StopsAt (WritesSoFar t output output) (WritesSome t output output) bytes input run.Memory)
+stops-start t None output = tt
+stops-start t (Some bytes) output = (
   0,
-  record { within = omega arith; sound = λ k lt. absurd (omega (arith, lt)); are_told = ([], replay_text t (events_of t (arrivals_of (lines_of bytes) 0)), refl, Appends-nil output) },
+  GaveLines-start (Some bytes),
+  record {
+    within = omega arith;
+    sound = λ k lt. absurd (omega (arith, lt));
+    are_told = (
+      [],
+      replay_text t (events_of t (arrivals_of (lines_of bytes) 0)),
+      refl,
+      Appends-nil output,
+    );
+  },
 )
 
 pub if-some : {X : Type 0} (o : Option X) (P : X → Type 0) → ((x : X) → P x) → IfSome o P

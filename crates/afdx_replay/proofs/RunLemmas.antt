@@ -1,19 +1,28 @@
 -- One line more of a run, whatever kind of list it reads, and whatever is told of what that says.
-use Rattle.std.proofs.Common.{◌≡◌, ℕ, zero, suc, ◌+◌, ◌<◌, ◌≤◌, List, [], ◌∷◌, length, get_or, drop, refl, ap, sym, ◌∙◌, subst, Option, Some, None, Result, Ok, Err, IfSome, arith, add-one, below_more, nat_le, nat_lt, true, false, ◌⊎◌, inl, inr}
+use Rattle.std.proofs.Common.{◌≡◌, ℕ, zero, suc, ◌+◌, ◌<◌, ◌≤◌, List, [], ◌∷◌, ◌++◌, length, get_or, drop}
+use Rattle.std.proofs.Common.{refl, ap, sym, ◌∙◌, subst, Option, Some, None, Result, Ok, Err}
+use Rattle.std.proofs.Common.{IfSome, arith, add-one, below_more}
+use Rattle.std.proofs.Common.{Bool, nat_le, nat_lt, true, false, ◌⊎◌, inl, inr}
 use Rattle.std.proofs.lemmas.Grind.{common_steps}
 use Rattle.std.specs.Io.KnownBytes.{IsAtEnd, prepend_known}
+use Rattle.std.proofs.KnownBytes.{Consumes-nil}
 use Rattle.afdx_lists.specs.declared.fault.RunFault.{RunFault}
 use Rattle.afdx_lists.specs.declared.fault.RunFault.TheVariants as run
 use Rattle.afdx_lists.specs.declared.fault.LineFault.{LineFault}
-use Rattle.afdx_lists.specs.declared.fault.LineFault.TheVariants.{BadLine, TimeTooLarge, TimeBack, BadPort, BadHex, Memory}
-use Rattle.afdx_lists.specs.Lines.{lines_of, TakesLine, CanStop, GaveWhole}
+use Rattle.afdx_lists.specs.declared.fault.LineFault.TheVariants.{BadLine, TimeTooLarge, TimeBack}
+use Rattle.afdx_lists.specs.declared.fault.LineFault.TheVariants.{BadPort, BadHex, Memory}
+use Rattle.afdx_lists.specs.Lines.{lines_of, whole_lines_of, TakesLine, CanStop, HasNoFeed}
+use Rattle.afdx_lists.specs.Lines.{TakesBytes, HasTaken, GaveWhole}
+use Rattle.afdx_lists.proofs.WholeLemmas.{HasTaken-next}
 use Rattle.afdx_lists.proofs.LineLemmas.{lines_of_nothing}
 use Rattle.afdx_lists.specs.Faults.{fault_with}
-use Rattle.afdx_replay.specs.Lists.{Kind, latest_in, with_item, items_of, item_said, fault_in, fault_said, HaveNoFault, HaveFirstFault}
-use Rattle.afdx_replay.specs.Stops.{IsToldOf, StopsIn}
-use Rattle.afdx_replay.specs.Progress.{HasRead, HasComeIn}
+use Rattle.afdx_replay.specs.Lists.{Kind, latest_in, with_item, items_of, item_said, fault_in}
+use Rattle.afdx_replay.specs.Lists.{fault_said, HaveNoFault, HaveFirstFault}
+use Rattle.afdx_replay.specs.Stops.{GaveLines, IsToldOf, StopsIn}
+use Rattle.afdx_replay.proofs.Progress.{HasRead, HasComeIn}
 
-items_of_next : {Y X : Type 0} (k : Kind Y X) (lines : List (List ℕ)) (n : ℕ) → items_of k lines (n + 1) ≡ with_item k (n + 1) (item_said k lines n) (items_of k lines n)
+items_of_next : {Y X : Type 0} (k : Kind Y X) (lines : List (List ℕ)) (n : ℕ)
+    → items_of k lines (n + 1) ≡ with_item k (n + 1) (item_said k lines n) (items_of k lines n)
 unfolding items_of
 items_of_next k lines n = rw add-one refl
 
@@ -22,10 +31,12 @@ unfolding items_of
 items_of-none k lines = refl
 
 -- the element at which a drop begins
-drop_begins : (n : ℕ) (xs : List (List ℕ)) (x : List ℕ) (ys : List (List ℕ)) → drop n xs ≡ x ∷ ys → (get_or xs n [] ≡ x) × (drop (n + 1) xs ≡ ys) × (n < length xs)
+drop_begins : (n : ℕ) (xs : List (List ℕ)) (x : List ℕ) (ys : List (List ℕ)) → drop n xs ≡ x ∷ ys
+    → (get_or xs n [] ≡ x) × (drop (n + 1) xs ≡ ys) × (n < length xs)
 drop_begins n [] x ys h = absurd (grind (arith, common_steps, h))
 drop_begins zero (first ∷ xs) x ys h = (cc, cc, omega arith)
-drop_begins (suc n) (first ∷ xs) x ys h = let next = drop_begins n xs x ys h in (next.0, rw add-one (rw add-one at next.1), omega (arith, next.2))
+drop_begins (suc n) (first ∷ xs) x ys h = let next = drop_begins n xs x ys h in
+    (next.0, rw add-one (rw add-one at next.1), omega (arith, next.2))
 
 -- the facts of a taken line
 pub record Next (lines : List (List ℕ)) (n : ℕ) (line rest : List ℕ) : Type 0 where
@@ -33,7 +44,8 @@ pub record Next (lines : List (List ℕ)) (n : ℕ) (line rest : List ℕ) : Typ
   pub rest_is : lines_of rest ≡ drop (n + 1) lines
   pub within : n + 1 ≤ length lines
 
-next_line_is : (lines : List (List ℕ)) (n : ℕ) (line old rest : List ℕ) → lines_of old ≡ drop n lines → lines_of old ≡ line ∷ lines_of rest → Next lines n line rest
+next_line_is : (lines : List (List ℕ)) (n : ℕ) (line old rest : List ℕ)
+    → lines_of old ≡ drop n lines → lines_of old ≡ line ∷ lines_of rest → Next lines n line rest
 next_line_is lines n line old rest h k = let begins = drop_begins n lines line (lines_of rest) (sym h ∙ k) in record {
   line_is = begins.0;
   rest_is = sym begins.1;
@@ -41,7 +53,9 @@ next_line_is lines n line old rest h k = let begins = drop_begins n lines line (
 }
 
 -- what a line says after the latest time
-said_then : {Y X : Type 0} (k : Kind Y X) (lines : List (List ℕ)) (n : ℕ) (line : List ℕ) (latest : ℕ) {r : Result (Option Y) LineFault} → get_or lines n [] ≡ line → latest ≡ latest_in k (items_of k lines n) → k.says latest line ≡ r → item_said k lines n ≡ r
+said_then : {Y X : Type 0} (k : Kind Y X) (lines : List (List ℕ)) (n : ℕ) (line : List ℕ)
+    (latest : ℕ) {r : Result (Option Y) LineFault} → get_or lines n [] ≡ line
+    → latest ≡ latest_in k (items_of k lines n) → k.says latest line ≡ r → item_said k lines n ≡ r
 said_then k lines n line latest same is said =
     let at_line = ap (λ (l : List ℕ). k.says (latest_in k (items_of k lines n)) l) same in
     let at_time = ap (λ (z : ℕ). k.says z line) (sym is) in
@@ -61,13 +75,18 @@ more_left n lines h = grind (arith, common_steps)
 
 module _ {Y X : Type 0} (k : Kind Y X) where
   -- a line of lawful place and length has the fault that it says
-  fault_at_line : (lines : List (List ℕ)) (n : ℕ) (line : List ℕ) → n < 1000000 → get_or lines n [] ≡ line → length line ≤ 4200 → fault_in k lines n ≡ fault_said (n + 1) (item_said k lines n)
+  fault_at_line : (lines : List (List ℕ)) (n : ℕ) (line : List ℕ) → n < 1000000
+      → get_or lines n [] ≡ line → length line ≤ 4200
+      → fault_in k lines n ≡ fault_said (n + 1) (item_said k lines n)
   fault_at_line lines n line few same short =
       let place : nat_le 1000000 n ≡ false = grind (arith, common_steps) in
       let size : nat_lt 4200 (length (get_or lines n [])) ≡ false = rw same (grind (arith, common_steps)) in
       rw (place, size) refl
 
-  HasRead-skip : (told : List X → Type 0) (latest n : ℕ) (lines : List (List ℕ)) (old_rest rest line : List ℕ) → n < 1000000 → length line ≤ 4200 → HasRead k told latest n lines old_rest → lines_of old_rest ≡ line ∷ lines_of rest → k.says latest line ≡ Ok None → HasRead k told latest (n + 1) lines rest
+  HasRead-skip : (told : List X → Type 0) (latest n : ℕ) (lines : List (List ℕ))
+      (old_rest rest line : List ℕ) → n < 1000000 → length line ≤ 4200
+      → HasRead k told latest n lines old_rest → lines_of old_rest ≡ line ∷ lines_of rest
+      → k.says latest line ≡ Ok None → HasRead k told latest (n + 1) lines rest
   HasRead-skip told latest n lines old_rest rest line few short h takes said =
       let next = next_line_is lines n line old_rest rest h.rest_is takes in
       let says_none : item_said k lines n ≡ Ok None = said_then k lines n line latest next.line_is h.latest_is said in
@@ -75,25 +94,35 @@ module _ {Y X : Type 0} (k : Kind Y X) where
       record {
         within = next.within;
         rest_is = next.rest_is;
-        sound = below_more (λ i. fault_in k lines i ≡ None) n h.sound (fault_at_line lines n line few next.line_is short ∙ ap (fault_said (n + 1)) says_none);
+        sound = below_more (λ i. fault_in k lines i ≡ None) n h.sound
+            (fault_at_line lines n line few next.line_is short ∙ ap (fault_said (n + 1)) says_none);
         latest_is = rw same h.latest_is;
         are_told = rw same h.are_told;
       }
 
-  HasRead-item : (told after : List X → Type 0) (latest n : ℕ) (lines : List (List ℕ)) (old_rest rest line : List ℕ) (y : Y) → n < 1000000 → length line ≤ 4200 → HasRead k told latest n lines old_rest → lines_of old_rest ≡ line ∷ lines_of rest → k.says latest line ≡ Ok (Some y) → ((past : List X) → told past → after (k.item (n + 1) y ∷ past)) → HasRead k after (k.time (k.item (n + 1) y)) (n + 1) lines rest
+  HasRead-item : (told after : List X → Type 0) (latest n : ℕ) (lines : List (List ℕ))
+      (old_rest rest line : List ℕ) (y : Y) → n < 1000000 → length line ≤ 4200
+      → HasRead k told latest n lines old_rest → lines_of old_rest ≡ line ∷ lines_of rest
+      → k.says latest line ≡ Ok (Some y)
+      → ((past : List X) → told past → after (k.item (n + 1) y ∷ past))
+      → HasRead k after (k.time (k.item (n + 1) y)) (n + 1) lines rest
   HasRead-item told after latest n lines old_rest rest line y few short h takes said tell =
       let next = next_line_is lines n line old_rest rest h.rest_is takes in
-      let says_item : item_said k lines n ≡ Ok (Some y) = said_then k lines n line latest next.line_is h.latest_is said in
-      let more : items_of k lines (n + 1) ≡ k.item (n + 1) y ∷ items_of k lines n = items_of_next k lines n ∙ rw says_item refl in
+      let says_item : item_said k lines n ≡ Ok (Some y) =
+      said_then k lines n line latest next.line_is h.latest_is said in
+      let more : items_of k lines (n + 1) ≡ k.item (n + 1) y ∷ items_of k lines n =
+      items_of_next k lines n ∙ rw says_item refl in
       record {
         within = next.within;
         rest_is = next.rest_is;
-        sound = below_more (λ i. fault_in k lines i ≡ None) n h.sound (fault_at_line lines n line few next.line_is short ∙ ap (fault_said (n + 1)) says_item);
+        sound = below_more (λ i. fault_in k lines i ≡ None) n h.sound
+            (fault_at_line lines n line few next.line_is short ∙ ap (fault_said (n + 1)) says_item);
         latest_is = rw more refl;
         are_told = rw more (tell (items_of k lines n) h.are_told);
       }
 
-  pub HasCome-start : (told : List X → Type 0) (n : ℕ) (unread : List ℕ) (input : Option (List ℕ)) → n ≡ 0 → unread ≡ [] → told [] → HasComeIn k told 0 n input (prepend_known unread input)
+  pub HasCome-start : (told : List X → Type 0) (n : ℕ) (unread : List ℕ) (input : Option (List ℕ))
+      → n ≡ 0 → unread ≡ [] → told [] → HasComeIn k told 0 n input (prepend_known unread input)
   HasCome-start told n unread None begun empty start = tt
   HasCome-start told n unread (Some bytes) begun empty start =
       rw (begun, empty) (record {
@@ -104,19 +133,27 @@ module _ {Y X : Type 0} (k : Kind Y X) where
         are_told = rw (items_of-none k (lines_of bytes)) start;
       })
 
-  pub HasCome-skip : (told : List X → Type 0) (latest n m : ℕ) (input before rest : Option (List ℕ)) (line : List ℕ) → m ≡ n + 1 → IsTaken n line before rest → HasComeIn k told latest n input before → k.says latest line ≡ Ok None → HasComeIn k told latest m input rest
+  pub HasCome-skip : (told : List X → Type 0) (latest n m : ℕ) (input before rest : Option (List ℕ))
+      (line : List ℕ) → m ≡ n + 1 → IsTaken n line before rest
+      → HasComeIn k told latest n input before → k.says latest line ≡ Ok None
+      → HasComeIn k told latest m input rest
   HasCome-skip told latest n m None before rest line place taken h said = tt
   HasCome-skip told latest n m (Some bytes) None rest line place taken h said = absurd h
   HasCome-skip told latest n m (Some bytes) (Some before) None line place taken h said = absurd taken.takes
   HasCome-skip told latest n m (Some bytes) (Some before) (Some rest) line place taken h said =
       rw place (HasRead-skip told latest n (lines_of bytes) before rest line taken.few taken.short h taken.takes said)
 
-  pub HasCome-item : (told after : List X → Type 0) (latest n m : ℕ) (input before rest : Option (List ℕ)) (line : List ℕ) (y : Y) → m ≡ n + 1 → IsTaken n line before rest → HasComeIn k told latest n input before → k.says latest line ≡ Ok (Some y) → ((past : List X) → told past → after (k.item m y ∷ past)) → HasComeIn k after (k.time (k.item m y)) m input rest
+  pub HasCome-item : (told after : List X → Type 0) (latest n m : ℕ)
+      (input before rest : Option (List ℕ)) (line : List ℕ) (y : Y) → m ≡ n + 1
+      → IsTaken n line before rest → HasComeIn k told latest n input before
+      → k.says latest line ≡ Ok (Some y) → ((past : List X) → told past → after (k.item m y ∷ past))
+      → HasComeIn k after (k.time (k.item m y)) m input rest
   HasCome-item told after latest n m None before rest line y place taken h said tell = tt
   HasCome-item told after latest n m (Some bytes) None rest line y place taken h said tell = absurd h
   HasCome-item told after latest n m (Some bytes) (Some before) None line y place taken h said tell = absurd taken.takes
   HasCome-item told after latest n m (Some bytes) (Some before) (Some rest) line y place taken h said tell =
-      rw place (HasRead-item told after latest n (lines_of bytes) before rest line y taken.few taken.short h taken.takes said
+      rw place (HasRead-item told after latest n (lines_of bytes) before rest line y taken.few
+      taken.short h taken.takes said
       (λ past are. subst (λ (i : ℕ). after (k.item i y ∷ past)) place (tell past are)))
 
 -- all lines were read
@@ -125,16 +162,62 @@ pub record IsDone {Y X : Type 0} (k : Kind Y X) (told : List X → Type 0) (n : 
   pub sound : HaveNoFault k lines (length lines)
   pub are_told : told (items_of k lines (length lines))
 
-pub HasCome-done : {Y X : Type 0} (k : Kind Y X) (told : List X → Type 0) (latest n : ℕ) (input rest : Option (List ℕ)) → HasComeIn k told latest n input rest → IsAtEnd rest → IfSome input (λ bytes. IsDone k told n (lines_of bytes))
+pub HasCome-done : {Y X : Type 0} (k : Kind Y X) (told : List X → Type 0) (latest n : ℕ)
+    (input rest : Option (List ℕ)) → HasComeIn k told latest n input rest → IsAtEnd rest
+    → IfSome input (λ bytes. IsDone k told n (lines_of bytes))
 HasCome-done k told latest n None rest h end = tt
 HasCome-done k told latest n (Some bytes) None h end = absurd h
 HasCome-done k told latest n (Some bytes) (Some rest) h end =
-    let all : n ≡ length (lines_of bytes) = drop_nothing n (lines_of bytes) (sym h.rest_is ∙ ap lines_of end ∙ lines_of_nothing) h.within in
+    let all : n ≡ length (lines_of bytes) =
+    drop_nothing n (lines_of bytes) (sym h.rest_is ∙ ap lines_of end ∙ lines_of_nothing) h.within in
     record {
       all = all;
       sound = rw (← all) h.sound;
       are_told = rw (← all) h.are_told;
     }
+
+-- ---- what was read
+
+-- n lines were taken: all of these were read
+GaveLines-taken : (ended : Bool) (input after : Option (List ℕ)) (unread : List ℕ) (n : ℕ) →
+    (ended ≡ false → HasTaken input after unread n) → (ended ≡ true → IsAtEnd after) → GaveLines input after n
+unfolding GaveLines
+GaveLines-taken true input after unread n taken honest = inl (honest refl)
+GaveLines-taken false input after unread n taken honest =
+    let h = taken refl in
+    inr (
+      length (whole_lines_of h.read),
+      omega (arith, h.counted),
+      record { read = h.read; consumed = h.consumed; counted = refl },
+    )
+
+-- the input gave its end
+pub GaveLines-end : (input after : Option (List ℕ)) (n : ℕ) → IsAtEnd after → GaveLines input after n
+unfolding GaveLines
+GaveLines-end input after n end = inl end
+
+-- one line more was taken: what `next_line` ensures
+pub GaveLines-next : (before ended : Bool) (input between after : Option (List ℕ))
+    (u v line : List ℕ) (n m : ℕ) → m ≡ n + 1 →
+    (before ≡ false → HasTaken input between u n) →
+    (ended ≡ false → (before ≡ false) × HasNoFeed line × TakesBytes between after u v (line ++ 10 ∷ [])) →
+    (ended ≡ true → IsAtEnd after) → GaveLines input after m
+GaveLines-next before ended input between after u v line n m next taken takes honest =
+    GaveLines-taken ended input after v m
+    (HasTaken-next before ended input between after u v line n m next taken takes) honest
+
+-- so were the lines before it
+pub GaveLines-before : (input after : Option (List ℕ)) (n m : ℕ) → m ≡ n + 1
+    → GaveLines input after m → GaveLines input after n
+unfolding GaveLines
+GaveLines-before input after n m next (inl end) = inl end
+GaveLines-before input after n m next (inr gave) = inr (gave.0, omega (arith, next, gave.1), gave.2)
+
+-- of no line anything was read
+pub GaveLines-start : (input : Option (List ℕ)) → GaveLines input input 0
+unfolding GaveLines whole_lines_of
+GaveLines-start input =
+    inr (0, omega arith, record { read = []; consumed = Consumes-nil input; counted = refl })
 
 -- ---- where a run stops
 
@@ -143,7 +226,9 @@ abbrev pub IsDevice : RunFault → Type 0
 IsDevice fault = (fault ≡ run.Write) ⊎ (fault ≡ run.Memory)
 
 -- what is told of some lines
-pub told_so_far : {Y X : Type 0} (k : Kind Y X) (told all : List X → Type 0) (latest n : ℕ) (bytes rest : List ℕ) → HasRead k told latest n (lines_of bytes) rest → ((past : List X) → told past → all past) → IsToldOf k all (lines_of bytes) n
+pub told_so_far : {Y X : Type 0} (k : Kind Y X) (told all : List X → Type 0) (latest n : ℕ)
+    (bytes rest : List ℕ) → HasRead k told latest n (lines_of bytes) rest
+    → ((past : List X) → told past → all past) → IsToldOf k all (lines_of bytes) n
 told_so_far k told all latest n bytes rest h f = record {
   within = h.within;
   sound = h.sound;
@@ -151,10 +236,13 @@ told_so_far k told all latest n bytes rest h f = record {
 }
 
 -- memory ran out before anything was read
-pub stops-at-start : {Y X : Type 0} (k : Kind Y X) (all beginning : List X → Type 0) (input after : Option (List ℕ)) → beginning [] → IfSome input (λ bytes. StopsIn k all beginning bytes after run.Memory)
-stops-at-start k all beginning None after start = tt
-stops-at-start k all beginning (Some bytes) after start = (
+pub stops-at-start : {Y X : Type 0} (k : Kind Y X) (all beginning : List X → Type 0)
+    (input : Option (List ℕ)) → beginning [] →
+    IfSome input (λ bytes. StopsIn k all beginning bytes input run.Memory)
+stops-at-start k all beginning None start = tt
+stops-at-start k all beginning (Some bytes) start = (
   0,
+  GaveLines-start (Some bytes),
   record {
     within = omega arith;
     sound = λ i lt. absurd (omega arith);
@@ -164,19 +252,31 @@ stops-at-start k all beginning (Some bytes) after start = (
 
 module _ {Y X : Type 0} (k : Kind Y X) (told all beginning : List X → Type 0) where
   -- memory ran out, and of the lines so far a beginning is told
-  pub stops-memory : (latest n : ℕ) (input left after : Option (List ℕ)) → HasComeIn k told latest n input left → ((past : List X) → told past → beginning past) → IfSome input (λ bytes. StopsIn k all beginning bytes after run.Memory)
-  stops-memory latest n None left after h f = tt
-  stops-memory latest n (Some bytes) None after h f = absurd h
-  stops-memory latest n (Some bytes) (Some rest) after h f = (n, told_so_far k told beginning latest n bytes rest h f)
+  pub stops-memory : (latest n : ℕ) (input left after : Option (List ℕ))
+      → HasComeIn k told latest n input left → GaveLines input after n →
+      ((past : List X) → told past → beginning past)
+      → IfSome input (λ bytes. StopsIn k all beginning bytes after run.Memory)
+  stops-memory latest n None left after h gave f = tt
+  stops-memory latest n (Some bytes) None after h gave f = absurd h
+  stops-memory latest n (Some bytes) (Some rest) after h gave f =
+      (n, gave, told_so_far k told beginning latest n bytes rest h f)
 
   -- the writer failed
-  pub stops-write : (latest n : ℕ) (input left after : Option (List ℕ)) → HasComeIn k told latest n input left → ((past : List X) → told past → beginning past) → IfSome input (λ bytes. StopsIn k all beginning bytes after run.Write)
-  stops-write latest n None left after h f = tt
-  stops-write latest n (Some bytes) None after h f = absurd h
-  stops-write latest n (Some bytes) (Some rest) after h f = (n, told_so_far k told beginning latest n bytes rest h f)
+  pub stops-write : (latest n : ℕ) (input left after : Option (List ℕ))
+      → HasComeIn k told latest n input left → GaveLines input after n →
+      ((past : List X) → told past → beginning past)
+      → IfSome input (λ bytes. StopsIn k all beginning bytes after run.Write)
+  stops-write latest n None left after h gave f = tt
+  stops-write latest n (Some bytes) None after h gave f = absurd h
+  stops-write latest n (Some bytes) (Some rest) after h gave f =
+      (n, gave, told_so_far k told beginning latest n bytes rest h f)
 
   -- a line can't be read
-  one_of : (bytes : List ℕ) (after : Option (List ℕ)) (m : ℕ) (fault : LineFault) → (n : ℕ) × HaveFirstFault k (lines_of bytes) n (fault_with m fault) × all (items_of k (lines_of bytes) n) → (n : ℕ) × IsToldOf k beginning (lines_of bytes) n → StopsIn k all beginning bytes after (fault_with m fault)
+  one_of : (bytes : List ℕ) (after : Option (List ℕ)) (m : ℕ) (fault : LineFault) →
+      (n : ℕ) × GaveLines (Some bytes) after (n + 1) × HaveFirstFault k (lines_of bytes) n (fault_with m fault)
+      × all (items_of k (lines_of bytes) n) →
+      (n : ℕ) × GaveLines (Some bytes) after n × IsToldOf k beginning (lines_of bytes) n
+      → StopsIn k all beginning bytes after (fault_with m fault)
   one_of bytes after m BadLine h d = h
   one_of bytes after m TimeTooLarge h d = h
   one_of bytes after m TimeBack h d = h
@@ -184,39 +284,67 @@ module _ {Y X : Type 0} (k : Kind Y X) (told all beginning : List X → Type 0) 
   one_of bytes after m BadHex h d = h
   one_of bytes after m Memory h d = d
 
-  first_fault : (latest n : ℕ) (lines : List (List ℕ)) (old_rest rest line : List ℕ) (fault : LineFault) → n < 1000000 → length line ≤ 4200 → HasRead k told latest n lines old_rest → lines_of old_rest ≡ line ∷ lines_of rest → k.says latest line ≡ Err fault → ((past : List X) → told past → all past) → (i : ℕ) × HaveFirstFault k lines i (fault_with (n + 1) fault) × all (items_of k lines i)
+  first_fault : (latest n : ℕ) (lines : List (List ℕ)) (old_rest rest line : List ℕ) (fault : LineFault) → n < 1000000 →
+      length line ≤ 4200 → HasRead k told latest n lines old_rest → lines_of old_rest ≡ line ∷ lines_of rest →
+      k.says latest line ≡ Err fault → ((past : List X) → told past → all past) →
+      HaveFirstFault k lines n (fault_with (n + 1) fault) × all (items_of k lines n)
   first_fault latest n lines old_rest rest line fault few short h takes said f =
       let next = next_line_is lines n line old_rest rest h.rest_is takes in
-      let says_fault : item_said k lines n ≡ Err fault = said_then k lines n line latest next.line_is h.latest_is said in
+      let says_fault : item_said k lines n ≡ Err fault =
+      said_then k lines n line latest next.line_is h.latest_is said in
       let within : n < length lines = omega (arith, next.within) in
-      (n, (within, h.sound, fault_at_line k lines n line few next.line_is short ∙ ap (fault_said (n + 1)) says_fault), f (items_of k lines n) h.are_told)
+      let fault_is = fault_at_line k lines n line few next.line_is short ∙ ap (fault_said (n + 1)) says_fault in
+      ((within, h.sound, fault_is), f (items_of k lines n) h.are_told)
 
-  stops_said : (latest n : ℕ) (input before rest after : Option (List ℕ)) (line : List ℕ) (fault : LineFault) → IsTaken n line before rest → HasComeIn k told latest n input before → k.says latest line ≡ Err fault → ((past : List X) → told past → all past) → ((past : List X) → told past → beginning past) → IfSome input (λ bytes. StopsIn k all beginning bytes after (fault_with (n + 1) fault))
-  stops_said latest n None before rest after line fault taken h said f g = tt
-  stops_said latest n (Some bytes) None rest after line fault taken h said f g = absurd h
-  stops_said latest n (Some bytes) (Some before) None after line fault taken h said f g = absurd taken.takes
-  stops_said latest n (Some bytes) (Some before) (Some rest) after line fault taken h said f g =
-      one_of bytes after (n + 1) fault (first_fault latest n (lines_of bytes) before rest line fault taken.few taken.short h taken.takes said f)
-      (n, told_so_far k told beginning latest n bytes before h g)
+  stops_said : (latest n : ℕ) (input before rest after : Option (List ℕ)) (line : List ℕ) (fault : LineFault) →
+      IsTaken n line before rest → HasComeIn k told latest n input before → GaveLines input after (n + 1) →
+      k.says latest line ≡ Err fault → ((past : List X) → told past → all past) →
+      ((past : List X) → told past → beginning past) →
+      IfSome input (λ bytes. StopsIn k all beginning bytes after (fault_with (n + 1) fault))
+  stops_said latest n None before rest after line fault taken h gave said f g = tt
+  stops_said latest n (Some bytes) None rest after line fault taken h gave said f g = absurd h
+  stops_said latest n (Some bytes) (Some before) None after line fault taken h gave said f g = absurd taken.takes
+  stops_said latest n (Some bytes) (Some before) (Some rest) after line fault taken h gave said f g =
+      let first = first_fault latest n (lines_of bytes) before rest line fault taken.few taken.short
+      h taken.takes said f in
+      let gave_before = GaveLines-before (Some bytes) after n (n + 1) refl gave in
+      one_of bytes after (n + 1) fault (n, gave, first.0, first.1)
+      (n, gave_before, told_so_far k told beginning latest n bytes before h g)
 
-  pub stops-line : (latest n m : ℕ) (input before rest after : Option (List ℕ)) (line : List ℕ) (fault : LineFault) (stop : RunFault) → m ≡ n + 1 → stop ≡ fault_with m fault → (fault ≡ Memory) ⊎ (k.says latest line ≡ Err fault) → IsTaken n line before rest → HasComeIn k told latest n input before → ((past : List X) → told past → all past) → ((past : List X) → told past → beginning past) → IfSome input (λ bytes. StopsIn k all beginning bytes after stop)
-  stops-line latest n m input before rest after line fault stop place is (inl memory) taken h f g =
-      rw (is ∙ ap (fault_with m) memory) (stops-memory latest n input before after h g)
-  stops-line latest n m input before rest after line fault stop place is (inr said) taken h f g =
+  pub stops-line : (latest n m : ℕ) (input before rest after : Option (List ℕ)) (line : List ℕ)
+      (fault : LineFault) (stop : RunFault) →
+      m ≡ n + 1 → stop ≡ fault_with m fault → (fault ≡ Memory) ⊎ (k.says latest line ≡ Err fault)
+      → IsTaken n line before rest →
+      HasComeIn k told latest n input before → GaveLines input after m → ((past : List X) → told past → all past) →
+      ((past : List X) → told past → beginning past) → IfSome input (λ bytes. StopsIn k all beginning bytes after stop)
+  stops-line latest n m input before rest after line fault stop place is (inl memory) taken h gave f g =
+      rw (is ∙ ap (fault_with m) memory)
+      (stops-memory latest n input before after h (GaveLines-before input after n m place gave) g)
+  stops-line latest n m input before rest after line fault stop place is (inr said) taken h gave f g =
       let P : RunFault → Type 0 = λ s. IfSome input (λ bytes. StopsIn k all beginning bytes after s) in
-      subst P (sym (is ∙ ap (λ (i : ℕ). fault_with i fault) place)) (stops_said latest n input before rest after line fault taken h said f g)
+      let gave_all = subst (λ (i : ℕ). GaveLines input after i) place gave in
+      let stops = stops_said latest n input before rest after line fault taken h gave_all said f g in
+      subst P (sym (is ∙ ap (λ (i : ℕ). fault_with i fault) place)) stops
 
-  stop_answers : (latest n : ℕ) (bytes rest : List ℕ) (after : Option (List ℕ)) (fault : RunFault) → HasRead k told latest n (lines_of bytes) rest → CanStop fault n (Some rest) → (fault ≡ run.Read → GaveWhole (Some bytes) after n) → ((past : List X) → told past → all past) → StopsIn k all beginning bytes after fault
+  stop_answers : (latest n : ℕ) (bytes rest : List ℕ) (after : Option (List ℕ)) (fault : RunFault)
+      → HasRead k told latest n (lines_of bytes) rest → CanStop fault n (Some rest)
+      → (fault ≡ run.Read → GaveWhole (Some bytes) after n)
+      → ((past : List X) → told past → all past) → StopsIn k all beginning bytes after fault
   stop_answers latest n bytes rest after run.TooManyLines h stop gave f =
-      let place : nat_le 1000000 n ≡ true = grind (arith, common_steps, stop.0) in
-      (n, (more_left n (lines_of bytes) (rw (← h.rest_is) stop.1), h.sound, rw place refl), f (items_of k (lines_of bytes) n) h.are_told)
+      let place : nat_le 1000000 n ≡ true = grind (arith, common_steps, stop.0) in (
+        n,
+        (more_left n (lines_of bytes) (rw (← h.rest_is) stop.1), h.sound, rw place refl),
+        f (items_of k (lines_of bytes) n) h.are_told,
+      )
   stop_answers latest n bytes rest after (run.LineTooLong m) h stop gave f =
       let line = stop.2 in
       let begins = drop_begins n (lines_of bytes) line.0 line.1 (sym h.rest_is ∙ line.2) in
       let place : nat_le 1000000 n ≡ false = grind (arith, common_steps, stop.1) in
-      let size : nat_lt 4200 (length (get_or (lines_of bytes) n [])) ≡ true = rw begins.0 (grind (arith, common_steps, line.3)) in
+      let size : nat_lt 4200 (length (get_or (lines_of bytes) n [])) ≡ true =
+      rw begins.0 (grind (arith, common_steps, line.3)) in
       (n, (begins.2, h.sound, rw (place, size, stop.0) refl), f (items_of k (lines_of bytes) n) h.are_told)
-  stop_answers latest n bytes rest after run.Read h stop gave f = (n, gave refl, told_so_far k told all latest n bytes rest h f)
+  stop_answers latest n bytes rest after run.Read h stop gave f =
+      (n, gave refl, told_so_far k told all latest n bytes rest h f)
   stop_answers latest n bytes rest after run.Memory h stop gave f = absurd stop
   stop_answers latest n bytes rest after run.Write h stop gave f = absurd stop
   stop_answers latest n bytes rest after (run.BadLine m) h stop gave f = absurd stop
@@ -226,34 +354,64 @@ module _ {Y X : Type 0} (k : Kind Y X) (told all beginning : List X → Type 0) 
   stop_answers latest n bytes rest after (run.BadPort m) h stop gave f = absurd stop
 
   -- no further line could be taken
-  pub stops-reader : (latest n : ℕ) (input left after : Option (List ℕ)) (fault : RunFault) → HasComeIn k told latest n input left → CanStop fault n left → (fault ≡ run.Read → GaveWhole input after n) → ((past : List X) → told past → all past) → IfSome input (λ bytes. StopsIn k all beginning bytes after fault)
+  pub stops-reader : (latest n : ℕ) (input left after : Option (List ℕ)) (fault : RunFault)
+      → HasComeIn k told latest n input left → CanStop fault n left
+      → (fault ≡ run.Read → GaveWhole input after n) → ((past : List X) → told past → all past)
+      → IfSome input (λ bytes. StopsIn k all beginning bytes after fault)
   stops-reader latest n None left after fault h stop gave f = tt
   stops-reader latest n (Some bytes) None after fault h stop gave f = absurd h
-  stops-reader latest n (Some bytes) (Some rest) after fault h stop gave f = stop_answers latest n bytes rest after fault h stop gave f
+  stops-reader latest n (Some bytes) (Some rest) after fault h stop gave f =
+      stop_answers latest n bytes rest after fault h stop gave f
 
-device : {Y X : Type 0} (k : Kind Y X) (all beginning : List X → Type 0) (bytes : List ℕ) (after : Option (List ℕ)) (fault : RunFault) → IsDevice fault → (n : ℕ) × IsToldOf k beginning (lines_of bytes) n → StopsIn k all beginning bytes after fault
-device k all beginning bytes after fault (inl e) h = subst (λ (s : RunFault). StopsIn k all beginning bytes after s) (sym e) h
-device k all beginning bytes after fault (inr e) h = subst (λ (s : RunFault). StopsIn k all beginning bytes after s) (sym e) h
+device : {Y X : Type 0} (k : Kind Y X) (all beginning : List X → Type 0) (bytes : List ℕ)
+    (after : Option (List ℕ)) (fault : RunFault) →
+    IsDevice fault → (n : ℕ) × GaveLines (Some bytes) after n × IsToldOf k beginning (lines_of bytes) n →
+    StopsIn k all beginning bytes after fault
+device k all beginning bytes after fault (inl e) h =
+    subst (λ (s : RunFault). StopsIn k all beginning bytes after s) (sym e) h
+device k all beginning bytes after fault (inr e) h =
+    subst (λ (s : RunFault). StopsIn k all beginning bytes after s) (sym e) h
 
 module _ {Y X : Type 0} (k : Kind Y X) where
   -- a device failed, or memory ran out, after all lines were read
-  pub stops-device : (told all beginning : List X → Type 0) (latest n : ℕ) (input left after : Option (List ℕ)) (fault : RunFault) → IsDevice fault → HasComeIn k told latest n input left → ((past : List X) → told past → beginning past) →
+  pub stops-device : (told all beginning : List X → Type 0) (latest n : ℕ)
+      (input left after : Option (List ℕ)) (fault : RunFault) →
+      IsDevice fault → HasComeIn k told latest n input left → GaveLines input after n
+      → ((past : List X) → told past → beginning past) →
       IfSome input (λ bytes. StopsIn k all beginning bytes after fault)
-  stops-device told all beginning latest n None left after fault is h f = tt
-  stops-device told all beginning latest n (Some bytes) None after fault is h f = absurd h
-  stops-device told all beginning latest n (Some bytes) (Some rest) after fault is h f = device k all beginning bytes after fault is (n, told_so_far k told beginning latest n bytes rest h f)
+  stops-device told all beginning latest n None left after fault is h gave f = tt
+  stops-device told all beginning latest n (Some bytes) None after fault is h gave f = absurd h
+  stops-device told all beginning latest n (Some bytes) (Some rest) after fault is h gave f =
+      device k all beginning bytes after fault is (n, gave, told_so_far k told beginning latest n bytes rest h f)
 
   -- or while that was told which a line says
-  pub stops-item : (told all beginning : List X → Type 0) (latest n m : ℕ) (input before rest after : Option (List ℕ)) (line : List ℕ) (y : Y) (fault : RunFault) → IsDevice fault → m ≡ n + 1 → IsTaken n line before rest →
-      HasComeIn k told latest n input before → k.says latest line ≡ Ok (Some y) → ((past : List X) → told past → beginning past ⊎ beginning (k.item m y ∷ past)) → IfSome input (λ bytes. StopsIn k all beginning bytes after fault)
-  stops-item told all beginning latest n m None before rest after line y fault is place taken h said f = tt
-  stops-item told all beginning latest n m (Some bytes) None rest after line y fault is place taken h said f = absurd h
-  stops-item told all beginning latest n m (Some bytes) (Some before) None after line y fault is place taken h said f = absurd taken.takes
-  stops-item told all beginning latest n m (Some bytes) (Some before) (Some rest) after line y fault is place taken h said f =
+  pub stops-item : (told all beginning : List X → Type 0) (latest n m : ℕ)
+      (input before rest after : Option (List ℕ)) (line : List ℕ)
+      (y : Y) (fault : RunFault) → IsDevice fault → m ≡ n + 1 → IsTaken n line before rest
+      → HasComeIn k told latest n input before →
+      GaveLines input after m → k.says latest line ≡ Ok (Some y) →
+      ((past : List X) → told past → beginning past ⊎ beginning (k.item m y ∷ past)) →
+      IfSome input (λ bytes. StopsIn k all beginning bytes after fault)
+  stops-item told all beginning latest n m None before rest after line y fault is place taken h gave said f = tt
+  stops-item told all beginning latest n m (Some bytes) None rest after line y fault is place taken
+      h gave said f = absurd h
+  stops-item told all beginning latest n m (Some bytes) (Some before) None after line y fault is
+      place taken h gave said f =
+      absurd taken.takes
+  stops-item told all beginning latest n m (Some bytes) (Some before) (Some rest) after line y fault
+      is place taken h gave said f =
       device k all beginning bytes after fault is (elim (f (items_of k (lines_of bytes) n) h.are_told) [
-        | inl b ↦ (n, record { within = h.within; sound = h.sound; are_told = b })
+        | inl b ↦ (
+          n,
+          GaveLines-before (Some bytes) after n m place gave,
+          record { within = h.within; sound = h.sound; are_told = b },
+        )
         | inr b ↦
-            (let with_item : HasRead k (λ past. beginning (k.item m y ∷ past)) latest n (lines_of bytes) before = record { within = h.within; rest_is = h.rest_is; sound = h.sound; latest_is = h.latest_is; are_told = b } in
-            let come = HasCome-item k (λ past. beginning (k.item m y ∷ past)) beginning latest n m (Some bytes) (Some before) (Some rest) line y place taken with_item said (λ past told. told) in
-            (m, told_so_far k beginning beginning (k.time (k.item m y)) m bytes rest come (λ past told. told)))
+            (let next : List X → Type 0 = λ past. beginning (k.item m y ∷ past) in
+            let with_item : HasRead k next latest n (lines_of bytes) before =
+            record { within = h.within; rest_is = h.rest_is; sound = h.sound; latest_is = h.latest_is; are_told = b } in
+            let come = HasCome-item k next beginning latest n m (Some bytes) (Some before)
+            (Some rest) line y place taken with_item said
+            (λ past told. told) in
+            (m, gave, told_so_far k beginning beginning (k.time (k.item m y)) m bytes rest come (λ past told. told)))
       ])

@@ -1,5 +1,7 @@
 -- What a line of a submission list can say, and what its line number can be.
-use Rattle.std.proofs.Common.{◌≡◌, ℕ, zero, suc, ◌<◌, ◌≤◌, Bool, true, false, if◌then◌else◌, List, [], ◌∷◌, Option, Some, None, refl, ap, subst, ◌∙◌, arith, nat_lt, nat_le, slice_index_or}
+use Rattle.std.proofs.Common.{◌≡◌, ℕ, zero, suc, ◌<◌, ◌≤◌, Bool, true, false, if◌then◌else◌, List}
+use Rattle.std.proofs.Common.{[], ◌∷◌, Option, Some, None, refl, ap, subst, ◌∙◌, arith, nat_lt}
+use Rattle.std.proofs.Common.{nat_le, slice_index_or}
 use Rattle.std.specs.Prelude.{Result, Ok, Err}
 use Rattle.std.specs.List.{AllByRecursion}
 use Rattle.std.specs.Str.{bytes_eq}
@@ -10,7 +12,10 @@ use Rattle.hex.specs.declared.error.FromHexError.{FromHexError}
 use Rattle.hex.proofs.HexLemmas.{decode_of-ok}
 use Rattle.afdx_frame.specs.Sealing.{AreBytes}
 use Rattle.afdx_lists.specs.Fields.{number_of, bytes_of_digits, between_spaces, is_skipped, ok_of}
-use Rattle.afdx_lists.specs.SubmissionLines.{Submission, SubmissionFields, at_most, fields_with, fields_of_parts, submission_fields, submission_with, time_fault, fields_say, fields_say_with, submission_said}
+use Rattle.afdx_lists.specs.SubmissionLines.{Submission, SubmissionFields, at_most, fields_with}
+use Rattle.afdx_lists.specs.SubmissionLines.{fields_of_parts, submission_fields, submission_with}
+use Rattle.afdx_lists.specs.SubmissionLines.{time_fault, fields_say, fields_say_with}
+use Rattle.afdx_lists.specs.SubmissionLines.{submission_said}
 use Rattle.afdx_lists.specs.declared.fault.LineFault.{LineFault}
 use Rattle.afdx_replay.specs.Lists.{with_item, item_said, items_of, fault_in, HaveNoFault}
 use Rattle.afdx_replay.specs.SendEvents.{Handed, submissions}
@@ -35,25 +40,31 @@ within limit n (Some m) h = by (nat_lt limit m) refl h
   where
     by : (b : Bool) → nat_lt limit m ≡ b → (if b then None else Some m) ≡ Some n → n ≤ limit
     by true e k = absurd (cc k)
-    by false e k = (let same : m ≡ n = cc k in let le : m ≤ limit = grind (arith, nat_tests, e) in omega (arith, same, le))
+    by false e k = (let same : m ≡ n = cc k in let le : m ≤ limit = grind (arith, nat_tests, e) in
+        omega (arith, same, le))
 
-udp-of : (time vl sub udp : Option ℕ) (digits : List ℕ) (fields : SubmissionFields) → fields_with time vl sub udp digits ≡ Some fields → udp ≡ Some fields.udp
+udp-of : (time vl sub udp : Option ℕ) (digits : List ℕ) (fields : SubmissionFields)
+    → fields_with time vl sub udp digits ≡ Some fields → udp ≡ Some fields.udp
 udp-of (Some time) (Some vl) (Some sub) (Some udp) (digit ∷ digits) fields h =
-    (let same : record { time = time; vl = vl; sub = sub; udp = udp; digits = digit ∷ digits } ≡ fields = cc h in ap (λ (f : SubmissionFields). Some f.udp) same)
+    (let same : record { time = time; vl = vl; sub = sub; udp = udp; digits = digit ∷ digits }
+    ≡ fields = cc h in ap (λ (f : SubmissionFields). Some f.udp) same)
 udp-of (Some time) (Some vl) (Some sub) (Some udp) [] fields h = absurd (cc h)
 udp-of (Some time) (Some vl) (Some sub) None digits fields h = absurd (cc h)
 udp-of (Some time) (Some vl) None udp digits fields h = absurd (cc h)
 udp-of (Some time) None sub udp digits fields h = absurd (cc h)
 udp-of None vl sub udp digits fields h = absurd (cc h)
 
-udp-of-parts : (parts : List (List ℕ)) (fields : SubmissionFields) → fields_of_parts parts ≡ Some fields → fields.udp ≤ 65535
+udp-of-parts : (parts : List (List ℕ)) (fields : SubmissionFields)
+    → fields_of_parts parts ≡ Some fields → fields.udp ≤ 65535
 udp-of-parts [] fields h = absurd (cc h)
 udp-of-parts (time ∷ []) fields h = absurd (cc h)
 udp-of-parts (time ∷ vl ∷ []) fields h = absurd (cc h)
 udp-of-parts (time ∷ vl ∷ sub ∷ []) fields h = absurd (cc h)
 udp-of-parts (time ∷ vl ∷ sub ∷ udp ∷ []) fields h = absurd (cc h)
 udp-of-parts (time ∷ vl ∷ sub ∷ udp ∷ digits ∷ []) fields h =
-    within 65535 fields.udp (number_of udp) (udp-of (number_of time) (at_most 65535 (number_of vl)) (at_most 255 (number_of sub)) (at_most 65535 (number_of udp)) digits fields h)
+    within 65535 fields.udp (number_of udp)
+    (udp-of (number_of time) (at_most 65535 (number_of vl)) (at_most 255 (number_of sub))
+    (at_most 65535 (number_of udp)) digits fields h)
 udp-of-parts (time ∷ vl ∷ sub ∷ udp ∷ digits ∷ more ∷ rest) fields h = absurd (cc h)
 
 udp-of-fields : (text : List ℕ) (fields : SubmissionFields) → submission_fields text ≡ Some fields → fields.udp ≤ 65535
@@ -74,34 +85,50 @@ said-in-range : (latest : ℕ) (line : List ℕ) (x : Submission) → submission
 unfolding submission_said
 said-in-range latest line x h = by (is_skipped (strip_carriage_return line)) h
   where
-    with_bytes : (fields : SubmissionFields) → fields.udp ≤ 65535 → (o : Option (List ℕ)) → bytes_of_digits fields.digits ≡ o → submission_with fields o ≡ Ok (Some x) → IsInRange x
+    with_bytes : (fields : SubmissionFields) → fields.udp ≤ 65535 → (o : Option (List ℕ))
+        → bytes_of_digits fields.digits ≡ o → submission_with fields o ≡ Ok (Some x) → IsInRange x
     with_bytes fields udp None e k = absurd (cc k)
     with_bytes fields udp (Some bytes) e k =
-        (let same : record { time = fields.time; vl = fields.vl; sub = fields.sub; udp = fields.udp; payload = bytes } ≡ x = cc k in
+        (let same : record {
+          time = fields.time;
+          vl = fields.vl;
+          sub = fields.sub;
+          udp = fields.udp;
+          payload = bytes;
+        } ≡ x = cc k in
         subst (λ (z : Submission). IsInRange z) same (record { bytes = digits-bytes fields.digits bytes e; udp = udp }))
 
-    with_fault : (fields : SubmissionFields) → fields.udp ≤ 65535 → (o : Option LineFault) → fields_say_with fields o ≡ Ok (Some x) → IsInRange x
+    with_fault : (fields : SubmissionFields) → fields.udp ≤ 65535 → (o : Option LineFault)
+        → fields_say_with fields o ≡ Ok (Some x) → IsInRange x
     with_fault fields udp None k = with_bytes fields udp (bytes_of_digits fields.digits) refl k
     with_fault fields udp (Some fault) k = absurd (cc k)
 
-    with_fields : (o : Option SubmissionFields) → submission_fields (strip_carriage_return line) ≡ o → fields_say latest o ≡ Ok (Some x) → IsInRange x
+    with_fields : (o : Option SubmissionFields) → submission_fields (strip_carriage_return line) ≡ o
+        → fields_say latest o ≡ Ok (Some x) → IsInRange x
     with_fields None e k = absurd (cc k)
-    with_fields (Some fields) e k = with_fault fields (udp-of-fields (strip_carriage_return line) fields e) (time_fault fields.time latest) k
+    with_fields (Some fields) e k =
+        with_fault fields (udp-of-fields (strip_carriage_return line) fields e)
+        (time_fault fields.time latest) k
 
-    by : (b : Bool) → (if b then Ok None else fields_say latest (submission_fields (strip_carriage_return line))) ≡ Ok (Some x) → IsInRange x
+    by : (b : Bool) → (if b then Ok None else fields_say latest
+        (submission_fields (strip_carriage_return line))) ≡ Ok (Some x) → IsInRange x
     by true k = absurd (cc k)
     by false k = with_fields (submission_fields (strip_carriage_return line)) refl k
 
 -- ---- the items of a list
 
-said-upto : (most : ℕ) (list : List (List ℕ)) (n : ℕ) → n ≤ most → AllByRecursion (IsSaid most) (items_of submissions list n)
+said-upto : (most : ℕ) (list : List (List ℕ)) (n : ℕ) → n ≤ most
+    → AllByRecursion (IsSaid most) (items_of submissions list n)
 unfolding items_of
 said-upto most list zero le = tt
 said-upto most list (suc n) le = by (item_said submissions list n) refl (said-upto most list n (omega (arith, le)))
   where
-    by : (r : Result (Option Submission) LineFault) → item_said submissions list n ≡ r → AllByRecursion (IsSaid most) (items_of submissions list n) →
+    by : (r : Result (Option Submission) LineFault) → item_said submissions list n ≡ r
+        → AllByRecursion (IsSaid most) (items_of submissions list n) →
         AllByRecursion (IsSaid most) (with_item submissions (suc n) r (items_of submissions list n))
-    by (Ok (Some x)) e rest = (let range = said-in-range _ (slice_index_or list n []) x e in (record { line = le; bytes = range.bytes; udp = range.udp }, rest))
+    by (Ok (Some x)) e rest =
+        (let range = said-in-range _ (slice_index_or list n []) x e in
+        (record { line = le; bytes = range.bytes; udp = range.udp }, rest))
     by (Ok None) e rest = rest
     by (Err fault) e rest = rest
 
@@ -114,5 +141,6 @@ few-lines list (suc n) sound = by (nat_le 1000000 n) refl (sound n (omega arith)
     by false e h = (let lt : n < 1000000 = grind (arith, nat_tests, e) in omega (arith, lt))
     by true e h = absurd (let f = rw e at h in cc f)
 
-pub all-said : (list : List (List ℕ)) (n : ℕ) → HaveNoFault submissions list n → AllByRecursion (IsSaid 1000000) (items_of submissions list n)
+pub all-said : (list : List (List ℕ)) (n : ℕ) → HaveNoFault submissions list n
+    → AllByRecursion (IsSaid 1000000) (items_of submissions list n)
 all-said list n sound = said-upto 1000000 list n (few-lines list n sound)

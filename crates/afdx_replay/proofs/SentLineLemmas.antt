@@ -1,5 +1,8 @@
 -- The line of a frame that is sent, read as a line of a frame list.
-use Rattle.std.proofs.Common.{◌≡◌, ℕ, zero, suc, ◌/◌, ◌%◌, ◌^◌, ◌-◌, ◌<◌, ◌≤◌, ◌==◌, ◌&&◌, min, Bool, true, false, nat_lt, nat_eq, List, [], ◌∷◌, ◌++◌, length, Option, Some, None, Ok, refl, ap, sym, ◌∙◌, subst, arith, append_assoc}
+use Rattle.std.proofs.Common.{◌≡◌, ℕ, zero, suc, ◌/◌, ◌%◌, ◌^◌, ◌-◌, ◌<◌, ◌≤◌, ◌==◌, ◌&&◌, min}
+use Rattle.std.proofs.Common.{Bool, true, false, nat_lt, nat_eq, List, [], ◌∷◌, ◌++◌, length}
+use Rattle.std.proofs.Common.{Option, Some, None, Ok, refl, ap, sym, ◌∙◌, subst, arith}
+use Rattle.std.proofs.Common.{append_assoc}
 use Rattle.std.proofs.lemmas.Bool.Decides.{nat_tests}
 use Rattle.std.proofs.lemmas.Grind.{common_steps}
 use Rattle.std.proofs.lemmas.Fmt.{decimal_nonempty, digits_decimal, digits_value-decimal, length-decimal-le}
@@ -20,7 +23,9 @@ use Rattle.afdx_frame.specs.declared.link.Side.{Side}
 use Rattle.afdx_frame.specs.declared.link.Side.TheVariants.{A, B}
 use Rattle.afdx_police.specs.Arrival.{arrival_with}
 use Rattle.afdx_lists.specs.Fields.{between_spaces, number_of, number_after, all_digits, bytes_of_digits}
-use Rattle.afdx_lists.specs.FrameLines.{FrameFields, fields_of_parts, fields_with, kind_of, side_of, frame_fields, frame_bytes, frame_with, numbers_fault, line_says, saturated}
+use Rattle.afdx_lists.specs.FrameLines.{FrameFields, fields_of_parts, fields_with, kind_of, side_of}
+use Rattle.afdx_lists.specs.FrameLines.{frame_fields, frame_bytes, frame_with, numbers_fault}
+use Rattle.afdx_lists.specs.FrameLines.{line_says, saturated}
 use Rattle.afdx_lists.specs.Lines.{lines_of}
 use Rattle.afdx_lists.proofs.FieldLemmas.{number_of_digits, says_frame}
 use Rattle.afdx_lists.proofs.LineLemmas.{lines_of_feed, lines_of_nothing}
@@ -48,7 +53,8 @@ eqb-other a b h = grind (arith, nat_tests)
 
 pub none-below : (n b : ℕ) (xs : List ℕ) → b < n → AtLeast n xs → All (λ x. (x == b) ≡ false) xs
 none-below n b [] lt h k d within = absurd (omega (arith, within))
-none-below n b (x ∷ xs) lt h zero d within = eqb-other x b (λ e. (let k : n ≤ x = h.0 in absurd (omega (arith, e, k, lt))))
+none-below n b (x ∷ xs) lt h zero d within =
+    eqb-other x b (λ e. (let k : n ≤ x = h.0 in absurd (omega (arith, e, k, lt))))
 none-below n b (x ∷ xs) lt h (suc k) d within = none-below n b xs lt h.1 k d (omega (arith, within))
 
 pub index-least : (n i : ℕ) (xs : List ℕ) → i < length xs → AtLeast n xs → n ≤ slice_index xs i
@@ -86,17 +92,50 @@ numerals : IsNumeralModel AreDigits (number_after 0)
 numerals = numerals_by_fold AreDigits digits-test number_after (record { empty = λ n. refl; more = λ n c cs r. refl })
 
 number-decimal : (n : ℕ) → n < 2 ^ 64 → number_of (decimal n) ≡ Some n
-number-decimal n h = number_of_digits (decimal n) (decimal_nonempty n h) (digits_decimal numerals n h) ∙ ap Some (digits_value-decimal numerals n h)
+number-decimal n h = number_of_digits (decimal n) (decimal_nonempty n h)
+    (digits_decimal numerals n h) ∙ ap Some (digits_value-decimal numerals n h)
 
 digits-least : (ds : List ℕ) → AreDigits ds → AtLeast 48 ds
 digits-least [] h = tt
-digits-least (c ∷ cs) h = (let k = and_parts (is_ascii_digit c) (all_digits cs) h in ((digit-range c k.0).0, digits-least cs k.1))
+digits-least (c ∷ cs) h =
+    (let k = and_parts (is_ascii_digit c) (all_digits cs) h in
+    ((digit-range c k.0).0, digits-least cs k.1))
 
 pub decimal-least : (n : ℕ) → n < 2 ^ 64 → AtLeast 48 (decimal n)
 decimal-least n h = digits-least (decimal n) (digits_decimal numerals n h)
 
 table-least : AtLeast 48 lower_digits
-table-least = (omega arith, (omega arith, (omega arith, (omega arith, (omega arith, (omega arith, (omega arith, (omega arith, (omega arith, (omega arith, (omega arith, (omega arith, (omega arith, (omega arith, (omega arith, (omega arith, tt))))))))))))))))
+table-least = (
+  omega arith,
+  (
+    omega arith,
+    (
+      omega arith,
+      (
+        omega arith,
+        (
+          omega arith,
+          (
+            omega arith,
+            (
+              omega arith,
+              (
+                omega arith,
+                (
+                  omega arith,
+                  (
+                    omega arith,
+                    (omega arith, (omega arith, (omega arith, (omega arith, (omega arith, (omega arith, tt)))))),
+                  ),
+                ),
+              ),
+            ),
+          ),
+        ),
+      ),
+    ),
+  ),
+)
 
 hex-least : (bytes : List ℕ) → AreBytes bytes → AtLeast 48 (encode_lower bytes)
 unfolding encode_with
@@ -140,7 +179,8 @@ unfolding frame_bytes the_fields
 reads A time port [] bytes some = absurd (omega (arith, some))
 reads B time port [] bytes some = absurd (omega (arith, some))
 reads A time port (d ∷ digits) bytes some = record {
-  fields = the_fields (fields_with (kind_of (82 ∷ [])) (Some time) (side_of (side_text A)) (Some port) (d ∷ digits)) refl;
+  fields = the_fields (fields_with (kind_of (82 ∷ [])) (Some time) (side_of (side_text A))
+      (Some port) (d ∷ digits)) refl;
   are = refl;
   time_is = refl;
   port_is = refl;
@@ -148,7 +188,8 @@ reads A time port (d ∷ digits) bytes some = record {
   frame = refl;
 }
 reads B time port (d ∷ digits) bytes some = record {
-  fields = the_fields (fields_with (kind_of (82 ∷ [])) (Some time) (side_of (side_text B)) (Some port) (d ∷ digits)) refl;
+  fields = the_fields (fields_with (kind_of (82 ∷ [])) (Some time) (side_of (side_text B))
+      (Some port) (d ∷ digits)) refl;
   are = refl;
   time_is = refl;
   port_is = refl;
@@ -158,28 +199,36 @@ reads B time port (d ∷ digits) bytes some = record {
 
 whole : (fields : FrameFields) → fields.time ≤ 10 ^ 15 → fields.port ≤ 24 → saturated fields ≡ fields
 whole fields early most =
-    let t : min fields.time (2 ^ 64 - 1) ≡ fields.time = omega (arith, early) in let n : min fields.port (2 ^ 64 - 1) ≡ fields.port = omega (arith, most) in rw (t, n) refl
+    let t : min fields.time (2 ^ 64 - 1) ≡ fields.time = omega (arith, early) in
+    let n : min fields.port (2 ^ 64 - 1) ≡ fields.port = omega (arith, most) in rw (t, n) refl
 
-no-fault : (time port latest : ℕ) → 1 ≤ port → port ≤ 24 → time ≤ 10 ^ 15 → latest ≤ time → None ≡ numbers_fault time port latest
+no-fault : (time port latest : ℕ) → 1 ≤ port → port ≤ 24 → time ≤ 10 ^ 15 → latest ≤ time
+    → None ≡ numbers_fault time port latest
 no-fault time port latest one most early late = grind (arith, nat_tests, one, most, early, late)
 
 abbrev pub line_of : Side → ℕ → ℕ → List ℕ → List ℕ
 line_of side port time digits = 82 ∷ 32 ∷ (decimal time ++ 32 ∷ (side_text side ++ 32 ∷ (decimal port ++ 32 ∷ digits)))
 
 -- the letter of the side is one byte
-feed-at : (letter port time : ℕ) (bytes : List ℕ) → (82 ∷ 32 ∷ (decimal time ++ 32 ∷ letter ∷ 32 ∷ (decimal port ++ 32 ∷ encode_lower bytes))) ++ 10 ∷ [] ≡
+feed-at : (letter port time : ℕ) (bytes : List ℕ)
+    → (82 ∷ 32 ∷ (decimal time ++ 32 ∷ letter ∷ 32 ∷ (decimal port ++ 32 ∷ encode_lower bytes)))
+    ++ 10 ∷ [] ≡
     82 ∷ 32 ∷ (decimal time ++ 32 ∷ letter ∷ 32 ∷ (decimal port ++ 32 ∷ (encode_lower bytes ++ 10 ∷ [])))
 feed-at letter port time bytes =
     let d = encode_lower bytes in
-    let port_on : (decimal port ++ 32 ∷ d) ++ 10 ∷ [] ≡ decimal port ++ 32 ∷ (d ++ 10 ∷ []) = append_assoc (decimal port) (32 ∷ d) (10 ∷ []) in
-    let time_on = append_assoc (decimal time) (32 ∷ letter ∷ 32 ∷ (decimal port ++ 32 ∷ d)) (10 ∷ []) ∙ ap (λ (z : List ℕ). decimal time ++ 32 ∷ letter ∷ 32 ∷ z) port_on in
+    let port_on : (decimal port ++ 32 ∷ d) ++ 10 ∷ [] ≡ decimal port ++ 32 ∷ (d ++ 10 ∷ []) =
+    append_assoc (decimal port) (32 ∷ d) (10 ∷ []) in
+    let time_on = append_assoc (decimal time) (32 ∷ letter ∷ 32 ∷ (decimal port ++ 32 ∷ d))
+    (10 ∷ []) ∙ ap (λ (z : List ℕ). decimal time ++ 32 ∷ letter ∷ 32 ∷ z) port_on in
     ap (λ (z : List ℕ). 82 ∷ 32 ∷ z) time_on
 
-pub line-feed : (side : Side) (port time : ℕ) (bytes : List ℕ) → line_of side port time (encode_lower bytes) ++ 10 ∷ [] ≡ sent_line side port time bytes
+pub line-feed : (side : Side) (port time : ℕ) (bytes : List ℕ)
+    → line_of side port time (encode_lower bytes) ++ 10 ∷ [] ≡ sent_line side port time bytes
 line-feed A port time bytes = feed-at 65 port time bytes ∙ grind (arith, common_steps)
 line-feed B port time bytes = feed-at 66 port time bytes ∙ grind (arith, common_steps)
 
-module _ (side : Side) (port time : ℕ) (bytes : List ℕ) (one : 1 ≤ port) (most : port ≤ 24) (early : time ≤ 10 ^ 15) (frame : AreOfFrame bytes) where
+module _ (side : Side) (port time : ℕ) (bytes : List ℕ) (one : 1 ≤ port) (most : port ≤ 24)
+    (early : time ≤ 10 ^ 15) (frame : AreOfFrame bytes) where
   abbrev pub digits : List ℕ
   digits = encode_lower bytes
 
@@ -200,20 +249,30 @@ module _ (side : Side) (port time : ℕ) (bytes : List ℕ) (one : 1 ≤ port) (
     omega arith,
     (
       omega arith,
-      append-least 32 (decimal time) (32 ∷ (side_text side ++ 32 ∷ (decimal port ++ 32 ∷ digits))) (lower-least 32 48 (decimal time) (omega arith) (decimal-least time time_fits)) (
-        omega arith,
-        append-least 32 (side_text side) (32 ∷ (decimal port ++ 32 ∷ digits)) (lower-least 32 48 (side_text side) (omega arith) (side-least side))
-            (omega arith, append-least 32 (decimal port) (32 ∷ digits) (lower-least 32 48 (decimal port) (omega arith) (decimal-least port port_fits)) (omega arith, lower-least 32 48 digits (omega arith) digits_least)),
-      ),
+      append-least 32 (decimal time) (32 ∷ (side_text side ++ 32 ∷ (decimal port ++ 32 ∷ digits)))
+          (lower-least 32 48 (decimal time) (omega arith) (decimal-least time time_fits)) (
+            omega arith,
+            append-least 32 (side_text side) (32 ∷ (decimal port ++ 32 ∷ digits))
+                (lower-least 32 48 (side_text side) (omega arith) (side-least side)) (
+                  omega arith,
+                  append-least 32 (decimal port) (32 ∷ digits)
+                      (lower-least 32 48 (decimal port) (omega arith) (decimal-least port port_fits))
+                      (omega arith, lower-least 32 48 digits (omega arith) digits_least),
+                ),
+          ),
     ),
   )
 
   one-line : lines_of (sent_line side port time bytes) ≡ line ∷ []
   one-line =
-      ap lines_of (sym (line-feed side port time bytes)) ∙ lines_of_feed line [] (none-below 32 10 line (omega arith) line-least) ∙ ap (λ (z : List (List ℕ)). line ∷ z) lines_of_nothing
+      ap lines_of (sym (line-feed side port time bytes))
+      ∙ lines_of_feed line [] (none-below 32 10 line (omega arith) line-least)
+      ∙ ap (λ (z : List (List ℕ)). line ∷ z) lines_of_nothing
 
   no-return : line ≡ strip_carriage_return line
-  no-return = rw (eqb-other (slice_index line (length line - 1)) 13 (λ e. (let k = index-least 32 (length line - 1) line (omega arith) line-least in absurd (omega (arith, e, k))))) refl
+  no-return = rw (eqb-other (slice_index line (length line - 1)) 13
+      (λ e. (let k = index-least 32 (length line - 1) line (omega arith) line-least in
+      absurd (omega (arith, e, k))))) refl
 
   parts : between_spaces line ≡ (82 ∷ []) ∷ decimal time ∷ side_text side ∷ decimal port ∷ digits ∷ []
   parts =
@@ -222,10 +281,18 @@ module _ (side : Side) (port time : ℕ) (bytes : List ℕ) (one : 1 ≤ port) (
       let rest_side = side_text side ++ 32 ∷ rest_port in
       let rest_time = decimal time ++ 32 ∷ rest_side in
       let last = slice_split_none p digits (none-below 48 32 digits (omega arith) digits_least) in
-      let at_port = slice_split_at p (decimal port) 32 digits (none-below 48 32 (decimal port) (omega arith) (decimal-least port port_fits)) refl ∙ ap (λ (z : List (List ℕ)). decimal port ∷ z) last in
-      let at_side = slice_split_at p (side_text side) 32 rest_port (none-below 48 32 (side_text side) (omega arith) (side-least side)) refl ∙ ap (λ (z : List (List ℕ)). side_text side ∷ z) at_port in
-      let at_time = slice_split_at p (decimal time) 32 rest_side (none-below 48 32 (decimal time) (omega arith) (decimal-least time time_fits)) refl ∙ ap (λ (z : List (List ℕ)). decimal time ∷ z) at_side in
-      slice_split_at p (82 ∷ []) 32 rest_time (none-below 48 32 (82 ∷ []) (omega arith) (omega arith, tt)) refl ∙ ap (λ (z : List (List ℕ)). (82 ∷ []) ∷ z) at_time
+      let at_port = slice_split_at p (decimal port) 32 digits
+      (none-below 48 32 (decimal port) (omega arith) (decimal-least port port_fits)) refl
+      ∙ ap (λ (z : List (List ℕ)). decimal port ∷ z) last in
+      let at_side = slice_split_at p (side_text side) 32 rest_port
+      (none-below 48 32 (side_text side) (omega arith) (side-least side)) refl
+      ∙ ap (λ (z : List (List ℕ)). side_text side ∷ z) at_port in
+      let at_time = slice_split_at p (decimal time) 32 rest_side
+      (none-below 48 32 (decimal time) (omega arith) (decimal-least time time_fits)) refl
+      ∙ ap (λ (z : List (List ℕ)). decimal time ∷ z) at_side in
+      slice_split_at p (82 ∷ []) 32 rest_time
+      (none-below 48 32 (82 ∷ []) (omega arith) (omega arith, tt)) refl
+      ∙ ap (λ (z : List (List ℕ)). (82 ∷ []) ∷ z) at_time
 
   some_digits : 0 < length digits
   some_digits = let n = length-encode_with lower_digits bytes in let k = frame.least in omega (arith, n, k)
@@ -236,8 +303,11 @@ module _ (side : Side) (port time : ℕ) (bytes : List ℕ) (one : 1 ≤ port) (
   fields-are : frame_fields line ≡ Some r.fields
   unfolding frame_fields
   fields-are =
-      ap fields_of_parts parts ∙ ap (λ t. fields_with (kind_of (82 ∷ [])) t (side_of (side_text side)) (number_of (decimal port)) digits) (number-decimal time time_fits)
-      ∙ ap (λ n. fields_with (kind_of (82 ∷ [])) (Some time) (side_of (side_text side)) n digits) (number-decimal port port_fits) ∙ r.are
+      ap fields_of_parts parts
+      ∙ ap (λ t. fields_with (kind_of (82 ∷ [])) t (side_of (side_text side))
+      (number_of (decimal port)) digits) (number-decimal time time_fits)
+      ∙ ap (λ n. fields_with (kind_of (82 ∷ [])) (Some time) (side_of (side_text side)) n digits)
+      (number-decimal port port_fits) ∙ r.are
 
   r_early : r.fields.time ≤ 10 ^ 15
   r_early = let t = r.time_is in omega (arith, t, early)
@@ -251,11 +321,15 @@ module _ (side : Side) (port time : ℕ) (bytes : List ℕ) (one : 1 ≤ port) (
   r_late : (latest : ℕ) → latest ≤ time → latest ≤ r.fields.time
   r_late latest late = let t = r.time_is in omega (arith, t, late)
 
-  pub says-after : (latest : ℕ) → latest ≤ time → line_says latest line ≡ Ok (Some (record { time = time; side = side; port = port; bytes = bytes }))
+  pub says-after : (latest : ℕ) → latest ≤ time
+      → line_says latest line ≡ Ok (Some
+      (record { time = time; side = side; port = port; bytes = bytes }))
   says-after latest late =
-      says_frame latest line line r.fields no-return refl (sym (ap (option_map saturated) fields-are ∙ ap Some (whole r.fields r_early r_most)))
+      says_frame latest line line r.fields no-return refl
+      (sym (ap (option_map saturated) fields-are ∙ ap Some (whole r.fields r_early r_most)))
       (no-fault r.fields.time r.fields.port latest r_one r_most r_early (r_late latest late)) r_early r_most
-      ∙ ap (frame_with r.fields) (ap bytes_of_digits r.digits_are ∙ bytes-back bytes frame.are_bytes frame.least) ∙ r.frame
+      ∙ ap (frame_with r.fields)
+      (ap bytes_of_digits r.digits_are ∙ bytes-back bytes frame.are_bytes frame.least) ∙ r.frame
 
   pub says : line_says 0 line ≡ Ok (Some (record { time = time; side = side; port = port; bytes = bytes }))
   says = says-after 0 (omega arith)
@@ -278,7 +352,8 @@ module _ (side : Side) (port time : ℕ) (bytes : List ℕ) (one : 1 ≤ port) (
 
   fine : fault_in frames (line ∷ []) 0 ≡ None
   unfolding items_of
-  fine = let size : nat_lt 4200 (length line) ≡ false = grind (arith, nat_tests, short) in rw size (ap (λ r. fault_said 1 r) says)
+  fine = let size : nat_lt 4200 (length line) ≡ false = grind (arith, nat_tests, short) in
+      rw size (ap (λ r. fault_said 1 r) says)
 
   arrived : items_of frames (line ∷ []) 1 ≡ arrival_with 1 time side port bytes ∷ []
   unfolding items_of
@@ -292,7 +367,8 @@ module _ (side : Side) (port time : ℕ) (bytes : List ℕ) (one : 1 ≤ port) (
   sent-line = record {
     one_line = ap length one-line;
     sound = subst (λ (z : List (List ℕ)). HaveNoFault frames z 1) (sym one-line) are-sound;
-    arrivals = subst (λ (z : List (List ℕ)). arrivals_of z 1 ≡ arrival_with 1 time side port bytes ∷ []) (sym one-line) arrived;
+    arrivals = subst (λ (z : List (List ℕ)). arrivals_of z 1 ≡ arrival_with 1 time side port bytes
+        ∷ []) (sym one-line) arrived;
   }
 
 pub sent-lines : SentLinesAreArrivals

@@ -1,5 +1,6 @@
 -- What a run that polices one link has told.
-use Rattle.std.proofs.Common.{◌≡◌, ℕ, ◌+◌, List, [], ◌∷◌, refl, ap, sym, ◌∙◌, subst, Option, Some, None, arith, IfSome, Bool, true, false, not, is_some}
+use Rattle.std.proofs.Common.{◌≡◌, ℕ, ◌+◌, List, [], ◌∷◌, refl, ap, sym, ◌∙◌, subst, Option, Some}
+use Rattle.std.proofs.Common.{None, arith, IfSome, Bool, true, false, not, is_some}
 use Rattle.std.specs.Prelude.{if◌then◌else◌}
 use Rattle.std.specs.Io.KnownBytes.{Appends}
 use Rattle.std.proofs.KnownBytes.{Appends-trans, Appends-nil}
@@ -16,11 +17,23 @@ use Rattle.afdx_replay.specs.Listed.{frames}
 use Rattle.afdx_replay.specs.Stops.{StopsAt}
 use Rattle.afdx_replay.specs.PoliceText.{text_of, accepted_in, dropped_in, verdict_line}
 use Rattle.afdx_replay.specs.Policed.{WritesText, WritesBeginning, WritesAll}
-use Rattle.afdx_replay.specs.Policers.{HaveSeen, HasTold}
+use Rattle.afdx_replay.specs.Policers.{HaveSeen}
 use Rattle.afdx_replay.proofs.RunLemmas.{IsDone, stops-at-start}
-use Rattle.afdx_replay.proofs.TextLemmas.{text_of-none, text_of-more, accepted_in-none, dropped_in-none, accepted_in-accepted, accepted_in-dropped, dropped_in-accepted, dropped_in-dropped, front-whole, front-more}
+use Rattle.afdx_replay.proofs.TextLemmas.{text_of-none, text_of-more, accepted_in-none}
+use Rattle.afdx_replay.proofs.TextLemmas.{dropped_in-none, accepted_in-accepted}
+use Rattle.afdx_replay.proofs.TextLemmas.{accepted_in-dropped, dropped_in-accepted}
+use Rattle.afdx_replay.proofs.TextLemmas.{dropped_in-dropped, front-whole, front-more}
 
-pub told-start : (rule : Rule) (policers : Policers) (output : Option (List ℕ)) → HaveSeen policers rule [] → HasTold rule policers 0 0 output output []
+-- These arrivals are told: the accounts stand for them, they are counted, and their text is written
+pub record HasTold (rule : Rule) (policers : Policers) (accepted dropped : ℕ)
+    (old new : Option (List ℕ)) (past : List Arrival) : Type 0 where
+  pub seen : HaveSeen policers rule past
+  pub accepted_is : accepted ≡ accepted_in rule past
+  pub dropped_is : dropped ≡ dropped_in rule past
+  pub written : WritesText rule old new past
+
+pub told-start : (rule : Rule) (policers : Policers) (output : Option (List ℕ))
+    → HaveSeen policers rule [] → HasTold rule policers 0 0 output output []
 told-start rule policers output seen = record {
   seen = seen;
   accepted_is = sym (accepted_in-none rule);
@@ -33,31 +46,50 @@ pub record Counts (reason : Option Reason) (accepted dropped accepted' dropped' 
   pub if_accepted : reason ≡ None → (accepted' ≡ accepted + 1) × (dropped' ≡ dropped)
   pub if_dropped : (why : Reason) → reason ≡ Some why → (accepted' ≡ accepted) × (dropped' ≡ dropped + 1)
 
-pub counts_if : (reason : Option Reason) (accepted dropped accepted' dropped' : ℕ) (none : Bool) → is_some reason ≡ not none
-    → accepted' ≡ (if none then accepted + 1 else accepted) → dropped' ≡ (if not none then dropped + 1 else dropped) → Counts reason accepted dropped accepted' dropped'
-counts_if None accepted dropped accepted' dropped' true n a d = record { if_accepted = λ e. (a, d); if_dropped = λ why e. cc }
+pub counts_if : (reason : Option Reason) (accepted dropped accepted' dropped' : ℕ) (none : Bool)
+    → is_some reason ≡ not none
+    → accepted' ≡ (if none then accepted + 1 else accepted)
+    → dropped' ≡ (if not none then dropped + 1 else dropped)
+    → Counts reason accepted dropped accepted' dropped'
+counts_if None accepted dropped accepted' dropped' true n a d =
+    record { if_accepted = λ e. (a, d); if_dropped = λ why e. cc }
 counts_if None accepted dropped accepted' dropped' false n a d = cc
 counts_if (Some reason) accepted dropped accepted' dropped' true n a d = cc
-counts_if (Some reason) accepted dropped accepted' dropped' false n a d = record { if_accepted = λ e. cc; if_dropped = λ why e. (a, d) }
+counts_if (Some reason) accepted dropped accepted' dropped' false n a d =
+    record { if_accepted = λ e. cc; if_dropped = λ why e. (a, d) }
 
-pub counts-one : (reason : Option Reason) (accepted dropped accepted' dropped' : ℕ) → Counts reason accepted dropped accepted' dropped' → accepted' + dropped' ≡ accepted + dropped + 1
+pub counts-one : (reason : Option Reason) (accepted dropped accepted' dropped' : ℕ)
+    → Counts reason accepted dropped accepted' dropped' → accepted' + dropped' ≡ accepted + dropped + 1
 counts-one None accepted dropped accepted' dropped' k = let one = k.if_accepted refl in omega (arith, one.0, one.1)
-counts-one (Some why) accepted dropped accepted' dropped' k = let one = k.if_dropped why refl in omega (arith, one.0, one.1)
+counts-one (Some why) accepted dropped accepted' dropped' k = let one = k.if_dropped why refl in
+    omega (arith, one.0, one.1)
 
-counted : (rule : Rule) (x : Arrival) (past : List Arrival) (reason : Option Reason) (accepted dropped accepted' dropped' : ℕ)
-    → reason ≡ verdict_in rule past x → Counts reason accepted dropped accepted' dropped' → accepted ≡ accepted_in rule past → dropped ≡ dropped_in rule past
+counted : (rule : Rule) (x : Arrival) (past : List Arrival) (reason : Option Reason)
+    (accepted dropped accepted' dropped' : ℕ)
+    → reason ≡ verdict_in rule past x → Counts reason accepted dropped accepted' dropped'
+    → accepted ≡ accepted_in rule past → dropped ≡ dropped_in rule past
     → (accepted' ≡ accepted_in rule (x ∷ past)) × (dropped' ≡ dropped_in rule (x ∷ past))
 counted rule x past None accepted dropped accepted' dropped' e k a d =
-    let one = k.if_accepted refl in
-    (one.0 ∙ ap (λ (n : ℕ). n + 1) a ∙ sym (accepted_in-accepted rule x past e), one.1 ∙ d ∙ sym (dropped_in-accepted rule x past e))
+    let one = k.if_accepted refl in (
+      one.0 ∙ ap (λ (n : ℕ). n + 1) a ∙ sym (accepted_in-accepted rule x past e),
+      one.1 ∙ d
+          ∙ sym (dropped_in-accepted rule x past e),
+    )
 counted rule x past (Some why) accepted dropped accepted' dropped' e k a d =
-    let one = k.if_dropped why refl in
-    (one.0 ∙ a ∙ sym (accepted_in-dropped rule x past why e), one.1 ∙ ap (λ (n : ℕ). n + 1) d ∙ sym (dropped_in-dropped rule x past why e))
+    let one = k.if_dropped why refl in (
+      one.0 ∙ a ∙ sym (accepted_in-dropped rule x past why e),
+      one.1 ∙ ap (λ (n : ℕ). n + 1) d
+          ∙ sym (dropped_in-dropped rule x past why e),
+    )
 
 -- an arrival more, whose verdict's line was written
-pub told-next : (rule : Rule) (policers after : Policers) (accepted dropped accepted' dropped' : ℕ) (old new newer : Option (List ℕ)) (x : Arrival) (past : List Arrival) (reason : Option Reason) (text : List ℕ)
-    → HasTold rule policers accepted dropped old new past → reason ≡ verdict_in rule past x → HaveSeen after rule (x ∷ past) → Counts reason accepted dropped accepted' dropped'
-    → text ≡ verdict_line x.tag x.side reason → Appends new newer text → HasTold rule after accepted' dropped' old newer (x ∷ past)
+pub told-next : (rule : Rule) (policers after : Policers) (accepted dropped accepted' dropped' : ℕ)
+    (old new newer : Option (List ℕ)) (x : Arrival) (past : List Arrival) (reason : Option Reason)
+    (text : List ℕ)
+    → HasTold rule policers accepted dropped old new past → reason ≡ verdict_in rule past x
+    → HaveSeen after rule (x ∷ past) → Counts reason accepted dropped accepted' dropped'
+    → text ≡ verdict_line x.tag x.side reason → Appends new newer text
+    → HasTold rule after accepted' dropped' old newer (x ∷ past)
 told-next rule policers after accepted dropped accepted' dropped' old new newer x past reason text h e seen k t w =
     let counts = counted rule x past reason accepted dropped accepted' dropped' e k h.accepted_is h.dropped_is in
     record {
@@ -65,26 +97,45 @@ told-next rule policers after accepted dropped accepted' dropped' old new newer 
       accepted_is = counts.0;
       dropped_is = counts.1;
       written = subst (λ (t : List ℕ). Appends old newer t) (sym (text_of-more rule x past reason e))
-          (Appends-trans old new newer (text_of rule past) (verdict_line x.tag x.side reason) h.written (subst (λ (t : List ℕ). Appends new newer t) t w));
+          (Appends-trans old new newer (text_of rule past) (verdict_line x.tag x.side reason)
+          h.written (subst (λ (t : List ℕ). Appends new newer t) t w));
     }
 
 -- of an arrival more, of whose verdict's line a beginning was written
-pub begun-next : (rule : Rule) (policers : Policers) (accepted dropped : ℕ) (old new newer : Option (List ℕ)) (x : Arrival) (past : List Arrival) (reason : Option Reason) (text : List ℕ)
-    → HasTold rule policers accepted dropped old new past → reason ≡ verdict_in rule past x → text ≡ verdict_line x.tag x.side reason → AppendsFront new newer text
+pub begun-next : (rule : Rule) (policers : Policers) (accepted dropped : ℕ)
+    (old new newer : Option (List ℕ)) (x : Arrival) (past : List Arrival) (reason : Option Reason)
+    (text : List ℕ)
+    → HasTold rule policers accepted dropped old new past → reason ≡ verdict_in rule past x
+    → text ≡ verdict_line x.tag x.side reason → AppendsFront new newer text
     → WritesBeginning rule old newer (x ∷ past)
 begun-next rule policers accepted dropped old new newer x past reason text h e t w =
     subst (λ (t : List ℕ). AppendsFront old newer t) (sym (text_of-more rule x past reason e))
-    (front-more old new newer (text_of rule past) (verdict_line x.tag x.side reason) h.written (subst (λ (t : List ℕ). AppendsFront new newer t) t w))
+    (front-more old new newer (text_of rule past) (verdict_line x.tag x.side reason) h.written
+    (subst (λ (t : List ℕ). AppendsFront new newer t) t w))
 
-pub told-text : (rule : Rule) (policers : Policers) (accepted dropped : ℕ) (old new : Option (List ℕ)) (past : List Arrival) → HasTold rule policers accepted dropped old new past → WritesText rule old new past
+pub told-text : (rule : Rule) (policers : Policers) (accepted dropped : ℕ)
+    (old new : Option (List ℕ)) (past : List Arrival)
+    → HasTold rule policers accepted dropped old new past → WritesText rule old new past
 told-text rule policers accepted dropped old new past h = h.written
 
-pub told-front : (rule : Rule) (policers : Policers) (accepted dropped : ℕ) (old new : Option (List ℕ)) (past : List Arrival) → HasTold rule policers accepted dropped old new past → WritesBeginning rule old new past
+pub told-front : (rule : Rule) (policers : Policers) (accepted dropped : ℕ)
+    (old new : Option (List ℕ)) (past : List Arrival)
+    → HasTold rule policers accepted dropped old new past → WritesBeginning rule old new past
 told-front rule policers accepted dropped old new past h = front-whole old new (text_of rule past) h.written
 
 -- all arrivals are told
-done_all : (rule : Rule) (policers : Policers) (accepted dropped n : ℕ) (lines : List (List ℕ)) (old new : Option (List ℕ)) (summary : Summary)
-    → IsDone frames (HasTold rule policers accepted dropped old new) n lines → summary ≡ record { lines = n; accepted = accepted; dropped = dropped; lost = 0; departed = 0; too_old = 0; delivered = 0 }
+done_all : (rule : Rule) (policers : Policers) (accepted dropped n : ℕ) (lines : List (List ℕ))
+    (old new : Option (List ℕ)) (summary : Summary)
+    → IsDone frames (HasTold rule policers accepted dropped old new) n lines
+    → summary ≡ record {
+      lines = n;
+      accepted = accepted;
+      dropped = dropped;
+      lost = 0;
+      departed = 0;
+      too_old = 0;
+      delivered = 0;
+    }
     → WritesAll rule lines old new summary
 done_all rule policers accepted dropped n lines old new summary h e = record {
   sound = h.sound;
@@ -92,14 +143,28 @@ done_all rule policers accepted dropped n lines old new summary h e = record {
   counted = cc (e, h.all, h.are_told.accepted_is, h.are_told.dropped_is);
 }
 
-pub told-done : (rule : Rule) (policers : Policers) (accepted dropped n : ℕ) (input old new : Option (List ℕ)) (summary : Summary)
-    → IfSome input (λ bytes. IsDone frames (HasTold rule policers accepted dropped old new) n (lines_of bytes)) → summary ≡ record { lines = n; accepted = accepted; dropped = dropped; lost = 0; departed = 0; too_old = 0; delivered = 0 }
+pub told-done : (rule : Rule) (policers : Policers) (accepted dropped n : ℕ)
+    (input old new : Option (List ℕ)) (summary : Summary)
+    → IfSome input (λ bytes. IsDone frames (HasTold rule policers accepted dropped old new) n
+    (lines_of bytes)) → summary ≡ record {
+      lines = n;
+      accepted = accepted;
+      dropped = dropped;
+      lost = 0;
+      departed = 0;
+      too_old = 0;
+      delivered = 0;
+    }
     → IfSome input (λ bytes. WritesAll rule (lines_of bytes) old new summary)
 told-done rule policers accepted dropped n None old new summary h e = tt
-told-done rule policers accepted dropped n (Some bytes) old new summary h e = done_all rule policers accepted dropped n (lines_of bytes) old new summary h e
+told-done rule policers accepted dropped n (Some bytes) old new summary h e =
+    done_all rule policers accepted dropped n (lines_of bytes) old new summary h e
 
 -- memory ran out before anything was read
-pub stops-start : (rule : Rule) (input after output : Option (List ℕ)) → IfSome input (λ bytes. StopsAt (WritesText rule output output) (WritesBeginning rule output output) bytes after run.Memory)
-stops-start rule input after output =
-    stops-at-start frames (WritesText rule output output) (WritesBeginning rule output output) input after
-    (subst (λ (t : List ℕ). AppendsFront output output t) (sym (text_of-none rule)) (front-whole output output [] (Appends-nil output)))
+pub stops-start : (rule : Rule) (input output : Option (List ℕ)) →
+    IfSome input (λ bytes. StopsAt (WritesText rule output output)
+    (WritesBeginning rule output output) bytes input run.Memory)
+stops-start rule input output =
+    stops-at-start frames (WritesText rule output output) (WritesBeginning rule output output) input
+    (subst (λ (t : List ℕ). AppendsFront output output t) (sym (text_of-none rule))
+    (front-whole output output [] (Appends-nil output)))

@@ -1,7 +1,6 @@
 pub mod Lists
 pub mod Listed
 pub mod Stops
-pub mod Progress
 pub mod PoliceText
 pub mod Policed
 pub mod Policers

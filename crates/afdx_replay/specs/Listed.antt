@@ -1,11 +1,10 @@
--- The arrivals that the lines of a frame list say, and its first fault.
+-- The arrivals that the lines of a frame list say.
 -- A list of arrivals has the newest first.
 use Rattle.std.specs.Prelude.{ℕ, List, Option, Result}
 use Rattle.afdx_police.specs.Arrival.{Arrival}
 use Rattle.afdx_lists.specs.FrameLines.{Frame, line_says}
-use Rattle.afdx_lists.specs.declared.fault.RunFault.{RunFault}
 use Rattle.afdx_lists.specs.declared.fault.LineFault.{LineFault}
-use Rattle.afdx_replay.specs.Lists.{Kind, latest_in, with_item, item_after, items_of, HaveNoFault, HaveFirstFault}
+use Rattle.afdx_replay.specs.Lists.{Kind, latest_in, with_item, item_after, items_of, HaveNoFault}
 
 -- the arrival of the frame of line n
 abbrev pub arrival_at : ℕ → Frame → Arrival
@@ -35,7 +34,3 @@ arrivals_of lines n = items_of frames lines n
 -- none of the first n lines has a fault
 abbrev pub AreSound : List (List ℕ) → ℕ → Type 0
 AreSound lines n = HaveNoFault frames lines n
-
--- the first fault of these lines stands at line n, counted from 0
-abbrev pub FirstFault : List (List ℕ) → ℕ → RunFault → Type 0
-FirstFault lines n fault = HaveFirstFault frames lines n fault

@@ -1,12 +1,10 @@
 -- What the accounts of a run stand for.
-use Rattle.std.specs.Prelude.{ℕ, ◌≡◌, ◌≤◌, List, Option}
+use Rattle.std.specs.Prelude.{ℕ, ◌≤◌, List}
 use Rattle.afdx_frame.specs.declared.link.Side.TheVariants.{A, B}
 use Rattle.afdx_police.specs.Arrival.{Arrival, own}
 use Rattle.afdx_police.specs.LinkAccounts.{StandsForOwn, last_time}
 use Rattle.afdx_police.specs.Rule.{Rule}
 use Rattle.afdx_replay.specs.declared.police_run.Policers.{Policers}
-use Rattle.afdx_replay.specs.PoliceText.{accepted_in, dropped_in}
-use Rattle.afdx_replay.specs.Policed.{WritesText}
 
 -- these arrivals came, and each side's account is the one that the link's own arrivals there leave
 pub record HaveSeen (policers : Policers) (rule : Rule) (past : List Arrival) : Type 0 where
@@ -17,11 +15,3 @@ pub record HaveSeen (policers : Policers) (rule : Rule) (past : List Arrival) : 
 pub record AreUntil (policers : Policers) (time : ℕ) : Type 0 where
   pub on_a : last_time policers.a ≤ time
   pub on_b : last_time policers.b ≤ time
-
--- These arrivals are told: the accounts stand for them, they are counted, and their text is written
-pub record HasTold (rule : Rule) (policers : Policers) (accepted dropped : ℕ)
-    (old new : Option (List ℕ)) (past : List Arrival) : Type 0 where
-  pub seen : HaveSeen policers rule past
-  pub accepted_is : accepted ≡ accepted_in rule past
-  pub dropped_is : dropped ≡ dropped_in rule past
-  pub written : WritesText rule old new past

@@ -27,7 +27,8 @@ use std::io::{Read, Write};
 ///
 /// After a fault of the list, or a failed read, all is told of the lines before it, and what has
 /// left a port is a beginning of the promised frames; after a failed write, or want of memory, a
-/// beginning of the promised text stands written. The errors are those of `run_unadmitted`.
+/// beginning of the promised text of lines that were read stands written. The errors are those of
+/// `run_unadmitted`.
 pub fn run<R: Read, W: Write>(
     alloc: Global,
     admitted: &Admitted,

@@ -1,7 +1,6 @@
 //! The worked rows of policing by a run, and a run on weak devices.
 
 mod checks;
-mod devices;
 mod end_to_end;
 mod premises;
 mod refusals;
@@ -68,46 +67,49 @@ fn answer(alloc: Global, rule: &LinkRule, list: &[u8]) -> (Result<Summary, RunFa
     (result, output.into_inner())
 }
 
+/// The greatest length of a frame of the link, a list, its text, and its counts: lines, accepted and
+/// dropped.
+const WORKED_LISTS: [(u64, &str, &str, [u64; 3]); 6] = [
+    (
+        64,
+        "F 0 A 1 H1\nF 499999 A 1 H1\nF 500000 A 1 H1\nF 1499999 A 1 H1\nF 1500000 A 1 H1\n",
+        "V 1 A accept\nV 2 A drop over-rate\nV 3 A accept\nV 4 A drop over-rate\nV 5 A accept\n",
+        [5, 3, 2],
+    ),
+    (
+        200,
+        "F 0 A 1 H1\nF 0 A 1 H1\nF 0 A 1 H1\nF 0 A 1 H1\n",
+        "V 1 A accept\nV 2 A accept\nV 3 A accept\nV 4 A drop over-rate\n",
+        [4, 3, 1],
+    ),
+    (
+        64,
+        "F 0 A 1 H1\nF 1000000000000000 A 1 H1\n",
+        "V 1 A accept\nV 2 A accept\n",
+        [2, 2, 0],
+    ),
+    (
+        64,
+        "F 0 A 2 H1\nF 0 B 1 H1\n",
+        "V 1 A drop wrong-port\nV 2 B accept\n",
+        [2, 1, 1],
+    ),
+    (64, "F 000 A 01 H1", "V 1 A accept\n", [1, 1, 0]),
+    (
+        64,
+        "\n# a remark\n\r\nF 0 A 1 H1\r\n\r",
+        "V 4 A accept\n",
+        [5, 1, 0],
+    ),
+];
+
 #[test]
 fn worked_lists(rt: HostRuntime) -> Result<(), Fail> {
-    let rows = [
-        (
-            64,
-            "F 0 A 1 H1\nF 499999 A 1 H1\nF 500000 A 1 H1\nF 1499999 A 1 H1\nF 1500000 A 1 H1\n",
-            "V 1 A accept\nV 2 A drop over-rate\nV 3 A accept\nV 4 A drop over-rate\nV 5 A accept\n",
-            counts(5, 3, 2),
-        ),
-        (
-            200,
-            "F 0 A 1 H1\nF 0 A 1 H1\nF 0 A 1 H1\nF 0 A 1 H1\n",
-            "V 1 A accept\nV 2 A accept\nV 3 A accept\nV 4 A drop over-rate\n",
-            counts(4, 3, 1),
-        ),
-        (
-            64,
-            "F 0 A 1 H1\nF 1000000000000000 A 1 H1\n",
-            "V 1 A accept\nV 2 A accept\n",
-            counts(2, 2, 0),
-        ),
-        (
-            64,
-            "F 0 A 2 H1\nF 0 B 1 H1\n",
-            "V 1 A drop wrong-port\nV 2 B accept\n",
-            counts(2, 1, 1),
-        ),
-        (64, "F 000 A 01 H1", "V 1 A accept\n", counts(1, 1, 0)),
-        (
-            64,
-            "\n# a remark\n\r\nF 0 A 1 H1\r\n\r",
-            "V 4 A accept\n",
-            counts(5, 1, 0),
-        ),
-    ];
-    for (lmax, list, text, want) in rows {
+    for (lmax, list, text, [lines, accepted, dropped]) in WORKED_LISTS {
         let rule = rule(lmax).ok_or("a rule")?;
         let spelled = spelled(rt.alloc(), list)?;
         let (result, written) = answer(rt.alloc(), &rule, spelled.as_bytes());
-        assert_eq!(rt; result, Ok(want), "{list}");
+        assert_eq!(rt; result, Ok(counts(lines, accepted, dropped)), "{list}");
         assert!(rt; written.as_slice() == text.as_bytes(), "{list}");
     }
     Ok(())

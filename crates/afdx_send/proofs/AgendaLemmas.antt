@@ -1,11 +1,15 @@
 -- A tournament has the soonest of its leaves at the root, and stays one.
-use Rattle.std.proofs.Common.{◌≡◌, ◌≢◌, ℕ, ◌+◌, ◌-◌, ◌*◌, ◌/◌, ◌<◌, ◌≤◌, List, [], ◌∷◌, length, replicate, Option, Some, None, option_map, MatchOption, inl, inr, refl, sym, ap, subst, arith, ◌∙◌, map, drop, suc, zero, slice_set, slice_index_or}
+use Rattle.std.proofs.Common.{◌≡◌, ◌≢◌, ℕ, ◌+◌, ◌-◌, ◌*◌, ◌/◌, ◌<◌, ◌≤◌, List, [], ◌∷◌, length}
+use Rattle.std.proofs.Common.{replicate, Option, Some, None, option_map, MatchOption, inl, inr}
+use Rattle.std.proofs.Common.{refl, sym, ap, subst, arith, ◌∙◌, map, drop, suc, zero, slice_set}
+use Rattle.std.proofs.Common.{slice_index_or}
 use Rattle.std.specs.List.{slice_get}
 use Rattle.std.proofs.lemmas.List.{map-set}
 use Rattle.std.proofs.lemmas.Option.{slice_get-map, slice_get-get_or, slice_get_within}
 use Rattle.std.proofs.lemmas.Bool.{cases_lt, cases_eq}
 use Rattle.afdx_send.specs.declared.agenda.Next.{Next}
-use Rattle.afdx_send.specs.Agenda.{IsAhead, IsSooner, IsWinner, IsTournament, times_of, NoneBefore, IsSoonest, next_with}
+use Rattle.afdx_send.specs.Agenda.{IsAhead, IsSooner, IsWinner, IsTournament, times_of, NoneBefore}
+use Rattle.afdx_send.specs.Agenda.{IsSoonest, next_with}
 use Rattle.afdx_send.proofs.ReleaseLemmas.{get_set_same, get_set_other, length_set}
 
 ahead_same : (a : Option Next) → IsAhead a a
@@ -43,10 +47,12 @@ drop_set_before (suc n) i y [] lt = refl
 drop_set_before (suc n) zero y (x ∷ xs) lt = refl
 drop_set_before (suc n) (suc i) y (x ∷ xs) lt = drop_set_before n i y xs (omega arith)
 
-drop_set_after : {Y : Type 0} (n i : ℕ) (y : Y) (xs : List Y) → drop n (slice_set xs (n + i) y) ≡ slice_set (drop n xs) i y
+drop_set_after : {Y : Type 0} (n i : ℕ) (y : Y) (xs : List Y) → drop n (slice_set xs (n + i) y)
+    ≡ slice_set (drop n xs) i y
 drop_set_after zero i y xs = ap (λ z. slice_set xs z y) (plus_zero i)
 drop_set_after (suc n) i y [] = refl
-drop_set_after (suc n) i y (x ∷ xs) = ap (λ z. drop (suc n) (slice_set (x ∷ xs) z y)) (sym (plus_suc n i)) ∙ drop_set_after n i y xs
+drop_set_after (suc n) i y (x ∷ xs) =
+    ap (λ z. drop (suc n) (slice_set (x ∷ xs) z y)) (sym (plus_suc n i)) ∙ drop_set_after n i y xs
 
 pub get_replicate : {Y : Type 0} (n i : ℕ) (y z : Y) → slice_get (replicate n y) i ≡ Some z → z ≡ y
 get_replicate zero i y z h = absurd (cc h)
@@ -66,7 +72,8 @@ length_replicate zero y = refl
 length_replicate (suc n) y = ap (λ k. suc k) (length_replicate n y)
 
 -- no link has a release
-pub new_tournament : (count : ℕ) (nodes : List (Option Next)) → count ≤ 4096 → nodes ≡ replicate (2 * count) None → IsTournament count nodes
+pub new_tournament : (count : ℕ) (nodes : List (Option Next)) → count ≤ 4096
+    → nodes ≡ replicate (2 * count) None → IsTournament count nodes
 new_tournament count nodes small e = subst (λ (z : List (Option Next)). IsTournament count z) (sym e) (record {
   size = length_replicate (2 * count) None;
   small = small;
@@ -78,7 +85,8 @@ new_tournament count nodes small e = subst (λ (z : List (Option Next)). IsTourn
   };
 })
 
-pub new_times : (count : ℕ) (nodes : List (Option Next)) → nodes ≡ replicate (2 * count) None → times_of count nodes ≡ replicate count None
+pub new_times : (count : ℕ) (nodes : List (Option Next)) → nodes ≡ replicate (2 * count) None
+    → times_of count nodes ≡ replicate count None
 new_times count nodes e =
     let two : 2 * count ≡ count + count = omega arith in
     ap (λ z. times_of count z) (e ∙ ap (λ n. replicate n None) two) ∙
@@ -89,11 +97,14 @@ read : (nodes : List (Option Next)) (i : ℕ) → i < length nodes → (a : Opti
 read nodes i lt = (slice_index_or nodes i None, slice_get-get_or nodes i None lt)
 
 -- the root goes before each node
-root_first : (count : ℕ) (nodes : List (Option Next)) → IsTournament count nodes → (r : Option Next) → slice_get nodes 1 ≡ Some r →
+root_first : (count : ℕ) (nodes : List (Option Next)) → IsTournament count nodes → (r : Option Next)
+    → slice_get nodes 1 ≡ Some r →
     (n i : ℕ) (a : Option Next) → i ≤ n → 1 ≤ i → slice_get nodes i ≡ Some a → IsAhead r a
 root_first count nodes t r root zero i a le one h = absurd (omega arith)
 root_first count nodes t r root (suc n) i a le one h = elim (cases_eq i 1) [
-  | inl e ↦ (let h' = subst (λ (z : ℕ). slice_get nodes z ≡ Some a) e h in let both : Some r ≡ Some a = sym root ∙ h' in let same : r ≡ a = cc both in subst (λ (z : Option Next). IsAhead r z) same (ahead_same r))
+  | inl e ↦ (let h' = subst (λ (z : ℕ). slice_get nodes z ≡ Some a) e h in let both : Some r
+      ≡ Some a = sym root ∙ h' in let same : r ≡ a = cc both in
+      subst (λ (z : Option Next). IsAhead r z) same (ahead_same r))
   | inr ne ↦ (let size = t.size in
       let within : i < length nodes = slice_get_within nodes i a h in
       let p : ℕ = i / 2 in
@@ -105,17 +116,22 @@ root_first count nodes t r root (suc n) i a le one h = elim (cases_eq i 1) [
       let w = t.winners p one' lt parent.0 left.0 right.0 parent.1 left.1 right.1 in
       let up = root_first count nodes t r root n p parent.0 (omega arith) one' parent.1 in
       elim (cases_eq i (2 * p)) [
-        | inl e ↦ (let h' = subst (λ (z : ℕ). slice_get nodes z ≡ Some a) e h in let both : Some left.0 ≡ Some a = sym left.1 ∙ h' in let same : left.0 ≡ a = cc both in
+        | inl e ↦ (let h' = subst (λ (z : ℕ). slice_get nodes z ≡ Some a) e h in
+            let both : Some left.0 ≡ Some a = sym left.1 ∙ h' in let same : left.0 ≡ a = cc both in
             subst (λ (z : Option Next). IsAhead r z) same (ahead_trans r parent.0 left.0 up w.left))
-        | inr ne' ↦ (let e : i ≡ 2 * p + 1 = omega arith in let h' = subst (λ (z : ℕ). slice_get nodes z ≡ Some a) e h in let both : Some right.0 ≡ Some a = sym right.1 ∙ h' in let same : right.0 ≡ a = cc both in
+        | inr ne' ↦ (let e : i ≡ 2 * p + 1 = omega arith in let h' =
+            subst (λ (z : ℕ). slice_get nodes z ≡ Some a) e h in let both : Some right.0 ≡ Some a =
+            sym right.1 ∙ h' in let same : right.0 ≡ a = cc both in
             subst (λ (z : Option Next). IsAhead r z) same (ahead_trans r parent.0 right.0 up w.right))
       ])
 ]
 
 -- each node is that of a leaf
 from_leaf : (count : ℕ) (nodes : List (Option Next)) → IsTournament count nodes →
-    (n i : ℕ) (a : Option Next) → 2 * count ≤ i + n → 1 ≤ i → slice_get nodes i ≡ Some a → (k : ℕ) × (slice_get nodes (count + k) ≡ Some a)
-from_leaf count nodes t zero i a le one h = absurd (let size = t.size in let within = slice_get_within nodes i a h in omega arith)
+    (n i : ℕ) (a : Option Next) → 2 * count ≤ i + n → 1 ≤ i → slice_get nodes i ≡ Some a
+    → (k : ℕ) × (slice_get nodes (count + k) ≡ Some a)
+from_leaf count nodes t zero i a le one h =
+    absurd (let size = t.size in let within = slice_get_within nodes i a h in omega arith)
 from_leaf count nodes t (suc n) i a le one h = elim (cases_lt i count) [
   | inl lt ↦ (let size = t.size in
       let left = read nodes (2 * i) (omega arith) in
@@ -123,26 +139,47 @@ from_leaf count nodes t (suc n) i a le one h = elim (cases_lt i count) [
       let w = t.winners i one lt a left.0 right.0 h left.1 right.1 in
       elim w.picks [
         | inl e ↦ from_leaf count nodes t n (2 * i) a (omega arith) (omega arith) (left.1 ∙ ap (λ z. Some z) (sym e))
-        | inr e ↦ from_leaf count nodes t n (2 * i + 1) a (omega arith) (omega arith) (right.1 ∙ ap (λ z. Some z) (sym e))
+        | inr e ↦ from_leaf count nodes t n (2 * i + 1) a (omega arith) (omega arith)
+            (right.1 ∙ ap (λ z. Some z) (sym e))
       ])
-  | inr ge ↦ (i - count, (let e : i ≡ count + (i - count) = omega arith in subst (λ (z : ℕ). slice_get nodes z ≡ Some a) e h))
+  | inr ge ↦ (
+    i - count,
+    (let e : i ≡ count + (i - count) = omega arith in
+        subst (λ (z : ℕ). slice_get nodes z ≡ Some a) e h),
+  )
 ]
 
-time_at : (count : ℕ) (nodes : List (Option Next)) (k : ℕ) (a : Option Next) → slice_get nodes (count + k) ≡ Some a → slice_get (times_of count nodes) k ≡ Some (option_map (λ next. next.time) a)
-time_at count nodes k a h = slice_get-map (λ x. option_map (λ next. next.time) x) (drop count nodes) k ∙ ap (λ z. option_map (λ x. option_map (λ next. next.time) x) z) (get_drop count k nodes ∙ h)
+time_at : (count : ℕ) (nodes : List (Option Next)) (k : ℕ) (a : Option Next)
+    → slice_get nodes (count + k) ≡ Some a → slice_get (times_of count nodes) k
+    ≡ Some (option_map (λ next. next.time) a)
+time_at count nodes k a h = slice_get-map (λ x. option_map (λ next. next.time) x) (drop count nodes)
+    k ∙ ap (λ z. option_map (λ x. option_map (λ next. next.time) x) z) (get_drop count k nodes ∙ h)
 
 -- a time is that of a leaf
-leaf_at : (count : ℕ) (nodes : List (Option Next)) → IsTournament count nodes → (k u : ℕ) → slice_get (times_of count nodes) k ≡ Some (Some u) →
+leaf_at : (count : ℕ) (nodes : List (Option Next)) → IsTournament count nodes → (k u : ℕ)
+    → slice_get (times_of count nodes) k ≡ Some (Some u) →
     (y : Next) × (slice_get nodes (count + k) ≡ Some (Some y)) × (y.time ≡ u)
 leaf_at count nodes t k u h = by_node (slice_get nodes (count + k)) refl
   where
-    by_node : (o : Option (Option Next)) → slice_get nodes (count + k) ≡ o → (y : Next) × (slice_get nodes (count + k) ≡ Some (Some y)) × (y.time ≡ u)
-    by_node None e = absurd (let f : slice_get (times_of count nodes) k ≡ None = slice_get-map (λ x. option_map (λ next. next.time) x) (drop count nodes) k ∙ ap (λ z. option_map (λ x. option_map (λ next. next.time) x) z) (get_drop count k nodes ∙ e) in let g : Some (Some u) ≡ None = sym h ∙ f in cc g)
-    by_node (Some None) e = absurd (let f = time_at count nodes k None e in let g : Some (Some u) ≡ Some None = sym h ∙ f in cc g)
-    by_node (Some (Some y)) e = (y, e, (let f = time_at count nodes k (Some y) e in let g : Some (Some u) ≡ Some (Some y.time) = sym h ∙ f in cc g))
+    by_node : (o : Option (Option Next)) → slice_get nodes (count + k) ≡ o → (y : Next)
+        × (slice_get nodes (count + k) ≡ Some (Some y)) × (y.time ≡ u)
+    by_node None e = absurd (let f : slice_get (times_of count nodes) k ≡ None =
+        slice_get-map (λ x. option_map (λ next. next.time) x) (drop count nodes) k
+        ∙ ap (λ z. option_map (λ x. option_map (λ next. next.time) x) z)
+        (get_drop count k nodes ∙ e) in let g : Some (Some u) ≡ None = sym h ∙ f in cc g)
+    by_node (Some None) e = absurd
+        (let f = time_at count nodes k None e in let g : Some (Some u) ≡ Some None = sym h ∙ f in cc g)
+    by_node (Some (Some y)) e = (
+      y,
+      e,
+      (let f = time_at count nodes k (Some y) e in let g : Some (Some u)
+          ≡ Some (Some y.time) = sym h ∙ f in cc g),
+    )
 
-pub root_is : (count : ℕ) (nodes : List (Option Next)) → IsTournament count nodes → (r : Option Next) → slice_get nodes 1 ≡ Some r →
-    MatchOption r ((t : ℕ) → NoneBefore (times_of count nodes) t) (λ next. IsSoonest (times_of count nodes) next.time next.place)
+pub root_is : (count : ℕ) (nodes : List (Option Next)) → IsTournament count nodes
+    → (r : Option Next) → slice_get nodes 1 ≡ Some r →
+    MatchOption r ((t : ℕ) → NoneBefore (times_of count nodes) t)
+    (λ next. IsSoonest (times_of count nodes) next.time next.place)
 root_is count nodes t None root = λ u i v h. absurd (let y = leaf_at count nodes t i v h in
     let size = t.size in let within : count + i < length nodes = slice_get_within nodes (count + i) (Some y.0) y.1 in
     let one : 1 ≤ count + i = omega arith in
@@ -153,7 +190,8 @@ root_is count nodes t (Some x) root =
     let leaf = from_leaf count nodes t (2 * count) 1 (Some x) (omega arith) (omega arith) root in
     let place : x.place ≡ leaf.0 = t.leaves leaf.0 x leaf.1 in
     record {
-      own = subst (λ (z : ℕ). slice_get (times_of count nodes) z ≡ Some (Some x.time)) (sym place) (time_at count nodes leaf.0 (Some x) leaf.1);
+      own = subst (λ (z : ℕ). slice_get (times_of count nodes) z ≡ Some (Some x.time)) (sym place)
+          (time_at count nodes leaf.0 (Some x) leaf.1);
       soonest = λ i u h. (let y = leaf_at count nodes t i u h in let one : 1 ≤ count + i = omega arith in
           let a = root_first count nodes t (Some x) root (count + i) (count + i) (Some y.0) (omega arith) one y.1 in
           let le : x.time ≤ y.0.time = a.0 in let e : y.0.time ≡ u = y.2 in omega arith);
@@ -164,7 +202,9 @@ root_is count nodes t (Some x) root =
     }
 
 pub none_times : (nodes : List (Option Next)) → IsTournament 0 nodes → (t : ℕ) → NoneBefore (times_of 0 nodes) t
-none_times nodes t u i v h = absurd (let y = leaf_at 0 nodes t i v h in let size = t.size in let within : 0 + i < length nodes = slice_get_within nodes (0 + i) (Some y.0) y.1 in omega arith)
+none_times nodes t u i v h =
+    absurd (let y = leaf_at 0 nodes t i v h in let size = t.size in let within : 0 + i
+    < length nodes = slice_get_within nodes (0 + i) (Some y.0) y.1 in omega arith)
 
 -- while a leaf's way to the root is played again: each node is a winner but the one at `node`
 pub record IsPlayedTo (count : ℕ) (leaves : List (Option Next)) (nodes : List (Option Next)) (node : ℕ) : Type 0 where
@@ -176,8 +216,10 @@ pub record IsPlayedTo (count : ℕ) (leaves : List (Option Next)) (nodes : List 
 half_below : (count place : ℕ) → place < count → (count + place) / 2 < count
 half_below count place lt = omega arith
 
-pub set_leaf : (count place : ℕ) (nodes : List (Option Next)) (leaf : Option Next) → IsTournament count nodes → place < count →
-    IsPlayedTo count (drop count (slice_set nodes (count + place) leaf)) (slice_set nodes (count + place) leaf) ((count + place) / 2)
+pub set_leaf : (count place : ℕ) (nodes : List (Option Next)) (leaf : Option Next)
+    → IsTournament count nodes → place < count →
+    IsPlayedTo count (drop count (slice_set nodes (count + place) leaf))
+    (slice_set nodes (count + place) leaf) ((count + place) / 2)
 set_leaf count place nodes leaf t lt = record {
   size = length_set nodes (count + place) leaf ∙ t.size;
   below = half_below count place lt;
@@ -186,11 +228,15 @@ set_leaf count place nodes leaf t lt = record {
       let na : i ≢ count + place = λ e. omega arith in
       let nb : 2 * i ≢ count + place = λ e. ne (omega arith) in
       let nc : 2 * i + 1 ≢ count + place = λ e. ne (omega arith) in
-      t.winners i le below a b c (get_set_other nodes (count + place) i leaf a na ha) (get_set_other nodes (count + place) (2 * i) leaf b nb hb) (get_set_other nodes (count + place) (2 * i + 1) leaf c nc hc);
+      t.winners i le below a b c (get_set_other nodes (count + place) i leaf a na ha)
+      (get_set_other nodes (count + place) (2 * i) leaf b nb hb)
+      (get_set_other nodes (count + place) (2 * i + 1) leaf c nc hc);
 }
 
-pub play : (count node : ℕ) (leaves nodes : List (Option Next)) (a b c : Option Next) → IsPlayedTo count leaves nodes node → 1 ≤ node →
-    slice_get nodes (2 * node) ≡ Some b → slice_get nodes (2 * node + 1) ≡ Some c → IsSooner a b c → IsPlayedTo count leaves (slice_set nodes node a) (node / 2)
+pub play : (count node : ℕ) (leaves nodes : List (Option Next)) (a b c : Option Next)
+    → IsPlayedTo count leaves nodes node → 1 ≤ node →
+    slice_get nodes (2 * node) ≡ Some b → slice_get nodes (2 * node + 1) ≡ Some c → IsSooner a b c
+    → IsPlayedTo count leaves (slice_set nodes node a) (node / 2)
 play count node leaves nodes a b c p one hb hc w = record {
   size = length_set nodes node a ∙ p.size;
   below = (let lt = p.below in omega arith);
@@ -201,37 +247,77 @@ play count node leaves nodes a b c p one hb hc w = record {
       let gb = get_set_other nodes node (2 * i) a b' nb hb' in
       let gc = get_set_other nodes node (2 * i + 1) a c' nc hc' in
       elim (cases_eq i node) [
-        | inl e ↦ (let same : a' ≡ a = get_set_same nodes node a a' (subst (λ (z : ℕ). slice_get (slice_set nodes node a) z ≡ Some a') e ha') in
+        | inl e ↦ (let same : a' ≡ a =
+            get_set_same nodes node a a' (subst
+            (λ (z : ℕ). slice_get (slice_set nodes node a) z ≡ Some a') e ha') in
             let eb : Some b ≡ Some b' = sym hb ∙ subst (λ (z : ℕ). slice_get nodes (2 * z) ≡ Some b') e gb in
             let ec : Some c ≡ Some c' = sym hc ∙ subst (λ (z : ℕ). slice_get nodes (2 * z + 1) ≡ Some c') e gc in
             let fb : b ≡ b' = cc eb in let fc : c ≡ c' = cc ec in
-            subst (λ (z : Option Next). IsSooner z b' c') (sym same) (subst (λ (z : Option Next). IsSooner a z c') fb (subst (λ (z : Option Next). IsSooner a b z) fc w)))
+            subst (λ (z : Option Next). IsSooner z b' c') (sym same)
+            (subst (λ (z : Option Next). IsSooner a z c') fb
+            (subst (λ (z : Option Next). IsSooner a b z) fc w)))
         | inr other ↦ p.winners i le lt other a' b' c' (get_set_other nodes node i a a' other ha') gb gc
       ];
 }
 
-pub read_at : (nodes : List (Option Next)) (i : ℕ) (a : Option Next) → i < length nodes → a ≡ slice_index_or nodes i a → slice_get nodes i ≡ Some a
+pub read_at : (nodes : List (Option Next)) (i : ℕ) (a : Option Next) → i < length nodes
+    → a ≡ slice_index_or nodes i a → slice_get nodes i ≡ Some a
 read_at nodes i a lt e = slice_get-get_or nodes i a lt ∙ ap (λ z. Some z) (sym e)
 
-pub played_on : (count node : ℕ) (leaves nodes : List (Option Next)) (a b c : Option Next) → IsPlayedTo count leaves nodes node → 1 ≤ node →
-    b ≡ slice_index_or nodes (2 * node) b → c ≡ slice_index_or nodes (2 * node + 1) c → IsSooner a b c → IsPlayedTo count leaves (slice_set nodes node a) (node / 2)
+pub played_on : (count node : ℕ) (leaves nodes : List (Option Next)) (a b c : Option Next)
+    → IsPlayedTo count leaves nodes node → 1 ≤ node →
+    b ≡ slice_index_or nodes (2 * node) b → c ≡ slice_index_or nodes (2 * node + 1) c
+    → IsSooner a b c → IsPlayedTo count leaves (slice_set nodes node a) (node / 2)
 played_on count node leaves nodes a b c p one eb ec w =
     let size = p.size in let below = p.below in
-    play count node leaves nodes a b c p one (read_at nodes (2 * node) b (omega arith) eb) (read_at nodes (2 * node + 1) c (omega arith) ec) w
+    play count node leaves nodes a b c p one (read_at nodes (2 * node) b (omega arith) eb)
+    (read_at nodes (2 * node + 1) c (omega arith) ec) w
 
-rest_is : (count place : ℕ) (old nodes : List (Option Next)) (leaf : Option Next) (node : ℕ) → IsPlayedTo count (drop count (slice_set old (count + place) leaf)) nodes node →
+-- the node that is to be played is the winner already
+pub played_already : (count node : ℕ) (leaves nodes : List (Option Next)) (a b c : Option Next)
+    → IsPlayedTo count leaves nodes node → 1 ≤ node →
+    a ≡ slice_index_or nodes node a → b ≡ slice_index_or nodes (2 * node) b
+    → c ≡ slice_index_or nodes (2 * node + 1) c → IsSooner a b c → IsPlayedTo count leaves nodes 0
+played_already count node leaves nodes a b c p one ea eb ec w = record {
+  size = p.size;
+  below = (let lt = p.below in omega arith);
+  rest = p.rest;
+  winners = λ i le lt ne a' b' c' ha hb hc. elim (cases_eq i node) [
+    | inl e ↦ (
+        let size = p.size in let below = p.below in
+        let fa : Some a ≡ Some a' = sym (read_at nodes node a (omega arith) ea)
+        ∙ subst (λ (z : ℕ). slice_get nodes z ≡ Some a') e ha in
+        let fb : Some b ≡ Some b' = sym (read_at nodes (2 * node) b (omega arith) eb)
+        ∙ subst (λ (z : ℕ). slice_get nodes (2 * z) ≡ Some b') e hb in
+        let fc : Some c ≡ Some c' = sym (read_at nodes (2 * node + 1) c (omega arith) ec)
+        ∙ subst (λ (z : ℕ). slice_get nodes (2 * z + 1) ≡ Some c') e hc in
+        let ga : a ≡ a' = cc fa in let gb : b ≡ b' = cc fb in let gc : c ≡ c' = cc fc in
+        subst (λ (z : Option Next). IsSooner z b' c') ga
+        (subst (λ (z : Option Next). IsSooner a z c') gb
+        (subst (λ (z : Option Next). IsSooner a b z) gc w)))
+    | inr other ↦ p.winners i le lt other a' b' c' ha hb hc
+  ];
+}
+
+rest_is : (count place : ℕ) (old nodes : List (Option Next)) (leaf : Option Next) (node : ℕ)
+    → IsPlayedTo count (drop count (slice_set old (count + place) leaf)) nodes node →
     drop count nodes ≡ slice_set (drop count old) place leaf
 rest_is count place old nodes leaf node p = p.rest ∙ drop_set_after count place leaf old
 
-pub played : (count place : ℕ) (old nodes : List (Option Next)) (time : Option ℕ) (leaf : Option Next) (node : ℕ) → IsTournament count old → leaf ≡ option_map (next_with place) time →
+pub played : (count place : ℕ) (old nodes : List (Option Next)) (time : Option ℕ)
+    (leaf : Option Next) (node : ℕ) → IsTournament count old → leaf ≡ option_map (next_with place) time →
     IsPlayedTo count (drop count (slice_set old (count + place) leaf)) nodes node → node < 1 → IsTournament count nodes
 played count place old nodes time leaf node t is p end = record {
   size = p.size;
   small = t.small;
   leaves = λ k x h.
-      let g : slice_get (slice_set (drop count old) place leaf) k ≡ Some (Some x) = ap (λ z. slice_get z k) (sym (rest_is count place old nodes leaf node p)) ∙ get_drop count k nodes ∙ h in
+      let g : slice_get (slice_set (drop count old) place leaf) k ≡ Some (Some x) =
+      ap (λ z. slice_get z k) (sym (rest_is count place old nodes leaf node p))
+      ∙ get_drop count k nodes ∙ h in
       elim (cases_eq k place) [
-        | inl e ↦ (let same = get_set_same (drop count old) place leaf (Some x) (subst (λ (z : ℕ). slice_get (slice_set (drop count old) place leaf) z ≡ Some (Some x)) e g) in by_time time x (same ∙ is) ∙ sym e)
+        | inl e ↦ (let same = get_set_same (drop count old) place leaf (Some x)
+            (subst (λ (z : ℕ). slice_get (slice_set (drop count old) place leaf) z ≡ Some (Some x))
+            e g) in by_time time x (same ∙ is) ∙ sym e)
         | inr ne ↦ t.leaves k x (sym (get_drop count k old) ∙ get_set_other (drop count old) place k leaf (Some x) ne g)
       ];
   winners = λ i le lt'. p.winners i le lt' (λ e. omega arith);
@@ -241,8 +327,10 @@ played count place old nodes time leaf node t is p end = record {
     by_time None x e = absurd (cc e)
     by_time (Some u) x e = let f : x ≡ next_with place u = cc e in ap (λ z. z.place) f
 
-pub played_times : (count place : ℕ) (old nodes : List (Option Next)) (time : Option ℕ) (leaf : Option Next) (node : ℕ) → leaf ≡ option_map (next_with place) time →
-    IsPlayedTo count (drop count (slice_set old (count + place) leaf)) nodes node → times_of count nodes ≡ slice_set (times_of count old) place time
+pub played_times : (count place : ℕ) (old nodes : List (Option Next)) (time : Option ℕ)
+    (leaf : Option Next) (node : ℕ) → leaf ≡ option_map (next_with place) time →
+    IsPlayedTo count (drop count (slice_set old (count + place) leaf)) nodes node
+    → times_of count nodes ≡ slice_set (times_of count old) place time
 played_times count place old nodes time leaf node is p =
     let f : Option Next → Option ℕ = λ x. option_map (λ next. next.time) x in
     ap (λ z. map f z) (rest_is count place old nodes leaf node p) ∙

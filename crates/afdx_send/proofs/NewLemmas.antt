@@ -1,5 +1,8 @@
 -- What a new sender stands for.
-use Rattle.std.proofs.Common.{◌≡◌, ◌≢◌, ℕ, ◌+◌, ◌*◌, ◌<◌, ◌≤◌, Bool, true, false, List, [], ◌∷◌, ◌++◌, length, filter, replicate, Option, Some, None, inl, inr, refl, sym, ap, subst, arith, ◌∙◌, suc, zero, slice_set, map, sum_by, nat_eq, if◌then◌else◌}
+use Rattle.std.proofs.Common.{◌≡◌, ◌≢◌, ℕ, ◌+◌, ◌*◌, ◌<◌, ◌≤◌, Bool, true, false, List, [], ◌∷◌}
+use Rattle.std.proofs.Common.{◌++◌, length, filter, replicate, Option, Some, None, inl, inr, refl}
+use Rattle.std.proofs.Common.{sym, ap, subst, arith, ◌∙◌, suc, zero, slice_set, map, sum_by, nat_eq}
+use Rattle.std.proofs.Common.{if◌then◌else◌}
 use Rattle.std.specs.List.{slice_get}
 use Rattle.std.proofs.lemmas.List.{length-map}
 use Rattle.std.proofs.lemmas.List.Sums.{sum_by-cons}
@@ -16,7 +19,7 @@ use Rattle.afdx_port.specs.Schedule as slots
 use Rattle.afdx_port.specs.declared.left.Left.{Left}
 use Rattle.afdx_bounds.specs.Sender.{one_of_each}
 use Rattle.afdx_bounds.specs.Tables.{EachSystemIsSender, sent_flow}
-use Rattle.afdx_config.specs.Flows.{regulation_of}
+use Rattle.afdx_config.specs.Flows.{regulation_of_link}
 use Rattle.afdx_frame.specs.Flows.{Flow}
 use Rattle.afdx_frame.specs.Regulation.{jitter}
 use Rattle.std.proofs.lemmas.Bool.{eqb-true}
@@ -32,25 +35,35 @@ use Rattle.afdx_send.specs.Lines.{IsLineOf, LineStands, held_by}
 use Rattle.afdx_send.specs.New.{IsNewLine, AreNewLines, IsPlaceIn}
 use Rattle.afdx_send.specs.Regulator.{Regulates, HasQueue, IsQueue, waiting_of, next_time_of}
 use Rattle.afdx_send.specs.Releases.{Submission}
-use Rattle.afdx_send.specs.Sender.{HasGiven, no_calls, AreSent, flows_of, IsQuiet, IsPlaceOf, StandsFor, nexts_of, messages_held, frames_held, ready_count, port_history}
+use Rattle.afdx_send.specs.Sender.{HasGiven, no_calls, AreSent, flows_of, IsQuiet, IsPlaceOf}
+use Rattle.afdx_send.specs.Sender.{StandsFor, nexts_of, messages_held, frames_held, ready_count}
+use Rattle.afdx_send.specs.Sender.{port_history}
 use Rattle.afdx_send.proofs.AgendaLemmas.{get_replicate}
 use Rattle.afdx_send.proofs.ReleaseLemmas.{get_either, get_set_same, get_set_other, length_set}
 
 -- the queues of a new regulator are empty
-none_waits : (line : Line) → Regulates line.regulator [] [] → (i : ℕ) (ms : List Queued) → HasQueue (waiting_of line.regulator) i ms → length ms ≡ 0
+none_waits : (line : Line) → Regulates line.regulator [] [] → (i : ℕ) (ms : List Queued)
+    → HasQueue (waiting_of line.regulator) i ms → length ms ≡ 0
 none_waits line g i [] h = refl
-none_waits line g i (m ∷ ms) h = absurd (let q : IsQueue [] [] (i + 1) 0 (m ∷ ms) = g.queues i (m ∷ ms) h in let e = q.1.own.stands in cc e)
+none_waits line g i (m ∷ ms) h =
+    absurd (let q : IsQueue [] [] (i + 1) 0 (m ∷ ms) = g.queues i (m ∷ ms) h in let e =
+    q.1.own.stands in cc e)
 
-pub new_line : (l : LinkRow) (line : Line) (n : ℕ) → IsLineOf l line → IsLink n l → Regulates line.regulator [] [] → held_by line.regulator ≡ 0 → line.number ≡ 0 → LineStands line l [] []
+pub new_line : (l : LinkRow) (line : Line) (n : ℕ) → IsLineOf l line → IsLink n l
+    → Regulates line.regulator [] [] → held_by line.regulator ≡ 0 → line.number ≡ 0
+    → LineStands line l [] []
 unfolding after_steps
 new_line l line n is lawful g none number = record {
   is_line = is;
   regulates = g;
   timely = record {
     limit = λ i s h. absurd (cc h);
-    few = (let e = length-map line.regulator.queues.items (λ q. q.items) in let s = is.subs in let m = lawful.subs.1 in omega arith);
+    few = (let e = length-map line.regulator.queues.items (λ q. q.items) in let s = is.subs in
+        let m = lawful.subs.1 in omega arith);
     full = λ i ms h. (let e = none_waits line g i ms h in omega arith);
-    balance = (let e : held_by line.regulator * line.regulator.bag ≡ 0 = ap (λ z. z * line.regulator.bag) none ∙ zero_times line.regulator.bag in let b : line.regulator.earliest ≡ 0 = g.earliest in omega arith);
+    balance = (let e : held_by line.regulator * line.regulator.bag ≡ 0 =
+        ap (λ z. z * line.regulator.bag) none ∙ zero_times line.regulator.bag in
+        let b : line.regulator.earliest ≡ 0 = g.earliest in omega arith);
   };
   fits = λ i s h. absurd (cc h);
   number = number;
@@ -59,7 +72,8 @@ new_line l line n is lawful g none number = record {
     zero_times : (b : ℕ) → 0 * b ≡ 0
     zero_times b = omega arith
 
-pub lines_push : (links : List LinkRow) (lines : List Line) (l : LinkRow) (line : Line) → AreNewLines links lines → IsNewLine l line → AreNewLines (links ++ l ∷ []) (lines ++ line ∷ [])
+pub lines_push : (links : List LinkRow) (lines : List Line) (l : LinkRow) (line : Line)
+    → AreNewLines links lines → IsNewLine l line → AreNewLines (links ++ l ∷ []) (lines ++ line ∷ [])
 lines_push links lines l line a new = record {
   count = length_push lines line ∙ ap (λ z. z + 1) a.count ∙ sym (length_push links l);
   each = λ i l1 line1 h k. elim (get_either links l i l1 h) [
@@ -68,8 +82,10 @@ lines_push links lines l line a new = record {
       | inr last ↦ absurd (let w = slice_get_within links i l1 old in let e = last.0 in let c = a.count in omega arith)
     ]
     | inr last ↦ elim (get_either lines line i line1 k) [
-      | inl old' ↦ absurd (let w = slice_get_within lines i line1 old' in let e = last.0 in let c = a.count in omega arith)
-      | inr last' ↦ subst (λ (z : LinkRow). IsNewLine z line1) (sym last.1) (subst (λ (z : Line). IsNewLine l z) (sym last'.1) new)
+      | inl old' ↦ absurd (let w = slice_get_within lines i line1 old' in let e = last.0 in let c =
+          a.count in omega arith)
+      | inr last' ↦ subst (λ (z : LinkRow). IsNewLine z line1) (sym last.1)
+          (subst (λ (z : Line). IsNewLine l z) (sym last'.1) new)
     ]
   ];
 }
@@ -85,7 +101,8 @@ pub filter_short : {Y : Type 0} (p : Y → Bool) (xs : List Y) → length (filte
 filter_short p [] = omega arith
 filter_short p (x ∷ xs) = by (p x) (filter_short p xs)
   where
-    by : (b : Bool) → length (filter p xs) ≤ length xs → length (if b then x ∷ filter p xs else filter p xs) ≤ length (x ∷ xs)
+    by : (b : Bool) → length (filter p xs) ≤ length xs
+        → length (if b then x ∷ filter p xs else filter p xs) ≤ length (x ∷ xs)
     by true h = omega arith
     by false h = omega arith
 
@@ -98,52 +115,70 @@ pub record ArePlaces (n : ℕ) (lines : List Line) (places : List (Option ℕ)) 
   pub count : length places ≡ 65536
   pub each : (vl : ℕ) (place : Option ℕ) → slice_get places vl ≡ Some place → IsPlaceTo n lines vl place
 
-pub no_places : (lines : List Line) (places : List (Option ℕ)) → places ≡ replicate 65536 None → ArePlaces 0 lines places
+pub no_places : (lines : List Line) (places : List (Option ℕ)) → places ≡ replicate 65536 None
+    → ArePlaces 0 lines places
 no_places lines places e = record {
   count = ap length e ∙ length_replicate {Y = Option ℕ} 65536 None;
-  each = λ vl place h. subst (λ (z : Option ℕ). IsPlaceTo 0 lines vl z) (sym (get_replicate 65536 vl None place (subst (λ (z : List (Option ℕ)). slice_get z vl ≡ Some place) e h))) (λ i line lt k g. absurd (omega arith));
+  each = λ vl place h. subst (λ (z : Option ℕ). IsPlaceTo 0 lines vl z)
+      (sym (get_replicate 65536 vl None place
+      (subst (λ (z : List (Option ℕ)). slice_get z vl ≡ Some place) e h)))
+      (λ i line lt k g. absurd (omega arith));
 }
   where
     length_replicate : {Y : Type 0} (n : ℕ) (y : Y) → length (replicate n y) ≡ n
     length_replicate zero y = refl
     length_replicate (suc n) y = ap (λ k. suc k) (length_replicate n y)
 
-pub place_set : (n : ℕ) (lines : List Line) (places : List (Option ℕ)) (line : Line) → ArePlaces n lines places → slice_get lines n ≡ Some line → ArePlaces (n + 1) lines (slice_set places line.vl.0 (Some n))
+pub place_set : (n : ℕ) (lines : List Line) (places : List (Option ℕ)) (line : Line)
+    → ArePlaces n lines places → slice_get lines n ≡ Some line
+    → ArePlaces (n + 1) lines (slice_set places line.vl.0 (Some n))
 place_set n lines places line a has = record {
   count = length_set places line.vl.0 (Some n) ∙ a.count;
   each = λ vl place h. elim (cases_eq vl line.vl.0) [
-    | inl e ↦ (let same = get_set_same places line.vl.0 (Some n) place (subst (λ (z : ℕ). slice_get (slice_set places line.vl.0 (Some n)) z ≡ Some place) e h) in
+    | inl e ↦ (let same = get_set_same places line.vl.0 (Some n) place
+        (subst (λ (z : ℕ). slice_get (slice_set places line.vl.0 (Some n)) z ≡ Some place) e h) in
         subst (λ (z : Option ℕ). IsPlaceTo (n + 1) lines vl z) (sym same) (line, has, sym e))
     | inr ne ↦ longer vl place ne (a.each vl place (get_set_other places line.vl.0 vl (Some n) place ne h))
   ];
 }
   where
-    longer : (vl : ℕ) (place : Option ℕ) → vl ≢ line.vl.0 → IsPlaceTo n lines vl place → IsPlaceTo (n + 1) lines vl place
+    longer : (vl : ℕ) (place : Option ℕ) → vl ≢ line.vl.0 → IsPlaceTo n lines vl place
+        → IsPlaceTo (n + 1) lines vl place
     longer vl (Some place) ne h = h
     longer vl None ne h = λ i d lt k e. elim (cases_eq i n) [
-      | inl s ↦ ne (let both : Some line ≡ Some d = sym has ∙ subst (λ (z : ℕ). slice_get lines z ≡ Some d) s k in let f : line ≡ d = cc both in let g : line.vl.0 ≡ d.vl.0 = ap (λ z. z.vl.0) f in omega arith)
+      | inl s ↦ ne (let both : Some line ≡ Some d = sym has
+          ∙ subst (λ (z : ℕ). slice_get lines z ≡ Some d) s k in let f : line ≡ d = cc both in
+          let g : line.vl.0 ≡ d.vl.0 = ap (λ z. z.vl.0) f in omega arith)
       | inr other ↦ h i d (omega arith) k e
     ]
 
-pub all_places : (n : ℕ) (lines : List Line) (places : List (Option ℕ)) → ArePlaces n lines places → length lines ≤ n → (vl : ℕ) (place : Option ℕ) → slice_get places vl ≡ Some place → IsPlaceIn lines vl place
+pub all_places : (n : ℕ) (lines : List Line) (places : List (Option ℕ)) → ArePlaces n lines places
+    → length lines ≤ n → (vl : ℕ) (place : Option ℕ) → slice_get places vl ≡ Some place
+    → IsPlaceIn lines vl place
 all_places n lines places a all vl (Some place) h = a.each vl (Some place) h
-all_places n lines places a all vl None h = λ i line k e. a.each vl None h i line (let w = slice_get_within lines i line k in omega arith) k e
+all_places n lines places a all vl None h =
+    λ i line k e. a.each vl None h i line (let w = slice_get_within lines i line k in omega arith) k e
 
 -- a row that passes a test is a row
-passes_filter : {Y : Type 0} (p : Y → Bool) (xs : List Y) (i : ℕ) (x : Y) → slice_get (filter p xs) i ≡ Some x → p x ≡ true
+passes_filter : {Y : Type 0} (p : Y → Bool) (xs : List Y) (i : ℕ) (x : Y)
+    → slice_get (filter p xs) i ≡ Some x → p x ≡ true
 passes_filter p [] i x h = absurd (cc h)
 passes_filter p (y ∷ ys) i x h = by (p y) refl i h (λ k g. passes_filter p ys k x g)
   where
-    by : (b : Bool) → p y ≡ b → (k : ℕ) → slice_get (if b then y ∷ filter p ys else filter p ys) k ≡ Some x → ((m : ℕ) → slice_get (filter p ys) m ≡ Some x → p x ≡ true) → p x ≡ true
+    by : (b : Bool) → p y ≡ b → (k : ℕ) → slice_get (if b then y ∷ filter p ys else filter p ys) k
+        ≡ Some x → ((m : ℕ) → slice_get (filter p ys) m ≡ Some x → p x ≡ true) → p x ≡ true
     by true e zero g rec = (let f : y ≡ x = cc g in ap p (sym f) ∙ e)
     by true e (suc k) g rec = rec k g
     by false e k g rec = rec k g
 
-pub from_filter : {Y : Type 0} (p : Y → Bool) (xs : List Y) (i : ℕ) (x : Y) → slice_get (filter p xs) i ≡ Some x → (j : ℕ) × (slice_get xs j ≡ Some x)
+pub from_filter : {Y : Type 0} (p : Y → Bool) (xs : List Y) (i : ℕ) (x : Y)
+    → slice_get (filter p xs) i ≡ Some x → (j : ℕ) × (slice_get xs j ≡ Some x)
 from_filter p [] i x h = absurd (cc h)
 from_filter p (y ∷ ys) i x h = by (p y) i h (λ k g. from_filter p ys k x g)
   where
-    by : (b : Bool) (k : ℕ) → slice_get (if b then y ∷ filter p ys else filter p ys) k ≡ Some x → ((m : ℕ) → slice_get (filter p ys) m ≡ Some x → (j : ℕ) × (slice_get ys j ≡ Some x)) → (j : ℕ) × (slice_get (y ∷ ys) j ≡ Some x)
+    by : (b : Bool) (k : ℕ) → slice_get (if b then y ∷ filter p ys else filter p ys) k ≡ Some x
+        → ((m : ℕ) → slice_get (filter p ys) m ≡ Some x → (j : ℕ) × (slice_get ys j ≡ Some x))
+        → (j : ℕ) × (slice_get (y ∷ ys) j ≡ Some x)
     by true zero g rec = (0, g)
     by true (suc k) g rec = let r = rec k g in (suc r.0, r.1)
     by false k g rec = let r = rec k g in (suc r.0, r.1)
@@ -153,61 +188,87 @@ Distinct {Y} f xs = (i j : ℕ) (a b : Y) → slice_get xs i ≡ Some a → slic
 
 filter_distinct : {Y : Type 0} (f : Y → ℕ) (p : Y → Bool) (xs : List Y) → Distinct f xs → Distinct f (filter p xs)
 filter_distinct f p [] d i j a b h k e = absurd (cc h)
-filter_distinct f p (x ∷ xs) d i j a b h k e = by (p x) i j h k (filter_distinct f p xs (λ m n u v q r s. (let t = d (suc m) (suc n) u v q r s in omega arith)))
+filter_distinct f p (x ∷ xs) d i j a b h k e =
+    by (p x) i j h k (filter_distinct f p xs
+    (λ m n u v q r s. (let t = d (suc m) (suc n) u v q r s in omega arith)))
   where
-    by : (c : Bool) (m n : ℕ) → slice_get (if c then x ∷ filter p xs else filter p xs) m ≡ Some a → slice_get (if c then x ∷ filter p xs else filter p xs) n ≡ Some b → Distinct f (filter p xs) → m ≡ n
+    by : (c : Bool) (m n : ℕ) → slice_get (if c then x ∷ filter p xs else filter p xs) m ≡ Some a
+        → slice_get (if c then x ∷ filter p xs else filter p xs) n ≡ Some b
+        → Distinct f (filter p xs) → m ≡ n
     by true zero zero g l rest = refl
-    by true zero (suc n) g l rest = absurd (let q = from_filter p xs n b l in let t = d 0 (suc q.0) a b g q.1 e in omega arith)
-    by true (suc m) zero g l rest = absurd (let q = from_filter p xs m a g in let t = d (suc q.0) 0 a b q.1 l e in omega arith)
+    by true zero (suc n) g l rest =
+        absurd (let q = from_filter p xs n b l in let t = d 0 (suc q.0) a b g q.1 e in omega arith)
+    by true (suc m) zero g l rest =
+        absurd (let q = from_filter p xs m a g in let t = d (suc q.0) 0 a b q.1 l e in omega arith)
     by true (suc m) (suc n) g l rest = ap (λ z. suc z) (rest m n a b g l e)
     by false m n g l rest = rest m n a b g l e
 
-pub distinct_links : (links : List LinkRow) (system : ℕ) → AreDistinct (λ l. l.vl) links → AreDistinct (λ l. l.vl) (links_from links system)
+pub distinct_links : (links : List LinkRow) (system : ℕ) → AreDistinct (λ l. l.vl) links
+    → AreDistinct (λ l. l.vl) (links_from links system)
 unfolding AreDistinct
 distinct_links links system d = filter_distinct (λ l. l.vl) (λ l. nat_eq l.from system) links d
 
 -- one frame of each, as admission sums them
-one_each : (s : SystemRow) (all links : List LinkRow) → one_of_each (byte_ns s) (map (sent_flow (byte_ns s) Low all) links) ≡ sum_by (λ l. (regulation_of l).smax * byte_ns s) links
+one_each : (s : SystemRow) (all links : List LinkRow)
+    → one_of_each (byte_ns s) (map (sent_flow (byte_ns s) Low all) links)
+    ≡ sum_by (λ l. (regulation_of_link l).smax * byte_ns s) links
 one_each s all [] = refl
 one_each s all (l ∷ links) =
     let rest = one_each s all links in
-    sum_by-cons (λ (f : Flow). f.link.smax * byte_ns s) (sent_flow (byte_ns s) Low all l) (map (sent_flow (byte_ns s) Low all) links) ∙
-    ap (λ z. (l.lmax + 20) * byte_ns s + z) rest ∙ sym (sum_by-cons (λ l. (regulation_of l).smax * byte_ns s) l links)
+    sum_by-cons (λ (f : Flow). f.link.smax * byte_ns s) (sent_flow (byte_ns s) Low all l)
+    (map (sent_flow (byte_ns s) Low all) links) ∙
+    ap (λ z. (l.lmax + 20) * byte_ns s + z) rest
+    ∙ sym (sum_by-cons (λ l. (regulation_of_link l).smax * byte_ns s) l links)
 
-jitters_are : (t : Rows) (place : ℕ) (s : SystemRow) → IsAdmitted t → slice_get t.systems place ≡ Some s → (i : ℕ) (l : LinkRow) → slice_get (links_from t.links place) i ≡ Some l →
-    one_of_each (byte_ns s) (flows_of s (links_from t.links place)) ≤ jitter (regulation_of l)
+jitters_are : (t : Rows) (place : ℕ) (s : SystemRow) → IsAdmitted t → slice_get t.systems place
+    ≡ Some s → (i : ℕ) (l : LinkRow) → slice_get (links_from t.links place) i ≡ Some l →
+    one_of_each (byte_ns s) (flows_of s (links_from t.links place)) ≤ jitter (regulation_of_link l)
 jitters_are t place s admitted row i l h =
     let p : LinkRow → Bool = λ l. nat_eq l.from place in
     let r = from_filter p t.links i l h in
     let from : l.from ≡ place = eqb-true l.from place (passes_filter p t.links i l h) in
     let sum = admitted.jitters r.0 l s r.1 (subst (λ (z : ℕ). slice_get t.systems z ≡ Some s) (sym from) row) in
-    let sum' : sender_jitter (byte_ns s) (links_from t.links place) ≤ 1000 * l.jitter_us = subst (λ (z : ℕ). sender_jitter (byte_ns s) (links_from t.links z) ≤ 1000 * l.jitter_us) from sum in
+    let sum' : sender_jitter (byte_ns s) (links_from t.links place) ≤ 1000 * l.jitter_us =
+    subst (λ (z : ℕ). sender_jitter (byte_ns s) (links_from t.links z) ≤ 1000 * l.jitter_us)
+    from sum in
     let e = one_each s (links_from t.links place) (links_from t.links place) in
     omega (arith, e, sum')
 
-pub are_sent : (t : Rows) (place : ℕ) (s : SystemRow) → EachSystemIsSender → IsLawful t → IsAdmitted t → slice_get t.systems place ≡ Some s → AreSent s (links_from t.links place)
+pub are_sent : (t : Rows) (place : ℕ) (s : SystemRow) → EachSystemIsSender → IsLawful t
+    → IsAdmitted t → slice_get t.systems place ≡ Some s → AreSent s (links_from t.links place)
 are_sent t place s law lawful admitted row = record {
   is_sender = law t Low place s lawful admitted row;
-  lawful = λ i l h. (let r = from_filter (λ l. nat_eq l.from place) t.links i l h in (length t.systems, all_at (IsLink (length t.systems)) t.links r.0 l lawful.links.each r.1));
+  lawful = λ i l h. (let r = from_filter (λ l. nat_eq l.from place) t.links i l h in
+      (length t.systems, all_at (IsLink (length t.systems)) t.links r.0 l lawful.links.each r.1));
   distinct = distinct_links t.links place lawful.links.identifiers;
   jitters = jitters_are t place s admitted row;
 }
 
-all_none : (links : List LinkRow) (lines : List Line) → AreNewLines links lines → map (λ l. next_time_of l.regulator) lines ≡ replicate (length lines) None
+all_none : (links : List LinkRow) (lines : List Line) → AreNewLines links lines
+    → map (λ l. next_time_of l.regulator) lines ≡ replicate (length lines) None
 all_none [] [] a = refl
 all_none [] (line ∷ lines) a = absurd (let c = a.count in omega arith)
 all_none (l ∷ links) [] a = refl
 all_none (l ∷ links) (line ∷ lines) a =
     let one = (a.each 0 l line refl refl).next in
-    let rest = all_none links lines (record { count = (let c = a.count in omega arith); each = λ i m d h k. a.each (suc i) m d h k }) in
+    let rest = all_none links lines
+    (record {
+      count = (let c = a.count in omega arith);
+      each = λ i m d h k. a.each (suc i) m d h k;
+    }) in
     ap (λ z. z ∷ map (λ l. next_time_of l.regulator) lines) one ∙ ap (λ z. None ∷ z) rest
 
-all_empty : (links : List LinkRow) (lines : List Line) → AreNewLines links lines → sum_by (λ l. held_by l.regulator) lines ≡ 0
+all_empty : (links : List LinkRow) (lines : List Line) → AreNewLines links lines
+    → sum_by (λ l. held_by l.regulator) lines ≡ 0
 all_empty links [] a = refl
 all_empty [] (line ∷ lines) a = absurd (let c = a.count in omega arith)
 all_empty (l ∷ links) (line ∷ lines) a =
     let one = (a.each 0 l line refl refl).held in
-    let rest = all_empty links lines (record { count = (let c = a.count in omega arith); each = λ i m d h k. a.each (suc i) m d h k }) in
+    let rest = all_empty links lines
+    (record {
+      count = (let c = a.count in omega arith);
+      each = λ i m d h k. a.each (suc i) m d h k;
+    }) in
     let e = sum_by-cons (λ l. held_by l.regulator) line lines in omega arith
 
 none_taken : (n i : ℕ) → own_submissions (replicate n []) i ≡ []
@@ -231,7 +292,8 @@ pub record IsNew (w : Working) (t : Rows) (place : ℕ) (s : SystemRow) : Type 0
   pub port_clock : held.last_time w.output ≡ 0
   pub empty : held.frames_held w.output ≡ 0
 
-pub stands_new : (w : Working) (t : Rows) (place : ℕ) (s : SystemRow) → AreSent s (links_from t.links place) → IsNew w t place s → StandsFor w (no_calls t place s)
+pub stands_new : (w : Working) (t : Rows) (place : ℕ) (s : SystemRow)
+    → AreSent s (links_from t.links place) → IsNew w t place s → StandsFor w (no_calls t place s)
 stands_new w t place s are n =
     let links = links_from t.links place in
     let count = n.lines.count in
@@ -248,15 +310,19 @@ stands_new w t place s are n =
       before = tt;
       count = count;
       lists = length_replicate (length links) [];
-      lines = λ i line l h k. subst (λ (z : List Submission). LineStands line l z []) (sym (none_taken (length links) i)) (n.lines.each i l line k h).stands;
-      come = λ i p d h. absurd (let e = subst (λ (z : List Submission). slice_get z p ≡ Some d) (none_taken (length links) i) h in cc e);
+      lines = λ i line l h k. subst (λ (z : List Submission). LineStands line l z [])
+          (sym (none_taken (length links) i)) (n.lines.each i l line k h).stands;
+      come = λ i p d h. absurd
+          (let e = subst (λ (z : List Submission). slice_get z p ≡ Some d)
+          (none_taken (length links) i) h in cc e);
       played = n.played;
       agenda = n.agenda ∙ sym none;
       agenda_count = n.agenda_count;
       given = [];
       has_given = subst (λ (o : Option (Left Frame)). HasGiven o [] []) (sym n.ready) refl;
       in_time = λ left e. absurd (let f : Some left ≡ None = sym e ∙ n.ready in cc f);
-      output = subst (λ (c : ℕ). port.StandsFor facts w.output (port_history (no_calls t place s) [] [] c)) (sym n.port_clock) n.output;
+      output = subst (λ (c : ℕ). port.StandsFor facts w.output
+          (port_history (no_calls t place s) [] [] c)) (sym n.port_clock) n.output;
       timely = λ i u h. (let c = n.port_clock in omega arith);
       port_clock = (let c = n.port_clock in omega arith);
     }
@@ -265,23 +331,43 @@ stands_new w t place s are n =
     length_replicate zero y = refl
     length_replicate (suc k) y = ap (λ z. suc z) (length_replicate k y)
 
-    line_of : (i : ℕ) (l : LinkRow) → slice_get (links_from t.links place) i ≡ Some l → (line : Line) × (slice_get w.lines.items i ≡ Some line)
-    line_of i l h = at_place w.lines.items i (let k = slice_get_within (links_from t.links place) i l h in let c = n.lines.count in omega arith)
+    line_of : (i : ℕ) (l : LinkRow) → slice_get (links_from t.links place) i ≡ Some l
+        → (line : Line) × (slice_get w.lines.items i ≡ Some line)
+    line_of i l h = at_place w.lines.items i
+        (let k = slice_get_within (links_from t.links place) i l h in let c = n.lines.count in
+        omega arith)
 
-    row_of : (i : ℕ) (line : Line) → slice_get w.lines.items i ≡ Some line → (l : LinkRow) × (slice_get (links_from t.links place) i ≡ Some l)
-    row_of i line h = at_place (links_from t.links place) i (let k = slice_get_within w.lines.items i line h in let c = n.lines.count in omega arith)
+    row_of : (i : ℕ) (line : Line) → slice_get w.lines.items i ≡ Some line → (l : LinkRow)
+        × (slice_get (links_from t.links place) i ≡ Some l)
+    row_of i line h = at_place (links_from t.links place) i
+        (let k = slice_get_within w.lines.items i line h in let c = n.lines.count in omega arith)
 
     place_of : (vl : ℕ) (p : Option ℕ) → IsPlaceIn w.lines.items vl p → IsPlaceOf (links_from t.links place) vl p
-    place_of vl None h = λ i l k e. (let d = line_of i l k in let is = (n.lines.each i l d.0 k d.1).stands.is_line.vl in h i d.0 d.1 (is ∙ e))
-    place_of vl (Some p) h = (let r = row_of p h.0 h.1 in let is = (n.lines.each p r.0 h.0 r.1 h.1).stands.is_line.vl in (r.0, r.1, sym is ∙ h.2))
+    place_of vl None h = λ i l k e.
+        (let d = line_of i l k in let is = (n.lines.each i l d.0 k d.1).stands.is_line.vl in
+        h i d.0 d.1 (is ∙ e))
+    place_of vl (Some p) h =
+        (let r = row_of p h.0 h.1 in let is = (n.lines.each p r.0 h.0 r.1 h.1).stands.is_line.vl in
+        (r.0, r.1, sym is ∙ h.2))
 
 -- it has no emission
-pub quiet_new : (w : Working) (t : Rows) (place : ℕ) (s : SystemRow) → StandsFor w (no_calls t place s) → (u : ℕ) → IsQuiet w u
-quiet_new w t place s st u = (no_calls t place s, st, λ d n. absurd (none n.released n.are_releases d.entry d.place n.next.own.stands))
+pub quiet_new : (w : Working) (t : Rows) (place : ℕ) (s : SystemRow)
+    → StandsFor w (no_calls t place s) → (u : ℕ) → IsQuiet w u
+quiet_new w t place s st u = (
+  no_calls t place s,
+  st,
+  λ d n.
+      absurd (none n.released n.are_releases d.entry d.place n.next.own.stands),
+)
   where
-    none : (xs : List LinkRelease) → AreAllReleases (links_from t.links place) (replicate (length (links_from t.links place)) []) xs → (e : slots.Entry Frame) (i : ℕ) → slice_get (entries_of xs) i ≡ Some e → ⊥
+    none : (xs : List LinkRelease)
+        → AreAllReleases (links_from t.links place)
+        (replicate (length (links_from t.links place)) []) xs → (e : slots.Entry Frame) (i : ℕ)
+        → slice_get (entries_of xs) i ≡ Some e → ⊥
     none [] h e i g = cc g
-    none (x ∷ xs) h e i g = let a = h.0.next.own.stands in let b = subst (λ (z : List Submission). slice_get z x.release.place ≡ Some x.release.submission) (none_taken (length (links_from t.links place)) x.place) a in cc b
+    none (x ∷ xs) h e i g = let a = h.0.next.own.stands in let b =
+        subst (λ (z : List Submission). slice_get z x.release.place ≡ Some x.release.submission)
+        (none_taken (length (links_from t.links place)) x.place) a in cc b
 
 pub held_new : (w : Working) (t : Rows) (place : ℕ) (s : SystemRow) → IsNew w t place s → frames_held w ≡ 0
 held_new w t place s n =

@@ -1,5 +1,9 @@
 -- The queues of a regulator: their fronts, and whose turn it is.
-use Rattle.std.proofs.Common.{◌≡◌, ℕ, ◌+◌, ◌<◌, ◌≤◌, max, min, nat_lt, true, false, List, [], ◌∷◌, length, Option, Some, None, ◌⊎◌, inl, inr, refl, sym, ap, arith, ◌∙◌, map, suc, zero, option_map, slice_index_or, slice_set, option_to_list, MatchOption, ◌++◌, IsTrue, Result, Ok, Err, OnErr, drop, nat_le, sum_by}
+use Rattle.std.proofs.Common.{◌≡◌, ℕ, ◌+◌, ◌<◌, ◌≤◌, max, min, nat_lt, true, false, List, [], ◌∷◌}
+use Rattle.std.proofs.Common.{length, Option, Some, None, ◌⊎◌, inl, inr, refl, sym, ap, arith, ◌∙◌}
+use Rattle.std.proofs.Common.{map, suc, zero, option_map, slice_index_or, slice_set, option_to_list}
+use Rattle.std.proofs.Common.{MatchOption, ◌++◌, IsTrue, Result, Ok, Err, OnErr, drop, nat_le}
+use Rattle.std.proofs.Common.{sum_by}
 use Rattle.std.proofs.lemmas.List.Sums.{sum_by-cons}
 use Rattle.std.proofs.lemmas.List.{map-set, length-map}
 use Rattle.std.proofs.Math.Seq.{map-set_same}
@@ -19,7 +23,8 @@ pub nat_lt-false : (a b : ℕ) → b ≤ a → nat_lt a b ≡ false
 nat_lt-false a b h = grind (arith, nat_tests)
 
 -- the sub-VL one more than the place served + step has the turn step + 1
-pub turn_of : (subs served step index : ℕ) → step < subs → served ≤ subs → (index ≡ served + step) ⊎ (index + subs ≡ served + step) → index < subs → turn subs served (index + 1) ≡ step + 1
+pub turn_of : (subs served step index : ℕ) → step < subs → served ≤ subs → (index ≡ served + step)
+    ⊎ (index + subs ≡ served + step) → index < subs → turn subs served (index + 1) ≡ step + 1
 turn_of subs served step index a b (inl e) c = rw (nat_lt-true served (index + 1) (omega arith)) (omega arith)
 turn_of subs served step index a b (inr e) c = rw (nat_lt-false served (index + 1) (omega arith)) (omega arith)
 
@@ -36,7 +41,8 @@ turn_most subs served index a b = elim (cases_lt served (index + 1)) [
 ]
 
 -- two places with one turn are one
-pub turn_same : (subs served a b : ℕ) → served ≤ subs → a < subs → b < subs → turn subs served (a + 1) ≡ turn subs served (b + 1) → a ≡ b
+pub turn_same : (subs served a b : ℕ) → served ≤ subs → a < subs → b < subs
+    → turn subs served (a + 1) ≡ turn subs served (b + 1) → a ≡ b
 turn_same subs served a b s la lb e =
     elim (cases_lt served (a + 1)) [
       | inl p ↦ elim (cases_lt served (b + 1)) [
@@ -50,16 +56,21 @@ turn_same subs served a b s la lb e =
     ]
 
 -- a queue is read at its place
-pub queue_read : {Q : Type 0} (f : Q → List Queued) (qs : List Q) (i : ℕ) (q : Q) → i < length qs → q ≡ slice_index_or qs i q → HasQueue (map f qs) i (f q)
-queue_read f qs i q below read = slice_get-map f qs i ∙ ap (λ z. option_map f z) (slice_get-get_or qs i q below) ∙ ap (λ z. Some (f z)) (sym read)
+pub queue_read : {Q : Type 0} (f : Q → List Queued) (qs : List Q) (i : ℕ) (q : Q) → i < length qs
+    → q ≡ slice_index_or qs i q → HasQueue (map f qs) i (f q)
+queue_read f qs i q below read = slice_get-map f qs i
+    ∙ ap (λ z. option_map f z) (slice_get-get_or qs i q below) ∙ ap (λ z. Some (f z)) (sym read)
 
-pub has_same : (queues : List (List Queued)) (i : ℕ) (a b : List Queued) → HasQueue queues i a → HasQueue queues i b → a ≡ b
+pub has_same : (queues : List (List Queued)) (i : ℕ) (a b : List Queued) → HasQueue queues i a
+    → HasQueue queues i b → a ≡ b
 has_same queues i a b h k = let e : Some a ≡ Some b = sym h ∙ k in cc
 
-pub ready_yes : (queues : List (List Queued)) (time i : ℕ) (m : Queued) (ms : List Queued) → HasQueue queues i (m ∷ ms) → m.time ≤ time → IsReady queues time i
+pub ready_yes : (queues : List (List Queued)) (time i : ℕ) (m : Queued) (ms : List Queued)
+    → HasQueue queues i (m ∷ ms) → m.time ≤ time → IsReady queues time i
 ready_yes queues time i m ms h le = (m, ms, record { has = h; come = le })
 
-pub ready_front : (queues : List (List Queued)) (time i : ℕ) (m : Queued) (ms : List Queued) → HasQueue queues i (m ∷ ms) → IsReady queues time i → m.time ≤ time
+pub ready_front : (queues : List (List Queued)) (time i : ℕ) (m : Queued) (ms : List Queued)
+    → HasQueue queues i (m ∷ ms) → IsReady queues time i → m.time ≤ time
 ready_front queues time i m ms h r =
     let e = has_same queues i (m ∷ ms) (r.0 ∷ r.1) h r.2.has in
     let f : m ≡ r.0 = cc in
@@ -69,10 +80,16 @@ ready_front queues time i m ms h r =
 pub ready_none : (queues : List (List Queued)) (time i : ℕ) → HasQueue queues i [] → IsReady queues time i → ⊥
 ready_none queues time i h r = let e = has_same queues i [] (r.0 ∷ r.1) h r.2.has in cc
 
-pub popped : {Q : Type 0} (f : Q → List Queued) (qs : List Q) (i : ℕ) (q q' : Q) (r : Option Queued) → i < length qs → q ≡ slice_index_or qs i q → f q ≡ option_to_list r ++ f q' → (r ≡ None → f q ≡ []) →
+pub popped : {Q : Type 0} (f : Q → List Queued) (qs : List Q) (i : ℕ) (q q' : Q) (r : Option Queued)
+    → i < length qs → q ≡ slice_index_or qs i q → f q ≡ option_to_list r ++ f q' → (r ≡ None → f q ≡ []) →
     MatchOption r (HasQueue (map f qs) i []) (λ m. Pops (map f qs) i m (map f (slice_set qs i q')))
 popped f qs i q q' None below read items none = queue_read f qs i q below read ∙ ap (λ z. Some z) (none refl)
-popped f qs i q q' (Some m) below read items none = record { rest = f q'; has = queue_read f qs i q below read ∙ ap (λ z. Some z) items; left = map-set f qs i q' }
+popped f qs i q q' (Some m) below read items none =
+    record {
+      rest = f q';
+      has = queue_read f qs i q below read ∙ ap (λ z. Some z) items;
+      left = map-set f qs i q';
+    }
 
 pub empty_list : {Y : Type 0} (ys : List Y) (n : ℕ) → n ≡ length ys → n ≡ 0 → ys ≡ []
 empty_list [] n e z = refl
@@ -89,14 +106,22 @@ pub leb_true : (a b : ℕ) → a ≤ b → IsTrue (nat_le a b)
 leb_true a b h = grind (arith, nat_tests)
 
 -- a queue that is ready stands in the list
-pub ready_place : {Q : Type 0} (f : Q → List Queued) (qs : List Q) (time i : ℕ) → IsReady (map f qs) time i → i < length qs
+pub ready_place : {Q : Type 0} (f : Q → List Queued) (qs : List Q) (time i : ℕ)
+    → IsReady (map f qs) time i → i < length qs
 ready_place f qs time i r = omega (arith, slice_get_within (map f qs) i (r.0 ∷ r.1) r.2.has, length-map qs f)
 
 -- the first time of some queues is that of a front, or the one from before
-first_from : (soonest : Option ℕ) (queues : List (List Queued)) (t : ℕ) → first_time soonest queues ≡ Some t → (soonest ≡ Some t) ⊎ ((i : ℕ) × (m : Queued) × (ms : List Queued) × HasQueue queues i (m ∷ ms) × (m.time ≡ t))
+first_from : (soonest : Option ℕ) (queues : List (List Queued)) (t : ℕ) → first_time soonest queues
+    ≡ Some t → (soonest ≡ Some t) ⊎ ((i : ℕ) × (m : Queued) × (ms : List Queued)
+    × HasQueue queues i (m ∷ ms) × (m.time ≡ t))
 first_from soonest [] t e = inl e
-first_from soonest ([] ∷ qs) t e = elim (first_from soonest qs t e) [ inl a ↦ inl a | inr b ↦ inr (suc b.0, b.1, b.2, b.3, b.4) ]
-first_from None ((m ∷ ms) ∷ qs) t e = elim (first_from (Some m.time) qs t e) [ inl a ↦ inr (0, m, ms, refl, (let f : m.time ≡ t = cc a in f)) | inr b ↦ inr (suc b.0, b.1, b.2, b.3, b.4) ]
+first_from soonest ([] ∷ qs) t e =
+    elim (first_from soonest qs t e) [ inl a ↦ inl a | inr b ↦ inr (suc b.0, b.1, b.2, b.3, b.4) ]
+first_from None ((m ∷ ms) ∷ qs) t e =
+    elim (first_from (Some m.time) qs t e) [
+      | inl a ↦ inr (0, m, ms, refl, (let f : m.time ≡ t = cc a in f))
+      | inr b ↦ inr (suc b.0, b.1, b.2, b.3, b.4)
+    ]
 first_from (Some u) ((m ∷ ms) ∷ qs) t e = elim (first_from (Some (min u m.time)) qs t e) [
   | inl a ↦ (let f : min u m.time ≡ t = cc a in elim (cases_lt u m.time) [
     | inl lt ↦ inl (let g : u ≡ t = omega arith in ap (λ z. Some z) g)
@@ -106,19 +131,25 @@ first_from (Some u) ((m ∷ ms) ∷ qs) t e = elim (first_from (Some (min u m.ti
 ]
 
 -- and no front is sooner
-first_below : (soonest : Option ℕ) (queues : List (List Queued)) (t u : ℕ) → first_time soonest queues ≡ Some t → soonest ≡ Some u → t ≤ u
+first_below : (soonest : Option ℕ) (queues : List (List Queued)) (t u : ℕ)
+    → first_time soonest queues ≡ Some t → soonest ≡ Some u → t ≤ u
 first_below soonest [] t u e k = let f : u ≡ t = (let g = sym k ∙ e in cc) in omega arith
 first_below soonest ([] ∷ qs) t u e k = first_below soonest qs t u e k
 first_below None ((n ∷ ns) ∷ qs) t u e k = absurd (cc k)
-first_below (Some v) ((n ∷ ns) ∷ qs) t u e k = let g : v ≡ u = cc k in let l = first_below (Some (min v n.time)) qs t (min v n.time) e refl in omega arith
+first_below (Some v) ((n ∷ ns) ∷ qs) t u e k = let g : v ≡ u = cc k in let l =
+    first_below (Some (min v n.time)) qs t (min v n.time) e refl in omega arith
 
-first_least : (soonest : Option ℕ) (queues : List (List Queued)) (t : ℕ) → first_time soonest queues ≡ Some t → (i : ℕ) (m : Queued) (ms : List Queued) → HasQueue queues i (m ∷ ms) → t ≤ m.time
+first_least : (soonest : Option ℕ) (queues : List (List Queued)) (t : ℕ) → first_time soonest queues
+    ≡ Some t → (i : ℕ) (m : Queued) (ms : List Queued) → HasQueue queues i (m ∷ ms) → t ≤ m.time
 first_least soonest [] t e i m ms h = absurd (cc h)
 first_least soonest ([] ∷ qs) t e zero m ms h = absurd (cc h)
 first_least soonest ([] ∷ qs) t e (suc i) m ms h = first_least soonest qs t e i m ms h
-first_least None ((n ∷ ns) ∷ qs) t e zero m ms h = let g : n ≡ m = cc h in let f : n.time ≡ m.time = ap (λ z. z.time) g in let l = first_below (Some n.time) qs t n.time e refl in omega arith
+first_least None ((n ∷ ns) ∷ qs) t e zero m ms h = let g : n ≡ m = cc h in let f : n.time ≡ m.time =
+    ap (λ z. z.time) g in let l = first_below (Some n.time) qs t n.time e refl in omega arith
 first_least None ((n ∷ ns) ∷ qs) t e (suc i) m ms h = first_least (Some n.time) qs t e i m ms h
-first_least (Some u) ((n ∷ ns) ∷ qs) t e zero m ms h = let g : n ≡ m = cc h in let f : n.time ≡ m.time = ap (λ z. z.time) g in let l = first_below (Some (min u n.time)) qs t (min u n.time) e refl in omega arith
+first_least (Some u) ((n ∷ ns) ∷ qs) t e zero m ms h = let g : n ≡ m = cc h in let f : n.time
+    ≡ m.time = ap (λ z. z.time) g in let l =
+    first_below (Some (min u n.time)) qs t (min u n.time) e refl in omega arith
 first_least (Some u) ((n ∷ ns) ∷ qs) t e (suc i) m ms h = first_least (Some (min u n.time)) qs t e i m ms h
 
 pub record IsDue (p : Regulator) (t : ℕ) : Type 0 where
@@ -130,7 +161,8 @@ pub record IsDue (p : Regulator) (t : ℕ) : Type 0 where
 pub due : (p : Regulator) (t : ℕ) → next_time_of p ≡ Some t → IsDue p t
 due p t e = by_first (first_time None (waiting_of p)) refl e
   where
-    by_first : (o : Option ℕ) → first_time None (waiting_of p) ≡ o → option_map (λ u. max u p.earliest) o ≡ Some t → IsDue p t
+    by_first : (o : Option ℕ) → first_time None (waiting_of p) ≡ o
+        → option_map (λ u. max u p.earliest) o ≡ Some t → IsDue p t
     by_first None k e = absurd (cc e)
     by_first (Some u) k e =
         let at : max u p.earliest ≡ t = cc e in
@@ -154,24 +186,35 @@ stays_some u ([] ∷ qs) e = stays_some u qs e
 stays_some u ((n ∷ ns) ∷ qs) e = stays_some (min u n.time) qs e
 
 -- where a queue has a front there is a next time
-first_some : (soonest : Option ℕ) (queues : List (List Queued)) (i : ℕ) (m : Queued) (ms : List Queued) → HasQueue queues i (m ∷ ms) → first_time soonest queues ≡ None → ⊥
+first_some : (soonest : Option ℕ) (queues : List (List Queued)) (i : ℕ) (m : Queued)
+    (ms : List Queued) → HasQueue queues i (m ∷ ms) → first_time soonest queues ≡ None → ⊥
 first_some soonest [] i m ms h e = cc h
 first_some soonest ([] ∷ qs) zero m ms h e = cc h
 first_some soonest ([] ∷ qs) (suc i) m ms h e = first_some soonest qs i m ms h e
 first_some None ((n ∷ ns) ∷ qs) i m ms h e = stays_some n.time qs e
 first_some (Some u) ((n ∷ ns) ∷ qs) i m ms h e = stays_some (min u n.time) qs e
 
-pub not_none : (p : Regulator) (i : ℕ) (m : Queued) (ms : List Queued) → HasQueue (waiting_of p) i (m ∷ ms) → next_time_of p ≡ None → ⊥
+pub not_none : (p : Regulator) (i : ℕ) (m : Queued) (ms : List Queued)
+    → HasQueue (waiting_of p) i (m ∷ ms) → next_time_of p ≡ None → ⊥
 not_none p i m ms h e = by_first (first_time None (waiting_of p)) refl e
   where
     by_first : (o : Option ℕ) → first_time None (waiting_of p) ≡ o → option_map (λ u. max u p.earliest) o ≡ None → ⊥
     by_first None k e = first_some None (waiting_of p) i m ms h k
     by_first (Some u) k e = cc e
 
-pub joined : {Q : Type 0} (f : Q → List Queued) (qs : List Q) (i : ℕ) (q q' : Q) (m : Queued) → i < length qs → q ≡ slice_index_or qs i q → f q' ≡ f q ++ m ∷ [] → Pushes (map f qs) i m (map f (slice_set qs i q'))
-joined f qs i q q' m below read items = record { before = f q; has = queue_read f qs i q below read; after = map-set f qs i q' ∙ ap (λ z. slice_set (map f qs) i z) items }
+pub joined : {Q : Type 0} (f : Q → List Queued) (qs : List Q) (i : ℕ) (q q' : Q) (m : Queued)
+    → i < length qs → q ≡ slice_index_or qs i q → f q' ≡ f q ++ m ∷ []
+    → Pushes (map f qs) i m (map f (slice_set qs i q'))
+joined f qs i q q' m below read items =
+    record {
+      before = f q;
+      has = queue_read f qs i q below read;
+      after = map-set f qs i q'
+          ∙ ap (λ z. slice_set (map f qs) i z) items;
+    }
 
-pub kept : {Q : Type 0} (f : Q → List Queued) (qs : List Q) (i : ℕ) (q q' : Q) → q ≡ slice_index_or qs i q → f q' ≡ f q → map f (slice_set qs i q') ≡ map f qs
+pub kept : {Q : Type 0} (f : Q → List Queued) (qs : List Q) (i : ℕ) (q q' : Q)
+    → q ≡ slice_index_or qs i q → f q' ≡ f q → map f (slice_set qs i q') ≡ map f qs
 kept f qs i q q' read items = map-set_same f qs i q' q (items ∙ ap (λ z. f z) read)
 
 pub on_err : {A E : Type 0} (r : Result A E) (P : Type 0) → P → OnErr r P
@@ -179,12 +222,14 @@ on_err (Ok x) P p = search
 on_err (Err e) P p = p
 
 -- queues that all are empty
-pub empty_queues : {Q : Type 0} (f : Q → List Queued) (qs : List Q) → AllByRecursion (λ q. f q ≡ []) qs → (i : ℕ) (ms : List Queued) → HasQueue (map f qs) i ms → ms ≡ []
+pub empty_queues : {Q : Type 0} (f : Q → List Queued) (qs : List Q)
+    → AllByRecursion (λ q. f q ≡ []) qs → (i : ℕ) (ms : List Queued) → HasQueue (map f qs) i ms → ms ≡ []
 empty_queues f [] all i ms h = absurd (cc h)
 empty_queues f (q ∷ qs) all zero ms h = let e : f q ≡ ms = cc h in sym e ∙ all.0
 empty_queues f (q ∷ qs) all (suc i) ms h = empty_queues f qs all.1 i ms h
 
-pub all_push : {Q : Type 0} (P : Q → Type 0) (qs : List Q) (q : Q) → AllByRecursion P qs → P q → AllByRecursion P (qs ++ q ∷ [])
+pub all_push : {Q : Type 0} (P : Q → Type 0) (qs : List Q) (q : Q) → AllByRecursion P qs → P q
+    → AllByRecursion P (qs ++ q ∷ [])
 all_push P [] q all p = (p, tt)
 all_push P (x ∷ xs) q all p = (all.0, all_push P xs q all.1 p)
 
@@ -193,17 +238,23 @@ later_than earliest None t e = absurd (cc e)
 later_than earliest (Some u) t e = let f : max u earliest ≡ t = cc e in omega arith
 
 -- nothing waits in empty queues
-pub empty_sum : {Q : Type 0} (f : Q → List Queued) (qs : List Q) → AllByRecursion (λ q. f q ≡ []) qs → sum_by length (map f qs) ≡ 0
+pub empty_sum : {Q : Type 0} (f : Q → List Queued) (qs : List Q) → AllByRecursion (λ q. f q ≡ []) qs
+    → sum_by length (map f qs) ≡ 0
 empty_sum f qs all = sum_zero (map f qs) (λ i ms h. empty_queues f qs all i ms h)
   where
-    sum_zero : (queues : List (List Queued)) → ((i : ℕ) (ms : List Queued) → HasQueue queues i ms → ms ≡ []) → sum_by length queues ≡ 0
+    sum_zero : (queues : List (List Queued))
+        → ((i : ℕ) (ms : List Queued) → HasQueue queues i ms → ms ≡ []) → sum_by length queues ≡ 0
     sum_zero [] none = refl
-    sum_zero (q ∷ qs) none = sum_by-cons length q qs ∙ (let rest = sum_zero qs (λ i ms h. none (suc i) ms h) in let e : length q ≡ 0 = ap length (none 0 q refl) in omega arith)
+    sum_zero (q ∷ qs) none = sum_by-cons length q qs
+        ∙ (let rest = sum_zero qs (λ i ms h. none (suc i) ms h) in let e : length q ≡ 0 =
+        ap length (none 0 q refl) in omega arith)
 
-pub empty_first : {Q : Type 0} (f : Q → List Queued) (qs : List Q) → AllByRecursion (λ q. f q ≡ []) qs → first_time None (map f qs) ≡ None
+pub empty_first : {Q : Type 0} (f : Q → List Queued) (qs : List Q)
+    → AllByRecursion (λ q. f q ≡ []) qs → first_time None (map f qs) ≡ None
 empty_first f qs all = none_first (map f qs) (λ i ms h. empty_queues f qs all i ms h)
   where
-    none_first : (queues : List (List Queued)) → ((i : ℕ) (ms : List Queued) → HasQueue queues i ms → ms ≡ []) → first_time None queues ≡ None
+    none_first : (queues : List (List Queued))
+        → ((i : ℕ) (ms : List Queued) → HasQueue queues i ms → ms ≡ []) → first_time None queues ≡ None
     none_first [] none = refl
     none_first ([] ∷ qs) none = none_first qs (λ i ms h. none (suc i) ms h)
     none_first ((m ∷ ms) ∷ qs) none = absurd (let e : m ∷ ms ≡ [] = none 0 (m ∷ ms) refl in cc e)

@@ -5,7 +5,7 @@ use Rattle.std.specs.List.{AllByRecursion}
 use Rattle.std.specs.List.Sorted.{IsPermutation}
 use Rattle.afdx_frame.specs.Regulation.{bag}
 use Rattle.afdx_config.specs.Admission.{IsAdmitted, links_from}
-use Rattle.afdx_config.specs.Flows.{regulation_of}
+use Rattle.afdx_config.specs.Flows.{regulation_of_link}
 use Rattle.afdx_config.specs.Lawful.{IsLawful}
 use Rattle.afdx_config.specs.LawfulStream.{Sending}
 use Rattle.afdx_config.specs.Numbers.{after_steps}
@@ -46,7 +46,7 @@ for_sub sub submissions = filter (λ s. s.sub == sub) submissions
 -- order in which they came
 pub record AreReleasesOfAll (l : LinkRow) (taken : List Submission) (releases : List Release)
     : Type 0 where
-  pub are_releases : AreReleases (bag (regulation_of l)) l.subs taken releases
+  pub are_releases : AreReleases (bag (regulation_of_link l)) l.subs taken releases
   pub each_once : IsPermutation taken (submissions_of releases)
   pub in_order : (sub : ℕ) → for_sub sub (submissions_of releases) ≡ for_sub sub taken
   pub of_one_sub : l.subs ≡ 1 → submissions_of releases ≡ taken

@@ -6,7 +6,7 @@ use Rattle.afdx_frame.specs.declared.link.Priority.TheVariants.{Low}
 use Rattle.afdx_frame.specs.declared.link.Side.TheVariants.{A, B}
 use Rattle.afdx_frame.specs.Grammar.{Built, built_length}
 use Rattle.afdx_frame.specs.Regulation.{bag}
-use Rattle.afdx_config.specs.Flows.{regulation_of}
+use Rattle.afdx_config.specs.Flows.{regulation_of_link}
 use Rattle.afdx_config.specs.Numbers.{after_steps}
 use Rattle.afdx_config.specs.LawfulStream.{Sending}
 use Rattle.afdx_config.specs.Rows.{SystemRow, LinkRow}
@@ -35,7 +35,7 @@ own_submissions taken place = slice_index_or taken place []
 -- a release of the link at this place is the next after those of all links
 abbrev pub IsNextOf : List (List Submission) → List LinkRelease → ℕ → LinkRow → Release → Type 0
 IsNextOf taken earlier place l r =
-    IsNext (bag (regulation_of l)) l.subs (own_submissions taken place) (own place earlier) r
+    IsNext (bag (regulation_of_link l)) l.subs (own_submissions taken place) (own place earlier) r
 
 -- after the earlier releases, of all links, comes this one: it is the next of its link, no link's
 -- next comes before it, and of those at its moment it is that of the link which stands first

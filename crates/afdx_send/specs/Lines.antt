@@ -2,7 +2,7 @@
 -- and released.
 use Rattle.std.specs.Prelude.{◌≡◌, ℕ, ◌+◌, ◌*◌, ◌<◌, ◌≤◌, ◌⊎◌, List, ◌∷◌, length, sum_by, Some, slice_get}
 use Rattle.afdx_frame.specs.Regulation.{bag}
-use Rattle.afdx_config.specs.Flows.{regulation_of}
+use Rattle.afdx_config.specs.Flows.{regulation_of_link}
 use Rattle.afdx_config.specs.Numbers.{after_steps}
 use Rattle.afdx_config.specs.Rows.{LinkRow}
 use Rattle.afdx_send.specs.declared.fault.SendFault.{SendFault}
@@ -19,7 +19,7 @@ pub record IsLineOf (l : LinkRow) (line : Line) : Type 0 where
   pub vl : line.vl.0 ≡ l.vl
   pub least : line.least ≡ l.lmin
   pub longest : line.longest ≡ l.lmax
-  pub bag : line.regulator.bag ≡ bag (regulation_of l)
+  pub bag : line.regulator.bag ≡ bag (regulation_of_link l)
   pub subs : sub_count line.regulator ≡ l.subs
 
 -- how many messages aren't released yet
@@ -48,7 +48,7 @@ pub record LineStands (line : Line) (l : LinkRow) (ss : List Submission) (rs : L
 pub record LineReleases (line : Line) (l : LinkRow) (ss : List Submission) (rs : List Release)
     (time : ℕ) (f : Frame) (new : Line) : Type 0 where
   pub r : Release
-  pub next : IsNext (bag (regulation_of l)) l.subs ss rs r
+  pub next : IsNext (bag (regulation_of_link l)) l.subs ss rs r
   pub at : r.time ≡ time
   pub message : f.message ≡ r.submission.message
   pub stands : LineStands new l ss (r ∷ rs)

@@ -7,7 +7,7 @@ use Rattle.afdx_frame.specs.declared.link.Side.TheVariants.{A, B}
 use Rattle.afdx_frame.specs.Flows.{Flow}
 use Rattle.afdx_frame.specs.Grammar.{built_frame}
 use Rattle.afdx_frame.specs.Regulation.{jitter}
-use Rattle.afdx_config.specs.Flows.{regulation_of}
+use Rattle.afdx_config.specs.Flows.{regulation_of_link}
 use Rattle.afdx_config.specs.LawfulStream.{Sending}
 use Rattle.afdx_config.specs.Admission.{byte_ns, links_from}
 use Rattle.afdx_config.specs.Lawful.{IsLink, AreDistinct}
@@ -139,7 +139,7 @@ pub record AreSent (s : SystemRow) (links : List LinkRow) : Type 0 where
   pub lawful : (i : ℕ) (l : LinkRow) → slice_get links i ≡ Some l → (n : ℕ) × IsLink n l
   pub distinct : AreDistinct (λ l. l.vl) links
   pub jitters : (i : ℕ) (l : LinkRow) → slice_get links i ≡ Some l →
-      one_of_each (byte_ns s) (flows_of s links) ≤ jitter (regulation_of l)
+      one_of_each (byte_ns s) (flows_of s links) ≤ jitter (regulation_of_link l)
 
 -- the port's calls
 abbrev pub port_history : History → List LinkRelease → List (Turn Frame) → ℕ → port.History Frame

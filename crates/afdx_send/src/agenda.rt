@@ -8,7 +8,7 @@ use std::alloc::{AllocError, Global};
 #[derive(Clone, Copy, Debug, PartialEq, Eq, Drop)]
 pub(crate) struct Next {
     pub(crate) time: u64,
-    pub(crate) place: u16,
+    pub(crate) place: usize,
 }
 
 /// When each link's next release is, kept so that the soonest of all is at hand: a tournament.
@@ -44,8 +44,18 @@ fn sooner(a: Option<Next>, b: Option<Next>) -> Option<Next>
     }
 }
 
+fn is_same(a: Option<Next>, b: Option<Next>) -> bool
+    ensures { IsTrue result → a ≡ b }
+{
+    match (a, b) {
+        (Some(x), Some(y)) => x.time == y.time && x.place == y.place,
+        (None, None) => true,
+        _ => false,
+    }
+}
+
 /// The node of a link.
-fn leaf(time: Option<u64>, place: u16) -> Option<Next>
+fn leaf(time: Option<u64>, place: usize) -> Option<Next>
     ensures { result ≡ option_map (next_with place) time }
 {
     match time {
@@ -87,10 +97,15 @@ impl Agenda {
         ensures count { self.new.count ≡ self.old.count }
     {
         let mut node = self.count + place;
-        self.nodes[node] = leaf(time, place as u16);
+        self.nodes[node] = leaf(time, place);
         node /= 2;
         while node >= 1 {
-            self.nodes[node] = sooner(self.nodes[2 * node], self.nodes[2 * node + 1]);
+            let winner = sooner(self.nodes[2 * node], self.nodes[2 * node + 1]);
+            if is_same(winner, self.nodes[node]) {
+                // Those above were played with it.
+                return;
+            }
+            self.nodes[node] = winner;
             node /= 2;
         }
     }

@@ -1,7 +1,7 @@
 //! A released message, as the output port holds it.
 ghost use Rattle.std.specs.Prelude.{◌≡◌, ◌≤◌, length, IfOk};
 
-use afdx_frame::{Address, Side, VlId, build};
+use afdx_frame::{Address, VlId, build_both};
 use afdx_port::HasLength;
 use std::alloc::{AllocError, Global};
 use std::marker::Model;
@@ -39,6 +39,7 @@ impl Model for Released {
 
 impl Released {
     ghost use Rattle.std.specs.Prelude.{◌≡◌, ℕ};
+    ghost use Rattle.afdx_frame.specs.declared.link.Side.TheVariants.{A, B};
     ghost use Rattle.afdx_frame.specs.Grammar.{Built, built_length, built_frame};
     ghost use Rattle.afdx_send.specs.Frames.{Frame, frame_with, address_with};
 
@@ -62,22 +63,28 @@ impl Released {
         self.vl
     }
 
-    /// The frame for one of the networks.
-    pub(crate) fn frame(
+    /// The frames for network A and network B.
+    pub(crate) fn frames(
         &self,
         alloc: Global,
         system_id: u16,
         partition: u8,
-        side: Side,
-    ) -> Result<Vec<u8>, AllocError>
-        ensures built { IfOk result (λ v. Built (address_with system_id partition self.now)
-            self.now.number side self.now.message.payload v.items) }
-        ensures long { IfOk result
-            (λ v. length v.items ≡ built_length (address_with system_id partition self.now)
-            (length self.now.message.payload)) }
-        ensures computed { IfOk result (λ v. v.items ≡ built_frame
-            (address_with system_id partition self.now) self.now.number side
-            self.now.message.payload) }
+    ) -> Result<(Vec<u8>, Vec<u8>), AllocError>
+        ensures built { IfOk result (λ both.
+            Built (address_with system_id partition self.now)
+            self.now.number A self.now.message.payload both.0.items
+            × Built (address_with system_id partition self.now)
+            self.now.number B self.now.message.payload both.1.items) }
+        ensures long { IfOk result (λ both.
+            (length both.0.items ≡ built_length (address_with system_id partition self.now)
+            (length self.now.message.payload))
+            × (length both.1.items ≡ built_length (address_with system_id partition self.now)
+            (length self.now.message.payload))) }
+        ensures computed { IfOk result (λ both.
+            (both.0.items ≡ built_frame (address_with system_id partition self.now)
+            self.now.number A self.now.message.payload)
+            × (both.1.items ≡ built_frame (address_with system_id partition self.now)
+            self.now.number B self.now.message.payload)) }
     {
         let address = Address {
             vl: self.vl,
@@ -87,7 +94,7 @@ impl Released {
             to_udp: self.udp,
             least: self.least,
         };
-        build(alloc, &address, self.number, side, self.payload.as_slice())
+        build_both(alloc, &address, self.number, self.payload.as_slice())
     }
 }
 

@@ -11,7 +11,7 @@ use crate::regulator::Queued;
 use crate::released::Released;
 use crate::sender::Emission;
 use afdx_bounds::laws::sender_is_bounded;
-use afdx_frame::{Priority, Side, VlId};
+use afdx_frame::{Priority, VlId};
 use afdx_port::laws::{due_is_next, one_schedule, taken_are_on_schedule};
 use afdx_port::{Left, Port};
 use std::alloc::{AllocError, Global};
@@ -63,7 +63,7 @@ impl Working {
             return None;
         };
         if next.time < until {
-            Some((next.time, usize::from(next.place)))
+            Some((next.time, next.place))
         } else {
             None
         }
@@ -169,13 +169,14 @@ impl Working {
             (address_with self.now.system_id self.now.partition left.now.item)
             left.now.item.number B left.now.item.message.payload) }
     {
-        let (system_id, partition) = (self.system_id, self.partition);
-        let item = &left.item;
+        let (a, b) = left
+            .item
+            .frames(self.alloc, self.system_id, self.partition)?;
         Ok(Emission {
             time: left.end,
-            vl: item.vl(),
-            a: item.frame(self.alloc, system_id, partition, Side::A)?,
-            b: item.frame(self.alloc, system_id, partition, Side::B)?,
+            vl: left.item.vl(),
+            a,
+            b,
         })
     }
 

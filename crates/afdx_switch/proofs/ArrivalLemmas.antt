@@ -1,7 +1,8 @@
 -- What one more arrival is, and what it adds to the entries of the output ports.
-use Rattle.std.proofs.Common.{◌≡◌, ℕ, ◌≤◌, ◌&&◌, Bool, true, false, not, List, [], ◌∷◌, length, refl, sym, ap, ◌∙◌, arith, inl, inr}
-use Rattle.std.specs.Prelude.{Result, Ok, Err, OnErr, Option, Some, None, IfSome, is_none, nat_lt, find, min, max, option_map, if◌then◌else◌}
-use Rattle.std.specs.Option.{unwrap_or}
+use Rattle.std.proofs.Common.{◌≡◌, ℕ, ◌≤◌, ◌&&◌, Bool, true, false, not, List, [], ◌∷◌, length}
+use Rattle.std.proofs.Common.{refl, sym, ap, ◌∙◌, arith, inl, inr}
+use Rattle.std.specs.Prelude.{Result, Ok, Err, OnErr, Option, Some, None, IfSome, is_none, nat_lt}
+use Rattle.std.specs.Prelude.{find, min, max, option_map, if◌then◌else◌}
 use Rattle.std.proofs.lemmas.Bool.{and_parts}
 use Rattle.afdx_frame.specs.Layout.{link_named_by}
 use Rattle.afdx_frame.specs.Sealing.{is_sealed}
@@ -13,7 +14,9 @@ use Rattle.afdx_police.specs.Arrival.{Arrival, is_side, names, own}
 use Rattle.afdx_police.specs.Shape.{fault_of}
 use Rattle.afdx_police.specs.Verdicts.{reason_after, verdict_in}
 use Rattle.afdx_police.specs.declared.shape.Reason.{Reason}
-use Rattle.afdx_police.specs.declared.shape.Reason.TheVariants.{WrongPort, OverLmax, UnderLmin, UnknownLink, TooShort, TooLong, BadFcs, BadAddress}
+use Rattle.afdx_police.specs.declared.shape.Reason.TheVariants.{WrongPort, OverLmax, UnderLmin}
+use Rattle.afdx_police.specs.declared.shape.Reason.TheVariants.{UnknownLink, TooShort, TooLong}
+use Rattle.afdx_police.specs.declared.shape.Reason.TheVariants.{BadFcs, BadAddress}
 use Rattle.afdx_bounds.specs.Offered.{is_lost, with_offer, entries_of}
 use Rattle.afdx_bounds.specs.Outputs.{Row, Output, accepts, sends, entry_of, with_sent, offers_at}
 use Rattle.afdx_bounds.proofs.VerdictLemmas.{looks}
@@ -34,13 +37,20 @@ on-err (Ok x) p = tt
 on-err (Err e) p = p
 
 -- a link's own arrivals
-pub own-other : (vl : ℕ) (side : Side) (x : Arrival) (past : List Arrival) → names vl x.bytes ≡ false → own vl side (x ∷ past) ≡ own vl side past
-own-other vl side x past other = elim (bool_cases (is_side side x.side)) [ inl here ↦ rw (here, other) refl | inr there ↦ rw there refl ]
+pub own-other : (vl : ℕ) (side : Side) (x : Arrival) (past : List Arrival)
+    → names vl x.bytes ≡ false → own vl side (x ∷ past) ≡ own vl side past
+own-other vl side x past other =
+    elim (bool_cases (is_side side x.side))
+    [ inl here ↦ rw (here, other) refl | inr there ↦ rw there refl ]
 
-pub own-named : (vl : ℕ) (x : Arrival) (past : List Arrival) → names vl x.bytes ≡ true → own vl x.side (x ∷ past) ≡ x ∷ own vl x.side past
+pub own-named : (vl : ℕ) (x : Arrival) (past : List Arrival) → names vl x.bytes ≡ true
+    → own vl x.side (x ∷ past) ≡ x ∷ own vl x.side past
 own-named vl x past named = rw (same-side x.side, named) refl
 
-first_of_four : (a b c d : Bool) (rest : List (Bool × Reason)) (r : Reason) → (s : Reason) × (option_map (λ (f : Bool × Reason). f.1) (find (λ f. f.0) ((a, TooShort) ∷ (b, TooLong) ∷ (c, BadFcs) ∷ (d, BadAddress) ∷ (true, r) ∷ rest)) ≡ Some s)
+first_of_four : (a b c d : Bool) (rest : List (Bool × Reason)) (r : Reason) → (s : Reason)
+    × (option_map (λ (f : Bool × Reason). f.1)
+    (find (λ f. f.0) ((a, TooShort) ∷ (b, TooLong) ∷ (c, BadFcs) ∷ (d, BadAddress) ∷ (true, r)
+    ∷ rest)) ≡ Some s)
 first_of_four true b c d rest r = (TooShort, refl)
 first_of_four false true c d rest r = (TooLong, refl)
 first_of_four false false true d rest r = (BadFcs, refl)
@@ -51,11 +61,9 @@ first_of_four false false false false rest r = (r, refl)
 pub unknown-fault : (port : ℕ) (bytes : List ℕ) → (r : Reason) × (fault_of None port bytes ≡ Some r)
 unfolding fault_of
 unknown-fault port bytes =
-    first_of_four (nat_lt (length bytes) 64) (nat_lt 1518 (length bytes)) (not (is_sealed bytes)) (is_none (link_named_by bytes)) ((true, WrongPort) ∷ (false, OverLmax) ∷ (false, UnderLmin) ∷ []) UnknownLink
-
-pub unwrapped : (o : Option Reason) (d r : Reason) → o ≡ Some r → o ≡ Some (unwrap_or o d)
-unwrapped None d r is = absurd cc
-unwrapped (Some s) d r is = refl
+    first_of_four (nat_lt (length bytes) 64) (nat_lt 1518 (length bytes)) (not (is_sealed bytes))
+    (is_none (link_named_by bytes))
+    ((true, WrongPort) ∷ (false, OverLmax) ∷ (false, UnderLmin) ∷ []) UnknownLink
 
 limit-is : (w : Option ℕ) → IfSome w (λ n. n ≤ 100000000) → option_map (λ n. min 100000000 n) w ≡ w
 limit-is None small = refl
@@ -66,7 +74,8 @@ not-accepted o r b is = rw is refl
 
 module _ (t : Rows) (x : Arrival) (past : List Arrival) where
   pub sends-named : (o : Output) (r : Row) → sends o past x r ≡ true → names r.rule.vl x.bytes ≡ true
-  sends-named o r sent = (looks r past x (and_parts (accepts past x r) (is_side o.side x.side && r.goes_to o.number) sent).0).named
+  sends-named o r sent = (looks r past x
+      (and_parts (accepts past x r) (is_side o.side x.side && r.goes_to o.number) sent).0).named
 
   no-row-named : IsNamed (rows_of t) x.bytes None → row_named t x.bytes ≡ None
   unfolding row_named
@@ -74,17 +83,20 @@ module _ (t : Rows) (x : Arrival) (past : List Arrival) where
 
   pub row-named : (place : ℕ) (n : IsNamedAt (rows_of t) x.bytes place) → row_named t x.bytes ≡ Some n.row
   unfolding row_named
-  row-named place n = find-one (λ (r : Row). names r.rule.vl x.bytes) (rows_of t) place n.row n.stands n.only ∙ ap (λ b. if b then Some n.row else None) n.named
+  row-named place n = find-one (λ (r : Row). names r.rule.vl x.bytes) (rows_of t) place n.row
+      n.stands n.only ∙ ap (λ b. if b then Some n.row else None) n.named
 
   pub reason-unknown : IsNamed (rows_of t) x.bytes None → reason_of t past x ≡ fault_of None x.port x.bytes
   unfolding reason_of
   reason-unknown none = ap (reason_on past x) (no-row-named none)
 
-  pub reason-named : (place : ℕ) (n : IsNamedAt (rows_of t) x.bytes place) → reason_of t past x ≡ reason_after n.row.rule (own n.row.rule.vl x.side past) x
+  pub reason-named : (place : ℕ) (n : IsNamedAt (rows_of t) x.bytes place)
+      → reason_of t past x ≡ reason_after n.row.rule (own n.row.rule.vl x.side past) x
   unfolding reason_of
   reason-named place n = ap (reason_on past x) (row-named place n)
 
-  pub shape-named : (place : ℕ) (n : IsNamedAt (rows_of t) x.bytes place) → shape_fault t x ≡ fault_of (Some n.row.rule) x.port x.bytes
+  pub shape-named : (place : ℕ) (n : IsNamedAt (rows_of t) x.bytes place)
+      → shape_fault t x ≡ fault_of (Some n.row.rule) x.port x.bytes
   unfolding shape_fault
   shape-named place n = ap (fault_on x) (row-named place n)
 
@@ -94,15 +106,21 @@ module _ (t : Rows) (x : Arrival) (past : List Arrival) where
     | inr kept ↦ kept
   ])
 
-  sent-named : (o : Output) (place : ℕ) (n : IsNamedAt (rows_of t) x.bytes place) → find (sends o past x) (rows_of t) ≡ (if sends o past x n.row then Some n.row else None)
-  sent-named o place n = find-one (sends o past x) (rows_of t) place n.row n.stands (λ j r at sent. n.only j r at (sends-named o r sent))
+  sent-named : (o : Output) (place : ℕ) (n : IsNamedAt (rows_of t) x.bytes place)
+      → find (sends o past x) (rows_of t) ≡ (if sends o past x n.row then Some n.row else None)
+  sent-named o place n = find-one (sends o past x) (rows_of t) place n.row n.stands
+      (λ j r at sent. n.only j r at (sends-named o r sent))
 
   -- an arrival that is dropped is sent nowhere
-  pub dropped-sent : (place : Option ℕ) (o : Output) (r : Reason) → IsNamed (rows_of t) x.bytes place → reason_of t past x ≡ Some r → find (sends o past x) (rows_of t) ≡ None
+  pub dropped-sent : (place : Option ℕ) (o : Output) (r : Reason)
+      → IsNamed (rows_of t) x.bytes place → reason_of t past x ≡ Some r
+      → find (sends o past x) (rows_of t) ≡ None
   dropped-sent None o r none dropped = sent-none o none
   dropped-sent (Some place) o r n dropped =
       sent-named o place n
-      ∙ ap (λ b. if b then Some n.row else None) (not-accepted (verdict_in n.row.rule past x) r (is_side o.side x.side && n.row.goes_to o.number) (sym (reason-named place n) ∙ dropped))
+      ∙ ap (λ b. if b then Some n.row else None)
+      (not-accepted (verdict_in n.row.rule past x) r
+      (is_side o.side x.side && n.row.goes_to o.number) (sym (reason-named place n) ∙ dropped))
 
   -- one that is accepted is sent to the ports of its link
   pub accepted-sent : (port place : ℕ) (n : IsNamedAt (rows_of t) x.bytes place) → reason_of t past x ≡ None →
@@ -114,17 +132,24 @@ module _ (t : Rows) (x : Arrival) (past : List Arrival) where
 
   -- the entries
   pub entries-with : (port : ℕ) (row : Option Row) → find (sends (output_at t x.side port) past x) (rows_of t) ≡ row →
-      entries_at t x.side port (x ∷ past) ≡ entries_of (byte_ns_at t port) t.buffer (with_sent (carried t) x row (offers_at (carried t) (rows_of t) (output_at t x.side port) past))
+      entries_at t x.side port (x ∷ past)
+      ≡ entries_of (byte_ns_at t port) t.buffer
+      (with_sent (carried t) x row (offers_at (carried t) (rows_of t) (output_at t x.side port) past))
   unfolding offers_at
-  entries-with port row sent = ap (λ f. entries_of (byte_ns_at t port) t.buffer (with_sent (carried t) x f (offers_at (carried t) (rows_of t) (output_at t x.side port) past))) sent
+  entries-with port row sent =
+      ap (λ f. entries_of (byte_ns_at t port) t.buffer
+      (with_sent (carried t) x f (offers_at (carried t) (rows_of t) (output_at t x.side port) past))) sent
 
-  pub entries-kept : (port : ℕ) → find (sends (output_at t x.side port) past x) (rows_of t) ≡ None → entries_at t x.side port (x ∷ past) ≡ entries_at t x.side port past
+  pub entries-kept : (port : ℕ) → find (sends (output_at t x.side port) past x) (rows_of t) ≡ None
+      → entries_at t x.side port (x ∷ past) ≡ entries_at t x.side port past
   entries-kept port sent = entries-with port None sent
 
   -- a share as the entry that it becomes
   module _ (place : ℕ) (n : IsNamedAt (rows_of t) x.bytes place) (priority : Priority) (longest_wait : Option ℕ)
       (accepted : reason_of t past x ≡ None) (shortest : 64 ≤ length x.bytes) (longest : length x.bytes ≤ 1518)
-      (small : IfSome longest_wait (λ wait. wait ≤ 100000000)) (same_priority : priority ≡ n.row.priority) (same_wait : longest_wait ≡ n.row.longest_wait) where
+      (small : IfSome longest_wait (λ wait. wait ≤ 100000000))
+      (same_priority : priority ≡ n.row.priority)
+      (same_wait : longest_wait ≡ n.row.longest_wait) where
     is-carried : carried_with x.tag longest_wait x.bytes ≡ carried t x
     unfolding carried
     is-carried = ap (λ w. carried_with x.tag w x.bytes) (same_wait ∙ sym (ap wait_of (row-named place n)))
@@ -132,33 +157,46 @@ module _ (t : Rows) (x : Arrival) (past : List Arrival) where
     entry-is : share_entry x.time priority (carried_with x.tag longest_wait x.bytes) ≡ entry_of (carried t) n.row x
     entry-is =
         let length-is : max 64 (min 1518 (length x.bytes)) ≡ length x.bytes = omega (arith, shortest, longest) in
-        let limit : option_map (λ n. min 100000000 n) longest_wait ≡ n.row.longest_wait = limit-is longest_wait small ∙ same_wait in
+        let limit : option_map (λ n. min 100000000 n) longest_wait ≡ n.row.longest_wait =
+        limit-is longest_wait small ∙ same_wait in
         rw (length-is, limit, same_priority, is-carried) refl
 
     shared : (port buffer : ℕ) (goes : Bool) → n.row.goes_to port ≡ goes → (goes ≡ true → buffer ≡ t.buffer) →
-        with_share x.time priority (byte_ns_at t port) buffer (entries_at t x.side port past) (share_of (carried_with x.tag longest_wait x.bytes) goes) ≡ entries_at t x.side port (x ∷ past)
+        with_share x.time priority (byte_ns_at t port) buffer (entries_at t x.side port past)
+        (share_of (carried_with x.tag longest_wait x.bytes) goes)
+        ≡ entries_at t x.side port (x ∷ past)
     shared port buffer true goes own =
-        ap (λ b. with_offer (byte_ns_at t port) b (entries_at t x.side port past) (share_entry x.time priority (carried_with x.tag longest_wait x.bytes))) (own refl)
+        ap (λ b. with_offer (byte_ns_at t port) b (entries_at t x.side port past)
+        (share_entry x.time priority (carried_with x.tag longest_wait x.bytes))) (own refl)
         ∙ ap (λ e. with_offer (byte_ns_at t port) t.buffer (entries_at t x.side port past) e) entry-is
-        ∙ sym (entries-with port (Some n.row) (accepted-sent port place n accepted ∙ ap (λ b. if b then Some n.row else None) goes))
+        ∙ sym (entries-with port (Some n.row)
+        (accepted-sent port place n accepted ∙ ap (λ b. if b then Some n.row else None) goes))
     shared port buffer false stays own =
         sym (entries-kept port (accepted-sent port place n accepted ∙ ap (λ b. if b then Some n.row else None) stays))
 
     -- with a buffer that is the tables' where the link goes
     pub with-share-is : (port buffer : ℕ) → (n.row.goes_to port ≡ true → buffer ≡ t.buffer) →
-        with_share x.time priority (byte_ns_at t port) buffer (entries_at t x.side port past) (share_of (carried_with x.tag longest_wait x.bytes) (n.row.goes_to port)) ≡ entries_at t x.side port (x ∷ past)
+        with_share x.time priority (byte_ns_at t port) buffer (entries_at t x.side port past)
+        (share_of (carried_with x.tag longest_wait x.bytes) (n.row.goes_to port))
+        ≡ entries_at t x.side port (x ∷ past)
     with-share-is port buffer own = shared port buffer (n.row.goes_to port) refl own
 
     lost : (port buffer : ℕ) (goes : Bool) → n.row.goes_to port ≡ goes → (goes ≡ true → buffer ≡ t.buffer) →
-        loses_share x.time priority (byte_ns_at t port) buffer (entries_at t x.side port past) (share_of (carried_with x.tag longest_wait x.bytes) goes) ≡ is_lost_at t past x port
+        loses_share x.time priority (byte_ns_at t port) buffer (entries_at t x.side port past)
+        (share_of (carried_with x.tag longest_wait x.bytes) goes) ≡ is_lost_at t past x port
     unfolding is_lost_at
     lost port buffer true goes own =
-        ap (λ b. is_lost (byte_ns_at t port) b (entries_at t x.side port past) (share_entry x.time priority (carried_with x.tag longest_wait x.bytes))) (own refl)
+        ap (λ b. is_lost (byte_ns_at t port) b (entries_at t x.side port past)
+        (share_entry x.time priority (carried_with x.tag longest_wait x.bytes))) (own refl)
         ∙ ap (λ e. is_lost (byte_ns_at t port) t.buffer (entries_at t x.side port past) e) entry-is
-        ∙ sym (ap (is_share_lost t past x port) (accepted-sent port place n accepted ∙ ap (λ b. if b then Some n.row else None) goes))
+        ∙ sym (ap (is_share_lost t past x port)
+        (accepted-sent port place n accepted ∙ ap (λ b. if b then Some n.row else None) goes))
     lost port buffer false stays own =
-        sym (ap (is_share_lost t past x port) (accepted-sent port place n accepted ∙ ap (λ b. if b then Some n.row else None) stays))
+        sym (ap (is_share_lost t past x port)
+        (accepted-sent port place n accepted ∙ ap (λ b. if b then Some n.row else None) stays))
 
     pub loses-share-is : (port buffer : ℕ) → (n.row.goes_to port ≡ true → buffer ≡ t.buffer) →
-        loses_share x.time priority (byte_ns_at t port) buffer (entries_at t x.side port past) (share_of (carried_with x.tag longest_wait x.bytes) (n.row.goes_to port)) ≡ is_lost_at t past x port
+        loses_share x.time priority (byte_ns_at t port) buffer (entries_at t x.side port past)
+        (share_of (carried_with x.tag longest_wait x.bytes) (n.row.goes_to port))
+        ≡ is_lost_at t past x port
     loses-share-is port buffer own = lost port buffer (n.row.goes_to port) refl own

@@ -1,5 +1,6 @@
 -- The laws of a switch.
-use Rattle.std.proofs.Common.{◌≡◌, ℕ, zero, suc, ◌≤◌, ◌+◌, ◌&&◌, Bool, true, false, List, [], ◌∷◌, ◌++◌, refl, sym, ap, ◌∙◌, arith, subst, inl, inr}
+use Rattle.std.proofs.Common.{◌≡◌, ℕ, zero, suc, ◌≤◌, ◌+◌, ◌&&◌, Bool, true, false, List, [], ◌∷◌}
+use Rattle.std.proofs.Common.{◌++◌, refl, sym, ap, ◌∙◌, arith, subst, inl, inr}
 use Rattle.std.specs.Prelude.{Option, Some, None, IfSome, filter, find, slice_get, if◌then◌else◌}
 use Rattle.afdx_frame.specs.Layout.{link_named_by}
 use Rattle.afdx_frame.specs.declared.link.Priority.TheVariants.{Low}
@@ -20,7 +21,8 @@ use Rattle.afdx_bounds.specs.Offered.{is_lost, entries_of}
 use Rattle.afdx_bounds.specs.Outputs.{Row, accepts, sends, entry_of, with_sent, offers_at}
 use Rattle.afdx_bounds.proofs.VerdictLemmas.{one-name}
 use Rattle.afdx_switch.specs.Carried.{Carried, facts}
-use Rattle.afdx_switch.specs.Laws.{VerdictsAreOwn, EntriesGrow, is_of, TakenAreTurns, LinksGoInOrder, OtherSideIsApart, LostPortsAreListed}
+use Rattle.afdx_switch.specs.Laws.{VerdictsAreOwn, EntriesGrow, is_of, TakenAreTurns}
+use Rattle.afdx_switch.specs.Laws.{LinksGoInOrder, OtherSideIsApart, LostPortsAreListed}
 use Rattle.afdx_switch.specs.Tables.{rows_of, output_at, byte_ns_at, buffer_at, row_named, carried, entries_at}
 use Rattle.afdx_switch.specs.Verdicts.{reason_on, reason_of, is_share_lost, is_lost_at, numbers, lost_ports}
 use Rattle.afdx_switch.specs.Ports.{holds}
@@ -29,7 +31,8 @@ use Rattle.afdx_switch.specs.Lines.{IsPlaceOf, IsNamed}
 use Rattle.afdx_switch.specs.Switching.{calls_at, taken_at}
 use Rattle.afdx_switch.proofs.ListLemmas.{find-none, find-found}
 use Rattle.afdx_switch.proofs.NamedLemmas.{unnamed, no-row, row-at}
-use Rattle.afdx_switch.proofs.ArrivalLemmas.{sends-named, row-named, dropped-sent, accepted-sent, entries-with, entries-kept}
+use Rattle.afdx_switch.proofs.ArrivalLemmas.{sends-named, row-named, dropped-sent, accepted-sent}
+use Rattle.afdx_switch.proofs.ArrivalLemmas.{entries-with, entries-kept}
 use Rattle.afdx_switch.proofs.StandsLemmas.{found-at}
 use Rattle.afdx_switch.proofs.NewLemmas.{place-of, pushed}
 
@@ -37,7 +40,8 @@ pub verdicts-own : VerdictsAreOwn
 unfolding reason_of
 verdicts-own t past other x same = on (row_named t x.bytes) same
   where
-    on : (o : Option Row) → IfSome o (λ r. own r.rule.vl x.side past ≡ own r.rule.vl x.side other) → reason_on past x o ≡ reason_on other x o
+    on : (o : Option Row) → IfSome o (λ r. own r.rule.vl x.side past ≡ own r.rule.vl x.side other)
+        → reason_on past x o ≡ reason_on other x o
     on None equal = refl
     on (Some r) equal = ap (λ xs. reason_after r.rule xs x) equal
 
@@ -45,7 +49,8 @@ verdicts-own t past other x same = on (row_named t x.bytes) same
 pub named-place : (t : Rows) (bytes : List ℕ) → IsLawful t → (place : Option ℕ) × IsNamed (rows_of t) bytes place
 named-place t bytes lawful = by (link_named_by bytes) refl
   where
-    here : (v : VlId) (place : Option ℕ) → link_named_by bytes ≡ Some v → IsPlaceOf (rows_of t) v.0 place → (k : Option ℕ) × IsNamed (rows_of t) bytes k
+    here : (v : VlId) (place : Option ℕ) → link_named_by bytes ≡ Some v
+        → IsPlaceOf (rows_of t) v.0 place → (k : Option ℕ) × IsNamed (rows_of t) bytes k
     here v None some is = (None, no-row (rows_of t) bytes v some is)
     here v (Some place) some is = (Some place, row-at (rows_of t) bytes v place some is)
 
@@ -58,52 +63,76 @@ unsent true b c e = rw e refl
 unsent false b c e = refl
 
 -- the entries with one more arrival, on any side
-side-with : (t : Rows) (side : Side) (port : ℕ) (x : Arrival) (past : List Arrival) (row : Option Row) → find (sends (output_at t side port) past x) (rows_of t) ≡ row →
-    entries_at t side port (x ∷ past) ≡ entries_of (byte_ns_at t port) t.buffer (with_sent (carried t) x row (offers_at (carried t) (rows_of t) (output_at t side port) past))
+side-with : (t : Rows) (side : Side) (port : ℕ) (x : Arrival) (past : List Arrival)
+    (row : Option Row) → find (sends (output_at t side port) past x) (rows_of t) ≡ row →
+    entries_at t side port (x ∷ past)
+    ≡ entries_of (byte_ns_at t port) t.buffer
+    (with_sent (carried t) x row (offers_at (carried t) (rows_of t) (output_at t side port) past))
 unfolding offers_at
-side-with t side port x past row sent = ap (λ f. entries_of (byte_ns_at t port) t.buffer (with_sent (carried t) x f (offers_at (carried t) (rows_of t) (output_at t side port) past))) sent
+side-with t side port x past row sent =
+    ap (λ f. entries_of (byte_ns_at t port) t.buffer
+    (with_sent (carried t) x f (offers_at (carried t) (rows_of t) (output_at t side port) past))) sent
 
-other-kept : (t : Rows) (side : Side) (port : ℕ) (x : Arrival) (past : List Arrival) → is_side side x.side ≡ false → entries_at t side port (x ∷ past) ≡ entries_at t side port past
+other-kept : (t : Rows) (side : Side) (port : ℕ) (x : Arrival) (past : List Arrival)
+    → is_side side x.side ≡ false → entries_at t side port (x ∷ past) ≡ entries_at t side port past
 other-kept t side port x past other =
-    side-with t side port x past None (find-none (sends (output_at t side port) past x) (rows_of t) (λ j r at. unsent (accepts past x r) (is_side side x.side) (r.goes_to port) other))
+    side-with t side port x past None
+    (find-none (sends (output_at t side port) past x) (rows_of t)
+    (λ j r at. unsent (accepts past x r) (is_side side x.side) (r.goes_to port) other))
 
 nothing-named : (t : Rows) (bytes : List ℕ) → IsNamed (rows_of t) bytes None → row_named t bytes ≡ None
 unfolding row_named
 nothing-named t bytes none = find-none (λ (s : Row). names s.rule.vl bytes) (rows_of t) none
 
 module _ (t : Rows) (port : ℕ) (x : Arrival) (past : List Arrival) (lawful : IsLawful t) where
-  sent-to : (r : Row) → reason_of t past x ≡ None → row_named t x.bytes ≡ Some r → find (sends (output_at t x.side port) past x) (rows_of t) ≡ (if r.goes_to port then Some r else None)
+  sent-to : (r : Row) → reason_of t past x ≡ None → row_named t x.bytes ≡ Some r
+      → find (sends (output_at t x.side port) past x) (rows_of t)
+      ≡ (if r.goes_to port then Some r else None)
   sent-to r accepted named = by (named-place t x.bytes lawful)
     where
-      by : (place : Option ℕ) × IsNamed (rows_of t) x.bytes place → find (sends (output_at t x.side port) past x) (rows_of t) ≡ (if r.goes_to port then Some r else None)
+      by : (place : Option ℕ) × IsNamed (rows_of t) x.bytes place
+          → find (sends (output_at t x.side port) past x) (rows_of t)
+          ≡ (if r.goes_to port then Some r else None)
       by (None, none) = absurd (let nothing = nothing-named t x.bytes none in cc)
       by (Some place, n) =
           let row = row-named t x past place n in
           let same : n.row ≡ r = cc in
-          subst (λ (s : Row). find (sends (output_at t x.side port) past x) (rows_of t) ≡ (if s.goes_to port then Some s else None)) same (accepted-sent t x past port place n accepted)
+          subst (λ (s : Row). find (sends (output_at t x.side port) past x) (rows_of t)
+          ≡ (if s.goes_to port then Some s else None)) same
+          (accepted-sent t x past port place n accepted)
 
   lost-kept : is_lost_at t past x port ≡ true → entries_at t x.side port (x ∷ past) ≡ entries_at t x.side port past
   unfolding is_lost_at
   lost-kept lost = by (find (sends (output_at t x.side port) past x) (rows_of t)) refl lost
     where
-      by : (o : Option Row) → find (sends (output_at t x.side port) past x) (rows_of t) ≡ o → is_share_lost t past x port o ≡ true → entries_at t x.side port (x ∷ past) ≡ entries_at t x.side port past
+      by : (o : Option Row) → find (sends (output_at t x.side port) past x) (rows_of t) ≡ o
+          → is_share_lost t past x port o ≡ true → entries_at t x.side port (x ∷ past)
+          ≡ entries_at t x.side port past
       by None sent is = entries-kept t x past port sent
-      by (Some r) sent is = entries-with t x past port (Some r) sent ∙ ap (λ b. if b then entries_at t x.side port past else entries_at t x.side port past ++ entry_of (carried t) r x ∷ []) is
+      by (Some r) sent is = entries-with t x past port (Some r) sent
+          ∙ ap (λ b. if b then entries_at t x.side port past else entries_at t x.side port past
+          ++ entry_of (carried t) r x ∷ []) is
 
-  entered-more : (r : Row) → find (sends (output_at t x.side port) past x) (rows_of t) ≡ Some r → is_lost_at t past x port ≡ false →
+  entered-more : (r : Row) → find (sends (output_at t x.side port) past x) (rows_of t) ≡ Some r
+      → is_lost_at t past x port ≡ false →
       entries_at t x.side port (x ∷ past) ≡ entries_at t x.side port past ++ entry_of (carried t) r x ∷ []
   unfolding is_lost_at
   entered-more r sent kept =
       let is : is_share_lost t past x port (Some r) ≡ false = sym (ap (is_share_lost t past x port) sent) ∙ kept in
-      entries-with t x past port (Some r) sent ∙ ap (λ b. if b then entries_at t x.side port past else entries_at t x.side port past ++ entry_of (carried t) r x ∷ []) is
+      entries-with t x past port (Some r) sent
+      ∙ ap (λ b. if b then entries_at t x.side port past else entries_at t x.side port past
+      ++ entry_of (carried t) r x ∷ []) is
 
 pub entries-grow : EntriesGrow
 entries-grow t side port x past lawful = record {
   other_side = other-kept t side port x past;
-  dropped = λ reason is. (let at = named-place t x.bytes lawful in entries-kept t x past port (dropped-sent t x past at.0 (output_at t x.side port) reason at.1 is));
-  elsewhere = λ r accepted named stays. entries-kept t x past port (sent-to t port x past lawful r accepted named ∙ ap (λ b. if b then Some r else None) stays);
+  dropped = λ reason is. (let at = named-place t x.bytes lawful in
+      entries-kept t x past port (dropped-sent t x past at.0 (output_at t x.side port) reason at.1 is));
+  elsewhere = λ r accepted named stays. entries-kept t x past port
+      (sent-to t port x past lawful r accepted named ∙ ap (λ b. if b then Some r else None) stays);
   lost = lost-kept t port x past lawful;
-  entered = λ r accepted named goes kept. entered-more t port x past lawful r (sent-to t port x past lawful r accepted named ∙ ap (λ b. if b then Some r else None) goes) kept;
+  entered = λ r accepted named goes kept. entered-more t port x past lawful r
+      (sent-to t port x past lawful r accepted named ∙ ap (λ b. if b then Some r else None) goes) kept;
 }
 
 -- the arrival and the row that an entry is of
@@ -115,43 +144,69 @@ pub record From (t : Rows) (e : Entry Carried) : Type 0 where
   pub named : names row.rule.vl x.bytes ≡ true
   pub is : e ≡ entry_of (carried t) row x
 
-pub entry-from : (t : Rows) (side : Side) (port : ℕ) (arrivals : List Arrival) (i : ℕ) (e : Entry Carried) → slice_get (entries_at t side port arrivals) i ≡ Some e → From t e
+pub entry-from : (t : Rows) (side : Side) (port : ℕ) (arrivals : List Arrival) (i : ℕ)
+    (e : Entry Carried) → slice_get (entries_at t side port arrivals) i ≡ Some e → From t e
 unfolding offers_at
 entry-from t side port [] i e at = absurd cc
-entry-from t side port (x ∷ past) i e at = by (find (sends (output_at t side port) past x) (rows_of t)) refl (entry-from t side port past i e)
+entry-from t side port (x ∷ past) i e at =
+    by (find (sends (output_at t side port) past x) (rows_of t)) refl (entry-from t side port past i e)
   where
-    last : (r : Row) → find (sends (output_at t side port) past x) (rows_of t) ≡ Some r → entry_of (carried t) r x ≡ e → From t e
+    last : (r : Row) → find (sends (output_at t side port) past x) (rows_of t) ≡ Some r
+        → entry_of (carried t) r x ≡ e → From t e
     last r sent same =
         let found = find-found (sends (output_at t side port) past x) (rows_of t) r sent in
-        record { x = x; row = r; place = found.0; stands = found.1; named = sends-named t x past (output_at t side port) r found.2; is = sym same }
+        record {
+          x = x;
+          row = r;
+          place = found.0;
+          stands = found.1;
+          named = sends-named t x past (output_at t side port) r found.2;
+          is = sym same;
+        }
 
-    more : (r : Row) (b : Bool) → find (sends (output_at t side port) past x) (rows_of t) ≡ Some r → (slice_get (entries_at t side port past) i ≡ Some e → From t e) →
-        slice_get (if b then entries_at t side port past else entries_at t side port past ++ entry_of (carried t) r x ∷ []) i ≡ Some e → From t e
+    more : (r : Row) (b : Bool) → find (sends (output_at t side port) past x) (rows_of t) ≡ Some r
+        → (slice_get (entries_at t side port past) i ≡ Some e → From t e) →
+        slice_get (if b then entries_at t side port past else entries_at t side port past
+        ++ entry_of (carried t) r x ∷ []) i ≡ Some e → From t e
     more r true sent earlier is = earlier is
-    more r false sent earlier is = elim (pushed (entries_at t side port past) (entry_of (carried t) r x) i e is) [ inl before ↦ earlier before | inr here ↦ last r sent here.1 ]
+    more r false sent earlier is =
+        elim (pushed (entries_at t side port past) (entry_of (carried t) r x) i e is)
+        [ inl before ↦ earlier before | inr here ↦ last r sent here.1 ]
 
-    by : (o : Option Row) → find (sends (output_at t side port) past x) (rows_of t) ≡ o → (slice_get (entries_at t side port past) i ≡ Some e → From t e) → From t e
+    by : (o : Option Row) → find (sends (output_at t side port) past x) (rows_of t) ≡ o
+        → (slice_get (entries_at t side port past) i ≡ Some e → From t e) → From t e
     by None sent earlier = earlier (sym (ap (λ es. slice_get es i) (side-with t side port x past None sent)) ∙ at)
     by (Some r) sent earlier =
-        more r (is_lost (byte_ns_at t port) t.buffer (entries_at t side port past) (entry_of (carried t) r x)) sent earlier
+        more r (is_lost (byte_ns_at t port) t.buffer (entries_at t side port past)
+        (entry_of (carried t) r x)) sent earlier
         (sym (ap (λ es. slice_get es i) (side-with t side port x past (Some r) sent)) ∙ at)
 
-pub one-class : (t : Rows) (side : Side) (port vl : ℕ) (arrivals : List Arrival) → IsLawful t → AreOfOneClass (is_of vl) (entries_at t side port arrivals)
+pub one-class : (t : Rows) (side : Side) (port vl : ℕ) (arrivals : List Arrival) → IsLawful t
+    → AreOfOneClass (is_of vl) (entries_at t side port arrivals)
 unfolding carried
 one-class t side port vl arrivals lawful = by (link_of t.links vl) (place-of t lawful vl (link_of t.links vl) refl)
   where
     named-vl : (i : ℕ) (e : Entry Carried) (from : From t e) → is_of vl e ≡ true → from.row.rule.vl ≡ vl
-    named-vl i e from test = one-name from.row.rule.vl vl from.x.bytes from.named (sym (ap (λ (d : Entry Carried). is_of vl d) from.is) ∙ test)
+    named-vl i e from test =
+        one-name from.row.rule.vl vl from.x.bytes from.named
+        (sym (ap (λ (d : Entry Carried). is_of vl d) from.is) ∙ test)
 
-    by : (place : Option ℕ) → IsPlaceOf (rows_of t) vl place → AreOfOneClass (is_of vl) (entries_at t side port arrivals)
-    by None none = (Low, λ i e at test. absurd (let from = entry-from t side port arrivals i e at in none from.place from.row from.stands (named-vl i e from test)))
+    by : (place : Option ℕ) → IsPlaceOf (rows_of t) vl place
+        → AreOfOneClass (is_of vl) (entries_at t side port arrivals)
+    by None none = (
+      Low,
+      λ i e at test.
+          absurd (let from = entry-from t side port arrivals i e at in
+          none from.place from.row from.stands (named-vl i e from test)),
+    )
     by (Some place) is = (
       is.row.priority,
       λ i e at test.
           let from = entry-from t side port arrivals i e at in
           let same_place : from.place ≡ place = is.only from.place from.row from.stands (named-vl i e from test) in
           let row_stands = is.stands in
-          let from_stands : slice_get (rows_of t) place ≡ Some from.row = subst (λ k. slice_get (rows_of t) k ≡ Some from.row) same_place from.stands in
+          let from_stands : slice_get (rows_of t) place ≡ Some from.row =
+          subst (λ k. slice_get (rows_of t) k ≡ Some from.row) same_place from.stands in
           let same : from.row ≡ is.row = cc in
           ap (λ (d : Entry Carried). d.priority) from.is ∙ ap (λ (r : Row). r.priority) same,
     )
@@ -165,9 +220,12 @@ taken-turns t side w h (suc i) st low high =
 
 pub links-in-order : LinksGoInOrder
 links-in-order t side w h port vl lawful st low high =
-    go_in_order (byte_ns_at t port) (is_of vl) (entries_at t side port h.arrivals) (taken_at port h.taken) (one-class t side port vl h.arrivals lawful) (taken-turns t side w h port st low high)
+    go_in_order (byte_ns_at t port) (is_of vl) (entries_at t side port h.arrivals)
+    (taken_at port h.taken) (one-class t side port vl h.arrivals lawful)
+    (taken-turns t side w h port st low high)
 
-own-apart : (vl : ℕ) (side : Side) (x : Arrival) (past : List Arrival) → is_side side x.side ≡ false → own vl side (x ∷ past) ≡ own vl side past
+own-apart : (vl : ℕ) (side : Side) (x : Arrival) (past : List Arrival) → is_side side x.side ≡ false
+    → own vl side (x ∷ past) ≡ own vl side past
 own-apart vl side x past other = rw other refl
 
 pub other-side-apart : OtherSideIsApart
@@ -175,7 +233,8 @@ other-side-apart t side w h x st other = record {
   time = st.time;
   line_count = st.line_count;
   lines = λ i r line at_r at_line. (let is = st.lines i r line at_r at_line in record {
-    account = subst (λ xs. StandsForOwn r.rule line.account xs) (sym (own-apart r.rule.vl side x h.arrivals other)) is.account;
+    account = subst (λ xs. StandsForOwn r.rule line.account xs)
+        (sym (own-apart r.rule.vl side x h.arrivals other)) is.account;
     priority = is.priority;
     longest_wait = is.longest_wait;
     goes = is.goes;
@@ -183,14 +242,91 @@ other-side-apart t side w h x st other = record {
   places = st.places;
   port_count = st.port_count;
   ports = λ i p at.
-      subst (λ es. queue.StandsFor facts p (record { byte_ns = byte_ns_at t (i + 1); buffer = buffer_at t (i + 1); entries = es; taken = taken_at (i + 1) h.taken; time = p.clock }))
+      subst (λ es. queue.StandsFor facts p
+      (record {
+        byte_ns = byte_ns_at t (i + 1);
+        buffer = buffer_at t (i + 1);
+        entries = es;
+        taken = taken_at (i + 1) h.taken;
+        time = p.clock;
+      }))
       (sym (other-kept t side (i + 1) x h.arrivals other)) (st.ports i p at);
 }
 
 in-range : AllByRecursion (λ port. (1 ≤ port) × (port ≤ 24)) numbers
-in-range = ((omega arith, omega arith), ((omega arith, omega arith), ((omega arith, omega arith), ((omega arith, omega arith), ((omega arith, omega arith), ((omega arith, omega arith), ((omega arith, omega arith), ((omega arith, omega arith), ((omega arith, omega arith), ((omega arith, omega arith), ((omega arith, omega arith), ((omega arith, omega arith), ((omega arith, omega arith), ((omega arith, omega arith), ((omega arith, omega arith), ((omega arith, omega arith), ((omega arith, omega arith), ((omega arith, omega arith), ((omega arith, omega arith), ((omega arith, omega arith), ((omega arith, omega arith), ((omega arith, omega arith), ((omega arith, omega arith), ((omega arith, omega arith), tt))))))))))))))))))))))))
+in-range = (
+  (omega arith, omega arith),
+  (
+    (omega arith, omega arith),
+    (
+      (omega arith, omega arith),
+      (
+        (omega arith, omega arith),
+        (
+          (omega arith, omega arith),
+          (
+            (omega arith, omega arith),
+            (
+              (omega arith, omega arith),
+              (
+                (omega arith, omega arith),
+                (
+                  (omega arith, omega arith),
+                  (
+                    (omega arith, omega arith),
+                    (
+                      (omega arith, omega arith),
+                      (
+                        (omega arith, omega arith),
+                        (
+                          (omega arith, omega arith),
+                          (
+                            (omega arith, omega arith),
+                            (
+                              (omega arith, omega arith),
+                              (
+                                (omega arith, omega arith),
+                                (
+                                  (omega arith, omega arith),
+                                  (
+                                    (omega arith, omega arith),
+                                    (
+                                      (omega arith, omega arith),
+                                      (
+                                        (omega arith, omega arith),
+                                        (
+                                          (omega arith, omega arith),
+                                          (
+                                            (omega arith, omega arith),
+                                            (
+                                              (omega arith, omega arith),
+                                              ((omega arith, omega arith), tt),
+                                            ),
+                                          ),
+                                        ),
+                                      ),
+                                    ),
+                                  ),
+                                ),
+                              ),
+                            ),
+                          ),
+                        ),
+                      ),
+                    ),
+                  ),
+                ),
+              ),
+            ),
+          ),
+        ),
+      ),
+    ),
+  ),
+)
 
-filter-same : (f g : ℕ → Bool) (xs : List ℕ) → AllByRecursion (λ port. (1 ≤ port) × (port ≤ 24)) xs → ((port : ℕ) → 1 ≤ port → port ≤ 24 → f port ≡ g port) → filter f xs ≡ filter g xs
+filter-same : (f g : ℕ → Bool) (xs : List ℕ) → AllByRecursion (λ port. (1 ≤ port) × (port ≤ 24)) xs
+    → ((port : ℕ) → 1 ≤ port → port ≤ 24 → f port ≡ g port) → filter f xs ≡ filter g xs
 filter-same f g [] all same = refl
 filter-same f g (port ∷ xs) all same =
     let rest = filter-same f g xs all.1 same in

@@ -7,7 +7,6 @@ pub mod StandsLemmas
 pub mod NewLemmas
 pub mod PlaceLemmas
 pub mod LawLemmas
-pub mod JoinLemmas
 pub mod AdmittedLemmas
 pub mod RegularLemmas
 pub mod LinkFrameLemmas

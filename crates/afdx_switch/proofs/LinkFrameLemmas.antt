@@ -29,12 +29,16 @@ abbrev items : ℕ → List (Entry Carried) → List Carried
 items vl es = map (λ e. e.item) (filter (is_of vl) es)
 
 one-more : (t : Rows) (vl : ℕ) (r : Row) (x : Arrival) (es : List (Entry Carried)) →
-    items vl (es ++ entry_of (carried t) r x ∷ []) ≡ (if names vl x.bytes then items vl es ++ carried t x ∷ [] else items vl es)
+    items vl (es ++ entry_of (carried t) r x ∷ [])
+    ≡ (if names vl x.bytes then items vl es ++ carried t x ∷ [] else items vl es)
 unfolding carried
 one-more t vl r x es =
-    ap (map (λ (e : Entry Carried). e.item)) (filter-append (is_of vl) es (entry_of (carried t) r x ∷ [])) ∙ by (names vl x.bytes)
+    ap (map (λ (e : Entry Carried). e.item))
+    (filter-append (is_of vl) es (entry_of (carried t) r x ∷ [])) ∙ by (names vl x.bytes)
   where
-    by : (b : Bool) → map (λ (e : Entry Carried). e.item) (filter (is_of vl) es ++ (if b then entry_of (carried t) r x ∷ [] else [])) ≡ (if b then items vl es ++ carried t x ∷ [] else items vl es)
+    by : (b : Bool) → map (λ (e : Entry Carried). e.item)
+        (filter (is_of vl) es ++ (if b then entry_of (carried t) r x ∷ [] else []))
+        ≡ (if b then items vl es ++ carried t x ∷ [] else items vl es)
     by true = map_push (λ (e : Entry Carried). e.item) (filter (is_of vl) es) (entry_of (carried t) r x)
     by false = ap (map (λ (e : Entry Carried). e.item)) (append-nil (filter (is_of vl) es))
 
@@ -49,14 +53,20 @@ stays false c before = refl
 module _ (t : Rows) (port vl : ℕ) (x : Arrival) (past : List Arrival) where
   -- what one more arrival adds on a side
   abbrev Step : Side → Type 0
-  Step side = items vl (entries_at t side port (x ∷ past)) ≡ more (names vl x.bytes) (enters t side port past x) (carried t x) (items vl (entries_at t side port past))
+  Step side = items vl (entries_at t side port (x ∷ past))
+      ≡ more (names vl x.bytes) (enters t side port past x) (carried t x)
+      (items vl (entries_at t side port past))
 
-  kept : (side : Side) → entries_at t side port (x ∷ past) ≡ entries_at t side port past → enters t side port past x ≡ false → Step side
+  kept : (side : Side) → entries_at t side port (x ∷ past) ≡ entries_at t side port past
+      → enters t side port past x ≡ false → Step side
   kept side same out =
       ap (items vl) same
-      ∙ sym (ap (λ b. more (names vl x.bytes) b (carried t x) (items vl (entries_at t side port past))) out ∙ stays (names vl x.bytes) (carried t x) (items vl (entries_at t side port past)))
+      ∙ sym (ap (λ b. more (names vl x.bytes) b (carried t x)
+      (items vl (entries_at t side port past))) out
+      ∙ stays (names vl x.bytes) (carried t x) (items vl (entries_at t side port past)))
 
-  enters-is : (side : Side) (a b c d : Bool) → is_side side x.side ≡ a → is_none (reason_of t past x) ≡ b → goes_on t port x.bytes ≡ c → is_lost_at t past x port ≡ d →
+  enters-is : (side : Side) (a b c d : Bool) → is_side side x.side ≡ a
+      → is_none (reason_of t past x) ≡ b → goes_on t port x.bytes ≡ c → is_lost_at t past x port ≡ d →
       enters t side port past x ≡ (a && (b && (c && not d)))
   enters-is side a b c d is_a is_b is_c is_d = rw (is_a, is_b, is_c, is_d) refl
 
@@ -75,19 +85,27 @@ module _ (t : Rows) (port vl : ℕ) (x : Arrival) (past : List Arrival) where
     here : is_side x.side x.side ≡ true
     here = to-itself x.side
 
-    of-row : (r : Row) (goes lost : Bool) → reason_of t past x ≡ None → row_named t x.bytes ≡ Some r → r.goes_to port ≡ goes → is_lost_at t past x port ≡ lost → Step x.side
+    of-row : (r : Row) (goes lost : Bool) → reason_of t past x ≡ None → row_named t x.bytes ≡ Some r
+        → r.goes_to port ≡ goes → is_lost_at t past x port ≡ lost → Step x.side
     of-row r false lost accepted named goes is_lost =
-        kept x.side (s.elsewhere r accepted named goes) (enters-is x.side true true false lost here (ap is_none accepted) (ap (λ o. option_map_or (λ (r : Row). r.goes_to port) o false) named ∙ goes) is_lost)
+        kept x.side (s.elsewhere r accepted named goes)
+        (enters-is x.side true true false lost here (ap is_none accepted)
+        (ap (λ o. option_map_or (λ (r : Row). r.goes_to port) o false) named ∙ goes) is_lost)
     of-row r true true accepted named goes is_lost =
-        kept x.side (s.lost is_lost) (enters-is x.side true true true true here (ap is_none accepted) (ap (λ o. option_map_or (λ (r : Row). r.goes_to port) o false) named ∙ goes) is_lost)
+        kept x.side (s.lost is_lost)
+        (enters-is x.side true true true true here (ap is_none accepted)
+        (ap (λ o. option_map_or (λ (r : Row). r.goes_to port) o false) named ∙ goes) is_lost)
     of-row r true false accepted named goes is_lost =
         ap (items vl) (s.entered r accepted named goes is_lost)
         ∙ one-more t vl r x (entries_at t x.side port past)
         ∙ own (names vl x.bytes)
         ∙ sym (ap (λ b. more (names vl x.bytes) b (carried t x) (items vl (entries_at t x.side port past)))
-        (enters-is x.side true true true false here (ap is_none accepted) (ap (λ o. option_map_or (λ (r : Row). r.goes_to port) o false) named ∙ goes) is_lost))
+        (enters-is x.side true true true false here (ap is_none accepted)
+        (ap (λ o. option_map_or (λ (r : Row). r.goes_to port) o false) named ∙ goes) is_lost))
       where
-        own : (b : Bool) → (if b then items vl (entries_at t x.side port past) ++ carried t x ∷ [] else items vl (entries_at t x.side port past)) ≡ more b true (carried t x) (items vl (entries_at t x.side port past))
+        own : (b : Bool) → (if b then items vl (entries_at t x.side port past) ++ carried t x
+            ∷ [] else items vl (entries_at t x.side port past))
+            ≡ more b true (carried t x) (items vl (entries_at t x.side port past))
         own true = refl
         own false = refl
 
@@ -97,7 +115,9 @@ module _ (t : Rows) (port vl : ℕ) (x : Arrival) (past : List Arrival) where
 
     of-reason : (o : Option Reason) → reason_of t past x ≡ o → Step x.side
     of-reason (Some reason) dropped =
-        kept x.side (s.dropped reason dropped) (enters-is x.side true false (goes_on t port x.bytes) (is_lost_at t past x port) here (ap is_none dropped) refl refl)
+        kept x.side (s.dropped reason dropped)
+        (enters-is x.side true false (goes_on t port x.bytes) (is_lost_at t past x port) here
+        (ap is_none dropped) refl refl)
     of-reason None accepted = of-named (row_named t x.bytes) accepted refl
 
   step : (side : Side) → IsLawful t → Step side
@@ -105,10 +125,12 @@ module _ (t : Rows) (port vl : ℕ) (x : Arrival) (past : List Arrival) where
     where
       by : (b : Bool) → is_side side x.side ≡ b → Step side
       by false other = kept side ((entries-grow t side port x past lawful).other_side other) (elsewhere side other)
-      by true same = subst Step (sym (same-side side x.side same)) (of-reason (entries-grow t x.side port x past lawful) (reason_of t past x) refl)
+      by true same = subst Step (sym (same-side side x.side same))
+          (of-reason (entries-grow t x.side port x past lawful) (reason_of t past x) refl)
 
 -- the entries of a link are its frames that entered
-entered-is : (t : Rows) (side : Side) (port vl : ℕ) (arrivals : List Arrival) → IsLawful t → items vl (entries_at t side port arrivals) ≡ entered t side port vl arrivals
+entered-is : (t : Rows) (side : Side) (port vl : ℕ) (arrivals : List Arrival) → IsLawful t
+    → items vl (entries_at t side port arrivals) ≡ entered t side port vl arrivals
 unfolding entered offers_at
 entered-is t side port vl [] lawful = refl
 entered-is t side port vl (x ∷ past) lawful =
@@ -122,17 +144,20 @@ frames-own t side w h port vl lawful st low high =
       items vl (without_turn turns 0 entries),
       sym (entered-is t side port vl h.arrivals lawful)
           ∙ ap (map (λ (e : Entry Carried). e.item)) (links-in-order t side w h port vl lawful st low high)
-          ∙ map-append (λ (e : Entry Carried). e.item) (filter (is_of vl) (entries_in turns)) (filter (is_of vl) (without_turn turns 0 entries)),
+          ∙ map-append (λ (e : Entry Carried). e.item) (filter (is_of vl) (entries_in turns))
+          (filter (is_of vl) (without_turn turns 0 entries)),
     )
 
 pub all-own : AllFramesAreOwn
 all-own t side h port vl lawful done =
     sym (entered-is t side port vl h.arrivals lawful)
     ∙ ap (map (λ (e : Entry Carried). e.item))
-    (all_go_in_order (byte_ns_at t port) (is_of vl) (entries_at t side port h.arrivals) (taken_at port h.taken) (one-class t side port vl h.arrivals lawful) done)
+    (all_go_in_order (byte_ns_at t port) (is_of vl) (entries_at t side port h.arrivals)
+    (taken_at port h.taken) (one-class t side port vl h.arrivals lawful) done)
 
 -- the row that a frame names
-named-row : (t : Rows) (bytes : List ℕ) (r : Row) → row_named t bytes ≡ Some r → (place : ℕ) × (slice_get (rows_of t) place ≡ Some r) × (names r.rule.vl bytes ≡ true)
+named-row : (t : Rows) (bytes : List ℕ) (r : Row) → row_named t bytes ≡ Some r → (place : ℕ)
+    × (slice_get (rows_of t) place ≡ Some r) × (names r.rule.vl bytes ≡ true)
 unfolding row_named
 named-row t bytes r named = find-found (λ (r : Row). names r.rule.vl bytes) (rows_of t) r named
 
@@ -145,17 +170,20 @@ pub others-none : OthersGetNone
 unfolding entered
 others-none t side port vl [] other = refl
 others-none t side port vl (x ∷ past) other =
-    ap (λ b. if b then entered t side port vl past ++ carried t x ∷ [] else entered t side port vl past) (by (names vl x.bytes) refl)
+    ap (λ b. if b then entered t side port vl past ++ carried t x
+    ∷ [] else entered t side port vl past) (by (names vl x.bytes) refl)
     ∙ others-none t side port vl past other
   where
     goes : names vl x.bytes ≡ true → (o : Option Row) → row_named t x.bytes ≡ o → goes_on t port x.bytes ≡ false
     goes is None named = ap (λ o. option_map_or (λ (r : Row). r.goes_to port) o false) named
     goes is (Some r) named =
         let at = named-row t x.bytes r named in
-        ap (λ o. option_map_or (λ (r : Row). r.goes_to port) o false) named ∙ other at.0 r at.1 (one-name r.rule.vl vl x.bytes at.2 is)
+        ap (λ o. option_map_or (λ (r : Row). r.goes_to port) o false) named
+        ∙ other at.0 r at.1 (one-name r.rule.vl vl x.bytes at.2 is)
 
     by : (b : Bool) → names vl x.bytes ≡ b → (b && enters t side port past x) ≡ false
     by false is = refl
     by true is =
-        enters-is t port vl x past side (is_side side x.side) (is_none (reason_of t past x)) false (is_lost_at t past x port) refl refl (goes is (row_named t x.bytes) refl) refl
+        enters-is t port vl x past side (is_side side x.side) (is_none (reason_of t past x)) false
+        (is_lost_at t past x port) refl refl (goes is (row_named t x.bytes) refl) refl
         ∙ stopped (is_side side x.side) (is_none (reason_of t past x)) (not (is_lost_at t past x port))

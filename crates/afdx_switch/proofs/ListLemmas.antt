@@ -1,5 +1,7 @@
 -- Lists that are set at one place, searched, or lent.
-use Rattle.std.proofs.Common.{◌≡◌, ◌≢◌, ℕ, zero, suc, ◌<◌, ◌≤◌, Bool, true, false, List, [], ◌∷◌, ◌++◌, length, take, drop, set, get_or, refl, sym, ap, subst, arith, ◌∙◌, inl, inr, true≢false, IsTrue, not, ◌↔◌}
+use Rattle.std.proofs.Common.{◌≡◌, ◌≢◌, ℕ, zero, suc, ◌<◌, ◌≤◌, Bool, true, false, List, [], ◌∷◌}
+use Rattle.std.proofs.Common.{◌++◌, length, take, drop, set, get_or, refl, sym, ap, subst, arith}
+use Rattle.std.proofs.Common.{◌∙◌, inl, inr, true≢false, IsTrue, not, ◌↔◌}
 use Rattle.std.specs.Prelude.{All, Some, None, slice_get, find, if◌then◌else◌, ◌⊎◌}
 use Rattle.std.specs.List.{list_any}
 use Rattle.std.proofs.lemmas.Bool.{cases_eq}
@@ -21,7 +23,8 @@ module _ {X : Type 0} where
   -- a list that was set at one place, read there and elsewhere
   pub slice_get-set_here : (xs : List X) (i : ℕ) (x : X) → i < length xs → slice_get (set xs i x) i ≡ Some x
   slice_get-set_here xs i x within =
-      slice_get-get_or (set xs i x) i x (subst (λ n. i < n) (sym (length-set xs i x)) within) ∙ ap Some (get_or-set_same xs i x x within)
+      slice_get-get_or (set xs i x) i x (subst (λ n. i < n) (sym (length-set xs i x)) within)
+      ∙ ap Some (get_or-set_same xs i x x within)
 
   pub slice_get-set_there : (xs : List X) (i j : ℕ) (x : X) → j ≢ i → slice_get (set xs i x) j ≡ slice_get xs j
   slice_get-set_there xs i j x other =
@@ -37,14 +40,16 @@ module _ {X : Type 0} where
   slice_get_last [] y = refl
   slice_get_last (x ∷ xs) y = slice_get_last xs y
 
-  pub slice_get_before : (xs : List X) (y : X) (i : ℕ) (x : X) → slice_get xs i ≡ Some x → slice_get (xs ++ y ∷ []) i ≡ Some x
+  pub slice_get_before : (xs : List X) (y : X) (i : ℕ) (x : X) → slice_get xs i ≡ Some x
+      → slice_get (xs ++ y ∷ []) i ≡ Some x
   slice_get_before [] y i x at = absurd cc
   slice_get_before (z ∷ xs) y zero x at = at
   slice_get_before (z ∷ xs) y (suc i) x at = slice_get_before xs y i x at
 
   -- a vector whose items were lent as a slice of the same length
   pub items-are : (len : ℕ) (xs ys : List X) → length xs ≡ len → take len (xs ++ drop (length xs) ys) ≡ xs
-  items-are len xs ys count = take-append-le len xs (drop (length xs) ys) (omega (arith, count)) ∙ ap (λ n. take n xs) (sym count) ∙ take-length xs
+  items-are len xs ys count = take-append-le len xs (drop (length xs) ys) (omega (arith, count))
+      ∙ ap (λ n. take n xs) (sym count) ∙ take-length xs
 
   -- what holds of each element still does, if it holds of the new one
   pub all-set : (P : X → Type 0) (xs : List X) (i : ℕ) (x : X) → i < length xs → All P xs → P x → All P (set xs i x)
@@ -63,12 +68,14 @@ module _ {X : Type 0} where
       ]
 
   -- no element passes
-  pub find-none : (p : X → Bool) (xs : List X) → ((j : ℕ) (y : X) → slice_get xs j ≡ Some y → p y ≡ false) → find p xs ≡ None
+  pub find-none : (p : X → Bool) (xs : List X)
+      → ((j : ℕ) (y : X) → slice_get xs j ≡ Some y → p y ≡ false) → find p xs ≡ None
   find-none p [] none = refl
   find-none p (x ∷ xs) none = rw (none 0 x refl) (find-none p xs (λ j y is. none (suc j) y is))
 
   -- only one element can pass
-  pub find-one : (p : X → Bool) (xs : List X) (i : ℕ) (x : X) → slice_get xs i ≡ Some x → ((j : ℕ) (y : X) → slice_get xs j ≡ Some y → p y ≡ true → j ≡ i) →
+  pub find-one : (p : X → Bool) (xs : List X) (i : ℕ) (x : X) → slice_get xs i ≡ Some x
+      → ((j : ℕ) (y : X) → slice_get xs j ≡ Some y → p y ≡ true → j ≡ i) →
       find p xs ≡ (if p x then Some x else None)
   find-one p [] i x is only = absurd cc
   find-one p (y ∷ ys) zero x is only = at (bool_cases (p x))
@@ -77,24 +84,32 @@ module _ {X : Type 0} where
       same = cc
 
       none : (j : ℕ) (z : X) → slice_get ys j ≡ Some z → p z ≡ false
-      none j z at_j = elim (bool_cases (p z)) [ inl passes ↦ absurd (omega (arith, only (suc j) z at_j passes)) | inr fails ↦ fails ]
+      none j z at_j = elim (bool_cases (p z))
+          [ inl passes ↦ absurd (omega (arith, only (suc j) z at_j passes)) | inr fails ↦ fails ]
 
       at : (p x ≡ true) ⊎ (p x ≡ false) → find p (y ∷ ys) ≡ (if p x then Some x else None)
       at (inl passes) = rw (same, passes) refl
       at (inr fails) = rw (same, fails) (find-none p ys none)
-  find-one p (y ∷ ys) (suc i) x is only = at (bool_cases (p y)) (find-one p ys i x is (λ j z at_j passes. omega (arith, only (suc j) z at_j passes)))
+  find-one p (y ∷ ys) (suc i) x is only =
+      at (bool_cases (p y)) (find-one p ys i x is
+      (λ j z at_j passes. omega (arith, only (suc j) z at_j passes)))
     where
-      at : (p y ≡ true) ⊎ (p y ≡ false) → find p ys ≡ (if p x then Some x else None) → find p (y ∷ ys) ≡ (if p x then Some x else None)
+      at : (p y ≡ true) ⊎ (p y ≡ false) → find p ys ≡ (if p x then Some x else None)
+          → find p (y ∷ ys) ≡ (if p x then Some x else None)
       at (inl passes) rest = absurd (omega (arith, only 0 y refl passes))
       at (inr fails) rest = rw fails rest
 
   -- what is found stands in the list and passes
-  pub find-found : (p : X → Bool) (xs : List X) (x : X) → find p xs ≡ Some x → (j : ℕ) × (slice_get xs j ≡ Some x) × (p x ≡ true)
+  pub find-found : (p : X → Bool) (xs : List X) (x : X) → find p xs ≡ Some x
+      → (j : ℕ) × (slice_get xs j ≡ Some x) × (p x ≡ true)
   find-found p [] x is = absurd cc
   find-found p (y ∷ ys) x is = at (bool_cases (p y)) (λ rest. find-found p ys x rest)
     where
-      at : (p y ≡ true) ⊎ (p y ≡ false) → (find p ys ≡ Some x → (j : ℕ) × (slice_get ys j ≡ Some x) × (p x ≡ true)) → (j : ℕ) × (slice_get (y ∷ ys) j ≡ Some x) × (p x ≡ true)
-      at (inl passes) later = let here : Some y ≡ Some x = rw passes at is in let same : y ≡ x = cc in (0, here, sym (ap p same) ∙ passes)
+      at : (p y ≡ true) ⊎ (p y ≡ false)
+          → (find p ys ≡ Some x → (j : ℕ) × (slice_get ys j ≡ Some x) × (p x ≡ true))
+          → (j : ℕ) × (slice_get (y ∷ ys) j ≡ Some x) × (p x ≡ true)
+      at (inl passes) later = let here : Some y ≡ Some x = rw passes at is in let same : y ≡ x =
+          cc in (0, here, sym (ap p same) ∙ passes)
       at (inr fails) later = let w = later (rw fails at is) in (suc w.0, w.1, w.2)
 
 -- a list of flags has none set exactly if each place has it unset
@@ -103,6 +118,7 @@ any-none [] unset = refl
 any-none (true ∷ bs) unset = absurd (let first : true ≡ false = unset 0 in cc)
 any-none (false ∷ bs) unset = any-none bs (λ p. unset (suc p))
 
-pub none-set : (any : Bool) (bs : List Bool) → any ≡ list_any (λ b. b) bs → IsTrue (not any) ↔ ((p : ℕ) → get_or bs p false ≡ false)
+pub none-set : (any : Bool) (bs : List Bool) → any ≡ list_any (λ b. b) bs → IsTrue (not any)
+    ↔ ((p : ℕ) → get_or bs p false ≡ false)
 none-set true bs is = (λ t. absurd cc, λ unset. absurd (let none = any-none bs unset in cc))
 none-set false bs is = (λ t. none_held bs (sym is), λ unset. refl)

@@ -15,24 +15,29 @@ names-none : (vl : ℕ) (bytes : List ℕ) → link_named_by bytes ≡ None → 
 unfolding names
 names-none vl bytes none = ap (λ (o : Option VlId). option_map_or (λ named. named.0 == vl) o false) none
 
-names-some : (vl : ℕ) (bytes : List ℕ) (named : VlId) → link_named_by bytes ≡ Some named → names vl bytes ≡ (named.0 == vl)
+names-some : (vl : ℕ) (bytes : List ℕ) (named : VlId) → link_named_by bytes ≡ Some named
+    → names vl bytes ≡ (named.0 == vl)
 unfolding names
 names-some vl bytes named some = ap (λ (o : Option VlId). option_map_or (λ n. n.0 == vl) o false) some
 
 pub unnamed : (rows : List Row) (bytes : List ℕ) → link_named_by bytes ≡ None → IsNamed rows bytes None
 unnamed rows bytes none j s at = names-none s.rule.vl bytes none
 
-pub no-row : (rows : List Row) (bytes : List ℕ) (named : VlId) → link_named_by bytes ≡ Some named → IsPlaceOf rows named.0 None → IsNamed rows bytes None
+pub no-row : (rows : List Row) (bytes : List ℕ) (named : VlId) → link_named_by bytes ≡ Some named
+    → IsPlaceOf rows named.0 None → IsNamed rows bytes None
 no-row rows bytes named some none j s at =
     elim (bool_cases (named.0 == s.rule.vl)) [
       | inl same ↦ absurd (none j s at (sym (eqb-true named.0 s.rule.vl same)))
       | inr other ↦ names-some s.rule.vl bytes named some ∙ other
     ]
 
-pub row-at : (rows : List Row) (bytes : List ℕ) (named : VlId) (place : ℕ) → link_named_by bytes ≡ Some named → IsPlace rows named.0 place → IsNamedAt rows bytes place
+pub row-at : (rows : List Row) (bytes : List ℕ) (named : VlId) (place : ℕ)
+    → link_named_by bytes ≡ Some named → IsPlace rows named.0 place → IsNamedAt rows bytes place
 row-at rows bytes named place some is = record {
   row = is.row;
   stands = is.stands;
   named = names-some is.row.rule.vl bytes named some ∙ ap (λ n. named.0 == n) is.named ∙ eqb-same named.0 named.0 refl;
-  only = λ j s at names_it. is.only j s at (sym (eqb-true named.0 s.rule.vl (sym (names-some s.rule.vl bytes named some) ∙ names_it)));
+  only = λ j s at names_it.
+      is.only j s at (sym (eqb-true named.0 s.rule.vl
+      (sym (names-some s.rule.vl bytes named some) ∙ names_it)));
 }

@@ -1,7 +1,7 @@
 -- A switch through an arrival.
-use Rattle.std.proofs.Common.{◌≡◌, ◌≢◌, ℕ, zero, suc, ◌<◌, ◌≤◌, ◌+◌, true, false, List, [], ◌∷◌, length, set, refl, sym, ap, ◌∙◌, arith, subst, inl, inr}
+use Rattle.std.proofs.Common.{◌≡◌, ◌≢◌, ℕ, zero, suc, ◌<◌, ◌≤◌, ◌+◌, true, false, List, [], ◌∷◌}
+use Rattle.std.proofs.Common.{length, set, refl, sym, ap, ◌∙◌, arith, subst, inl, inr}
 use Rattle.std.specs.Prelude.{Option, Some, None, IfSome, All, slice_get, sum_by, vec_len, ◌⊎◌}
-use Rattle.std.specs.Option.{unwrap_or}
 use Rattle.std.proofs.lemmas.List.Sums.{sum_by-cons}
 use Rattle.std.proofs.lemmas.Bool.{cases_eq}
 use Rattle.std.proofs.lemmas.Option.{slice_get_within, slice_get_cases, slice_get-get_or}
@@ -28,32 +28,47 @@ use Rattle.afdx_switch.specs.Shares.{IsOffered, calls_after, share_of}
 use Rattle.afdx_switch.specs.declared.line.Line.{Line}
 use Rattle.afdx_switch.specs.declared.ports.PortSet.{PortSet}
 use Rattle.afdx_switch.specs.declared.working.Working.{Working}
-use Rattle.afdx_switch.proofs.ArrivalLemmas.{own-other, own-named, unknown-fault, unwrapped, reason-unknown, reason-named, dropped-sent, entries-kept, with-share-is, loses-share-is}
+use Rattle.afdx_switch.proofs.ArrivalLemmas.{own-other, own-named, reason-unknown, reason-named}
+use Rattle.afdx_switch.proofs.ArrivalLemmas.{dropped-sent, entries-kept, with-share-is}
+use Rattle.afdx_switch.proofs.ArrivalLemmas.{loses-share-is}
 use Rattle.afdx_switch.proofs.PlaceLemmas.{buffer-is}
 use Rattle.afdx_switch.proofs.ListLemmas.{slice_get-set_here, slice_get-set_there, all-at, bool_cases}
 
 -- what holds at each place holds of all
-pub all-from : {X : Type 0} (P : X → Type 0) (xs : List X) → ((i : ℕ) (x : X) → slice_get xs i ≡ Some x → P x) → All P xs
+pub all-from : {X : Type 0} (P : X → Type 0) (xs : List X)
+    → ((i : ℕ) (x : X) → slice_get xs i ≡ Some x → P x) → All P xs
 all-from P xs each k d below = each k _ (slice_get-get_or xs k d below)
 
 pub found-at : {X : Type 0} (xs : List X) (i : ℕ) → i < length xs → (x : X) × (slice_get xs i ≡ Some x)
-found-at xs i below = elim (slice_get_cases xs i).1 [ inl found ↦ (found.0, found.2) | inr past ↦ absurd (omega (arith, below, past.0)) ]
+found-at xs i below = elim (slice_get_cases xs i).1
+    [ inl found ↦ (found.0, found.2) | inr past ↦ absurd (omega (arith, below, past.0)) ]
 
 -- each line is the one that its own arrivals leave, with one more
 abbrev pub LinesAfter : Rows → Arrival → History → List Line → Type 0
-LinesAfter t x h lines = (i : ℕ) (r : Row) (line : Line) → slice_get (rows_of t) i ≡ Some r → slice_get lines i ≡ Some line → IsLine x.side (x ∷ h.arrivals) r line
+LinesAfter t x h lines = (i : ℕ) (r : Row) (line : Line) → slice_get (rows_of t) i ≡ Some r
+    → slice_get lines i ≡ Some line → IsLine x.side (x ∷ h.arrivals) r line
 
 module _ (t : Rows) (x : Arrival) (w : Working) (h : History) (st : StandsFor t x.side w h) where
-  line-other : (r : Row) (line : Line) → IsLine x.side h.arrivals r line → names r.rule.vl x.bytes ≡ false → IsLine x.side (x ∷ h.arrivals) r line
+  line-other : (r : Row) (line : Line) → IsLine x.side h.arrivals r line → names r.rule.vl x.bytes
+      ≡ false → IsLine x.side (x ∷ h.arrivals) r line
   line-other r line is other = record {
-    account = subst (λ xs. StandsForOwn r.rule line.account xs) (sym (own-other r.rule.vl x.side x h.arrivals other)) is.account;
+    account = subst (λ xs. StandsForOwn r.rule line.account xs)
+        (sym (own-other r.rule.vl x.side x h.arrivals other)) is.account;
     priority = is.priority;
     longest_wait = is.longest_wait;
     goes = is.goes;
   }
 
-  line-named : (r : Row) (line : Line) (account : LinkAccount) → IsLine x.side h.arrivals r line → names r.rule.vl x.bytes ≡ true → StandsForOwn r.rule account (x ∷ own r.rule.vl x.side h.arrivals) →
-      IsLine x.side (x ∷ h.arrivals) r (record { account = account; priority = line.priority; longest_wait = line.longest_wait; goes = line.goes })
+  line-named : (r : Row) (line : Line) (account : LinkAccount) → IsLine x.side h.arrivals r line
+      → names r.rule.vl x.bytes ≡ true
+      → StandsForOwn r.rule account (x ∷ own r.rule.vl x.side h.arrivals) →
+      IsLine x.side (x ∷ h.arrivals) r
+      (record {
+        account = account;
+        priority = line.priority;
+        longest_wait = line.longest_wait;
+        goes = line.goes;
+      })
   line-named r line account is named stands = record {
     account = subst (λ xs. StandsForOwn r.rule account xs) (sym (own-named r.rule.vl x h.arrivals named)) stands;
     priority = is.priority;
@@ -64,7 +79,8 @@ module _ (t : Rows) (x : Arrival) (w : Working) (h : History) (st : StandsFor t 
   pub lines-unknown : IsNamed (rows_of t) x.bytes None → LinesAfter t x h w.lines.items
   lines-unknown none i r line at_r at_line = line-other r line (st.lines i r line at_r at_line) (none i r at_r)
 
-  module _ (place : ℕ) (n : IsNamedAt (rows_of t) x.bytes place) (line : Line) (at : slice_get w.lines.items place ≡ Some line) where
+  module _ (place : ℕ) (n : IsNamedAt (rows_of t) x.bytes place) (line : Line)
+      (at : slice_get w.lines.items place ≡ Some line) where
     abbrev pub own_past : List Arrival
     own_past = own n.row.rule.vl x.side h.arrivals
 
@@ -72,55 +88,80 @@ module _ (t : Rows) (x : Arrival) (w : Working) (h : History) (st : StandsFor t 
     line-is = st.lines place n.row line n.stands at
 
     pub lines-with : (account : LinkAccount) → StandsForOwn n.row.rule account (x ∷ own_past) →
-        LinesAfter t x h (set w.lines.items place (record { account = account; priority = line.priority; longest_wait = line.longest_wait; goes = line.goes }))
+        LinesAfter t x h (set w.lines.items place
+        (record {
+          account = account;
+          priority = line.priority;
+          longest_wait = line.longest_wait;
+          goes = line.goes;
+        }))
     lines-with account stands i r l at_r at_l = each (cases_eq i place)
       where
         new : Line
         new = record { account = account; priority = line.priority; longest_wait = line.longest_wait; goes = line.goes }
 
         other-fails : i ≢ place → names r.rule.vl x.bytes ≡ false
-        other-fails other = elim (bool_cases (names r.rule.vl x.bytes)) [ inl named ↦ absurd (other (n.only i r at_r named)) | inr fails ↦ fails ]
+        other-fails other = elim (bool_cases (names r.rule.vl x.bytes))
+            [ inl named ↦ absurd (other (n.only i r at_r named)) | inr fails ↦ fails ]
 
         each : (i ≡ place) ⊎ (i ≢ place) → IsLine x.side (x ∷ h.arrivals) r l
         each (inl same) =
-            let here : slice_get (set w.lines.items place new) place ≡ Some new = slice_get-set_here w.lines.items place new (slice_get_within w.lines.items place line at) in
-            let there : slice_get (set w.lines.items place new) place ≡ Some l = subst (λ k. slice_get (set w.lines.items place new) k ≡ Some l) same at_l in
-            let row_at : slice_get (rows_of t) place ≡ Some r = subst (λ k. slice_get (rows_of t) k ≡ Some r) same at_r in
+            let here : slice_get (set w.lines.items place new) place ≡ Some new =
+            slice_get-set_here w.lines.items place new
+            (slice_get_within w.lines.items place line at) in
+            let there : slice_get (set w.lines.items place new) place ≡ Some l =
+            subst (λ k. slice_get (set w.lines.items place new) k ≡ Some l) same at_l in
+            let row_at : slice_get (rows_of t) place ≡ Some r =
+            subst (λ k. slice_get (rows_of t) k ≡ Some r) same at_r in
             let row_stands = n.stands in
             let same_line : new ≡ l = cc in
             let same_row : n.row ≡ r = cc in
             subst (λ k. IsLine x.side (x ∷ h.arrivals) k l) same_row
-            (subst (λ k. IsLine x.side (x ∷ h.arrivals) n.row k) same_line (line-named n.row line account line-is n.named stands))
+            (subst (λ k. IsLine x.side (x ∷ h.arrivals) n.row k) same_line
+            (line-named n.row line account line-is n.named stands))
         each (inr other) =
-            line-other r l (st.lines i r l at_r (sym (slice_get-set_there w.lines.items place i new other) ∙ at_l)) (other-fails other)
+            line-other r l (st.lines i r l at_r
+            (sym (slice_get-set_there w.lines.items place i new other) ∙ at_l)) (other-fails other)
 
-    pub lines-faulted : (fault : Reason) → fault_of (Some n.row.rule) x.port x.bytes ≡ Some fault → LinesAfter t x h w.lines.items
+    pub lines-faulted : (fault : Reason) → fault_of (Some n.row.rule) x.port x.bytes ≡ Some fault
+        → LinesAfter t x h w.lines.items
     lines-faulted fault is i r l at_r at_l = each (cases_eq i place)
       where
         each : (i ≡ place) ⊎ (i ≢ place) → IsLine x.side (x ∷ h.arrivals) r l
         each (inl same) =
-            let line_at : slice_get w.lines.items place ≡ Some l = subst (λ k. slice_get w.lines.items k ≡ Some l) same at_l in
-            let row_at : slice_get (rows_of t) place ≡ Some r = subst (λ k. slice_get (rows_of t) k ≡ Some r) same at_r in
+            let line_at : slice_get w.lines.items place ≡ Some l =
+            subst (λ k. slice_get w.lines.items k ≡ Some l) same at_l in
+            let row_at : slice_get (rows_of t) place ≡ Some r =
+            subst (λ k. slice_get (rows_of t) k ≡ Some r) same at_r in
             let row_stands = n.stands in
             let same_line : line ≡ l = cc in
             let same_row : n.row ≡ r = cc in
-            let stands : StandsForOwn n.row.rule line.account (x ∷ own_past) = (fault_changes_nothing n.row.rule line.account own_past x fault is).stands line-is.account in
+            let stands : StandsForOwn n.row.rule line.account (x ∷ own_past) =
+            (fault_changes_nothing n.row.rule line.account own_past x fault is).stands
+            line-is.account in
             subst (λ k. IsLine x.side (x ∷ h.arrivals) k l) same_row
-            (subst (λ k. IsLine x.side (x ∷ h.arrivals) n.row k) same_line (line-named n.row line line.account line-is n.named stands))
+            (subst (λ k. IsLine x.side (x ∷ h.arrivals) n.row k) same_line
+            (line-named n.row line line.account line-is n.named stands))
         each (inr other) =
-            line-other r l (st.lines i r l at_r at_l) (elim (bool_cases (names r.rule.vl x.bytes)) [ inl named ↦ absurd (other (n.only i r at_r named)) | inr fails ↦ fails ])
+            line-other r l (st.lines i r l at_r at_l)
+            (elim (bool_cases (names r.rule.vl x.bytes))
+            [ inl named ↦ absurd (other (n.only i r at_r named)) | inr fails ↦ fails ])
 
-    pub fault-reason : (fault : Reason) → fault_of (Some n.row.rule) x.port x.bytes ≡ Some fault → reason_of t h.arrivals x ≡ Some fault
-    fault-reason fault is = reason-named t x h.arrivals place n ∙ (fault_changes_nothing n.row.rule line.account own_past x fault is).reason
+    pub fault-reason : (fault : Reason) → fault_of (Some n.row.rule) x.port x.bytes ≡ Some fault
+        → reason_of t h.arrivals x ≡ Some fault
+    fault-reason fault is = reason-named t x h.arrivals place n
+        ∙ (fault_changes_nothing n.row.rule line.account own_past x fault is).reason
 
-  pub unknown-reason : (judged : Option Reason) (d : Reason) → IsNamed (rows_of t) x.bytes None → judged ≡ fault_of None x.port x.bytes → reason_of t h.arrivals x ≡ Some (unwrap_or judged d)
-  unknown-reason judged d none is =
-      let fault = unknown-fault x.port x.bytes in
-      reason-unknown t x h.arrivals none ∙ sym is ∙ unwrapped judged d fault.0 (is ∙ fault.1)
+  pub unknown-reason : (reason : Reason) → IsNamed (rows_of t) x.bytes None
+      → fault_of None x.port x.bytes ≡ Some reason → reason_of t h.arrivals x ≡ Some reason
+  unknown-reason reason none is = reason-unknown t x h.arrivals none ∙ is
 
   -- a switch that dropped the arrival
-  pub stands-dropped : (new : Working) (reason : Reason) (place : Option ℕ) → IsNamed (rows_of t) x.bytes place → reason_of t h.arrivals x ≡ Some reason → LinesAfter t x h new.lines.items →
-      new.clock ≡ x.time → vec_len new.lines ≡ vec_len w.lines → new.places ≡ w.places → new.ports ≡ w.ports → StandsFor t x.side new (with_arrival h x)
+  pub stands-dropped : (new : Working) (reason : Reason) (place : Option ℕ)
+      → IsNamed (rows_of t) x.bytes place → reason_of t h.arrivals x ≡ Some reason
+      → LinesAfter t x h new.lines.items →
+      new.clock ≡ x.time → vec_len new.lines ≡ vec_len w.lines → new.places ≡ w.places
+      → new.ports ≡ w.ports → StandsFor t x.side new (with_arrival h x)
   stands-dropped new reason place named dropped lines clock count places ports = record {
     time = clock;
     line_count = count ∙ st.line_count;
@@ -128,32 +169,59 @@ module _ (t : Rows) (x : Arrival) (w : Working) (h : History) (st : StandsFor t 
     places = λ vl k at. st.places vl k (sym (ap (λ ps. slice_get ps.items vl) places) ∙ at);
     port_count = ap (λ ps. length ps.items) ports ∙ st.port_count;
     ports = λ i p at.
-        subst (λ es. queue.StandsFor facts p (record { byte_ns = byte_ns_at t (i + 1); buffer = buffer_at t (i + 1); entries = es; taken = taken_at (i + 1) h.taken; time = p.clock }))
-        (sym (entries-kept t x h.arrivals (i + 1) (dropped-sent t x h.arrivals place (output_at t x.side (i + 1)) reason named dropped)))
+        subst (λ es. queue.StandsFor facts p
+        (record {
+          byte_ns = byte_ns_at t (i + 1);
+          buffer = buffer_at t (i + 1);
+          entries = es;
+          taken = taken_at (i + 1) h.taken;
+          time = p.clock;
+        }))
+        (sym (entries-kept t x h.arrivals (i + 1)
+        (dropped-sent t x h.arrivals place (output_at t x.side (i + 1)) reason named dropped)))
         (st.ports i p (sym (ap (λ ps. slice_get ps.items i) ports) ∙ at));
   }
 
   -- a switch that offered shares of the arrival to its ports
-  module _ (place : ℕ) (n : IsNamedAt (rows_of t) x.bytes place) (line : Line) (at : slice_get w.lines.items place ≡ Some line)
-      (accepted : reason_of t h.arrivals x ≡ None) (shortest : 64 ≤ length x.bytes) (longest : length x.bytes ≤ 1518) (small : IfSome line.longest_wait (λ wait. wait ≤ 100000000))
-      (ports : List (Pending Carried)) (lost : PortSet) (old_count : length w.ports.items ≡ 24) (new_count : length ports ≡ 24)
+  module _ (place : ℕ) (n : IsNamedAt (rows_of t) x.bytes place) (line : Line)
+      (at : slice_get w.lines.items place ≡ Some line)
+      (accepted : reason_of t h.arrivals x ≡ None) (shortest : 64 ≤ length x.bytes)
+      (longest : length x.bytes ≤ 1518) (small : IfSome line.longest_wait (λ wait. wait ≤ 100000000))
+      (ports : List (Pending Carried)) (lost : PortSet) (old_count : length w.ports.items ≡ 24)
+      (new_count : length ports ≡ 24)
       (offered : (i : ℕ) (o p : Pending Carried) → slice_get w.ports.items i ≡ Some o → slice_get ports i ≡ Some p →
-      IsOffered x.time line.priority (share_of (carried_with x.tag line.longest_wait x.bytes) (is_among i line.goes.items)) o p (holds lost (i + 1))) where
+      IsOffered x.time line.priority
+      (share_of (carried_with x.tag line.longest_wait x.bytes) (is_among i line.goes.items)) o p
+      (holds lost (i + 1))) where
     line-of : IsLine x.side h.arrivals n.row line
     line-of = st.lines place n.row line n.stands at
 
-    offered-at : (i : ℕ) (o p : Pending Carried) → i < 24 → slice_get w.ports.items i ≡ Some o → slice_get ports i ≡ Some p →
-        IsOffered x.time line.priority (share_of (carried_with x.tag line.longest_wait x.bytes) (n.row.goes_to (i + 1))) o p (holds lost (i + 1))
+    offered-at : (i : ℕ) (o p : Pending Carried) → i < 24 → slice_get w.ports.items i ≡ Some o
+        → slice_get ports i ≡ Some p →
+        IsOffered x.time line.priority
+        (share_of (carried_with x.tag line.longest_wait x.bytes) (n.row.goes_to (i + 1))) o p
+        (holds lost (i + 1))
     offered-at i o p below at_o at_p =
-        subst (λ b. IsOffered x.time line.priority (share_of (carried_with x.tag line.longest_wait x.bytes) b) o p (holds lost (i + 1))) (line-of.goes i below) (offered i o p at_o at_p)
+        subst (λ b. IsOffered x.time line.priority
+        (share_of (carried_with x.tag line.longest_wait x.bytes) b) o p (holds lost (i + 1)))
+        (line-of.goes i below) (offered i o p at_o at_p)
 
-    port-after : (i : ℕ) (p : Pending Carried) → slice_get ports i ≡ Some p → queue.StandsFor facts p (calls_at t x.side (i + 1) (with_arrival h x) p.clock)
+    port-after : (i : ℕ) (p : Pending Carried) → slice_get ports i ≡ Some p
+        → queue.StandsFor facts p (calls_at t x.side (i + 1) (with_arrival h x) p.clock)
     port-after i p at_p =
         let below : i < 24 = omega (arith, slice_get_within ports i p at_p, new_count) in
         let old = found-at w.ports.items i (omega (arith, below, old_count)) in
         let one = offered-at i old.0 p below old.1 at_p in
-        subst (λ es. queue.StandsFor facts p (record { byte_ns = byte_ns_at t (i + 1); buffer = buffer_at t (i + 1); entries = es; taken = taken_at (i + 1) h.taken; time = p.clock }))
-        (with-share-is t x h.arrivals place n line.priority line.longest_wait accepted shortest longest small line-of.priority line-of.longest_wait (i + 1) (buffer_at t (i + 1))
+        subst (λ es. queue.StandsFor facts p
+        (record {
+          byte_ns = byte_ns_at t (i + 1);
+          buffer = buffer_at t (i + 1);
+          entries = es;
+          taken = taken_at (i + 1) h.taken;
+          time = p.clock;
+        }))
+        (with-share-is t x h.arrivals place n line.priority line.longest_wait accepted shortest
+        longest small line-of.priority line-of.longest_wait (i + 1) (buffer_at t (i + 1))
         (buffer-is t place n.row (i + 1) n.stands))
         (one.stands (calls_at t x.side (i + 1) h old.0.clock) (st.ports i old.0 old.1))
 
@@ -167,10 +235,12 @@ module _ (t : Rows) (x : Arrival) (w : Working) (h : History) (st : StandsFor t 
         let same : i + 1 ≡ suc i = omega arith in
         subst (λ k. holds lost k ≡ is_lost_at t h.arrivals x k) same
         (one.lost (calls_at t x.side (i + 1) h old.0.clock) (st.ports i old.0 old.1)
-        ∙ loses-share-is t x h.arrivals place n line.priority line.longest_wait accepted shortest longest small line-of.priority line-of.longest_wait (i + 1) (buffer_at t (i + 1))
+        ∙ loses-share-is t x h.arrivals place n line.priority line.longest_wait accepted shortest
+        longest small line-of.priority line-of.longest_wait (i + 1) (buffer_at t (i + 1))
         (buffer-is t place n.row (i + 1) n.stands))
 
-    pub stands-accepted : (new : Working) → LinesAfter t x h new.lines.items → new.clock ≡ x.time → vec_len new.lines ≡ vec_len w.lines → new.places ≡ w.places → new.ports.items ≡ ports →
+    pub stands-accepted : (new : Working) → LinesAfter t x h new.lines.items → new.clock ≡ x.time
+        → vec_len new.lines ≡ vec_len w.lines → new.places ≡ w.places → new.ports.items ≡ ports →
         StandsFor t x.side new (with_arrival h x)
     stands-accepted new lines clock count places is_ports = record {
       time = clock;
@@ -181,7 +251,9 @@ module _ (t : Rows) (x : Arrival) (w : Working) (h : History) (st : StandsFor t 
       ports = λ i p at_p. port-after i p (sym (ap (λ ps. slice_get ps i) is_ports) ∙ at_p);
     }
 
-sum-grows : {X : Type 0} (f : X → ℕ) (xs ys : List X) → length xs ≡ length ys → ((i : ℕ) (x y : X) → slice_get xs i ≡ Some x → slice_get ys i ≡ Some y → f y ≤ f x + 1) → sum_by f ys ≤ sum_by f xs + length xs
+sum-grows : {X : Type 0} (f : X → ℕ) (xs ys : List X) → length xs ≡ length ys
+    → ((i : ℕ) (x y : X) → slice_get xs i ≡ Some x → slice_get ys i ≡ Some y → f y ≤ f x + 1)
+    → sum_by f ys ≤ sum_by f xs + length xs
 sum-grows f [] [] same each = omega arith
 sum-grows f [] (y ∷ ys) same each = absurd (omega (arith, same))
 sum-grows f (x ∷ xs) [] same each = absurd (omega (arith, same))
@@ -191,9 +263,13 @@ sum-grows f (x ∷ xs) (y ∷ ys) same each =
     omega (arith, first, rest, sum_by-cons f x xs, sum_by-cons f y ys)
 
 -- ports through the offers of shares are sound and quiet, and hold at most one frame more each
-module _ (time clock : ℕ) (priority : Priority) (old ports : List (Pending Carried)) (share : ℕ → Option Carried) (lost : PortSet) (old_count : length old ≡ 24) (new_count : length ports ≡ 24)
-    (offered : (i : ℕ) (o p : Pending Carried) → slice_get old i ≡ Some o → slice_get ports i ≡ Some p → IsOffered time priority (share i) o p (holds lost (i + 1))) where
-  old-at : (i : ℕ) (p : Pending Carried) → slice_get ports i ≡ Some p → (o : Pending Carried) × (slice_get old i ≡ Some o)
+module _ (time clock : ℕ) (priority : Priority) (old ports : List (Pending Carried))
+    (share : ℕ → Option Carried) (lost : PortSet) (old_count : length old ≡ 24)
+    (new_count : length ports ≡ 24)
+    (offered : (i : ℕ) (o p : Pending Carried) → slice_get old i ≡ Some o
+    → slice_get ports i ≡ Some p → IsOffered time priority (share i) o p (holds lost (i + 1))) where
+  old-at : (i : ℕ) (p : Pending Carried) → slice_get ports i ≡ Some p → (o : Pending Carried)
+      × (slice_get old i ≡ Some o)
   old-at i p at_p = found-at old i (omega (arith, slice_get_within ports i p at_p, new_count, old_count))
 
   pub ports-sound : All (IsPortSound clock) old → All (IsPortSound time) ports
@@ -201,12 +277,18 @@ module _ (time clock : ℕ) (priority : Priority) (old ports : List (Pending Car
       let o = old-at i p at_p in
       let one = offered i o.0 p o.1 at_p in
       let sound = all-at (IsPortSound clock) old i o.0 all o.1 in
-      record { in_time = one.clock; calls = calls_after time priority (share i) sound.calls p.clock; stands = one.stands sound.calls sound.stands })
+      record {
+        in_time = one.clock;
+        calls = calls_after time priority (share i) sound.calls p.clock;
+        stands = one.stands sound.calls sound.stands;
+      })
 
   pub ports-quiet : All (λ p. held.IsQuiet facts p time) ports
-  ports-quiet = all-from (λ p. held.IsQuiet facts p time) ports (λ i p at_p. let o = old-at i p at_p in (offered i o.0 p o.1 at_p).quiet)
+  ports-quiet = all-from (λ p. held.IsQuiet facts p time) ports
+      (λ i p at_p. let o = old-at i p at_p in (offered i o.0 p o.1 at_p).quiet)
 
   pub ports-held : sum_by (λ p. held.frames_held p) ports ≤ sum_by (λ p. held.frames_held p) old + 24
   ports-held =
-      let more = sum-grows (λ p. held.frames_held p) old ports (omega (arith, old_count, new_count)) (λ i o p at_o at_p. (offered i o p at_o at_p).more) in
+      let more = sum-grows (λ p. held.frames_held p) old ports (omega (arith, old_count, new_count))
+      (λ i o p at_o at_p. (offered i o p at_o at_p).more) in
       omega (arith, more, old_count)

@@ -1,15 +1,13 @@
 -- What is true of the definitions, and of each switch that stands for calls.
-use Rattle.std.specs.Prelude.{slice_get, ◌≡◌, ℕ, ◌≤◌, Bool, true, false, IfSome, Some, None, List, [], ◌∷◌, ◌++◌, filter}
+use Rattle.std.specs.Prelude.{◌≡◌, ℕ, ◌≤◌, Bool, true, false, IfSome, Some, None, List, [], ◌∷◌, ◌++◌, filter}
 use Rattle.afdx_frame.specs.declared.link.Side.{Side}
-use Rattle.afdx_config.specs.Admission.{byte_ns}
 use Rattle.afdx_config.specs.Lawful.{IsLawful}
-use Rattle.afdx_config.specs.Rows.{SystemRow, Rows}
+use Rattle.afdx_config.specs.Rows.{Rows}
 use Rattle.afdx_police.specs.Arrival.{Arrival, is_side, names, own}
 use Rattle.afdx_police.specs.declared.shape.Reason.{Reason}
 use Rattle.afdx_port.specs.Classes.{GoInOrder}
 use Rattle.afdx_port.specs.Schedule.{Entry, AreTurns}
 use Rattle.afdx_bounds.specs.Outputs.{Row, entry_of}
-use Rattle.afdx_bounds.specs.TableLaws.{entries_to}
 use Rattle.afdx_switch.specs.Carried.{Carried}
 use Rattle.afdx_switch.specs.Tables.{row_named, byte_ns_at, carried, entries_at}
 use Rattle.afdx_switch.specs.Ports.{holds}
@@ -79,15 +77,3 @@ OtherSideIsApart = (t : Rows) (side : Side) (w : Working) (h : History) (x : Arr
 abbrev pub LostPortsAreListed : Type 0
 LostPortsAreListed = (t : Rows) (past : List Arrival) (x : Arrival) (lost : PortSet) →
     IsVerdict t past x (Accepted lost) → filter (holds lost) numbers ≡ lost_ports t past x
-
--- the output port of this number is that of the system that has it: it has the same line and the
--- same entries
-pub record IsPortOf (t : Rows) (side : Side) (arrivals : List Arrival) (system : ℕ)
-    (s : SystemRow) : Type 0 where
-  pub line : byte_ns_at t s.port ≡ byte_ns s
-  pub entries : entries_at t side s.port arrivals ≡ entries_to (carried t) t side system s arrivals
-
-abbrev pub PortsAreOfSystems : Type 0
-PortsAreOfSystems = (t : Rows) (side : Side) (arrivals : List Arrival) (system : ℕ)
-    (s : SystemRow) → IsLawful t → slice_get t.systems system ≡ Some s →
-    IsPortOf t side arrivals system s

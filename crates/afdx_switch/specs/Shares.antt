@@ -1,5 +1,5 @@
 -- The output ports through the offers of the shares of one frame.
-use Rattle.std.specs.Prelude.{All, ◌≡◌, ℕ, ◌+◌, ◌≤◌, Bool, false, if◌then◌else◌, Option, Some, None, List}
+use Rattle.std.specs.Prelude.{All, ◌≡◌, ℕ, ◌+◌, ◌≤◌, Bool, false, if◌then◌else◌, Option, Some, None, List, slice_get}
 use Rattle.afdx_frame.specs.declared.link.Priority.{Priority}
 use Rattle.afdx_port.specs.Held as held
 use Rattle.afdx_port.specs.History as queue
@@ -7,14 +7,20 @@ use Rattle.afdx_port.specs.Schedule.{Entry}
 use Rattle.afdx_port.specs.declared.pending.Pending.{Pending}
 use Rattle.afdx_bounds.specs.Offered as offered
 use Rattle.afdx_switch.specs.Carried.{Carried, facts}
+use Rattle.afdx_switch.specs.Lines.{is_among}
 
 -- the share of a frame at a port that its link goes to
 abbrev pub share_of : Carried → Bool → Option Carried
 share_of c goes = if goes then Some c else None
 
 -- each of these is a share of the frame
-abbrev pub AreShares : Carried → List (Option Carried) → Type 0
-AreShares c shares = All (λ s. s ≡ Some c) shares
+abbrev pub AreShares : Carried → List Carried → Type 0
+AreShares c shares = All (λ s. s ≡ c) shares
+
+-- the ports that stand at none of these places are as they were
+abbrev pub AreKept : List ℕ → List (Pending Carried) → List (Pending Carried) → Type 0
+AreKept places old new =
+    (i : ℕ) → is_among i places ≡ false → slice_get new i ≡ slice_get old i
 
 -- a share of a frame as an entry
 abbrev pub share_entry : ℕ → Priority → Carried → Entry Carried

@@ -4,6 +4,7 @@ use Rattle.afdx_police.specs.LinkAccounts as accounts
 use Rattle.afdx_port.specs.Held as held
 use Rattle.afdx_port.specs.History as queue
 use Rattle.afdx_port.specs.Ports.{AreServed}
+use Rattle.afdx_port.specs.Serving.{IsServing}
 use Rattle.afdx_port.specs.declared.pending.Pending.{Pending}
 use Rattle.afdx_switch.specs.Carried.{Carried, facts}
 use Rattle.afdx_switch.specs.Lines.{ArePlaces}
@@ -28,4 +29,5 @@ pub record IsSound (w : Working) : Type 0 where
       place < vec_len w.lines
   pub port_count : vec_len w.ports ≡ 24
   pub ports : All (IsPortSound w.clock) w.ports.items
+  pub serving : IsServing facts w.ports.items w.serving
   pub served : AreServed facts w.ports.items w.first

@@ -21,7 +21,7 @@ use crate::working::Working;
 use afdx_config::{Link, Tables};
 use afdx_frame::VlId;
 use afdx_police::{LinkAccount, LinkRule};
-use afdx_port::{Port, first_of};
+use afdx_port::{Port, Serving};
 use arrayvec::ArrayVec;
 use std::alloc::{AllocError, Global};
 
@@ -183,13 +183,15 @@ pub(crate) fn build(alloc: Global, tables: &Tables) -> Result<Working, AllocErro
     let lines = lines(alloc, tables)?;
     let places = places(alloc, tables)?;
     let ports = ports(alloc, tables)?;
-    let first = first_of(&ports);
+    let serving = Serving::of(&ports);
+    let first = serving.first::<Frame>();
     Ok(Working {
         alloc,
         clock: 0,
         lines,
         places,
         ports,
+        serving,
         first,
     })
 }

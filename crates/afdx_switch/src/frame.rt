@@ -6,13 +6,19 @@ use std::alloc::{AllocError, Global};
 use std::marker::Model;
 use std::rc::Rc;
 
+/// What all shares of a frame have in common.
+#[derive(Drop)]
+struct Stored {
+    tag: u64,
+    /// How long the frame may wait for its turn, in ns, if there is a limit.
+    longest_wait: Option<u64>,
+    bytes: Vec<u8>,
+}
+
 /// A frame on its way through the switch: one of the shares of its one copy.
 #[derive(Drop)]
 pub struct Frame {
-    tag: u64,
-    /// How long it may wait for its turn, in ns, if there is a limit.
-    longest_wait: Option<u64>,
-    bytes: Rc<Vec<u8>>,
+    stored: Rc<Stored>,
 }
 
 impl Model for Frame {
@@ -23,14 +29,15 @@ impl Model for Frame {
     ghost Value = { Carried };
 
     ghost view = { λ f. record {
-      tag = f.tag;
-      longest_wait = f.longest_wait;
-      bytes = f.bytes.value.items;
+      tag = f.stored.value.tag;
+      longest_wait = f.stored.value.longest_wait;
+      bytes = f.stored.value.bytes.items;
     } };
 
-    ghost invariant = { λ f. (64 ≤ length f.bytes.value.items) × (length f.bytes.value.items ≤ 1518)
-        × IfSome f.longest_wait (λ wait. wait ≤ 100000000)
-        × (is_sealed f.bytes.value.items ≡ true) };
+    ghost invariant = { λ f. (64 ≤ length f.stored.value.bytes.items)
+        × (length f.stored.value.bytes.items ≤ 1518)
+        × IfSome f.stored.value.longest_wait (λ wait. wait ≤ 100000000)
+        × (is_sealed f.stored.value.bytes.items ≡ true) };
 }
 
 impl Frame {
@@ -51,12 +58,14 @@ impl Frame {
         requires sealed { is_sealed bytes.now ≡ true }
         ensures { IfOk result (λ f. f ≡ carried_with tag longest_wait bytes.now) }
     {
-        let copy = Vec::from_slice(alloc, bytes)?;
-        let bytes = Rc::new(alloc, copy)?;
-        Ok(Frame {
+        let bytes = Vec::from_slice(alloc, bytes)?;
+        let stored = Stored {
             tag,
             longest_wait,
             bytes,
+        };
+        Ok(Frame {
+            stored: Rc::new(alloc, stored)?,
         })
     }
 
@@ -64,25 +73,22 @@ impl Frame {
     pub(crate) fn share(&self) -> Result<Frame, AllocError>
         ensures { IfOk result (λ f. f ≡ self.now) }
     {
-        let bytes = self.bytes.clone()?;
         Ok(Frame {
-            tag: self.tag,
-            longest_wait: self.longest_wait,
-            bytes,
+            stored: self.stored.clone()?,
         })
     }
 
     pub(crate) fn tag(&self) -> u64
         ensures { result ≡ self.now.tag }
     {
-        self.tag
+        self.stored.as_ref().tag
     }
 
     pub(crate) fn bytes(&self) -> &[u8]
         ensures bytes { result.now ≡ self.now.bytes }
         ensures sealed { is_sealed result.now ≡ true }
     {
-        self.bytes.as_ref().as_slice()
+        self.stored.as_ref().bytes.as_slice()
     }
 }
 
@@ -93,11 +99,11 @@ impl HasLength for Frame {
     ghost facts = { facts };
 
     fn length(&self) -> u64 {
-        self.bytes.as_ref().len() as u64
+        self.stored.as_ref().bytes.len() as u64
     }
 
     fn longest_wait(&self) -> Option<u64> {
-        self.longest_wait
+        self.stored.as_ref().longest_wait
     }
 
     ghost lawful = { facts-lawful };

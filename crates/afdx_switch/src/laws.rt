@@ -1,7 +1,8 @@
 //! What is true of the definitions, and of each switch that stands for calls, for the crates that
 //! stand on them.
 ghost use Rattle.afdx_switch.specs.Admitted.{AcceptedIsKept, AcceptedEnter, TurnsAreInTime, AllHaveLeft};
-ghost use Rattle.afdx_switch.specs.Laws.{VerdictsAreOwn, EntriesGrow, TakenAreTurns, LinksGoInOrder, OtherSideIsApart, LostPortsAreListed, PortsAreOfSystems};
+ghost use Rattle.afdx_switch.specs.Laws.{VerdictsAreOwn, EntriesGrow, TakenAreTurns};
+ghost use Rattle.afdx_switch.specs.Laws.{LinksGoInOrder, OtherSideIsApart, LostPortsAreListed};
 ghost use Rattle.afdx_switch.specs.LinkFrames.{FramesAreOwn, AllFramesAreOwn, OthersGetNone};
 
 /// A verdict comes from the own arrivals of the link that the frame names.
@@ -44,12 +45,6 @@ pub fn other_side_is_apart()
 /// The ports of an answer's set are those at which the arrival is lost.
 pub fn lost_ports_are_listed()
     ensures { LostPortsAreListed }
-{}
-
-/// An output port by number is that of the system that has it: what is true of the ports of
-/// admitted tables is true of a switch's.
-pub fn ports_are_of_systems()
-    ensures { PortsAreOfSystems }
 {}
 
 /// Admitted tables, whatever arrives: an accepted frame is lost nowhere. At each port that a link

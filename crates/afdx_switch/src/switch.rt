@@ -65,17 +65,20 @@ impl Departure {
 #[derive(Drop)]
 pub struct Switch {
     working: Working,
+    /// Room for the shares of a frame. Between calls it is empty.
+    shares: Vec<Frame>,
 }
 
 impl Model for Switch {
     ghost use Rattle.afdx_switch.specs.declared.working.Working.{Working};
+    ghost use Rattle.std.specs.Prelude.{◌≡◌, []};
     ghost use Rattle.afdx_switch.specs.Sound.{IsSound};
 
     ghost Value = { Working };
 
     ghost view = { λ s. s.working };
 
-    ghost invariant = { λ s. IsSound s.working };
+    ghost invariant = { λ s. IsSound s.working × (s.shares.items ≡ []) };
 }
 
 impl Switch {
@@ -105,6 +108,7 @@ impl Switch {
     {
         Ok(Switch {
             working: build(alloc, tables)?,
+            shares: Vec::with_capacity(alloc, 24)?,
         })
     }
 
@@ -182,7 +186,11 @@ impl Switch {
         ensures held { frames_held self.new ≤ frames_held self.old + 24 }
         ensures clock { OnOk result (last_time self.new ≡ time) }
     {
-        self.working.arrive(time, port, tag, bytes, sealed)
+        let arrived = self
+            .working
+            .arrive(time, port, tag, bytes, sealed, &mut self.shares);
+        self.shares.clear();
+        arrived
     }
 
     /// When the next turn of all ports will be over if no frame arrives before, and whether it is a

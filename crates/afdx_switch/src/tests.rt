@@ -1,15 +1,17 @@
 //! The worked rows, on one switch. An arrival that is refused memory is made again.
-ghost use Rattle.std.specs.Prelude.{◌≡◌, ℕ, ◌≤◌, IfOk, IsTrue};
+ghost use Rattle.std.specs.Prelude.{◌≡◌, ◌≤◌, IsTrue};
 ghost use Rattle.afdx_switch.specs.Switching.{IsQuiet, last_time};
 
 use crate::{Switch, Verdict};
 use afdx_config::{Tables, read_tables};
-use afdx_frame::{Address, Side, VlId, build, is_sealed};
+use afdx_frame::is_sealed;
 use afdx_police::Reason;
 use std::alloc::{AllocError, Global};
 use std::test::Fail;
 
+mod largest;
 mod refused;
+mod verdicts;
 
 /// Three systems and two links to the third, one high and one low.
 const BASE: &str = r#"profile = 1
@@ -92,55 +94,60 @@ fn tables(alloc: Global, first: (&str, &str), second: (&str, &str)) -> Result<Ta
 const SAME: (&str, &str) = ("", "");
 
 /// The frame of link 1 with the message `hello`.
-fn hello(alloc: Global) -> Result<Vec<u8>, AllocError> {
-    let address = Address {
-        vl: VlId(1),
-        system_id: 1,
-        partition: 1,
-        from_udp: 1000,
-        to_udp: 1000,
-        least: 64,
-    };
-    build(alloc, &address, 0, Side::A, b"hello")
-}
+const HELLO: [u8; 64] = [
+    3, 0, 0, 0, 0, 1, 2, 0, 0, 0, 1, 32, 8, 0, 69, 0, 0, 33, 0, 0, 0, 0, 1, 17, 205, 234, 10, 0, 1,
+    1, 224, 224, 0, 1, 3, 232, 3, 232, 0, 13, 0, 0, 104, 101, 108, 108, 111, 0, 0, 0, 0, 0, 0, 0,
+    0, 0, 0, 0, 0, 0, 149, 23, 139, 81,
+];
 
 /// The frame of link 2 with the message `world`.
-fn world(alloc: Global) -> Result<Vec<u8>, AllocError> {
-    let address = Address {
-        vl: VlId(2),
-        system_id: 2,
-        partition: 1,
-        from_udp: 2000,
-        to_udp: 2000,
-        least: 64,
-    };
-    build(alloc, &address, 0, Side::A, b"world")
-}
+const WORLD: [u8; 64] = [
+    3, 0, 0, 0, 0, 2, 2, 0, 0, 0, 2, 32, 8, 0, 69, 0, 0, 33, 0, 0, 0, 0, 1, 17, 204, 233, 10, 0, 2,
+    1, 224, 224, 0, 2, 7, 208, 7, 208, 0, 13, 0, 0, 119, 111, 114, 108, 100, 0, 0, 0, 0, 0, 0, 0,
+    0, 0, 0, 0, 0, 0, 128, 206, 102, 227,
+];
 
 /// A frame arrives. Where memory is refused, it arrives again: a refused arrival has changed nothing.
-fn arrive(
-    switch: &mut Switch,
-    time: u64,
-    port: u8,
-    tag: u64,
-    bytes: &[u8],
-) -> Result<Verdict, AllocError>
+/// None: memory was refused twice.
+fn arrive(switch: &mut Switch, time: u64, port: u8, tag: u64, bytes: &[u8]) -> Option<Verdict>
     requires limit { time ≤ 1000032768000000 }
     requires clock { last_time switch.old ≤ time }
     requires quiet { IsQuiet switch.old time }
-    ensures clock { IfOk result (λ _. last_time switch.new ≡ time) }
+    ensures clock { last_time switch.new ≤ time }
     ensures quiet { IsQuiet switch.new time }
 {
     match switch.arrive(time, port, tag, bytes) {
-        Ok(verdict) => Ok(verdict),
-        Err(AllocError) => switch.arrive_checked(time, port, tag, bytes, is_sealed(bytes)),
+        Ok(verdict) => Some(verdict),
+        Err(AllocError) => arrive_again(switch, time, port, tag, bytes),
     }
 }
 
-fn is_forwarded(verdict: Verdict) -> bool {
+fn arrive_again(switch: &mut Switch, time: u64, port: u8, tag: u64, bytes: &[u8]) -> Option<Verdict>
+    requires limit { time ≤ 1000032768000000 }
+    requires clock { last_time switch.old ≤ time }
+    requires quiet { IsQuiet switch.old time }
+    ensures clock { last_time switch.new ≤ time }
+    ensures quiet { IsQuiet switch.new time }
+{
+    match switch.arrive_checked(time, port, tag, bytes, is_sealed(bytes)) {
+        Ok(verdict) => Some(verdict),
+        Err(AllocError) => None,
+    }
+}
+
+/// Whether a frame was accepted, and no copy of it was lost.
+fn is_forwarded(verdict: Option<Verdict>) -> bool {
     match verdict {
-        Verdict::Accepted { lost } => lost.is_empty(),
-        Verdict::Dropped(_) => false,
+        Some(Verdict::Accepted { lost }) => lost.is_empty(),
+        _ => false,
+    }
+}
+
+/// Why a frame was dropped, if it was.
+fn why(verdict: Option<Verdict>) -> Option<Reason> {
+    match verdict {
+        Some(Verdict::Dropped(reason)) => Some(reason),
+        _ => None,
     }
 }
 
@@ -166,8 +173,8 @@ fn left(switch: &mut Switch, until: u64) -> Option<(u64, u64, u8, bool)>
 fn a_high_frame_goes_before_a_low_one_of_its_moment(rt: HostRuntime) -> Result<(), Fail> {
     let tables = tables(rt.alloc(), SAME, SAME)?;
     let mut switch = Switch::new(rt.alloc(), &tables)?;
-    assert!(rt; is_forwarded(arrive(&mut switch, 0, 2, 1, world(rt.alloc())?.as_slice())?));
-    assert!(rt; is_forwarded(arrive(&mut switch, 0, 1, 2, hello(rt.alloc())?.as_slice())?));
+    assert!(rt; is_forwarded(arrive(&mut switch, 0, 2, 1, &WORLD)));
+    assert!(rt; is_forwarded(arrive(&mut switch, 0, 1, 2, &HELLO)));
     assert!(rt; is_still(&mut switch, 6719));
     assert_eq!(rt; left(&mut switch, 1000000), Some((2, 6720, 3, false)));
     assert_eq!(rt; left(&mut switch, 1000000), Some((1, 13440, 3, false)));
@@ -179,9 +186,9 @@ fn a_high_frame_goes_before_a_low_one_of_its_moment(rt: HostRuntime) -> Result<(
 fn a_frame_that_is_sent_goes_before_a_high_one(rt: HostRuntime) -> Result<(), Fail> {
     let tables = tables(rt.alloc(), SAME, SAME)?;
     let mut switch = Switch::new(rt.alloc(), &tables)?;
-    assert!(rt; is_forwarded(arrive(&mut switch, 0, 2, 1, world(rt.alloc())?.as_slice())?));
+    assert!(rt; is_forwarded(arrive(&mut switch, 0, 2, 1, &WORLD)));
     assert!(rt; is_still(&mut switch, 1));
-    assert!(rt; is_forwarded(arrive(&mut switch, 1, 1, 2, hello(rt.alloc())?.as_slice())?));
+    assert!(rt; is_forwarded(arrive(&mut switch, 1, 1, 2, &HELLO)));
     assert_eq!(rt; left(&mut switch, 1000000), Some((1, 6720, 3, false)));
     assert_eq!(rt; left(&mut switch, 1000000), Some((2, 13440, 3, false)));
     assert!(rt; is_still(&mut switch, 1000000));
@@ -192,12 +199,11 @@ fn a_frame_that_is_sent_goes_before_a_high_one(rt: HostRuntime) -> Result<(), Fa
 fn a_frame_at_another_port_is_dropped_and_not_charged(rt: HostRuntime) -> Result<(), Fail> {
     let tables = tables(rt.alloc(), SAME, SAME)?;
     let mut switch = Switch::new(rt.alloc(), &tables)?;
-    let frame = hello(rt.alloc())?;
-    let wrong = arrive(&mut switch, 0, 2, 1, frame.as_slice())?;
-    assert_eq!(rt; wrong, Verdict::Dropped(Reason::WrongPort));
-    assert!(rt; is_forwarded(arrive(&mut switch, 0, 1, 2, frame.as_slice())?));
+    let wrong = why(arrive(&mut switch, 0, 2, 1, &HELLO));
+    assert_eq!(rt; wrong, Some(Reason::WrongPort));
+    assert!(rt; is_forwarded(arrive(&mut switch, 0, 1, 2, &HELLO)));
     let gone = switch.take(6720).ok_or("a departure")?;
-    assert!(rt; gone.bytes() == frame.as_slice());
+    assert!(rt; gone.bytes() == HELLO.as_slice());
     assert_eq!(rt; (gone.tag(), gone.time(), gone.port()), (2, 6720, 3));
     assert!(rt; is_still(&mut switch, 1000000));
     Ok(())
@@ -211,57 +217,59 @@ fn a_short_frame_of_a_link_that_is_policed_by_bytes(rt: HostRuntime) -> Result<(
     );
     let tables = tables(rt.alloc(), (old, new), SAME)?;
     let mut switch = Switch::new(rt.alloc(), &tables)?;
-    let verdict = arrive(&mut switch, 0, 2, 1, world(rt.alloc())?.as_slice())?;
-    assert_eq!(rt; verdict, Verdict::Dropped(Reason::UnderLmin));
+    let short = why(arrive(&mut switch, 0, 2, 1, &WORLD));
+    assert_eq!(rt; short, Some(Reason::UnderLmin));
     assert!(rt; is_still(&mut switch, 1000000));
     Ok(())
+}
+
+/// Whether a frame was accepted, and its copy was lost at port 3 alone.
+fn is_lost_at_port_3(verdict: Option<Verdict>) -> bool {
+    match verdict {
+        Some(Verdict::Accepted { lost }) => {
+            lost.holds(3) && !lost.holds(2) && !lost.holds(25) && !lost.is_empty()
+        }
+        _ => false,
+    }
 }
 
 #[test]
 fn a_frame_is_lost_at_a_full_port_and_stays_charged(rt: HostRuntime) -> Result<(), Fail> {
     let tables = tables(rt.alloc(), ("buffer = 252", "buffer = 64"), SAME)?;
     let mut switch = Switch::new(rt.alloc(), &tables)?;
-    let world = world(rt.alloc())?;
-    assert!(rt; is_forwarded(arrive(&mut switch, 0, 1, 1, hello(rt.alloc())?.as_slice())?));
-    let Verdict::Accepted { lost } = arrive(&mut switch, 0, 2, 2, world.as_slice())? else {
-        return Err("accepted".into());
-    };
-    assert_eq!(rt;
-        (lost.holds(2), lost.holds(3), lost.holds(25)),
-        (false, true, false)
-    );
-    assert!(rt; !lost.is_empty());
+    assert!(rt; is_forwarded(arrive(&mut switch, 0, 1, 1, &HELLO)));
+    let second = arrive(&mut switch, 0, 2, 2, &WORLD);
+    assert!(rt; is_lost_at_port_3(second));
     assert!(rt; is_still(&mut switch, 1));
-    let verdict = arrive(&mut switch, 1, 2, 3, world.as_slice())?;
-    assert_eq!(rt; verdict, Verdict::Dropped(Reason::OverRate));
+    let third = why(arrive(&mut switch, 1, 2, 3, &WORLD));
+    assert_eq!(rt; third, Some(Reason::OverRate));
     assert_eq!(rt; left(&mut switch, 1000000), Some((1, 6720, 3, false)));
     assert!(rt; is_still(&mut switch, 1000000));
     Ok(())
 }
 
 /// Whether each of 999 further frames at time 0 and port 2 is dropped for its link's rate.
-fn is_over_rate(switch: &mut Switch, bytes: &[u8]) -> Result<bool, AllocError>
-    requires clock { last_time switch.old ≡ 0 }
+fn is_over_rate(switch: &mut Switch, bytes: &[u8]) -> bool
+    requires clock { last_time switch.old ≤ 0 }
     requires quiet { IsQuiet switch.old 0 }
-    ensures clock { IfOk result (λ _. last_time switch.new ≡ 0) }
-    ensures quiet { IfOk result (λ _. IsQuiet switch.new 0) }
+    ensures clock { last_time switch.new ≤ 0 }
+    ensures quiet { IsQuiet switch.new 0 }
 {
     let mut all = true;
     for tag in 2..1001_u64 {
-        let verdict = arrive(switch, 0, 2, tag, bytes)?;
-        all = all && verdict == Verdict::Dropped(Reason::OverRate);
+        let reason = why(arrive(switch, 0, 2, tag, bytes));
+        all = all && reason == Some(Reason::OverRate);
     }
-    Ok(all)
+    all
 }
 
 #[test]
 fn a_babbling_link_leaves_another_as_it_is(rt: HostRuntime) -> Result<(), Fail> {
     let tables = tables(rt.alloc(), SAME, SAME)?;
     let mut switch = Switch::new(rt.alloc(), &tables)?;
-    let world = world(rt.alloc())?;
-    assert!(rt; is_forwarded(arrive(&mut switch, 0, 2, 1, world.as_slice())?));
-    assert!(rt; is_over_rate(&mut switch, world.as_slice())?);
-    assert!(rt; is_forwarded(arrive(&mut switch, 0, 1, 1001, hello(rt.alloc())?.as_slice())?));
+    assert!(rt; is_forwarded(arrive(&mut switch, 0, 2, 1, &WORLD)));
+    assert!(rt; is_over_rate(&mut switch, &WORLD));
+    assert!(rt; is_forwarded(arrive(&mut switch, 0, 1, 1001, &HELLO)));
     assert_eq!(rt; left(&mut switch, 1000000), Some((1001, 6720, 3, false)));
     assert_eq!(rt; left(&mut switch, 1000000), Some((1, 13440, 3, false)));
     assert!(rt; is_still(&mut switch, 1000000));
@@ -278,11 +286,11 @@ fn second_left(
 {
     let tables = tables(alloc, profile, ("latency_us = 21", "latency_us = 6"))?;
     let mut switch = Switch::new(alloc, &tables)?;
-    let first = arrive(&mut switch, 0, 1, 1, hello(alloc)?.as_slice())?;
+    let first = arrive(&mut switch, 0, 1, 1, &HELLO);
     if !is_forwarded(first) || !is_still(&mut switch, time) {
         return Err("the first frame".into());
     }
-    let second = arrive(&mut switch, time, 2, 2, world(alloc)?.as_slice())?;
+    let second = arrive(&mut switch, time, 2, 2, &WORLD);
     if !is_forwarded(second) {
         return Err("the second frame".into());
     }
@@ -310,8 +318,8 @@ fn a_drop_is_given_once_its_moment_is_past(rt: HostRuntime) -> Result<(), Fail> 
     let second = ("profile = 1", "profile = 2");
     let tables = tables(rt.alloc(), second, ("latency_us = 21", "latency_us = 6"))?;
     let mut switch = Switch::new(rt.alloc(), &tables)?;
-    assert!(rt; is_forwarded(arrive(&mut switch, 0, 1, 1, hello(rt.alloc())?.as_slice())?));
-    assert!(rt; is_forwarded(arrive(&mut switch, 0, 2, 2, world(rt.alloc())?.as_slice())?));
+    assert!(rt; is_forwarded(arrive(&mut switch, 0, 1, 1, &HELLO)));
+    assert!(rt; is_forwarded(arrive(&mut switch, 0, 2, 2, &WORLD)));
     assert_eq!(rt; left(&mut switch, 6720), Some((1, 6720, 3, false)));
     assert!(rt; is_still(&mut switch, 6720));
     assert_eq!(rt; left(&mut switch, 6721), Some((2, 6720, 3, true)));
@@ -324,7 +332,7 @@ fn departures_of_one_time_go_by_port(rt: HostRuntime) -> Result<(), Fail> {
     let (old, new) = ("to = [\"s3\"]", "to = [\"s3\", \"s2\"]");
     let tables = tables(rt.alloc(), (old, new), SAME)?;
     let mut switch = Switch::new(rt.alloc(), &tables)?;
-    assert!(rt; is_forwarded(arrive(&mut switch, 0, 1, 1, hello(rt.alloc())?.as_slice())?));
+    assert!(rt; is_forwarded(arrive(&mut switch, 0, 1, 1, &HELLO)));
     assert_eq!(rt; left(&mut switch, 1000000), Some((1, 6720, 2, false)));
     assert_eq!(rt; left(&mut switch, 1000000), Some((1, 6720, 3, false)));
     assert!(rt; is_still(&mut switch, 1000000));

@@ -3,6 +3,7 @@ ghost use Rattle.std.specs.Prelude.{[], ◌≢◌, ◌≡◌, ◌↔◌, ℕ, �
 ghost use Rattle.afdx_port.specs.Times.{drain_end, latest_put};
 ghost use Rattle.afdx_frame.specs.declared.link.Priority.{Priority};
 ghost use Rattle.afdx_frame.specs.Sealing.{is_sealed};
+ghost use Rattle.afdx_port.specs.Serving.{AreRanked, IsServing};
 ghost use Rattle.afdx_port.specs.declared.pending.Pending.{Pending};
 ghost use Rattle.afdx_port.specs.History as queue;
 ghost use Rattle.afdx_port.specs.Held as held;
@@ -10,7 +11,7 @@ ghost use Rattle.afdx_switch.specs.Ports.{holds};
 ghost use Rattle.afdx_switch.specs.Carried.{Carried, carried_with, facts};
 ghost use Rattle.afdx_switch.specs.Sound.{IsPortSound};
 ghost use Rattle.afdx_switch.specs.Lines.{ArePlaces, is_among};
-ghost use Rattle.afdx_switch.specs.Shares.{AreShares, IsOffered, share_of};
+ghost use Rattle.afdx_switch.specs.Shares.{AreKept, AreShares, IsOffered, share_of};
 
 use crate::frame::Frame;
 use crate::line::Line;
@@ -19,8 +20,7 @@ use crate::switch::Departure;
 use crate::verdict::Verdict;
 use afdx_frame::{Priority, vl_of};
 use afdx_police::{Reason, judge_checked};
-use afdx_port::{Due, Port, first_due, first_of};
-use arrayvec::ArrayVec;
+use afdx_port::{Due, Port, Serving, first_due};
 use std::alloc::{AllocError, Global};
 
 /// What a switch works with.
@@ -35,23 +35,20 @@ pub(crate) struct Working {
     pub(crate) places: Vec<Option<u16>>,
     /// The output ports, from port 1 on.
     pub(crate) ports: Vec<Port<Frame>>,
+    /// The order in which they are served.
+    pub(crate) serving: Serving,
     /// The place of the port whose turn goes first.
     pub(crate) first: usize,
 }
 
 /// Makes so many shares of a frame.
-fn share_out(
-    frame: &Frame,
-    count: usize,
-    shares: &mut ArrayVec<Option<Frame>, 24>,
-) -> Result<(), AllocError>
-    requires few { count ≤ 24 }
+fn share_out(frame: &Frame, count: usize, shares: &mut Vec<Frame>) -> Result<(), AllocError>
     requires none { shares.old.items ≡ [] }
     ensures count { OnOk result (length shares.new.items ≡ count) }
     ensures each { OnOk result (AreShares frame.now shares.new.items) }
 {
     for _ in 0..count {
-        shares.push(Some(frame.share()?));
+        shares.push(frame.share()?)?;
     }
     Ok(())
 }
@@ -70,14 +67,13 @@ fn offer(port: &mut Port<Frame>, time: u64, priority: Priority, share: Frame) ->
 fn forward(
     ports: &mut [Port<Frame>],
     places: &[u8],
-    shares: &mut ArrayVec<Option<Frame>, 24>,
+    shares: &mut Vec<Frame>,
     time: u64,
     priority: Priority,
 ) -> PortSet
     requires port_count { length ports.old ≡ 24 }
     requires places { ArePlaces places.now }
     requires share_count { length shares.old.items ≡ length places.now }
-    requires shares { All (λ s. s ≢ None) shares.old.items }
     requires limit { time ≤ latest_put }
     requires clocks { All (λ p. held.last_time p ≤ time) ports.old }
     requires quiet { All (λ p. held.IsQuiet facts p time) ports.old }
@@ -86,10 +82,11 @@ fn forward(
         slice_get ports.old i ≡ Some o → slice_get ports.new i ≡ Some n →
         IsOffered time priority (share_of c (is_among i places.now)) o n (holds result (i + 1)) }
     ensures numbers { (p : ℕ) → holds result p ≡ true → (1 ≤ p) × (p ≤ 24) }
+    ensures others { AreKept places.now ports.old ports.new }
 {
     let mut lost = PortSet::new();
     for place in places {
-        let Some(Some(share)) = shares.pop() else {
+        let Some(share) = shares.pop() else {
             unreachable!();
         };
         if offer(&mut ports[*place as usize], time, priority, share) {
@@ -97,6 +94,19 @@ fn forward(
         }
     }
     lost
+}
+
+/// Finds anew where the ports at these places stand in the order in which all are served.
+fn renew(serving: &mut Serving, ports: &[Port<Frame>], places: &[u8])
+    requires ranked { AreRanked serving.old.keys serving.old.least }
+    requires port_count { length ports.now ≡ 24 }
+    requires places { ArePlaces places.now }
+    ensures { (old : List (Pending Carried)) → IsServing facts old serving.old →
+        AreKept places.now old ports.now → IsServing facts ports.now serving.new }
+{
+    for place in places {
+        serving.renew(*place as usize, &ports[*place as usize]);
+    }
 }
 
 impl Working {
@@ -126,6 +136,7 @@ impl Working {
         }
     }
 
+    /// `shares` is room for the shares of the frame: what is left there is of no use.
     pub(crate) fn arrive(
         &mut self,
         time: u64,
@@ -133,7 +144,9 @@ impl Working {
         tag: u64,
         bytes: &[u8],
         sealed: bool,
+        shares: &mut Vec<Frame>,
     ) -> Result<Verdict, AllocError>
+        requires shares { shares.old.items ≡ [] }
         requires limit { time ≤ latest_put }
         requires sealed { sealed ≡ is_sealed bytes.now }
         requires sound { IsSound self.old }
@@ -153,10 +166,11 @@ impl Working {
         ensures clock { OnOk result (last_time self.new ≡ time) }
     {
         let Some(place) = self.place_of(bytes) else {
+            let Some(reason) = judge_checked(None, port, bytes, sealed) else {
+                unreachable!();
+            };
             self.clock = time;
-            return Ok(Verdict::Dropped(judge_checked(None, port, bytes, sealed).unwrap_or(
-                Reason::UnknownLink,
-            )));
+            return Ok(Verdict::Dropped(reason));
         };
         let line = &self.lines[place];
         if let Some(reason) = judge_checked(Some(line.account.rule()), port, bytes, sealed) {
@@ -164,16 +178,17 @@ impl Working {
             return Ok(Verdict::Dropped(reason));
         }
         let frame = Frame::copy(self.alloc, tag, line.longest_wait, bytes)?;
-        let mut shares = ArrayVec::new();
-        share_out(&frame, line.goes.len(), &mut shares)?;
+        share_out(&frame, line.goes.len(), shares)?;
         self.clock = time;
         let line = &mut self.lines[place];
-        if !line.account.offer(time, bytes.len() as u64) {
+        let passes = line.account.offer(time, bytes.len() as u64);
+        if !passes {
             return Ok(Verdict::Dropped(Reason::OverRate));
         }
         let places = line.goes.as_slice();
-        let lost = forward(&mut self.ports, places, &mut shares, time, line.priority);
-        self.first = first_of(&self.ports);
+        let lost = forward(&mut self.ports, places, shares, time, line.priority);
+        renew(&mut self.serving, &self.ports, places);
+        self.first = self.serving.first::<Frame>();
         Ok(Verdict::Accepted { lost })
     }
 
@@ -216,10 +231,12 @@ impl Working {
     {
         self.clock = until;
         let place = first_due(&self.ports, self.first, until)?;
-        let Some(left) = self.ports[place].take(until) else {
+        let port = &mut self.ports[place];
+        let Some(left) = port.take(until) else {
             unreachable!();
         };
-        self.first = first_of(&self.ports);
+        self.serving.renew(place, port);
+        self.first = self.serving.first::<Frame>();
         Some(Departure {
             port: place as u8 + 1,
             left,

@@ -17,7 +17,9 @@ use Rattle.afdx_systems.specs.Receptions.{reception_line, is_delivered, lines_of
 use Rattle.afdx_systems.specs.Worked.{WorkedRows}
 
 pub all_worked : WorkedRows
-unfolding digits encode_with is_sealed sequence_of shift number frame_of words ones_sum carried_by carried_in_body system_at_port has_port frames_of answer_to is_within_steps after_steps came_to reception_line is_delivered lines_of delivered_in
+unfolding digits encode_with is_sealed sequence_of shift number frame_of words ones_sum carried_by
+    carried_in_body system_at_port has_port frames_of answer_to is_within_steps after_steps came_to
+    reception_line is_delivered lines_of delivered_in
 all_worked = record {
   high_first = refl;
   low_first = refl;

@@ -1,5 +1,6 @@
 -- A message that is put to a port of which all was read, and read there at once.
-use Rattle.std.proofs.Common.{◌≡◌, OnOk, Result, ℕ, ◌<◌, ◌≤◌, List, ◌++◌, length, Some, None, sym, ap, ◌∙◌, subst, arith, inl, inr}
+use Rattle.std.proofs.Common.{◌≡◌, OnOk, Result, ℕ, ◌<◌, ◌≤◌, List, ◌++◌, length, Some, None, sym}
+use Rattle.std.proofs.Common.{ap, ◌∙◌, subst, arith, inl, inr}
 use Rattle.std.specs.Prelude.{position, slice_get, slice_set}
 use Rattle.std.proofs.lemmas.Bool.{cases_eq}
 use Rattle.std.proofs.lemmas.List.{get_or-set_same, get_or-set_other, length-set}
@@ -16,7 +17,8 @@ use Rattle.afdx_systems.specs.ReadPorts.{AreRead}
 use Rattle.afdx_systems.specs.Receptions.{message_line}
 
 -- there is a port at each place within
-port_at : (ports : List ComPort) (place : ℕ) → place < length ports → (port : ComPort) × (slice_get ports place ≡ Some port)
+port_at : (ports : List ComPort) (place : ℕ) → place < length ports → (port : ComPort)
+    × (slice_get ports place ≡ Some port)
 port_at ports place within =
     elim (slice_get_cases ports place).1 [
       | inl found ↦ (found.0, found.2)
@@ -27,40 +29,52 @@ port_at ports place within =
 module _ {X : Type 0} where
   pub slice_get-set_here : (xs : List X) (i : ℕ) (x : X) → i < length xs → slice_get (slice_set xs i x) i ≡ Some x
   slice_get-set_here xs i x within =
-      slice_get-get_or (slice_set xs i x) i x (subst (λ n. i < n) (sym (length-set xs i x)) within) ∙ ap Some (get_or-set_same xs i x x within)
+      slice_get-get_or (slice_set xs i x) i x (subst (λ n. i < n) (sym (length-set xs i x)) within)
+      ∙ ap Some (get_or-set_same xs i x x within)
 
-  pub slice_get-set_there : (xs : List X) (i j : ℕ) (x : X) → (j ≡ i → ⊥) → slice_get (slice_set xs i x) j ≡ slice_get xs j
+  pub slice_get-set_there : (xs : List X) (i j : ℕ) (x : X) → (j ≡ i → ⊥)
+      → slice_get (slice_set xs i x) j ≡ slice_get xs j
   slice_get-set_there xs i j x other =
       elim (slice_get_cases xs j).1 [
         | inl found ↦
             slice_get-get_or (slice_set xs i x) j found.0 (subst (λ n. j < n) (sym (length-set xs i x)) found.1)
             ∙ ap Some (get_or-set_other xs i j x found.0 other ∙ found.3) ∙ sym found.2
-        | inr past ↦ slice_get_past (slice_set xs i x) j (subst (λ n. n ≤ j) (sym (length-set xs i x)) past.0) ∙ sym past.1
+        | inr past ↦ slice_get_past (slice_set xs i x) j
+            (subst (λ n. n ≤ j) (sym (length-set xs i x)) past.0) ∙ sym past.1
       ]
 
 -- ports that differ from these at one place alone, where all is read
-pub read_but_at : (ports after : List ComPort) (place : ℕ) (port : ComPort) → AreRead ports → slice_get after place ≡ Some port → IsRead port.held →
+pub read_but_at : (ports after : List ComPort) (place : ℕ) (port : ComPort) → AreRead ports
+    → slice_get after place ≡ Some port → IsRead port.held →
     ((j : ℕ) → (j ≡ place → ⊥) → slice_get after j ≡ slice_get ports j) → AreRead after
 read_but_at ports after place port read here now same j other is =
     elim (cases_eq j place) [
-      | inl e ↦ (let one : Some port ≡ Some other = sym here ∙ ap (slice_get after) (sym e) ∙ is in let it : port ≡ other = cc in subst (λ (p : ComPort). IsRead p.held) it now)
+      | inl e ↦ (let one : Some port ≡ Some other = sym here ∙ ap (slice_get after) (sym e)
+          ∙ is in let it : port ≡ other = cc in subst (λ (p : ComPort). IsRead p.held) it now)
       | inr apart ↦ read j other (sym (same j apart) ∙ is)
     ]
 
 -- what was put is what the sample is
-sample_read : (held : Held) (time : ℕ) (bytes : List ℕ) (m : Message) → Some m ≡ sample_of (with_message time bytes held) → (m.bytes ≡ bytes) × IsRead (with_message time bytes held)
-sample_read (Sampling sample) time bytes m is = (let same : m ≡ record { time = time; bytes = bytes } = cc in ap (λ (x : Message). x.bytes) same, tt)
+sample_read : (held : Held) (time : ℕ) (bytes : List ℕ) (m : Message)
+    → Some m ≡ sample_of (with_message time bytes held) → (m.bytes ≡ bytes)
+    × IsRead (with_message time bytes held)
+sample_read (Sampling sample) time bytes m is =
+    (let same : m ≡ record { time = time; bytes = bytes } = cc in ap (λ (x : Message). x.bytes) same, tt)
 sample_read (Queuing line) time bytes m is = absurd cc
 
 -- and what is taken of a queue of which all was read
-first_read : (held : Held) (time : ℕ) (bytes m : List ℕ) → IsRead held → Some m ≡ first_of (with_message time bytes held) → m ≡ bytes
+first_read : (held : Held) (time : ℕ) (bytes m : List ℕ) → IsRead held
+    → Some m ≡ first_of (with_message time bytes held) → m ≡ bytes
 first_read (Sampling sample) time bytes m all is = absurd cc
-first_read (Queuing line) time bytes m all is = let same : Some m ≡ Some bytes = is ∙ (put_and_read (Queuing line) time bytes all).read in cc
+first_read (Queuing line) time bytes m all is = let same : Some m ≡ Some bytes = is
+    ∙ (put_and_read (Queuing line) time bytes all).read in cc
 
 -- one of the two is there
-none_read : (held : Held) (time : ℕ) (bytes : List ℕ) → IsRead held → None ≡ sample_of (with_message time bytes held) → None ≡ first_of (with_message time bytes held) → ⊥
+none_read : (held : Held) (time : ℕ) (bytes : List ℕ) → IsRead held
+    → None ≡ sample_of (with_message time bytes held) → None ≡ first_of (with_message time bytes held) → ⊥
 none_read (Sampling sample) time bytes all no-sample no-first = cc
-none_read (Queuing line) time bytes all no-sample no-first = let e : None ≡ Some bytes = no-first ∙ (put_and_read (Queuing line) time bytes all).read in cc
+none_read (Queuing line) time bytes all no-sample no-first = let e : None ≡ Some bytes = no-first
+    ∙ (put_and_read (Queuing line) time bytes all).read in cc
 
 -- a message was put to the port at this place
 pub record HasPut (ports : List ComPort) (place time : ℕ) (message : List ℕ) (after : List ComPort) : Type 0 where
@@ -70,7 +84,9 @@ pub record HasPut (ports : List ComPort) (place time : ℕ) (message : List ℕ)
   pub now : after ≡ slice_set ports place (record port { held = with_message time message port.held })
 
 pub put_at : (ports : List ComPort) (place time : ℕ) (message : List ℕ) (after : List ComPort) → place < length ports →
-    ((p : ComPort) → slice_get ports place ≡ Some p → after ≡ slice_set ports place (record p { held = with_message time message p.held })) → HasPut ports place time message after
+    ((p : ComPort) → slice_get ports place ≡ Some p
+    → after ≡ slice_set ports place (record p { held = with_message time message p.held }))
+    → HasPut ports place time message after
 put_at ports place time message after within puts =
     let port = port_at ports place within in
     record { within = within; port = port.0; here = port.1; now = puts port.0 port.1 }
@@ -80,7 +96,8 @@ pub record IsPassedOn (ports after : List ComPort) : Type 0 where
   pub read : AreRead ports → AreRead after
   pub found : (link udp : ℕ) → position (is_for link udp) after ≡ position (is_for link udp) ports
 
-module _ (ports : List ComPort) (place time : ℕ) (message : List ℕ) (after : List ComPort) (put : HasPut ports place time message after) where
+module _ (ports : List ComPort) (place time : ℕ) (message : List ℕ) (after : List ComPort)
+    (put : HasPut ports place time message after) where
   held_then : Held
   held_then = with_message time message put.port.held
 
@@ -89,29 +106,43 @@ module _ (ports : List ComPort) (place time : ℕ) (message : List ℕ) (after :
 
   here_then : slice_get after place ≡ Some port_then
   unfolding port_then held_then
-  here_then = ap (λ (xs : List ComPort). slice_get xs place) put.now ∙ slice_get-set_here ports place port_then put.within
+  here_then = ap (λ (xs : List ComPort). slice_get xs place) put.now
+      ∙ slice_get-set_here ports place port_then put.within
 
   there_then : (j : ℕ) → (j ≡ place → ⊥) → slice_get after j ≡ slice_get ports j
   unfolding port_then held_then
-  there_then j other = ap (λ (xs : List ComPort). slice_get xs j) put.now ∙ slice_get-set_there ports place j port_then other
+  there_then j other = ap (λ (xs : List ComPort). slice_get xs j) put.now
+      ∙ slice_get-set_there ports place j port_then other
 
   found_then : (link udp : ℕ) → position (is_for link udp) after ≡ position (is_for link udp) ports
   unfolding port_then held_then
   found_then link udp = ap (position (is_for link udp)) put.now ∙ stays ports place link udp put.port held_then put.here
 
   -- a sample was read
-  pub sampled : (m : Message) → ((p : ComPort) → slice_get after place ≡ Some p → Some m ≡ sample_of p.held) → IsPassedOn ports after × (m.bytes ≡ message)
+  pub sampled : (m : Message)
+      → ((p : ComPort) → slice_get after place ≡ Some p → Some m ≡ sample_of p.held)
+      → IsPassedOn ports after × (m.bytes ≡ message)
   unfolding port_then held_then
   sampled m reads =
-      let told = sample_read put.port.held time message m (reads port_then here_then) in
-      (record { read = λ all. read_but_at ports after place port_then all here_then told.1 there_then; found = found_then }, told.0)
+      let told = sample_read put.port.held time message m (reads port_then here_then) in (
+        record {
+          read = λ all. read_but_at ports after place port_then all here_then told.1
+              there_then;
+          found = found_then;
+        },
+        told.0,
+      )
 
   -- the oldest was taken, if there was one
-  pub taken : (rest : List ComPort) → ((p : ComPort) → slice_get after place ≡ Some p → rest ≡ slice_set after place (record p { held = without_first p.held })) → IsPassedOn ports rest
+  pub taken : (rest : List ComPort)
+      → ((p : ComPort) → slice_get after place ≡ Some p
+      → rest ≡ slice_set after place (record p { held = without_first p.held })) → IsPassedOn ports rest
   unfolding port_then held_then
   taken rest leaves = record {
-    read = λ all. read_but_at ports rest place without all here (put_and_read put.port.held time message (all place put.port put.here)).all there;
-    found = λ link udp. ap (position (is_for link udp)) now ∙ stays after place link udp port_then (without_first held_then) here_then ∙ found_then link udp;
+    read = λ all. read_but_at ports rest place without all here
+        (put_and_read put.port.held time message (all place put.port put.here)).all there;
+    found = λ link udp. ap (position (is_for link udp)) now
+        ∙ stays after place link udp port_then (without_first held_then) here_then ∙ found_then link udp;
   }
     where
       without : ComPort
@@ -127,19 +158,28 @@ module _ (ports : List ComPort) (place time : ℕ) (message : List ℕ) (after :
       here = ap (λ (xs : List ComPort). slice_get xs place) now ∙ slice_get-set_here after place without within
 
       there : (j : ℕ) → (j ≡ place → ⊥) → slice_get rest j ≡ slice_get ports j
-      there j other = ap (λ (xs : List ComPort). slice_get xs j) now ∙ slice_get-set_there after place j without other ∙ there_then j other
+      there j other = ap (λ (xs : List ComPort). slice_get xs j) now
+          ∙ slice_get-set_there after place j without other ∙ there_then j other
 
   -- it is what was put
-  pub taken_message : AreRead ports → (m : List ℕ) → ((p : ComPort) → slice_get after place ≡ Some p → Some m ≡ first_of p.held) → m ≡ message
+  pub taken_message : AreRead ports → (m : List ℕ)
+      → ((p : ComPort) → slice_get after place ≡ Some p → Some m ≡ first_of p.held) → m ≡ message
   unfolding port_then held_then
-  taken_message all m reads = first_read put.port.held time message m (all place put.port put.here) (reads port_then here_then)
+  taken_message all m reads = first_read put.port.held time message m (all place put.port put.here)
+      (reads port_then here_then)
 
   -- one of the two is read
-  pub none_left : AreRead ports → ((p : ComPort) → slice_get after place ≡ Some p → None ≡ sample_of p.held) → ((p : ComPort) → slice_get after place ≡ Some p → None ≡ first_of p.held) → ⊥
+  pub none_left : AreRead ports
+      → ((p : ComPort) → slice_get after place ≡ Some p → None ≡ sample_of p.held)
+      → ((p : ComPort) → slice_get after place ≡ Some p → None ≡ first_of p.held) → ⊥
   unfolding port_then held_then
-  none_left all no-sample no-first = none_read put.port.held time message (all place put.port put.here) (no-sample port_then here_then) (no-first port_then here_then)
+  none_left all no-sample no-first =
+      none_read put.port.held time message (all place put.port put.here)
+      (no-sample port_then here_then) (no-first port_then here_then)
 
 -- the line of a message, of another that is the same
-pub line_of_same : {E : Type 0} (r : Result (Unit {0}) E) (text : List ℕ) (old : List ℕ) (time : ℕ) (name : List ℕ) (vl : ℕ) (message other : List ℕ) → other ≡ message →
+pub line_of_same : {E : Type 0} (r : Result (Unit {0}) E) (text : List ℕ) (old : List ℕ) (time : ℕ)
+    (name : List ℕ) (vl : ℕ) (message other : List ℕ) → other ≡ message →
     OnOk r (text ≡ old ++ message_line time name vl other) → OnOk r (text ≡ old ++ message_line time name vl message)
-line_of_same r text old time name vl message other same line = subst (λ (m : List ℕ). OnOk r (text ≡ old ++ message_line time name vl m)) same line
+line_of_same r text old time name vl message other same line =
+    subst (λ (m : List ℕ). OnOk r (text ≡ old ++ message_line time name vl m)) same line

@@ -1,5 +1,7 @@
 -- The systems at the ports of the switch.
-use Rattle.std.proofs.Common.{◌≡◌, ℕ, ◌+◌, ◌<◌, ◌≤◌, ◌==◌, Bool, true, false, cond, List, [], ◌∷◌, ◌++◌, length, Option, Some, None, OnOk, IfOk, Result, Vec, Global, vec_len, get_or, refl, sym, ap, ◌∙◌, subst, arith, ◌⊎◌, inl, inr}
+use Rattle.std.proofs.Common.{◌≡◌, ℕ, ◌+◌, ◌<◌, ◌≤◌, ◌==◌, Bool, true, false, cond, List, [], ◌∷◌}
+use Rattle.std.proofs.Common.{◌++◌, length, Option, Some, None, OnOk, IfOk, Result, Vec, Global}
+use Rattle.std.proofs.Common.{vec_len, get_or, refl, sym, ap, ◌∙◌, subst, arith, ◌⊎◌, inl, inr}
 use Rattle.std.specs.Prelude.{slice_get, slice_set, option_and_then}
 use Rattle.std.specs.List.{position_from, AllByRecursion}
 use Rattle.std.proofs.lemmas.Bool.{cases_eq, ne_eqb}
@@ -23,46 +25,64 @@ use Rattle.afdx_systems.proofs.PassLemmas.{slice_get-set_here, slice_get-set_the
 pub record HasBuilt (rows : Rows) (count : ℕ) (systems : List (Option EndSystem)) : Type 0 where
   pub long : length systems ≡ count
   pub lawful : 0 < count → IsLawful rows
-  pub each : (port : ℕ) (at : Option EndSystem) → slice_get systems port ≡ Some at → IsAt rows [] (system_at_port rows.systems port) at
+  pub each : (port : ℕ) (at : Option EndSystem) → slice_get systems port ≡ Some at
+      → IsAt rows [] (system_at_port rows.systems port) at
 
-none_from : (n port : ℕ) (systems : List SystemRow) (profile : ℕ) → AllByRecursion (IsSystem profile) systems → 24 < port → position_from (λ (s : SystemRow). s.port == port) n systems ≡ None
+none_from : (n port : ℕ) (systems : List SystemRow) (profile : ℕ)
+    → AllByRecursion (IsSystem profile) systems → 24 < port
+    → position_from (λ (s : SystemRow). s.port == port) n systems ≡ None
 none_from n port [] profile lawful beyond = refl
 none_from n port (s ∷ systems) profile lawful beyond =
     let other : (s.port == port) ≡ false = ne_eqb s.port port (λ e. omega (arith, e, lawful.0.port.1, beyond)) in
-    ap (λ b. cond b (Some n) (position_from (λ (r : SystemRow). r.port == port) (n + 1) systems)) other ∙ none_from (n + 1) port systems profile lawful.1 beyond
+    ap (λ b. cond b (Some n) (position_from (λ (r : SystemRow). r.port == port) (n + 1) systems))
+    other ∙ none_from (n + 1) port systems profile lawful.1 beyond
 
 -- no system has a port beyond the last
 none_beyond : (rows : Rows) (port : ℕ) → IsLawful rows → 24 < port → system_at_port rows.systems port ≡ None
 unfolding system_at_port
 none_beyond rows port lawful beyond =
-    position_from-zero (λ (s : SystemRow). s.port == port) rows.systems ∙ none_from 0 port rows.systems rows.profile lawful.systems.each beyond
+    position_from-zero (λ (s : SystemRow). s.port == port) rows.systems
+    ∙ none_from 0 port rows.systems rows.profile lawful.systems.each beyond
 
-pub built : (rows : Rows) (at_ports : Vec (Option EndSystem) Global) (count : ℕ) → 24 < count → HasBuilt rows count at_ports.items →
+pub built : (rows : Rows) (at_ports : Vec (Option EndSystem) Global) (count : ℕ) → 24 < count
+    → HasBuilt rows count at_ports.items →
     StandsFor rows (record { at_ports = at_ports }) []
 unfolding came_to
 built rows at_ports count all has = record { each = λ port. at port (slice_get_cases at_ports.items port).1 }
   where
-    at : (port : ℕ) → ((e : Option EndSystem) × (port < length at_ports.items) × (slice_get at_ports.items port ≡ Some e) × (get_or at_ports.items port e ≡ e)) ⊎ ((length at_ports.items ≤ port) × (slice_get at_ports.items port ≡ None)) →
-        IsAt rows [] (system_at_port rows.systems port) (option_and_then (λ (e : Option EndSystem). e) (slice_get at_ports.items port))
+    at : (port : ℕ) → ((e : Option EndSystem) × (port < length at_ports.items)
+        × (slice_get at_ports.items port ≡ Some e) × (get_or at_ports.items port e ≡ e))
+        ⊎ ((length at_ports.items ≤ port) × (slice_get at_ports.items port ≡ None)) →
+        IsAt rows [] (system_at_port rows.systems port)
+        (option_and_then (λ (e : Option EndSystem). e) (slice_get at_ports.items port))
     at port (inl found) = rw found.2 (has.each port found.0 found.2)
-    at port (inr past) = rw (past.1, none_beyond rows port (has.lawful (omega arith)) (omega (arith, past.0, has.long, all))) tt
+    at port (inr past) = rw (
+      past.1,
+      none_beyond rows port (has.lawful (omega arith))
+          (omega (arith, past.0, has.long, all)),
+    ) tt
 
 -- ---- a frame at a port
 
 -- a system takes in what arrives, if one is there
-pub goes_on : (rows : Rows) (past : List Arrived) (x : Arrived) (place : Option ℕ) (old : Option EndSystem) (e new : EndSystem) → old ≡ Some e →
-    ((system : ℕ) → IsAfter rows system e past → IsAfter rows system new (x ∷ past)) → IsAt rows past place old → IsAt rows (x ∷ past) place (Some new)
+pub goes_on : (rows : Rows) (past : List Arrived) (x : Arrived) (place : Option ℕ)
+    (old : Option EndSystem) (e new : EndSystem) → old ≡ Some e →
+    ((system : ℕ) → IsAfter rows system e past → IsAfter rows system new (x ∷ past))
+    → IsAt rows past place old → IsAt rows (x ∷ past) place (Some new)
 goes_on rows past x None old e new is takes at = absurd (subst (λ o. IsAt rows past None o) is at)
-goes_on rows past x (Some system) old e new is takes at = takes system (subst (λ o. IsAt rows past (Some system) o) is at)
+goes_on rows past x (Some system) old e new is takes at =
+    takes system (subst (λ o. IsAt rows past (Some system) o) is at)
 
 pub same : (a b : ℕ) → a ≡ b → (a == b) ≡ true
 same a b e = grind (arith, nat_tests)
 
-pub came_here : (d : HandedOver) (before : List HandedOver) (port : ℕ) → port ≡ d.port → came_to port (d ∷ before) ≡ arrival_of d ∷ came_to port before
+pub came_here : (d : HandedOver) (before : List HandedOver) (port : ℕ) → port ≡ d.port
+    → came_to port (d ∷ before) ≡ arrival_of d ∷ came_to port before
 unfolding came_to
 came_here d before port e = rw (same d.port port (sym e)) refl
 
-pub came_there : (d : HandedOver) (before : List HandedOver) (port : ℕ) → (port ≡ d.port → ⊥) → came_to port (d ∷ before) ≡ came_to port before
+pub came_there : (d : HandedOver) (before : List HandedOver) (port : ℕ) → (port ≡ d.port → ⊥)
+    → came_to port (d ∷ before) ≡ came_to port before
 unfolding came_to
 came_there d before port other = rw (ne_eqb d.port port (λ e. other (sym e))) refl
 
@@ -71,22 +91,32 @@ none_is_at : (rows : Rows) (past : List Arrived) (place : Option ℕ) → IsAt r
 none_is_at rows past None at = refl
 none_is_at rows past (Some system) at = absurd at
 
-none_stays : (rows : Rows) (past after : List Arrived) (place : Option ℕ) → IsAt rows past place None → IsAt rows after place None
+none_stays : (rows : Rows) (past after : List Arrived) (place : Option ℕ)
+    → IsAt rows past place None → IsAt rows after place None
 none_stays rows past after None at = tt
 none_stays rows past after (Some system) at = absurd at
 
 -- the systems before a frame comes to a port that they have
-pub record AreBefore (rows : Rows) (systems : Systems) (before : List HandedOver) (d : HandedOver) (place : ℕ) (at : Option EndSystem) : Type 0 where
+pub record AreBefore (rows : Rows) (systems : Systems) (before : List HandedOver) (d : HandedOver)
+    (place : ℕ) (at : Option EndSystem) : Type 0 where
   pub stands : StandsFor rows systems before
   pub port : place ≡ d.port
   pub here : slice_get systems.at_ports.items place ≡ Some at
 
-pub before_at : (rows : Rows) (systems : Systems) (before : List HandedOver) (d : HandedOver) (place : ℕ) (at : Option EndSystem) → StandsFor rows systems before → place ≡ d.port →
-    place < vec_len systems.at_ports → at ≡ get_or systems.at_ports.items place at → AreBefore rows systems before d place at
+pub before_at : (rows : Rows) (systems : Systems) (before : List HandedOver) (d : HandedOver)
+    (place : ℕ) (at : Option EndSystem) → StandsFor rows systems before → place ≡ d.port →
+    place < vec_len systems.at_ports → at ≡ get_or systems.at_ports.items place at
+    → AreBefore rows systems before d place at
 before_at rows systems before d place at stands port within is =
-    record { stands = stands; port = port; here = slice_get_read systems.at_ports.items (vec_len systems.at_ports) place at systems.at_ports.ok.0 within is }
+    record {
+      stands = stands;
+      port = port;
+      here = slice_get_read systems.at_ports.items (vec_len systems.at_ports) place at
+          systems.at_ports.ok.0 within is;
+    }
 
-module _ (rows : Rows) (systems : Systems) (before : List HandedOver) (d : HandedOver) (place : ℕ) (at : Option EndSystem) (are : AreBefore rows systems before d place at) where
+module _ (rows : Rows) (systems : Systems) (before : List HandedOver) (d : HandedOver) (place : ℕ)
+    (at : Option EndSystem) (are : AreBefore rows systems before d place at) where
   -- the system is there
   pub is_at : IsAt rows (came_to d.port before) (system_at_port rows.systems d.port) at
   is_at =
@@ -95,53 +125,74 @@ module _ (rows : Rows) (systems : Systems) (before : List HandedOver) (d : Hande
       (are.stands.each d.port)
 
   -- they go on after it
-  pub stand_after : (new : Systems) (now : Option EndSystem) → new.at_ports.items ≡ slice_set systems.at_ports.items place now →
-      IsAt rows (arrival_of d ∷ came_to d.port before) (system_at_port rows.systems d.port) now → StandsFor rows new (d ∷ before)
+  pub stand_after : (new : Systems) (now : Option EndSystem)
+      → new.at_ports.items ≡ slice_set systems.at_ports.items place now →
+      IsAt rows (arrival_of d ∷ came_to d.port before) (system_at_port rows.systems d.port) now
+      → StandsFor rows new (d ∷ before)
   stand_after new now set is = record { each = λ port. one port (cases_eq port d.port) }
     where
       within : place < length systems.at_ports.items
       within = slice_get_within systems.at_ports.items place at are.here
 
       here : system_in new d.port ≡ now
-      here = ap (λ (n : ℕ). system_in new n) (sym are.port) ∙ ap (λ (es : List (Option EndSystem)). option_and_then (λ (e : Option EndSystem). e) (slice_get es place)) set ∙ ap (option_and_then (λ (e : Option EndSystem). e)) (slice_get-set_here systems.at_ports.items place now within)
+      here = ap (λ (n : ℕ). system_in new n) (sym are.port)
+          ∙ ap (λ (es : List (Option EndSystem)). option_and_then (λ (e : Option EndSystem). e)
+          (slice_get es place)) set ∙ ap (option_and_then (λ (e : Option EndSystem). e))
+          (slice_get-set_here systems.at_ports.items place now within)
 
       there : (port : ℕ) → (port ≡ d.port → ⊥) → system_in new port ≡ system_in systems port
-      there port other = ap (λ (es : List (Option EndSystem)). option_and_then (λ (e : Option EndSystem). e) (slice_get es port)) set ∙ ap (option_and_then (λ (e : Option EndSystem). e)) (slice_get-set_there systems.at_ports.items place port now (λ e. other (e ∙ are.port)))
+      there port other = ap (λ (es : List (Option EndSystem)).
+          option_and_then (λ (e : Option EndSystem). e) (slice_get es port)) set
+          ∙ ap (option_and_then (λ (e : Option EndSystem). e))
+          (slice_get-set_there systems.at_ports.items place port now (λ e. other (e ∙ are.port)))
 
-      one : (port : ℕ) → (port ≡ d.port) ⊎ (port ≡ d.port → ⊥) → IsAt rows (came_to port (d ∷ before)) (system_at_port rows.systems port) (system_in new port)
+      one : (port : ℕ) → (port ≡ d.port) ⊎ (port ≡ d.port → ⊥)
+          → IsAt rows (came_to port (d ∷ before)) (system_at_port rows.systems port) (system_in new port)
       one port (inl e) = rw (e, here, came_here d before d.port refl) is
       one port (inr other) = rw (there port other, came_there d before port other) (are.stands.each port)
 
 -- a frame at a port beyond those that are kept
-module _ (rows : Rows) (systems : Systems) (before : List HandedOver) (d : HandedOver) (place : ℕ) (stands : StandsFor rows systems before) (port : place ≡ d.port) (beyond : vec_len systems.at_ports ≤ place) where
+module _ (rows : Rows) (systems : Systems) (before : List HandedOver) (d : HandedOver) (place : ℕ)
+    (stands : StandsFor rows systems before) (port : place ≡ d.port)
+    (beyond : vec_len systems.at_ports ≤ place) where
   none_in : system_in systems d.port ≡ None
-  none_in = ap (option_and_then (λ (e : Option EndSystem). e)) (slice_get_past systems.at_ports.items d.port (omega (arith, systems.at_ports.ok.0, port, beyond)))
+  none_in = ap (option_and_then (λ (e : Option EndSystem). e))
+      (slice_get_past systems.at_ports.items d.port (omega (arith, systems.at_ports.ok.0, port, beyond)))
 
   no_system : IsAt rows (came_to d.port before) (system_at_port rows.systems d.port) None
-  no_system = subst (λ (o : Option EndSystem). IsAt rows (came_to d.port before) (system_at_port rows.systems d.port) o) none_in (stands.each d.port)
+  no_system = subst (λ (o : Option EndSystem). IsAt rows (came_to d.port before)
+      (system_at_port rows.systems d.port) o) none_in (stands.each d.port)
 
   pub no_line : reception_line rows before d ≡ []
   unfolding reception_line
-  no_line = ap (line_at rows (came_to d.port before) d) (none_is_at rows (came_to d.port before) (system_at_port rows.systems d.port) no_system)
+  no_line = ap (line_at rows (came_to d.port before) d)
+      (none_is_at rows (came_to d.port before) (system_at_port rows.systems d.port) no_system)
 
   pub not_delivered : is_delivered rows before d ≡ false
   unfolding is_delivered
-  not_delivered = ap (is_delivered_at rows (came_to d.port before) d) (none_is_at rows (came_to d.port before) (system_at_port rows.systems d.port) no_system)
+  not_delivered = ap (is_delivered_at rows (came_to d.port before) d)
+      (none_is_at rows (came_to d.port before) (system_at_port rows.systems d.port) no_system)
 
   pub stand_still : StandsFor rows systems (d ∷ before)
   stand_still = record { each = λ q. one q (cases_eq q d.port) }
     where
-      one : (q : ℕ) → (q ≡ d.port) ⊎ (q ≡ d.port → ⊥) → IsAt rows (came_to q (d ∷ before)) (system_at_port rows.systems q) (system_in systems q)
-      one q (inl e) = rw (e, none_in) (none_stays rows (came_to d.port before) (came_to d.port (d ∷ before)) (system_at_port rows.systems d.port) no_system)
+      one : (q : ℕ) → (q ≡ d.port) ⊎ (q ≡ d.port → ⊥)
+          → IsAt rows (came_to q (d ∷ before)) (system_at_port rows.systems q) (system_in systems q)
+      one q (inl e) = rw (e, none_in)
+          (none_stays rows (came_to d.port before) (came_to d.port (d ∷ before))
+          (system_at_port rows.systems d.port) no_system)
       one q (inr other) = rw (came_there d before q other) (stands.each q)
 
 -- the line and the answer, as the definitions have them
-pub line_is : {E : Type 0} (rows : Rows) (before : List HandedOver) (d : HandedOver) (r : Result Bool E) (new old : List ℕ) →
-    OnOk r (new ≡ old ++ line_at rows (came_to d.port before) d (system_at_port rows.systems d.port)) → OnOk r (new ≡ old ++ reception_line rows before d)
+pub line_is : {E : Type 0} (rows : Rows) (before : List HandedOver) (d : HandedOver)
+    (r : Result Bool E) (new old : List ℕ) →
+    OnOk r (new ≡ old ++ line_at rows (came_to d.port before) d
+    (system_at_port rows.systems d.port)) → OnOk r (new ≡ old ++ reception_line rows before d)
 unfolding reception_line
 line_is rows before d r new old h = h
 
 pub delivered_is : {E : Type 0} (rows : Rows) (before : List HandedOver) (d : HandedOver) (r : Result Bool E) →
-    IfOk r (λ (yes : Bool). yes ≡ is_delivered_at rows (came_to d.port before) d (system_at_port rows.systems d.port)) → IfOk r (λ (yes : Bool). yes ≡ is_delivered rows before d)
+    IfOk r (λ (yes : Bool). yes ≡ is_delivered_at rows (came_to d.port before) d
+    (system_at_port rows.systems d.port)) → IfOk r (λ (yes : Bool). yes ≡ is_delivered rows before d)
 unfolding is_delivered
 delivered_is rows before d r h = h

@@ -53,7 +53,11 @@ fn pass_on(
         return put_message(text, time, name, vl, read);
     }
     match ports.take_queued(place) {
-        Some(read) => put_message(text, time, name, vl, read.as_slice()),
+        Some(read) => {
+            let told = put_message(text, time, name, vl, read.as_slice());
+            ports.give_back(place, read);
+            told
+        }
         None => Ok(()),
     }
 }

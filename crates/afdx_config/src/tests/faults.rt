@@ -6,7 +6,7 @@ use std::alloc::{AllocError, Global};
 use std::test::Fail;
 
 #[test]
-fn each_fault(rt: HostRuntime) -> Result<(), Fail> {
+fn no_configuration(rt: HostRuntime) -> Result<(), Fail> {
     let a = rt.alloc();
     assert_eq!(rt;
         first(a, "profile", "=\nprofile")?,
@@ -28,6 +28,12 @@ fn each_fault(rt: HostRuntime) -> Result<(), Fail> {
         first(a, "buffer = 252\n", "")?,
         Some(ConfigFault::Missing(at(Part::Top, 0, 2)))
     );
+    Ok(())
+}
+
+#[test]
+fn faults_of_a_key(rt: HostRuntime) -> Result<(), Fail> {
+    let a = rt.alloc();
     assert_eq!(rt;
         first(a, "vl = 1", "vl = \"1\"")?,
         Some(ConfigFault::WrongKind(at(Part::Link, 1, 1)))

@@ -211,63 +211,65 @@ fn the_jitter_of_a_sender(rt: HostRuntime) -> Result<(), Fail> {
     Ok(())
 }
 
+/// A text of the configuration, another in its place, and the line of the fault.
+const FAULTS: [(&str, &str, &str); 16] = [
+    ("profile = 1", "=\nprofile = 1", "config NotToml\n"),
+    ("profile = 1", "profile = 3", "config BadProfile\n"),
+    ("buffer = 252", "", "config Missing top 0 key 2\n"),
+    (
+        "buffer = 252",
+        "buffer = 63",
+        "config OutOfRange top 0 key 2\n",
+    ),
+    (
+        "buffer = 252",
+        "buffer = 252.0",
+        "config WrongKind top 0 key 2\n",
+    ),
+    (
+        "buffer = 252",
+        "buffer = 252\nbuffer = 252",
+        "config NotToml\n",
+    ),
+    ("vl = 1", "vl = \"1\"", "config WrongKind link 1 key 1\n"),
+    ("vl = 1", "vl = -1", "config OutOfRange link 1 key 1\n"),
+    (
+        "port = 2",
+        "port = 2\nx = 1",
+        "config UnknownKey system 2 key 0\n",
+    ),
+    (
+        "bag_ms = 1",
+        "bag_ms = 3",
+        "config OutOfRange link 1 key 4\n",
+    ),
+    ("port = 2", "port = 1", "config Twice system 2 key 2\n"),
+    (
+        "from = \"s2\"\nto = [\"s3\"]",
+        "from = \"s2\"\nto = [\"s9\"]",
+        "config NoSuchSystem link 2 key 3\n",
+    ),
+    (
+        "to = [\"s3\"]",
+        "to = []",
+        "config OutOfRange link 1 key 3\n",
+    ),
+    (
+        "to = [\"s3\"]",
+        "to = [\"s1\"]",
+        "config Twice link 1 key 3\n",
+    ),
+    ("link = 2", "link = 3", "config OutOfRange port 2 key 2\n"),
+    (
+        "rate = 100",
+        "rate = 1000",
+        "config OutOfRange system 1 key 5\n",
+    ),
+];
+
 #[test]
 fn faults_of_a_configuration(rt: HostRuntime) -> Result<(), Fail> {
-    let rows = [
-        ("profile = 1", "=\nprofile = 1", "config NotToml\n"),
-        ("profile = 1", "profile = 3", "config BadProfile\n"),
-        ("buffer = 252", "", "config Missing top 0 key 2\n"),
-        (
-            "buffer = 252",
-            "buffer = 63",
-            "config OutOfRange top 0 key 2\n",
-        ),
-        (
-            "buffer = 252",
-            "buffer = 252.0",
-            "config WrongKind top 0 key 2\n",
-        ),
-        (
-            "buffer = 252",
-            "buffer = 252\nbuffer = 252",
-            "config NotToml\n",
-        ),
-        ("vl = 1", "vl = \"1\"", "config WrongKind link 1 key 1\n"),
-        ("vl = 1", "vl = -1", "config OutOfRange link 1 key 1\n"),
-        (
-            "port = 2",
-            "port = 2\nx = 1",
-            "config UnknownKey system 2 key 0\n",
-        ),
-        (
-            "bag_ms = 1",
-            "bag_ms = 3",
-            "config OutOfRange link 1 key 4\n",
-        ),
-        ("port = 2", "port = 1", "config Twice system 2 key 2\n"),
-        (
-            "from = \"s2\"\nto = [\"s3\"]",
-            "from = \"s2\"\nto = [\"s9\"]",
-            "config NoSuchSystem link 2 key 3\n",
-        ),
-        (
-            "to = [\"s3\"]",
-            "to = []",
-            "config OutOfRange link 1 key 3\n",
-        ),
-        (
-            "to = [\"s3\"]",
-            "to = [\"s1\"]",
-            "config Twice link 1 key 3\n",
-        ),
-        ("link = 2", "link = 3", "config OutOfRange port 2 key 2\n"),
-        (
-            "rate = 100",
-            "rate = 1000",
-            "config OutOfRange system 1 key 5\n",
-        ),
-    ];
-    for (old, new, line) in rows {
+    for (old, new, line) in FAULTS {
         let config = changed(rt.alloc(), BASE, old, new)?;
         let (status, output, errors) = checked(rt.alloc(), config.as_bytes());
         assert_eq!(rt; status, 1, "{line}");

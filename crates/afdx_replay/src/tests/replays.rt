@@ -46,60 +46,62 @@ fn replayed(
     Ok((result, output.into_inner()))
 }
 
+/// The profile, the buffer, link 1's latency, a list, and its text.
+const WORKED_LISTS: [(&str, &str, &str, &str, &str); 7] = [
+    (
+        "profile = 1",
+        "buffer = 252",
+        "latency_us = 21",
+        "F 0 A 2 H2\nF 0 A 1 H1\n",
+        "V 1 A accept\nV 2 A accept\nD 2 6720 A 3\nM 6720 s3 1 68656c6c6f\nD 1 13440 A 3\nM 13440 s3 2 776f726c64\n",
+    ),
+    (
+        "profile = 1",
+        "buffer = 252",
+        "latency_us = 21",
+        "F 0 A 2 H2\nF 1 A 1 H1\n",
+        "V 1 A accept\nV 2 A accept\nD 1 6720 A 3\nM 6720 s3 2 776f726c64\nD 2 13440 A 3\nM 13440 s3 1 68656c6c6f\n",
+    ),
+    (
+        "profile = 1",
+        "buffer = 252",
+        "latency_us = 21",
+        "F 0 A 1 H1\nF 0 B 1 H1\n",
+        "V 1 A accept\nV 2 B accept\nD 1 6720 A 3\nM 6720 s3 1 68656c6c6f\nD 2 6720 B 3\nX 6720 s3 2 redundant\n",
+    ),
+    (
+        "profile = 1",
+        "buffer = 64",
+        "latency_us = 21",
+        "F 0 A 1 H1\nF 0 A 2 H2\nF 1 A 2 H2\n",
+        "V 1 A accept\nV 2 A accept\nL 2 A 3\nV 3 A drop over-rate\nD 1 6720 A 3\nM 6720 s3 1 68656c6c6f\n",
+    ),
+    (
+        "profile = 2",
+        "buffer = 252",
+        "latency_us = 6",
+        "F 0 A 1 H1\nF 719 A 2 H2\n",
+        "V 1 A accept\nV 2 A accept\nD 1 6720 A 3\nM 6720 s3 1 68656c6c6f\nT 2 6720 A 3\n",
+    ),
+    (
+        "profile = 2",
+        "buffer = 252",
+        "latency_us = 6",
+        "F 0 A 1 H1\nF 720 A 2 H2\n",
+        "V 1 A accept\nV 2 A accept\nD 1 6720 A 3\nM 6720 s3 1 68656c6c6f\nD 2 13440 A 3\nM 13440 s3 2 776f726c64\n",
+    ),
+    (
+        "profile = 2",
+        "buffer = 252",
+        "latency_us = 6",
+        "F 0 A 1 H1\nF 0 A 2 H2\nF 6720 B 1 H1\n",
+        "V 1 A accept\nV 2 A accept\nD 1 6720 A 3\nM 6720 s3 1 68656c6c6f\nV 3 B accept\nT 2 6720 A 3\nD 3 13440 B 3\nX 13440 s3 3 redundant\n",
+    ),
+];
+
 #[test]
 fn worked_lists(rt: HostRuntime) -> Result<(), Fail> {
-    let rows = [
-        (
-            "profile = 1",
-            "buffer = 252",
-            "latency_us = 21",
-            "F 0 A 2 H2\nF 0 A 1 H1\n",
-            "V 1 A accept\nV 2 A accept\nD 2 6720 A 3\nM 6720 s3 1 68656c6c6f\nD 1 13440 A 3\nM 13440 s3 2 776f726c64\n",
-        ),
-        (
-            "profile = 1",
-            "buffer = 252",
-            "latency_us = 21",
-            "F 0 A 2 H2\nF 1 A 1 H1\n",
-            "V 1 A accept\nV 2 A accept\nD 1 6720 A 3\nM 6720 s3 2 776f726c64\nD 2 13440 A 3\nM 13440 s3 1 68656c6c6f\n",
-        ),
-        (
-            "profile = 1",
-            "buffer = 252",
-            "latency_us = 21",
-            "F 0 A 1 H1\nF 0 B 1 H1\n",
-            "V 1 A accept\nV 2 B accept\nD 1 6720 A 3\nM 6720 s3 1 68656c6c6f\nD 2 6720 B 3\nX 6720 s3 2 redundant\n",
-        ),
-        (
-            "profile = 1",
-            "buffer = 64",
-            "latency_us = 21",
-            "F 0 A 1 H1\nF 0 A 2 H2\nF 1 A 2 H2\n",
-            "V 1 A accept\nV 2 A accept\nL 2 A 3\nV 3 A drop over-rate\nD 1 6720 A 3\nM 6720 s3 1 68656c6c6f\n",
-        ),
-        (
-            "profile = 2",
-            "buffer = 252",
-            "latency_us = 6",
-            "F 0 A 1 H1\nF 719 A 2 H2\n",
-            "V 1 A accept\nV 2 A accept\nD 1 6720 A 3\nM 6720 s3 1 68656c6c6f\nT 2 6720 A 3\n",
-        ),
-        (
-            "profile = 2",
-            "buffer = 252",
-            "latency_us = 6",
-            "F 0 A 1 H1\nF 720 A 2 H2\n",
-            "V 1 A accept\nV 2 A accept\nD 1 6720 A 3\nM 6720 s3 1 68656c6c6f\nD 2 13440 A 3\nM 13440 s3 2 776f726c64\n",
-        ),
-        (
-            "profile = 2",
-            "buffer = 252",
-            "latency_us = 6",
-            "F 0 A 1 H1\nF 0 A 2 H2\nF 6720 B 1 H1\n",
-            "V 1 A accept\nV 2 A accept\nD 1 6720 A 3\nM 6720 s3 1 68656c6c6f\nV 3 B accept\nT 2 6720 A 3\nD 3 13440 B 3\nX 13440 s3 3 redundant\n",
-        ),
-    ];
-    for (profile, buffer, latency, list, text) in rows {
+    for (profile, buffer, latency, list, text) in WORKED_LISTS {
         let (result, written) = replayed(rt.alloc(), profile, buffer, latency, list)?;
         assert!(rt; result.is_ok(), "{list}");
         assert!(rt; written.as_slice() == text.as_bytes(), "{list}");

@@ -1,9 +1,9 @@
 //! A switch that wants memory: each call that is refused it is made again, and gives its answer.
-ghost use Rattle.std.specs.Prelude.{◌≡◌, ℕ, ◌≤◌, IfOk};
+ghost use Rattle.std.specs.Prelude.{◌≡◌, ℕ, IfOk};
 ghost use Rattle.afdx_switch.specs.Switching.{IsQuiet, last_time};
 
-use super::{BASE, hello, is_forwarded, is_still, left};
-use crate::{Switch, Verdict};
+use super::{BASE, HELLO, arrive, is_forwarded, is_still, left, why};
+use crate::Switch;
 use afdx_config::{ConfigFault, Tables, read_tables};
 use afdx_police::Reason;
 use std::alloc::{AllocError, Global};
@@ -26,35 +26,17 @@ fn base_switch(alloc: Global, tables: &Tables) -> Result<Switch, AllocError>
     }
 }
 
-/// A frame arrives at port 1; where memory is refused, it arrives again.
-fn arrive(switch: &mut Switch, time: u64, tag: u64, bytes: &[u8]) -> Result<Verdict, AllocError>
-    requires limit { time ≤ 1000032768000000 }
-    requires clock { last_time switch.old ≤ time }
-    requires quiet { IsQuiet switch.old time }
-    ensures clock { IfOk result (λ _. last_time switch.new ≡ time) }
-    ensures quiet { IsQuiet switch.new time }
-{
-    match switch.arrive(time, 1, tag, bytes) {
-        Ok(verdict) => Ok(verdict),
-        Err(AllocError) => switch.arrive(time, 1, tag, bytes),
-    }
-}
-
 #[test]
 fn a_refused_arrival_is_neither_charged_nor_forwarded(rt: HostRuntime) -> Result<(), Fail> {
     let tables = base_tables(rt.alloc())?;
-    let frame = match hello(rt.alloc()) {
-        Ok(frame) => frame,
-        Err(AllocError) => hello(rt.alloc())?,
-    };
     let mut switch = base_switch(rt.alloc(), &tables)?;
-    assert!(rt; is_forwarded(arrive(&mut switch, 0, 1, frame.as_slice())?));
+    assert!(rt; is_forwarded(arrive(&mut switch, 0, 1, 1, &HELLO)));
     assert_eq!(rt; left(&mut switch, 499999), Some((1, 6720, 3, false)));
     assert!(rt; is_still(&mut switch, 499999));
-    let early = arrive(&mut switch, 499999, 2, frame.as_slice())?;
-    assert_eq!(rt; early, Verdict::Dropped(Reason::OverRate));
+    let early = why(arrive(&mut switch, 499999, 1, 2, &HELLO));
+    assert_eq!(rt; early, Some(Reason::OverRate));
     assert!(rt; is_still(&mut switch, 500000));
-    assert!(rt; is_forwarded(arrive(&mut switch, 500000, 3, frame.as_slice())?));
+    assert!(rt; is_forwarded(arrive(&mut switch, 500000, 1, 3, &HELLO)));
     assert_eq!(rt; left(&mut switch, 1000000), Some((3, 506720, 3, false)));
     assert!(rt; is_still(&mut switch, 1000000));
     Ok(())

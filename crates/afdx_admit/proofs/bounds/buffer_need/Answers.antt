@@ -1,15 +1,18 @@
 use Rattle.std.proofs.Common.{sym, ap, ◌∙◌}
 use Rattle.std.specs.Option.{option_map_or}
-use Rattle.afdx_admit.specs.Lines.{output_to, buffer_need_of}
-use Rattle.afdx_admit.proofs.Outputs.{output_at-some, output_at-none}
+use Rattle.afdx_admit.specs.Lines.{loaded_output_to, buffer_need_of}
+use Rattle.afdx_admit.proofs.Outputs.{loaded_output_at-some, loaded_output_at-none}
 use Rattle.afdx_admit.proofs.bounds.buffer_need.Goals as goal
 
 pub returns-in-Some : goal.returns-in-Some
 returns-in-Some c =
     let s = c.sums_to.ensures.sums in
     let t = c.args.tables.now in
-    let is = output_at-some t c.args.port c.in-Some.system.0 s.row (sym c.in-Some.ensures.place) s.stands in
-    c.buffer_need.ensures (output_to t c.in-Some.system.0 s.row) s.sums ∙ sym (ap (λ o. option_map_or buffer_need_of o 0) is)
+    let is = loaded_output_at-some t c.args.port c.in-Some.system.0 s.row (sym c.in-Some.ensures.place) s.stands in
+    c.buffer_need.ensures (loaded_output_to t c.in-Some.system.0 s.row) s.sums
+    ∙ sym (ap (λ o. option_map_or buffer_need_of o 0) is)
 
 pub returns-in-None : goal.returns-in-None
-returns-in-None c = sym (ap (λ o. option_map_or buffer_need_of o 0) (output_at-none c.args.tables.now c.args.port (sym c.in-None.ensures.place)))
+returns-in-None c =
+    sym (ap (λ o. option_map_or buffer_need_of o 0)
+    (loaded_output_at-none c.args.tables.now c.args.port (sym c.in-None.ensures.place)))

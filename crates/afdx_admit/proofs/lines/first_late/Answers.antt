@@ -11,7 +11,9 @@ returns-then-is_late c =
     let links = c.args.tables.now.links in
     let row = link_row c.link_at-link.result.now in
     let passes : p row ≡ true = sym c.is_late.ensures ∙ c.if-is_late.true in
-    ap (option_map (λ l. l.vl)) (find_found p links c.loop-i.i row (find p links) c.link_at-link.ensures.row c.loop-i.invariant passes)
+    ap (option_map (λ l. l.vl))
+    (find_found p links c.loop-i.i row (find p links) c.link_at-link.ensures.row
+    c.loop-i.invariant passes)
     ∙ sym (first_late-rows c.args.system.0 c.args.class c.args.wait c.args.left links)
 
 pub loop-i-preserved : goal.loop-i-preserved
@@ -28,4 +30,5 @@ returns c =
     let links = c.args.tables.now.links in
     let past : length links ≤ c.loop-i.i = omega arith in
     let none : find p links ≡ None = sym c.loop-i.invariant ∙ ap (find p) (drop_of_length-le links past) in
-    ap (option_map (λ l. l.vl)) (sym none) ∙ sym (first_late-rows c.args.system.0 c.args.class c.args.wait c.args.left links)
+    ap (option_map (λ l. l.vl)) (sym none)
+    ∙ sym (first_late-rows c.args.system.0 c.args.class c.args.wait c.args.left links)

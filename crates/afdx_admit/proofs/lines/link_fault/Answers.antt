@@ -14,9 +14,11 @@ returns-then-link-needed-clause-fault c =
     let needed = slice_index c.args.jitters.now l.from in
     let same : needed ≡ jitter_at t l.from = c.requires.jitters.each l.from c.link-link.ensures.lawful_row.from in
     let late : nat_le (jitter_at t l.from) (1000 * l.jitter_us)
-    ≡ false = subst (λ n. nat_le n (1000 * l.jitter_us) ≡ false) same (le-false needed (1000 * l.jitter_us) (omega arith)) in
+    ≡ false = subst (λ n. nat_le n (1000 * l.jitter_us) ≡ false) same
+    (le-false needed (1000 * l.jitter_us) (omega arith)) in
     ap (λ n. Some (LinkJitter (record { 0 = l.vl }) n)) same
-    ∙ sym (first_false-stop (line (nat_le (jitter_at t l.from) (1000 * l.jitter_us)) (LinkJitter (record { 0 = l.vl }) (jitter_at t l.from)))
+    ∙ sym (first_false-stop (line (nat_le (jitter_at t l.from) (1000 * l.jitter_us))
+    (LinkJitter (record { 0 = l.vl }) (jitter_at t l.from)))
     (line (nat_le l.latency_us l.skew_us) (Skew (record { 0 = l.vl })) ∷ []) late)
     ∙ sym (ap (λ o. first_false (option_map_or (lines_of_link t) o [])) c.link-link.ensures.row)
 
@@ -28,10 +30,12 @@ returns-then-link-clause-fault c =
     let needed = slice_index c.args.jitters.now l.from in
     let same : needed ≡ jitter_at t l.from = c.requires.jitters.each l.from c.link-link.ensures.lawful_row.from in
     let soon : nat_le (jitter_at t l.from) (1000 * l.jitter_us)
-    ≡ true = subst (λ n. nat_le n (1000 * l.jitter_us) ≡ true) same (le-true needed (1000 * l.jitter_us) (omega arith)) in
+    ≡ true = subst (λ n. nat_le n (1000 * l.jitter_us) ≡ true) same
+    (le-true needed (1000 * l.jitter_us) (omega arith)) in
     let skewed : nat_le l.latency_us l.skew_us ≡ false = le-false l.latency_us l.skew_us (omega arith) in
     sym (first_false-stop (line (nat_le l.latency_us l.skew_us) (Skew (record { 0 = l.vl }))) [] skewed)
-    ∙ sym (first_false-skip (line (nat_le (jitter_at t l.from) (1000 * l.jitter_us)) (LinkJitter (record { 0 = l.vl }) (jitter_at t l.from)))
+    ∙ sym (first_false-skip (line (nat_le (jitter_at t l.from) (1000 * l.jitter_us))
+    (LinkJitter (record { 0 = l.vl }) (jitter_at t l.from)))
     (line (nat_le l.latency_us l.skew_us) (Skew (record { 0 = l.vl })) ∷ []) soon)
     ∙ sym (ap (λ o. first_false (option_map_or (lines_of_link t) o [])) c.link-link.ensures.row)
 
@@ -43,10 +47,12 @@ returns-else-link-clause-fault c =
     let needed = slice_index c.args.jitters.now l.from in
     let same : needed ≡ jitter_at t l.from = c.requires.jitters.each l.from c.link-link.ensures.lawful_row.from in
     let soon : nat_le (jitter_at t l.from) (1000 * l.jitter_us)
-    ≡ true = subst (λ n. nat_le n (1000 * l.jitter_us) ≡ true) same (le-true needed (1000 * l.jitter_us) (omega arith)) in
+    ≡ true = subst (λ n. nat_le n (1000 * l.jitter_us) ≡ true) same
+    (le-true needed (1000 * l.jitter_us) (omega arith)) in
     let even : nat_le l.latency_us l.skew_us ≡ true = le-true l.latency_us l.skew_us (omega arith) in
     sym first_false-nil
     ∙ sym (first_false-skip (line (nat_le l.latency_us l.skew_us) (Skew (record { 0 = l.vl }))) [] even)
-    ∙ sym (first_false-skip (line (nat_le (jitter_at t l.from) (1000 * l.jitter_us)) (LinkJitter (record { 0 = l.vl }) (jitter_at t l.from)))
+    ∙ sym (first_false-skip (line (nat_le (jitter_at t l.from) (1000 * l.jitter_us))
+    (LinkJitter (record { 0 = l.vl }) (jitter_at t l.from)))
     (line (nat_le l.latency_us l.skew_us) (Skew (record { 0 = l.vl })) ∷ []) soon)
     ∙ sym (ap (λ o. first_false (option_map_or (lines_of_link t) o [])) c.link-link.ensures.row)

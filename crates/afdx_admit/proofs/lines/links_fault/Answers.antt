@@ -4,12 +4,14 @@ use Rattle.afdx_admit.proofs.FirstFalse.{so_far-start, so_far-next, so_far-found
 use Rattle.afdx_admit.proofs.lines.links_fault.Goals as goal
 
 pub loop-i-init : goal.loop-i-init
-loop-i-init c = so_far-start (link_lines c.args.tables.now) 0 (length c.args.tables.now.links) (length c.args.tables.now.links) (omega arith)
+loop-i-init c = so_far-start (link_lines c.args.tables.now) 0 (length c.args.tables.now.links)
+    (length c.args.tables.now.links) (omega arith)
 
 pub returns-in-Some-clause-fault : goal.returns-in-Some-clause-fault
 returns-in-Some-clause-fault c =
     sym (so_far-found (link_lines c.args.tables.now) c.loop-i.i (length c.args.tables.now.links)
-    (first_false (each_from (link_lines c.args.tables.now) 0 (length c.args.tables.now.links))) c.in-Some.fault c.loop-i.invariant (omega arith)
+    (first_false (each_from (link_lines c.args.tables.now) 0 (length c.args.tables.now.links)))
+    c.in-Some.fault c.loop-i.invariant (omega arith)
     (sym c.in-Some.ensures.fault))
 
 pub loop-i-preserved : goal.loop-i-preserved
@@ -21,4 +23,5 @@ loop-i-preserved c =
 pub returns-clause-fault : goal.returns-clause-fault
 returns-clause-fault c =
     sym (so_far-end (link_lines c.args.tables.now) c.loop-i.i (length c.args.tables.now.links)
-    (first_false (each_from (link_lines c.args.tables.now) 0 (length c.args.tables.now.links))) c.loop-i.invariant (omega arith))
+    (first_false (each_from (link_lines c.args.tables.now) 0 (length c.args.tables.now.links)))
+    c.loop-i.invariant (omega arith))

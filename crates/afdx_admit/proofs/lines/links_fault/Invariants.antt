@@ -4,4 +4,5 @@ use Rattle.afdx_admit.proofs.FirstFalse.{IsSoFar}
 use Rattle.afdx_admit.proofs.lines.links_fault.Given as goal
 
 abbrev pub invariant-loop-i : goal.invariant-loop-i
-invariant-loop-i l = IsSoFar (link_lines l.tables) l.i (length l.tables.links) (first_false (each_from (link_lines l.tables) 0 (length l.tables.links)))
+invariant-loop-i l = IsSoFar (link_lines l.tables) l.i (length l.tables.links)
+    (first_false (each_from (link_lines l.tables) 0 (length l.tables.links)))

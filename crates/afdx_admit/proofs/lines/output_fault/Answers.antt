@@ -5,7 +5,7 @@ use Rattle.afdx_frame.specs.declared.link.Priority.TheVariants.{High, Low}
 use Rattle.afdx_frame.specs.Regulation.{byte_units}
 use Rattle.afdx_frame.specs.Flows.{of_class, burst, load, high_wait, low_wait, high_load}
 use Rattle.afdx_admit.specs.declared.fault.AdmitFault.TheVariants.{Buffer, HighLatency, LowLatency}
-use Rattle.afdx_admit.specs.Lines.{output_to}
+use Rattle.afdx_admit.specs.Lines.{loaded_output_to}
 use Rattle.afdx_admit.specs.Late.{first_late}
 use Rattle.afdx_admit.proofs.FirstFalse.{none_of}
 use Rattle.afdx_admit.proofs.OutputLemmas.{overload, short_buffer, high_late, highs_soon, left_some, rates_some}
@@ -14,30 +14,34 @@ use Rattle.afdx_admit.proofs.lines.output_fault.Goals as goal
 pub returns-then-sums-gt-BYTE_UNITS-clause-fault : goal.returns-then-sums-gt-BYTE_UNITS-clause-fault
 returns-then-sums-gt-BYTE_UNITS-clause-fault c =
     let s = c.sums_to-sums.ensures.sums in
-    let o = output_to c.args.tables.now c.args.system.0 s.row in
+    let o = loaded_output_to c.args.tables.now c.args.system.0 s.row in
     let over : byte_units < load o.byte_ns o.flows = omega (arith, s.sums.load) in
     record { row = s.row; stands = s.stands; first = sym (overload c.args.tables.now.buffer c.args.port o over) }
 
 pub returns-then-sums-buffer-clause-fault : goal.returns-then-sums-buffer-clause-fault
 returns-then-sums-buffer-clause-fault c =
     let s = c.sums_to-sums.ensures.sums in
-    let o = output_to c.args.tables.now c.args.system.0 s.row in
+    let o = loaded_output_to c.args.tables.now c.args.system.0 s.row in
     let fits : load o.byte_ns o.flows ≤ byte_units = omega (arith, s.sums.load) in
-    let short : c.args.tables.now.buffer * byte_units < burst o.flows = omega (arith, s.sums.burst, c.buffer.ensures.buffer) in
+    let short : c.args.tables.now.buffer * byte_units < burst o.flows =
+    omega (arith, s.sums.burst, c.buffer.ensures.buffer) in
     record {
       row = s.row;
       stands = s.stands;
-      first = ap (λ n. Some (Buffer c.args.port n)) (c.buffer_need.ensures o s.sums) ∙ sym (short_buffer c.args.tables.now.buffer c.args.port o fits short);
+      first = ap (λ n. Some (Buffer c.args.port n)) (c.buffer_need.ensures o s.sums)
+          ∙ sym (short_buffer c.args.tables.now.buffer c.args.port o fits short);
     }
 
 pub returns-in-Some-clause-fault : goal.returns-in-Some-clause-fault
 returns-in-Some-clause-fault c =
     let s = c.sums_to-sums.ensures.sums in
-    let o = output_to c.args.tables.now c.args.system.0 s.row in
+    let o = loaded_output_to c.args.tables.now c.args.system.0 s.row in
     let fits : load o.byte_ns o.flows ≤ byte_units = omega (arith, s.sums.load) in
-    let room : burst o.flows ≤ c.args.tables.now.buffer * byte_units = omega (arith, s.sums.burst, c.buffer.ensures.buffer) in
+    let room : burst o.flows ≤ c.args.tables.now.buffer * byte_units =
+    omega (arith, s.sums.burst, c.buffer.ensures.buffer) in
     let late : first_late (high_wait o.byte_ns o.flows) byte_units (of_class High o.flows) ≡ Some c.in-Some.vl.0 =
-    ap (λ w. first_late w byte_units (of_class High o.flows)) (sym (c.high_wait-wait.ensures o s.sums)) ∙ sym c.in-Some.ensures in
+    ap (λ w. first_late w byte_units (of_class High o.flows))
+    (sym (c.high_wait-wait.ensures o s.sums)) ∙ sym c.in-Some.ensures in
     record {
       row = s.row;
       stands = s.stands;
@@ -49,25 +53,29 @@ pub div_ceil-requires : goal.div_ceil-requires
 div_ceil-requires c =
     let s = c.sums_to-sums.ensures.sums in
     let t = c.args.tables.now in
-    let o = output_to t c.args.system.0 s.row in
+    let o = loaded_output_to t c.args.system.0 s.row in
     let fits : load o.byte_ns o.flows ≤ byte_units = omega (arith, s.sums.load) in
     let rates = rates_some (length t.systems) c.args.system.0 t.links c.buffer.ensures.lawful.links.each in
     let some : 1 ≤ o.byte_ns = omega (arith, s.some, s.sums.byte_ns) in
-    let left = left_some o.byte_ns some o.flows c.low_wait-wait.result (byte_units - c.sums_to-sums.result.high_load) c.in-Some-first_late.vl.0 rates fits
+    let left = left_some o.byte_ns some o.flows c.low_wait-wait.result
+    (byte_units - c.sums_to-sums.result.high_load) c.in-Some-first_late.vl.0 rates fits
     (sym c.in-Some-first_late.ensures) in
     omega (arith, left, s.sums.high_load)
 
 pub returns-in-Some-first_late-clause-fault : goal.returns-in-Some-first_late-clause-fault
 returns-in-Some-first_late-clause-fault c =
     let s = c.sums_to-sums.ensures.sums in
-    let o = output_to c.args.tables.now c.args.system.0 s.row in
+    let o = loaded_output_to c.args.tables.now c.args.system.0 s.row in
     let fits : load o.byte_ns o.flows ≤ byte_units = omega (arith, s.sums.load) in
-    let room : burst o.flows ≤ c.args.tables.now.buffer * byte_units = omega (arith, s.sums.burst, c.buffer.ensures.buffer) in
+    let room : burst o.flows ≤ c.args.tables.now.buffer * byte_units =
+    omega (arith, s.sums.burst, c.buffer.ensures.buffer) in
     let wait = c.low_wait-wait.ensures o s.sums in
     let soon : first_late (high_wait o.byte_ns o.flows) byte_units (of_class High o.flows) ≡ None =
-    ap (λ w. first_late w byte_units (of_class High o.flows)) (sym (c.high_wait-wait.ensures o s.sums)) ∙ sym c.first_late.ensures ∙ ap (option_map (λ v. v.0))
+    ap (λ w. first_late w byte_units (of_class High o.flows))
+    (sym (c.high_wait-wait.ensures o s.sums)) ∙ sym c.first_late.ensures ∙ ap (option_map (λ v. v.0))
     (none_of c.first_late.result c.in_default.not-Some) in
-    let late : first_late (low_wait o.byte_ns o.flows) (byte_units - high_load o.byte_ns o.flows) (of_class Low o.flows) ≡ Some c.in-Some-first_late.vl.0 =
+    let late : first_late (low_wait o.byte_ns o.flows) (byte_units - high_load o.byte_ns o.flows)
+    (of_class Low o.flows) ≡ Some c.in-Some-first_late.vl.0 =
     ap (λ w. first_late w (byte_units - high_load o.byte_ns o.flows) (of_class Low o.flows)) (sym wait)
     ∙ ap (λ h. first_late c.low_wait-wait.result (byte_units - h) (of_class Low o.flows)) (sym s.sums.high_load)
     ∙ sym c.in-Some-first_late.ensures in
@@ -85,14 +93,17 @@ returns-in-Some-first_late-clause-fault c =
 pub returns-in-None-clause-fault : goal.returns-in-None-clause-fault
 returns-in-None-clause-fault c =
     let s = c.sums_to-sums.ensures.sums in
-    let o = output_to c.args.tables.now c.args.system.0 s.row in
+    let o = loaded_output_to c.args.tables.now c.args.system.0 s.row in
     let fits : load o.byte_ns o.flows ≤ byte_units = omega (arith, s.sums.load) in
-    let room : burst o.flows ≤ c.args.tables.now.buffer * byte_units = omega (arith, s.sums.burst, c.buffer.ensures.buffer) in
+    let room : burst o.flows ≤ c.args.tables.now.buffer * byte_units =
+    omega (arith, s.sums.burst, c.buffer.ensures.buffer) in
     let wait = c.low_wait-wait.ensures o s.sums in
     let soon : first_late (high_wait o.byte_ns o.flows) byte_units (of_class High o.flows) ≡ None =
-    ap (λ w. first_late w byte_units (of_class High o.flows)) (sym (c.high_wait-wait.ensures o s.sums)) ∙ sym c.first_late.ensures ∙ ap (option_map (λ v. v.0))
+    ap (λ w. first_late w byte_units (of_class High o.flows))
+    (sym (c.high_wait-wait.ensures o s.sums)) ∙ sym c.first_late.ensures ∙ ap (option_map (λ v. v.0))
     (none_of c.first_late.result c.in_default.not-Some) in
-    let late : first_late (low_wait o.byte_ns o.flows) (byte_units - high_load o.byte_ns o.flows) (of_class Low o.flows) ≡ None =
+    let late : first_late (low_wait o.byte_ns o.flows) (byte_units - high_load o.byte_ns o.flows)
+    (of_class Low o.flows) ≡ None =
     ap (λ w. first_late w (byte_units - high_load o.byte_ns o.flows) (of_class Low o.flows)) (sym wait)
     ∙ ap (λ h. first_late c.low_wait-wait.result (byte_units - h) (of_class Low o.flows)) (sym s.sums.high_load)
     ∙ sym c.in-None.ensures in

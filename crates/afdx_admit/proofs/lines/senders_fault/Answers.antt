@@ -1,12 +1,15 @@
 use Rattle.std.proofs.Common.{◌≡◌, [], length, slice_index, Some, None, sym, ap, subst, ◌∙◌, arith, true, false, nat_le}
 use Rattle.afdx_admit.specs.declared.fault.AdmitFault.TheVariants.{SenderJitter}
 use Rattle.afdx_admit.specs.Lines.{line, sender_lines, first_false, each_from, jitter_at}
-use Rattle.afdx_admit.proofs.FirstFalse.{so_far-start, so_far-next, so_far-found, so_far-end, first_false-skip, first_false-stop, first_false-nil, le-true}
+use Rattle.afdx_admit.proofs.FirstFalse.{so_far-start, so_far-next, so_far-found, so_far-end}
+use Rattle.afdx_admit.proofs.FirstFalse.{first_false-skip, first_false-stop, first_false-nil}
+use Rattle.afdx_admit.proofs.FirstFalse.{le-true}
 use Rattle.afdx_admit.proofs.FirstFalse.{le-false}
 use Rattle.afdx_admit.proofs.lines.senders_fault.Goals as goal
 
 pub loop-i-init : goal.loop-i-init
-loop-i-init c = so_far-start (sender_lines c.args.tables.now) 0 (length c.args.tables.now.systems) (length c.args.tables.now.systems) (omega arith)
+loop-i-init c = so_far-start (sender_lines c.args.tables.now) 0 (length c.args.tables.now.systems)
+    (length c.args.tables.now.systems) (omega arith)
 
 pub returns-then-jitter-gt500000-clause-fault : goal.returns-then-jitter-gt500000-clause-fault
 unfolding sender_lines
@@ -15,11 +18,15 @@ returns-then-jitter-gt500000-clause-fault c =
     let i = c.loop-i.i in
     let jitter = slice_index c.args.jitters.now i in
     let same : jitter ≡ jitter_at t i = c.requires.each i (omega arith) in
-    let over : nat_le (jitter_at t i) 500000 ≡ false = subst (λ n. nat_le n 500000 ≡ false) same (le-false jitter 500000 (omega arith)) in
-    let found : first_false (sender_lines t i) ≡ Some (SenderJitter (record { 0 = i }) (jitter_at t i)) = first_false-stop (line (nat_le (jitter_at t i) 500000)
+    let over : nat_le (jitter_at t i) 500000 ≡ false =
+    subst (λ n. nat_le n 500000 ≡ false) same (le-false jitter 500000 (omega arith)) in
+    let found : first_false (sender_lines t i)
+    ≡ Some (SenderJitter (record { 0 = i }) (jitter_at t i)) =
+    first_false-stop (line (nat_le (jitter_at t i) 500000)
     (SenderJitter (record { 0 = i }) (jitter_at t i))) [] over in
     ap (λ n. Some (SenderJitter (record { 0 = i }) n)) same
-    ∙ sym (so_far-found (sender_lines t) i (length t.systems) (first_false (each_from (sender_lines t) 0 (length t.systems)))
+    ∙ sym (so_far-found (sender_lines t) i (length t.systems)
+    (first_false (each_from (sender_lines t) 0 (length t.systems)))
     (SenderJitter (record { 0 = i }) (jitter_at t i)) c.loop-i.invariant (omega arith) found)
 
 pub loop-i-preserved : goal.loop-i-preserved
@@ -29,12 +36,15 @@ loop-i-preserved c =
     let i = c.loop-i.i in
     let jitter = slice_index c.args.jitters.now i in
     let same : jitter ≡ jitter_at t i = c.requires.each i (omega arith) in
-    let within : nat_le (jitter_at t i) 500000 ≡ true = subst (λ n. nat_le n 500000 ≡ true) same (le-true jitter 500000 (omega arith)) in
+    let within : nat_le (jitter_at t i) 500000 ≡ true =
+    subst (λ n. nat_le n 500000 ≡ true) same (le-true jitter 500000 (omega arith)) in
     let none : first_false (sender_lines t i) ≡ None = first_false-skip (line (nat_le (jitter_at t i) 500000)
     (SenderJitter (record { 0 = i }) (jitter_at t i))) [] within ∙ first_false-nil in
-    so_far-next (sender_lines t) i (length t.systems) (first_false (each_from (sender_lines t) 0 (length t.systems))) c.loop-i.invariant none
+    so_far-next (sender_lines t) i (length t.systems)
+    (first_false (each_from (sender_lines t) 0 (length t.systems))) c.loop-i.invariant none
 
 pub returns-clause-fault : goal.returns-clause-fault
 returns-clause-fault c =
     sym (so_far-end (sender_lines c.args.tables.now) c.loop-i.i (length c.args.tables.now.systems)
-    (first_false (each_from (sender_lines c.args.tables.now) 0 (length c.args.tables.now.systems))) c.loop-i.invariant (omega arith))
+    (first_false (each_from (sender_lines c.args.tables.now) 0 (length c.args.tables.now.systems)))
+    c.loop-i.invariant (omega arith))

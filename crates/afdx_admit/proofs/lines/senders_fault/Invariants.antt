@@ -4,4 +4,5 @@ use Rattle.afdx_admit.proofs.FirstFalse.{IsSoFar}
 use Rattle.afdx_admit.proofs.lines.senders_fault.Given as goal
 
 abbrev pub invariant-loop-i : goal.invariant-loop-i
-invariant-loop-i l = IsSoFar (sender_lines l.tables) l.i (length l.tables.systems) (first_false (each_from (sender_lines l.tables) 0 (length l.tables.systems)))
+invariant-loop-i l = IsSoFar (sender_lines l.tables) l.i (length l.tables.systems)
+    (first_false (each_from (sender_lines l.tables) 0 (length l.tables.systems)))

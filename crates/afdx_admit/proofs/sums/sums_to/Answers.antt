@@ -2,10 +2,10 @@ use Rattle.std.proofs.Common.{◌≡◌, ◌≤◌, ◌+◌, take, length, List,
 use Rattle.std.proofs.lemmas.List.{take_all}
 use Rattle.afdx_config.specs.Rows.{link_row}
 use Rattle.afdx_frame.specs.Flows.{Flow}
-use Rattle.afdx_config.specs.Flows.{flow_of}
+use Rattle.afdx_config.specs.Flows.{flow_of_link}
 use Rattle.afdx_config.specs.Admission.{flows_to, byte_ns}
 use Rattle.afdx_admit.specs.declared.sums.Sums.{Sums}
-use Rattle.afdx_admit.specs.Lines.{Output}
+use Rattle.afdx_admit.specs.Lines.{LoadedOutput}
 use Rattle.afdx_admit.specs.Sums.{IsSums, IsSmall}
 use Rattle.afdx_admit.proofs.Pushed.{sums_push, small_push}
 use Rattle.afdx_admit.proofs.Small.{cap_small, load_small, smax_small}
@@ -24,7 +24,7 @@ wider few many r h s =
       longest_low = s.longest_low;
     }
 
-abbrev at : ℕ → List Flow → Output
+abbrev at : ℕ → List Flow → LoadedOutput
 at b fs = record { byte_ns = b; flows = fs }
 
 pub with-sums-requires-clause-small : goal.with-sums-requires-clause-small
@@ -42,17 +42,22 @@ loop-i-preserved c =
       | then-goes_to w ↦
           let lawful = c.link_at-link.ensures.lawful in
           let slow : old.byte_ns ≤ 800 = c.loop-i.invariant.small.byte_ns in
-          let more = with_flow_to links c.loop-i.i c.args.system.0 row c.link_at-link.ensures.row (sym c.goes_to.ensures ∙ w.if-goes_to.true) in
+          let more = with_flow_to links c.loop-i.i c.args.system.0 row c.link_at-link.ensures.row
+          (sym c.goes_to.ensures ∙ w.if-goes_to.true) in
           let sums = sums_push (at b (flows_to (take c.loop-i.i links) c.args.system.0))
-          (flow_of row) old w.with-sums.result c.loop-i.invariant.sums w.with-sums.ensures in
+          (flow_of_link row) old w.with-sums.result c.loop-i.invariant.sums w.with-sums.ensures in
           rw w.sums-is (record {
-            small = small_push c.loop-i.i (flow_of row) old w.with-sums.result c.loop-i.invariant.small w.with-sums.ensures (cap_small lawful.0 row lawful.1)
-                (load_small lawful.0 row lawful.1 old.byte_ns slow) (smax_small lawful.0 row lawful.1);
+            small = small_push c.loop-i.i (flow_of_link row) old w.with-sums.result
+                c.loop-i.invariant.small w.with-sums.ensures
+                (cap_small lawful.0 row lawful.1)
+                (load_small lawful.0 row lawful.1 old.byte_ns slow)
+                (smax_small lawful.0 row lawful.1);
             byte_ns = w.with-sums.ensures.byte_ns ∙ c.loop-i.invariant.byte_ns;
             sums = subst (λ fs. IsSums (at b fs) w.with-sums.result) (sym more) sums;
           })
       | else-goes_to w ↦
-          let less = without_flow_to links c.loop-i.i c.args.system.0 row c.link_at-link.ensures.row (sym c.goes_to.ensures ∙ w.if-goes_to.false) in
+          let less = without_flow_to links c.loop-i.i c.args.system.0 row c.link_at-link.ensures.row
+          (sym c.goes_to.ensures ∙ w.if-goes_to.false) in
           rw w.sums-is (record {
             small = wider c.loop-i.i (c.loop-i.i + 1) old (omega arith) c.loop-i.invariant.small;
             byte_ns = c.loop-i.invariant.byte_ns;
@@ -71,11 +76,13 @@ returns-clause-sums c =
     let s = at_place c.args.tables.now.systems c.args.system.0 c.requires in
     let past : length links ≤ c.loop-i.i = omega arith in
     let all : take c.loop-i.i links ≡ links = take_all c.loop-i.i links past in
-    let time : c.empty-sums.result.byte_ns ≡ byte_ns s.0 = c.empty-sums.ensures.sums.byte_ns ∙ c.byte_ns_of.ensures.time s.0 s.1 in
+    let time : c.empty-sums.result.byte_ns ≡ byte_ns s.0 = c.empty-sums.ensures.sums.byte_ns
+    ∙ c.byte_ns.ensures.time s.0 s.1 in
     record {
       row = s.0;
       stands = s.1;
-      some = omega (arith, c.loop-i.invariant.byte_ns, c.empty-sums.ensures.sums.byte_ns, c.byte_ns_of.ensures.some);
+      some = omega (arith, c.loop-i.invariant.byte_ns, c.empty-sums.ensures.sums.byte_ns, c.byte_ns.ensures.some);
       sums = subst (λ b. IsSums (at b (flows_to links c.args.system.0)) c.loop-i.sums) time
-          (subst (λ ls. IsSums (at c.empty-sums.result.byte_ns (flows_to ls c.args.system.0)) c.loop-i.sums) all c.loop-i.invariant.sums);
+          (subst (λ ls. IsSums (at c.empty-sums.result.byte_ns (flows_to ls c.args.system.0))
+          c.loop-i.sums) all c.loop-i.invariant.sums);
     }

@@ -7,5 +7,8 @@ abbrev pub invariant-loop-i : goal.invariant-loop-i
 invariant-loop-i l = record {
   small : IsSmall l.i l.sums;
   byte_ns : l.sums.byte_ns ≡ l.initial.sums.byte_ns;
-  sums : IsSums (record { byte_ns = l.initial.sums.byte_ns; flows = flows_to (take l.i l.tables.links) l.system.0 }) l.sums;
+  sums : IsSums (record {
+    byte_ns = l.initial.sums.byte_ns;
+    flows = flows_to (take l.i l.tables.links) l.system.0;
+  }) l.sums;
 }

@@ -8,11 +8,15 @@ use Rattle.afdx_config.proofs.keys.only.Goals as goal
 pub returns-then-are_among : goal.returns-then-are_among
 unfolding only
 returns-then-are_among c =
-    let known : are_among (lent_texts c.args.known.now) (table_view c.args.table.now) ≡ true = are_among-keys c.args.known.now c.args.table.now.entries ∙ sym c.are_among.ensures ∙ c.if-are_among.true in
+    let known : are_among (lent_texts c.args.known.now) (table_view c.args.table.now) ≡ true =
+    are_among-keys c.args.known.now c.args.table.now.entries ∙ sym c.are_among.ensures
+    ∙ c.if-are_among.true in
     rw known
 
 pub returns-else-are_among : goal.returns-else-are_among
 unfolding only
 returns-else-are_among c = λ _.
-    let known : are_among (lent_texts c.args.known.now) (table_view c.args.table.now) ≡ false = are_among-keys c.args.known.now c.args.table.now.entries ∙ sym c.are_among.ensures ∙ c.if-are_among.false in
+    let known : are_among (lent_texts c.args.known.now) (table_view c.args.table.now) ≡ false =
+    are_among-keys c.args.known.now c.args.table.now.entries ∙ sym c.are_among.ensures
+    ∙ c.if-are_among.false in
     rw known

@@ -7,4 +7,5 @@ use Rattle.afdx_config.proofs.Gathered.{with_front}
 use Rattle.afdx_config.proofs.keys.tables_in.Given as goal
 
 abbrev pub invariant-loop-item : goal.invariant-loop-item
-invariant-loop-item l = with_front (trees l.tables.items) (all_as as_table (items_view (drop l.item-index l.items))) ≡ all_as as_table (items_view l.items)
+invariant-loop-item l = with_front (trees l.tables.items)
+    (all_as as_table (items_view (drop l.item-index l.items))) ≡ all_as as_table (items_view l.items)

@@ -7,4 +7,5 @@ use Rattle.afdx_config.proofs.Gathered.{with_front}
 use Rattle.afdx_config.proofs.keys.texts_in.Given as goal
 
 abbrev pub invariant-loop-item : goal.invariant-loop-item
-invariant-loop-item l = with_front (lent_texts l.texts.items) (all_as as_str (items_view (drop l.item-index l.items))) ≡ all_as as_str (items_view l.items)
+invariant-loop-item l = with_front (lent_texts l.texts.items)
+    (all_as as_str (items_view (drop l.item-index l.items))) ≡ all_as as_str (items_view l.items)

@@ -5,12 +5,16 @@ use Rattle.afdx_config.proofs.Grown.{no_links, links_push}
 use Rattle.afdx_config.proofs.read_links.links_of.Goals as goal
 
 pub loop-table-init : goal.loop-table-init
-loop-table-init c = rw c.new-links.ensures (record { so_far = refl; count = refl; lawful = no_links (length c.args.systems.now) })
+loop-table-init c = rw c.new-links.ensures
+    (record { so_far = refl; count = refl; lawful = no_links (length c.args.systems.now) })
 
 pub loop-table-preserved : goal.loop-table-preserved
 loop-table-preserved c =
     record {
       so_far = grind (arith, common_steps);
       count = grind (arith, common_steps);
-      lawful = rw c.in_ok-push.ensures (links_push (length c.args.systems.now) c.loop-table.links (link_row c.in_ok-link.link) c.loop-table.invariant.lawful (omega arith) c.in_ok-link.ensures.lawful c.in_ok-link.ensures.fresh);
+      lawful = rw c.in_ok-push.ensures
+          (links_push (length c.args.systems.now) c.loop-table.links (link_row c.in_ok-link.link)
+          c.loop-table.invariant.lawful (omega arith) c.in_ok-link.ensures.lawful
+          c.in_ok-link.ensures.fresh);
     }

@@ -8,16 +8,24 @@ use Rattle.afdx_config.proofs.Grown.{no_ports, ports_push}
 use Rattle.afdx_config.proofs.read_ports.coms_of.Goals as goal
 
 pub loop-table-init : goal.loop-table-init
-loop-table-init c = rw c.new-coms.ensures.items (record { so_far = refl; count = refl; lawful = no_ports (length c.args.systems.now) c.args.links.now })
+loop-table-init c = rw c.new-coms.ensures.items
+    (record {
+      so_far = refl;
+      count = refl;
+      lawful = no_ports (length c.args.systems.now) c.args.links.now;
+    })
 
 pub loop-table-preserved : goal.loop-table-preserved
 loop-table-preserved c =
     let coms = c.loop-table.coms.items in
     let row = port_row c.in_ok-com.com in
-    let fresh : has_port (port_rows coms) row.system row.link row.udp ≡ false = rw c.deref.ensures.value at c.in_ok-com.ensures.fresh in
+    let fresh : has_port (port_rows coms) row.system row.link row.udp ≡ false =
+    rw c.deref.ensures.value at c.in_ok-com.ensures.fresh in
     let room : length (port_rows coms) < 4096 = omega (arith, length-map coms port_row) in
     record {
       so_far = grind (arith, common_steps);
       count = grind (arith, common_steps);
-      lawful = rw (c.in_ok-push.ensures.items, port_rows-push coms c.in_ok-com.com) (ports_push (length c.args.systems.now) c.args.links.now (port_rows coms) row c.loop-table.invariant.lawful room c.in_ok-com.ensures.lawful fresh);
+      lawful = rw (c.in_ok-push.ensures.items, port_rows-push coms c.in_ok-com.com)
+          (ports_push (length c.args.systems.now) c.args.links.now (port_rows coms) row
+          c.loop-table.invariant.lawful room c.in_ok-com.ensures.lawful fresh);
     }

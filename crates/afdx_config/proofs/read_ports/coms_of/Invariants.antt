@@ -7,7 +7,8 @@ use Rattle.afdx_config.proofs.read_ports.coms_of.Given as goal
 
 abbrev pub invariant-loop-table : goal.invariant-loop-table
 invariant-loop-table l = record {
-  so_far : each (port_at l.systems l.links) (port_rows l.coms.items) (trees (drop l.table-index l.tables)) ≡ each (port_at l.systems l.links) [] (trees l.tables);
+  so_far : each (port_at l.systems l.links) (port_rows l.coms.items)
+      (trees (drop l.table-index l.tables)) ≡ each (port_at l.systems l.links) [] (trees l.tables);
   count : length l.coms.items ≡ l.table-index;
   lawful : ArePorts (length l.systems) l.links (port_rows l.coms.items);
 }

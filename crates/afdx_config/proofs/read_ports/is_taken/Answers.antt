@@ -5,4 +5,6 @@ use Rattle.afdx_config.proofs.read_ports.is_taken.Goals as goal
 
 pub returns : goal.returns
 unfolding has_port
-returns c = c.has_port.ensures ∙ sym (any_ports (λ p. (nat_eq p.system c.args.system.0 && nat_eq p.link c.args.link.0) && nat_eq p.udp c.args.udp) c.args.before.now)
+returns c = c.has_port.ensures
+    ∙ sym (any_ports (λ p. (nat_eq p.system c.args.system.0 && nat_eq p.link c.args.link.0)
+    && nat_eq p.udp c.args.udp) c.args.before.now)

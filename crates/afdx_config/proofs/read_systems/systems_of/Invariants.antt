@@ -6,7 +6,8 @@ use Rattle.afdx_config.proofs.read_systems.systems_of.Given as goal
 
 abbrev pub invariant-loop-table : goal.invariant-loop-table
 invariant-loop-table l = record {
-  so_far : each (system_at l.profile) l.systems (trees (drop l.table-index l.tables)) ≡ each (system_at l.profile) [] (trees l.tables);
+  so_far : each (system_at l.profile) l.systems (trees (drop l.table-index l.tables))
+      ≡ each (system_at l.profile) [] (trees l.tables);
   count : length l.systems ≡ l.table-index;
   lawful : AreSystems l.profile l.systems;
 }

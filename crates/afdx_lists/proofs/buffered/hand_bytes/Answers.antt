@@ -15,5 +15,10 @@ loop-taken-preserved g c =
     let before = c.loop-taken.invariant in
     let fits = c.in-Ok.ensures.bound in
     let most = length-take (length xs - done) (drop done xs) in
-    let joined = ap (λ l. take done xs ++ l) (take-take n (length xs - done) (drop done xs) (omega arith)) ∙ sym (take-add done n xs) in
-    record { within = omega arith; sound = search rules; taken = subst (Appends _ _) joined (Appends-trans _ _ _ _ _ before.taken c.in-Ok.ensures.bytes) }
+    let joined = ap (λ l. take done xs ++ l)
+    (take-take n (length xs - done) (drop done xs) (omega arith)) ∙ sym (take-add done n xs) in
+    record {
+      within = omega arith;
+      sound = search rules;
+      taken = subst (Appends _ _) joined (Appends-trans _ _ _ _ _ before.taken c.in-Ok.ensures.bytes);
+    }

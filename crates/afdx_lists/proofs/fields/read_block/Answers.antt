@@ -11,8 +11,10 @@ pub values-preserved : goal.values-preserved
 values-preserved c = λ small.
     let one : c.digit_value-value.result ≤ 15 = omega (arith, small, c.max-greatest.ensures) in
     let was : c.values.greatest ≤ 15 = omega (arith, small, c.max-greatest.ensures) in
-    let is = digit_of (slice_index c.args.digits.now c.values.at) c.digit_value-value.result c.digit_value-value.ensures one in
-    more_values c.args.digits.now c.values.values c.values.at c.digit_value-value.result (omega arith) is one (c.values.invariant was)
+    let is = digit_of (slice_index c.args.digits.now c.values.at) c.digit_value-value.result
+    c.digit_value-value.ensures one in
+    more_values c.args.digits.now c.values.values c.values.at c.digit_value-value.result
+    (omega arith) is one (c.values.invariant was)
 
 pub bytes-init : goal.bytes-init
 bytes-init c = record {
@@ -31,7 +33,8 @@ bytes-preserved c = record {
       let at : ℕ = 2 * c.bytes.i in
       let high = c.bytes.invariant.values small (2 * c.bytes.i) (omega arith) in
       let low = c.bytes.invariant.values small (2 * c.bytes.i + 1) (omega arith) in
-      let byte = pair_of (slice_index digits at) (slice_index digits (at + 1)) (slice_index values at) (slice_index values (at + 1)) at high.0 low.0 high.1 low.1 in
+      let byte = pair_of (slice_index digits at) (slice_index digits (at + 1))
+      (slice_index values at) (slice_index values (at + 1)) at high.0 low.0 high.1 low.1 in
       decode_step digits c.bytes.bytes c.bytes.i _ (omega arith) (omega arith) byte (c.bytes.invariant.bytes small);
 }
 

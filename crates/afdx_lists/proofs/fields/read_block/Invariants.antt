@@ -10,5 +10,6 @@ invariant-values l = l.greatest ≤ 15 → AreValues l.digits l.values l.at
 abbrev pub invariant-bytes : goal.invariant-bytes
 invariant-bytes l = record {
   values : l.greatest ≤ 15 → AreValues l.digits l.values (length l.digits);
-  bytes : l.greatest ≤ 15 → decode_pairs 0 l.digits ≡ prepend (take l.i l.bytes) (decode_pairs (2 * l.i) (drop (2 * l.i) l.digits));
+  bytes : l.greatest ≤ 15 → decode_pairs 0 l.digits
+      ≡ prepend (take l.i l.bytes) (decode_pairs (2 * l.i) (drop (2 * l.i) l.digits));
 }

@@ -5,4 +5,5 @@ use Rattle.afdx_lists.proofs.fields.read_blocks.Given as goal
 
 abbrev pub invariant-loop-block : goal.invariant-loop-block
 invariant-loop-block l =
-    decode_pairs 0 l.digits ≡ prepend (take (l.block * 32) l.bytes) (decode_pairs (2 * (l.block * 32)) (drop (2 * (l.block * 32)) l.digits))
+    decode_pairs 0 l.digits ≡ prepend (take (l.block * 32) l.bytes)
+    (decode_pairs (2 * (l.block * 32)) (drop (2 * (l.block * 32)) l.digits))

@@ -9,14 +9,17 @@ unfolding frame_bytes
 returns-in_ok-seal-in-Good-clause-bytes c = search rules
 
 pub returns-in_ok-seal-in-Good-clause-sealed : goal.returns-in_ok-seal-in-Good-clause-sealed
-returns-in_ok-seal-in-Good-clause-sealed c = sym (sealing_is_computed.sealed c.args.frame.now.items) ∙ ap is_sealed (sym c.in_ok-seal-in-Good.ensures.computed)
+returns-in_ok-seal-in-Good-clause-sealed c = sym (sealing_is_computed.sealed c.args.frame.now.items)
+    ∙ ap is_sealed (sym c.in_ok-seal-in-Good.ensures.computed)
 
 pub returns-in_ok-seal_wrongly-in-Bad-clause-bytes : goal.returns-in_ok-seal_wrongly-in-Bad-clause-bytes
 unfolding frame_bytes
 returns-in_ok-seal_wrongly-in-Bad-clause-bytes c = search rules
 
 pub returns-in_ok-seal_wrongly-in-Bad-clause-sealed : goal.returns-in_ok-seal_wrongly-in-Bad-clause-sealed
-returns-in_ok-seal_wrongly-in-Bad-clause-sealed c = sym (sealing_is_computed.wrongly c.args.frame.now.items) ∙ ap is_sealed (sym c.in_ok-seal_wrongly-in-Bad.ensures)
+returns-in_ok-seal_wrongly-in-Bad-clause-sealed c =
+    sym (sealing_is_computed.wrongly c.args.frame.now.items)
+    ∙ ap is_sealed (sym c.in_ok-seal_wrongly-in-Bad.ensures)
 
 pub returns-in-Raw-clause-bytes : goal.returns-in-Raw-clause-bytes
 unfolding frame_bytes

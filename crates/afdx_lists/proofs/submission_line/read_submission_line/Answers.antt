@@ -1,26 +1,42 @@
-use Rattle.std.proofs.Common.{refl, sym, ◌∙◌, inl, inr}
+use Rattle.std.proofs.Common.{refl, sym, ap, ◌∙◌, inr, Err}
 use Rattle.afdx_lists.specs.SubmissionLines.{fields_of}
-use Rattle.afdx_lists.proofs.SubmissionLemmas.{line_says_nothing, says_bad_line, says_fault, says_submission}
+use Rattle.afdx_lists.proofs.SubmissionLemmas.{line_says_nothing, says_bad_line, says_first_fault}
+use Rattle.afdx_lists.proofs.SubmissionLemmas.{says_digits_fault, says_submission}
+use Rattle.afdx_lists.proofs.SpaceLemmas.{bytes_hold_none, first_of}
 use Rattle.afdx_lists.proofs.submission_line.read_submission_line.Goals as goal
 
 pub returns-then-says_nothing-clause-ok : goal.returns-then-says_nothing-clause-ok
-returns-then-says_nothing-clause-ok c = line_says_nothing _ _ c.trim_line-text.result.now c.trim_line-text.ensures (sym c.says_nothing.ensures ∙ c.if-says_nothing.true)
+returns-then-says_nothing-clause-ok c =
+    line_says_nothing _ _ c.trim_line-text.result.now c.trim_line-text.ensures
+    (sym c.says_nothing.ensures ∙ c.if-says_nothing.true)
 
 pub returns-in-None-clause-err : goal.returns-in-None-clause-err
-returns-in-None-clause-err c = inr (says_bad_line _ _ c.trim_line-text.result.now c.trim_line-text.ensures (sym c.says_nothing.ensures ∙ c.if-says_nothing.false) c.in-None.ensures)
+returns-in-None-clause-err c =
+    inr (says_bad_line _ _ c.trim_line-text.result.now c.trim_line-text.ensures
+    (sym c.says_nothing.ensures ∙ c.if-says_nothing.false) c.in-None.ensures)
 
 pub returns-in-Some-fault_of_time-clause-err : goal.returns-in-Some-fault_of_time-clause-err
-returns-in-Some-fault_of_time-clause-err c = inr (says_fault _ _ c.trim_line-text.result.now (fields_of c.in-Some.fields) c.in-Some-fault_of_time.fault c.trim_line-text.ensures (sym c.says_nothing.ensures ∙ c.if-says_nothing.false) c.in-Some.ensures c.requires c.in-Some-fault_of_time.ensures.fault)
+returns-in-Some-fault_of_time-clause-err c =
+    let says = says_first_fault _ _ c.trim_line-text.result.now (fields_of c.in-Some.fields)
+    c.in-Some-fault_of_time.fault c.trim_line-text.ensures
+    (sym c.says_nothing.ensures ∙ c.if-says_nothing.false) c.in-Some.ensures c.requires
+    c.in-Some-fault_of_time.ensures.fault in
+    inr (says ∙ ap Err (sym c.first_fault.ensures))
 
 pub returns-in-Err-clause-err : goal.returns-in-Err-clause-err
 returns-in-Err-clause-err c =
-    let says = says_submission _ _ c.trim_line-text.result.now (fields_of c.in-Some.fields) c.trim_line-text.ensures (sym c.says_nothing.ensures ∙ c.if-says_nothing.false) c.in-Some.ensures (sym c.in_default.is ∙ c.fault_of_time.ensures.fault) (c.fault_of_time.ensures.time c.in_default.is) in
-    elim c.in-Err.ensures.err [
-      | inl memory ↦ inl memory
-      | inr bad ↦ inr (says ∙ rw (bad.0, bad.1) refl)
-    ]
+    rw c.first_fault-in-Err.ensures
+    (says_digits_fault _ _ c.trim_line-text.result.now (fields_of c.in-Some.fields) _
+    c.trim_line-text.ensures (sym c.says_nothing.ensures ∙ c.if-says_nothing.false)
+    c.in-Some.ensures (sym c.in_default.is ∙ c.fault_of_time.ensures.fault)
+    (c.fault_of_time.ensures.time c.in_default.is) c.in-Err.ensures.err)
 
 pub returns-clause-ok : goal.returns-clause-ok
 returns-clause-ok c =
-    let says = says_submission _ _ c.trim_line-text.result.now (fields_of c.in-Some.fields) c.trim_line-text.ensures (sym c.says_nothing.ensures ∙ c.if-says_nothing.false) c.in-Some.ensures (sym c.in_default.is ∙ c.fault_of_time.ensures.fault) (c.fault_of_time.ensures.time c.in_default.is) in
+    let five = first_of _ (fields_of c.in-Some.fields) _
+    (bytes_hold_none c.in-Some.fields.digits.now _ c.in-Ok.ensures.ok) c.in-Some.ensures in
+    let says = says_submission _ _ c.trim_line-text.result.now (fields_of c.in-Some.fields)
+    c.trim_line-text.ensures (sym c.says_nothing.ensures ∙ c.if-says_nothing.false) five
+    (sym c.in_default.is ∙ c.fault_of_time.ensures.fault)
+    (c.fault_of_time.ensures.time c.in_default.is) in
     says ∙ rw c.in-Ok.ensures.ok refl

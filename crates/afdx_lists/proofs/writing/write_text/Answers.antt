@@ -11,15 +11,20 @@ loop-rest-init g c = record { sound = search rules; written = ([], refl, Appends
 pub returns-clause-written : goal.returns-clause-written
 returns-clause-written g c =
     let done = c.loop-rest.invariant.written in
-    let P : List ℕ → Type 0 = Appends (g.W.Write.contents c.args.output.now.inner) (g.W.Write.contents c.loop-rest.output.inner) in
-    let whole : done.0 ≡ c.args.text.now = grind (arith, common_steps, done.1, c.loop-rest-test.ensures, c.loop-rest-test.false) in
+    let P : List ℕ → Type 0 =
+    Appends (g.W.Write.contents c.args.output.now.inner)
+    (g.W.Write.contents c.loop-rest.output.inner) in
+    let whole : done.0 ≡ c.args.text.now =
+    grind (arith, common_steps, done.1, c.loop-rest-test.ensures, c.loop-rest-test.false) in
     subst P whole done.2
 
 pub loop-rest-preserved : goal.loop-rest-preserved
 loop-rest-preserved g c =
     let done = c.loop-rest.invariant.written in
     let bytes = c.in-Ok.ensures.bytes in
-    let back : take (length c.loop-rest.rest.now - c.in-Ok.count) (drop c.in-Ok.count c.loop-rest.rest.now) ≡ drop c.in-Ok.count c.loop-rest.rest.now = grind (arith, common_steps) in
+    let back : take (length c.loop-rest.rest.now - c.in-Ok.count)
+    (drop c.in-Ok.count c.loop-rest.rest.now) ≡ drop c.in-Ok.count c.loop-rest.rest.now =
+    grind (arith, common_steps) in
     record {
       sound = search rules;
       written = (

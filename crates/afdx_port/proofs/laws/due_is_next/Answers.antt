@@ -6,7 +6,11 @@ pub returns-clause-due : goal.returns-clause-due
 returns-clause-due g c = λ p h s st n. next_due g.T.HasLength.facts p h s st n
 
 pub returns-clause-quiet : goal.returns-clause-quiet
-returns-clause-quiet g c = λ p h t st. (λ quiet s n. quiet_after g.T.HasLength.facts p h t s st quiet n, λ after. after_quiet g.T.HasLength.facts p h t st after)
+returns-clause-quiet g c =
+    λ p h t st. (
+      λ quiet s n. quiet_after g.T.HasLength.facts p h t s st quiet n,
+      λ after. after_quiet g.T.HasLength.facts p h t st after,
+    )
 
 pub returns-clause-all_done : goal.returns-clause-all_done
 returns-clause-all_done g c = λ p h st none. all_done g.T.HasLength.facts p h st none

@@ -5,7 +5,9 @@ use Rattle.afdx_port.specs.ScheduleOf.{schedule_of}
 use Rattle.afdx_port.proofs.laws.taken_are_on_schedule.Goals as goal
 
 pub returns-clause-schedule : goal.returns-clause-schedule
-returns-clause-schedule g c = λ p h st. schedule_begins h.byte_ns h.entries (schedule_of h.byte_ns h.entries) h.taken (schedule_of_is h.byte_ns h.entries st.in_order) (taken_turns g.T.HasLength.facts p h st)
+returns-clause-schedule g c =
+    λ p h st. schedule_begins h.byte_ns h.entries (schedule_of h.byte_ns h.entries) h.taken
+    (schedule_of_is h.byte_ns h.entries st.in_order) (taken_turns g.T.HasLength.facts p h st)
 
 pub returns-clause-turns : goal.returns-clause-turns
 returns-clause-turns g c = λ p h st. taken_turns g.T.HasLength.facts p h st

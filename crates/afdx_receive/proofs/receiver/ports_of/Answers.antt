@@ -12,8 +12,10 @@ loop-index-preserved c =
     elim c.if-eq.branch [
       | then-eq+in_ok-insert w ↦
           rw w.ports-is (port_added c.args.system.0 ports c.loop-index.index port
-          (record { link = c.com-port.result.now.link; udp = c.com-port.result.now.udp }) c.loop-index.ports w.insert.new.self
-          c.loop-index.invariant c.com-port.ensures.row (sym c.eq.ensures ∙ w.if-eq.true) refl refl w.in_ok-insert.ensures.updates.0)
+          (record { link = c.com-port.result.now.link; udp = c.com-port.result.now.udp })
+          c.loop-index.ports w.insert.new.self
+          c.loop-index.invariant c.com-port.ensures.row (sym c.eq.ensures ∙ w.if-eq.true) refl refl
+          w.in_ok-insert.ensures.updates.0)
       | else-eq w ↦
           rw w.ports-is (port_passed c.args.system.0 ports c.loop-index.index port c.loop-index.ports
           c.loop-index.invariant c.com-port.ensures.row (sym c.eq.ensures ∙ w.if-eq.false))

@@ -7,4 +7,5 @@ use Rattle.afdx_receive.proofs.receiver.ports_of.Given as goal
 
 -- the ports so far
 abbrev pub invariant-loop-index : goal.invariant-loop-index
-invariant-loop-index l = (to : Endpoint) → bag.contains is_same_endpoint l.ports to ≡ has_port (take l.index l.tables.ports) l.system.0 to.link.0 to.udp
+invariant-loop-index l = (to : Endpoint) → bag.contains is_same_endpoint l.ports to
+    ≡ has_port (take l.index l.tables.ports) l.system.0 to.link.0 to.udp

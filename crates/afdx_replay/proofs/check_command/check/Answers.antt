@@ -4,7 +4,9 @@ use Rattle.afdx_replay.proofs.check_command.check.Goals as goal
 
 pub returns-in-Err-clause-refused : goal.returns-in-Err-clause-refused
 returns-in-Err-clause-refused g c = λ is. inr (record {
-  refuses = config-faulty _ _ _ _ _ (config-refused _ _ _ _ _ _ c.refuse_config.ensures.told c.refuse_config.ensures.memory c.in-Err.ensures.fault) is;
+  refuses = config-faulty _ _ _ _ _
+      (config-refused _ _ _ _ _ _ c.refuse_config.ensures.told c.refuse_config.ensures.memory
+      c.in-Err.ensures.fault) is;
   written = refl;
 })
 

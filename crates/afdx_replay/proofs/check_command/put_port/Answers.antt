@@ -6,7 +6,8 @@ use Rattle.afdx_replay.proofs.check_command.put_port.Goals as goal
 pub returns-in-Some : goal.returns-in-Some
 returns-in-Some c =
     let t = c.args.tables.now in
-    subst (λ (line : List ℕ). OnOk c.put_bounds.result (string_bytes c.put_bounds.new.text ≡ string_bytes c.args.text.now ++ line))
+    subst (λ (line : List ℕ). OnOk c.put_bounds.result
+    (string_bytes c.put_bounds.new.text ≡ string_bytes c.args.text.now ++ line))
     (line-used t c.args.port c.in-Some.ensures.known) (c.put_bounds.ensures t c.in-Some.ensures.bounds)
 
 pub returns-in-None : goal.returns-in-None

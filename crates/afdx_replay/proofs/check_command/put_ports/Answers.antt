@@ -7,5 +7,6 @@ loop-count-init c = port_lines-none c.args.tables.now (string_bytes c.args.text.
 
 pub loop-count-preserved : goal.loop-count-preserved
 loop-count-preserved c =
-    port_lines-next c.args.tables.now c.loop-count.count (string_bytes c.args.text.now) (string_bytes c.loop-count.text) _
+    port_lines-next c.args.tables.now c.loop-count.count (string_bytes c.args.text.now)
+    (string_bytes c.loop-count.text) _
     c.loop-count.invariant c.in_ok-put_port.ensures

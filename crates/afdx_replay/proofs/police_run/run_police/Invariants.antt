@@ -1,8 +1,9 @@
 use Rattle.std.proofs.Common.{◌≡◌, ◌≤◌, ◌+◌, ◌*◌, ◌-◌, ◌^◌, false}
 use Rattle.afdx_police.specs.RuleOf.{rule_of}
 use Rattle.afdx_lists.specs.Lines.{IsHonest, HasTaken, left, lines_taken, unread}
-use Rattle.afdx_replay.specs.Policers.{AreUntil, HasTold}
-use Rattle.afdx_replay.specs.Progress.{HasCome}
+use Rattle.afdx_replay.specs.Policers.{AreUntil}
+use Rattle.afdx_replay.proofs.Progress.{HasCome}
+use Rattle.afdx_replay.proofs.ToldLemmas.{HasTold}
 use Rattle.afdx_replay.proofs.police_run.run_police.Given as goal
 
 abbrev pub invariant-loop-text : goal.invariant-loop-text
@@ -15,8 +16,11 @@ invariant-loop-text g l = record {
   until : AreUntil l.policers l.latest;
   counted : l.accepted + l.dropped ≤ lines_taken l.reader;
   calls : l.input.calls ≤ l.fn.input.calls + 4201 * lines_taken l.reader;
-  taken : l.input.ended ≡ false → HasTaken (g.R.Read.remaining l.fn.input.inner) (g.R.Read.remaining l.input.inner) (unread l.reader) (lines_taken l.reader);
-  come : HasCome (HasTold (rule_of l.rule) l.policers l.accepted l.dropped (g.W.Write.contents l.fn.output.inner) (g.W.Write.contents l.output.inner))
+  taken : l.input.ended ≡ false
+      → HasTaken (g.R.Read.remaining l.fn.input.inner) (g.R.Read.remaining l.input.inner)
+      (unread l.reader) (lines_taken l.reader);
+  come : HasCome (HasTold (rule_of l.rule) l.policers l.accepted l.dropped
+      (g.W.Write.contents l.fn.output.inner) (g.W.Write.contents l.output.inner))
       l.latest (lines_taken l.reader) (g.R.Read.remaining l.fn.input.inner) (left g.R.Read.remaining l.reader l.input);
 }
 

@@ -4,7 +4,8 @@ use Rattle.afdx_replay.proofs.replay_command.replay.Goals as goal
 
 pub returns-in-Err-clause-replays : goal.returns-in-Err-clause-replays
 returns-in-Err-clause-replays g c =
-    let refused = config-refused _ _ _ _ _ _ c.refuse_config.ensures.told c.refuse_config.ensures.memory c.in-Err.ensures.fault in
+    let refused = config-refused _ _ _ _ _ _ c.refuse_config.ensures.told
+    c.refuse_config.ensures.memory c.in-Err.ensures.fault in
     inr (config-not-replayed _ _ _ _ c.args.admission _ _ c.without_counts.ensures.status refused, refl, refl)
 
 pub returns-in-Ok-admit-clause-replays : goal.returns-in-Ok-admit-clause-replays
@@ -29,6 +30,12 @@ returns-in-Ok-admit-clause-replays g c = inl (
 
 pub returns-in-Err-admit-clause-replays : goal.returns-in-Err-admit-clause-replays
 returns-in-Err-admit-clause-replays g c =
-    let refused = tables-refused _ _ _ _ _ c.in-Ok.tables c.in-Err-admit.tables c.in-Err-admit.fault c.in-Err-admit.ensures.handed_back c.in-Ok.ensures.ok
+    let refused = tables-refused _ _ _ _ _ c.in-Ok.tables c.in-Err-admit.tables c.in-Err-admit.fault
+    c.in-Err-admit.ensures.handed_back c.in-Ok.ensures.ok
     (λ a. cc (c.in-Err-admit.ensures.exact.1 a)) c.in-Err-admit.ensures.first c.refuse_tables.ensures in
-    inr (tables-not-replayed _ _ _ _ c.args.admission _ _ c.without_counts-in-Err-admit.ensures.status c.if-not-admission.false refused, refl, refl)
+    inr (
+      tables-not-replayed _ _ _ _ c.args.admission _ _
+          c.without_counts-in-Err-admit.ensures.status c.if-not-admission.false refused,
+      refl,
+      refl,
+    )

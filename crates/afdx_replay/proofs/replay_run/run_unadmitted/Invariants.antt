@@ -2,7 +2,7 @@ use Rattle.std.proofs.Common.{◌≡◌, ◌≤◌, ◌+◌, ◌*◌, ◌-◌, �
 use Rattle.afdx_lists.specs.Lines.{IsHonest, HasTaken, left, lines_taken, unread}
 use Rattle.afdx_network.specs.Network as network
 use Rattle.afdx_replay.specs.Replayed.{AreTold, HasRoom}
-use Rattle.afdx_replay.specs.Progress.{HasCome}
+use Rattle.afdx_replay.proofs.Progress.{HasCome}
 use Rattle.afdx_replay.proofs.replay_run.run_unadmitted.Given as goal
 
 abbrev pub invariant-loop-frame : goal.invariant-loop-frame
@@ -15,8 +15,11 @@ invariant-loop-frame g l = record {
   clock : network.IsUntil l.replay.network l.latest;
   room : HasRoom l.replay.counts (network.frames_held l.replay.network) (lines_taken l.reader);
   calls : l.input.calls ≤ l.fn.input.calls + 4201 * lines_taken l.reader;
-  taken : l.input.ended ≡ false → HasTaken (g.R.Read.remaining l.fn.input.inner) (g.R.Read.remaining l.input.inner) (unread l.reader) (lines_taken l.reader);
-  come : HasCome (AreTold l.tables l.replay.network l.replay.systems l.replay.counts (g.W.Write.contents l.fn.output.inner) (g.W.Write.contents l.output.inner))
+  taken : l.input.ended ≡ false
+      → HasTaken (g.R.Read.remaining l.fn.input.inner) (g.R.Read.remaining l.input.inner)
+      (unread l.reader) (lines_taken l.reader);
+  come : HasCome (AreTold l.tables l.replay.network l.replay.systems l.replay.counts
+      (g.W.Write.contents l.fn.output.inner) (g.W.Write.contents l.output.inner))
       l.latest (lines_taken l.reader) (g.R.Read.remaining l.fn.input.inner) (left g.R.Read.remaining l.reader l.input);
 }
 

@@ -23,22 +23,31 @@ made c = record {
   ready = None;
 }
 
-is_new : (c : goal.In_ok-output) (s : SystemRow) → slice_get c.args.tables.now.systems c.args.system.0 ≡ Some s → IsNew (made c) c.args.tables.now c.args.system.0 s
+is_new : (c : goal.In_ok-output) (s : SystemRow)
+    → slice_get c.args.tables.now.systems c.args.system.0 ≡ Some s
+    → IsNew (made c) c.args.tables.now c.args.system.0 s
 unfolding made
 is_new c s at =
-    let same : system_row c.system-row.result.now ≡ s = same_get c.args.tables.now.systems c.args.system.0 (system_row c.system-row.result.now) s
-    (subst (λ (t : Rows). slice_get t.systems c.args.system.0 ≡ Some (system_row c.system-row.result.now)) c.tables-tables.ensures.tables c.system-row.ensures.row) at in
+    let same : system_row c.system-row.result.now ≡ s =
+    same_get c.args.tables.now.systems c.args.system.0 (system_row c.system-row.result.now) s
+    (subst (λ (t : Rows). slice_get t.systems c.args.system.0
+    ≡ Some (system_row c.system-row.result.now)) c.tables-tables.ensures.tables
+    c.system-row.ensures.row) at in
     subst (λ (z : SystemRow). IsNew (made c) c.args.tables.now c.args.system.0 z) same (record {
       system_id = refl;
       partition = refl;
       clock = refl;
       ready = refl;
-      lines = subst (λ (t : Rows). AreNewLines (links_from t.links c.args.system.0) c.in_ok-lines.lines.items) c.tables-tables.ensures.tables c.in_ok-lines.ensures.new;
+      lines = subst (λ (t : Rows). AreNewLines (links_from t.links c.args.system.0)
+          c.in_ok-lines.lines.items) c.tables-tables.ensures.tables c.in_ok-lines.ensures.new;
       place_count = (let ok = c.in_ok-places.places.ok.0 in let n = c.in_ok-places.ensures.count in omega arith);
       places = c.in_ok-places.ensures.each;
       played = c.in_ok-agenda.ensures.played;
-      agenda = c.in_ok-agenda.ensures.none ∙ ap (λ n. replicate n None) (let ok = c.in_ok-lines.lines.ok.0 in let n = c.len.ensures in omega arith);
-      agenda_count = c.in_ok-agenda.ensures.count ∙ (let ok = c.in_ok-lines.lines.ok.0 in let n = c.len.ensures in omega arith);
+      agenda = c.in_ok-agenda.ensures.none
+          ∙ ap (λ n. replicate n None) (let ok = c.in_ok-lines.lines.ok.0 in let n = c.len.ensures
+          in omega arith);
+      agenda_count = c.in_ok-agenda.ensures.count
+          ∙ (let ok = c.in_ok-lines.lines.ok.0 in let n = c.len.ensures in omega arith);
       output = c.in_ok-output.ensures.stands;
       port_clock = c.in_ok-output.ensures.clock;
       empty = c.in_ok-output.ensures.held;
@@ -47,16 +56,24 @@ is_new c s at =
 pub returns-clause-stands : goal.returns-clause-stands
 unfolding made
 returns-clause-stands c = λ s at.
-    let lawful : IsLawful c.args.tables.now = subst IsLawful c.tables-tables.ensures.tables c.system-row.ensures.lawful in
-    stands_new (made c) c.args.tables.now c.args.system.0 s (are_sent c.args.tables.now c.args.system.0 s c.tables_are_served.ensures.senders lawful c.tables-tables.ensures.admitted at) (is_new c s at)
+    let lawful : IsLawful c.args.tables.now =
+    subst IsLawful c.tables-tables.ensures.tables c.system-row.ensures.lawful in
+    stands_new (made c) c.args.tables.now c.args.system.0 s
+    (are_sent c.args.tables.now c.args.system.0 s c.tables_are_served.ensures.senders lawful
+    c.tables-tables.ensures.admitted at) (is_new c s at)
 
 pub returns-clause-sound : goal.returns-clause-sound
-returns-clause-sound c = let r = at_place c.args.tables.now.systems c.args.system.0 c.requires.system in (no_calls c.args.tables.now c.args.system.0 r.0, returns-clause-stands c r.0 r.1)
+returns-clause-sound c = let r =
+    at_place c.args.tables.now.systems c.args.system.0 c.requires.system in
+    (no_calls c.args.tables.now c.args.system.0 r.0, returns-clause-stands c r.0 r.1)
 
 pub returns-clause-quiet : goal.returns-clause-quiet
 unfolding made
-returns-clause-quiet c = λ t. let r = at_place c.args.tables.now.systems c.args.system.0 c.requires.system in quiet_new (made c) c.args.tables.now c.args.system.0 r.0 (returns-clause-stands c r.0 r.1) t
+returns-clause-quiet c = λ t. let r =
+    at_place c.args.tables.now.systems c.args.system.0 c.requires.system in
+    quiet_new (made c) c.args.tables.now c.args.system.0 r.0 (returns-clause-stands c r.0 r.1) t
 
 pub returns-clause-held : goal.returns-clause-held
 unfolding made
-returns-clause-held c = let r = at_place c.args.tables.now.systems c.args.system.0 c.requires.system in held_new (made c) c.args.tables.now c.args.system.0 r.0 (is_new c r.0 r.1)
+returns-clause-held c = let r = at_place c.args.tables.now.systems c.args.system.0 c.requires.system
+    in held_new (made c) c.args.tables.now c.args.system.0 r.0 (is_new c r.0 r.1)

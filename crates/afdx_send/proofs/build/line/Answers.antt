@@ -5,7 +5,15 @@ use Rattle.afdx_send.proofs.build.line.Goals as goal
 
 pub returns : goal.returns
 returns c = record {
-  stands = new_line (link_row c.args.link.now) _ c.requires.0 (record { vl = refl; least = refl; longest = refl; bag = c.in_ok-new.ensures.made.0; subs = c.in_ok-new.ensures.made.1 }) c.requires.1 c.in_ok-new.ensures.stands c.in_ok-new.ensures.empty refl;
+  stands = new_line (link_row c.args.link.now) _ c.requires.0
+      (record {
+        vl = refl;
+        least = refl;
+        longest = refl;
+        bag = c.in_ok-new.ensures.made.0;
+        subs = c.in_ok-new.ensures.made.1;
+      }) c.requires.1 c.in_ok-new.ensures.stands
+      c.in_ok-new.ensures.empty refl;
   next = c.in_ok-new.ensures.next;
   held = c.in_ok-new.ensures.empty;
 }

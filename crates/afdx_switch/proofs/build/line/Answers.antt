@@ -11,8 +11,15 @@ pub returns : goal.returns
 returns c l at =
     let here = c.link-link.ensures.row in
     let same : link_row c.link-link.result.now ≡ l = cc in
-    let rule = c.in-Some.ensures.given ∙ sym (rule-is c.args.tables.now (link_row c.link-link.result.now) (system_row c.system-sender.result.now) c.system-sender.ensures.row) in
-    let new : Line = record { account = c.new-2.result; priority = c.link-link.result.now.priority; longest_wait = c.longest_wait.result; goes = c.ports_of.result } in
+    let rule = c.in-Some.ensures.given
+    ∙ sym (rule-is c.args.tables.now (link_row c.link-link.result.now)
+    (system_row c.system-sender.result.now) c.system-sender.ensures.row) in
+    let new : Line = record {
+      account = c.new-2.result;
+      priority = c.link-link.result.now.priority;
+      longest_wait = c.longest_wait.result;
+      goes = c.ports_of.result;
+    } in
     subst (λ (m : LinkRow). IsNewLine (row_of c.args.tables.now m) new) same
     (record {
       is = λ side. record {
@@ -21,5 +28,9 @@ returns c l at =
         longest_wait = c.longest_wait.ensures.is;
         goes = λ place below. c.ports_of.ensures.each (link_row c.link-link.result.now) place here below;
       };
-      sound = record { in_time = omega (arith, c.new-2.ensures.time); wait = c.longest_wait.ensures.small; goes = c.ports_of.ensures.places };
+      sound = record {
+        in_time = omega (arith, c.new-2.ensures.time);
+        wait = c.longest_wait.ensures.small;
+        goes = c.ports_of.ensures.places;
+      };
     })

@@ -7,4 +7,6 @@ use Rattle.afdx_switch.proofs.NewLemmas.{Gathered}
 use Rattle.afdx_switch.proofs.build.lines.Given as goal
 
 abbrev pub invariant-loop-place : goal.invariant-loop-place
-invariant-loop-place l = Gathered (λ i line. (r : LinkRow) → slice_get l.tables.links i ≡ Some r → IsNewLine (row_of l.tables r) line) l.place l.lines.items
+invariant-loop-place l =
+    Gathered (λ i line. (r : LinkRow) → slice_get l.tables.links i ≡ Some r
+    → IsNewLine (row_of l.tables r) line) l.place l.lines.items

@@ -9,8 +9,19 @@ use Rattle.afdx_switch.proofs.build.ports.Goals as goal
 pub loop-place-preserved : goal.loop-place-preserved
 loop-place-preserved c =
     let p = c.in_ok-new.field-0 in
-    let stands : queue.StandsFor facts p (queue.no_calls (byte_ns_at c.args.tables.now (c.loop-place.place + 1)) (buffer_at c.args.tables.now (c.loop-place.place + 1))) =
-    subst (λ (n : ℕ). queue.StandsFor facts p (queue.no_calls n (buffer_at c.args.tables.now (c.loop-place.place + 1)))) c.byte_ns.ensures.is
-    (subst (λ (b : ℕ). queue.StandsFor facts p (queue.no_calls c.byte_ns.result b)) c.buffer.ensures.is c.in_ok-new.ensures.stands) in
-    rw c.in_ok-push.ensures.items (gathered-push (λ i q. IsNewPort c.args.tables.now i q) c.loop-place.place c.loop-place.ports.items p c.loop-place.invariant
-    (record { stands = stands; quiet = c.in_ok-new.ensures.quiet; empty = c.in_ok-new.ensures.held; clock = c.in_ok-new.ensures.clock }))
+    let stands : queue.StandsFor facts p
+    (queue.no_calls (byte_ns_at c.args.tables.now (c.loop-place.place + 1))
+    (buffer_at c.args.tables.now (c.loop-place.place + 1))) =
+    subst (λ (n : ℕ). queue.StandsFor facts p
+    (queue.no_calls n (buffer_at c.args.tables.now (c.loop-place.place + 1)))) c.byte_ns.ensures.is
+    (subst (λ (b : ℕ). queue.StandsFor facts p (queue.no_calls c.byte_ns.result b))
+    c.buffer.ensures.is c.in_ok-new.ensures.stands) in
+    rw c.in_ok-push.ensures.items
+    (gathered-push (λ i q. IsNewPort c.args.tables.now i q) c.loop-place.place
+    c.loop-place.ports.items p c.loop-place.invariant
+    (record {
+      stands = stands;
+      quiet = c.in_ok-new.ensures.quiet;
+      empty = c.in_ok-new.ensures.held;
+      clock = c.in_ok-new.ensures.clock;
+    }))

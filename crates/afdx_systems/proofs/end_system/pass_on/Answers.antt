@@ -4,48 +4,62 @@ use Rattle.afdx_systems.proofs.end_system.pass_on.Goals as goal
 
 pub returns-in-Some-clause-read : goal.returns-in-Some-clause-read
 returns-in-Some-clause-read c =
-    let put = put_at c.args.ports.now c.args.place c.args.time c.args.message.now c.put.new.self c.requires c.in-Ok.ensures.ok in
-    let m = sampled _ _ _ _ _ put (record { time = c.in-Some.field-0-0; bytes = c.in-Some.read.now }) c.in-Some.ensures.sample in
+    let put = put_at c.args.ports.now c.args.place c.args.time c.args.message.now c.put.new.self
+    c.requires c.in-Ok.ensures.ok in
+    let m = sampled _ _ _ _ _ put
+    (record { time = c.in-Some.field-0-0; bytes = c.in-Some.read.now }) c.in-Some.ensures.sample in
     m.0.read
 
 pub returns-in-Some-clause-found : goal.returns-in-Some-clause-found
 returns-in-Some-clause-found c =
-    let put = put_at c.args.ports.now c.args.place c.args.time c.args.message.now c.put.new.self c.requires c.in-Ok.ensures.ok in
-    let m = sampled _ _ _ _ _ put (record { time = c.in-Some.field-0-0; bytes = c.in-Some.read.now }) c.in-Some.ensures.sample in
+    let put = put_at c.args.ports.now c.args.place c.args.time c.args.message.now c.put.new.self
+    c.requires c.in-Ok.ensures.ok in
+    let m = sampled _ _ _ _ _ put
+    (record { time = c.in-Some.field-0-0; bytes = c.in-Some.read.now }) c.in-Some.ensures.sample in
     m.0.found
 
 pub returns-in-Some-clause-line : goal.returns-in-Some-clause-line
 returns-in-Some-clause-line c =
-    let put = put_at c.args.ports.now c.args.place c.args.time c.args.message.now c.put.new.self c.requires c.in-Ok.ensures.ok in
-    let m = sampled _ _ _ _ _ put (record { time = c.in-Some.field-0-0; bytes = c.in-Some.read.now }) c.in-Some.ensures.sample in
+    let put = put_at c.args.ports.now c.args.place c.args.time c.args.message.now c.put.new.self
+    c.requires c.in-Ok.ensures.ok in
+    let m = sampled _ _ _ _ _ put
+    (record { time = c.in-Some.field-0-0; bytes = c.in-Some.read.now }) c.in-Some.ensures.sample in
     λ _. line_of_same _ _ _ _ _ _ _ _ m.1 c.put_message.ensures
 
 pub returns-in-Some-take_queued-clause-read : goal.returns-in-Some-take_queued-clause-read
 returns-in-Some-take_queued-clause-read c =
-    let put = put_at c.args.ports.now c.args.place c.args.time c.args.message.now c.put.new.self c.requires c.in-Ok.ensures.ok in
-    (taken _ _ _ _ _ put c.take_queued.new.self c.in-Some-take_queued.ensures.rest).read
+    let put = put_at c.args.ports.now c.args.place c.args.time c.args.message.now c.put.new.self
+    c.requires c.in-Ok.ensures.ok in
+    rw c.give_back.ensures (taken _ _ _ _ _ put c.take_queued.new.self c.in-Some-take_queued.ensures.rest).read
 
 pub returns-in-Some-take_queued-clause-found : goal.returns-in-Some-take_queued-clause-found
 returns-in-Some-take_queued-clause-found c =
-    let put = put_at c.args.ports.now c.args.place c.args.time c.args.message.now c.put.new.self c.requires c.in-Ok.ensures.ok in
-    (taken _ _ _ _ _ put c.take_queued.new.self c.in-Some-take_queued.ensures.rest).found
+    let put = put_at c.args.ports.now c.args.place c.args.time c.args.message.now c.put.new.self
+    c.requires c.in-Ok.ensures.ok in
+    rw c.give_back.ensures (taken _ _ _ _ _ put c.take_queued.new.self c.in-Some-take_queued.ensures.rest).found
 
 pub returns-in-Some-take_queued-clause-line : goal.returns-in-Some-take_queued-clause-line
 returns-in-Some-take_queued-clause-line c =
-    let put = put_at c.args.ports.now c.args.place c.args.time c.args.message.now c.put.new.self c.requires c.in-Ok.ensures.ok in
-    λ all. line_of_same _ _ _ _ _ _ _ _ (c.as_slice.ensures.value ∙ taken_message _ _ _ _ _ put all c.in-Some-take_queued.read.items c.in-Some-take_queued.ensures.first) c.put_message-in-Some-take_queued.ensures
+    let put = put_at c.args.ports.now c.args.place c.args.time c.args.message.now c.put.new.self
+    c.requires c.in-Ok.ensures.ok in
+    λ all. line_of_same _ _ _ _ _ _ _ _
+    (c.as_slice.ensures.value ∙ taken_message _ _ _ _ _ put all c.in-Some-take_queued.read.items
+    c.in-Some-take_queued.ensures.first) c.put_message-told.ensures
 
 pub returns-in-None-clause-read : goal.returns-in-None-clause-read
 returns-in-None-clause-read c =
-    let put = put_at c.args.ports.now c.args.place c.args.time c.args.message.now c.put.new.self c.requires c.in-Ok.ensures.ok in
+    let put = put_at c.args.ports.now c.args.place c.args.time c.args.message.now c.put.new.self
+    c.requires c.in-Ok.ensures.ok in
     (taken _ _ _ _ _ put c.take_queued.new.self c.in-None.ensures.rest).read
 
 pub returns-in-None-clause-found : goal.returns-in-None-clause-found
 returns-in-None-clause-found c =
-    let put = put_at c.args.ports.now c.args.place c.args.time c.args.message.now c.put.new.self c.requires c.in-Ok.ensures.ok in
+    let put = put_at c.args.ports.now c.args.place c.args.time c.args.message.now c.put.new.self
+    c.requires c.in-Ok.ensures.ok in
     (taken _ _ _ _ _ put c.take_queued.new.self c.in-None.ensures.rest).found
 
 pub returns-in-None-clause-line : goal.returns-in-None-clause-line
 returns-in-None-clause-line c =
-    let put = put_at c.args.ports.now c.args.place c.args.time c.args.message.now c.put.new.self c.requires c.in-Ok.ensures.ok in
+    let put = put_at c.args.ports.now c.args.place c.args.time c.args.message.now c.put.new.self
+    c.requires c.in-Ok.ensures.ok in
     λ all. absurd (none_left _ _ _ _ _ put all c.in_default.ensures.sample c.in-None.ensures.first)

@@ -16,17 +16,22 @@ loop-index-preserved c =
           let own : nat_eq row.system system ≡ true = sym c.eq.ensures ∙ w.if-eq.true in
           let count : w.len.result ≡ length (ports_at_first system
           (take c.loop-index.index rows)) = w.len.ensures ∙ c.loop-index.ports.ok.0 ∙ ap length before in
-          let now : w.push.new.self.items ≡ ports_at_first system (take c.loop-index.index rows) ++ port_at_first row ∷ []
+          let now : w.push.new.self.items ≡ ports_at_first system (take c.loop-index.index rows)
+          ++ port_at_first row ∷ []
           = w.in_ok-push.ensures.items ∙ rw (before, w.in_ok-new.ensures) refl in
           record {
-            so_far = rw (w.ports-is, now) (sym (listed_added system rows c.loop-index.index row c.com-row.ensures.row own));
-            places = rw (w.places-is, w.ports-is, now) (places_added system rows c.loop-index.index row c.loop-index.places w.insert.new.self
-                c.com-row.ensures.lawful.ports.triples c.com-row.ensures.row own (rw before at c.loop-index.invariant.places)
+            so_far = rw (w.ports-is, now)
+                (sym (listed_added system rows c.loop-index.index row c.com-row.ensures.row own));
+            places = rw (w.places-is, w.ports-is, now)
+                (places_added system rows c.loop-index.index row c.loop-index.places w.insert.new.self
+                c.com-row.ensures.lawful.ports.triples c.com-row.ensures.row own
+                (rw before at c.loop-index.invariant.places)
                 (rw count at w.in_ok-insert.ensures.updates.0));
           }
       | else-eq w ↦ record {
         so_far = rw w.ports-is (c.loop-index.invariant.so_far ∙ sym
-            (listed_passed system rows c.loop-index.index row c.com-row.ensures.row (sym c.eq.ensures ∙ w.if-eq.false)));
+            (listed_passed system rows c.loop-index.index row c.com-row.ensures.row
+            (sym c.eq.ensures ∙ w.if-eq.false)));
         places = rw (w.places-is, w.ports-is) c.loop-index.invariant.places;
       }
     ]

@@ -1,4 +1,5 @@
-use Rattle.std.proofs.Common.{◌≡◌, Bool, true, false, ℕ, Some, None, cond, length, slice_get, find, position, nat_eq, nat_lt, refl, sym, ap, ◌∙◌, List}
+use Rattle.std.proofs.Common.{◌≡◌, Bool, true, false, ℕ, Some, None, cond, length, slice_get, find}
+use Rattle.std.proofs.Common.{position, nat_eq, nat_lt, refl, sym, ap, ◌∙◌, List}
 use Rattle.std.specs.List.{position_or_len}
 use Rattle.std.specs.Option.{option_map_or}
 use Rattle.std.proofs.lemmas.List.Folds.{find_at}
@@ -8,14 +9,18 @@ use Rattle.afdx_config.specs.Rows.{LinkRow, is_to}
 use Rattle.afdx_config.specs.Reading.{goes_to, link_of}
 use Rattle.afdx_config.proofs.links.Links.goes_to.Goals as goal
 
-found_at : (p : LinkRow → Bool) (ls : List LinkRow) (i : ℕ) (b : Bool) → nat_lt (position_or_len p ls) (length ls) ≡ b → cond b (Some (position_or_len p ls)) None ≡ Some i → find p ls ≡ slice_get ls i
+found_at : (p : LinkRow → Bool) (ls : List LinkRow) (i : ℕ) (b : Bool)
+    → nat_lt (position_or_len p ls) (length ls) ≡ b → cond b (Some (position_or_len p ls)) None
+    ≡ Some i → find p ls ≡ slice_get ls i
 found_at p ls i true within e = find_at p ls ∙ ap (slice_get ls) (by (position_or_len p ls) e)
   where
     by : (n : ℕ) → Some n ≡ Some i → n ≡ i
     by n e = cc
 found_at p ls i false within e = absurd cc
 
-absent : (p : LinkRow → Bool) (ls : List LinkRow) (b : Bool) → nat_lt (position_or_len p ls) (length ls) ≡ b → cond b (Some (position_or_len p ls)) None ≡ None → find p ls ≡ None
+absent : (p : LinkRow → Bool) (ls : List LinkRow) (b : Bool)
+    → nat_lt (position_or_len p ls) (length ls) ≡ b → cond b (Some (position_or_len p ls)) None
+    ≡ None → find p ls ≡ None
 absent p ls true within e = absurd cc
 absent p ls false within e = find_at p ls ∙ slice_get_past ls (position_or_len p ls) (ltb-false _ _ within)
 
@@ -25,7 +30,8 @@ returns-in-Some c =
     let p : LinkRow → Bool = λ l. nat_eq c.args.vl.0 l.vl in
     let ls : List LinkRow = c.args.self.now in
     let at : position p ls ≡ Some c.in-Some.index = sym c.in-Some.ensures.place in
-    c.goes_to.ensures ∙ ap (λ o. option_map_or (is_to c.args.system.0) o false) (sym (found_at p ls c.in-Some.index _ refl at ∙ c.at.ensures))
+    c.goes_to.ensures ∙ ap (λ o. option_map_or (is_to c.args.system.0) o false)
+    (sym (found_at p ls c.in-Some.index _ refl at ∙ c.at.ensures))
 
 pub returns-in-None : goal.returns-in-None
 unfolding goes_to link_of

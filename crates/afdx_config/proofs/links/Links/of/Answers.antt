@@ -9,5 +9,7 @@ pub returns-clause-place : goal.returns-clause-place
 unfolding link_of
 returns-clause-place c =
     c.get_index_of.ensures.index
-    ∙ position-keys link_row (λ r. nat_eq c.args.vl.0 r.vl) (λ k. nat_eq c.args.vl.0 k.0) IsUnderItsIdentifier (λ e h. ap (nat_eq c.args.vl.0) h) c.self.inside.by_vl.entries c.self.invariant.1
+    ∙ position-keys link_row (λ r. nat_eq c.args.vl.0 r.vl) (λ k. nat_eq c.args.vl.0 k.0)
+    IsUnderItsIdentifier (λ e h. ap (nat_eq c.args.vl.0) h) c.self.inside.by_vl.entries
+    c.self.invariant.1
     ∙ ap (λ rs. link_of rs c.args.vl.0) c.self.view_is

@@ -4,4 +4,6 @@ use Rattle.afdx_config.proofs.Entries.{slice_get-rows}
 use Rattle.afdx_config.proofs.systems.Systems.at.Goals as goal
 
 pub returns : goal.returns
-returns c = ap (λ rs. slice_get rs c.args.id.0) (sym c.self.view_is) ∙ slice_get-rows system_row c.self.inside.by_name.entries c.args.id.0 c.index.result.now c.index.ensures
+returns c = ap (λ rs. slice_get rs c.args.id.0) (sym c.self.view_is)
+    ∙ slice_get-rows system_row c.self.inside.by_name.entries c.args.id.0 c.index.result.now
+    c.index.ensures

@@ -8,11 +8,19 @@ use Rattle.afdx_config.proofs.systems.Systems.at_port.Goals as goal
 pub returns-in-Some-clause-place : goal.returns-in-Some-clause-place
 unfolding system_at_port
 returns-in-Some-clause-place c =
-    let found : c.place_of_port.result ≡ position (λ s. s.port == c.args.port) (values_of c.self.inside.by_name.entries) = c.place_of_port.ensures in
-    sym c.in-Some.is ∙ found ∙ position-values system_row (λ r. r.port == c.args.port) c.self.inside.by_name.entries ∙ ap (λ rs. system_at_port rs c.args.port) c.self.view_is
+    let found : c.place_of_port.result
+    ≡ position (λ s. s.port == c.args.port) (values_of c.self.inside.by_name.entries) =
+    c.place_of_port.ensures in
+    sym c.in-Some.is ∙ found
+    ∙ position-values system_row (λ r. r.port == c.args.port) c.self.inside.by_name.entries
+    ∙ ap (λ rs. system_at_port rs c.args.port) c.self.view_is
 
 pub returns-in-None-clause-place : goal.returns-in-None-clause-place
 unfolding system_at_port
 returns-in-None-clause-place c =
-    let found : c.place_of_port.result ≡ position (λ s. s.port == c.args.port) (values_of c.self.inside.by_name.entries) = c.place_of_port.ensures in
-    sym c.in-None.is ∙ found ∙ position-values system_row (λ r. r.port == c.args.port) c.self.inside.by_name.entries ∙ ap (λ rs. system_at_port rs c.args.port) c.self.view_is
+    let found : c.place_of_port.result
+    ≡ position (λ s. s.port == c.args.port) (values_of c.self.inside.by_name.entries) =
+    c.place_of_port.ensures in
+    sym c.in-None.is ∙ found
+    ∙ position-values system_row (λ r. r.port == c.args.port) c.self.inside.by_name.entries
+    ∙ ap (λ rs. system_at_port rs c.args.port) c.self.view_is

@@ -9,5 +9,8 @@ use Rattle.afdx_config.proofs.systems.Systems.has_id.Goals as goal
 pub returns : goal.returns
 unfolding has_id
 returns c =
-    let found : c.any_has_id.result ≡ list_any (λ s. s.id == c.args.id) (values_of c.self.inside.by_name.entries) = c.any_has_id.ensures in
-    found ∙ list_any-rows system_row (λ r. r.id == c.args.id) c.self.inside.by_name.entries ∙ ap (λ rs. has_id rs c.args.id) c.self.view_is
+    let found : c.any_has_id.result
+    ≡ list_any (λ s. s.id == c.args.id) (values_of c.self.inside.by_name.entries) =
+    c.any_has_id.ensures in
+    found ∙ list_any-rows system_row (λ r. r.id == c.args.id) c.self.inside.by_name.entries
+    ∙ ap (λ rs. has_id rs c.args.id) c.self.view_is

@@ -9,11 +9,15 @@ use Rattle.afdx_config.proofs.systems.Systems.named.Goals as goal
 pub returns-in-Some-clause-place : goal.returns-in-Some-clause-place
 unfolding system_named
 returns-in-Some-clause-place c =
-    let found = position-keys system_row (λ r. bytes_eq c.args.name.now r.name) (λ k. bytes_eq c.args.name.now (string_bytes k)) IsUnderItsName (λ e h. ap (bytes_eq c.args.name.now) h) c.self.inside.by_name.entries c.self.invariant.1 in
+    let found = position-keys system_row (λ r. bytes_eq c.args.name.now r.name)
+    (λ k. bytes_eq c.args.name.now (string_bytes k)) IsUnderItsName
+    (λ e h. ap (bytes_eq c.args.name.now) h) c.self.inside.by_name.entries c.self.invariant.1 in
     sym c.in-Some.is ∙ c.get_index_of.ensures.index ∙ found ∙ ap (λ rs. system_named rs c.args.name.now) c.self.view_is
 
 pub returns-in-None-clause-place : goal.returns-in-None-clause-place
 unfolding system_named
 returns-in-None-clause-place c =
-    let found = position-keys system_row (λ r. bytes_eq c.args.name.now r.name) (λ k. bytes_eq c.args.name.now (string_bytes k)) IsUnderItsName (λ e h. ap (bytes_eq c.args.name.now) h) c.self.inside.by_name.entries c.self.invariant.1 in
+    let found = position-keys system_row (λ r. bytes_eq c.args.name.now r.name)
+    (λ k. bytes_eq c.args.name.now (string_bytes k)) IsUnderItsName
+    (λ e h. ap (bytes_eq c.args.name.now) h) c.self.inside.by_name.entries c.self.invariant.1 in
     sym c.in-None.is ∙ c.get_index_of.ensures.index ∙ found ∙ ap (λ rs. system_named rs c.args.name.now) c.self.view_is

@@ -10,39 +10,61 @@ pub returns-then-bytes-lt-LEAST_FRAME-clause-unread : goal.returns-then-bytes-lt
 returns-then-bytes-lt-LEAST_FRAME-clause-unread c = unframed c.args.bytes.now TooShort (omega arith)
 
 pub returns-then-bytes-lt-LEAST_FRAME-clause-computed : goal.returns-then-bytes-lt-LEAST_FRAME-clause-computed
-returns-then-bytes-lt-LEAST_FRAME-clause-computed c = computed_fault c.args.bytes.now TooShort (λ i. omega (arith, c.type_inv.bytes i)) (omega arith)
+returns-then-bytes-lt-LEAST_FRAME-clause-computed c =
+    computed_fault c.args.bytes.now TooShort (λ i. omega (arith, c.type_inv.bytes i)) (omega arith)
 
 pub returns-then-bytes-gt-GREATEST_FRAME-clause-unread : goal.returns-then-bytes-gt-GREATEST_FRAME-clause-unread
 returns-then-bytes-gt-GREATEST_FRAME-clause-unread c = unframed c.args.bytes.now TooLong (omega arith)
 
 pub returns-then-bytes-gt-GREATEST_FRAME-clause-computed : goal.returns-then-bytes-gt-GREATEST_FRAME-clause-computed
-returns-then-bytes-gt-GREATEST_FRAME-clause-computed c = computed_fault c.args.bytes.now TooLong (λ i. omega (arith, c.type_inv.bytes i)) (omega arith)
+returns-then-bytes-gt-GREATEST_FRAME-clause-computed c =
+    computed_fault c.args.bytes.now TooLong (λ i. omega (arith, c.type_inv.bytes i)) (omega arith)
 
 pub returns-then-not-sealed-clause-err : goal.returns-then-not-sealed-clause-err
-returns-then-not-sealed-clause-err c = (omega arith, omega arith, λ sealed. let yes = (is_sealed-decides c.args.bytes.now (λ i. omega (arith, c.type_inv.bytes i))).1 sealed in absurd (cc (c.requires, c.if-not-sealed.true)))
+returns-then-not-sealed-clause-err c = (
+  omega arith,
+  omega arith,
+  λ sealed. let yes =
+      (is_sealed-decides c.args.bytes.now (λ i. omega (arith, c.type_inv.bytes i))).1 sealed in
+      absurd (cc (c.requires, c.if-not-sealed.true)),
+)
 
 pub returns-then-not-sealed-clause-unread : goal.returns-then-not-sealed-clause-unread
 returns-then-not-sealed-clause-unread c = unframed c.args.bytes.now BadFcs (returns-then-not-sealed-clause-err c)
 
 pub returns-then-not-sealed-clause-computed : goal.returns-then-not-sealed-clause-computed
-returns-then-not-sealed-clause-computed c = computed_fault c.args.bytes.now BadFcs (λ i. omega (arith, c.type_inv.bytes i)) (returns-then-not-sealed-clause-err c)
+returns-then-not-sealed-clause-computed c =
+    computed_fault c.args.bytes.now BadFcs (λ i. omega (arith, c.type_inv.bytes i))
+    (returns-then-not-sealed-clause-err c)
 
 pub returns-in_default-clause-err : goal.returns-in_default-clause-err
-returns-in_default-clause-err c = (omega arith, omega arith, (is_sealed-decides c.args.bytes.now (λ i. omega (arith, c.type_inv.bytes i))).0 (sym c.requires ∙ c.if-not-sealed.false), c.in_default.ensures.none)
+returns-in_default-clause-err c = (
+  omega arith,
+  omega arith,
+  (is_sealed-decides c.args.bytes.now
+      (λ i. omega (arith, c.type_inv.bytes i))).0 (sym c.requires ∙ c.if-not-sealed.false),
+  c.in_default.ensures.none,
+)
 
 pub returns-in_default-clause-unread : goal.returns-in_default-clause-unread
 returns-in_default-clause-unread c = unframed c.args.bytes.now BadAddress (returns-in_default-clause-err c)
 
 pub returns-in_default-clause-computed : goal.returns-in_default-clause-computed
-returns-in_default-clause-computed c = computed_fault c.args.bytes.now BadAddress (λ i. omega (arith, c.type_inv.bytes i)) (returns-in_default-clause-err c)
+returns-in_default-clause-computed c =
+    computed_fault c.args.bytes.now BadAddress (λ i. omega (arith, c.type_inv.bytes i))
+    (returns-in_default-clause-err c)
 
 pub returns-clause-ok : goal.returns-clause-ok
 returns-clause-ok c =
-    is_frame c.args.bytes.now c.in-Some.vl.0 c.from_be_bytes.result _ _ (λ i. omega (arith, c.type_inv.bytes i)) (omega arith) (omega arith)
-    ((is_sealed-decides c.args.bytes.now (λ i. omega (arith, c.type_inv.bytes i))).0 (sym c.requires ∙ c.if-not-sealed.false)) c.in-Some.ensures.some (omega arith) c.from_be_bytes.ensures refl refl
+    is_frame c.args.bytes.now c.in-Some.vl.0 c.from_be_bytes.result _ _
+    (λ i. omega (arith, c.type_inv.bytes i)) (omega arith) (omega arith)
+    ((is_sealed-decides c.args.bytes.now (λ i. omega (arith, c.type_inv.bytes i))).0
+    (sym c.requires ∙ c.if-not-sealed.false)) c.in-Some.ensures.some (omega arith)
+    c.from_be_bytes.ensures refl refl
 
 pub returns-clause-at_places : goal.returns-clause-at_places
 returns-clause-at_places c = at_places c.args.bytes.now _ (returns-clause-ok c)
 
 pub returns-clause-computed : goal.returns-clause-computed
-returns-clause-computed c = computed_frame c.args.bytes.now _ (λ i. omega (arith, c.type_inv.bytes i)) (returns-clause-ok c)
+returns-clause-computed c =
+    computed_frame c.args.bytes.now _ (λ i. omega (arith, c.type_inv.bytes i)) (returns-clause-ok c)

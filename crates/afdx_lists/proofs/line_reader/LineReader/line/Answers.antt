@@ -4,4 +4,5 @@ use Rattle.afdx_lists.proofs.line_reader.LineReader.line.Goals as goal
 
 pub returns : goal.returns
 unfolding latest_line
-returns c = ap (λ items. take (c.args.self.now.line_end - c.args.self.now.line_start) (drop c.args.self.now.line_start items)) c.deref.ensures.value
+returns c = ap (λ items. take (c.args.self.now.line_end - c.args.self.now.line_start)
+    (drop c.args.self.now.line_start items)) c.deref.ensures.value

@@ -7,4 +7,5 @@ pub returns-clause-unread : goal.returns-clause-unread
 unfolding unread
 returns-clause-unread c =
     let reader = c.args.self.now in
-    moved_to_front reader.chunk.items c.copy_within.new.self.items reader.start reader.end reader.ordered (omega (arith, reader.within, reader.chunk.ok.0)) c.copy_within.ensures.items
+    moved_to_front reader.chunk.items c.copy_within.new.self.items reader.start reader.end
+    reader.ordered (omega (arith, reader.within, reader.chunk.ok.0)) c.copy_within.ensures.items

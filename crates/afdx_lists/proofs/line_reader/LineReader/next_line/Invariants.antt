@@ -12,7 +12,8 @@ invariant-reads g l = record {
   short : l.searched ≤ 4200;
   full : 1000000 ≤ l.self.lines → l.searched ≡ 0;
   no_feed : HasNoFeed (take l.searched (unread l.self));
-  taken : TakesBytes (g.R.Read.remaining l.initial.input.inner) (g.R.Read.remaining l.input.inner) (unread l.initial.self) (unread l.self) [];
+  taken : TakesBytes (g.R.Read.remaining l.initial.input.inner) (g.R.Read.remaining l.input.inner)
+      (unread l.initial.self) (unread l.self) [];
   calls : l.input.calls ≤ l.initial.input.calls + (l.searched + 1);
   held : l.input.calls ≤ l.initial.input.calls + (l.self.end - l.self.start);
 }

@@ -12,5 +12,8 @@ returns c =
     let bytes = c.args.bytes.now in
     let piece = encode_lower bytes in
     let size : length piece ≡ 2 * length bytes = length-encode_with lower_digits bytes in
-    put_behind _ text.room.items _ piece _ _ piece text.end (2 * length bytes) text.room.len (omega (arith, text.within, text.room.ok.0)) (omega (arith, size))
-    (omega (arith, c.in_ok-make_room.ensures.room)) (rw c.as_mut_slice.ensures.value at c.encode_at.ensures) c.make_room.ensures.bytes (ap (λ (k : ℕ). take k piece) (sym size) ∙ take_whole piece)
+    put_behind _ text.room.items _ piece _ _ piece text.end (2 * length bytes) text.room.len
+    (omega (arith, text.within, text.room.ok.0)) (omega (arith, size))
+    (omega (arith, c.in_ok-make_room.ensures.room))
+    (rw c.as_mut_slice.ensures.value at c.encode_at.ensures) c.make_room.ensures.bytes
+    (ap (λ (k : ℕ). take k piece) (sym size) ∙ take_whole piece)

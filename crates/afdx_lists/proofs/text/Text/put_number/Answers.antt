@@ -15,6 +15,10 @@ returns c =
     let room = w.new.buf in
     let size = w.result + 20 - w.result in
     let piece = take size (drop w.result room) in
-    let long : 20 - w.result ≤ length piece = long_digits room _ c.args.n w.result size (omega arith) w.ensures.start w.ensures.written in
-    put_behind _ text.room.items _ piece _ _ _ text.end (20 - w.result) text.room.len (omega (arith, text.within, text.room.ok.0)) long
-    (omega (arith, c.in_ok-make_room.ensures.room)) (rw c.as_mut_slice.ensures.value at c.put_at.ensures) c.make_room.ensures.bytes (take_digits room _ c.args.n w.result size (omega arith) w.ensures.start w.ensures.written)
+    let long : 20 - w.result ≤ length piece =
+    long_digits room _ c.args.n w.result size (omega arith) w.ensures.start w.ensures.written in
+    put_behind _ text.room.items _ piece _ _ _ text.end (20 - w.result) text.room.len
+    (omega (arith, text.within, text.room.ok.0)) long
+    (omega (arith, c.in_ok-make_room.ensures.room))
+    (rw c.as_mut_slice.ensures.value at c.put_at.ensures) c.make_room.ensures.bytes
+    (take_digits room _ c.args.n w.result size (omega arith) w.ensures.start w.ensures.written)

@@ -11,5 +11,6 @@ returns-then-n-lt100 c =
     let front : decimal (n / 10) ≡ (48 + n / 10) ∷ [] = decimal_digit (n / 10) (omega (arith, c.if-n-lt100.true)) in
     let last : List ℕ = (48 + n % 10) ∷ [] in
     let whole : decimal n ≡ (48 + n / 10) ∷ (48 + n % 10) ∷ [] =
-    decimal_step n (omega (arith, c.if-n-lt10.false)) (omega (arith, c.if-n-lt100.true)) ∙ ap (λ (ds : List ℕ). ds ++ last) front in
+    decimal_step n (omega (arith, c.if-n-lt10.false)) (omega (arith, c.if-n-lt100.true))
+    ∙ ap (λ (ds : List ℕ). ds ++ last) front in
     rw whole c.put-then-n-lt100.ensures

@@ -8,57 +8,134 @@ use Rattle.afdx_police.proofs.VerdictLemmas.{reason-fault, fault_changes_nothing
 use Rattle.afdx_police.proofs.account.LinkAccount.police.Goals as goal
 
 -- what was judged by the account's own rule
-judged : (rule held : Rule) (port : ℕ) (bytes : List ℕ) (answer : Option Reason) → held ≡ rule → answer ≡ fault_of (Some held) port bytes → fault_of (Some rule) port bytes ≡ answer
+judged : (rule held : Rule) (port : ℕ) (bytes : List ℕ) (answer : Option Reason) → held ≡ rule
+    → answer ≡ fault_of (Some held) port bytes → fault_of (Some rule) port bytes ≡ answer
 judged rule held port bytes answer e h = ap (λ (r : Rule). fault_of (Some r) port bytes) (sym e) ∙ sym h
 
 pub returns-in-Some-clause-reason : goal.returns-in-Some-clause-reason
 returns-in-Some-clause-reason c rule past tag side stands =
-    sym (reason-fault rule past (record { tag = tag; time = c.args.time; side = side; port = c.args.port; bytes = c.args.frame.now }) c.in-Some.reason
+    sym (reason-fault rule past
+    (record {
+      tag = tag;
+      time = c.args.time;
+      side = side;
+      port = c.args.port;
+      bytes = c.args.frame.now;
+    }) c.in-Some.reason
     (judged rule _ c.args.port c.args.frame.now _ (c.rule.ensures ∙ stands.by_rule) c.in-Some.ensures.reason))
 
 pub returns-in-Some-clause-stands : goal.returns-in-Some-clause-stands
 returns-in-Some-clause-stands c rule past tag side stands =
-    (fault_changes_nothing rule c.args.self.now past (record { tag = tag; time = c.args.time; side = side; port = c.args.port; bytes = c.args.frame.now }) c.in-Some.reason
-    (judged rule _ c.args.port c.args.frame.now _ (c.rule.ensures ∙ stands.by_rule) c.in-Some.ensures.reason)).stands stands
+    (fault_changes_nothing rule c.args.self.now past
+    (record {
+      tag = tag;
+      time = c.args.time;
+      side = side;
+      port = c.args.port;
+      bytes = c.args.frame.now;
+    }) c.in-Some.reason
+    (judged rule _ c.args.port c.args.frame.now _ (c.rule.ensures ∙ stands.by_rule)
+    c.in-Some.ensures.reason)).stands stands
 
 pub returns-in-Some-clause-verdict : goal.returns-in-Some-clause-verdict
 returns-in-Some-clause-verdict c rule all tag side stands =
-    sym (reason-fault rule (own rule.vl side all) (record { tag = tag; time = c.args.time; side = side; port = c.args.port; bytes = c.args.frame.now }) c.in-Some.reason
+    sym (reason-fault rule (own rule.vl side all)
+    (record {
+      tag = tag;
+      time = c.args.time;
+      side = side;
+      port = c.args.port;
+      bytes = c.args.frame.now;
+    }) c.in-Some.reason
     (judged rule _ c.args.port c.args.frame.now _ (c.rule.ensures ∙ stands.by_rule) c.in-Some.ensures.reason))
 
 pub returns-in-Some-clause-stands_in : goal.returns-in-Some-clause-stands_in
 returns-in-Some-clause-stands_in c rule all tag side stands =
-    fault-stands_in rule c.args.self.now (record { tag = tag; time = c.args.time; side = side; port = c.args.port; bytes = c.args.frame.now }) all c.in-Some.reason
+    fault-stands_in rule c.args.self.now
+    (record {
+      tag = tag;
+      time = c.args.time;
+      side = side;
+      port = c.args.port;
+      bytes = c.args.frame.now;
+    }) all c.in-Some.reason
     (judged rule _ c.args.port c.args.frame.now _ (c.rule.ensures ∙ stands.by_rule) c.in-Some.ensures.reason) stands
 
 pub returns-then-offer-clause-stands : goal.returns-then-offer-clause-stands
 returns-then-offer-clause-stands c rule past tag side stands =
-    c.offer.ensures.stands rule past (record { tag = tag; time = c.args.time; side = side; port = c.args.port; bytes = c.args.frame.now }) stands
-    (record { sound = judged rule _ c.args.port c.args.frame.now _ (c.rule.ensures ∙ stands.by_rule) c.in-None.ensures.reason; same = refl })
+    c.offer.ensures.stands rule past
+    (record {
+      tag = tag;
+      time = c.args.time;
+      side = side;
+      port = c.args.port;
+      bytes = c.args.frame.now;
+    }) stands
+    (record {
+      sound = judged rule _ c.args.port c.args.frame.now _ (c.rule.ensures ∙ stands.by_rule)
+          c.in-None.ensures.reason;
+      same = refl;
+    })
 
 pub returns-else-offer-clause-stands : goal.returns-else-offer-clause-stands
 returns-else-offer-clause-stands c rule past tag side stands =
-    c.offer.ensures.stands rule past (record { tag = tag; time = c.args.time; side = side; port = c.args.port; bytes = c.args.frame.now }) stands
-    (record { sound = judged rule _ c.args.port c.args.frame.now _ (c.rule.ensures ∙ stands.by_rule) c.in-None.ensures.reason; same = refl })
+    c.offer.ensures.stands rule past
+    (record {
+      tag = tag;
+      time = c.args.time;
+      side = side;
+      port = c.args.port;
+      bytes = c.args.frame.now;
+    }) stands
+    (record {
+      sound = judged rule _ c.args.port c.args.frame.now _ (c.rule.ensures ∙ stands.by_rule)
+          c.in-None.ensures.reason;
+      same = refl;
+    })
 
 pub returns-then-offer-clause-stands_in : goal.returns-then-offer-clause-stands_in
 returns-then-offer-clause-stands_in c rule all tag side stands =
-    let x : Arrival = record { tag = tag; time = c.args.time; side = side; port = c.args.port; bytes = c.args.frame.now } in
-    let sound : fault_of (Some rule) x.port x.bytes ≡ None = judged rule _ c.args.port c.args.frame.now _ (c.rule.ensures ∙ stands.by_rule) c.in-None.ensures.reason in
-    sound-stands_in rule c.offer.new.self x all sound (c.offer.ensures.stands rule (own rule.vl side all) x stands (record { sound = sound; same = refl }))
+    let x : Arrival = record {
+      tag = tag;
+      time = c.args.time;
+      side = side;
+      port = c.args.port;
+      bytes = c.args.frame.now;
+    } in
+    let sound : fault_of (Some rule) x.port x.bytes ≡ None =
+    judged rule _ c.args.port c.args.frame.now _ (c.rule.ensures ∙ stands.by_rule)
+    c.in-None.ensures.reason in
+    sound-stands_in rule c.offer.new.self x all sound
+    (c.offer.ensures.stands rule (own rule.vl side all) x stands
+    (record { sound = sound; same = refl }))
 
 pub returns-else-offer-clause-stands_in : goal.returns-else-offer-clause-stands_in
 returns-else-offer-clause-stands_in c rule all tag side stands =
-    let x : Arrival = record { tag = tag; time = c.args.time; side = side; port = c.args.port; bytes = c.args.frame.now } in
-    let sound : fault_of (Some rule) x.port x.bytes ≡ None = judged rule _ c.args.port c.args.frame.now _ (c.rule.ensures ∙ stands.by_rule) c.in-None.ensures.reason in
-    sound-stands_in rule c.offer.new.self x all sound (c.offer.ensures.stands rule (own rule.vl side all) x stands (record { sound = sound; same = refl }))
+    let x : Arrival = record {
+      tag = tag;
+      time = c.args.time;
+      side = side;
+      port = c.args.port;
+      bytes = c.args.frame.now;
+    } in
+    let sound : fault_of (Some rule) x.port x.bytes ≡ None =
+    judged rule _ c.args.port c.args.frame.now _ (c.rule.ensures ∙ stands.by_rule)
+    c.in-None.ensures.reason in
+    sound-stands_in rule c.offer.new.self x all sound
+    (c.offer.ensures.stands rule (own rule.vl side all) x stands
+    (record { sound = sound; same = refl }))
 
 -- an arrival that was judged without a fault has none
-faultless : (held : Rule) (port : ℕ) (bytes : List ℕ) (fault : Reason) → None ≡ fault_of (Some held) port bytes → fault_of (Some held) port bytes ≡ Some fault → ⊥
+faultless : (held : Rule) (port : ℕ) (bytes : List ℕ) (fault : Reason)
+    → None ≡ fault_of (Some held) port bytes → fault_of (Some held) port bytes ≡ Some fault → ⊥
 faultless held port bytes fault none some = absurd (cc)
 
 pub returns-then-offer-clause-unchanged : goal.returns-then-offer-clause-unchanged
-returns-then-offer-clause-unchanged c fault e = absurd (faultless _ c.args.port c.args.frame.now fault (rw c.rule.ensures at c.in-None.ensures.reason) e)
+returns-then-offer-clause-unchanged c fault e =
+    absurd (faultless _ c.args.port c.args.frame.now fault
+    (rw c.rule.ensures at c.in-None.ensures.reason) e)
 
 pub returns-else-offer-clause-unchanged : goal.returns-else-offer-clause-unchanged
-returns-else-offer-clause-unchanged c fault e = absurd (faultless _ c.args.port c.args.frame.now fault (rw c.rule.ensures at c.in-None.ensures.reason) e)
+returns-else-offer-clause-unchanged c fault e =
+    absurd (faultless _ c.args.port c.args.frame.now fault
+    (rw c.rule.ensures at c.in-None.ensures.reason) e)

@@ -7,16 +7,22 @@ use Rattle.afdx_port.proofs.SoundLemmas.{clock_sound, none_from_test}
 use Rattle.afdx_port.proofs.pending.Pending.advance.Goals as goal
 
 pub returns-then-is_some-clause-stands : goal.returns-then-is_some-clause-stands
-returns-then-is_some-clause-stands g c = λ h s. idle_stands _ _ h _ s (let e = s.clock in let r = c.requires.clock in omega arith)
+returns-then-is_some-clause-stands g c =
+    λ h s. idle_stands _ _ h _ s (let e = s.clock in let r = c.requires.clock in omega arith)
 
 pub returns-in_default-clause-stands : goal.returns-in_default-clause-stands
-returns-in_default-clause-stands g c = λ h s. idle_stands _ _ h _ s (let e = s.clock in let r = c.requires.clock in omega arith)
+returns-in_default-clause-stands g c =
+    λ h s. idle_stands _ _ h _ s (let e = s.clock in let r = c.requires.clock in omega arith)
 
 pub returns-then-moment-time-clause-stands : goal.returns-then-moment-time-clause-stands
-returns-then-moment-time-clause-stands g c = λ h s. idle_stands _ _ h _ s (let e = s.clock in let r = c.requires.clock in omega arith)
+returns-then-moment-time-clause-stands g c =
+    λ h s. idle_stands _ _ h _ s (let e = s.clock in let r = c.requires.clock in omega arith)
 
 pub returns-clause-sound : goal.returns-clause-sound
-returns-clause-sound g c = begun_sound g.T.HasLength.facts (record c.args.self.now { clock = c.args.time }) c.pop.new.self c.args.time c.in-Some.moment c.in-Some.priority c.in-Some-pop.waiting c.length-length.result c.turn_of-due.result
+returns-clause-sound g c =
+    begun_sound g.T.HasLength.facts (record c.args.self.now { clock = c.args.time }) c.pop.new.self
+    c.args.time c.in-Some.moment c.in-Some.priority c.in-Some-pop.waiting c.length-length.result
+    c.turn_of-due.result
     (record {
       lawful = g.met.T.HasLength.lawful;
       sound = clock_sound g.T.HasLength.facts c.args.self.now c.args.time c.requires.sound c.requires.clock;
@@ -31,7 +37,10 @@ returns-clause-sound g c = begun_sound g.T.HasLength.facts (record c.args.self.n
     })
 
 pub returns-clause-stands : goal.returns-clause-stands
-returns-clause-stands g c = λ h s. begun_stands g.T.HasLength.facts (record c.args.self.now { clock = c.args.time }) c.pop.new.self c.args.time c.in-Some.moment c.in-Some.priority c.in-Some-pop.waiting c.length-length.result c.turn_of-due.result
+returns-clause-stands g c =
+    λ h s. begun_stands g.T.HasLength.facts (record c.args.self.now { clock = c.args.time })
+    c.pop.new.self c.args.time c.in-Some.moment c.in-Some.priority c.in-Some-pop.waiting
+    c.length-length.result c.turn_of-due.result
     (record {
       lawful = g.met.T.HasLength.lawful;
       sound = clock_sound g.T.HasLength.facts c.args.self.now c.args.time c.requires.sound c.requires.clock;
@@ -44,10 +53,15 @@ returns-clause-stands g c = λ h s. begun_stands g.T.HasLength.facts (record c.a
       bytes = c.length-length.ensures;
       due = c.turn_of-due.ensures;
     })
-    (at h c.args.time) (omega arith) (idle_stands g.T.HasLength.facts c.args.self.now h c.args.time s (let e = s.clock in let r = c.requires.clock in omega arith))
+    (at h c.args.time) (omega arith)
+    (idle_stands g.T.HasLength.facts c.args.self.now h c.args.time s
+    (let e = s.clock in let r = c.requires.clock in omega arith))
 
 pub returns-clause-due : goal.returns-clause-due
-returns-clause-due g c = begun_due g.T.HasLength.facts (record c.args.self.now { clock = c.args.time }) c.pop.new.self c.args.time c.in-Some.moment c.in-Some.priority c.in-Some-pop.waiting c.length-length.result c.turn_of-due.result
+returns-clause-due g c =
+    begun_due g.T.HasLength.facts (record c.args.self.now { clock = c.args.time }) c.pop.new.self
+    c.args.time c.in-Some.moment c.in-Some.priority c.in-Some-pop.waiting c.length-length.result
+    c.turn_of-due.result
     (record {
       lawful = g.met.T.HasLength.lawful;
       sound = clock_sound g.T.HasLength.facts c.args.self.now c.args.time c.requires.sound c.requires.clock;
@@ -62,7 +76,10 @@ returns-clause-due g c = begun_due g.T.HasLength.facts (record c.args.self.now {
     }) ∙ clock_due g.T.HasLength.facts c.args.self.now c.args.time
 
 pub returns-clause-held : goal.returns-clause-held
-returns-clause-held g c = begun_held g.T.HasLength.facts (record c.args.self.now { clock = c.args.time }) c.pop.new.self c.args.time c.in-Some.moment c.in-Some.priority c.in-Some-pop.waiting c.length-length.result c.turn_of-due.result
+returns-clause-held g c =
+    begun_held g.T.HasLength.facts (record c.args.self.now { clock = c.args.time }) c.pop.new.self
+    c.args.time c.in-Some.moment c.in-Some.priority c.in-Some-pop.waiting c.length-length.result
+    c.turn_of-due.result
     (record {
       lawful = g.met.T.HasLength.lawful;
       sound = clock_sound g.T.HasLength.facts c.args.self.now c.args.time c.requires.sound c.requires.clock;

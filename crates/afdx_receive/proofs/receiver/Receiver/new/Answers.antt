@@ -6,8 +6,8 @@ use Rattle.afdx_receive.proofs.receiver.Receiver.new.Goals as goal
 pub returns : goal.returns
 returns c = record {
   stands = record {
-    links = λ vl. rw (c.in_ok-links.ensures vl) (link_at_first c.args.tables.now c.args.system.0 vl.0
-        (subscription c.args.tables.now c.args.system.0 vl.0) refl);
+    links = λ vl. rw (c.in_ok-links.ensures vl) (link_at_first c.args.tables.now c.args.system.0 vl
+        (subscription c.args.tables.now c.args.system.0 vl) refl);
     ports = c.in_ok-ports.ensures;
   };
 }

@@ -1,12 +1,10 @@
-use Rattle.std.proofs.Common.{◌≡◌, Some, ◌∷◌, ◌∙◌}
-use Rattle.std.specs.HashMap as hash
+use Rattle.std.proofs.Common.{◌∷◌, sym, ◌∙◌}
 use Rattle.afdx_frame.specs.Parts.{FrameParts, parts_of}
-use Rattle.afdx_receive.specs.Arrivals.{Arrived, frames_of}
+use Rattle.afdx_receive.specs.Arrivals.{Arrived}
 use Rattle.afdx_receive.specs.Answers.{answer_of}
-use Rattle.afdx_receive.specs.StandsFor.{is_same_link}
 use Rattle.afdx_receive.specs.declared.memory.Standing.TheVariants.{OutOfSequence, Redundant, Winner}
 use Rattle.afdx_receive.proofs.ReceptionLemmas.{frames_damaged, answer_damaged, answer_of_others, read_right}
-use Rattle.afdx_receive.proofs.ReceiverLemmas.{taken, unsubscribed_at, all_stay, others_stay, found_some}
+use Rattle.afdx_receive.proofs.ReceiverLemmas.{taken, unsubscribed_at, all_stay, others_stay}
 use Rattle.afdx_receive.proofs.receiver.Receiver.receive_checked.Goals as goal
 
 pub returns-in-Err-clause-received : goal.returns-in-Err-clause-received
@@ -26,14 +24,15 @@ pub returns-in_default-clause-received : goal.returns-in_default-clause-received
 returns-in_default-clause-received c tables system past stands =
     let x : Arrived = record { time = c.args.time; side = c.args.side; bytes = c.args.bytes.now } in
     let frame : FrameParts = parts_of c.in-Ok.frame in
-    let missing = rw c.vl-vl.ensures at c.in_default.ensures.value in
-    let other = unsubscribed_at tables system past c.args.self.now.links frame.link stands.links missing in
+    let missing = rw c.vl.ensures at c.in_default.ensures.none in
+    let other = unsubscribed_at tables system past c.args.self.now.links frame.link.0 stands.links (sym missing) in
     record {
       computed = answer_of_others tables system past x frame c.in-Ok.ensures.computed other;
       right = (frame, c.in-Ok.ensures.ok, other);
       stands = record {
-        links = rw c.get_mut.follows.holds-at-none
-            (others_stay tables system past x frame c.args.self.now.links stands.links c.in-Ok.ensures.computed missing);
+        links = rw c.in_default.ensures.unchanged
+            (others_stay tables system past x frame c.args.self.now.links stands.links
+            c.in-Ok.ensures.computed (sym missing));
         ports = stands.ports;
       };
     }
@@ -42,42 +41,35 @@ pub returns-in-OutOfSequence-clause-received : goal.returns-in-OutOfSequence-cla
 returns-in-OutOfSequence-clause-received c tables system past stands =
     let x : Arrived = record { time = c.args.time; side = c.args.side; bytes = c.args.bytes.now } in
     let frame : FrameParts = parts_of c.in-Ok.frame in
-    let links = c.args.self.now.links in
-    let found : Some c.in-Some.memory.now ≡ hash.get is_same_link links frame.link = rw c.vl-vl.ensures at c.in-Some.ensures.value in
-    let all = taken tables system past x frame links (c.get_mut.follows.lender c.consider.new.self) c.in-Some.memory.now c.consider.new.self OutOfSequence
-    stands.links c.in-Ok.ensures.ok c.in-Ok.ensures.computed found c.consider.ensures.skew
-    (rw c.sequence.ensures at (c.in-OutOfSequence.ensures.standing (frames_of frame.link.0 past) frame.link.0 c.args.bytes.now))
-    (rw c.sequence.ensures at (c.in-OutOfSequence.ensures.remembers (frames_of frame.link.0 past) frame.link.0 c.args.bytes.now))
-    (rw c.vl-vl.ensures at ((c.get_mut.follows.holds c.consider.new.self).3
-    (found_some (hash.get is_same_link links c.vl-vl.result) c.in-Some.memory.now c.in-Some.ensures.value)).0) in
-    record { computed = all.answers; right = (frame, all.received); stands = record { links = all.links; ports = stands.ports } }
+    let all = taken tables system past x frame c.args.self.now.links c.consider.new.self
+    OutOfSequence stands.links c.in-Ok.ensures.ok c.in-Ok.ensures.computed
+    (rw (c.vl.ensures, c.sequence-number.ensures, c.in-OutOfSequence.is) at c.in-Some.ensures.considered) in
+    record {
+      computed = all.answers;
+      right = (frame, all.received);
+      stands = record { links = all.links; ports = stands.ports };
+    }
 
 pub returns-in-Redundant-clause-received : goal.returns-in-Redundant-clause-received
 returns-in-Redundant-clause-received c tables system past stands =
     let x : Arrived = record { time = c.args.time; side = c.args.side; bytes = c.args.bytes.now } in
     let frame : FrameParts = parts_of c.in-Ok.frame in
-    let links = c.args.self.now.links in
-    let found : Some c.in-Some.memory.now ≡ hash.get is_same_link links frame.link = rw c.vl-vl.ensures at c.in-Some.ensures.value in
-    let all = taken tables system past x frame links (c.get_mut.follows.lender c.consider.new.self) c.in-Some.memory.now c.consider.new.self Redundant
-    stands.links c.in-Ok.ensures.ok c.in-Ok.ensures.computed found c.consider.ensures.skew
-    (rw c.sequence.ensures at (c.in-Redundant.ensures.standing (frames_of frame.link.0 past) frame.link.0 c.args.bytes.now))
-    (rw c.sequence.ensures at (c.in-Redundant.ensures.remembers (frames_of frame.link.0 past) frame.link.0 c.args.bytes.now))
-    (rw c.vl-vl.ensures at ((c.get_mut.follows.holds c.consider.new.self).3
-    (found_some (hash.get is_same_link links c.vl-vl.result) c.in-Some.memory.now c.in-Some.ensures.value)).0) in
-    record { computed = all.answers; right = (frame, all.received); stands = record { links = all.links; ports = stands.ports } }
+    let all = taken tables system past x frame c.args.self.now.links c.consider.new.self Redundant
+    stands.links c.in-Ok.ensures.ok c.in-Ok.ensures.computed
+    (rw (c.vl.ensures, c.sequence-number.ensures, c.in-Redundant.is) at c.in-Some.ensures.considered) in
+    record {
+      computed = all.answers;
+      right = (frame, all.received);
+      stands = record { links = all.links; ports = stands.ports };
+    }
 
 pub returns-in-Winner-clause-received : goal.returns-in-Winner-clause-received
 returns-in-Winner-clause-received c tables system past stands =
     let x : Arrived = record { time = c.args.time; side = c.args.side; bytes = c.args.bytes.now } in
     let frame : FrameParts = parts_of c.in-Ok.frame in
-    let links = c.args.self.now.links in
-    let found : Some c.in-Some.memory.now ≡ hash.get is_same_link links frame.link = rw c.vl-vl.ensures at c.in-Some.ensures.value in
-    let all = taken tables system past x frame links (c.get_mut.follows.lender c.consider.new.self) c.in-Some.memory.now c.consider.new.self Winner
-    stands.links c.in-Ok.ensures.ok c.in-Ok.ensures.computed found c.consider.ensures.skew
-    (rw c.sequence.ensures at (c.in-Winner.ensures.standing (frames_of frame.link.0 past) frame.link.0 c.args.bytes.now))
-    (rw c.sequence.ensures at (c.in-Winner.ensures.remembers (frames_of frame.link.0 past) frame.link.0 c.args.bytes.now))
-    (rw c.vl-vl.ensures at ((c.get_mut.follows.holds c.consider.new.self).3
-    (found_some (hash.get is_same_link links c.vl-vl.result) c.in-Some.memory.now c.in-Some.ensures.value)).0) in
+    let all = taken tables system past x frame c.args.self.now.links c.consider.new.self Winner
+    stands.links c.in-Ok.ensures.ok c.in-Ok.ensures.computed
+    (rw (c.vl.ensures, c.sequence-number.ensures, c.in-Winner.is) at c.in-Some.ensures.considered) in
     record {
       computed = c.read.ensures.answer tables system c.args.bytes.now stands.ports c.in-Ok.ensures.ok ∙ all.answers;
       right = read_right tables system past x frame (answer_of c.read.result)

@@ -7,26 +7,44 @@ use Rattle.afdx_replay.proofs.replay_run.Replay.put_lines.Goals as goal
 
 pub returns-then-too_old-clause-told : goal.returns-then-too_old-clause-told
 returns-then-too_old-clause-told c t before d stands is counted =
-    let old : d.turn.too_old ≡ true = sym (old-is c.args.departed.now d is) ∙ sym c.too_old.ensures ∙ c.if-too_old.true in
+    let old : d.turn.too_old ≡ true = sym (old-is c.args.departed.now d is) ∙ sym c.too_old.ensures
+    ∙ c.if-too_old.true in
     tells-old t before d _ _ _ _ old stands counted refl
-    (c.in_ok-put_departure.ensures ∙ line-is c.args.departed.now d is ∙ ap (λ b. departure_line b d.turn.entry.item.tag d.turn.end d.side d.port) old)
+    (c.in_ok-put_departure.ensures ∙ line-is c.args.departed.now d is
+    ∙ ap (λ b. departure_line b d.turn.entry.item.tag d.turn.end d.side d.port) old)
 
 pub returns-then-is_delivered-clause-told : goal.returns-then-is_delivered-clause-told
 returns-then-is_delivered-clause-told c t before d stands is counted =
-    let left : d.turn.too_old ≡ false = sym (old-is c.args.departed.now d is) ∙ sym c.too_old.ensures ∙ c.if-too_old.false in
-    let handed = handed-is c.args.departed.now d is c.port.result c.time.result c.tag.result c.bytes.result.now c.port.ensures c.time.ensures c.tag.ensures c.bytes.ensures.bytes in
+    let left : d.turn.too_old ≡ false = sym (old-is c.args.departed.now d is)
+    ∙ sym c.too_old.ensures ∙ c.if-too_old.false in
+    let handed = handed-is c.args.departed.now d is c.port.result c.time.result c.tag.result
+    c.bytes.result.now c.port.ensures c.time.ensures c.tag.ensures c.bytes.ensures.bytes in
     tells-left t before d _ _ _ _ true left
-    (subst (λ h. systems.StandsFor t c.receive_checked.new.self (h ∷ frames_left before)) handed (c.receive_checked.ensures.stands t (frames_left before) stands)) counted
-    (sym c.if-is_delivered.true ∙ c.in_ok-is_delivered.ensures.delivered t (frames_left before) stands ∙ ap (λ h. is_delivered t (frames_left before) h) handed) refl
-    (heard-lines t (frames_left before) _ (handed_over d) _ _ (departure_line false d.turn.entry.item.tag d.turn.end d.side d.port) (c.in_ok-is_delivered.ensures.line t (frames_left before) stands)
-    (c.in_ok-put_departure.ensures ∙ line-is c.args.departed.now d is ∙ ap (λ b. departure_line b d.turn.entry.item.tag d.turn.end d.side d.port) left) handed)
+    (subst (λ h. systems.StandsFor t c.receive_checked.new.self (h ∷ frames_left before)) handed
+    (c.receive_checked.ensures.stands t (frames_left before) stands)) counted
+    (sym c.if-is_delivered.true
+    ∙ c.in_ok-is_delivered.ensures.delivered t (frames_left before) stands
+    ∙ ap (λ h. is_delivered t (frames_left before) h) handed) refl
+    (heard-lines t (frames_left before) _ (handed_over d) _ _
+    (departure_line false d.turn.entry.item.tag d.turn.end d.side d.port)
+    (c.in_ok-is_delivered.ensures.line t (frames_left before) stands)
+    (c.in_ok-put_departure.ensures ∙ line-is c.args.departed.now d is
+    ∙ ap (λ b. departure_line b d.turn.entry.item.tag d.turn.end d.side d.port) left) handed)
 
 pub returns-else-is_delivered-clause-told : goal.returns-else-is_delivered-clause-told
 returns-else-is_delivered-clause-told c t before d stands is counted =
-    let left : d.turn.too_old ≡ false = sym (old-is c.args.departed.now d is) ∙ sym c.too_old.ensures ∙ c.if-too_old.false in
-    let handed = handed-is c.args.departed.now d is c.port.result c.time.result c.tag.result c.bytes.result.now c.port.ensures c.time.ensures c.tag.ensures c.bytes.ensures.bytes in
+    let left : d.turn.too_old ≡ false = sym (old-is c.args.departed.now d is)
+    ∙ sym c.too_old.ensures ∙ c.if-too_old.false in
+    let handed = handed-is c.args.departed.now d is c.port.result c.time.result c.tag.result
+    c.bytes.result.now c.port.ensures c.time.ensures c.tag.ensures c.bytes.ensures.bytes in
     tells-left t before d _ _ _ _ false left
-    (subst (λ h. systems.StandsFor t c.receive_checked.new.self (h ∷ frames_left before)) handed (c.receive_checked.ensures.stands t (frames_left before) stands)) counted
-    (sym c.if-is_delivered.false ∙ c.in_ok-is_delivered.ensures.delivered t (frames_left before) stands ∙ ap (λ h. is_delivered t (frames_left before) h) handed) refl
-    (heard-lines t (frames_left before) _ (handed_over d) _ _ (departure_line false d.turn.entry.item.tag d.turn.end d.side d.port) (c.in_ok-is_delivered.ensures.line t (frames_left before) stands)
-    (c.in_ok-put_departure.ensures ∙ line-is c.args.departed.now d is ∙ ap (λ b. departure_line b d.turn.entry.item.tag d.turn.end d.side d.port) left) handed)
+    (subst (λ h. systems.StandsFor t c.receive_checked.new.self (h ∷ frames_left before)) handed
+    (c.receive_checked.ensures.stands t (frames_left before) stands)) counted
+    (sym c.if-is_delivered.false
+    ∙ c.in_ok-is_delivered.ensures.delivered t (frames_left before) stands
+    ∙ ap (λ h. is_delivered t (frames_left before) h) handed) refl
+    (heard-lines t (frames_left before) _ (handed_over d) _ _
+    (departure_line false d.turn.entry.item.tag d.turn.end d.side d.port)
+    (c.in_ok-is_delivered.ensures.line t (frames_left before) stands)
+    (c.in_ok-put_departure.ensures ∙ line-is c.args.departed.now d is
+    ∙ ap (λ b. departure_line b d.turn.entry.item.tag d.turn.end d.side d.port) left) handed)

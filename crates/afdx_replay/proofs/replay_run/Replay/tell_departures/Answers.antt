@@ -10,22 +10,36 @@ use Rattle.afdx_replay.proofs.replay_run.Replay.tell_departures.Goals as goal
 pub put_lines-requires : goal.put_lines-requires
 put_lines-requires g c =
     let n = c.requires.room in
-    record { room = (n.0, network.frames_held c.take.new.self, n.1, subst (λ (k : ℕ). HasRoom c.loop-departed.self.counts k n.0) (sym c.in-Some.ensures.held) (c.loop-departed.invariant.room n.0 n.2)) }
+    record {
+      room = (
+        n.0,
+        network.frames_held c.take.new.self,
+        n.1,
+        subst (λ (k : ℕ). HasRoom c.loop-departed.self.counts k n.0) (sym c.in-Some.ensures.held)
+            (c.loop-departed.invariant.room n.0 n.2),
+      );
+    }
 
 pub loop-departed-preserved : goal.loop-departed-preserved
 loop-departed-preserved g c =
     record {
-      clock = subst (λ (n : Network). network.IsUntil n c.args.until) (sym c.put_lines.ensures.network) c.take.ensures.clock;
+      clock = subst (λ (n : Network). network.IsUntil n c.args.until)
+          (sym c.put_lines.ensures.network) c.take.ensures.clock;
       sound = c.in_ok-write_text.ensures.failed;
       room = λ n h.
-          subst (λ (w : Network). HasRoom c.put_lines.new.self.counts (network.frames_held w) n) (sym c.put_lines.ensures.network)
-          (c.in_ok-put_lines.ensures.room n (network.frames_held c.take.new.self) (subst (λ (k : ℕ). HasRoom c.loop-departed.self.counts k n) (sym c.in-Some.ensures.held) (c.loop-departed.invariant.room n h)));
+          subst (λ (w : Network). HasRoom c.put_lines.new.self.counts (network.frames_held w) n)
+          (sym c.put_lines.ensures.network)
+          (c.in_ok-put_lines.ensures.room n (network.frames_held c.take.new.self)
+          (subst (λ (k : ℕ). HasRoom c.loop-departed.self.counts k n)
+          (sym c.in-Some.ensures.held) (c.loop-departed.invariant.room n h)));
       told = λ t events start h.
           let k = c.loop-departed.invariant.told t events start h in
           let n = c.in-Some.ensures.given t k.0 k.2.switches_are in (
             Left n.departure ∷ k.0,
             k.1,
-            told-left t _ _ _ _ _ _ start _ _ k.0 n.departure _ k.2 (subst (λ (w : Network). network.StandsFor t w (Left n.departure ∷ k.0)) (sym c.put_lines.ensures.network) n.stands)
+            told-left t _ _ _ _ _ _ start _ _ k.0 n.departure _ k.2
+                (subst (λ (w : Network). network.StandsFor t w (Left n.departure ∷ k.0))
+                (sym c.put_lines.ensures.network) n.stands)
                 (c.in_ok-put_lines.ensures.told t k.0 n.departure k.2.systems_are n.hands k.2.counted)
                 (rw c.as_bytes.ensures at c.in_ok-write_text.ensures.written),
           );
@@ -34,21 +48,31 @@ loop-departed-preserved g c =
 pub returns-in_err-put_lines-clause-some : goal.returns-in_err-put_lines-clause-some
 returns-in_err-put_lines-clause-some g c t events start h =
     let k = c.loop-departed.invariant.told t events start h in
-    on-err c.from_residual.result _ (subst (λ (p : List Arrival). WritesSome t start (g.W.Write.contents c.loop-departed.output.inner) p) k.1 (told-some t _ _ _ start _ k.0 k.2))
+    on-err c.from_residual.result _
+    (subst (λ (p : List Arrival). WritesSome t start
+    (g.W.Write.contents c.loop-departed.output.inner) p) k.1 (told-some t _ _ _ start _ k.0 k.2))
 
 pub returns-in_err-write_text-clause-some : goal.returns-in_err-write_text-clause-some
 returns-in_err-write_text-clause-some g c t events start h =
     let k = c.loop-departed.invariant.told t events start h in
     let n = c.in-Some.ensures.given t k.0 k.2.switches_are in
-    on-err c.from_residual-in_err-write_text.result _ (subst (λ (p : List Arrival). WritesSome t start (g.W.Write.contents c.write_text.new.output.inner) p) k.1
-    (begun-left t _ c.put_lines.new.self.network _ _ _ _ start _ _ k.0 n.departure _ k.2 (subst (λ (w : Network). network.StandsFor t w (Left n.departure ∷ k.0)) (sym c.put_lines.ensures.network) n.stands)
+    on-err c.from_residual-in_err-write_text.result _
+    (subst (λ (p : List Arrival). WritesSome t start
+    (g.W.Write.contents c.write_text.new.output.inner) p) k.1
+    (begun-left t _ c.put_lines.new.self.network _ _ _ _ start _ _ k.0 n.departure _ k.2
+    (subst (λ (w : Network). network.StandsFor t w (Left n.departure ∷ k.0))
+    (sym c.put_lines.ensures.network) n.stands)
     (c.in_ok-put_lines.ensures.told t k.0 n.departure k.2.systems_are n.hands k.2.counted)
     (rw c.as_bytes.ensures at c.in_err-write_text.ensures.front)))
 
 pub returns-clause-room : goal.returns-clause-room
-returns-clause-room g c n h = subst (λ (k : ℕ). HasRoom c.loop-departed.self.counts k n) (sym c.in_default.ensures.held) (c.loop-departed.invariant.room n h)
+returns-clause-room g c n h =
+    subst (λ (k : ℕ). HasRoom c.loop-departed.self.counts k n) (sym c.in_default.ensures.held)
+    (c.loop-departed.invariant.room n h)
 
 pub returns-clause-all_done : goal.returns-clause-all_done
 returns-clause-all_done g c t events start h late =
     let k = c.loop-departed.invariant.told t events start h in
-    subst (λ (p : List Arrival). ToldAll t c.loop-departed.self.counts start (g.W.Write.contents c.loop-departed.output.inner) p) k.1 (told-all t _ _ _ start _ k.0 k.2 (c.in_default.ensures.all_done t k.0 k.2.switches_are late))
+    subst (λ (p : List Arrival). ToldAll t c.loop-departed.self.counts start
+    (g.W.Write.contents c.loop-departed.output.inner) p) k.1
+    (told-all t _ _ _ start _ k.0 k.2 (c.in_default.ensures.all_done t k.0 k.2.switches_are late))

@@ -9,8 +9,11 @@ abbrev pub invariant-loop-departed : goal.invariant-loop-departed
 invariant-loop-departed g l = record {
   clock : network.IsUntil l.self.network l.until;
   sound : l.output.failed ≡ false;
-  room : (n : ℕ) → HasRoom l.fn.self.counts (network.frames_held l.fn.self.network) n → HasRoom l.self.counts (network.frames_held l.self.network) n;
-  told : (t : Rows) (events : List Event) (start : Option (List ℕ)) → HasTold t l.fn.self.network l.fn.self.systems l.fn.self.counts start (g.W.Write.contents l.fn.output.inner) events →
+  room : (n : ℕ) → HasRoom l.fn.self.counts (network.frames_held l.fn.self.network) n
+      → HasRoom l.self.counts (network.frames_held l.self.network) n;
+  told : (t : Rows) (events : List Event) (start : Option (List ℕ))
+      → HasTold t l.fn.self.network l.fn.self.systems l.fn.self.counts start
+      (g.W.Write.contents l.fn.output.inner) events →
       ToldMore t l.self.network l.self.systems l.self.counts start (g.W.Write.contents l.output.inner) events;
 }
 

@@ -7,9 +7,12 @@ use Rattle.afdx_replay.proofs.send_run.Sending.submit.Goals as goal
 pub returns-in-Ok-clause-told : goal.returns-in-Ok-clause-told
 returns-in-Ok-clause-told c s before n stands counted =
     let k = c.in-Ok.ensures.ok _ stands in
-    tells-taken s c.args.self.now.sender _ _ _ before (handed_at n c.args.handed.now c.args.payload.now) _ k.0 stands k.1 k.2 counted refl
+    tells-taken s c.args.self.now.sender _ _ _ before
+    (handed_at n c.args.handed.now c.args.payload.now) _ k.0 stands k.1 k.2 counted refl
 
 pub returns-else-is_memory-clause-told : goal.returns-else-is_memory-clause-told
 returns-else-is_memory-clause-told c s before n stands counted =
-    tells-refused s c.args.self.now.sender _ _ _ before (handed_at n c.args.handed.now c.args.payload.now) (last_time c.args.self.now.sender) _ (c.in-Err.ensures.unchanged _ stands)
+    tells-refused s c.args.self.now.sender _ _ _ before
+    (handed_at n c.args.handed.now c.args.payload.now) (last_time c.args.self.now.sender) _
+    (c.in-Err.ensures.unchanged _ stands)
     (c.is_memory.ensures c.if-is_memory.false) (c.in-Err.ensures.refused _ stands) counted refl

@@ -20,7 +20,9 @@ loop-emission-preserved g c =
           record {
             more = Emitted e.slot ∷ k.more;
             submissions_are = k.submissions_are;
-            told = told-emitted s _ _ _ _ _ _ start _ _ k.more _ _ k.told e c.emit.ensures.clock (c.as_bytes.ensures ∙ c.in_ok-put_emission.ensures) refl c.in_ok-write_text.ensures.written;
+            told = told-emitted s _ _ _ _ _ _ start _ _ k.more _ _ k.told e c.emit.ensures.clock
+                (c.as_bytes.ensures ∙ c.in_ok-put_emission.ensures) refl
+                c.in_ok-write_text.ensures.written;
           };
     }
 
@@ -34,19 +36,28 @@ overflow_add-self g c =
 pub returns-in_err-emission-clause-some : goal.returns-in_err-emission-clause-some
 returns-in_err-emission-clause-some g c s events start h =
     let k = c.loop-emission.invariant.told s events start h in
-    on-err c.from_residual.result _ (subst (λ (p : List Handed). WritesSome s start (g.W.Write.contents c.loop-emission.output.inner) p) k.submissions_are (told-some s _ _ _ start _ k.more k.told))
+    on-err c.from_residual.result _
+    (subst (λ (p : List Handed). WritesSome s start
+    (g.W.Write.contents c.loop-emission.output.inner) p) k.submissions_are
+    (told-some s _ _ _ start _ k.more k.told))
 
 pub returns-in_err-put_emission-clause-some : goal.returns-in_err-put_emission-clause-some
 returns-in_err-put_emission-clause-some g c s events start h =
     let k = c.loop-emission.invariant.told s events start h in
-    on-err c.from_residual-in_err-put_emission.result _ (subst (λ (p : List Handed). WritesSome s start (g.W.Write.contents c.loop-emission.output.inner) p) k.submissions_are (told-some s _ _ _ start _ k.more k.told))
+    on-err c.from_residual-in_err-put_emission.result _
+    (subst (λ (p : List Handed). WritesSome s start
+    (g.W.Write.contents c.loop-emission.output.inner) p) k.submissions_are
+    (told-some s _ _ _ start _ k.more k.told))
 
 pub returns-in_err-write_text-clause-some : goal.returns-in_err-write_text-clause-some
 returns-in_err-write_text-clause-some g c s events start h =
     let k = c.loop-emission.invariant.told s events start h in
     let e = rw c.in-Some.is at (c.in_ok-emission.ensures.given _ k.told.stands) in
-    on-err c.from_residual-in_err-write_text.result _ (subst (λ (p : List Handed). WritesSome s start (g.W.Write.contents c.write_text.new.output.inner) p) k.submissions_are
-    (begun-emitted s _ _ _ _ _ start _ _ k.more _ _ k.told e (c.as_bytes.ensures ∙ c.in_ok-put_emission.ensures) c.in_err-write_text.ensures.front))
+    on-err c.from_residual-in_err-write_text.result _
+    (subst (λ (p : List Handed). WritesSome s start
+    (g.W.Write.contents c.write_text.new.output.inner) p) k.submissions_are
+    (begun-emitted s _ _ _ _ _ start _ _ k.more _ _ k.told e
+    (c.as_bytes.ensures ∙ c.in_ok-put_emission.ensures) c.in_err-write_text.ensures.front))
 
 pub returns-clause-told : goal.returns-clause-told
 returns-clause-told g c s events start h =
@@ -55,8 +66,14 @@ returns-clause-told g c s events start h =
       told = record {
         more = k.more;
         submissions_are = k.submissions_are;
-        told = told-later s _ _ _ c.args.until _ start _ k.more k.told (if-none c.in_ok-emission.field-0 _ c.in_default.not-Some (c.in_ok-emission.ensures.none _ k.told.stands)) c.emit.ensures.clock c.loop-emission.invariant.clock;
+        told = told-later s _ _ _ c.args.until _ start _ k.more k.told
+            (if-none c.in_ok-emission.field-0 _ c.in_default.not-Some
+            (c.in_ok-emission.ensures.none _ k.told.stands)) c.emit.ensures.clock
+            c.loop-emission.invariant.clock;
       };
-      no_more = λ turn next. if-none c.in_ok-emission.field-0 _ c.in_default.not-Some (c.in_ok-emission.ensures.no_more _ turn k.told.stands next);
-      done = λ late. done-at s k.more _ (if-none c.in_ok-emission.field-0 _ c.in_default.not-Some (c.in_ok-emission.ensures.all_done _ k.told.stands late));
+      no_more = λ turn next. if-none c.in_ok-emission.field-0 _ c.in_default.not-Some
+          (c.in_ok-emission.ensures.no_more _ turn k.told.stands next);
+      done = λ late. done-at s k.more _
+          (if-none c.in_ok-emission.field-0 _ c.in_default.not-Some
+          (c.in_ok-emission.ensures.all_done _ k.told.stands late));
     }

@@ -13,19 +13,24 @@ submit-requires-clause-room g c =
 pub returns-in_err-fault-clause-some : goal.returns-in_err-fault-clause-some
 returns-in_err-fault-clause-some g c s start past h =
     let u = c.in_ok-tell_emissions.ensures.told s h.events start h.told in
-    on-err c.from_residual-in_err-fault.result _ (inl (until-some s c.args.handed.now.time _ _ _ start _ h.events past u h.submissions_are))
+    on-err c.from_residual-in_err-fault.result _
+    (inl (until-some s c.args.handed.now.time _ _ _ start _ h.events past u h.submissions_are))
 
 pub returns-in_err-put_refusal-clause-some : goal.returns-in_err-put_refusal-clause-some
 returns-in_err-put_refusal-clause-some g c s start past h =
     let u = c.in_ok-tell_emissions.ensures.told s h.events start h.told in
-    on-err c.from_residual-in_err-put_refusal.result _ (inl (until-some s c.args.handed.now.time _ _ _ start _ h.events past u h.submissions_are))
+    on-err c.from_residual-in_err-put_refusal.result _
+    (inl (until-some s c.args.handed.now.time _ _ _ start _ h.events past u h.submissions_are))
 
 pub returns-in_err-write_text-clause-some : goal.returns-in_err-write_text-clause-some
 returns-in_err-write_text-clause-some g c s start past h =
     let u = c.in_ok-tell_emissions.ensures.told s h.events start h.told in
     let x = handed_at c.args.n c.args.handed.now c.args.payload.now in
-    let tells = rw c.in-Some.is at (c.in_ok-fault.ensures.told s u.told.more c.args.n u.told.told.stands u.told.told.counted) in
-    on-err c.from_residual-in_err-write_text.result _ (inr (begun-submitted s _ _ _ _ _ start _ _ h.events past x (Some c.in-Some.fault) u h.submissions_are c.in_ok-tell_emissions.ensures.clock tells
+    let tells = rw c.in-Some.is at
+    (c.in_ok-fault.ensures.told s u.told.more c.args.n u.told.told.stands u.told.told.counted) in
+    on-err c.from_residual-in_err-write_text.result _
+    (inr (begun-submitted s _ _ _ _ _ start _ _ h.events past x (Some c.in-Some.fault) u
+    h.submissions_are c.in_ok-tell_emissions.ensures.clock tells
     (rw (c.as_bytes.ensures ∙ c.in_ok-put_refusal.ensures) at c.in_err-write_text.ensures.front)))
 
 pub returns-in_ok-write_text-clause-room : goal.returns-in_ok-write_text-clause-room
@@ -35,8 +40,11 @@ pub returns-in_ok-write_text-clause-told : goal.returns-in_ok-write_text-clause-
 returns-in_ok-write_text-clause-told g c s start past h =
     let u = c.in_ok-tell_emissions.ensures.told s h.events start h.told in
     let x = handed_at c.args.n c.args.handed.now c.args.payload.now in
-    let tells = rw c.in-Some.is at (c.in_ok-fault.ensures.told s u.told.more c.args.n u.told.told.stands u.told.told.counted) in
-    told-submitted s _ _ _ _ _ _ start _ _ h.events past x (Some c.in-Some.fault) u h.submissions_are c.in_ok-tell_emissions.ensures.clock tells c.submit.ensures.clock c.submit.ensures.port
+    let tells = rw c.in-Some.is at
+    (c.in_ok-fault.ensures.told s u.told.more c.args.n u.told.told.stands u.told.told.counted) in
+    told-submitted s _ _ _ _ _ _ start _ _ h.events past x (Some c.in-Some.fault) u
+    h.submissions_are c.in_ok-tell_emissions.ensures.clock tells c.submit.ensures.clock
+    c.submit.ensures.port
     (rw (c.as_bytes.ensures ∙ c.in_ok-put_refusal.ensures) at c.in_ok-write_text.ensures.written)
 
 pub returns-in_default-clause-room : goal.returns-in_default-clause-room
@@ -48,5 +56,6 @@ returns-in_default-clause-told g c s start past h =
     let x = handed_at c.args.n c.args.handed.now c.args.payload.now in
     let none : c.in_ok-fault.field-0 ≡ None = none-of c.in_ok-fault.field-0 c.in_default.not-Some in
     let tells = rw none at (c.in_ok-fault.ensures.told s u.told.more c.args.n u.told.told.stands u.told.told.counted) in
-    told-submitted s _ _ _ _ _ _ start _ _ h.events past x None u h.submissions_are c.in_ok-tell_emissions.ensures.clock tells c.submit.ensures.clock c.submit.ensures.port
+    told-submitted s _ _ _ _ _ _ start _ _ h.events past x None u h.submissions_are
+    c.in_ok-tell_emissions.ensures.clock tells c.submit.ensures.clock c.submit.ensures.port
     (Appends-nil (g.W.Write.contents c.tell_emissions.new.output.inner))

@@ -10,4 +10,5 @@ pub returns-clause-empty : goal.returns-clause-empty
 returns-clause-empty c = empty_sum (λ q. q.items) c.loop.queues.items c.loop.invariant.1
 
 pub returns-clause-next : goal.returns-clause-next
-returns-clause-next c = ap (λ o. option_map (λ t. max t 0) o) (empty_first (λ q. q.items) c.loop.queues.items c.loop.invariant.1)
+returns-clause-next c = ap (λ o. option_map (λ t. max t 0) o)
+    (empty_first (λ q. q.items) c.loop.queues.items c.loop.invariant.1)

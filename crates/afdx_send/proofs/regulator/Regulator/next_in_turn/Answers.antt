@@ -9,25 +9,51 @@ pub returns-then-has_come : goal.returns-then-has_come
 returns-then-has_come c =
     let ok = c.args.self.now.queues.ok.0 in
     let count = c.len-count.ensures in
-    let at : (c.if-turn-count.index ≡ c.args.self.now.served + c.loop-step.step) ⊎ (c.if-turn-count.index + sub_count c.args.self.now ≡ c.args.self.now.served + c.loop-step.step) =
-    elim c.if-turn-count.branch [ then-turn-count w ↦ inl w.index-is | else-turn-count w ↦ inr (omega (arith, w.index-is, w.if-turn-count)) ] in
-    let below : c.if-turn-count.index < sub_count c.args.self.now = elim c.if-turn-count.branch [ then-turn-count w ↦ omega (arith, w.index-is, w.if-turn-count) | else-turn-count w ↦ omega (arith, w.index-is, w.if-turn-count) ] in
-    let mine = turn_of (sub_count c.args.self.now) c.args.self.now.served c.loop-step.step c.if-turn-count.index (omega arith) c.args.self.now.within at below in
-    record { chosen = record { ready = c.if-has_come.ensures.0 refl; in_turn = λ other r. (let lt = c.loop-step.invariant other r in omega arith) } }
+    let at : (c.if-turn-count.index ≡ c.args.self.now.served + c.loop-step.step)
+    ⊎ (c.if-turn-count.index + sub_count c.args.self.now
+    ≡ c.args.self.now.served + c.loop-step.step) =
+    elim c.if-turn-count.branch [
+      | then-turn-count w ↦ inl w.index-is
+      | else-turn-count w ↦ inr (omega (arith, w.index-is, w.if-turn-count))
+    ] in
+    let below : c.if-turn-count.index < sub_count c.args.self.now =
+    elim c.if-turn-count.branch [
+      | then-turn-count w ↦ omega (arith, w.index-is, w.if-turn-count)
+      | else-turn-count w ↦ omega (arith, w.index-is, w.if-turn-count)
+    ] in
+    let mine = turn_of (sub_count c.args.self.now) c.args.self.now.served c.loop-step.step
+    c.if-turn-count.index (omega arith) c.args.self.now.within at below in
+    record {
+      chosen = record {
+        ready = c.if-has_come.ensures.0 refl;
+        in_turn = λ other r. (let lt = c.loop-step.invariant other r in omega arith);
+      };
+    }
 
 pub loop-step-preserved : goal.loop-step-preserved
 loop-step-preserved c = λ other r.
     let ok = c.args.self.now.queues.ok.0 in
     let count = c.len-count.ensures in
-    let at : (c.if-turn-count.index ≡ c.args.self.now.served + c.loop-step.step) ⊎ (c.if-turn-count.index + sub_count c.args.self.now ≡ c.args.self.now.served + c.loop-step.step) =
-    elim c.if-turn-count.branch [ then-turn-count w ↦ inl w.index-is | else-turn-count w ↦ inr (omega (arith, w.index-is, w.if-turn-count)) ] in
-    let below : c.if-turn-count.index < sub_count c.args.self.now = elim c.if-turn-count.branch [ then-turn-count w ↦ omega (arith, w.index-is, w.if-turn-count) | else-turn-count w ↦ omega (arith, w.index-is, w.if-turn-count) ] in
-    let mine = turn_of (sub_count c.args.self.now) c.args.self.now.served c.loop-step.step c.if-turn-count.index (omega arith) c.args.self.now.within at below in
+    let at : (c.if-turn-count.index ≡ c.args.self.now.served + c.loop-step.step)
+    ⊎ (c.if-turn-count.index + sub_count c.args.self.now
+    ≡ c.args.self.now.served + c.loop-step.step) =
+    elim c.if-turn-count.branch [
+      | then-turn-count w ↦ inl w.index-is
+      | else-turn-count w ↦ inr (omega (arith, w.index-is, w.if-turn-count))
+    ] in
+    let below : c.if-turn-count.index < sub_count c.args.self.now =
+    elim c.if-turn-count.branch [
+      | then-turn-count w ↦ omega (arith, w.index-is, w.if-turn-count)
+      | else-turn-count w ↦ omega (arith, w.index-is, w.if-turn-count)
+    ] in
+    let mine = turn_of (sub_count c.args.self.now) c.args.self.now.served c.loop-step.step
+    c.if-turn-count.index (omega arith) c.args.self.now.within at below in
     let lt = c.loop-step.invariant other r in
     let within = ready_place (λ q. q.items) c.args.self.now.queues.items c.args.time other r in
     let P : ℕ → Type 0 = λ i. IsReady (waiting_of c.args.self.now) c.args.time i in
     let ne : turn (sub_count c.args.self.now) c.args.self.now.served (other + 1) ≡ c.loop-step.step + 1 → ⊥ =
-    λ e. (let same = turn_same (sub_count c.args.self.now) c.args.self.now.served other c.if-turn-count.index c.args.self.now.within within below (e ∙ sym mine) in
+    λ e. (let same = turn_same (sub_count c.args.self.now) c.args.self.now.served other
+    c.if-turn-count.index c.args.self.now.within within below (e ∙ sym mine) in
     let k = c.if-has_come.ensures.1 (subst P same r) in cc k) in
     omega (arith, ne)
 

@@ -5,7 +5,9 @@ use Rattle.afdx_send.proofs.RegulatorLemmas.{later_than}
 use Rattle.afdx_send.proofs.regulator.Regulator.release.Goals as goal
 
 pub returns-clause-released : goal.returns-clause-released
-returns-clause-released c = λ ss rs g. released c.args.self.now ss rs c.args.time (c.next_in_turn-index.result + 1) c.in-Some.message _ c.requires.due g
+returns-clause-released c =
+    λ ss rs g. released c.args.self.now ss rs c.args.time (c.next_in_turn-index.result + 1)
+    c.in-Some.message _ c.requires.due g
     (record {
       index = c.next_in_turn-index.result;
       sub_is = refl;
@@ -17,7 +19,10 @@ returns-clause-released c = λ ss rs g. released c.args.self.now ss rs c.args.ti
     })
 
 pub returns-clause-later : goal.returns-clause-later
-returns-clause-later c = λ t e. (let a = later_than (c.args.time + c.pop.new.self.bag) (first_time None (waiting_of c.pop.new.self)) t e in omega arith)
+returns-clause-later c =
+    λ t e. (let a = later_than (c.args.time + c.pop.new.self.bag)
+    (first_time None (waiting_of c.pop.new.self)) t e in omega arith)
 
 pub returns-clause-held : goal.returns-clause-held
-returns-clause-held c = popped_sum (waiting_of c.args.self.now) (waiting_of c.pop.new.self) c.next_in_turn-index.result c.in-Some.message c.in-Some.ensures.front
+returns-clause-held c = popped_sum (waiting_of c.args.self.now) (waiting_of c.pop.new.self)
+    c.next_in_turn-index.result c.in-Some.message c.in-Some.ensures.front

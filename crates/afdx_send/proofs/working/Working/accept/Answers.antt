@@ -19,8 +19,10 @@ pub returns-in-Err-clause-refused : goal.returns-in-Err-clause-refused
 returns-in-Err-clause-refused c = λ h st.
     let w = c.args.self.now in
     let p = c.in-Some.ensures h st in
-    let has = read_at w.lines.items c.in-Some.place c.index.result.now (place_below w h c.args.vl.0 c.in-Some.place st p) c.index.ensures in
-    refuses w h st c.in-Some.place c.args.vl.0 c.args.sub (length c.args.payload.now) c.index.result.now c.in-Err.fault c.requires.idle p has c.in-Err.ensures.err
+    let has = read_at w.lines.items c.in-Some.place c.index.result.now
+    (place_below w h c.args.vl.0 c.in-Some.place st p) c.index.ensures in
+    refuses w h st c.in-Some.place c.args.vl.0 c.args.sub (length c.args.payload.now)
+    c.index.result.now c.in-Err.fault c.requires.idle p has c.in-Err.ensures.err
 
 pub add-requires-clause-place : goal.add-requires-clause-place
 add-requires-clause-place c =
@@ -30,28 +32,37 @@ add-requires-clause-place c =
 pub add-requires-clause-queue : goal.add-requires-clause-queue
 add-requires-clause-queue c = λ line has.
     let w = c.args.self.now in let h = c.requires.sound.0 in let st = c.requires.sound.1 in
-    let has' = read_at w.lines.items c.in-Some.place c.index.result.now (place_below w h c.args.vl.0 c.in-Some.place st (c.in-Some.ensures h st)) c.index.ensures in
+    let has' = read_at w.lines.items c.in-Some.place c.index.result.now
+    (place_below w h c.args.vl.0 c.in-Some.place st (c.in-Some.ensures h st)) c.index.ensures in
     let same = same_get w.lines.items c.in-Some.place c.index.result.now line has' has in
     let admits = c.in_default-check.ensures.ok in
     let from : c.from.result ≡ c.args.sub = c.from.ensures in
     let some = admits.is_sub.0 in
     let at : c.from.result - 1 + 1 ≡ c.args.sub = omega arith in
-    let n : length c.new-message.result.payload.items ≡ length c.args.payload.now = ap (λ v. length v.items) c.new-message.ensures.payload ∙ ap length c.in-Ok.ensures.items in
-    subst (λ (z : Line). CanTake z (c.from.result - 1) c.new-message.result) same (can_take c.index.result.now (c.from.result - 1) c.args.sub c.new-message.result (length c.args.payload.now) admits at n)
+    let n : length c.new-message.result.payload.items ≡ length c.args.payload.now =
+    ap (λ v. length v.items) c.new-message.ensures.payload ∙ ap length c.in-Ok.ensures.items in
+    subst (λ (z : Line). CanTake z (c.from.result - 1) c.new-message.result) same
+    (can_take c.index.result.now (c.from.result - 1) c.args.sub c.new-message.result
+    (length c.args.payload.now) admits at n)
 
 pub returns-in-Ok-add-clause-ok : goal.returns-in-Ok-add-clause-ok
 returns-in-Ok-add-clause-ok c = λ h st.
     let w = c.args.self.now in
     let p = c.in-Some.ensures h st in
-    let has = read_at w.lines.items c.in-Some.place c.index.result.now (place_below w h c.args.vl.0 c.in-Some.place st p) c.index.ensures in
+    let has = read_at w.lines.items c.in-Some.place c.index.result.now
+    (place_below w h c.args.vl.0 c.in-Some.place st p) c.index.ensures in
     let admits = c.in_default-check.ensures.ok in
     let from : c.from.result ≡ c.args.sub = c.from.ensures in
     let some = admits.is_sub.0 in
     let at : c.from.result - 1 + 1 ≡ c.args.sub = omega arith in
     let m : Submission = submission w.clock c.args.sub c.args.udp c.args.payload.now in
-    let same : submission_of (c.from.result - 1 + 1) c.new-message.result ≡ m = submission_is c.new-message.result (c.from.result - 1) c.args.sub w.clock c.args.udp c.args.payload.now at
-    c.new-message.ensures.time c.new-message.ensures.udp (ap (λ v. v.items) c.new-message.ensures.payload ∙ c.in-Ok.ensures.items) in (
+    let same : submission_of (c.from.result - 1 + 1) c.new-message.result ≡ m =
+    submission_is c.new-message.result (c.from.result - 1) c.args.sub w.clock c.args.udp
+    c.args.payload.now at
+    c.new-message.ensures.time c.new-message.ensures.udp
+    (ap (λ v. v.items) c.new-message.ensures.payload ∙ c.in-Ok.ensures.items) in (
       c.in-Some.place,
       taken w h st c.in-Some.place c.args.vl.0 c.args.sub m c.index.result.now c.requires.idle p has refl refl admits,
-      subst (λ (z : Submission). StandsFor c.add.new.self (with_submission h c.in-Some.place z)) same (c.in-Ok-add.ensures.ok h st),
+      subst (λ (z : Submission). StandsFor c.add.new.self (with_submission h c.in-Some.place z))
+          same (c.in-Ok-add.ensures.ok h st),
     )

@@ -4,12 +4,17 @@ use Rattle.afdx_send.proofs.EmitLemmas.{none_of}
 use Rattle.afdx_send.proofs.working.Working.advance.Goals as goal
 
 pub release-requires-clause-sound : goal.release-requires-clause-sound
-release-requires-clause-sound c = (c.loop-time.invariant.sound.0, c.take.ensures.stands c.loop-time.invariant.sound.0 c.loop-time.invariant.sound.1)
+release-requires-clause-sound c = (
+  c.loop-time.invariant.sound.0,
+  c.take.ensures.stands c.loop-time.invariant.sound.0
+      c.loop-time.invariant.sound.1,
+)
 
 pub loop-time-preserved : goal.loop-time-preserved
 loop-time-preserved c =
     let inv = c.loop-time.invariant in
-    let none : c.take.new.self.ready ≡ None = none_of c.take.new.self.ready (sym c.is_some.ensures ∙ c.if-is_some.false) in
+    let none : c.take.new.self.ready ≡ None =
+    none_of c.take.new.self.ready (sym c.is_some.ensures ∙ c.if-is_some.false) in
     let m : messages_held c.take.new.self ≡ messages_held c.loop-time.self = ap messages_held c.take.ensures.rest in
     let r : ready_count c.take.new.self.ready ≡ 0 = ap ready_count none in
     let r0 : ready_count c.loop-time.self.ready ≡ 0 = ap ready_count inv.idle in

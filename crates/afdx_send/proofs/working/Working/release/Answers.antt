@@ -15,10 +15,12 @@ release-released-requires-clause-limit c =
     omega (arith, l.gap, l.limit)
 
 pub index-requires : goal.index-requires
-index-requires c = let ok = c.args.self.now.lines.ok.0 in omega (arith, due_place c.args.self.now c.args.time c.args.place c.requires.soonest)
+index-requires c = let ok = c.args.self.now.lines.ok.0 in
+    omega (arith, due_place c.args.self.now c.args.time c.args.place c.requires.soonest)
 
 pub set-requires-clause-place : goal.set-requires-clause-place
-set-requires-clause-place c = let a = c.requires.sound.1.agenda_count in omega (arith, due_place c.args.self.now c.args.time c.args.place c.requires.soonest)
+set-requires-clause-place c = let a = c.requires.sound.1.agenda_count in
+    omega (arith, due_place c.args.self.now c.args.time c.args.place c.requires.soonest)
 
 pub put-requires-clause-limit : goal.put-requires-clause-limit
 put-requires-clause-limit c =
@@ -32,8 +34,11 @@ unreachable-requires c =
     let h = c.requires.sound.0 in
     let st = c.requires.sound.1 in
     let d = line_read w c.args.time c.args.place c.index_mut.result.now c.requires.soonest c.index_mut.ensures.value in
-    kept w h st c.args.time c.args.place c.index_mut.result.now c.release-released.new.self c.release-released.result c.sender_is_bounded.ensures.never_full c.one_schedule.ensures.exists c.requires.soonest d
-    c.release-released.ensures.vl c.release-released.ensures.least c.release-released.ensures.number c.release-released.ensures.released c.requires.port_clock
+    kept w h st c.args.time c.args.place c.index_mut.result.now c.release-released.new.self
+    c.release-released.result c.sender_is_bounded.ensures.never_full
+    c.one_schedule.ensures.exists c.requires.soonest d
+    c.release-released.ensures.vl c.release-released.ensures.least c.release-released.ensures.number
+    c.release-released.ensures.released c.requires.port_clock
     ((c.in_default.ensures.lost (port_history h st.released st.given w.output.clock) st.output).0 refl)
 
 pub returns-clause-stands : goal.returns-clause-stands
@@ -41,9 +46,11 @@ returns-clause-stands c = λ h st.
     let w = c.args.self.now in
     let line' = c.release-released.new.self in
     let below = due_place w c.args.time c.args.place c.requires.soonest in
-    let read : c.index.result.now ≡ line' = c.index.ensures ∙ get_or-set_same w.lines.items c.args.place line' c.index.result.now below in
+    let read : c.index.result.now ≡ line' = c.index.ensures
+    ∙ get_or-set_same w.lines.items c.args.place line' c.index.result.now below in
     let next = c.next_time-next.ensures ∙ ap (λ l. next_time_of l.regulator) read in
-    release_stands w h c.args.time c.args.place c.index_mut.result.now line' c.release-released.result c.set.new.self c.put.new.self st
+    release_stands w h c.args.time c.args.place c.index_mut.result.now line'
+    c.release-released.result c.set.new.self c.put.new.self st
     (record {
       idle = c.requires.idle;
       soonest = c.requires.soonest;

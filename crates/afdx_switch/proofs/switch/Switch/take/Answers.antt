@@ -7,4 +7,5 @@ returns-clause-in_time c t side h run = each-in-time c.take.result t side h c.ar
 pub returns-clause-left : goal.returns-clause-left
 returns-clause-left c t side h port place l st run low high at =
     let stands = rw (← c.self.view_is) at st in
-    none-left c.take.result t side _ h port place l c.args.until stands run low high at (λ s next. c.take.ensures.no_more t side h port s stands low high next)
+    none-left c.take.result t side _ h port place l c.args.until stands run low high at
+    (λ s next. c.take.ensures.no_more t side h port s stands low high next)

@@ -2,4 +2,7 @@ use Rattle.afdx_systems.proofs.SystemsLemmas.{built}
 use Rattle.afdx_systems.proofs.systems.Systems.new.Goals as goal
 
 pub returns : goal.returns
-returns c = record { stands = built c.args.tables.now c.loop-port.at_ports c.loop-port.port c.loop-port-test.false c.loop-port.invariant }
+returns c = record {
+  stands = built c.args.tables.now c.loop-port.at_ports c.loop-port.port
+      c.loop-port-test.false c.loop-port.invariant;
+}

@@ -1,34 +1,49 @@
 use Rattle.std.proofs.Common.{sym, refl, append-nil, arith}
 use Rattle.afdx_config.specs.Reading.{system_at_port}
 use Rattle.afdx_systems.specs.Handovers.{handed_over, came_to}
-use Rattle.afdx_systems.proofs.SystemsLemmas.{before_at, is_at, stand_after, no_line, not_delivered, stand_still, line_is, delivered_is}
+use Rattle.afdx_systems.proofs.SystemsLemmas.{before_at, is_at, stand_after, no_line, not_delivered}
+use Rattle.afdx_systems.proofs.SystemsLemmas.{stand_still, line_is, delivered_is}
 use Rattle.afdx_systems.proofs.systems.Systems.receive_checked.Goals as goal
 
 pub returns-then-place-len-clause-line : goal.returns-then-place-len-clause-line
 returns-then-place-len-clause-line c = λ rows before stands.
     let d = handed_over c.args.handover in
-    let are = before_at rows c.args.self.now before d c.from-place.result c.index_mut.result.now stands c.from-place.ensures (omega arith) c.index_mut.ensures.value in
-    line_is rows before d _ _ _ (c.receive_at.ensures.line rows (came_to d.port before) (system_at_port rows.systems d.port) (is_at _ _ _ _ _ _ are))
+    let are = before_at rows c.args.self.now before d c.from-place.result c.index_mut.result.now
+    stands c.from-place.ensures (omega arith) c.index_mut.ensures.value in
+    line_is rows before d _ _ _
+    (c.receive_at.ensures.line rows (came_to d.port before) (system_at_port rows.systems d.port)
+    (is_at _ _ _ _ _ _ are))
 
 pub returns-then-place-len-clause-delivered : goal.returns-then-place-len-clause-delivered
 returns-then-place-len-clause-delivered c = λ rows before stands.
     let d = handed_over c.args.handover in
-    let are = before_at rows c.args.self.now before d c.from-place.result c.index_mut.result.now stands c.from-place.ensures (omega arith) c.index_mut.ensures.value in
-    delivered_is rows before d _ (c.receive_at.ensures.delivered rows (came_to d.port before) (system_at_port rows.systems d.port) (is_at _ _ _ _ _ _ are))
+    let are = before_at rows c.args.self.now before d c.from-place.result c.index_mut.result.now
+    stands c.from-place.ensures (omega arith) c.index_mut.ensures.value in
+    delivered_is rows before d _
+    (c.receive_at.ensures.delivered rows (came_to d.port before)
+    (system_at_port rows.systems d.port) (is_at _ _ _ _ _ _ are))
 
 pub returns-then-place-len-clause-stands : goal.returns-then-place-len-clause-stands
 returns-then-place-len-clause-stands c = λ rows before stands.
     let d = handed_over c.args.handover in
-    let are = before_at rows c.args.self.now before d c.from-place.result c.index_mut.result.now stands c.from-place.ensures (omega arith) c.index_mut.ensures.value in
-    stand_after _ _ _ _ _ _ are _ c.receive_at.new.at refl (c.receive_at.ensures.stands rows (came_to d.port before) (system_at_port rows.systems d.port) (is_at _ _ _ _ _ _ are))
+    let are = before_at rows c.args.self.now before d c.from-place.result c.index_mut.result.now
+    stands c.from-place.ensures (omega arith) c.index_mut.ensures.value in
+    stand_after _ _ _ _ _ _ are _ c.receive_at.new.at refl
+    (c.receive_at.ensures.stands rows (came_to d.port before)
+    (system_at_port rows.systems d.port) (is_at _ _ _ _ _ _ are))
 
 pub returns-else-place-len-clause-line : goal.returns-else-place-len-clause-line
 returns-else-place-len-clause-line c = λ rows before stands.
-    let none = no_line rows c.args.self.now before (handed_over c.args.handover) c.from-place.result stands c.from-place.ensures (omega arith) in
+    let none = no_line rows c.args.self.now before (handed_over c.args.handover) c.from-place.result
+    stands c.from-place.ensures (omega arith) in
     rw (none, append-nil) refl
 
 pub returns-else-place-len-clause-delivered : goal.returns-else-place-len-clause-delivered
-returns-else-place-len-clause-delivered c = λ rows before stands. sym (not_delivered rows c.args.self.now before (handed_over c.args.handover) c.from-place.result stands c.from-place.ensures (omega arith))
+returns-else-place-len-clause-delivered c =
+    λ rows before stands. sym (not_delivered rows c.args.self.now before
+    (handed_over c.args.handover) c.from-place.result stands c.from-place.ensures (omega arith))
 
 pub returns-else-place-len-clause-stands : goal.returns-else-place-len-clause-stands
-returns-else-place-len-clause-stands c = λ rows before stands. stand_still rows c.args.self.now before (handed_over c.args.handover) c.from-place.result stands c.from-place.ensures (omega arith)
+returns-else-place-len-clause-stands c =
+    λ rows before stands. stand_still rows c.args.self.now before (handed_over c.args.handover)
+    c.from-place.result stands c.from-place.ensures (omega arith)

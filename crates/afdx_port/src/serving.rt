@@ -1,0 +1,90 @@
+//! Which of 24 ports is served first.
+ghost use Rattle.std.specs.Prelude.{◌≡◌, ℕ, ◌<◌, ◌≤◌, List, length, slice_set};
+ghost use Rattle.afdx_port.specs.Serving.{key_of, AreRanked, IsLeastIn};
+
+use crate::has_length::HasLength;
+use crate::port::Port;
+
+/// The places of 24 ports in the order in which they are served together, kept so that the first
+/// of all is at hand.
+///
+/// A port's key is its order, and below it its place among the ports. So the least key is that of
+/// the port whose turn goes first.
+#[derive(Drop)]
+pub struct Serving {
+    keys: [u64; 24],
+    /// The least of each four keys.
+    least: [u64; 6],
+}
+
+/// The least of the numbers from one place to before another.
+#[inline(always)]
+fn least_in(numbers: &[u64], from: usize, to: usize) -> u64
+    requires some { from < to }
+    requires within { to ≤ length numbers.now }
+    ensures { IsLeastIn numbers.now from to result }
+{
+    let mut least = numbers[from];
+    for place in from + 1..to {
+        least = least.min(numbers[place]);
+    }
+    least
+}
+
+impl Serving {
+    ghost use Rattle.afdx_port.specs.declared.pending.Pending.{Pending};
+    ghost use Rattle.afdx_port.specs.Ports.{AreServed};
+    ghost use Rattle.afdx_port.specs.Serving.{IsServing};
+
+    /// The order in which 24 ports are served as they are.
+    pub fn of<T: HasLength>(ports: &[Port<T>]) -> Serving
+        requires { length ports.now ≡ 24 }
+        ensures { IsServing T.facts ports.now result }
+    {
+        let mut serving = Serving {
+            keys: [0; 24],
+            least: [0; 6],
+        };
+        for place in 0..24 {
+            serving.set(place, ports[place].order());
+        }
+        serving
+    }
+
+    /// From now on the port at this place has this order.
+    #[inline(always)]
+    fn set(&mut self, place: usize, order: u64)
+        requires place { place < 24 }
+        requires order { order ≤ 4503599627370496 }
+        requires ranked { AreRanked self.old.keys self.old.least }
+        ensures keys { self.new.keys ≡ slice_set self.old.keys place (key_of order place) }
+        ensures group_count { length self.new.least ≡ 6 }
+        ensures ranked { AreRanked self.new.keys self.new.least }
+    {
+        self.keys[place] = 32 * order + place as u64;
+        let group = place / 4;
+        self.least[group] = least_in(&self.keys, 4 * group, 4 * group + 4);
+    }
+
+    /// The port at this place has changed, and is now this one.
+    #[inline]
+    pub fn renew<T: HasLength>(&mut self, place: usize, port: &Port<T>)
+        requires place { place < 24 }
+        requires ranked { AreRanked self.old.keys self.old.least }
+        ensures ranked { AreRanked self.new.keys self.new.least }
+        ensures serving { (ports : List (Pending T)) → IsServing T.facts ports self.old →
+            IsServing T.facts (slice_set ports place port.now) self.new }
+    {
+        self.set(place, port.order());
+    }
+
+    /// The port whose turn goes first if no frame is put before, as its place: by time, at one time
+    /// slots before drops, then by place. The first port, if none has a turn to come.
+    #[inline]
+    pub fn first<T: HasLength>(&self) -> usize
+        ensures { (ports : List (Pending T)) → IsServing T.facts ports self.now →
+            AreServed T.facts ports result }
+    {
+        (least_in(&self.least, 0, 6) % 32) as usize
+    }
+}

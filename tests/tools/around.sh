@@ -1,0 +1,162 @@
+# Tests of campaigns, of what bin/install installs, and of the commands of the guide; a part of
+# tests/tools.sh.
+# shellcheck shell=bash
+# shellcheck disable=SC2154  # what it uses is set by tests/tools.sh, which sources it
+
+# ---- campaigns -----------------------------------------------------------------------------
+
+campaign_tests() {
+    cp examples/one_link.list "$work/one a.list"
+    printf 'F 0 A 1 %s\n' "$(frame_of A 0)" >"$work/two.list"
+    printf 'F 0 A 1 %s\nF 0 C 1 00\n' "$(frame_of A 0)" >"$work/three.list"
+    launch tools/afdx-campaign examples/base.toml "$work/one a.list" "$work/two.list" --out "$work/sound"
+    tell 'a campaign of two sound lists' "$(
+        is_status 0
+        says out 'one a.list'
+        tail -n +2 "$work/sound/campaign.csv" | cut -d , -f 2-5 >"$work/got"
+        printf '3,2,1,0\n1,1,0,0\n' >"$work/wanted"
+        same "$work/wanted" "$work/got"
+    )"
+    launch tools/afdx-campaign examples/base.toml "$work/two.list" "$work/three.list" --out "$work/mixed"
+    tell 'the status of the worst run' "$(is_status 3; says out 'list BadLine 2')"
+    launch tools/afdx-campaign examples/base.toml "$work/two.list" "$work/three.list" "$work/one a.list" \
+        --out "$work/mixed" --resume
+    tell 'a campaign that goes on with what is new' "$(
+        is_status 3
+        if [[ $(grep -c 'afdx-report' "$work/mixed/joblog") -ne 3 ]]; then cat "$work/mixed/joblog"; fi
+        tail -n +2 "$work/mixed/campaign.csv" | cut -d , -f 2 >"$work/got"
+        printf '1\n1\n3\n' >"$work/wanted"
+        same "$work/wanted" "$work/got"
+    )"
+    launch tools/afdx-campaign examples/base.toml "$work/one a.list" --out "$work/mixed" --resume
+    tell 'other lists than before are refused' "$(is_status 2; says err '--resume wants the lists')"
+    launch tools/afdx-campaign examples/base.toml "$work/two.list" --out "$work/login" --sshlogin 1/: --pages
+    tell 'sshlogin is handed on; a page for each run' "$(
+        is_status 0
+        if [[ ! -s $work/login/pages/1/report.html ]]; then echo 'there is no page'; fi
+    )"
+    launch tools/afdx-campaign examples/refused.toml "$work/two.list" --out "$work/refused"
+    tell 'a network that is refused, in a campaign' "$(is_status 1; says out 'admit A3 7 104 267995')"
+}
+
+if [[ -z $built ]]; then
+    skip 'campaigns' "there is no program $program"
+elif has parallel; then
+    campaign_tests
+else
+    skip 'campaigns' 'there is no GNU parallel (apt-get install parallel)'
+fi
+
+# ---- install, man page, completion ---------------------------------------------------------
+
+if has man; then
+    launch man --warnings=w -l docs/afdx.1
+    tell 'the man page has no warnings' "$(is_status 0; if [[ -s $work/err ]]; then cat "$work/err"; fi; says out 'no-admission')"
+else
+    skip 'the man page' 'there is no man'
+fi
+
+completed() { # WORD.. : what bash would offer for the last of the words
+    COMP_WORDS=("$@") COMP_CWORD=$(($# - 1)) COMPREPLY=()
+    if [[ $1 == afdx ]]; then _afdx; else _afdx_tool "$1"; fi
+    printf '%s\n' "${COMPREPLY[@]}" | sort | tr '\n' ' '
+}
+
+completes() { # WANTED WORD..
+    local wanted=$1 got
+    shift
+    got=$(completed "$@")
+    if [[ $got != "$wanted " ]]; then echo "$* gives '$got', wanted '$wanted '"; fi
+}
+
+# shellcheck source=tools/afdx.bash
+source tools/afdx.bash
+tell 'words are completed' "$(
+    completes 'check' afdx ch
+    completes 'explain' afdx e
+    completes '--explain' afdx check --e
+    completes '--no-admission' afdx replay --n
+    completes 'examples/base.toml' afdx check examples/ba
+    completes 's1 s2 s3' afdx send examples/base.toml ''
+    completes 'eec1 eec2' afdx send examples/network.toml eec
+    completes '1 128 16' afdx police 1
+    completes '--policing --port' afdx police --po
+    completes 'byte frame' afdx police --policing ''
+    completes '1 128 16' afdx police --vl 501 --port 5 1
+    completes 'list pcap' afdx-capture ''
+    completes '--fcs' afdx-capture list --f
+    completes 'auto' afdx-capture list --fcs a
+)"
+
+# The program in a folder that holds nothing but it, the C library that it was linked with, and two
+# files.
+bare_tests() {
+    local name='the program runs beside the C library alone' bare=$work/bare library
+    mkdir -p "$bare"
+    if [[ $(id -u) -ne 0 ]]; then
+        skip "$name" 'only root may change the root folder'
+        return
+    fi
+    cp "$program" examples/base.toml examples/one_link.list "$bare"
+    while IFS= read -r library; do
+        mkdir -p "$bare$(dirname "$library")"
+        cp -L "$library" "$bare$library"
+    done < <(ldd "$program" | grep -o '/[^ ]*')
+    "$program" replay examples/base.toml examples/one_link.list >"$work/wanted"
+    launch chroot "$bare" "/$(basename "$program")" replay base.toml one_link.list
+    tell "$name" "$(
+        is_status 0
+        same "$work/wanted" "$work/out"
+    )"
+}
+
+install_tests() {
+    local prefix=$work/prefix
+    launch bin/install "$prefix"
+    tell 'install' "$(
+        is_status 0
+        cmp "$program" "$prefix/bin/afdx" 2>&1
+        for file in share/man/man1/afdx.1 share/bash-completion/completions/afdx bin/afdx-report; do
+            if [[ ! -s $prefix/$file ]]; then echo "no $file"; fi
+        done
+    )"
+    launch env -u AFDX "$prefix/bin/afdx-report" examples/base.toml examples/one_link.list --json
+    tell 'an installed tool finds the installed program' "$(
+        is_status 0
+        wants_number "$work/out" 'r["totals"]["frames"]' 3
+    )"
+    launch env AFDX=/nowhere bin/install "$work/none"
+    tell 'nothing is installed without a program' "$(is_status 1; if [[ -e $work/none ]]; then echo 'there is a folder'; fi)"
+    launch bin/install
+    tell 'install wants a folder' "$(is_status 2; says err 'bin/install PREFIX')"
+}
+
+# ---- the guide -----------------------------------------------------------------------------
+
+guide_tests() {
+    local folder=$work/guide
+    mkdir "$folder"
+    ln -s "$top/examples" "$folder/examples"
+    HAS=
+    if "$program" send --help >"$work/out" 2>&1; then HAS+=' send'; fi
+    if [[ -n $dpkt ]]; then HAS+=' capture'; fi
+    export HAS
+    env -u AFDX PATH="$work/prefix/bin:$PATH" "$python" tests/guide.py docs/GUIDE.md "$folder" >"$work/guide.out" 2>&1
+    passed=$((passed + $(grep -c '^ok ' "$work/guide.out")))
+    failed=$((failed + $(grep -c '^FAILED ' "$work/guide.out")))
+    skipped=$((skipped + $(grep -c '^skipped ' "$work/guide.out")))
+    cat "$work/guide.out"
+    tell 'the guide was run to its end' "$(
+        if [[ $(grep -cE '^(ok|FAILED|skipped) ' "$work/guide.out") -ne $(grep -c '^```sh' docs/GUIDE.md) ]]; then
+            tail -n 3 "$work/guide.out"
+        fi
+    )"
+}
+
+if [[ -n $built ]]; then
+    install_tests
+    bare_tests
+    guide_tests
+else
+    skip 'install, the bare folder and the guide' "there is no program $program"
+fi

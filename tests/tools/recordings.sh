@@ -1,0 +1,223 @@
+# Tests of tools/afdx-capture; a part of tests/tools.sh.
+# shellcheck shell=bash
+# shellcheck disable=SC2154  # what it uses is set by tests/tools.sh, which sources it
+
+# ---- recordings ----------------------------------------------------------------------------
+
+if "$python" -c 'import dpkt' 2>"$work/err"; then dpkt=1; else dpkt=; fi
+
+frame_of() { # SIDE NUMBER : link 1's frame of the examples without its check sequence
+    local head=030000000001020000000 network=20
+    [[ $1 == A ]] || network=40
+    printf '%s1%s0800' "$head" "$network"
+    printf '45000021000000000111cdea0a000101e0e0000103e803e8000d000068656c6c6f'
+    printf '000000000000000000000000%02x' "$2"
+}
+
+capture_tests() {
+    local list=$work/five.list
+    {
+        echo "# a comment, as afdx send writes one"
+        echo "F 0 A 1 $(frame_of A 0)"
+        echo "F 2500 B 1 $(frame_of B 0)"
+        echo "B 1000001 A 1 $(frame_of A 1)"
+        echo "F 1000002 B 1 $(frame_of B 1)"
+        echo "R 2000000 A 1 $(frame_of A 2)5d0b5f3c"
+    } >"$list"
+    launch tools/afdx-capture pcap "$list" "$work/five.pcap"
+    tell 'a list becomes a recording' "$(is_status 0; says err '5 frames written')"
+
+    launch tools/afdx-capture list --config examples/base.toml "$work/five.pcap"
+    cp "$work/out" "$work/back.list"
+    tell 'and a list again, of R lines' "$(
+        is_status 0
+        says err 'with check sequences'
+        cut -d ' ' -f 2-4 "$work/back.list" >"$work/got"
+        grep -v '^#' "$list" | cut -d ' ' -f 2-4 >"$work/wanted"
+        same "$work/wanted" "$work/got"
+        if grep -qv '^R ' "$work/back.list"; then echo 'a line that is no R line'; fi
+    )"
+    launch tools/afdx-capture pcap "$work/back.list" "$work/again.pcap"
+    tell 'the same recording from both' "$(is_status 0; same "$work/five.pcap" "$work/again.pcap")"
+
+    launch tools/afdx-capture pcap --side B "$list" "$work/b.pcap"
+    tools/afdx-capture pcap --side A "$list" "$work/a.pcap" 2>>"$work/err"
+    launch tools/afdx-capture list --config examples/base.toml "$work/a.pcap" "$work/b.pcap"
+    tell 'two recordings are merged by time' "$(is_status 0; same "$work/back.list" "$work/out")"
+
+    launch tools/afdx-capture list --port 7 --fcs no --origin 1000 "$work/five.pcap"
+    tell 'port, origin and lines without check sequence as told' "$(
+        is_status 0
+        says err '1 left out: before the origin'
+        if [[ $(cut -d ' ' -f 1-4 "$work/out" | head -n 1) != 'F 1500 B 7' ]]; then head -n 1 "$work/out"; fi
+    )"
+
+    sed 's/ 020000000 / /; s/0200000001\([24]\)/0200000009\1/' "$list" >"$work/rogue.list"
+    tools/afdx-capture pcap "$work/rogue.list" "$work/rogue.pcap" 2>"$work/err"
+    launch tools/afdx-capture list --config examples/base.toml "$work/rogue.pcap"
+    tell 'an unknown sender is named' "$(is_status 0; says err '5 left out: their senders')"
+    launch tools/afdx-capture list --config examples/base.toml --port 3 "$work/rogue.pcap"
+    tell 'and goes to the port that is given' "$(
+        is_status 0
+        if [[ $(grep -c ' 3 03' "$work/out") -ne 5 ]]; then cut -c 1-30 "$work/out"; fi
+    )"
+
+    printf 'R 0 A 1 ffffffffffff020000000120080645\nF 5 A 1 %s\n' "$(frame_of A 0)" >"$work/foreign.list"
+    tools/afdx-capture pcap "$work/foreign.list" "$work/foreign.pcap" 2>"$work/err"
+    launch tools/afdx-capture list --config examples/base.toml "$work/foreign.pcap"
+    tell 'frames that are no AFDX frames are counted' "$(
+        is_status 0
+        says err '1 left out: no AFDX frames'
+        if [[ $(wc -l <"$work/out") -ne 1 ]]; then cut -c 1-30 "$work/out"; fi
+    )"
+    launch tools/afdx-capture list --all --config examples/base.toml "$work/foreign.pcap"
+    tell 'and kept where that is wanted' "$(
+        is_status 0
+        if [[ $(wc -l <"$work/out") -ne 2 ]]; then cut -c 1-30 "$work/out"; fi
+    )"
+
+    head -c 100 "$work/five.pcap" >"$work/cut.pcap"
+    launch tools/afdx-capture list --config examples/base.toml -o "$work/cut.list" "$work/cut.pcap"
+    tell 'a damaged recording gives no list' "$(
+        is_status 2
+        says err 'ends in the midst of a frame'
+        if [[ -e $work/cut.list ]]; then echo 'there is a list'; fi
+    )"
+    launch tools/afdx-capture list --config examples/base.toml README.md
+    tell 'what is no recording is refused' "$(is_status 2; says err 'is no recording')"
+    launch tools/afdx-capture list "$work/five.pcap"
+    tell 'the ports have to come from somewhere' "$(is_status 2; says err '--config CONFIG or --port N')"
+}
+
+odd_tests() { # what few programs write
+    local frame
+    frame=$(cut -d ' ' -f 5 "$work/back.list" | head -n 1)
+    "$python" tests/odd_recordings.py "$work" "$frame"
+    launch tools/afdx-capture list --port 1 "$work/big.pcapng"
+    tell 'pcapng with the high byte first, two units of time, an offset' "$(
+        is_status 0
+        says err "as the recording's header says"
+        printf 'R 0 A 1 %s\nR 953 B 1 %s\n' "$frame" "$frame" >"$work/wanted"
+        same "$work/wanted" "$work/out"
+    )"
+    launch tools/afdx-capture list --port 1 --origin 1700000005000000000 "$work/big.pcapng"
+    tell 'the offset counts' "$(is_status 0; same "$work/wanted" "$work/out")"
+    launch tools/afdx-capture list --port 1 "$work/big.pcap"
+    tell 'pcap with the high byte first' "$(
+        is_status 0
+        printf 'R 0 A 1 %s\nR 1000 A 1 %s\n' "$frame" "$frame" >"$work/wanted"
+        same "$work/wanted" "$work/out"
+    )"
+    launch tools/afdx-capture list --port 1 "$work/cut.pcap"
+    tell 'frames that were cut are refused' "$(is_status 2; says err 'frame 2 is cut')"
+    launch tools/afdx-capture list --port 1 "$work/wifi.pcap"
+    tell 'what is no Ethernet is refused' "$(is_status 2; says err 'link type 105')"
+}
+
+many_lines_tests() { # 1,000,001 frames
+    "$python" - "$work/many.pcap" <<'PY'
+import struct, sys
+frame = bytes.fromhex("03000000000102000000012008004500")
+with open(sys.argv[1], "wb") as file:
+    file.write(struct.pack("<IHHiIII", 0xA1B23C4D, 2, 4, 0, 0, 65535, 1))
+    for n in range(1_000_001):
+        file.write(struct.pack("<IIII", n // 10**6, n % 10**6 * 1000, len(frame), len(frame)) + frame)
+PY
+    launch tools/afdx-capture list --port 1 -o "$work/many.list" "$work/many.pcap"
+    tell 'more than 1,000,000 frames are refused' "$(
+        is_status 3
+        says err 'more than 1,000,000 frames'
+        if [[ -e $work/many.list ]]; then echo 'there is a list'; fi
+    )"
+    launch tools/afdx-capture list --port 1 --split "$work/many" "$work/many.pcap"
+    tell 'or split' "$(
+        is_status 0
+        wc -l <"$work/many-1.list" >"$work/got"
+        wc -l <"$work/many-2.list" >>"$work/got"
+        printf '1000000\n1\n' >"$work/wanted"
+        same "$work/wanted" "$work/got"
+    )"
+    rm -f "$work"/many*
+}
+
+if [[ -n $dpkt ]]; then
+    capture_tests
+    odd_tests
+    many_lines_tests
+else
+    skip 'recordings' 'there is no package dpkt (apt-get install python3-dpkt)'
+fi
+
+# ---- recordings, with programs that are not ours -------------------------------------------
+
+dump_of() { # TIME HEX : as text2pcap reads it
+    printf '%s\n' "$1"
+    printf '%s' "$2" | sed 's/../& /g' | fold -w 48 | awk '{ printf "%06x %s\n", (NR - 1) * 16, $0 } END { print "" }'
+}
+
+wireshark_tests() {
+    tests/sample_list.py examples/network.toml --ms 60 --sound >"$work/sound.list"
+    launch tools/afdx-capture pcap "$work/sound.list" "$work/sound.pcap"
+    launch tshark -r "$work/sound.pcap" -o eth.check_fcs:TRUE -o ip.check_checksum:TRUE -T fields \
+        -e frame.time_epoch -e eth.dst -e eth.src -e eth.fcs.status -e ip.checksum.status \
+        -e ip.src -e ip.dst -e udp.srcport -e udp.dstport -e data.data
+    tell 'tshark reads what a list gave: times, addresses, payloads, both checksums good' "$(
+        is_status 0
+        "$python" tests/fields_of_list.py "$work/sound.list" >"$work/wanted"
+        if [[ $(wc -l <"$work/wanted") -lt 100 ]]; then echo 'the sample is too small'; fi
+        same "$work/wanted" "$work/out"
+    )"
+    printf 'B 7 A 1 %s\n' "$(frame_of A 0)" >"$work/bad.list"
+    tools/afdx-capture pcap "$work/bad.list" "$work/bad.pcap" 2>"$work/err"
+    launch tshark -r "$work/bad.pcap" -o eth.check_fcs:TRUE -T fields -e eth.fcs.status
+    tell 'tshark sees a bad check sequence' "$(is_status 0; printf '0\n' >"$work/wanted"; same "$work/wanted" "$work/out")"
+
+    { dump_of '2026-01-02 03:04:05.000001000' "$(frame_of A 0)"
+      dump_of '2026-01-02 03:04:05.001001000' "$(frame_of A 1)"; } >"$work/a.txt"
+    { dump_of '2026-01-02 03:04:05.000003500' "$(frame_of B 0)"
+      dump_of '2026-01-02 03:04:05.001000999' "$(frame_of B 1)"; } >"$work/b.txt"
+    printf 'F 0 A 1 %s\nF 2500 B 1 %s\nF 999999 B 1 %s\nF 1000000 A 1 %s\n' "$(frame_of A 0)" \
+        "$(frame_of B 0)" "$(frame_of B 1)" "$(frame_of A 1)" >"$work/wanted"
+    launch text2pcap -q -F nsecpcap -t '%Y-%m-%d %H:%M:%S.%f' "$work/a.txt" "$work/ta.pcap"
+    tell 'text2pcap writes pcap' "$(is_status 0)"
+    launch text2pcap -q -F nsecpcap -t '%Y-%m-%d %H:%M:%S.%f' "$work/b.txt" "$work/tb.pcap"
+    launch tools/afdx-capture list --config examples/base.toml "$work/ta.pcap" "$work/tb.pcap"
+    tell 'two recordings of text2pcap' "$(is_status 0; says err 'without check sequences'; same "$work/wanted" "$work/out")"
+    launch mergecap -I none -w "$work/two.pcapng" "$work/ta.pcap" "$work/tb.pcap"
+    launch tools/afdx-capture list --config examples/base.toml "$work/two.pcapng"
+    tell 'mergecap, two interfaces' "$(is_status 0; says err 'side A, B'; same "$work/wanted" "$work/out")"
+    launch mergecap -I all -w "$work/one.pcapng" "$work/ta.pcap" "$work/tb.pcap"
+    launch tools/afdx-capture list --config examples/base.toml "$work/one.pcapng"
+    tell 'mergecap, one interface' "$(is_status 0; says err 'side by the source address'; same "$work/wanted" "$work/out")"
+    launch mergecap -a -I none -w "$work/behind.pcapng" "$work/tb.pcap" "$work/ta.pcap"
+    launch tools/afdx-capture list --config examples/base.toml --side A "$work/behind.pcapng"
+    tell 'a recording whose times go back' "$(
+        is_status 0
+        cut -d ' ' -f 2 "$work/out" >"$work/got"
+        printf '0\n2500\n999999\n1000000\n' >"$work/wanted"
+        same "$work/wanted" "$work/got"
+    )"
+    local each
+    for each in big.pcapng big.pcap; do
+        launch tshark -r "$work/$each" -T fields -e frame.time_epoch
+        tell "tshark sees the times of $each as we do" "$(
+            is_status 0
+            tools/afdx-capture list --port 1 --origin 1700000000000000000 "$work/$each" 2>"$work/err" |
+                awk '{ printf "%d.%09d\n", 1700000000 + int($2 / 1e9), $2 % 1e9 }' >"$work/got"
+            grep . "$work/out" >"$work/wanted"
+            same "$work/wanted" "$work/got"
+        )"
+    done
+    launch tshark -r "$work/sound.pcap" -F pcapng -w "$work/sound.pcapng"
+    tools/afdx-capture list --config examples/network.toml "$work/sound.pcap" >"$work/wanted" 2>"$work/err"
+    launch tools/afdx-capture list --config examples/network.toml "$work/sound.pcapng"
+    tell 'tshark writes pcapng, and the list is the same' "$(is_status 0; same "$work/wanted" "$work/out")"
+}
+
+if [[ -z $dpkt ]]; then
+    :
+elif has tshark && has text2pcap && has mergecap; then
+    wireshark_tests
+else
+    skip "recordings with Wireshark's programs" 'there is no tshark (apt-get install tshark)'
+fi
