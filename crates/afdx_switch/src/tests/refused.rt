@@ -2,8 +2,8 @@
 ghost use Rattle.std.specs.Prelude.{◌≡◌, ℕ, IfOk};
 ghost use Rattle.afdx_switch.specs.Switching.{IsQuiet, last_time};
 
-use super::{BASE, HELLO, arrive, is_forwarded, is_still, left, why};
-use crate::Switch;
+use super::{BASE, HELLO, arrive, is_forwarded, is_still, left};
+use crate::{Switch, Verdict};
 use afdx_config::{ConfigFault, Tables, read_tables};
 use afdx_police::Reason;
 use std::alloc::{AllocError, Global};
@@ -26,17 +26,28 @@ fn base_switch(alloc: Global, tables: &Tables) -> Result<Switch, AllocError>
     }
 }
 
+/// What became of an arrival, for an assertion that tells want of memory as such.
+fn answer(verdict: Option<Verdict>) -> Result<Verdict, AllocError> {
+    verdict.ok_or(AllocError)
+}
+
+/// Whether it was forwarded, in the same way.
+fn forwarded(verdict: Option<Verdict>) -> Result<bool, AllocError> {
+    answer(verdict)?;
+    Ok(is_forwarded(verdict))
+}
+
 #[test]
 fn a_refused_arrival_is_neither_charged_nor_forwarded(rt: HostRuntime) -> Result<(), Fail> {
     let tables = base_tables(rt.alloc())?;
     let mut switch = base_switch(rt.alloc(), &tables)?;
-    assert!(rt; is_forwarded(arrive(&mut switch, 0, 1, 1, &HELLO)));
+    assert_eq!(rt; forwarded(arrive(&mut switch, 0, 1, 1, &HELLO)), Ok(true));
     assert_eq!(rt; left(&mut switch, 499999), Some((1, 6720, 3, false)));
     assert!(rt; is_still(&mut switch, 499999));
-    let early = why(arrive(&mut switch, 499999, 1, 2, &HELLO));
-    assert_eq!(rt; early, Some(Reason::OverRate));
+    let early = answer(arrive(&mut switch, 499999, 1, 2, &HELLO));
+    assert_eq!(rt; early, Ok(Verdict::Dropped(Reason::OverRate)));
     assert!(rt; is_still(&mut switch, 500000));
-    assert!(rt; is_forwarded(arrive(&mut switch, 500000, 1, 3, &HELLO)));
+    assert_eq!(rt; forwarded(arrive(&mut switch, 500000, 1, 3, &HELLO)), Ok(true));
     assert_eq!(rt; left(&mut switch, 1000000), Some((3, 506720, 3, false)));
     assert!(rt; is_still(&mut switch, 1000000));
     Ok(())
