@@ -4,7 +4,7 @@ ghost use Rattle.afdx_port.specs.Times.{drain_end, latest_put};
 ghost use Rattle.afdx_network.specs.First.{IsFirstSide, IsOrder};
 
 use afdx_config::Tables;
-use afdx_frame::Side;
+use afdx_frame::{Checked, Side};
 use afdx_port::Due;
 use afdx_switch::{Departure, Switch, Verdict};
 use std::alloc::{AllocError, Global};
@@ -48,7 +48,6 @@ pub struct Network {
 
 impl Network {
     ghost use Rattle.afdx_config.specs.Rows.{Rows};
-    ghost use Rattle.afdx_frame.specs.Sealing.{is_sealed};
     ghost use Rattle.afdx_police.specs.Arrival.{arrival_with};
     ghost use Rattle.afdx_switch.specs.Verdicts.{shape_fault};
     ghost use Rattle.afdx_network.specs.Events.{Event, Came, admission_after, arrivals_in};
@@ -72,40 +71,39 @@ impl Network {
     /// polices it and offers it to the output ports of its link.
     ///
     /// `time` isn't before the last time used and is at most 1,000,032,768,000,000; `take(time)`
-    /// would give nothing. `tag` is handed back with the frame's departures; `sealed` is what
-    /// `is_sealed` answers. The error says that memory was refused: then nothing has changed. A
-    /// frame that is dropped for its shape needs none.
+    /// would give nothing. `tag` is handed back with the frame's departures. The error says that
+    /// memory was refused: then nothing has changed. A frame that is dropped for its shape needs
+    /// none.
     pub fn arrive(
         &mut self,
         side: Side,
         time: u64,
         port: u8,
         tag: u64,
-        bytes: &[u8],
-        sealed: bool,
+        frame: Checked<'_>,
     ) -> Result<Verdict, AllocError>
         requires limit { time ≤ latest_put }
-        requires sealed { sealed ≡ is_sealed bytes.now }
         requires clock { IsUntil self.old time }
         requires quiet { IsQuiet self.old time }
         ensures verdict { (t : Rows) (events : List Event) → StandsFor t self.old events →
-            let arrival = arrival_with tag time side port bytes.now in
+            let arrival = arrival_with tag time side port frame.entry.bytes.now in
             let admission = admission_after t (arrivals_in events) arrival in
             IfOk result (λ verdict. Tells verdict admission) }
         ensures stands { (t : Rows) (events : List Event) → StandsFor t self.old events →
-            let arrival = arrival_with tag time side port bytes.now in
+            let arrival = arrival_with tag time side port frame.entry.bytes.now in
             let admission = admission_after t (arrivals_in events) arrival in
             OnOk result (StandsFor t self.new (Came admission ∷ events)) }
         ensures judged { (t : Rows) (events : List Event) → StandsFor t self.old events →
-            OnErr result (shape_fault t (arrival_with tag time side port bytes.now) ≡ None) }
+            let arrival = arrival_with tag time side port frame.entry.bytes.now in
+            OnErr result (shape_fault t arrival ≡ None) }
         ensures refused { OnErr result (self.new ≡ self.old) }
         ensures quiet { IsQuiet self.new time }
         ensures held { frames_held self.new ≤ frames_held self.old + 24 }
         ensures clock { IsUntil self.new time }
     {
         match side {
-            Side::A => self.a.arrive_checked(time, port, tag, bytes, sealed),
-            Side::B => self.b.arrive_checked(time, port, tag, bytes, sealed),
+            Side::A => self.a.arrive(time, port, tag, frame),
+            Side::B => self.b.arrive(time, port, tag, frame),
         }
     }
 

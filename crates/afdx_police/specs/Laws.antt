@@ -1,7 +1,9 @@
 -- Laws over the definitions.
 use Rattle.std.specs.Prelude.{◌≡◌, ℕ, ◌+◌, ◌*◌, ◌-◌, ◌<◌, ◌≤◌, ◌↔◌, All, IsTrue, IsSome, true}
-use Rattle.std.specs.Prelude.{false, Some, None, List, [], ◌∷◌, length}
+use Rattle.std.specs.Prelude.{false, Option, Some, None, Err, List, [], ◌∷◌, length}
+use Rattle.afdx_frame.specs.Parts.{frame_of}
 use Rattle.afdx_frame.specs.Regulation.{Regulation, byte_units, fill_rate, cap, wire_of}
+use Rattle.afdx_frame.specs.declared.fault.MacFault.{MacFault}
 use Rattle.afdx_frame.specs.declared.link.Side.{Side}
 use Rattle.afdx_police.specs.declared.account.LinkAccount.{LinkAccount}
 use Rattle.afdx_police.specs.declared.shape.Reason.{Reason}
@@ -12,7 +14,7 @@ use Rattle.afdx_police.specs.LinkAccounts.{StandsForOwn}
 use Rattle.afdx_police.specs.Offers.{offers_of}
 use Rattle.afdx_police.specs.Policer.{accepted_offers}
 use Rattle.afdx_police.specs.Rule.{Rule, is_bag, regulation_of}
-use Rattle.afdx_police.specs.Shape.{IsSound, fault_of}
+use Rattle.afdx_police.specs.Shape.{IsSound, fault_of, reason_for}
 use Rattle.afdx_police.specs.Verdicts.{accepted_own, charged_by, reason_after}
 use Rattle.afdx_police.specs.Window.{Charged, Fits, fits}
 
@@ -71,6 +73,12 @@ abbrev pub StrangersAreRefused : Type 0
 StrangersAreRefused =
     (rule : Rule) (port : ℕ) (bytes : List ℕ) → names rule.vl bytes ≡ false →
     StrangerIsRefused rule port bytes
+
+-- bytes that are no frame are dropped for that, whatever the rule and the port
+abbrev pub NoFrameIsRefused : Type 0
+NoFrameIsRefused =
+    (rule : Option Rule) (port : ℕ) (bytes : List ℕ) (fault : MacFault) →
+    frame_of bytes ≡ Err fault → fault_of rule port bytes ≡ Some (reason_for fault)
 
 -- an arrival with a fault is dropped for it, whatever came before, and leaves the account as it was
 pub record FaultChangesNothing (rule : Rule) (held : LinkAccount) (past : List Arrival)

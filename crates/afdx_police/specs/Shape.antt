@@ -3,6 +3,8 @@ use Rattle.std.specs.Prelude.{◌≡◌, ◌≤◌, ℕ, IsTrue, Bool, false, tr
 use Rattle.std.specs.Prelude.{is_none, Option, List, [], ◌∷◌, length, find, option_map}
 use Rattle.std.specs.Option.{option_map_or}
 use Rattle.afdx_frame.specs.Lengths.{least_frame, greatest_frame}
+use Rattle.afdx_frame.specs.declared.fault.MacFault.{MacFault}
+use Rattle.afdx_frame.specs.declared.fault.MacFault.TheVariants as mac
 use Rattle.afdx_frame.specs.declared.link.Policing.{Policing}
 use Rattle.afdx_frame.specs.declared.link.Policing.TheVariants.{Byte, Frame}
 use Rattle.afdx_frame.specs.Layout.{link_named_by}
@@ -13,6 +15,13 @@ use Rattle.afdx_police.specs.declared.shape.Reason.{Reason}
 use Rattle.afdx_police.specs.declared.shape.Reason.TheVariants.{TooShort, TooLong, BadFcs}
 use Rattle.afdx_police.specs.declared.shape.Reason.TheVariants.{BadAddress, UnknownLink, WrongPort}
 use Rattle.afdx_police.specs.declared.shape.Reason.TheVariants.{OverLmax, UnderLmin}
+
+-- the reason to drop bytes that are no frame
+abbrev pub reason_for : MacFault → Reason
+reason_for mac.TooShort = TooShort
+reason_for mac.TooLong = TooLong
+reason_for mac.BadFcs = BadFcs
+reason_for mac.BadAddress = BadAddress
 
 abbrev pub is_byte_based : Policing → Bool
 is_byte_based Byte = true

@@ -5,7 +5,6 @@ ghost use Rattle.std.specs.Prelude.{◌≡◌, ℕ, ◌≤◌, if◌then◌else�
 ghost use Rattle.afdx_frame.specs.Lengths.{least_frame};
 ghost use Rattle.afdx_police.specs.Shape.{fault_of};
 ghost use Rattle.afdx_police.specs.declared.shape.Reason.{Reason};
-ghost use Rattle.afdx_frame.specs.Sealing.{is_sealed};
 ghost use Rattle.afdx_frame.specs.declared.link.Side.{Side};
 ghost use Rattle.afdx_police.specs.Arrival.{Arrival, arrival_with, own};
 ghost use Rattle.afdx_police.specs.Rule.{Rule};
@@ -15,8 +14,8 @@ ghost use Rattle.afdx_police.specs.Verdicts.{reason_after, verdict_in};
 use crate::charge::{ByteCharge, FrameCharge};
 use crate::policer::Policer;
 use crate::rule::LinkRule;
-use crate::shape::{Reason, judge_checked};
-use afdx_frame::Policing;
+use crate::shape::{Reason, judge};
+use afdx_frame::{Checked, Policing};
 
 /// The account of one link at one switch, of the link's own kind of policing.
 #[derive(Debug, Drop)]
@@ -78,11 +77,10 @@ impl LinkAccount {
 
     /// Why an arrival is dropped, if it is: for its shape, or else for its link's rate.
     ///
-    /// `time` is in nanoseconds, `port` the input port, `frame` all bytes, and `sealed` says
-    /// whether they end with their check sequence. Only an arrival that is accepted is charged.
-    pub fn police(&mut self, time: u64, port: u8, frame: &[u8], sealed: bool) -> Option<Reason>
+    /// `time` is in nanoseconds, `port` the input port. Only an arrival that is accepted is
+    /// charged.
+    pub fn police(&mut self, time: u64, port: u8, frame: Checked<'_>) -> Option<Reason>
         requires in_time { last_time self.old ≤ time }
-        requires sealed { sealed ≡ is_sealed frame.now }
 
         ensures rule { (account_of self.new).rule ≡ (account_of self.old).rule }
         ensures time { last_time self.new ≤ time }
@@ -90,29 +88,32 @@ impl LinkAccount {
         // Whatever own arrivals led here, the answer is the one on this arrival after them.
         ensures reason { (rule : Rule) (past : List Arrival) (tag : ℕ) (side : Side) →
             StandsForOwn rule self.old past →
-            result ≡ reason_after rule past (arrival_with tag time side port frame.now) }
+            let x = arrival_with tag time side port frame.entry.bytes.now in
+            result ≡ reason_after rule past x }
         ensures stands { (rule : Rule) (past : List Arrival) (tag : ℕ) (side : Side) →
             StandsForOwn rule self.old past →
-            StandsForOwn rule self.new (arrival_with tag time side port frame.now ∷ past) }
+            let x = arrival_with tag time side port frame.entry.bytes.now in
+            StandsForOwn rule self.new (x ∷ past) }
 
         // The same where arrivals of any link and side led here, and this one need not name the
         // link.
         ensures verdict { (rule : Rule) (all : List Arrival) (tag : ℕ) (side : Side) →
             StandsForOwn rule self.old (own rule.vl side all) →
-            result ≡ verdict_in rule all (arrival_with tag time side port frame.now) }
+            let x = arrival_with tag time side port frame.entry.bytes.now in
+            result ≡ verdict_in rule all x }
         ensures stands_in { (rule : Rule) (all : List Arrival) (tag : ℕ) (side : Side) →
             StandsForOwn rule self.old (own rule.vl side all) →
-            let x = arrival_with tag time side port frame.now in
+            let x = arrival_with tag time side port frame.entry.bytes.now in
             StandsForOwn rule self.new (own rule.vl side (x ∷ all)) }
 
         // An arrival with a fault in its shape leaves the account as it was.
         ensures unchanged { (fault : Reason) →
-            fault_of (Some (account_of self.old).rule) port frame.now ≡ Some fault →
+            fault_of (Some (account_of self.old).rule) port frame.entry.bytes.now ≡ Some fault →
             self.new ≡ self.old }
     {
-        match judge_checked(Some(self.rule()), port, frame, sealed) {
+        match judge(Some(self.rule()), port, frame) {
             None => {
-                if self.offer(time, frame.len() as u64) {
+                if self.offer(time, frame.bytes.len() as u64) {
                     None
                 } else {
                     Some(Reason::OverRate)

@@ -3,7 +3,7 @@
 ghost use Rattle.afdx_police.specs.Laws.{FitsIsEachWindow, FitsIsAccountTest, EachAccountMoves};
 ghost use Rattle.afdx_police.specs.Laws.{ArrivalsAreOffers, EachOwnSteps, StrangersAreRefused};
 ghost use Rattle.afdx_police.specs.Laws.{FaultsChangeNothing, SoundHasNoFault, SoundIsChargedFor};
-ghost use Rattle.afdx_police.specs.Laws.{VerdictsDecide};
+ghost use Rattle.afdx_police.specs.Laws.{VerdictsDecide, NoFrameIsRefused};
 ghost use Rattle.afdx_police.specs.Stream.{RegularIsAccepted};
 
 /// The window rule's test is that of each window.
@@ -39,6 +39,11 @@ pub fn own_steps()
 /// Bytes that don't name a rule's link are refused for themselves alone.
 pub fn strangers_are_refused()
     ensures { StrangersAreRefused }
+{}
+
+/// Bytes that are no frame are refused for what `MacView::parse` answers of them.
+pub fn no_frame_is_refused()
+    ensures { NoFrameIsRefused }
 {}
 
 /// An arrival with a fault is dropped for it and leaves the account as it was.

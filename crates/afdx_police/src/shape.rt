@@ -8,7 +8,7 @@ ghost use Rattle.afdx_police.specs.RuleOf.{rule_of};
 ghost use Rattle.afdx_police.specs.Shape.{fault_of};
 
 use crate::rule::LinkRule;
-use afdx_frame::{GREATEST_FRAME, LEAST_FRAME, Policing, is_sealed, vl_of};
+use afdx_frame::{Checked, MacFault, MacView, Policing};
 use std::fmt;
 
 /// Why an arrival is dropped.
@@ -67,60 +67,50 @@ impl fmt::Display for Reason {
     }
 }
 
+impl From<MacFault> for Reason {
+    ghost use Rattle.std.specs.Prelude.{◌≡◌};
+    ghost use Rattle.afdx_police.specs.Shape.{reason_for};
+
+    ghost from_gives = { λ fault reason. reason ≡ reason_for fault };
+
+    fn from(fault: MacFault) -> Reason {
+        match fault {
+            MacFault::TooShort => Reason::TooShort,
+            MacFault::TooLong => Reason::TooLong,
+            MacFault::BadFcs => Reason::BadFcs,
+            MacFault::BadAddress => Reason::BadAddress,
+        }
+    }
+}
+
 /// The first fault of an arrival, in the order of `Reason`, but for its link's rate.
 ///
 /// `rule` is that of the link that the frame names, if there is one; `port` is the input port at
-/// which it came, `frame` all of its bytes.
-pub fn judge(rule: Option<&LinkRule>, port: u8, frame: &[u8]) -> Option<Reason>
+/// which it came.
+pub fn judge(rule: Option<&LinkRule>, port: u8, frame: Checked<'_>) -> Option<Reason>
     ensures reason { result ≡
-        fault_of (option_map rule_of (option_copied rule.entry)) port frame.now }
+        fault_of (option_map rule_of (option_copied rule.entry)) port frame.entry.bytes.now }
 
     // What has no fault may be offered to a policer.
-    ensures shortest { IfNone result (least_frame ≤ length frame.now) }
-    ensures longest { IfNone result
-        (IfSome (option_copied rule.entry) (λ r. length frame.now ≤ r.lmax)) }
+    ensures shortest { IfNone result (least_frame ≤ length frame.entry.bytes.now) }
+    ensures sealed { IfNone result (is_sealed frame.entry.bytes.now ≡ true) }
+    ensures longest { IfNone result (IfSome (option_copied rule.entry)
+        (λ r. length frame.entry.bytes.now ≤ r.lmax)) }
 {
-    judge_checked(rule, port, frame, is_sealed(frame))
-}
-
-/// As `judge`, for a caller that knows already whether the frame is sealed.
-#[tactic(auto, unfolding(crate::specs::Shape::fault_of, crate::specs::Arrival::names))]
-pub fn judge_checked(
-    rule: Option<&LinkRule>,
-    port: u8,
-    frame: &[u8],
-    sealed: bool,
-) -> Option<Reason>
-    requires { sealed ≡ is_sealed frame.now }
-    ensures reason { result ≡
-        fault_of (option_map rule_of (option_copied rule.entry)) port frame.now }
-    ensures shortest { IfNone result (least_frame ≤ length frame.now) }
-    ensures sealed { IfNone result (is_sealed frame.now ≡ true) }
-    ensures longest { IfNone result
-        (IfSome (option_copied rule.entry) (λ r. length frame.now ≤ r.lmax)) }
-{
-    if frame.len() < LEAST_FRAME {
-        return Some(Reason::TooShort);
-    }
-    if frame.len() > GREATEST_FRAME {
-        return Some(Reason::TooLong);
-    }
-    if !sealed {
-        return Some(Reason::BadFcs);
-    }
-    let Some(vl) = vl_of(frame) else {
-        return Some(Reason::BadAddress);
+    let view = match MacView::parse(frame) {
+        Ok(view) => view,
+        Err(fault) => return Some(fault.into()),
     };
     let Some(rule) = rule else {
         return Some(Reason::UnknownLink);
     };
-    if vl.0 != rule.vl.0 {
+    if view.vl().0 != rule.vl.0 {
         return Some(Reason::UnknownLink);
     }
     if rule.port != port {
         return Some(Reason::WrongPort);
     }
-    let length = frame.len() as u64;
+    let length = frame.bytes.len() as u64;
     if length > rule.lmax {
         return Some(Reason::OverLmax);
     }

@@ -3,11 +3,8 @@
 ghost use Rattle.std.specs.Prelude.{◌≤◌};
 ghost use Rattle.afdx_police.specs.LinkAccounts.{last_time};
 
-use crate::{
-    ByteCharge, Charge, FrameCharge, LinkAccount, LinkRule, Policer, Reason, judge, judge_checked,
-    laws,
-};
-use afdx_frame::{Policing, VlId, is_sealed, seal};
+use crate::{ByteCharge, Charge, FrameCharge, LinkAccount, LinkRule, Policer, Reason, judge, laws};
+use afdx_frame::{Checked, Policing, VlId, seal};
 use std::alloc::{AllocError, Global};
 use std::process::Abort;
 use std::test::Fail;
@@ -144,7 +141,7 @@ fn charges(rt: HostRuntime) {
 #[test]
 fn order_of_faults(rt: HostRuntime) -> Result<(), Fail> {
     let rule = rule_of_link_1(64).ok_or("range")?;
-    let judged = |port: u8, frame: &[u8]| judge(Some(&rule), port, frame);
+    let judged = |port: u8, frame: &[u8]| judge(Some(&rule), port, Checked::new(frame));
     assert_eq!(rt; judged(2, &[0; 63]), Some(Reason::TooShort));
     assert_eq!(rt; judged(2, &[0; 1519]), Some(Reason::TooLong));
     assert_eq!(rt; judged(2, &[1; 64]), Some(Reason::BadFcs));
@@ -157,14 +154,12 @@ fn order_of_faults(rt: HostRuntime) -> Result<(), Fail> {
     assert_eq!(rt; judged(2, world.as_slice()), Some(Reason::UnknownLink));
 
     let hello = sealed(rt.alloc(), &HELLO)?;
-    assert_eq!(rt; judge(None, 1, hello.as_slice()), Some(Reason::UnknownLink));
+    assert_eq!(rt;
+        judge(None, 1, Checked::new(hello.as_slice())),
+        Some(Reason::UnknownLink)
+    );
     assert_eq!(rt; judged(2, hello.as_slice()), Some(Reason::WrongPort));
     assert_eq!(rt; judged(1, hello.as_slice()), None);
-    let known = is_sealed(hello.as_slice());
-    assert_eq!(rt;
-        judge_checked(Some(&rule), 1, hello.as_slice(), known),
-        None
-    );
 
     let mut longer = Vec::from_slice(rt.alloc(), &HELLO)?;
     longer.push(0)?;
@@ -179,11 +174,14 @@ fn least_length_by_policing(rt: HostRuntime) -> Result<(), Fail> {
     let world = sealed(rt.alloc(), &WORLD)?;
     let by_byte = LinkRule::new(VlId(2), 2, 1, 100, 200, 500, Policing::Byte).ok_or("range")?;
     assert_eq!(rt;
-        judge(Some(&by_byte), 2, world.as_slice()),
+        judge(Some(&by_byte), 2, Checked::new(world.as_slice())),
         Some(Reason::UnderLmin)
     );
     let by_frame = LinkRule::new(VlId(2), 2, 1, 100, 200, 500, Policing::Frame).ok_or("range")?;
-    assert_eq!(rt; judge(Some(&by_frame), 2, world.as_slice()), None);
+    assert_eq!(rt;
+        judge(Some(&by_frame), 2, Checked::new(world.as_slice())),
+        None
+    );
     Ok(())
 }
 
@@ -192,7 +190,7 @@ fn at_start(account: &mut LinkAccount, port: u8, frame: &[u8]) -> Option<Reason>
     requires { last_time account.old ≤ 0 }
     ensures { last_time account.new ≤ 0 }
 {
-    account.police(0, port, frame, is_sealed(frame))
+    account.police(0, port, Checked::new(frame))
 }
 
 #[test]
@@ -260,12 +258,9 @@ fn account_over_time(rt: HostRuntime) -> Result<(), Fail> {
     for policing in [Policing::Byte, Policing::Frame] {
         let rule = LinkRule::new(VlId(1), 1, 1, 64, 64, 500, policing).ok_or("range")?;
         let mut account = LinkAccount::new(&rule);
+        assert_eq!(rt; account.police(0, 1, Checked::new(hello.as_slice())), None);
         assert_eq!(rt;
-            account.police(0, 1, hello.as_slice(), is_sealed(hello.as_slice())),
-            None
-        );
-        assert_eq!(rt;
-            account.police(499_999, 1, hello.as_slice(), is_sealed(hello.as_slice())),
+            account.police(499_999, 1, Checked::new(hello.as_slice())),
             Some(Reason::OverRate)
         );
         assert!(rt; account.offer(500_000, 64));

@@ -2,7 +2,6 @@
 
 ghost use Rattle.std.specs.Prelude.{◌≡◌, ℕ, false, List, [], IsTrue, IfOk, option_map};
 ghost use Rattle.afdx_frame.specs.declared.link.VlId.{VlId};
-ghost use Rattle.afdx_frame.specs.Sealing.{is_sealed};
 ghost use Rattle.afdx_frame.specs.Parts.{parts_of, IsFrameOf};
 ghost use Rattle.afdx_frame.specs.Carried.{carried_by};
 ghost use Rattle.afdx_config.specs.Rows.{Rows};
@@ -19,7 +18,7 @@ use crate::links::Links;
 use crate::memory::{LinkMemory, Standing};
 use crate::reception::{DropReason, Reception};
 use afdx_config::{SystemId, Tables};
-use afdx_frame::{Datagram, MacView, Side, VlId, is_sealed};
+use afdx_frame::{Checked, Datagram, MacView, Side, VlId};
 use std::alloc::{AllocError, Global};
 use std::collections::HashSet;
 
@@ -96,44 +95,27 @@ impl Receiver {
     /// comes from the frames of the same link that arrived before, and from nothing else. Bytes
     /// that are no frame, and frames of links that don't go to the system, leave the receiver as it
     /// was. A frame that wins counts as the last winner also where its datagram or its UDP port is
-    /// refused. It takes no memory: a frame costs one check sequence, its link is found by its
-    /// identifier without a search, and a message costs one look-up of its UDP port.
-    pub fn receive<'a>(&mut self, time: u64, side: Side, bytes: &'a [u8]) -> Reception<'a>
+    /// refused. It takes no memory and doesn't read the check sequence again: a frame's link is
+    /// found by its identifier without a search, and a message costs one look-up of its UDP port.
+    pub fn receive<'a>(&mut self, time: u64, side: Side, frame: Checked<'a>) -> Reception<'a>
         ensures received { (tables : Rows) (system : ℕ) (past : List Arrived) →
             StandsFor tables system self.old past →
-            Receives tables system past (arrived time side bytes.now) (answer_of result) self.new }
+            let x = arrived time side frame.entry.bytes.now in
+            Receives tables system past x (answer_of result) self.new }
         ensures unchanged { IsTrue (is_ignored (answer_of result)) → self.new ≡ self.old }
     {
-        self.receive_checked(time, side, bytes, is_sealed(bytes))
-    }
-
-    /// Takes in bytes of which it is known whether they are sealed, and doesn't read their check
-    /// sequence again: `sealed` is what `is_sealed` answers. It is `receive` otherwise.
-    pub fn receive_checked<'a>(
-        &mut self,
-        time: u64,
-        side: Side,
-        bytes: &'a [u8],
-        sealed: bool,
-    ) -> Reception<'a>
-        requires { sealed ≡ is_sealed bytes.now }
-        ensures received { (tables : Rows) (system : ℕ) (past : List Arrived) →
-            StandsFor tables system self.old past →
-            Receives tables system past (arrived time side bytes.now) (answer_of result) self.new }
-        ensures unchanged { IsTrue (is_ignored (answer_of result)) → self.new ≡ self.old }
-    {
-        let frame = match MacView::parse_checked(bytes, sealed) {
-            Ok(frame) => frame,
+        let view = match MacView::parse(frame) {
+            Ok(view) => view,
             Err(fault) => return Reception::Dropped(DropReason::Mac(fault)),
         };
-        let number = frame.sequence();
-        let Some(standing) = self.links.consider(frame.vl(), time, side, number) else {
+        let number = view.sequence();
+        let Some(standing) = self.links.consider(view.vl(), time, side, number) else {
             return Reception::Dropped(DropReason::NotSubscribed);
         };
         match standing {
             Standing::OutOfSequence => Reception::Dropped(DropReason::Sequence),
             Standing::Redundant => Reception::Dropped(DropReason::Redundant),
-            Standing::Winner => self.read(frame),
+            Standing::Winner => self.read(view),
         }
     }
 

@@ -2,7 +2,7 @@
 
 use crate::{DropReason, Receiver, Reception};
 use afdx_config::{ConfigFault, SystemId, Tables, read_tables};
-use afdx_frame::{Address, IpFault, MacFault, Side, VlId, build, fcs, is_sealed};
+use afdx_frame::{Address, Checked, IpFault, MacFault, Side, VlId, build, fcs};
 use std::alloc::{AllocError, Global};
 use std::process::Abort;
 use std::test::Fail;
@@ -168,7 +168,12 @@ fn receive_three(
     let mut receiver = base_receiver(alloc, THIRD)?;
     for (time, number, wanted) in frames {
         let bytes = numbered(number);
-        assert!(rt; is_answer(receiver.receive(time, Side::A, &bytes), wanted));
+        assert!(rt;
+            is_answer(
+                receiver.receive(time, Side::A, Checked::new(&bytes)),
+                wanted
+            )
+        );
     }
     Ok(())
 }
@@ -209,7 +214,7 @@ fn numbers(rt: HostRuntime) -> Result<(), Fail> {
 fn refused_new_is_made_again(rt: HostRuntime) -> Result<(), Fail> {
     let mut receiver = base_receiver(rt.alloc(), THIRD)?;
     let bytes = numbered(0);
-    assert!(rt; is_answer(receiver.receive(0, Side::A, &bytes), None));
+    assert!(rt; is_answer(receiver.receive(0, Side::A, Checked::new(&bytes)), None));
     Ok(())
 }
 
@@ -230,7 +235,7 @@ fn first_copy_wins(rt: HostRuntime) -> Result<(), Fail> {
         (8003, Side::B, 4, None),
     ] {
         let bytes = numbered(number);
-        assert!(rt; is_answer(receiver.receive(time, side, &bytes), wanted));
+        assert!(rt; is_answer(receiver.receive(time, side, Checked::new(&bytes)), wanted));
     }
     Ok(())
 }
@@ -262,12 +267,17 @@ fn wrong_datagrams(rt: HostRuntime) -> Result<(), Fail> {
     ] {
         let mut receiver = base_receiver(rt.alloc(), THIRD)?;
         let bytes = changed(changes);
-        assert!(rt; is_answer(receiver.receive(6720, Side::A, &bytes), Some(why)));
+        assert!(rt;
+            is_answer(
+                receiver.receive(6720, Side::A, Checked::new(&bytes)),
+                Some(why)
+            )
+        );
         // It won all the same: its copy is redundant.
         let copy = numbered(0);
         assert!(rt;
             is_answer(
-                receiver.receive(6720, Side::B, &copy),
+                receiver.receive(6720, Side::B, Checked::new(&copy)),
                 Some(DropReason::Redundant)
             )
         );
@@ -282,14 +292,14 @@ fn not_its_frames(rt: HostRuntime) -> Result<(), Fail> {
     for length in 0..64 {
         assert!(rt;
             is_answer(
-                receiver.receive(0, Side::A, &bytes[..length]),
+                receiver.receive(0, Side::A, Checked::new(&bytes[..length])),
                 Some(DropReason::Mac(MacFault::TooShort))
             )
         );
     }
     assert!(rt;
         is_answer(
-            receiver.receive(0, Side::A, &of_link(9)),
+            receiver.receive(0, Side::A, Checked::new(&of_link(9))),
             Some(DropReason::NotSubscribed)
         )
     );
@@ -297,20 +307,15 @@ fn not_its_frames(rt: HostRuntime) -> Result<(), Fail> {
     damaged[63] ^= 0xff;
     assert!(rt;
         is_answer(
-            receiver.receive_checked(0, Side::A, &damaged, is_sealed(&damaged)),
+            receiver.receive(0, Side::A, Checked::new(&damaged)),
             Some(DropReason::Mac(MacFault::BadFcs))
         )
     );
-    assert!(rt;
-        is_answer(
-            receiver.receive_checked(0, Side::A, &bytes, is_sealed(&bytes)),
-            None
-        )
-    );
+    assert!(rt; is_answer(receiver.receive(0, Side::A, Checked::new(&bytes)), None));
     let mut second = base_receiver(rt.alloc(), SECOND)?;
     assert!(rt;
         is_answer(
-            second.receive(0, Side::A, &bytes),
+            second.receive(0, Side::A, Checked::new(&bytes)),
             Some(DropReason::NotSubscribed)
         )
     );
@@ -336,7 +341,7 @@ fn build_world(alloc: Global, side: Side) -> Result<Vec<u8>, AllocError> {
 fn built_frames(rt: HostRuntime) -> Result<(), Fail> {
     let mut receiver = base_receiver(rt.alloc(), THIRD)?;
     let first = build_world(rt.alloc(), Side::B)?;
-    match receiver.receive(6720, Side::B, first.as_slice()) {
+    match receiver.receive(6720, Side::B, Checked::new(first.as_slice())) {
         Reception::Message { vl, udp, bytes } => {
             assert_eq!(rt; (vl, udp), (VlId(2), 2000));
             assert_eq!(rt; bytes, b"world".as_slice());
@@ -345,7 +350,12 @@ fn built_frames(rt: HostRuntime) -> Result<(), Fail> {
     }
     let copy = build_world(rt.alloc(), Side::A)?;
     let late = Some(DropReason::Redundant);
-    assert!(rt; is_answer(receiver.receive(6721, Side::A, copy.as_slice()), late));
+    assert!(rt;
+        is_answer(
+            receiver.receive(6721, Side::A, Checked::new(copy.as_slice())),
+            late
+        )
+    );
     Ok(())
 }
 
@@ -379,8 +389,8 @@ fn largest_tables(rt: HostRuntime) -> Result<(), Fail> {
     let mut third = new_receiver(rt.alloc(), &tables, THIRD)?;
     for vl in 0..GREATEST_COUNT {
         let bytes = of_link(vl);
-        assert!(rt; is_hello(second.receive(6720, Side::A, &bytes), vl));
-        let answer = third.receive(6720, Side::A, &bytes);
+        assert!(rt; is_hello(second.receive(6720, Side::A, Checked::new(&bytes)), vl));
+        let answer = third.receive(6720, Side::A, Checked::new(&bytes));
         assert!(rt; is_answer(answer, Some(DropReason::NoPort)));
     }
     Ok(())

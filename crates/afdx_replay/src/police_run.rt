@@ -14,7 +14,7 @@ ghost use Rattle.afdx_replay.specs.Policed.{Answers};
 
 use crate::summary::Summary;
 use crate::verdict::put_verdict;
-use afdx_frame::Side;
+use afdx_frame::{Checked, Side};
 use afdx_lists::{Heading, LineReader, RunFault, Text, Watched, read_frame_line, write_text};
 use afdx_police::{LinkAccount, LinkRule, Reason};
 use std::alloc::{AllocError, Global};
@@ -58,9 +58,13 @@ impl Policers {
             port,
             is_sealed,
         } = *heading;
+        let arrived = Checked {
+            bytes: frame,
+            sealed: is_sealed,
+        };
         match side {
-            Side::A => self.a.police(time, port, frame, is_sealed),
-            Side::B => self.b.police(time, port, frame, is_sealed),
+            Side::A => self.a.police(time, port, arrived),
+            Side::B => self.b.police(time, port, arrived),
         }
     }
 }

@@ -21,6 +21,7 @@ ghost use Rattle.afdx_replay.specs.ReplayText.{replay_counts, frames_left, with_
 use crate::replay_lines::{put_admission, put_departure, reason_of};
 use crate::summary::Summary;
 use afdx_config::Tables;
+use afdx_frame::Checked;
 use afdx_lists::{Heading, LineReader, RunFault, Text, Watched, read_frame_line, write_text};
 use afdx_network::{Departed, Network};
 use afdx_police::Reason;
@@ -81,12 +82,10 @@ impl Replay {
             port: departure.port(),
             time: departure.time(),
             line: departure.tag(),
-            bytes: departure.bytes(),
+            frame: departure.frame(),
         };
         self.counts.departed += 1;
-        let is_delivered = self
-            .systems
-            .receive_checked(handover, true, &mut self.text)?;
+        let is_delivered = self.systems.receive(handover, &mut self.text)?;
         if is_delivered {
             self.counts.delivered += 1;
         }
@@ -155,14 +154,13 @@ impl Replay {
             (arrival_at n (frame_of heading.now frame.now) ∷ past)) }
     {
         self.tell_departures(heading.time, output)?;
-        let verdict = self.network.arrive(
-            heading.side,
-            heading.time,
-            heading.port,
-            n,
-            frame,
-            heading.is_sealed,
-        )?;
+        let arrived = Checked {
+            bytes: frame,
+            sealed: heading.is_sealed,
+        };
+        let verdict = self
+            .network
+            .arrive(heading.side, heading.time, heading.port, n, arrived)?;
         let lost = put_admission(&mut self.text, n, heading.side, &verdict)?;
         count_admission(&mut self.counts, reason_of(&verdict), lost);
         write_text(output, self.text.as_bytes())?;

@@ -7,7 +7,7 @@ use crate::frame::Frame;
 use crate::verdict::Verdict;
 use crate::working::Working;
 use afdx_config::Tables;
-use afdx_frame::is_sealed;
+use afdx_frame::Checked;
 use afdx_port::{Due, Left};
 use std::alloc::{AllocError, Global};
 use std::marker::Model;
@@ -20,8 +20,6 @@ pub struct Departure {
 }
 
 impl Departure {
-    ghost use Rattle.std.specs.Prelude.{true};
-    ghost use Rattle.afdx_frame.specs.Sealing.{is_sealed};
     ghost use Rattle.afdx_switch.specs.Departures.{as_given, giving_port};
 
     /// When its slot ended, in ns. For a frame that was dropped as too old, the moment of its turn.
@@ -45,12 +43,15 @@ impl Departure {
         self.left.item.tag()
     }
 
-    /// All bytes of the frame. Its check sequence was right when it arrived, and is.
-    pub fn bytes(&self) -> &[u8]
-        ensures bytes { result.now ≡ (as_given self.now).item.bytes }
-        ensures sealed { is_sealed result.now ≡ true }
+    /// The frame. Its check sequence was right when it arrived, and is not read again.
+    pub fn frame(&self) -> Checked<'_>
+        ensures { result.bytes.now ≡ (as_given self.now).item.bytes }
     {
-        self.left.item.bytes()
+        let bytes = self.left.item.bytes();
+        Checked {
+            bytes,
+            sealed: true,
+        }
     }
 
     /// The frame was dropped: its turn came when it had waited too long.
@@ -85,7 +86,6 @@ impl Switch {
     ghost use Rattle.afdx_config.specs.Lawful.{IsLawful};
     ghost use Rattle.afdx_config.specs.Rows.{LinkRow, Rows};
     ghost use Rattle.afdx_frame.specs.declared.link.Side.{Side};
-    ghost use Rattle.afdx_frame.specs.Sealing.{is_sealed};
     ghost use Rattle.afdx_police.specs.Arrival.{arrival_with, names, own};
     ghost use Rattle.afdx_port.specs.Due.{given_at, IsAfter};
     ghost use Rattle.afdx_port.specs.History.{due_at};
@@ -124,63 +124,30 @@ impl Switch {
         time: u64,
         port: u8,
         tag: u64,
-        bytes: &[u8],
+        frame: Checked<'_>,
     ) -> Result<Verdict, AllocError>
         requires limit { time ≤ latest_put }
         requires clock { last_time self.old ≤ time }
         requires quiet { IsQuiet self.old time }
         ensures verdict { (t : Rows) (side : Side) (h : History) → StandsFor t side self.old h →
-            IfOk result (IsVerdict t h.arrivals (arrival_with tag time side port bytes.now)) }
+            let arrival = arrival_with tag time side port frame.entry.bytes.now in
+            IfOk result (IsVerdict t h.arrivals arrival) }
         ensures stands { (t : Rows) (side : Side) (h : History) → StandsFor t side self.old h →
-            let arrival = arrival_with tag time side port bytes.now in
+            let arrival = arrival_with tag time side port frame.entry.bytes.now in
             OnOk result (StandsFor t side self.new (with_arrival h arrival)) }
         ensures kept { (t : Rows) (side : Side) (h : History) → StandsFor t side self.old h →
-            IsAdmittedRun t (arrival_with tag time side port bytes.now ∷ h.arrivals) →
-            IfOk result LosesNothing }
+            let arrival = arrival_with tag time side port frame.entry.bytes.now in
+            IsAdmittedRun t (arrival ∷ h.arrivals) → IfOk result LosesNothing }
         ensures regular { (t : Rows) (side : Side) (h : History) (place : ℕ) (l : LinkRow) →
             StandsFor t side self.old h → IsLawful t → slice_get t.links place ≡ Some l →
-            names l.vl bytes.now ≡ true → (rule_of t l).port ≡ port →
-            let own = own l.vl side (arrival_with tag time side port bytes.now ∷ h.arrivals) in
+            names l.vl frame.entry.bytes.now ≡ true →
+            (rule_of t l).port ≡ port →
+            let arrival = arrival_with tag time side port frame.entry.bytes.now in
+            let own = own l.vl side (arrival ∷ h.arrivals) in
             IsRegularAt (rule_of t l) own → IfOk result IsAccepted }
         ensures judged { (t : Rows) (side : Side) (h : History) → StandsFor t side self.old h →
-            OnErr result (shape_fault t (arrival_with tag time side port bytes.now) ≡ None) }
-        ensures refused { OnErr result (self.new ≡ self.old) }
-        ensures quiet { IsQuiet self.new time }
-        ensures held { frames_held self.new ≤ frames_held self.old + 24 }
-        ensures clock { OnOk result (last_time self.new ≡ time) }
-    {
-        self.arrive_checked(time, port, tag, bytes, is_sealed(bytes))
-    }
-
-    /// Takes in a frame of which it is known whether its bytes end with their check sequence, and
-    /// doesn't read that again: `sealed` is what `is_sealed` answers. It is `arrive` otherwise.
-    pub fn arrive_checked(
-        &mut self,
-        time: u64,
-        port: u8,
-        tag: u64,
-        bytes: &[u8],
-        sealed: bool,
-    ) -> Result<Verdict, AllocError>
-        requires limit { time ≤ latest_put }
-        requires sealed { sealed ≡ is_sealed bytes.now }
-        requires clock { last_time self.old ≤ time }
-        requires quiet { IsQuiet self.old time }
-        ensures verdict { (t : Rows) (side : Side) (h : History) → StandsFor t side self.old h →
-            IfOk result (IsVerdict t h.arrivals (arrival_with tag time side port bytes.now)) }
-        ensures stands { (t : Rows) (side : Side) (h : History) → StandsFor t side self.old h →
-            let arrival = arrival_with tag time side port bytes.now in
-            OnOk result (StandsFor t side self.new (with_arrival h arrival)) }
-        ensures kept { (t : Rows) (side : Side) (h : History) → StandsFor t side self.old h →
-            IsAdmittedRun t (arrival_with tag time side port bytes.now ∷ h.arrivals) →
-            IfOk result LosesNothing }
-        ensures regular { (t : Rows) (side : Side) (h : History) (place : ℕ) (l : LinkRow) →
-            StandsFor t side self.old h → IsLawful t → slice_get t.links place ≡ Some l →
-            names l.vl bytes.now ≡ true → (rule_of t l).port ≡ port →
-            let own = own l.vl side (arrival_with tag time side port bytes.now ∷ h.arrivals) in
-            IsRegularAt (rule_of t l) own → IfOk result IsAccepted }
-        ensures judged { (t : Rows) (side : Side) (h : History) → StandsFor t side self.old h →
-            OnErr result (shape_fault t (arrival_with tag time side port bytes.now) ≡ None) }
+            let arrival = arrival_with tag time side port frame.entry.bytes.now in
+            OnErr result (shape_fault t arrival ≡ None) }
         ensures refused { OnErr result (self.new ≡ self.old) }
         ensures quiet { IsQuiet self.new time }
         ensures held { frames_held self.new ≤ frames_held self.old + 24 }
@@ -188,7 +155,7 @@ impl Switch {
     {
         let arrived = self
             .working
-            .arrive(time, port, tag, bytes, sealed, &mut self.shares);
+            .arrive(time, port, tag, frame, &mut self.shares);
         self.shares.clear();
         arrived
     }

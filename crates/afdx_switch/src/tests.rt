@@ -4,7 +4,7 @@ ghost use Rattle.afdx_switch.specs.Switching.{IsQuiet, last_time};
 
 use crate::{Switch, Verdict};
 use afdx_config::{Tables, read_tables};
-use afdx_frame::is_sealed;
+use afdx_frame::Checked;
 use afdx_police::Reason;
 use std::alloc::{AllocError, Global};
 use std::test::Fail;
@@ -116,7 +116,7 @@ fn arrive(switch: &mut Switch, time: u64, port: u8, tag: u64, bytes: &[u8]) -> O
     ensures clock { last_time switch.new ≤ time }
     ensures quiet { IsQuiet switch.new time }
 {
-    match switch.arrive(time, port, tag, bytes) {
+    match switch.arrive(time, port, tag, Checked::new(bytes)) {
         Ok(verdict) => Some(verdict),
         Err(AllocError) => arrive_again(switch, time, port, tag, bytes),
     }
@@ -129,7 +129,7 @@ fn arrive_again(switch: &mut Switch, time: u64, port: u8, tag: u64, bytes: &[u8]
     ensures clock { last_time switch.new ≤ time }
     ensures quiet { IsQuiet switch.new time }
 {
-    match switch.arrive_checked(time, port, tag, bytes, is_sealed(bytes)) {
+    match switch.arrive(time, port, tag, Checked::new(bytes)) {
         Ok(verdict) => Some(verdict),
         Err(AllocError) => None,
     }
@@ -203,7 +203,7 @@ fn a_frame_at_another_port_is_dropped_and_not_charged(rt: HostRuntime) -> Result
     assert_eq!(rt; wrong, Some(Reason::WrongPort));
     assert!(rt; is_forwarded(arrive(&mut switch, 0, 1, 2, &HELLO)));
     let gone = switch.take(6720).ok_or("a departure")?;
-    assert!(rt; gone.bytes() == HELLO.as_slice());
+    assert!(rt; gone.frame().bytes == HELLO.as_slice());
     assert_eq!(rt; (gone.tag(), gone.time(), gone.port()), (2, 6720, 3));
     assert!(rt; is_still(&mut switch, 1000000));
     Ok(())

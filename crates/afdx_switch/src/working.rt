@@ -2,7 +2,6 @@
 ghost use Rattle.std.specs.Prelude.{[], ◌≢◌, ◌≡◌, ◌↔◌, ℕ, ◌≤◌, ◌<◌, ◌+◌, List, Option, None, Some, IfOk, OnOk, OnErr, IfSome, IfNone, MatchOption, length, slice_get, true, false, not, All, vec_len};
 ghost use Rattle.afdx_port.specs.Times.{drain_end, latest_put};
 ghost use Rattle.afdx_frame.specs.declared.link.Priority.{Priority};
-ghost use Rattle.afdx_frame.specs.Sealing.{is_sealed};
 ghost use Rattle.afdx_port.specs.Serving.{AreRanked, IsServing};
 ghost use Rattle.afdx_port.specs.declared.pending.Pending.{Pending};
 ghost use Rattle.afdx_port.specs.History as queue;
@@ -18,8 +17,8 @@ use crate::line::Line;
 use crate::ports::PortSet;
 use crate::switch::Departure;
 use crate::verdict::Verdict;
-use afdx_frame::{Priority, vl_of};
-use afdx_police::{Reason, judge_checked};
+use afdx_frame::{Checked, Priority, vl_of};
+use afdx_police::{Reason, judge};
 use afdx_port::{Due, Port, Serving, first_due};
 use std::alloc::{AllocError, Global};
 
@@ -142,46 +141,46 @@ impl Working {
         time: u64,
         port: u8,
         tag: u64,
-        bytes: &[u8],
-        sealed: bool,
+        frame: Checked<'_>,
         shares: &mut Vec<Frame>,
     ) -> Result<Verdict, AllocError>
         requires shares { shares.old.items ≡ [] }
         requires limit { time ≤ latest_put }
-        requires sealed { sealed ≡ is_sealed bytes.now }
         requires sound { IsSound self.old }
         requires clock { last_time self.old ≤ time }
         requires quiet { IsQuiet self.old time }
         ensures verdict { (t : Rows) (side : Side) (h : History) → StandsFor t side self.old h →
-            IfOk result (IsVerdict t h.arrivals (arrival_with tag time side port bytes.now)) }
+            let arrival = arrival_with tag time side port frame.entry.bytes.now in
+            IfOk result (IsVerdict t h.arrivals arrival) }
         ensures stands { (t : Rows) (side : Side) (h : History) → StandsFor t side self.old h →
-            let arrival = arrival_with tag time side port bytes.now in
+            let arrival = arrival_with tag time side port frame.entry.bytes.now in
             OnOk result (StandsFor t side self.new (with_arrival h arrival)) }
         ensures judged { (t : Rows) (side : Side) (h : History) → StandsFor t side self.old h →
-            OnErr result (shape_fault t (arrival_with tag time side port bytes.now) ≡ None) }
+            let arrival = arrival_with tag time side port frame.entry.bytes.now in
+            OnErr result (shape_fault t arrival ≡ None) }
         ensures refused { OnErr result (self.new ≡ self.old) }
         ensures sound { IsSound self.new }
         ensures quiet { IsQuiet self.new time }
         ensures held { frames_held self.new ≤ frames_held self.old + 24 }
         ensures clock { OnOk result (last_time self.new ≡ time) }
     {
-        let Some(place) = self.place_of(bytes) else {
-            let Some(reason) = judge_checked(None, port, bytes, sealed) else {
+        let Some(place) = self.place_of(frame.bytes) else {
+            let Some(reason) = judge(None, port, frame) else {
                 unreachable!();
             };
             self.clock = time;
             return Ok(Verdict::Dropped(reason));
         };
         let line = &self.lines[place];
-        if let Some(reason) = judge_checked(Some(line.account.rule()), port, bytes, sealed) {
+        if let Some(reason) = judge(Some(line.account.rule()), port, frame) {
             self.clock = time;
             return Ok(Verdict::Dropped(reason));
         }
-        let frame = Frame::copy(self.alloc, tag, line.longest_wait, bytes)?;
-        share_out(&frame, line.goes.len(), shares)?;
+        let copy = Frame::copy(self.alloc, tag, line.longest_wait, frame.bytes)?;
+        share_out(&copy, line.goes.len(), shares)?;
         self.clock = time;
         let line = &mut self.lines[place];
-        let passes = line.account.offer(time, bytes.len() as u64);
+        let passes = line.account.offer(time, frame.bytes.len() as u64);
         if !passes {
             return Ok(Verdict::Dropped(Reason::OverRate));
         }

@@ -17,7 +17,7 @@ pub record HandedOver : Type 0 where
 -- what the code's struct tells
 abbrev pub handed_over : Handover → HandedOver
 handed_over h =
-    record { side = h.side; port = h.port; time = h.time; line = h.line; bytes = h.bytes.now }
+    record { side = h.side; port = h.port; time = h.time; line = h.line; bytes = h.frame.bytes.now }
 
 -- it arrives at the port's system as it leaves
 abbrev pub arrival_of : HandedOver → Arrived

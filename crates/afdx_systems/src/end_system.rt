@@ -1,6 +1,5 @@
 //! One end system.
 ghost use Rattle.std.specs.Prelude.{◌≡◌, ℕ, ◌<◌, ◌++◌, ◌∷◌, [], IfOk, OnOk, Some, List, length, position};
-ghost use Rattle.afdx_frame.specs.Sealing.{is_sealed};
 ghost use Rattle.afdx_config.specs.Rows.{Rows};
 ghost use Rattle.afdx_receive.specs.Arrivals.{Arrived};
 ghost use Rattle.afdx_comport.specs.Ports.{is_for};
@@ -85,14 +84,12 @@ impl EndSystem {
     }
 
     /// Takes in a frame, adds the line that tells what became of it, and tells whether it is a
-    /// message. `sealed` is what `is_sealed` answers of the frame's bytes.
+    /// message.
     pub(crate) fn receive(
         &mut self,
         handover: Handover<'_>,
-        sealed: bool,
         text: &mut Text,
     ) -> Result<bool, AllocError>
-        requires { sealed ≡ is_sealed handover.bytes.now }
         ensures stands { (rows : Rows) (system : ℕ) (past : List Arrived) →
             IsAfter rows system self.old past →
             IsAfter rows system self.new (arrival_of (handed_over handover.entry) ∷ past) }
@@ -109,11 +106,11 @@ impl EndSystem {
             side,
             time,
             line,
-            bytes,
+            frame,
             ..
         } = handover;
         let name = self.name.as_str();
-        match self.receiver.receive_checked(time, side, bytes, sealed) {
+        match self.receiver.receive(time, side, frame) {
             Reception::Dropped(why) => {
                 put_drop(text, time, name, line, why)?;
                 Ok(false)

@@ -1,6 +1,6 @@
 //! What a switch hands over to an end system.
 
-use afdx_frame::Side;
+use afdx_frame::{Checked, Side};
 
 /// A frame that leaves an output port of a switch, and is handed over to the system there.
 #[derive(Clone, Copy, Debug)]
@@ -13,6 +13,6 @@ pub struct Handover<'a> {
     pub time: u64,
     /// The line of the list that it came from.
     pub line: u64,
-    /// All bytes of the frame.
-    pub bytes: &'a [u8],
+    /// The frame.
+    pub frame: Checked<'a>,
 }

@@ -1,6 +1,5 @@
 //! The end systems of a network, by their ports of the switch.
 ghost use Rattle.std.specs.Prelude.{◌≡◌, ℕ, ◌++◌, ◌∷◌, [], IfOk, OnOk, List, Option};
-ghost use Rattle.afdx_frame.specs.Sealing.{is_sealed};
 ghost use Rattle.afdx_config.specs.Rows.{Rows};
 ghost use Rattle.afdx_config.specs.Lawful.{IsLawful};
 ghost use Rattle.afdx_config.specs.Reading.{system_at_port};
@@ -14,7 +13,6 @@ ghost use Rattle.afdx_systems.specs.StandsFor.{IsAt};
 use crate::end_system::EndSystem;
 use crate::handover::Handover;
 use afdx_config::Tables;
-use afdx_frame::is_sealed;
 use afdx_lists::Text;
 use std::alloc::{AllocError, Global};
 
@@ -44,10 +42,8 @@ fn system_at(alloc: Global, tables: &Tables, port: u8) -> Result<Option<EndSyste
 fn receive_at(
     at: &mut Option<EndSystem>,
     handover: Handover<'_>,
-    sealed: bool,
     text: &mut Text,
 ) -> Result<bool, AllocError>
-    requires { sealed ≡ is_sealed handover.bytes.now }
     ensures stands { (rows : Rows) (past : List Arrived) (place : Option ℕ) →
         IsAt rows past place at.old →
         IsAt rows (arrival_of (handed_over handover.entry) ∷ past) place at.new }
@@ -60,7 +56,7 @@ fn receive_at(
         IfOk result (λ yes. yes ≡ is_delivered_at rows past (handed_over handover.entry) place) }
 {
     match at {
-        Some(system) => system.receive(handover, sealed, text),
+        Some(system) => system.receive(handover, text),
         None => Ok(false),
     }
 }
@@ -101,33 +97,9 @@ impl Systems {
             StandsFor rows self.old before →
             StandsFor rows self.new (handed_over handover.entry ∷ before) }
     {
-        let sealed = is_sealed(handover.bytes);
-        self.receive_checked(handover, sealed, text)
-    }
-
-    /// Takes in a frame of which it is known whether its bytes end with their check sequence, and
-    /// doesn't read that again: `sealed` is what `is_sealed` answers. It is `receive` otherwise.
-    pub fn receive_checked(
-        &mut self,
-        handover: Handover<'_>,
-        sealed: bool,
-        text: &mut Text,
-    ) -> Result<bool, AllocError>
-        requires { sealed ≡ is_sealed handover.bytes.now }
-        ensures line { (rows : Rows) (before : List HandedOver) →
-            StandsFor rows self.old before →
-            OnOk result (text_bytes text.new
-            ≡ text_bytes text.old ++ reception_line rows before (handed_over handover.entry)) }
-        ensures delivered { (rows : Rows) (before : List HandedOver) →
-            StandsFor rows self.old before →
-            IfOk result (λ yes. yes ≡ is_delivered rows before (handed_over handover.entry)) }
-        ensures stands { (rows : Rows) (before : List HandedOver) →
-            StandsFor rows self.old before →
-            StandsFor rows self.new (handed_over handover.entry ∷ before) }
-    {
         let place = usize::from(handover.port);
         if place < self.at_ports.len() {
-            receive_at(&mut self.at_ports[place], handover, sealed, text)
+            receive_at(&mut self.at_ports[place], handover, text)
         } else {
             Ok(false)
         }

@@ -3,7 +3,7 @@
 
 use crate::{Handover, Systems};
 use afdx_config::{ConfigFault, Tables, read_tables};
-use afdx_frame::{Side, fcs};
+use afdx_frame::{Checked, Side, fcs};
 use afdx_lists::Text;
 use std::alloc::{AllocError, Global};
 use std::str;
@@ -182,7 +182,7 @@ fn tell_once(
             port,
             time: frame.time,
             line,
-            bytes: frame.bytes.as_slice(),
+            frame: Checked::new(frame.bytes.as_slice()),
         };
         if systems.receive(handover, &mut text)? {
             delivered = delivered.saturating_add(1);

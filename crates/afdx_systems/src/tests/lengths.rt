@@ -4,7 +4,7 @@ ghost use Rattle.std.specs.Prelude.{◌≤◌};
 use super::base_tables;
 use crate::{Handover, Systems};
 use afdx_config::Tables;
-use afdx_frame::{Address, Side, VlId, build, is_sealed};
+use afdx_frame::{Address, Checked, Side, VlId, build};
 use afdx_lists::Text;
 use std::alloc::{AllocError, Global};
 use std::test::Fail;
@@ -35,10 +35,9 @@ fn is_printed(alloc: Global, tables: &Tables, length: usize) -> Result<bool, All
         port: 3,
         time: 7,
         line: 1,
-        bytes: frame.as_slice(),
+        frame: Checked::new(frame.as_slice()),
     };
-    let sealed = is_sealed(frame.as_slice());
-    let is_delivered = systems.receive_checked(handover, sealed, &mut text)?;
+    let is_delivered = systems.receive(handover, &mut text)?;
     let mut line = String::new(alloc);
     line.push_str("M 7 s3 2 ")?;
     for byte in message {

@@ -20,9 +20,9 @@ returns-in-Some-clause-reason c rule past tag side stands =
       time = c.args.time;
       side = side;
       port = c.args.port;
-      bytes = c.args.frame.now;
+      bytes = c.args.frame.bytes.now;
     }) c.in-Some.reason
-    (judged rule _ c.args.port c.args.frame.now _ (c.rule.ensures ∙ stands.by_rule) c.in-Some.ensures.reason))
+    (judged rule _ c.args.port c.args.frame.bytes.now _ (c.rule.ensures ∙ stands.by_rule) c.in-Some.ensures.reason))
 
 pub returns-in-Some-clause-stands : goal.returns-in-Some-clause-stands
 returns-in-Some-clause-stands c rule past tag side stands =
@@ -32,9 +32,9 @@ returns-in-Some-clause-stands c rule past tag side stands =
       time = c.args.time;
       side = side;
       port = c.args.port;
-      bytes = c.args.frame.now;
+      bytes = c.args.frame.bytes.now;
     }) c.in-Some.reason
-    (judged rule _ c.args.port c.args.frame.now _ (c.rule.ensures ∙ stands.by_rule)
+    (judged rule _ c.args.port c.args.frame.bytes.now _ (c.rule.ensures ∙ stands.by_rule)
     c.in-Some.ensures.reason)).stands stands
 
 pub returns-in-Some-clause-verdict : goal.returns-in-Some-clause-verdict
@@ -45,9 +45,9 @@ returns-in-Some-clause-verdict c rule all tag side stands =
       time = c.args.time;
       side = side;
       port = c.args.port;
-      bytes = c.args.frame.now;
+      bytes = c.args.frame.bytes.now;
     }) c.in-Some.reason
-    (judged rule _ c.args.port c.args.frame.now _ (c.rule.ensures ∙ stands.by_rule) c.in-Some.ensures.reason))
+    (judged rule _ c.args.port c.args.frame.bytes.now _ (c.rule.ensures ∙ stands.by_rule) c.in-Some.ensures.reason))
 
 pub returns-in-Some-clause-stands_in : goal.returns-in-Some-clause-stands_in
 returns-in-Some-clause-stands_in c rule all tag side stands =
@@ -57,9 +57,9 @@ returns-in-Some-clause-stands_in c rule all tag side stands =
       time = c.args.time;
       side = side;
       port = c.args.port;
-      bytes = c.args.frame.now;
+      bytes = c.args.frame.bytes.now;
     }) all c.in-Some.reason
-    (judged rule _ c.args.port c.args.frame.now _ (c.rule.ensures ∙ stands.by_rule) c.in-Some.ensures.reason) stands
+    (judged rule _ c.args.port c.args.frame.bytes.now _ (c.rule.ensures ∙ stands.by_rule) c.in-Some.ensures.reason) stands
 
 pub returns-then-offer-clause-stands : goal.returns-then-offer-clause-stands
 returns-then-offer-clause-stands c rule past tag side stands =
@@ -69,10 +69,10 @@ returns-then-offer-clause-stands c rule past tag side stands =
       time = c.args.time;
       side = side;
       port = c.args.port;
-      bytes = c.args.frame.now;
+      bytes = c.args.frame.bytes.now;
     }) stands
     (record {
-      sound = judged rule _ c.args.port c.args.frame.now _ (c.rule.ensures ∙ stands.by_rule)
+      sound = judged rule _ c.args.port c.args.frame.bytes.now _ (c.rule.ensures ∙ stands.by_rule)
           c.in-None.ensures.reason;
       same = refl;
     })
@@ -85,10 +85,10 @@ returns-else-offer-clause-stands c rule past tag side stands =
       time = c.args.time;
       side = side;
       port = c.args.port;
-      bytes = c.args.frame.now;
+      bytes = c.args.frame.bytes.now;
     }) stands
     (record {
-      sound = judged rule _ c.args.port c.args.frame.now _ (c.rule.ensures ∙ stands.by_rule)
+      sound = judged rule _ c.args.port c.args.frame.bytes.now _ (c.rule.ensures ∙ stands.by_rule)
           c.in-None.ensures.reason;
       same = refl;
     })
@@ -100,10 +100,10 @@ returns-then-offer-clause-stands_in c rule all tag side stands =
       time = c.args.time;
       side = side;
       port = c.args.port;
-      bytes = c.args.frame.now;
+      bytes = c.args.frame.bytes.now;
     } in
     let sound : fault_of (Some rule) x.port x.bytes ≡ None =
-    judged rule _ c.args.port c.args.frame.now _ (c.rule.ensures ∙ stands.by_rule)
+    judged rule _ c.args.port c.args.frame.bytes.now _ (c.rule.ensures ∙ stands.by_rule)
     c.in-None.ensures.reason in
     sound-stands_in rule c.offer.new.self x all sound
     (c.offer.ensures.stands rule (own rule.vl side all) x stands
@@ -116,10 +116,10 @@ returns-else-offer-clause-stands_in c rule all tag side stands =
       time = c.args.time;
       side = side;
       port = c.args.port;
-      bytes = c.args.frame.now;
+      bytes = c.args.frame.bytes.now;
     } in
     let sound : fault_of (Some rule) x.port x.bytes ≡ None =
-    judged rule _ c.args.port c.args.frame.now _ (c.rule.ensures ∙ stands.by_rule)
+    judged rule _ c.args.port c.args.frame.bytes.now _ (c.rule.ensures ∙ stands.by_rule)
     c.in-None.ensures.reason in
     sound-stands_in rule c.offer.new.self x all sound
     (c.offer.ensures.stands rule (own rule.vl side all) x stands
@@ -132,10 +132,10 @@ faultless held port bytes fault none some = absurd (cc)
 
 pub returns-then-offer-clause-unchanged : goal.returns-then-offer-clause-unchanged
 returns-then-offer-clause-unchanged c fault e =
-    absurd (faultless _ c.args.port c.args.frame.now fault
+    absurd (faultless _ c.args.port c.args.frame.bytes.now fault
     (rw c.rule.ensures at c.in-None.ensures.reason) e)
 
 pub returns-else-offer-clause-unchanged : goal.returns-else-offer-clause-unchanged
 returns-else-offer-clause-unchanged c fault e =
-    absurd (faultless _ c.args.port c.args.frame.now fault
+    absurd (faultless _ c.args.port c.args.frame.bytes.now fault
     (rw c.rule.ensures at c.in-None.ensures.reason) e)

@@ -26,62 +26,62 @@ use Rattle.afdx_switch.proofs.working.Working.arrive.Goals as goal
 
 pub unreachable-requires : goal.unreachable-requires
 unreachable-requires c =
-    let fault = unknown-fault c.args.port c.args.bytes.now in
-    let both : None ≡ Some fault.0 = c.in_default-judge_checked.ensures.reason ∙ fault.1 in
+    let fault = unknown-fault c.args.port c.args.frame.bytes.now in
+    let both : None ≡ Some fault.0 = c.in_default-judge.ensures.reason ∙ fault.1 in
     cc both
 
 pub returns-in_default-clause-verdict : goal.returns-in_default-clause-verdict
 returns-in_default-clause-verdict c t side h st =
-    let x = arrival_with c.args.tag c.args.time side c.args.port c.args.bytes.now in
-    unknown-reason t x c.args.self.now h st c.in-Some-judge_checked.reason
-    (c.in_default.ensures.place t side h st) (sym c.in-Some-judge_checked.ensures.reason)
+    let x = arrival_with c.args.tag c.args.time side c.args.port c.args.frame.bytes.now in
+    unknown-reason t x c.args.self.now h st c.in-Some-judge.reason
+    (c.in_default.ensures.place t side h st) (sym c.in-Some-judge.ensures.reason)
 
 pub returns-in_default-clause-stands : goal.returns-in_default-clause-stands
 returns-in_default-clause-stands c t side h st =
-    let x = arrival_with c.args.tag c.args.time side c.args.port c.args.bytes.now in
+    let x = arrival_with c.args.tag c.args.time side c.args.port c.args.frame.bytes.now in
     let none = c.in_default.ensures.place t side h st in
     stands-dropped t x c.args.self.now h st _ _ None none
-    (unknown-reason t x c.args.self.now h st c.in-Some-judge_checked.reason none
-    (sym c.in-Some-judge_checked.ensures.reason))
+    (unknown-reason t x c.args.self.now h st c.in-Some-judge.reason none
+    (sym c.in-Some-judge.ensures.reason))
     (lines-unknown t x c.args.self.now h st none) refl refl refl refl
 
-pub returns-in-Some-judge_checked-2-clause-verdict : goal.returns-in-Some-judge_checked-2-clause-verdict
-returns-in-Some-judge_checked-2-clause-verdict c t side h st =
-    let x = arrival_with c.args.tag c.args.time side c.args.port c.args.bytes.now in
-    let n : IsNamedAt (rows_of t) c.args.bytes.now c.in-Some.place = c.in-Some.ensures.place t side h st in
+pub returns-in-Some-judge-2-clause-verdict : goal.returns-in-Some-judge-2-clause-verdict
+returns-in-Some-judge-2-clause-verdict c t side h st =
+    let x = arrival_with c.args.tag c.args.time side c.args.port c.args.frame.bytes.now in
+    let n : IsNamedAt (rows_of t) c.args.frame.bytes.now c.in-Some.place = c.in-Some.ensures.place t side h st in
     let at = slice_get_read c.args.self.now.lines.items _ c.in-Some.place c.index-line.result.now
     c.args.self.now.lines.ok.0 c.in-Some.ensures.within c.index-line.ensures in
     let is = line-is t x c.args.self.now h st c.in-Some.place n c.index-line.result.now at in
     let rule : rule_of c.rule.result.now ≡ n.row.rule = c.rule.ensures ∙ is.account.by_rule in
-    let fault : fault_of (Some n.row.rule) c.args.port c.args.bytes.now
-    ≡ Some c.in-Some-judge_checked-2.reason =
-    ap (λ q. fault_of (Some q) c.args.port c.args.bytes.now) (sym rule)
-    ∙ sym c.in-Some-judge_checked-2.ensures.reason in
+    let fault : fault_of (Some n.row.rule) c.args.port c.args.frame.bytes.now
+    ≡ Some c.in-Some-judge-2.reason =
+    ap (λ q. fault_of (Some q) c.args.port c.args.frame.bytes.now) (sym rule)
+    ∙ sym c.in-Some-judge-2.ensures.reason in
     fault-reason t x c.args.self.now h st c.in-Some.place n c.index-line.result.now at
-    c.in-Some-judge_checked-2.reason fault
+    c.in-Some-judge-2.reason fault
 
-pub returns-in-Some-judge_checked-2-clause-stands : goal.returns-in-Some-judge_checked-2-clause-stands
-returns-in-Some-judge_checked-2-clause-stands c t side h st =
-    let x = arrival_with c.args.tag c.args.time side c.args.port c.args.bytes.now in
-    let n : IsNamedAt (rows_of t) c.args.bytes.now c.in-Some.place = c.in-Some.ensures.place t side h st in
+pub returns-in-Some-judge-2-clause-stands : goal.returns-in-Some-judge-2-clause-stands
+returns-in-Some-judge-2-clause-stands c t side h st =
+    let x = arrival_with c.args.tag c.args.time side c.args.port c.args.frame.bytes.now in
+    let n : IsNamedAt (rows_of t) c.args.frame.bytes.now c.in-Some.place = c.in-Some.ensures.place t side h st in
     let at = slice_get_read c.args.self.now.lines.items _ c.in-Some.place c.index-line.result.now
     c.args.self.now.lines.ok.0 c.in-Some.ensures.within c.index-line.ensures in
     let is = line-is t x c.args.self.now h st c.in-Some.place n c.index-line.result.now at in
     let rule : rule_of c.rule.result.now ≡ n.row.rule = c.rule.ensures ∙ is.account.by_rule in
-    let fault : fault_of (Some n.row.rule) c.args.port c.args.bytes.now
-    ≡ Some c.in-Some-judge_checked-2.reason =
-    ap (λ q. fault_of (Some q) c.args.port c.args.bytes.now) (sym rule)
-    ∙ sym c.in-Some-judge_checked-2.ensures.reason in
-    stands-dropped t x c.args.self.now h st _ c.in-Some-judge_checked-2.reason (Some c.in-Some.place) n
+    let fault : fault_of (Some n.row.rule) c.args.port c.args.frame.bytes.now
+    ≡ Some c.in-Some-judge-2.reason =
+    ap (λ q. fault_of (Some q) c.args.port c.args.frame.bytes.now) (sym rule)
+    ∙ sym c.in-Some-judge-2.ensures.reason in
+    stands-dropped t x c.args.self.now h st _ c.in-Some-judge-2.reason (Some c.in-Some.place) n
     (fault-reason t x c.args.self.now h st c.in-Some.place n c.index-line.result.now at
-    c.in-Some-judge_checked-2.reason fault)
+    c.in-Some-judge-2.reason fault)
     (lines-faulted t x c.args.self.now h st c.in-Some.place n c.index-line.result.now at
-    c.in-Some-judge_checked-2.reason fault) refl refl refl refl
+    c.in-Some-judge-2.reason fault) refl refl refl refl
 
 pub returns-then-not-passes-clause-verdict : goal.returns-then-not-passes-clause-verdict
 returns-then-not-passes-clause-verdict c t side h st =
-    let x = arrival_with c.args.tag c.args.time side c.args.port c.args.bytes.now in
-    let n : IsNamedAt (rows_of t) c.args.bytes.now c.in-Some.place = c.in-Some.ensures.place t side h st in
+    let x = arrival_with c.args.tag c.args.time side c.args.port c.args.frame.bytes.now in
+    let n : IsNamedAt (rows_of t) c.args.frame.bytes.now c.in-Some.place = c.in-Some.ensures.place t side h st in
     let at = slice_get_read c.args.self.now.lines.items _ c.in-Some.place c.index-line.result.now
     c.args.self.now.lines.ok.0 c.in-Some.ensures.within c.index-line.ensures in
     let is = line-is t x c.args.self.now h st c.in-Some.place n c.index-line.result.now at in
@@ -91,9 +91,9 @@ returns-then-not-passes-clause-verdict c t side h st =
     c.index_mut-line.ensures.value in
     let same_line : c.index-line.result.now ≡ c.index_mut-line.result.now = cc in
     let is_line = line-is t x c.args.self.now h st c.in-Some.place n c.index_mut-line.result.now at_line in
-    let sound : fault_of (Some n.row.rule) c.args.port c.args.bytes.now ≡ None =
-    ap (λ q. fault_of (Some q) c.args.port c.args.bytes.now) (sym rule)
-    ∙ sym c.in_default-judge_checked-2.ensures.reason in
+    let sound : fault_of (Some n.row.rule) c.args.port c.args.frame.bytes.now ≡ None =
+    ap (λ q. fault_of (Some q) c.args.port c.args.frame.bytes.now) (sym rule)
+    ∙ sym c.in_default-judge-2.ensures.reason in
     let answer : (if c.offer-passes.result then None else Some OverRate)
     ≡ reason_after n.row.rule (own n.row.rule.vl side h.arrivals) x =
     c.offer-passes.ensures.answer n.row.rule (own n.row.rule.vl side h.arrivals) x
@@ -102,8 +102,8 @@ returns-then-not-passes-clause-verdict c t side h st =
 
 pub returns-then-not-passes-clause-stands : goal.returns-then-not-passes-clause-stands
 returns-then-not-passes-clause-stands c t side h st =
-    let x = arrival_with c.args.tag c.args.time side c.args.port c.args.bytes.now in
-    let n : IsNamedAt (rows_of t) c.args.bytes.now c.in-Some.place = c.in-Some.ensures.place t side h st in
+    let x = arrival_with c.args.tag c.args.time side c.args.port c.args.frame.bytes.now in
+    let n : IsNamedAt (rows_of t) c.args.frame.bytes.now c.in-Some.place = c.in-Some.ensures.place t side h st in
     let at = slice_get_read c.args.self.now.lines.items _ c.in-Some.place c.index-line.result.now
     c.args.self.now.lines.ok.0 c.in-Some.ensures.within c.index-line.ensures in
     let is = line-is t x c.args.self.now h st c.in-Some.place n c.index-line.result.now at in
@@ -113,9 +113,9 @@ returns-then-not-passes-clause-stands c t side h st =
     c.index_mut-line.ensures.value in
     let same_line : c.index-line.result.now ≡ c.index_mut-line.result.now = cc in
     let is_line = line-is t x c.args.self.now h st c.in-Some.place n c.index_mut-line.result.now at_line in
-    let sound : fault_of (Some n.row.rule) c.args.port c.args.bytes.now ≡ None =
-    ap (λ q. fault_of (Some q) c.args.port c.args.bytes.now) (sym rule)
-    ∙ sym c.in_default-judge_checked-2.ensures.reason in
+    let sound : fault_of (Some n.row.rule) c.args.port c.args.frame.bytes.now ≡ None =
+    ap (λ q. fault_of (Some q) c.args.port c.args.frame.bytes.now) (sym rule)
+    ∙ sym c.in_default-judge-2.ensures.reason in
     let answer : (if c.offer-passes.result then None else Some OverRate)
     ≡ reason_after n.row.rule (own n.row.rule.vl side h.arrivals) x =
     c.offer-passes.ensures.answer n.row.rule (own n.row.rule.vl side h.arrivals) x
@@ -129,8 +129,8 @@ returns-then-not-passes-clause-stands c t side h st =
 
 pub returns-clause-verdict : goal.returns-clause-verdict
 returns-clause-verdict c t side h st =
-    let x = arrival_with c.args.tag c.args.time side c.args.port c.args.bytes.now in
-    let n : IsNamedAt (rows_of t) c.args.bytes.now c.in-Some.place = c.in-Some.ensures.place t side h st in
+    let x = arrival_with c.args.tag c.args.time side c.args.port c.args.frame.bytes.now in
+    let n : IsNamedAt (rows_of t) c.args.frame.bytes.now c.in-Some.place = c.in-Some.ensures.place t side h st in
     let at = slice_get_read c.args.self.now.lines.items _ c.in-Some.place c.index-line.result.now
     c.args.self.now.lines.ok.0 c.in-Some.ensures.within c.index-line.ensures in
     let is = line-is t x c.args.self.now h st c.in-Some.place n c.index-line.result.now at in
@@ -140,9 +140,9 @@ returns-clause-verdict c t side h st =
     c.index_mut-line.ensures.value in
     let same_line : c.index-line.result.now ≡ c.index_mut-line.result.now = cc in
     let is_line = line-is t x c.args.self.now h st c.in-Some.place n c.index_mut-line.result.now at_line in
-    let sound : fault_of (Some n.row.rule) c.args.port c.args.bytes.now ≡ None =
-    ap (λ q. fault_of (Some q) c.args.port c.args.bytes.now) (sym rule)
-    ∙ sym c.in_default-judge_checked-2.ensures.reason in
+    let sound : fault_of (Some n.row.rule) c.args.port c.args.frame.bytes.now ≡ None =
+    ap (λ q. fault_of (Some q) c.args.port c.args.frame.bytes.now) (sym rule)
+    ∙ sym c.in_default-judge-2.ensures.reason in
     let answer : (if c.offer-passes.result then None else Some OverRate)
     ≡ reason_after n.row.rule (own n.row.rule.vl side h.arrivals) x =
     c.offer-passes.ensures.answer n.row.rule (own n.row.rule.vl side h.arrivals) x
@@ -150,17 +150,17 @@ returns-clause-verdict c t side h st =
     let accepted = reason-named t x h.arrivals c.in-Some.place n ∙ sym (rw c.if-not-passes.false at answer) in
     let small = (all-at (IsLineSound c.args.self.now.clock) c.args.self.now.lines.items
     c.in-Some.place c.index_mut-line.result.now c.requires.sound.lines at_line).wait in
-    let longest : length c.args.bytes.now ≤ 1518 =
-    omega (arith, c.in_default-judge_checked-2.ensures.longest, c.rule.result.now.in_range.longest) in
+    let longest : length c.args.frame.bytes.now ≤ 1518 =
+    omega (arith, c.in_default-judge-2.ensures.longest, c.rule.result.now.in_range.longest) in
     let shared : AreShares (carried_with c.args.tag c.index-line.result.now.longest_wait
-    c.args.bytes.now) c.share_out.new.shares.items =
-    subst (λ (f : Carried). AreShares f c.share_out.new.shares.items) c.in_ok-frame.ensures
+    c.args.frame.bytes.now) c.share_out.new.shares.items =
+    subst (λ (f : Carried). AreShares f c.share_out.new.shares.items) c.in_ok-copy.ensures
     c.in_ok-share_out.ensures.each in
     let shared_line = subst (λ (l : Line).
-    AreShares (carried_with c.args.tag l.longest_wait c.args.bytes.now)
+    AreShares (carried_with c.args.tag l.longest_wait c.args.frame.bytes.now)
     c.share_out.new.shares.items) same_line shared in
     let of_line = c.index_mut-line.result.now in
-    let carried : Carried = carried_with c.args.tag of_line.longest_wait c.args.bytes.now in
+    let carried : Carried = carried_with c.args.tag of_line.longest_wait c.args.frame.bytes.now in
     let offered : (i : ℕ) (o p : Pending Carried) → slice_get c.args.self.now.ports.items i ≡ Some o
     → slice_get c.forward-lost.new.ports i ≡ Some p →
     IsOffered c.args.time of_line.priority (share_of carried (is_among i of_line.goes.items)) o p
@@ -174,7 +174,7 @@ returns-clause-verdict c t side h st =
     omega (arith, c.args.self.now.ports.ok.0, c.requires.sound.port_count) in (
       accepted,
       lost-is t x c.args.self.now h st c.in-Some.place n c.index_mut-line.result.now at_line
-          accepted c.in_default-judge_checked-2.ensures.shortest longest small
+          accepted c.in_default-judge-2.ensures.shortest longest small
           c.forward-lost.new.ports c.forward-lost.result old_count c.forward-lost.ensures.count
           offered,
       c.forward-lost.ensures.numbers,
@@ -182,8 +182,8 @@ returns-clause-verdict c t side h st =
 
 pub returns-clause-stands : goal.returns-clause-stands
 returns-clause-stands c t side h st =
-    let x = arrival_with c.args.tag c.args.time side c.args.port c.args.bytes.now in
-    let n : IsNamedAt (rows_of t) c.args.bytes.now c.in-Some.place = c.in-Some.ensures.place t side h st in
+    let x = arrival_with c.args.tag c.args.time side c.args.port c.args.frame.bytes.now in
+    let n : IsNamedAt (rows_of t) c.args.frame.bytes.now c.in-Some.place = c.in-Some.ensures.place t side h st in
     let at = slice_get_read c.args.self.now.lines.items _ c.in-Some.place c.index-line.result.now
     c.args.self.now.lines.ok.0 c.in-Some.ensures.within c.index-line.ensures in
     let is = line-is t x c.args.self.now h st c.in-Some.place n c.index-line.result.now at in
@@ -193,9 +193,9 @@ returns-clause-stands c t side h st =
     c.index_mut-line.ensures.value in
     let same_line : c.index-line.result.now ≡ c.index_mut-line.result.now = cc in
     let is_line = line-is t x c.args.self.now h st c.in-Some.place n c.index_mut-line.result.now at_line in
-    let sound : fault_of (Some n.row.rule) c.args.port c.args.bytes.now ≡ None =
-    ap (λ q. fault_of (Some q) c.args.port c.args.bytes.now) (sym rule)
-    ∙ sym c.in_default-judge_checked-2.ensures.reason in
+    let sound : fault_of (Some n.row.rule) c.args.port c.args.frame.bytes.now ≡ None =
+    ap (λ q. fault_of (Some q) c.args.port c.args.frame.bytes.now) (sym rule)
+    ∙ sym c.in_default-judge-2.ensures.reason in
     let answer : (if c.offer-passes.result then None else Some OverRate)
     ≡ reason_after n.row.rule (own n.row.rule.vl side h.arrivals) x =
     c.offer-passes.ensures.answer n.row.rule (own n.row.rule.vl side h.arrivals) x
@@ -205,17 +205,17 @@ returns-clause-stands c t side h st =
     let accepted = reason-named t x h.arrivals c.in-Some.place n ∙ sym (rw c.if-not-passes.false at answer) in
     let small = (all-at (IsLineSound c.args.self.now.clock) c.args.self.now.lines.items
     c.in-Some.place c.index_mut-line.result.now c.requires.sound.lines at_line).wait in
-    let longest : length c.args.bytes.now ≤ 1518 =
-    omega (arith, c.in_default-judge_checked-2.ensures.longest, c.rule.result.now.in_range.longest) in
+    let longest : length c.args.frame.bytes.now ≤ 1518 =
+    omega (arith, c.in_default-judge-2.ensures.longest, c.rule.result.now.in_range.longest) in
     let shared : AreShares (carried_with c.args.tag c.index-line.result.now.longest_wait
-    c.args.bytes.now) c.share_out.new.shares.items =
-    subst (λ (f : Carried). AreShares f c.share_out.new.shares.items) c.in_ok-frame.ensures
+    c.args.frame.bytes.now) c.share_out.new.shares.items =
+    subst (λ (f : Carried). AreShares f c.share_out.new.shares.items) c.in_ok-copy.ensures
     c.in_ok-share_out.ensures.each in
     let shared_line = subst (λ (l : Line).
-    AreShares (carried_with c.args.tag l.longest_wait c.args.bytes.now)
+    AreShares (carried_with c.args.tag l.longest_wait c.args.frame.bytes.now)
     c.share_out.new.shares.items) same_line shared in
     let of_line = c.index_mut-line.result.now in
-    let carried : Carried = carried_with c.args.tag of_line.longest_wait c.args.bytes.now in
+    let carried : Carried = carried_with c.args.tag of_line.longest_wait c.args.frame.bytes.now in
     let offered : (i : ℕ) (o p : Pending Carried) → slice_get c.args.self.now.ports.items i ≡ Some o
     → slice_get c.forward-lost.new.ports i ≡ Some p →
     IsOffered c.args.time of_line.priority (share_of carried (is_among i of_line.goes.items)) o p
@@ -228,7 +228,7 @@ returns-clause-stands c t side h st =
     let old_count : length c.args.self.now.ports.items ≡ 24 =
     omega (arith, c.args.self.now.ports.ok.0, c.requires.sound.port_count) in
     stands-accepted t x c.args.self.now h st c.in-Some.place n c.index_mut-line.result.now at_line
-    accepted c.in_default-judge_checked-2.ensures.shortest longest small
+    accepted c.in_default-judge-2.ensures.shortest longest small
     c.forward-lost.new.ports c.forward-lost.result old_count c.forward-lost.ensures.count
     offered
     _ (lines-with t x c.args.self.now h st c.in-Some.place n c.index_mut-line.result.now at_line
@@ -249,14 +249,14 @@ returns-clause-sound c =
     let line_sound = all-at (IsLineSound c.args.self.now.clock) c.args.self.now.lines.items
     c.in-Some.place c.index_mut-line.result.now c.requires.sound.lines at_line in
     let shared : AreShares (carried_with c.args.tag c.index-line.result.now.longest_wait
-    c.args.bytes.now) c.share_out.new.shares.items =
-    subst (λ (f : Carried). AreShares f c.share_out.new.shares.items) c.in_ok-frame.ensures
+    c.args.frame.bytes.now) c.share_out.new.shares.items =
+    subst (λ (f : Carried). AreShares f c.share_out.new.shares.items) c.in_ok-copy.ensures
     c.in_ok-share_out.ensures.each in
     let shared_line = subst (λ (l : Line).
-    AreShares (carried_with c.args.tag l.longest_wait c.args.bytes.now)
+    AreShares (carried_with c.args.tag l.longest_wait c.args.frame.bytes.now)
     c.share_out.new.shares.items) same_line shared in
     let of_line = c.index_mut-line.result.now in
-    let carried : Carried = carried_with c.args.tag of_line.longest_wait c.args.bytes.now in
+    let carried : Carried = carried_with c.args.tag of_line.longest_wait c.args.frame.bytes.now in
     let offered : (i : ℕ) (o p : Pending Carried) → slice_get c.args.self.now.ports.items i ≡ Some o
     → slice_get c.forward-lost.new.ports i ≡ Some p →
     IsOffered c.args.time of_line.priority (share_of carried (is_among i of_line.goes.items)) o p
@@ -310,14 +310,14 @@ returns-clause-quiet c =
     c.index_mut-line.ensures.value in
     let same_line : c.index-line.result.now ≡ c.index_mut-line.result.now = cc in
     let shared : AreShares (carried_with c.args.tag c.index-line.result.now.longest_wait
-    c.args.bytes.now) c.share_out.new.shares.items =
-    subst (λ (f : Carried). AreShares f c.share_out.new.shares.items) c.in_ok-frame.ensures
+    c.args.frame.bytes.now) c.share_out.new.shares.items =
+    subst (λ (f : Carried). AreShares f c.share_out.new.shares.items) c.in_ok-copy.ensures
     c.in_ok-share_out.ensures.each in
     let shared_line = subst (λ (l : Line).
-    AreShares (carried_with c.args.tag l.longest_wait c.args.bytes.now)
+    AreShares (carried_with c.args.tag l.longest_wait c.args.frame.bytes.now)
     c.share_out.new.shares.items) same_line shared in
     let of_line = c.index_mut-line.result.now in
-    let carried : Carried = carried_with c.args.tag of_line.longest_wait c.args.bytes.now in
+    let carried : Carried = carried_with c.args.tag of_line.longest_wait c.args.frame.bytes.now in
     let offered : (i : ℕ) (o p : Pending Carried) → slice_get c.args.self.now.ports.items i ≡ Some o
     → slice_get c.forward-lost.new.ports i ≡ Some p →
     IsOffered c.args.time of_line.priority (share_of carried (is_among i of_line.goes.items)) o p
@@ -347,14 +347,14 @@ returns-clause-held c =
     c.index_mut-line.ensures.value in
     let same_line : c.index-line.result.now ≡ c.index_mut-line.result.now = cc in
     let shared : AreShares (carried_with c.args.tag c.index-line.result.now.longest_wait
-    c.args.bytes.now) c.share_out.new.shares.items =
-    subst (λ (f : Carried). AreShares f c.share_out.new.shares.items) c.in_ok-frame.ensures
+    c.args.frame.bytes.now) c.share_out.new.shares.items =
+    subst (λ (f : Carried). AreShares f c.share_out.new.shares.items) c.in_ok-copy.ensures
     c.in_ok-share_out.ensures.each in
     let shared_line = subst (λ (l : Line).
-    AreShares (carried_with c.args.tag l.longest_wait c.args.bytes.now)
+    AreShares (carried_with c.args.tag l.longest_wait c.args.frame.bytes.now)
     c.share_out.new.shares.items) same_line shared in
     let of_line = c.index_mut-line.result.now in
-    let carried : Carried = carried_with c.args.tag of_line.longest_wait c.args.bytes.now in
+    let carried : Carried = carried_with c.args.tag of_line.longest_wait c.args.frame.bytes.now in
     let offered : (i : ℕ) (o p : Pending Carried) → slice_get c.args.self.now.ports.items i ≡ Some o
     → slice_get c.forward-lost.new.ports i ≡ Some p →
     IsOffered c.args.time of_line.priority (share_of carried (is_among i of_line.goes.items)) o p
@@ -373,30 +373,30 @@ returns-clause-held c =
     c.forward-lost.ensures.count
     offered)
 
-pub returns-in_err-frame-clause-judged : goal.returns-in_err-frame-clause-judged
-returns-in_err-frame-clause-judged c t side h st =
-    let x = arrival_with c.args.tag c.args.time side c.args.port c.args.bytes.now in
-    let n : IsNamedAt (rows_of t) c.args.bytes.now c.in-Some.place = c.in-Some.ensures.place t side h st in
+pub returns-in_err-copy-clause-judged : goal.returns-in_err-copy-clause-judged
+returns-in_err-copy-clause-judged c t side h st =
+    let x = arrival_with c.args.tag c.args.time side c.args.port c.args.frame.bytes.now in
+    let n : IsNamedAt (rows_of t) c.args.frame.bytes.now c.in-Some.place = c.in-Some.ensures.place t side h st in
     let at = slice_get_read c.args.self.now.lines.items _ c.in-Some.place c.index-line.result.now
     c.args.self.now.lines.ok.0 c.in-Some.ensures.within c.index-line.ensures in
     let is = line-is t x c.args.self.now h st c.in-Some.place n c.index-line.result.now at in
     let rule : rule_of c.rule.result.now ≡ n.row.rule = c.rule.ensures ∙ is.account.by_rule in
-    let sound : fault_of (Some n.row.rule) c.args.port c.args.bytes.now ≡ None =
-    ap (λ q. fault_of (Some q) c.args.port c.args.bytes.now) (sym rule)
-    ∙ sym c.in_default-judge_checked-2.ensures.reason in
+    let sound : fault_of (Some n.row.rule) c.args.port c.args.frame.bytes.now ≡ None =
+    ap (λ q. fault_of (Some q) c.args.port c.args.frame.bytes.now) (sym rule)
+    ∙ sym c.in_default-judge-2.ensures.reason in
     on-err c.from_residual.result (shape-named t x h.arrivals c.in-Some.place n ∙ sound)
 
 pub returns-in_err-share_out-clause-judged : goal.returns-in_err-share_out-clause-judged
 returns-in_err-share_out-clause-judged c t side h st =
-    let x = arrival_with c.args.tag c.args.time side c.args.port c.args.bytes.now in
-    let n : IsNamedAt (rows_of t) c.args.bytes.now c.in-Some.place = c.in-Some.ensures.place t side h st in
+    let x = arrival_with c.args.tag c.args.time side c.args.port c.args.frame.bytes.now in
+    let n : IsNamedAt (rows_of t) c.args.frame.bytes.now c.in-Some.place = c.in-Some.ensures.place t side h st in
     let at = slice_get_read c.args.self.now.lines.items _ c.in-Some.place c.index-line.result.now
     c.args.self.now.lines.ok.0 c.in-Some.ensures.within c.index-line.ensures in
     let is = line-is t x c.args.self.now h st c.in-Some.place n c.index-line.result.now at in
     let rule : rule_of c.rule.result.now ≡ n.row.rule = c.rule.ensures ∙ is.account.by_rule in
-    let sound : fault_of (Some n.row.rule) c.args.port c.args.bytes.now ≡ None =
-    ap (λ q. fault_of (Some q) c.args.port c.args.bytes.now) (sym rule)
-    ∙ sym c.in_default-judge_checked-2.ensures.reason in
+    let sound : fault_of (Some n.row.rule) c.args.port c.args.frame.bytes.now ≡ None =
+    ap (λ q. fault_of (Some q) c.args.port c.args.frame.bytes.now) (sym rule)
+    ∙ sym c.in_default-judge-2.ensures.reason in
     on-err c.from_residual-in_err-share_out.result (shape-named t x h.arrivals c.in-Some.place n ∙ sound)
 
 pub returns-then-not-passes-clause-sound : goal.returns-then-not-passes-clause-sound

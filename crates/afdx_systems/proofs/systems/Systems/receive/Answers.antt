@@ -3,7 +3,7 @@ use Rattle.afdx_config.specs.Reading.{system_at_port}
 use Rattle.afdx_systems.specs.Handovers.{handed_over, came_to}
 use Rattle.afdx_systems.proofs.SystemsLemmas.{before_at, is_at, stand_after, no_line, not_delivered}
 use Rattle.afdx_systems.proofs.SystemsLemmas.{stand_still, line_is, delivered_is}
-use Rattle.afdx_systems.proofs.systems.Systems.receive_checked.Goals as goal
+use Rattle.afdx_systems.proofs.systems.Systems.receive.Goals as goal
 
 pub returns-then-place-len-clause-line : goal.returns-then-place-len-clause-line
 returns-then-place-len-clause-line c = λ rows before stands.
