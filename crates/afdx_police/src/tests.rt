@@ -277,6 +277,7 @@ fn laws_hold() {
     laws::regular_is_accepted();
     laws::own_steps();
     laws::strangers_are_refused();
+    laws::no_frame_is_refused();
     laws::faults_change_nothing();
     laws::sound_has_no_fault();
     laws::sound_is_charged_for();

@@ -168,12 +168,8 @@ fn receive_three(
     let mut receiver = base_receiver(alloc, THIRD)?;
     for (time, number, wanted) in frames {
         let bytes = numbered(number);
-        assert!(rt;
-            is_answer(
-                receiver.receive(time, Side::A, Checked::new(&bytes)),
-                wanted
-            )
-        );
+        let answer = receiver.receive(time, Side::A, Checked::new(&bytes));
+        assert!(rt; is_answer(answer, wanted));
     }
     Ok(())
 }
@@ -267,20 +263,12 @@ fn wrong_datagrams(rt: HostRuntime) -> Result<(), Fail> {
     ] {
         let mut receiver = base_receiver(rt.alloc(), THIRD)?;
         let bytes = changed(changes);
-        assert!(rt;
-            is_answer(
-                receiver.receive(6720, Side::A, Checked::new(&bytes)),
-                Some(why)
-            )
-        );
+        let answer = receiver.receive(6720, Side::A, Checked::new(&bytes));
+        assert!(rt; is_answer(answer, Some(why)));
         // It won all the same: its copy is redundant.
         let copy = numbered(0);
-        assert!(rt;
-            is_answer(
-                receiver.receive(6720, Side::B, Checked::new(&copy)),
-                Some(DropReason::Redundant)
-            )
-        );
+        let answer = receiver.receive(6720, Side::B, Checked::new(&copy));
+        assert!(rt; is_answer(answer, Some(DropReason::Redundant)));
     }
     Ok(())
 }
@@ -290,35 +278,19 @@ fn not_its_frames(rt: HostRuntime) -> Result<(), Fail> {
     let bytes = numbered(0);
     let mut receiver = base_receiver(rt.alloc(), THIRD)?;
     for length in 0..64 {
-        assert!(rt;
-            is_answer(
-                receiver.receive(0, Side::A, Checked::new(&bytes[..length])),
-                Some(DropReason::Mac(MacFault::TooShort))
-            )
-        );
+        let answer = receiver.receive(0, Side::A, Checked::new(&bytes[..length]));
+        assert!(rt; is_answer(answer, Some(DropReason::Mac(MacFault::TooShort))));
     }
-    assert!(rt;
-        is_answer(
-            receiver.receive(0, Side::A, Checked::new(&of_link(9))),
-            Some(DropReason::NotSubscribed)
-        )
-    );
+    let answer = receiver.receive(0, Side::A, Checked::new(&of_link(9)));
+    assert!(rt; is_answer(answer, Some(DropReason::NotSubscribed)));
     let mut damaged = bytes;
     damaged[63] ^= 0xff;
-    assert!(rt;
-        is_answer(
-            receiver.receive(0, Side::A, Checked::new(&damaged)),
-            Some(DropReason::Mac(MacFault::BadFcs))
-        )
-    );
+    let answer = receiver.receive(0, Side::A, Checked::new(&damaged));
+    assert!(rt; is_answer(answer, Some(DropReason::Mac(MacFault::BadFcs))));
     assert!(rt; is_answer(receiver.receive(0, Side::A, Checked::new(&bytes)), None));
     let mut second = base_receiver(rt.alloc(), SECOND)?;
-    assert!(rt;
-        is_answer(
-            second.receive(0, Side::A, Checked::new(&bytes)),
-            Some(DropReason::NotSubscribed)
-        )
-    );
+    let answer = second.receive(0, Side::A, Checked::new(&bytes));
+    assert!(rt; is_answer(answer, Some(DropReason::NotSubscribed)));
     Ok(())
 }
 
@@ -350,12 +322,8 @@ fn built_frames(rt: HostRuntime) -> Result<(), Fail> {
     }
     let copy = build_world(rt.alloc(), Side::A)?;
     let late = Some(DropReason::Redundant);
-    assert!(rt;
-        is_answer(
-            receiver.receive(6721, Side::A, Checked::new(copy.as_slice())),
-            late
-        )
-    );
+    let answer = receiver.receive(6721, Side::A, Checked::new(copy.as_slice()));
+    assert!(rt; is_answer(answer, late));
     Ok(())
 }
 
