@@ -281,7 +281,8 @@ fn not_its_frames(rt: HostRuntime) -> Result<(), Fail> {
         let answer = receiver.receive(0, Side::A, Checked::new(&bytes[..length]));
         assert!(rt; is_answer(answer, Some(DropReason::Mac(MacFault::TooShort))));
     }
-    let answer = receiver.receive(0, Side::A, Checked::new(&of_link(9)));
+    let of_another = of_link(9);
+    let answer = receiver.receive(0, Side::A, Checked::new(&of_another));
     assert!(rt; is_answer(answer, Some(DropReason::NotSubscribed)));
     let mut damaged = bytes;
     damaged[63] ^= 0xff;
