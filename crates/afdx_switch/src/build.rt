@@ -32,7 +32,7 @@ fn byte_ns(tables: &Tables, port: u8) -> u64
     ensures byte_time { IsByteTime result }
 {
     match tables.system_at(port) {
-        Some(system) => 8000 / tables.system(system).rate,
+        Some(system) => tables.byte_ns(system),
         None => 80,
     }
 }
