@@ -15,6 +15,10 @@ use afdx_frame::Priority;
 use std::alloc::{AllocError, Global};
 use std::marker::Model;
 
+/// The place, in the order in which ports are served together, of one that has no turn to come:
+/// after each turn.
+const ORDER_WITHOUT_TURN: u64 = 1 << 52;
+
 /// An output port (ARINC 664 Part 7): two queues of frames, high before low, that share a buffer
 /// and a line. No frame is interrupted, and the next frame is chosen after all that came by that
 /// moment. It keeps the frames that still have a turn to come, and nothing of those that left.
@@ -34,7 +38,7 @@ fn order(due: Option<Due>) -> u64
 {
     match due {
         Some(due) => due.order(),
-        None => 1 << 52,
+        None => ORDER_WITHOUT_TURN,
     }
 }
 
@@ -57,7 +61,7 @@ impl<T: HasLength> Model for Port<T> {
 
 impl<T: HasLength> Port<T> {
     ghost use Rattle.afdx_port.specs.Due.{given_at, IsAfter};
-    ghost use Rattle.afdx_port.specs.Ports.{order_at};
+    ghost use Rattle.afdx_port.specs.Ports.{order_at, order_without_turn};
     ghost use Rattle.afdx_port.specs.Held.{IsByteTime, due_of, IsQuiet, last_time, frames_held};
     ghost use Rattle.afdx_port.specs.History.{History, no_calls, at, with_put, entry_of, due_at};
     ghost use Rattle.afdx_port.specs.History.{StandsFor, Gives};
@@ -134,7 +138,7 @@ impl<T: HasLength> Port<T> {
     /// turn if the port holds nothing.
     pub(crate) fn order(&self) -> u64
         ensures is { result ≡ order_at (due_of T.facts self.now) }
-        ensures most { result ≤ 4503599627370496 }
+        ensures most { result ≤ order_without_turn }
         ensures limit { IfSome (due_of T.facts self.now) (λ due. given_at due ≤ drain_end) }
     {
         self.order

@@ -33,7 +33,7 @@ fn least_in(numbers: &[u64], from: usize, to: usize) -> u64
 
 impl Serving {
     ghost use Rattle.afdx_port.specs.declared.pending.Pending.{Pending};
-    ghost use Rattle.afdx_port.specs.Ports.{AreServed};
+    ghost use Rattle.afdx_port.specs.Ports.{AreServed, order_without_turn};
     ghost use Rattle.afdx_port.specs.Serving.{IsServing};
 
     /// The order in which 24 ports are served as they are.
@@ -55,7 +55,7 @@ impl Serving {
     #[inline(always)]
     fn set(&mut self, place: usize, order: u64)
         requires place { place < 24 }
-        requires order { order ≤ 4503599627370496 }
+        requires order { order ≤ order_without_turn }
         requires ranked { AreRanked self.old.keys self.old.least }
         ensures keys { self.new.keys ≡ slice_set self.old.keys place (key_of order place) }
         ensures group_count { length self.new.least ≡ 6 }
