@@ -2,6 +2,7 @@
 ghost use Rattle.std.specs.Prelude.{◌≡◌, ℕ, ◌+◌, ◌<◌, ◌≤◌, ◌↔◌, ◌++◌, List, Some, None, IfOk};
 ghost use Rattle.std.specs.Prelude.{IfErr, OnOk, OnErr, IsErr, IsTrue, IfSome, IfNone, MatchOption};
 ghost use Rattle.std.specs.Prelude.{MatchResult};
+ghost use Rattle.afdx_frame.specs.Lengths.{least_frame, greatest_buffer};
 ghost use Rattle.afdx_port.specs.Times.{drain_end, latest_put};
 ghost use Rattle.afdx_port.specs.Schedule.{Turn, IsNext, AreTurns, IsSchedule, IsLost};
 ghost use Rattle.afdx_port.specs.ScheduleOf.{AreInOrder, schedule_of};
@@ -71,7 +72,7 @@ impl<T: HasLength> Port<T> {
     /// `buffer / 64` of them in each class. The error says that memory was refused.
     pub fn new(alloc: Global, byte_ns: u64, buffer: u64) -> Result<Port<T>, AllocError>
         requires rate { IsByteTime byte_ns }
-        requires buffer { (64 ≤ buffer) × (buffer ≤ 4194304) }
+        requires buffer { (least_frame ≤ buffer) × (buffer ≤ greatest_buffer) }
         ensures stands { IfOk result (λ p. StandsFor T.facts p (no_calls byte_ns buffer)) }
         ensures quiet { (t : ℕ) → IfOk result (λ p. IsQuiet T.facts p t) }
         ensures held { IfOk result (λ p. frames_held p ≡ 0) }
