@@ -1,6 +1,6 @@
 -- From the lists of the senders to the messages of the receivers, over texts: what each sender took
 -- is told once. Lists of lines and of submissions have the first one first.
-use Rattle.std.specs.Prelude.{ℕ, ◌^◌, ◌≡◌, ◌≤◌, ◌==◌, ◌&&◌, Bool, true, false, List, [], length, filter, map, reverse, Option, Some, None, Result, Ok, Err, slice_get}
+use Rattle.std.specs.Prelude.{ℕ, ◌≡◌, ◌≤◌, ◌==◌, ◌&&◌, Bool, true, false, List, [], length, filter, map, reverse, Option, Some, None, Result, Ok, Err, slice_get}
 use Rattle.std.specs.List.{AllByRecursion}
 use Rattle.afdx_frame.specs.Sides.{is_side}
 use Rattle.afdx_frame.specs.Times.{latest_listed}
