@@ -7,6 +7,7 @@ use Rattle.std.specs.Option.{option_map_or}
 use Rattle.std.specs.List.{slice_get, AllByRecursion}
 use Rattle.std.proofs.lemmas.Bool.{cases_Bool, eqb-true}
 use Rattle.std.proofs.lemmas.List.Sums.{sum_by-cons}
+use Rattle.std.proofs.lemmas.Option.{slice_get_cases}
 use Rattle.afdx_frame.specs.declared.link.Priority.{Priority}
 use Rattle.afdx_frame.specs.Flows.{IsPortAdmitted}
 use Rattle.afdx_config.specs.Admission.{byte_ns, flows_to, links_from}
@@ -16,38 +17,59 @@ use Rattle.afdx_config.specs.Reading.{system_at_port}
 use Rattle.afdx_config.specs.Rows.{SystemRow, LinkRow, Rows, is_to}
 use Rattle.afdx_config.proofs.LookUps.{each_row-found}
 use Rattle.afdx_police.specs.Rule.{is_bag}
+use Rattle.afdx_port.specs.Held.{IsByteTime}
 use Rattle.afdx_bounds.specs.Outputs.{AreRows, flows_at}
 use Rattle.afdx_bounds.specs.Sender.{one_of_each, IsSent}
 use Rattle.afdx_bounds.specs.Tables.{rule_of, goes_to, row_of, rows_of, byte_ns_of, byte_ns_at, IsPortOf}
 use Rattle.afdx_bounds.specs.Tables.{PortsAreOfSystems, EachOutputIsServed, sent_flow, sent_flows, EachSystemIsSender}
 
--- a byte takes 8 ns at least
-pub rate-line : (profile : ℕ) (s : SystemRow) → IsSystem profile s → 8 ≤ byte_ns s
-rate-line profile s is = by_profile (profile == 2) s.rate is.rate
+-- a byte takes 8, 80 or 800 ns
+pub line-time : (profile : ℕ) (s : SystemRow) → IsSystem profile s → IsByteTime (byte_ns s)
+line-time profile s is = by_profile (profile == 2) s.rate is.rate
   where
-    one-of : (n rate : ℕ) (rest : Bool) → (nat_eq n rate || rest) ≡ true → 8 ≤ 8000 / n →
-        (rest ≡ true → 8 ≤ 8000 / rate) → 8 ≤ 8000 / rate
+    one-of : (n rate : ℕ) (rest : Bool) → (nat_eq n rate || rest) ≡ true → IsByteTime (8000 / n) →
+        (rest ≡ true → IsByteTime (8000 / rate)) → IsByteTime (8000 / rate)
     one-of n rate rest h here other =
         elim (cases_Bool (nat_eq n rate)) [
-          | inl is ↦ subst (λ (m : ℕ). 8 ≤ 8000 / m) (eqb-true n rate is) here
+          | inl is ↦ subst (λ (m : ℕ). IsByteTime (8000 / m)) (eqb-true n rate is) here
           | inr isnt ↦ other (rw isnt at h)
         ]
 
     by_profile : (second : Bool) (rate : ℕ) → IsOneOf (if second then 10 ∷ 100 ∷ 1000 ∷ [] else 10 ∷ 100 ∷ []) rate →
-        8 ≤ 8000 / rate
+        IsByteTime (8000 / rate)
     by_profile true rate h =
-        one-of 10 rate _ h (omega arith)
-        (λ k. one-of 100 rate _ k (omega arith)
-        (λ m. one-of 1000 rate _ m (omega arith) (λ none. absurd (cc none))))
+        one-of 10 rate _ h (inr (inr refl))
+        (λ k. one-of 100 rate _ k (inr (inl refl))
+        (λ m. one-of 1000 rate _ m (inl refl) (λ none. absurd (cc none))))
     by_profile false rate h =
-        one-of 10 rate _ h (omega arith)
-        (λ k. one-of 100 rate _ k (omega arith) (λ none. absurd (cc none)))
+        one-of 10 rate _ h (inr (inr refl))
+        (λ k. one-of 100 rate _ k (inr (inl refl)) (λ none. absurd (cc none)))
+
+-- so it takes 8 ns at least
+some-time : (n : ℕ) → IsByteTime n → 8 ≤ n
+some-time n (inl is) = omega (arith, is)
+some-time n (inr (inl is)) = omega (arith, is)
+some-time n (inr (inr is)) = omega (arith, is)
 
 pub each-at : {Y : Type 0} (P : Y → Type 0) (xs : List Y) (i : ℕ) (y : Y) → AllByRecursion P xs →
     slice_get xs i ≡ Some y → P y
 each-at P [] i y h at = absurd (cc at)
 each-at P (x ∷ xs) zero y h at = let same : x ≡ y = cc at in subst P same h.0
 each-at P (x ∷ xs) (suc i) y h at = each-at P xs i y h.1 at
+
+-- so it does on the line of each system
+pub system-time : (t : Rows) (i : ℕ) (s : SystemRow) → IsLawful t → slice_get t.systems i ≡ Some s
+    → IsByteTime (byte_ns s)
+system-time t i s lawful at =
+    line-time t.profile s (each-at (IsSystem t.profile) t.systems i s lawful.systems.each at)
+
+-- what is the byte time of each row at this place, where one stands
+pub line-at : (t : Rows) (i n : ℕ) → IsLawful t → i < length t.systems
+    → ((s : SystemRow) → slice_get t.systems i ≡ Some s → n ≡ byte_ns s) → IsByteTime n
+line-at t i n lawful within is = elim ((slice_get_cases t.systems i).1) [
+  | inl (s, here, at, own) ↦ subst IsByteTime (sym (is s at)) (system-time t i s lawful at)
+  | inr (past, none) ↦ absurd (omega (arith, within, past))
+]
 
 -- a byte takes some time on each line
 pub byte-time : (t : Rows) (port : ℕ) → IsLawful t → 0 < byte_ns_at t port
@@ -56,8 +78,7 @@ byte-time t port lawful = by (system_at_port t.systems port)
   where
     of_row : (i : ℕ) (o : Option SystemRow) → slice_get t.systems i ≡ o → 0 < option_map_or byte_ns o 80
     of_row i None at = omega arith
-    of_row i (Some s) at = omega
-        (arith, rate-line t.profile s (each-at (IsSystem t.profile) t.systems i s lawful.systems.each at))
+    of_row i (Some s) at = omega (arith, some-time (byte_ns s) (system-time t i s lawful at))
 
     by : (o : Option ℕ) → 0 < byte_ns_of t o
     by None = omega arith
@@ -190,7 +211,7 @@ system-sender t class system s lawful admitted at =
     let sum = sent-sum (byte_ns s) class own own in
     let jitter = admitted.senders system s at in
     record {
-      line = rate-line t.profile s (each-at (IsSystem t.profile) t.systems system s lawful.systems.each at);
+      line = some-time (byte_ns s) (system-time t system s lawful at);
       flows_are = record {
         gaps = all-mapped (λ f. IsTrue (is_bag f.link.bag_ms)) (sent_flow (byte_ns s) class own) own (λ i l k.
             let in-links = filtered (λ m. nat_eq m.from system) t.links i l k in

@@ -2,6 +2,7 @@
 //! admission.
 
 ghost use Rattle.std.specs.Prelude.{◌≡◌, ℕ, ◌≤◌, None, IfOk, IsTrue};
+ghost use Rattle.afdx_frame.specs.Lengths.{least_frame, greatest_frame, greatest_buffer};
 ghost use Rattle.afdx_port.specs.Held.{IsByteTime, IsQuiet, last_time};
 
 use crate::laws;
@@ -12,7 +13,7 @@ use std::alloc::{AllocError, Global};
 #[derive(Clone, Copy, Debug, Drop, PartialEq, Eq)]
 struct Frame {
     bytes: u64,
-    ghost lawful: { (64 ≤ bytes) × (bytes ≤ 1518) },
+    ghost lawful: { (least_frame ≤ bytes) × (bytes ≤ greatest_frame) },
 }
 
 impl HasLength for Frame {
@@ -30,7 +31,7 @@ impl HasLength for Frame {
 }
 
 fn frame_of(bytes: u64) -> Frame
-    requires { (64 ≤ bytes) × (bytes ≤ 1518) }
+    requires { (least_frame ≤ bytes) × (bytes ≤ greatest_frame) }
 {
     Frame { bytes }
 }
@@ -38,7 +39,7 @@ fn frame_of(bytes: u64) -> Frame
 /// An idle port. Where a growth is refused, it is made again.
 fn idle_port<T: HasLength>(alloc: Global, byte_ns: u64, buffer: u64) -> Result<Port<T>, AllocError>
     requires rate { IsByteTime byte_ns }
-    requires buffer { (64 ≤ buffer) × (buffer ≤ 4194304) }
+    requires buffer { (least_frame ≤ buffer) × (buffer ≤ greatest_buffer) }
     ensures quiet { (t : ℕ) → IfOk result (λ p. IsQuiet T.facts p t) }
     ensures clock { IfOk result (λ p. last_time p ≡ 0) }
 {

@@ -6,6 +6,10 @@ pub const LEAST_FRAME: usize = 64;
 /// The greatest length of a frame, with its check sequence (IEEE 802.3).
 pub const GREATEST_FRAME: usize = 1518;
 
+/// What a frame has beside its payload: the Ethernet, IPv4 and UDP headers (14, 20 and 8), the
+/// sequence number and the check sequence.
+pub const FRAME_OVERHEAD: usize = 47;
+
 /// The bytes that a frame takes on the wire besides its own (IEEE 802.3): 7 of preamble,
 /// 1 start delimiter, 12 of gap.
 pub const WIRE_EXTRA: u64 = 20;

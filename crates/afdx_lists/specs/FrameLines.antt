@@ -2,6 +2,7 @@
 use Rattle.std.specs.Prelude.{ℕ, ◌-◌, ◌^◌, ◌==◌, nat_lt, min, ◌||◌, List, [], ◌∷◌, Option, Some, None, Result, Ok, Err, if◌then◌else◌}
 use Rattle.std.specs.Str.Lines.{strip_carriage_return}
 use Rattle.afdx_frame.specs.Sealing.{sealed, sealed_wrongly}
+use Rattle.afdx_frame.specs.Times.{latest_listed}
 use Rattle.afdx_frame.specs.declared.link.Side.{Side}
 use Rattle.afdx_frame.specs.declared.link.Side.TheVariants.{A, B}
 use Rattle.afdx_lists.specs.Fields.{between_spaces, number_of, bytes_of_digits, holds_space, is_skipped}
@@ -82,7 +83,7 @@ frame_with fields None = Err BadHex
 -- the first false check of a time and a port, after a frame of the latest time
 abbrev pub numbers_fault : ℕ → ℕ → ℕ → Option LineFault
 numbers_fault time port latest =
-    if nat_lt (10 ^ 15) time then Some TimeTooLarge
+    if nat_lt latest_listed time then Some TimeTooLarge
     else if nat_lt time latest then Some TimeBack
     else if nat_lt port 1 || nat_lt 24 port then Some BadPort
     else None

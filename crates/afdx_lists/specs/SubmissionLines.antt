@@ -1,6 +1,7 @@
 -- What one line of a submission list says.
 use Rattle.std.specs.Prelude.{ℕ, ◌-◌, ◌^◌, nat_lt, min, List, [], ◌∷◌, Option, Some, None, Result, Ok, Err, if◌then◌else◌}
 use Rattle.std.specs.Str.Lines.{strip_carriage_return}
+use Rattle.afdx_frame.specs.Times.{latest_listed}
 use Rattle.afdx_lists.specs.Fields.{between_spaces, number_of, bytes_of_digits, holds_space, is_skipped}
 use Rattle.afdx_lists.specs.declared.submission_line.Handed.{Handed}
 use Rattle.afdx_lists.specs.declared.submission_line.Fields.{Fields}
@@ -67,7 +68,7 @@ submission_with fields None = Err BadHex
 -- the first false check of a time, after a submission of the latest time
 abbrev pub time_fault : ℕ → ℕ → Option LineFault
 time_fault time latest =
-    if nat_lt (10 ^ 15) time then Some TimeTooLarge
+    if nat_lt latest_listed time then Some TimeTooLarge
     else if nat_lt time latest then Some TimeBack
     else None
 

@@ -1,12 +1,13 @@
 //! One line of a frame list.
 ghost use Rattle.std.specs.Prelude.{◌≡◌, ◌⊎◌, ◌^◌, ◌≤◌, None, Ok, Err, IfOk, IfSome, IfErr, OnOk, option_map};
 ghost use Rattle.afdx_frame.specs.Sealing.{is_sealed, sealed_wrongly};
+ghost use Rattle.afdx_frame.specs.Times.{latest_listed};
 ghost use Rattle.afdx_lists.specs.FrameLines.{kind_of, side_of, frame_fields, frame_bytes, frame_of, line_says, saturated, fields_of, fields_with, if_five, numbers_fault};
 ghost use Rattle.afdx_lists.specs.declared.fault.LineFault.TheVariants.{Memory};
 
 use crate::fault::LineFault;
 use crate::fields::{first_fault, read_bytes, says_nothing, split_field, split_number, trim_line};
-use afdx_frame::{Side, fcs, is_sealed, seal};
+use afdx_frame::{LATEST_LISTED, Side, fcs, is_sealed, seal};
 use std::alloc::AllocError;
 
 /// When and where a frame comes in at a switch.
@@ -42,8 +43,6 @@ struct Fields<'a> {
     port: u64,
     digits: &'a [u8],
 }
-
-const LAST_TIME: u64 = 1_000_000_000_000_000;
 
 fn read_kind(text: &[u8]) -> Option<Kind>
     ensures { result ≡ kind_of text.now }
@@ -116,12 +115,12 @@ fn read_fields(text: &[u8]) -> Option<Fields<'_>>
 /// The first false check of a line's numbers.
 fn fault_of_numbers(time: u64, port: u64, latest: u64) -> Option<LineFault>
     ensures fault { result ≡ numbers_fault time port latest }
-    ensures time { result ≡ None → time ≤ 10 ^ 15 }
+    ensures time { result ≡ None → time ≤ latest_listed }
     ensures order { result ≡ None → latest ≤ time }
     ensures some_port { result ≡ None → 1 ≤ port }
     ensures port { result ≡ None → port ≤ 24 }
 {
-    if time > LAST_TIME {
+    if time > LATEST_LISTED {
         Some(LineFault::TimeTooLarge)
     } else if time < latest {
         Some(LineFault::TimeBack)
@@ -169,8 +168,8 @@ pub fn read_frame_line(
     latest: u64,
     frame: &mut Vec<u8>,
 ) -> Result<Option<Heading>, LineFault>
-    requires { latest ≤ 10 ^ 15 }
-    ensures time { IfOk result (λ heading. IfSome heading (λ h. h.time ≤ 10 ^ 15)) }
+    requires { latest ≤ latest_listed }
+    ensures time { IfOk result (λ heading. IfSome heading (λ h. h.time ≤ latest_listed)) }
     ensures order { IfOk result (λ heading. IfSome heading (λ h. latest ≤ h.time)) }
     ensures some_port { IfOk result (λ heading. IfSome heading (λ h. 1 ≤ h.port)) }
     ensures port { IfOk result (λ heading. IfSome heading (λ h. h.port ≤ 24)) }

@@ -1,10 +1,12 @@
 //! One line of a submission list.
 ghost use Rattle.std.specs.Prelude.{◌≡◌, ◌⊎◌, ◌^◌, ◌-◌, ◌<◌, ◌≤◌, min, None, Ok, Err, IfOk, IfSome, IfErr, option_map};
+ghost use Rattle.afdx_frame.specs.Times.{latest_listed};
 ghost use Rattle.afdx_lists.specs.SubmissionLines.{at_most, submission_fields, submission_of, submission_said, saturated, fields_of, fields_with, if_five, time_fault};
 ghost use Rattle.afdx_lists.specs.declared.fault.LineFault.TheVariants.{Memory};
 
 use crate::fault::LineFault;
 use crate::fields::{first_fault, read_bytes, says_nothing, split_number, trim_line};
+use afdx_frame::LATEST_LISTED;
 
 /// When a message is handed to a sender, and for what.
 #[derive(Clone, Copy, Debug, PartialEq, Eq)]
@@ -28,8 +30,6 @@ struct Fields<'a> {
     udp: u16,
     digits: &'a [u8],
 }
-
-const LAST_TIME: u64 = 1_000_000_000_000_000;
 
 /// A number that isn't over its limit.
 fn small_of(number: Option<u64>, limit: u64) -> Option<u64>
@@ -110,10 +110,10 @@ fn read_fields(text: &[u8]) -> Option<Fields<'_>>
 /// The first false check of a line's time.
 fn fault_of_time(time: u64, latest: u64) -> Option<LineFault>
     ensures fault { result ≡ time_fault time latest }
-    ensures time { result ≡ None → time ≤ 10 ^ 15 }
+    ensures time { result ≡ None → time ≤ latest_listed }
     ensures order { result ≡ None → latest ≤ time }
 {
-    if time > LAST_TIME {
+    if time > LATEST_LISTED {
         Some(LineFault::TimeTooLarge)
     } else if time < latest {
         Some(LineFault::TimeBack)
@@ -133,8 +133,8 @@ pub fn read_submission_line(
     latest: u64,
     payload: &mut Vec<u8>,
 ) -> Result<Option<Handed>, LineFault>
-    requires { latest ≤ 10 ^ 15 }
-    ensures time { IfOk result (λ handed. IfSome handed (λ h. h.time ≤ 10 ^ 15)) }
+    requires { latest ≤ latest_listed }
+    ensures time { IfOk result (λ handed. IfSome handed (λ h. h.time ≤ latest_listed)) }
     ensures order { IfOk result (λ handed. IfSome handed (λ h. latest ≤ h.time)) }
     ensures ok { IfOk result (λ handed. submission_said latest line.now
         ≡ Ok (option_map (λ h. submission_of h payload.new.items) handed)) }

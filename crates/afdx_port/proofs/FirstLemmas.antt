@@ -9,7 +9,8 @@ use Rattle.afdx_port.specs.declared.pending.Pending.{Pending}
 use Rattle.afdx_port.specs.Facts.{Facts}
 use Rattle.afdx_port.specs.Due.{given_at, IsBy, IsAfter, order_of}
 use Rattle.afdx_port.specs.Held.{due_of, IsQuiet}
-use Rattle.afdx_port.specs.Ports.{order_at, AreQuiet, AreLimited, AreServed, IsFirstDue}
+use Rattle.afdx_port.specs.Ports.{order_at, order_without_turn, AreQuiet, AreLimited, AreServed}
+use Rattle.afdx_port.specs.Ports.{IsFirstDue}
 
 -- what goes before a turn that is given after a time is given after it too
 after-order : (t : ℕ) (n m : ℕ) (a b : Bool) → 2 * n + (if a then 1 else 0)
@@ -20,7 +21,7 @@ after-order t n m false true le lt = omega (arith, le, lt)
 after-order t n m false false le lt = omega (arith, le, lt)
 
 pub low-order : (n : ℕ) (a : Bool) → n + (if a then 1 else 0) ≤ 1200000000000000
-    → 2 * n + (if a then 1 else 0) < 4503599627370496
+    → 2 * n + (if a then 1 else 0) < order_without_turn
 low-order n true le = omega (arith, le)
 low-order n false le = omega (arith, le)
 

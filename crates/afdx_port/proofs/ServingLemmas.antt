@@ -1,7 +1,9 @@
 -- The least key of all is that of the port whose turn goes first.
 use Rattle.std.proofs.Common.{◌≡◌, ◌≢◌, ℕ, ◌+◌, ◌*◌, ◌/◌, ◌%◌, ◌<◌, ◌≤◌, List, length, replicate}
 use Rattle.std.proofs.Common.{set, Option, Some, IfSome, inl, inr, refl, sym, ap, subst, arith, ◌∙◌}
-use Rattle.std.proofs.Common.{suc, zero, min}
+use Rattle.std.proofs.Common.{suc, zero, min, None, ◌⊎◌}
+use Rattle.std.proofs.Math.Logic.{∥∥₁_elim, ∥∥₁_map}
+use Rattle.std.proofs.Math.Bridge.{le_prop}
 use Rattle.std.specs.List.{slice_get}
 use Rattle.std.proofs.lemmas.Bool.{cases_lt, cases_eq}
 use Rattle.std.proofs.lemmas.List.{length-set}
@@ -14,7 +16,8 @@ use Rattle.afdx_port.specs.Facts.{Facts}
 use Rattle.afdx_port.specs.Due.{given_at}
 use Rattle.afdx_port.specs.Held.{due_of}
 use Rattle.afdx_port.specs.Ports.{order_at, AreLimited, AreServed}
-use Rattle.afdx_port.specs.Serving.{key_of, IsLeastIn, AreRanked, IsServing}
+use Rattle.afdx_port.specs.Keys.{key_of, IsLeastIn, AreRanked}
+use Rattle.afdx_port.specs.Serving.{IsServing}
 use Rattle.afdx_port.proofs.FirstLemmas.{limit-step}
 
 -- one number alone
@@ -117,13 +120,62 @@ ranked-set keys least place key new group ranked is within h g k at = elim (case
       (ranked g k (sym (slice_get-set_other least group g new other) ∙ at))
 ]
 
+-- a number stands at one of so many places, or at none of them
+place-in : (numbers : List ℕ) (from count n : ℕ)
+    → ((i : ℕ) × (from ≤ i) × (i < from + count) × (slice_get numbers i ≡ Some n))
+    ⊎ ((i : ℕ) → from ≤ i → i < from + count → slice_get numbers i ≡ Some n → ⊥)
+place-in numbers from zero n = inr (λ i low high at. omega (arith, low, high))
+place-in numbers from (suc count) n = elim (place-in numbers from count n) [
+  | inl (i, low, high, at) ↦ inl (i, low, omega (arith, high), at)
+  | inr none ↦ last none (slice_get numbers (from + count)) refl
+]
+  where
+    last : ((i : ℕ) → from ≤ i → i < from + count → slice_get numbers i ≡ Some n → ⊥)
+        → (o : Option ℕ) → slice_get numbers (from + count) ≡ o
+        → ((i : ℕ) × (from ≤ i) × (i < from + suc count) × (slice_get numbers i ≡ Some n))
+        ⊎ ((i : ℕ) → from ≤ i → i < from + suc count → slice_get numbers i ≡ Some n → ⊥)
+    last none o there = elim (cases_at o) [
+      | inl is ↦ inl (from + count, omega arith, omega arith, there ∙ is)
+      | inr isnt ↦ inr (λ i low high at. elim (cases_lt i (from + count)) [
+        | inl before ↦ none i low before at
+        | inr past ↦ (let same : i ≡ from + count = omega (arith, high, past) in
+            isnt (sym there ∙ subst (λ z. slice_get numbers z ≡ Some n) same at))
+      ])
+    ]
+      where
+        cases_at : (p : Option ℕ) → (p ≡ Some n) ⊎ (p ≡ Some n → ⊥)
+        cases_at None = inr (λ e. absurd (cc e))
+        cases_at (Some k) = elim (cases_eq k n) [
+          | inl e ↦ inl (ap Some e)
+          | inr other ↦ inr (λ e. other (let same : k ≡ n = cc in same))
+        ]
+
+-- that a least number stands somewhere is enough to find it
+least-found : (numbers : List ℕ) (from count least : ℕ) → ∥ IsLeastIn numbers from (from + count) least ∥₁
+    → IsLeastIn numbers from (from + count) least
+least-found numbers from count least h = elim (place-in numbers from count least) [
+  | inl (i, low, high, at) ↦ record {
+    place = i;
+    low = low;
+    high = high;
+    own = at;
+    lowest = λ j n from_on before there. ∥∥₁_elim h le_prop (λ x. x.lowest j n from_on before there);
+  }
+  | inr none ↦ absurd (∥∥₁_elim h (λ a b. absurd a) (λ x. none x.place x.low x.high x.own))
+]
+
+pub are-ranked : (keys least : List ℕ) → ∥ AreRanked keys least ∥₁ → AreRanked keys least
+are-ranked keys least h group key at = least-found keys (4 * group) 4 key (∥∥₁_map h (λ ranked. ranked group key at))
+
 module _ {X : Type 0} (facts : X → Facts) where
   -- the least of all keys tells the port
-  pub first-served : (ports : List (Pending X)) (s : Serving) (key : ℕ) → IsServing facts ports s
-      → IsLeastIn s.least 0 6 key → (place : ℕ) → place ≡ key % 32 → AreServed facts ports place
-  first-served ports s key serving h place is =
+  pub first-served : (ports : List (Pending X)) (s : Serving) (key : ℕ) → length s.least ≡ 6
+      → IsServing facts ports s → IsLeastIn s.least 0 6 key → (place : ℕ) → place ≡ key % 32
+      → AreServed facts ports place
+  first-served ports s key groups serving h place is =
       let group : ℕ = h.place in
-      let in_group = serving.ranked group key h.own in
+      let ranked : AreRanked s.keys s.least = are-ranked s.keys s.least s.ranked in
+      let in_group = ranked group key h.own in
       let at : ℕ = in_group.place in
       let within : at < length ports = omega (arith, in_group.high, h.high, serving.port_count) in
       let p = slice_get-some ports at within in
@@ -147,13 +199,13 @@ module _ {X : Type 0} (facts : X → Facts) where
           → key ≤ key_of (order_at (due_of facts q)) j
       under-all j q under there =
           let g : ℕ = j / 4 in
-          let g_within : g < length s.least = omega (arith, under, serving.port_count, serving.group_count) in
+          let g_within : g < length s.least = omega (arith, under, serving.port_count, groups) in
           let l = slice_get-some s.least g g_within in
-          let least = serving.ranked g l.0 l.1 in
+          let least = are-ranked s.keys s.least s.ranked g l.0 l.1 in
           let lower : l.0 ≤ key_of (order_at (due_of facts q)) j =
           least.lowest j (key_of (order_at (due_of facts q)) j) (omega arith) (omega arith)
           (serving.keys j q there) in
-          let lowest : key ≤ l.0 = h.lowest g l.0 (omega arith) (omega (arith, g_within, serving.group_count)) l.1 in
+          let lowest : key ≤ l.0 = h.lowest g l.0 (omega arith) (omega (arith, g_within, groups)) l.1 in
           omega (arith, lower, lowest)
 
   -- what is due at each port is limited, when it is at a new one
@@ -197,51 +249,41 @@ module _ {X : Type 0} (facts : X → Facts) where
   pub serving-set : (ports : List (Pending X)) (old new : Serving) (place order : ℕ) (p : Pending X)
       → IsServing facts ports old → place < 24 → order ≡ order_at (due_of facts p) →
       IfSome (due_of facts p) (λ d. given_at d ≤ 1200000000000000)
-      → new.keys ≡ set old.keys place (key_of order place) → length new.least ≡ 6
-      → AreRanked new.keys new.least → IsServing facts (set ports place p) new
-  serving-set ports old new place order p serving within is limit keys group_count ranked =
+      → length old.keys ≡ 24 → new.keys ≡ set old.keys place (key_of order place)
+      → IsServing facts (set ports place p) new
+  serving-set ports old new place order p serving within is limit count keys =
       let below : place < length ports = omega (arith, within, serving.port_count) in
       record {
         port_count = length-set ports place p ∙ serving.port_count;
-        key_count = ap length keys ∙ length-set old.keys place (key_of order place) ∙ serving.key_count;
-        group_count = group_count;
-        ranked = ranked;
         keys = λ j q at. ap (λ ks. slice_get ks j) keys ∙
             keys-set ports old.keys place (key_of order place) p below
-            (omega (arith, within, serving.key_count)) (ap (λ z. key_of z place) is)
+            (omega (arith, within, count)) (ap (λ z. key_of z place) is)
             serving.keys j q at;
         limit = limit-set ports place p below serving.limit limit;
       }
 
   -- the ports seen so far have their keys
-  pub record HaveKeys (ports : List (Pending X)) (all least : List ℕ) (n : ℕ) : Type 0 where
+  pub record HaveKeys (ports : List (Pending X)) (all : List ℕ) (n : ℕ) : Type 0 where
     pub key_count : length all ≡ 24
-    pub group_count : length least ≡ 6
-    pub ranked : AreRanked all least
     pub keys : (place : ℕ) (p : Pending X) → place < n → slice_get ports place ≡ Some p
         → slice_get all place ≡ Some (key_of (order_at (due_of facts p)) place)
     pub limit : AreLimited facts ports n
 
-  pub no-keys : (ports : List (Pending X)) → HaveKeys ports (replicate 24 0) (replicate 6 0) 0
+  pub no-keys : (ports : List (Pending X)) → HaveKeys ports (replicate 24 0) 0
   no-keys ports = record {
     key_count = refl;
-    group_count = refl;
-    ranked = ranked-none;
     keys = λ place p below. absurd (omega (arith, below));
     limit = λ place p d below. absurd (omega (arith, below));
   }
 
   -- one more port's key
-  pub keys-next : (ports : List (Pending X)) (all least keys leasts : List ℕ) (n order : ℕ)
-      (p : Pending X) → n < 24 → slice_get ports n ≡ Some p → HaveKeys ports all least n
+  pub keys-next : (ports : List (Pending X)) (all keys : List ℕ) (n order : ℕ)
+      (p : Pending X) → n < 24 → slice_get ports n ≡ Some p → HaveKeys ports all n
       → order ≡ order_at (due_of facts p) →
       IfSome (due_of facts p) (λ d. given_at d ≤ 1200000000000000)
-      → keys ≡ set all n (key_of order n) → length leasts ≡ 6 → AreRanked keys leasts
-      → HaveKeys ports keys leasts (n + 1)
-  keys-next ports all least keys leasts n order p within at h is limit set_key group_count ranked = record {
+      → keys ≡ set all n (key_of order n) → HaveKeys ports keys (n + 1)
+  keys-next ports all keys n order p within at h is limit set_key = record {
     key_count = ap length set_key ∙ length-set all n (key_of order n) ∙ h.key_count;
-    group_count = group_count;
-    ranked = ranked;
     keys = λ j q below there. ap (λ ks. slice_get ks j) set_key ∙ key j q below there;
     limit = limit-step facts ports n p at limit h.limit;
   }
@@ -263,12 +305,9 @@ module _ {X : Type 0} (facts : X → Facts) where
       ]
 
   pub all-keys : (ports : List (Pending X)) (s : Serving) (n : ℕ) → n ≡ length ports
-      → length ports ≡ 24 → HaveKeys ports s.keys s.least n → IsServing facts ports s
+      → length ports ≡ 24 → HaveKeys ports s.keys n → IsServing facts ports s
   all-keys ports s n all count h = record {
     port_count = count;
-    key_count = h.key_count;
-    group_count = h.group_count;
-    ranked = h.ranked;
     keys = λ place p at. h.keys place p (omega (arith, all, slice_get_within ports place p at)) at;
     limit = subst (λ k. AreLimited facts ports k) all h.limit;
   }
@@ -278,9 +317,6 @@ module _ {X : Type 0} (facts : X → Facts) where
       → length ports ≡ 24 → ((i : ℕ) → slice_get old i ≡ slice_get ports i) → IsServing facts ports s
   serving-same old ports s serving count same = record {
     port_count = count;
-    key_count = serving.key_count;
-    group_count = serving.group_count;
-    ranked = serving.ranked;
     keys = λ place p at. serving.keys place p (same place ∙ at);
     limit = λ place p d below at due.
         serving.limit place p d (omega (arith, below, count, serving.port_count)) (same place ∙ at) due;

@@ -8,4 +8,5 @@ pub mod Held
 pub mod Sound
 pub mod History
 pub mod Ports
+pub mod Keys
 pub mod Serving

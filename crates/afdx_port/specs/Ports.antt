@@ -7,9 +7,13 @@ use Rattle.afdx_port.specs.Facts.{Facts}
 use Rattle.afdx_port.specs.Due.{given_at, IsBy, order_of}
 use Rattle.afdx_port.specs.Held.{due_of, IsQuiet}
 
--- the order of the turn that is due; where none is, 2^52, which is after each turn
+-- the order of a port that has no turn to come: 2^52, which is after that of each turn
+abbrev pub order_without_turn : ℕ
+order_without_turn = 4503599627370496
+
+-- the order of the turn that is due, if one is
 abbrev pub order_at : Option Due → ℕ
-order_at None = 4503599627370496
+order_at None = order_without_turn
 order_at (Some d) = order_of d
 
 module _ {X : Type 0} where

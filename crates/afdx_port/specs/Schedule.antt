@@ -1,6 +1,7 @@
 -- When the frames of an output port have their turns, as a predicate on a whole list of turns.
 use Rattle.std.specs.Prelude.{◌≡◌, ℕ, ◌+◌, ◌*◌, ◌<◌, ◌≤◌, ◌==◌, nat_lt, Bool, true, false, if◌then◌else◌, List, [], ◌∷◌, length, filter, Option, Some, None, slice_get}
 use Rattle.std.specs.List.{list_any}
+use Rattle.afdx_frame.specs.Regulation.{wire_of}
 use Rattle.afdx_frame.specs.declared.link.Priority.{Priority}
 use Rattle.afdx_frame.specs.declared.link.Priority.TheVariants.{High}
 
@@ -27,11 +28,11 @@ abbrev pub is_past : Option ℕ → ℕ → ℕ → Bool
 is_past None time t = false
 is_past (Some wait) time t = nat_lt (time + wait) t
 
--- how long a turn lasts: a drop takes no time, a slot the byte times of the frame and of 20 bytes
--- more
+-- how long a turn lasts: a drop takes no time, a slot the byte times of all that the frame takes on
+-- the wire
 abbrev pub lasting : ℕ → Bool → ℕ → ℕ
 lasting byte_ns true bytes = 0
-lasting byte_ns false bytes = (bytes + 20) * byte_ns
+lasting byte_ns false bytes = wire_of bytes * byte_ns
 
 module _ {X : Type 0} where
   -- one of the turns is that of the entry at this place

@@ -2,6 +2,7 @@
 use Rattle.std.specs.Prelude.{◌≡◌, ◌+◌, ◌*◌, ◌<◌, ◌≤◌, length, sum_by}
 use Rattle.std.specs.List.{AllByRecursion}
 use Rattle.afdx_port.specs.Times.{latest_put, longest_slot}
+use Rattle.afdx_frame.specs.Lengths.{least_frame, greatest_buffer}
 use Rattle.afdx_frame.specs.declared.link.Priority.{Priority}
 use Rattle.afdx_frame.specs.declared.link.Priority.TheVariants.{High, Low}
 use Rattle.afdx_port.specs.declared.pending.Pending.{Pending}
@@ -23,12 +24,12 @@ module _ {X : Type 0} where
   -- what is true of every port, whatever the calls
   pub record IsSound (facts : X → Facts) (p : Pending X) : Type 0 where
     pub rate : (1 ≤ p.byte_ns) × (p.byte_ns ≤ 800)
-    pub buffer : p.buffer ≤ 4194304
+    pub buffer : p.buffer ≤ greatest_buffer
     pub waiting : p.waiting ≡ sum_by (λ w. (facts w.item).bytes) p.high.items
         + sum_by (λ w. (facts w.item).bytes) p.low.items
     pub within : p.waiting ≤ p.buffer
-    pub high_room : p.buffer < 64 * (p.high.capacity + 1)
-    pub low_room : p.buffer < 64 * (p.low.capacity + 1)
+    pub high_room : p.buffer < least_frame * (p.high.capacity + 1)
+    pub low_room : p.buffer < least_frame * (p.low.capacity + 1)
     pub high_times : AllByRecursion (λ w. w.time ≤ latest_put) p.high.items
     pub low_times : AllByRecursion (λ w. w.time ≤ latest_put) p.low.items
     -- a slot takes at most 1,230,400 ns

@@ -6,6 +6,10 @@ use Rattle.std.specs.Prelude.{ℕ}
 abbrev pub latest_put : ℕ
 latest_put = 1000032768000000
 
+-- the longest that a frame may wait for its turn, where there is a limit: 100 ms
+abbrev pub greatest_wait : ℕ
+greatest_wait = 100000000
+
 -- the longest that a slot lasts: that of a frame of 1518 bytes on a line of 10 Mbit/s
 abbrev pub longest_slot : ℕ
 longest_slot = 1230400

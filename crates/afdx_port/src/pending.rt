@@ -4,18 +4,15 @@ ghost use Rattle.std.specs.Prelude.{◌++◌, List, Some, None, IfOk, IfErr, OnO
 ghost use Rattle.std.specs.Prelude.{IfSome, OnSome, IfNone, MatchOption, MatchResult};
 ghost use Rattle.std.specs.Prelude.{is_some, option_copied, slice_get, true};
 ghost use Rattle.afdx_port.specs.Times.{drain_end, latest_put, longest_slot};
+ghost use Rattle.afdx_frame.specs.Lengths.{least_frame, greatest_buffer};
 ghost use Rattle.afdx_frame.specs.declared.link.Priority.{Priority};
 ghost use Rattle.afdx_port.specs.Schedule.{Entry, Turn, is_past, IsNext, IsSchedule, IsLost};
 
 use crate::has_length::HasLength;
 use crate::left::{Due, Left};
-use afdx_frame::Priority;
+use afdx_frame::{LEAST_FRAME, Priority, WIRE_EXTRA};
 use circular_buffer::HeapCircularBuffer;
 use std::alloc::{AllocError, Global};
-
-/// The bytes on the wire beside a frame: preamble, start delimiter and gap (IEEE 802.3, 3.1.1 and
-/// 4.4.2).
-const GAP: u64 = 20;
 
 /// A frame that waits, and when it came.
 #[derive(Debug, Drop)]
@@ -62,14 +59,14 @@ impl<T: HasLength> Pending<T> {
 
     pub(crate) fn new(alloc: Global, byte_ns: u64, buffer: u64) -> Result<Pending<T>, AllocError>
         requires rate { IsByteTime byte_ns }
-        requires buffer { (64 ≤ buffer) × (buffer ≤ 4194304) }
+        requires buffer { (least_frame ≤ buffer) × (buffer ≤ greatest_buffer) }
         ensures sound { IfOk result (λ p. IsSound T.facts p) }
         ensures stands { IfOk result (λ p. StandsFor T.facts p (no_calls byte_ns buffer)) }
         ensures held { IfOk result (λ p. frames_held p ≡ 0) }
         ensures quiet { (t : ℕ) → IfOk result (λ p. IsQuiet T.facts p t) }
         ensures clock { IfOk result (λ p. p.clock ≡ 0) }
     {
-        let places = (buffer / 64) as usize;
+        let places = buffer as usize / LEAST_FRAME;
         let high = HeapCircularBuffer::with_capacity(alloc, places)?;
         let low = HeapCircularBuffer::with_capacity(alloc, places)?;
         Ok(Pending {
@@ -118,7 +115,7 @@ impl<T: HasLength> Pending<T> {
         ensures { result ≡ due_from T.facts self.now.byte_ns waiting.now moment }
     {
         let too_old = is_too_old(waiting.item.longest_wait(), waiting.time, moment);
-        let slot = (waiting.item.length() + GAP) * self.byte_ns;
+        let slot = (waiting.item.length() + WIRE_EXTRA) * self.byte_ns;
         let lasts = if too_old { 0 } else { slot };
         Due {
             time: moment + lasts,

@@ -2,6 +2,7 @@
 ghost use Rattle.std.specs.Prelude.{◌≡◌, ℕ, ◌+◌, ◌<◌, ◌≤◌, ◌↔◌, ◌++◌, List, Some, None, IfOk};
 ghost use Rattle.std.specs.Prelude.{IfErr, OnOk, OnErr, IsErr, IsTrue, IfSome, IfNone, MatchOption};
 ghost use Rattle.std.specs.Prelude.{MatchResult};
+ghost use Rattle.afdx_frame.specs.Lengths.{least_frame, greatest_buffer};
 ghost use Rattle.afdx_port.specs.Times.{drain_end, latest_put};
 ghost use Rattle.afdx_port.specs.Schedule.{Turn, IsNext, AreTurns, IsSchedule, IsLost};
 ghost use Rattle.afdx_port.specs.ScheduleOf.{AreInOrder, schedule_of};
@@ -14,6 +15,10 @@ use crate::pending::Pending;
 use afdx_frame::Priority;
 use std::alloc::{AllocError, Global};
 use std::marker::Model;
+
+/// The place, in the order in which ports are served together, of one that has no turn to come:
+/// after each turn.
+const ORDER_WITHOUT_TURN: u64 = 1 << 52;
 
 /// An output port (ARINC 664 Part 7): two queues of frames, high before low, that share a buffer
 /// and a line. No frame is interrupted, and the next frame is chosen after all that came by that
@@ -34,7 +39,7 @@ fn order(due: Option<Due>) -> u64
 {
     match due {
         Some(due) => due.order(),
-        None => 1 << 52,
+        None => ORDER_WITHOUT_TURN,
     }
 }
 
@@ -57,7 +62,7 @@ impl<T: HasLength> Model for Port<T> {
 
 impl<T: HasLength> Port<T> {
     ghost use Rattle.afdx_port.specs.Due.{given_at, IsAfter};
-    ghost use Rattle.afdx_port.specs.Ports.{order_at};
+    ghost use Rattle.afdx_port.specs.Ports.{order_at, order_without_turn};
     ghost use Rattle.afdx_port.specs.Held.{IsByteTime, due_of, IsQuiet, last_time, frames_held};
     ghost use Rattle.afdx_port.specs.History.{History, no_calls, at, with_put, entry_of, due_at};
     ghost use Rattle.afdx_port.specs.History.{StandsFor, Gives};
@@ -67,7 +72,7 @@ impl<T: HasLength> Port<T> {
     /// `buffer / 64` of them in each class. The error says that memory was refused.
     pub fn new(alloc: Global, byte_ns: u64, buffer: u64) -> Result<Port<T>, AllocError>
         requires rate { IsByteTime byte_ns }
-        requires buffer { (64 ≤ buffer) × (buffer ≤ 4194304) }
+        requires buffer { (least_frame ≤ buffer) × (buffer ≤ greatest_buffer) }
         ensures stands { IfOk result (λ p. StandsFor T.facts p (no_calls byte_ns buffer)) }
         ensures quiet { (t : ℕ) → IfOk result (λ p. IsQuiet T.facts p t) }
         ensures held { IfOk result (λ p. frames_held p ≡ 0) }
@@ -134,7 +139,7 @@ impl<T: HasLength> Port<T> {
     /// turn if the port holds nothing.
     pub(crate) fn order(&self) -> u64
         ensures is { result ≡ order_at (due_of T.facts self.now) }
-        ensures most { result ≤ 4503599627370496 }
+        ensures most { result ≤ order_without_turn }
         ensures limit { IfSome (due_of T.facts self.now) (λ due. given_at due ≤ drain_end) }
     {
         self.order

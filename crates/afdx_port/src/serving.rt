@@ -1,6 +1,6 @@
 //! Which of 24 ports is served first.
 ghost use Rattle.std.specs.Prelude.{◌≡◌, ℕ, ◌<◌, ◌≤◌, List, length, slice_set};
-ghost use Rattle.afdx_port.specs.Serving.{key_of, AreRanked, IsLeastIn};
+ghost use Rattle.afdx_port.specs.Keys.{key_of, AreRanked, IsLeastIn};
 
 use crate::has_length::HasLength;
 use crate::port::Port;
@@ -15,6 +15,7 @@ pub struct Serving {
     keys: [u64; 24],
     /// The least of each four keys.
     least: [u64; 6],
+    ghost ranked: { ∥ AreRanked keys least ∥₁ },
 }
 
 /// The least of the numbers from one place to before another.
@@ -33,7 +34,7 @@ fn least_in(numbers: &[u64], from: usize, to: usize) -> u64
 
 impl Serving {
     ghost use Rattle.afdx_port.specs.declared.pending.Pending.{Pending};
-    ghost use Rattle.afdx_port.specs.Ports.{AreServed};
+    ghost use Rattle.afdx_port.specs.Ports.{AreServed, order_without_turn};
     ghost use Rattle.afdx_port.specs.Serving.{IsServing};
 
     /// The order in which 24 ports are served as they are.
@@ -55,11 +56,8 @@ impl Serving {
     #[inline(always)]
     fn set(&mut self, place: usize, order: u64)
         requires place { place < 24 }
-        requires order { order ≤ 4503599627370496 }
-        requires ranked { AreRanked self.old.keys self.old.least }
-        ensures keys { self.new.keys ≡ slice_set self.old.keys place (key_of order place) }
-        ensures group_count { length self.new.least ≡ 6 }
-        ensures ranked { AreRanked self.new.keys self.new.least }
+        requires order { order ≤ order_without_turn }
+        ensures { self.new.keys ≡ slice_set self.old.keys place (key_of order place) }
     {
         self.keys[place] = 32 * order + place as u64;
         let group = place / 4;
@@ -69,10 +67,8 @@ impl Serving {
     /// The port at this place has changed, and is now this one.
     #[inline]
     pub fn renew<T: HasLength>(&mut self, place: usize, port: &Port<T>)
-        requires place { place < 24 }
-        requires ranked { AreRanked self.old.keys self.old.least }
-        ensures ranked { AreRanked self.new.keys self.new.least }
-        ensures serving { (ports : List (Pending T)) → IsServing T.facts ports self.old →
+        requires { place < 24 }
+        ensures { (ports : List (Pending T)) → IsServing T.facts ports self.old →
             IsServing T.facts (slice_set ports place port.now) self.new }
     {
         self.set(place, port.order());

@@ -1,7 +1,9 @@
 //! The worked rows, at a frame that waits for ever and at one that doesn't. They pass also where any one growth is refused.
 ghost use Rattle.std.specs.Prelude.{◌≡◌, ℕ, ◌≤◌, Some, None, IfOk, IsTrue};
 ghost use Rattle.std.proofs.Common.{arith};
+ghost use Rattle.afdx_frame.specs.Lengths.{least_frame, greatest_frame, greatest_buffer};
 ghost use Rattle.afdx_port.specs.Held.{IsByteTime, IsQuiet, last_time};
+ghost use Rattle.afdx_port.specs.Times.{greatest_wait};
 
 use crate::{Due, HasLength, Port, Serving, first_due};
 use afdx_frame::Priority;
@@ -10,7 +12,7 @@ use std::alloc::{AllocError, Global};
 #[derive(Clone, Copy, Debug, Drop, PartialEq, Eq)]
 struct Patient {
     bytes: u64,
-    ghost lawful: { (64 ≤ bytes) × (bytes ≤ 1518) },
+    ghost lawful: { (least_frame ≤ bytes) × (bytes ≤ greatest_frame) },
 }
 
 impl HasLength for Patient {
@@ -31,7 +33,7 @@ impl HasLength for Patient {
 #[derive(Clone, Copy, Debug, Drop, PartialEq, Eq)]
 struct Aging {
     wait: u64,
-    ghost lawful: { wait ≤ 100000000 },
+    ghost lawful: { wait ≤ greatest_wait },
 }
 
 impl HasLength for Aging {
@@ -49,13 +51,13 @@ impl HasLength for Aging {
 }
 
 fn waits_on(bytes: u64) -> Patient
-    requires { (64 ≤ bytes) × (bytes ≤ 1518) }
+    requires { (least_frame ≤ bytes) × (bytes ≤ greatest_frame) }
 {
     Patient { bytes }
 }
 
 fn waits_for(wait: u64) -> Aging
-    requires { wait ≤ 100000000 }
+    requires { wait ≤ greatest_wait }
 {
     Aging { wait }
 }
@@ -63,7 +65,7 @@ fn waits_for(wait: u64) -> Aging
 /// An idle port. Where a growth is refused, it is made again.
 fn idle_port<T: HasLength>(alloc: Global, byte_ns: u64, buffer: u64) -> Result<Port<T>, AllocError>
     requires rate { IsByteTime byte_ns }
-    requires buffer { (64 ≤ buffer) × (buffer ≤ 4194304) }
+    requires buffer { (least_frame ≤ buffer) × (buffer ≤ greatest_buffer) }
     ensures quiet { (t : ℕ) → IfOk result (λ p. IsQuiet T.facts p t) }
     ensures clock { IfOk result (λ p. last_time p ≡ 0) }
 {

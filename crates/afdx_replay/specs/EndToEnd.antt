@@ -1,8 +1,9 @@
 -- From the lists of the senders to the messages of the receivers, over texts: what each sender took
 -- is told once. Lists of lines and of submissions have the first one first.
-use Rattle.std.specs.Prelude.{ℕ, ◌^◌, ◌≡◌, ◌≤◌, ◌==◌, ◌&&◌, Bool, true, false, List, [], length, filter, map, reverse, Option, Some, None, Result, Ok, Err, slice_get}
+use Rattle.std.specs.Prelude.{ℕ, ◌≡◌, ◌≤◌, ◌==◌, ◌&&◌, Bool, true, false, List, [], length, filter, map, reverse, Option, Some, None, Result, Ok, Err, slice_get}
 use Rattle.std.specs.List.{AllByRecursion}
 use Rattle.afdx_frame.specs.Sides.{is_side}
+use Rattle.afdx_frame.specs.Times.{latest_listed}
 use Rattle.afdx_frame.specs.declared.link.Side.{Side}
 use Rattle.afdx_config.specs.Admission.{IsAdmitted, links_from}
 use Rattle.afdx_config.specs.Lawful.{IsLawful}
@@ -49,7 +50,7 @@ pub record HasSent (t : Rows) (sender : ℕ) (s : SystemRow) (given : List (List
   pub are_events : AreEventsOf s (links_from t.links sender)
       (items_of submissions given (length given)) events
   pub are_done : AreDone s (links_from t.links sender) events
-  pub early : AllByRecursion (λ turn. turn.end ≤ 10 ^ 15) (turns_in events)
+  pub early : AllByRecursion (λ turn. turn.end ≤ latest_listed) (turns_in events)
 
 -- of these submissions to a link, the messages whose UDP port a system has for the link
 abbrev pub heard_of : Rows → ℕ → LinkRow → List Submission → List Message
@@ -91,7 +92,7 @@ abbrev pub WrittenIsSent : Type 0
 WrittenIsSent = (t : Rows) (sender : ℕ) (s : SystemRow) (given text : List ℕ) (sends : Summary) →
     slice_get t.systems sender ≡ Some s →
     (sent : WritesAll (source_at t sender s) (lines_of given) (Some []) (Some text) sends) →
-    AllByRecursion (λ turn. turn.end ≤ 10 ^ 15) (turns_in sent.writes.events) →
+    AllByRecursion (λ turn. turn.end ≤ latest_listed) (turns_in sent.writes.events) →
     HasSent t sender s (lines_of given) sent.writes.events
     × (text ≡ send_text s sent.writes.events)
 
@@ -102,7 +103,7 @@ RunsTellTakenOnce = (t : Rows) (sender : ℕ) (s : SystemRow) (given text bytes 
     (old new : Option (List ℕ)) (sends replays : Summary) →
     IsLawful t → IsAdmitted t → slice_get t.systems sender ≡ Some s →
     (sent : WritesAll (source_at t sender s) (lines_of given) (Some []) (Some text) sends) →
-    AllByRecursion (λ turn. turn.end ≤ 10 ^ 15) (turns_in sent.writes.events) →
+    AllByRecursion (λ turn. turn.end ≤ latest_listed) (turns_in sent.writes.events) →
     HoldsText s (lines_of bytes) text →
     (told : WritesPromised t (lines_of bytes) old new replays) →
     EachIsToldAsTaken t sender sent.writes.events told.lines

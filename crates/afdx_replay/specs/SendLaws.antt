@@ -1,7 +1,9 @@
 -- What is true of the texts of senders: what a replay reads of a line, and that a list of
 -- submissions has one text.
-use Rattle.std.specs.Prelude.{ℕ, ◌^◌, ◌≡◌, ◌≤◌, List, [], ◌∷◌, length, Some}
+use Rattle.std.specs.Prelude.{ℕ, ◌≡◌, ◌≤◌, List, [], ◌∷◌, length, Some}
+use Rattle.afdx_frame.specs.Lengths.{greatest_frame}
 use Rattle.afdx_frame.specs.Sealing.{AreBytes}
+use Rattle.afdx_frame.specs.Times.{latest_listed}
 use Rattle.afdx_frame.specs.declared.link.Side.{Side}
 use Rattle.afdx_config.specs.Admission.{links_from}
 use Rattle.afdx_config.specs.Lawful.{IsLawful}
@@ -24,13 +26,13 @@ pub record IsArrival (text : List ℕ) (x : Arrival) : Type 0 where
 pub record AreOfFrame (bytes : List ℕ) : Type 0 where
   pub are_bytes : AreBytes bytes
   pub least : 1 ≤ length bytes
-  pub most : length bytes ≤ 1518
+  pub most : length bytes ≤ greatest_frame
 
 -- The line of a frame that is sent by the last time of a list, read as a list of one line, is that
 -- frame's arrival at the same time, side and port.
 abbrev pub SentLinesAreArrivals : Type 0
 SentLinesAreArrivals = (side : Side) (port time : ℕ) (bytes : List ℕ) →
-    1 ≤ port → port ≤ 24 → time ≤ 10 ^ 15 → AreOfFrame bytes →
+    1 ≤ port → port ≤ 24 → time ≤ latest_listed → AreOfFrame bytes →
     IsArrival (sent_line side port time bytes) (arrival_with 1 time side port bytes)
 
 -- What a run that sends tells is determined by its list: events of the same submissions, after

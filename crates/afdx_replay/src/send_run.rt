@@ -1,5 +1,6 @@
 //! A run that sends the messages of a list.
-ghost use Rattle.std.specs.Prelude.{◌≡◌, ◌<◌, ◌≤◌, ◌+◌, ◌^◌, ◌⊎◌, ◌++◌, ◌∷◌, ℕ, List, Option, Some, IfOk, IfErr, IfSome, OnOk, OnErr, length, slice_get, true, false};
+ghost use Rattle.std.specs.Prelude.{◌≡◌, ◌<◌, ◌≤◌, ◌+◌, ◌⊎◌, ◌++◌, ◌∷◌, ℕ, List, Option, Some, IfOk, IfErr, IfSome, OnOk, OnErr, length, slice_get, true, false};
+ghost use Rattle.afdx_frame.specs.Times.{latest_listed};
 ghost use Rattle.afdx_lists.specs.Lines.{most_reads};
 ghost use Rattle.afdx_config.specs.Rows.{SystemRow};
 ghost use Rattle.afdx_lists.specs.Texts.{text_bytes};
@@ -147,7 +148,7 @@ impl Sending {
 
     /// Hands a message to the sender, and counts it. It says why it was refused, if it was.
     fn submit(&mut self, handed: &Handed, payload: &[u8]) -> Result<Option<SendFault>, AllocError>
-        requires limit { handed.now.time ≤ 10 ^ 15 }
+        requires limit { handed.now.time ≤ latest_listed }
         requires clock { last_time self.old.sender ≤ handed.now.time }
         requires quiet { IsQuiet self.old.sender handed.now.time }
         requires room { (n : ℕ) × (n < 1000000) ×
@@ -191,7 +192,7 @@ impl Sending {
         payload: &[u8],
         output: &mut Watched<W>,
     ) -> Result<(), RunFault>
-        requires limit { handed.now.time ≤ 10 ^ 15 }
+        requires limit { handed.now.time ≤ latest_listed }
         requires clock { last_time self.old.sender ≤ handed.now.time }
         requires room { (m : ℕ) × (m < 1000000) ×
             HasRoom self.old.counts (frames_held self.old.sender) m }

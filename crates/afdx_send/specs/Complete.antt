@@ -3,6 +3,7 @@
 use Rattle.std.specs.Prelude.{◌≡◌, ℕ, ◌+◌, ◌≤◌, ◌==◌, List, [], ◌∷◌, ◌++◌, length, filter, Some, slice_get}
 use Rattle.std.specs.List.{AllByRecursion}
 use Rattle.std.specs.List.Sorted.{IsPermutation}
+use Rattle.afdx_frame.specs.Lengths.{frame_overhead}
 use Rattle.afdx_frame.specs.Regulation.{bag}
 use Rattle.afdx_config.specs.Admission.{IsAdmitted, links_from}
 use Rattle.afdx_config.specs.Flows.{regulation_of_link}
@@ -21,7 +22,7 @@ use Rattle.afdx_send.specs.Sender.{History, AreAllEmitted, IsSub}
 pub record IsFor (l : LinkRow) (m : Submission) : Type 0 where
   pub sub : IsSub l m.sub
   pub some : 1 ≤ length m.message.payload
-  pub fits : length m.message.payload + 47 ≤ l.lmax
+  pub fits : length m.message.payload + frame_overhead ≤ l.lmax
 
 -- the system at this place of admitted tables took such messages, and has emitted them all
 pub record HasSentAll (t : Rows) (system : ℕ) (h : History) : Type 0 where

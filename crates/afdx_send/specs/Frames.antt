@@ -2,6 +2,7 @@
 use Rattle.std.specs.Prelude.{ℕ, ◌+◌, max, min, None, List, length}
 use Rattle.std.proofs.Common.{arith}
 use Rattle.afdx_config.specs.SentList.{Message}
+use Rattle.afdx_frame.specs.Lengths.{least_frame, greatest_frame, frame_overhead}
 use Rattle.afdx_frame.specs.declared.builder.Address.{Address}
 use Rattle.afdx_port.specs.Facts.{Facts, AreLawful}
 
@@ -32,11 +33,12 @@ address_with system_id partition f = record {
   least = f.least;
 }
 
--- what a port knows of it: its length is that which the builder gives it, at most 1518. It may wait
--- for ever
+-- what a port knows of it: its length is that which the builder gives it, at most that of the
+-- greatest frame. It may wait for ever
 abbrev pub facts : Frame → Facts
 facts f = record {
-  bytes = min 1518 (max (length f.message.payload + 47) (max 64 f.least));
+  bytes = min greatest_frame
+      (max (length f.message.payload + frame_overhead) (max least_frame f.least));
   longest_wait = None;
 }
 

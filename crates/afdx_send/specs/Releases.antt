@@ -15,6 +15,10 @@ pub record Release : Type 0 where
   pub submission : Submission
   pub time : ℕ
 
+-- how many messages of a sub-VL may wait
+abbrev pub queue_limit : ℕ
+queue_limit = 64
+
 -- one of the releases is that of the submission at this place
 abbrev pub has_release : List Release → ℕ → Bool
 has_release releases place = list_any (λ r. r.place == place) releases

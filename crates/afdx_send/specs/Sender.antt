@@ -6,6 +6,7 @@ use Rattle.afdx_frame.specs.declared.link.Priority.TheVariants.{Low}
 use Rattle.afdx_frame.specs.declared.link.Side.TheVariants.{A, B}
 use Rattle.afdx_frame.specs.Flows.{Flow}
 use Rattle.afdx_frame.specs.Grammar.{built_frame}
+use Rattle.afdx_frame.specs.Lengths.{frame_overhead}
 use Rattle.afdx_frame.specs.Regulation.{jitter}
 use Rattle.afdx_config.specs.Flows.{regulation_of_link}
 use Rattle.afdx_config.specs.LawfulStream.{Sending}
@@ -28,7 +29,7 @@ use Rattle.afdx_send.specs.Emissions.{LinkRelease, own, own_submissions, AreAllR
 use Rattle.afdx_send.specs.Frames.{Frame, facts, address_with}
 use Rattle.afdx_send.specs.Lines.{LineStands, held_by}
 use Rattle.afdx_send.specs.Regulator.{next_time_of}
-use Rattle.afdx_send.specs.Releases.{Submission, has_release, count_without}
+use Rattle.afdx_send.specs.Releases.{Submission, has_release, count_without, queue_limit}
 
 -- the calls of a sender so far: its system, the links that it sends in the order of the tables,
 -- what each link took, the emissions, the latest first, and the last time used
@@ -245,10 +246,10 @@ IsRefused h t vl sub n NoSuchSub = (i : ℕ) × (l : LinkRow) × HasLink h vl i 
     × ((sub ≡ 0) ⊎ (l.subs < sub))
 IsRefused h t vl sub n Empty = (i : ℕ) × (l : LinkRow) × HasLink h vl i l × IsSub l sub × (n ≡ 0)
 IsRefused h t vl sub n TooLarge = (i : ℕ) × (l : LinkRow) × HasLink h vl i l × IsSub l sub
-    × (1 ≤ n) × (l.lmax < n + 47)
+    × (1 ≤ n) × (l.lmax < n + frame_overhead)
 IsRefused h t vl sub n QueueFull = (i : ℕ) × (l : LinkRow) × HasLink h vl i l × IsSub l sub
-    × (1 ≤ n) × (n + 47 ≤ l.lmax) ×
-    ((count : ℕ) × AreUnreleased h t i sub count × (64 ≤ count))
+    × (1 ≤ n) × (n + frame_overhead ≤ l.lmax) ×
+    ((count : ℕ) × AreUnreleased h t i sub count × (queue_limit ≤ count))
 IsRefused h t vl sub n Memory = Unit {0}
 
 -- a message is taken by the link at this place
@@ -257,7 +258,7 @@ pub record IsTaken (h : History) (place : ℕ) (vl : ℕ) (m : Submission) : Typ
   pub link : HasLink h vl place row
   pub sub : IsSub row m.sub
   pub some : 1 ≤ length m.message.payload
-  pub fits : length m.message.payload + 47 ≤ row.lmax
+  pub fits : length m.message.payload + frame_overhead ≤ row.lmax
   pub count : ℕ
   pub unreleased : AreUnreleased h m.time place m.sub count
-  pub room : count < 64
+  pub room : count < queue_limit

@@ -86,7 +86,8 @@ pub(crate) fn build(
     let lines = lines(alloc, tables, system)?;
     let places = places(alloc, &lines)?;
     let agenda = Agenda::new(alloc, lines.len())?;
-    let output = Port::new(alloc, 8000 / row.rate, BUFFER)?;
+    let byte_ns = tables.byte_ns(system);
+    let output = Port::new(alloc, byte_ns, BUFFER)?;
     Ok(Working {
         alloc,
         system_id: row.id,

@@ -1,11 +1,12 @@
 //! What a sender keeps of a link: its row, its number, its regulator.
 ghost use Rattle.std.specs.Prelude.{◌≡◌, ℕ, ◌+◌, ◌^◌, ◌<◌, ◌≤◌, List, Some, OnOk, IfErr, sum_by, length};
+ghost use Rattle.afdx_frame.specs.Lengths.{least_frame, greatest_frame};
 ghost use Rattle.afdx_config.specs.Numbers.{next_number};
 
 use crate::fault::SendFault;
 use crate::regulator::Regulator;
-use crate::released::{OVERHEAD, Released};
-use afdx_frame::VlId;
+use crate::released::Released;
+use afdx_frame::{FRAME_OVERHEAD, VlId};
 
 /// A link of the system.
 #[derive(Drop)]
@@ -17,7 +18,7 @@ pub(crate) struct Line {
     /// The number of the next frame.
     pub(crate) number: u8,
     pub(crate) regulator: Regulator,
-    ghost range: { (64 ≤ least) × (least ≤ 1518) × (longest ≤ 1518) },
+    ghost range: { (least_frame ≤ least) × (least ≤ greatest_frame) × (longest ≤ greatest_frame) },
 }
 
 /// The sequence number after this one: 0 comes first, and never again.
@@ -46,7 +47,7 @@ impl Line {
         if len == 0 {
             return Err(SendFault::Empty);
         }
-        if (len + OVERHEAD) as u64 > self.longest {
+        if (len + FRAME_OVERHEAD) as u64 > self.longest {
             return Err(SendFault::TooLarge);
         }
         if self.regulator.is_full(sub - 1) {

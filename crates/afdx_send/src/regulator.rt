@@ -1,5 +1,6 @@
 //! The regulator of one link: its sub-VLs' queues and the gap between releases.
 ghost use Rattle.std.specs.Prelude.{◌≡◌, ℕ, ◌+◌, ◌*◌, ◌<◌, ◌≤◌, List, Some, None, IfSome, IfNone, IfOk, OnOk, OnErr, IsTrue, ◌↔◌, ◌^◌, [], MatchOption, max, sum_by, length};
+ghost use Rattle.afdx_frame.specs.Lengths.{greatest_payload};
 
 use std::alloc::{AllocError, Global};
 use std::collections::VecDeque;
@@ -10,7 +11,7 @@ pub(crate) struct Queued {
     time: u64,
     udp: u16,
     payload: Vec<u8>,
-    ghost in_range: { (1 ≤ length payload.items) × (length payload.items ≤ 1471) },
+    ghost in_range: { (1 ≤ length payload.items) × (length payload.items ≤ greatest_payload) },
 }
 
 /// One link's messages. A queue is that of the sub-VL one more than its place.
@@ -31,7 +32,7 @@ const QUEUE_LIMIT: usize = 64;
 
 impl Queued {
     pub(crate) fn new(time: u64, udp: u16, payload: Vec<u8>) -> Queued
-        requires payload { (1 ≤ length payload.items) × (length payload.items ≤ 1471) }
+        requires payload { (1 ≤ length payload.items) × (length payload.items ≤ greatest_payload) }
         ensures time { result.time ≡ time }
         ensures udp { result.udp ≡ udp }
         ensures payload { result.payload ≡ payload }
@@ -47,7 +48,7 @@ impl Queued {
 
     pub(crate) fn into_payload(self) -> Vec<u8>
         ensures payload { result ≡ self.payload }
-        ensures in_range { (1 ≤ length result.items) × (length result.items ≤ 1471) }
+        ensures in_range { (1 ≤ length result.items) × (length result.items ≤ greatest_payload) }
     {
         let Queued { payload, .. } = self;
         payload
@@ -55,7 +56,7 @@ impl Queued {
 }
 
 impl Regulator {
-    ghost use Rattle.afdx_send.specs.Releases.{Submission, Release};
+    ghost use Rattle.afdx_send.specs.Releases.{Submission, Release, queue_limit};
     ghost use Rattle.afdx_send.specs.declared.regulator.Queued.{Queued};
     ghost use Rattle.afdx_send.specs.Regulator.{Regulates, HasQueue, IsReady, IsChosen, Pops, Pushes, Serves, Releases, next_time_of, waiting_of, sub_count};
 
@@ -161,7 +162,7 @@ impl Regulator {
     pub(crate) fn is_full(&self, index: usize) -> bool
         requires place { index < sub_count self.now }
         ensures { (ms : List Queued) → HasQueue (waiting_of self.now) index ms →
-            IsTrue result ↔ (64 ≤ length ms) }
+            IsTrue result ↔ (queue_limit ≤ length ms) }
     {
         self.queues[index].len() >= QUEUE_LIMIT
     }

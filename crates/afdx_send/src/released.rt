@@ -1,13 +1,11 @@
 //! A released message, as the output port holds it.
 ghost use Rattle.std.specs.Prelude.{◌≡◌, ◌≤◌, length, IfOk};
+ghost use Rattle.afdx_frame.specs.Lengths.{least_frame, greatest_frame, greatest_payload};
 
-use afdx_frame::{Address, VlId, build_both};
+use afdx_frame::{Address, FRAME_OVERHEAD, LEAST_FRAME, VlId, build_both};
 use afdx_port::HasLength;
 use std::alloc::{AllocError, Global};
 use std::marker::Model;
-
-/// The bytes of a frame beside its payload.
-pub(crate) const OVERHEAD: usize = 47;
 
 /// A released message on its way through the output port: what its frames are built from.
 #[derive(Drop)]
@@ -22,6 +20,7 @@ pub struct Released {
 
 impl Model for Released {
     ghost use Rattle.std.specs.Prelude.{◌≤◌, length};
+    ghost use Rattle.afdx_frame.specs.Lengths.{least_frame, greatest_frame, greatest_payload};
     ghost use Rattle.afdx_send.specs.Frames.{Frame};
 
     ghost Value = { Frame };
@@ -33,8 +32,8 @@ impl Model for Released {
       message = record { udp = r.udp; payload = r.payload.items };
     } };
 
-    ghost invariant = { λ r. (64 ≤ r.least) × (r.least ≤ 1518) × (1 ≤ length r.payload.items)
-        × (length r.payload.items ≤ 1471) };
+    ghost invariant = { λ r. (least_frame ≤ r.least) × (r.least ≤ greatest_frame)
+        × (1 ≤ length r.payload.items) × (length r.payload.items ≤ greatest_payload) };
 }
 
 impl Released {
@@ -44,8 +43,8 @@ impl Released {
     ghost use Rattle.afdx_send.specs.Frames.{Frame, frame_with, address_with};
 
     pub(crate) fn new(vl: VlId, least: u16, number: u8, udp: u16, payload: Vec<u8>) -> Released
-        requires least { (64 ≤ least) × (least ≤ 1518) }
-        requires payload { (1 ≤ length payload.items) × (length payload.items ≤ 1471) }
+        requires least { (least_frame ≤ least) × (least ≤ greatest_frame) }
+        requires payload { (1 ≤ length payload.items) × (length payload.items ≤ greatest_payload) }
         ensures { result ≡ frame_with vl.0 least number udp payload.items }
     {
         Released {
@@ -104,8 +103,8 @@ impl HasLength for Released {
     ghost facts = { facts };
 
     fn length(&self) -> u64 {
-        (self.payload.len() + OVERHEAD)
-            .max(64)
+        (self.payload.len() + FRAME_OVERHEAD)
+            .max(LEAST_FRAME)
             .max(usize::from(self.least)) as u64
     }
 

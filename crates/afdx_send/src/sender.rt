@@ -1,6 +1,7 @@
 //! A sending end system, as its callers see it.
 ghost use Rattle.std.specs.Prelude.{◌≡◌, ℕ, ◌+◌, ◌<◌, ◌≤◌, IfOk, IfErr, OnOk, OnErr, IfSome};
 ghost use Rattle.std.specs.Prelude.{IfNone, MatchOption, length, slice_get, Some};
+ghost use Rattle.afdx_frame.specs.Times.{latest_listed};
 ghost use Rattle.afdx_port.specs.Times.{drain_end};
 
 use crate::build::build;
@@ -80,7 +81,7 @@ impl Sender {
         payload: &[u8],
     ) -> Result<(), SendFault>
         requires clock { last_time self.old ≤ time }
-        requires limit { time ≤ 1000000000000000 }
+        requires limit { time ≤ latest_listed }
         requires quiet { IsQuiet self.old time }
         ensures ok { (h : History) → StandsFor self.old h →
             OnOk result ((place : ℕ) × IsTaken h place vl.0

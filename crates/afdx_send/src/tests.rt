@@ -1,5 +1,6 @@
 //! The worked rows. The calls of a run: before each submission, all emissions that end by then are taken.
 ghost use Rattle.std.specs.Prelude.{◌≡◌, ℕ, ◌+◌, ◌≤◌, IfOk, IfSome, IfNone};
+ghost use Rattle.afdx_frame.specs.Times.{latest_listed};
 ghost use Rattle.afdx_send.specs.Sender.{IsQuiet, last_time, frames_held};
 
 use crate::{Emission, SendFault, Sender};
@@ -119,7 +120,7 @@ fn submit(
     payload: &[u8],
 ) -> Result<(Vec<Emission>, Result<(), SendFault>), AllocError>
     requires clock { last_time sender.old ≤ time }
-    requires limit { time ≤ 1000000000000000 }
+    requires limit { time ≤ latest_listed }
     ensures clock { IfOk result (λ _. last_time sender.new ≡ time) }
 {
     let emissions = drain(alloc, sender, time)?;

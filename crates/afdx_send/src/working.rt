@@ -2,6 +2,7 @@
 ghost use Rattle.std.specs.Prelude.{◌≡◌, ℕ, ◌+◌, ◌^◌, ◌<◌, ◌≤◌, ◌↔◌, Option, Some, None, IfSome};
 ghost use Rattle.std.specs.Prelude.{IfNone, IfOk, IfErr, OnOk, OnErr, MatchOption, length};
 ghost use Rattle.std.specs.Prelude.{slice_get, sum_by, vec_len};
+ghost use Rattle.afdx_frame.specs.Times.{latest_listed};
 ghost use Rattle.afdx_port.specs.Times.{drain_end};
 
 use crate::agenda::Agenda;
@@ -232,7 +233,7 @@ impl Working {
         requires place { place < length self.old.lines.items }
         requires queue { (line : Line) → slice_get self.old.lines.items place ≡ Some line →
             CanTake line index message }
-        requires limit { message.time ≤ 1000000000000000 }
+        requires limit { message.time ≤ latest_listed }
         requires clock { self.old.clock ≡ message.time }
         requires idle { IsIdle self.old }
         ensures ok { (h : History) → StandsFor self.old h →
@@ -253,7 +254,7 @@ impl Working {
     /// Takes a message at the last time used.
     fn accept(&mut self, vl: VlId, sub: u8, udp: u16, payload: &[u8]) -> Result<(), SendFault>
         requires sound { IsSound self.old }
-        requires limit { self.old.clock ≤ 1000000000000000 }
+        requires limit { self.old.clock ≤ latest_listed }
         requires idle { IsIdle self.old }
         ensures ok { (h : History) → StandsFor self.old h →
             OnOk result ((place : ℕ) × IsTaken h place vl.0
@@ -294,7 +295,7 @@ impl Working {
     ) -> Result<(), SendFault>
         requires sound { IsSound self.old }
         requires clock { self.old.clock ≤ time }
-        requires limit { time ≤ 1000000000000000 }
+        requires limit { time ≤ latest_listed }
         requires quiet { IsQuiet self.old time }
         ensures sound { IsSound self.new }
         ensures ok { (h : History) → StandsFor self.old h →

@@ -1,6 +1,8 @@
 -- What the output ports of a switch hold of a frame.
 use Rattle.std.specs.Prelude.{ℕ, max, min, Option, option_map, List, length}
+use Rattle.afdx_frame.specs.Lengths.{least_frame, greatest_frame}
 use Rattle.afdx_port.specs.Facts.{Facts}
+use Rattle.afdx_port.specs.Times.{greatest_wait}
 
 -- the caller's tag, how long it may wait for its turn in ns if there is a limit, and all bytes
 pub record Carried : Type 0 where
@@ -13,10 +15,10 @@ abbrev pub carried_with : ℕ → Option ℕ → List ℕ → Carried
 carried_with tag longest_wait bytes =
     record { tag = tag; longest_wait = longest_wait; bytes = bytes }
 
--- what a port knows of it. A frame that is accepted has 64 to 1518 bytes, and its limit, if there
--- is one, is at most 100 ms
+-- what a port knows of it. A frame that is accepted is neither too short nor too long, and its
+-- limit, if there is one, is at most 100 ms
 abbrev pub facts : Carried → Facts
 facts c = record {
-  bytes = max 64 (min 1518 (length c.bytes));
-  longest_wait = option_map (λ wait. min 100000000 wait) c.longest_wait;
+  bytes = max least_frame (min greatest_frame (length c.bytes));
+  longest_wait = option_map (λ wait. min greatest_wait wait) c.longest_wait;
 }

@@ -2,10 +2,11 @@
 -- from specs/.
 use Rattle.std.proofs.Common.{ℕ, ◌≤◌, min, Option, Some, None, IfSome, option_map, arith}
 use Rattle.afdx_port.specs.Facts.{AreLawful}
+use Rattle.afdx_port.specs.Times.{greatest_wait}
 use Rattle.afdx_switch.specs.Carried.{Carried, facts}
 
 limit-wait : (w : Option ℕ) →
-    IfSome (option_map (λ wait. min 100000000 wait) w) (λ wait. wait ≤ 100000000)
+    IfSome (option_map (λ wait. min greatest_wait wait) w) (λ wait. wait ≤ greatest_wait)
 limit-wait None = tt
 limit-wait (Some wait) = omega arith
 

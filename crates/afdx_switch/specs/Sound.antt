@@ -5,6 +5,7 @@ use Rattle.afdx_port.specs.Held as held
 use Rattle.afdx_port.specs.History as queue
 use Rattle.afdx_port.specs.Ports.{AreServed}
 use Rattle.afdx_port.specs.Serving.{IsServing}
+use Rattle.afdx_port.specs.Times.{greatest_wait}
 use Rattle.afdx_port.specs.declared.pending.Pending.{Pending}
 use Rattle.afdx_switch.specs.Carried.{Carried, facts}
 use Rattle.afdx_switch.specs.Lines.{ArePlaces}
@@ -14,7 +15,7 @@ use Rattle.afdx_switch.specs.declared.working.Working.{Working}
 -- what is true of every switch, whatever the calls
 pub record IsLineSound (time : ℕ) (line : Line) : Type 0 where
   pub in_time : accounts.last_time line.account ≤ time
-  pub wait : IfSome line.longest_wait (λ wait. wait ≤ 100000000)
+  pub wait : IfSome line.longest_wait (λ wait. wait ≤ greatest_wait)
   pub goes : ArePlaces line.goes.items
 
 pub record IsPortSound (time : ℕ) (p : Pending Carried) : Type 0 where

@@ -1,6 +1,7 @@
 -- What the tables of a network say of its switches.
 use Rattle.std.specs.Prelude.{ℕ, Option, Some, None, List, find}
 use Rattle.std.specs.Option.{option_map_or}
+use Rattle.afdx_frame.specs.Lengths.{least_frame}
 use Rattle.afdx_frame.specs.declared.link.Side.{Side}
 use Rattle.afdx_config.specs.Reading.{system_at_port}
 use Rattle.afdx_config.specs.Rows.{Rows}
@@ -15,7 +16,7 @@ use Rattle.afdx_switch.specs.Carried.{Carried}
 
 -- the buffer of a port in bytes: nothing goes to a port that no system has, so it has the least
 unfoldable pub buffer_at : Rows → ℕ → ℕ
-buffer_at t port = option_map_or (λ system. t.buffer) (system_at_port t.systems port) 64
+buffer_at t port = option_map_or (λ system. t.buffer) (system_at_port t.systems port) least_frame
 
 -- the row of the link that the bytes of a frame name
 unfoldable pub row_named : Rows → List ℕ → Option Row

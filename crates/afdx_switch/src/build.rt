@@ -3,9 +3,11 @@ ghost use Rattle.std.specs.Prelude.{◌≡◌, ℕ, ◌≤◌, ◌<◌, ◌+◌,
 ghost use Rattle.afdx_config.specs.Lawful.{IsLawful};
 ghost use Rattle.afdx_config.specs.Reading.{link_of};
 ghost use Rattle.afdx_config.specs.Rows.{LinkRow, Rows, link_row};
+ghost use Rattle.afdx_frame.specs.Lengths.{least_frame, greatest_buffer};
 ghost use Rattle.afdx_frame.specs.declared.link.Side.{Side};
 ghost use Rattle.afdx_bounds.specs.Outputs.{Row};
 ghost use Rattle.afdx_port.specs.Held.{IsByteTime};
+ghost use Rattle.afdx_port.specs.Times.{greatest_wait};
 ghost use Rattle.afdx_port.specs.declared.pending.Pending.{Pending};
 ghost use Rattle.afdx_switch.specs.Carried.{Carried};
 ghost use Rattle.afdx_switch.specs.Tables.{row_of, rows_of, goes_to, byte_ns_at, buffer_at, longest_wait_of};
@@ -19,7 +21,7 @@ use crate::frame::Frame;
 use crate::line::Line;
 use crate::working::Working;
 use afdx_config::{Link, Tables};
-use afdx_frame::VlId;
+use afdx_frame::{LEAST_FRAME, VlId};
 use afdx_police::{LinkAccount, LinkRule};
 use afdx_port::{Port, Serving};
 use arrayvec::ArrayVec;
@@ -32,7 +34,7 @@ fn byte_ns(tables: &Tables, port: u8) -> u64
     ensures byte_time { IsByteTime result }
 {
     match tables.system_at(port) {
-        Some(system) => 8000 / tables.system(system).rate,
+        Some(system) => tables.byte_ns(system),
         None => 80,
     }
 }
@@ -41,11 +43,11 @@ fn byte_ns(tables: &Tables, port: u8) -> u64
 #[tactic(auto, unfolding(crate::specs::Tables::buffer_at))]
 fn buffer(tables: &Tables, port: u8) -> u64
     ensures is { result ≡ buffer_at tables.now port }
-    ensures limits { (64 ≤ result) × (result ≤ 4194304) }
+    ensures limits { (least_frame ≤ result) × (result ≤ greatest_buffer) }
 {
     match tables.system_at(port) {
         Some(_) => tables.buffer(),
-        None => 64,
+        None => LEAST_FRAME as u64,
     }
 }
 
@@ -67,7 +69,7 @@ fn goes(tables: &Tables, link: usize, port: u8) -> bool
 fn longest_wait(tables: &Tables, link: &Link) -> Option<u64>
     requires { link.now.latency_us ≤ 100000 }
     ensures is { result ≡ longest_wait_of tables.now (link_row link.now) }
-    ensures small { IfSome result (λ wait. wait ≤ 100000000) }
+    ensures small { IfSome result (λ wait. wait ≤ greatest_wait) }
 {
     if tables.profile() == 2 {
         Some(1000 * link.latency_us)

@@ -1,5 +1,7 @@
 //! The shares of a frame's one copy.
 ghost use Rattle.std.specs.Prelude.{◌≡◌, ◌≤◌, length, IfOk, IfSome};
+ghost use Rattle.afdx_frame.specs.Lengths.{least_frame, greatest_frame};
+ghost use Rattle.afdx_port.specs.Times.{greatest_wait};
 
 use afdx_port::HasLength;
 use std::alloc::{AllocError, Global};
@@ -23,7 +25,9 @@ pub struct Frame {
 
 impl Model for Frame {
     ghost use Rattle.std.specs.Prelude.{◌≡◌, ◌≤◌, true, length, IfSome};
+    ghost use Rattle.afdx_frame.specs.Lengths.{least_frame, greatest_frame};
     ghost use Rattle.afdx_frame.specs.Sealing.{is_sealed};
+    ghost use Rattle.afdx_port.specs.Times.{greatest_wait};
     ghost use Rattle.afdx_switch.specs.Carried.{Carried};
 
     ghost Value = { Carried };
@@ -34,9 +38,9 @@ impl Model for Frame {
       bytes = f.stored.value.bytes.items;
     } };
 
-    ghost invariant = { λ f. (64 ≤ length f.stored.value.bytes.items)
-        × (length f.stored.value.bytes.items ≤ 1518)
-        × IfSome f.stored.value.longest_wait (λ wait. wait ≤ 100000000)
+    ghost invariant = { λ f. (least_frame ≤ length f.stored.value.bytes.items)
+        × (length f.stored.value.bytes.items ≤ greatest_frame)
+        × IfSome f.stored.value.longest_wait (λ wait. wait ≤ greatest_wait)
         × (is_sealed f.stored.value.bytes.items ≡ true) };
 }
 
@@ -52,9 +56,9 @@ impl Frame {
         longest_wait: Option<u64>,
         bytes: &[u8],
     ) -> Result<Frame, AllocError>
-        requires shortest { 64 ≤ length bytes.now }
-        requires longest { length bytes.now ≤ 1518 }
-        requires wait { IfSome longest_wait (λ wait. wait ≤ 100000000) }
+        requires shortest { least_frame ≤ length bytes.now }
+        requires longest { length bytes.now ≤ greatest_frame }
+        requires wait { IfSome longest_wait (λ wait. wait ≤ greatest_wait) }
         requires sealed { is_sealed bytes.now ≡ true }
         ensures { IfOk result (λ f. f ≡ carried_with tag longest_wait bytes.now) }
     {

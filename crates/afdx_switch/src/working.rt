@@ -2,7 +2,7 @@
 ghost use Rattle.std.specs.Prelude.{[], ◌≢◌, ◌≡◌, ◌↔◌, ℕ, ◌≤◌, ◌<◌, ◌+◌, List, Option, None, Some, IfOk, OnOk, OnErr, IfSome, IfNone, MatchOption, length, slice_get, true, false, not, All, vec_len};
 ghost use Rattle.afdx_port.specs.Times.{drain_end, latest_put};
 ghost use Rattle.afdx_frame.specs.declared.link.Priority.{Priority};
-ghost use Rattle.afdx_port.specs.Serving.{AreRanked, IsServing};
+ghost use Rattle.afdx_port.specs.Serving.{IsServing};
 ghost use Rattle.afdx_port.specs.declared.pending.Pending.{Pending};
 ghost use Rattle.afdx_port.specs.History as queue;
 ghost use Rattle.afdx_port.specs.Held as held;
@@ -97,7 +97,6 @@ fn forward(
 
 /// Finds anew where the ports at these places stand in the order in which all are served.
 fn renew(serving: &mut Serving, ports: &[Port<Frame>], places: &[u8])
-    requires ranked { AreRanked serving.old.keys serving.old.least }
     requires port_count { length ports.now ≡ 24 }
     requires places { ArePlaces places.now }
     ensures { (old : List (Pending Carried)) → IsServing facts old serving.old →

@@ -1,5 +1,5 @@
 use Rattle.std.proofs.Common.{◌<◌}
-use Rattle.afdx_port.specs.Serving.{IsLeastIn}
+use Rattle.afdx_port.specs.Keys.{IsLeastIn}
 use Rattle.afdx_port.proofs.serving.least_in.Given as goal
 
 abbrev pub invariant-loop-place : goal.invariant-loop-place

@@ -1,9 +1,13 @@
-use Rattle.std.proofs.Common.{arith, refl, ap, ◌∙◌, subst, ◌≡◌, slice_get, Some, None, replicate}
+use Rattle.std.proofs.Common.{ℕ, sym, arith, refl, ap, ◌∙◌, subst, ◌≡◌, slice_get, Some, None, replicate}
 use Rattle.afdx_admit.proofs.Taken.{at_place}
 use Rattle.afdx_config.specs.Admission.{links_from}
 use Rattle.afdx_config.specs.Lawful.{IsLawful}
 use Rattle.afdx_config.specs.Rows.{SystemRow, Rows, system_row}
+use Rattle.afdx_bounds.proofs.TableLemmas.{system-time}
+use Rattle.afdx_port.specs.Held.{IsByteTime}
+use Rattle.afdx_port.specs.History as port
 use Rattle.afdx_send.specs.declared.working.Working.{Working}
+use Rattle.afdx_send.specs.Frames.{facts}
 use Rattle.afdx_send.specs.New.{AreNewLines}
 use Rattle.afdx_send.specs.Sender.{no_calls}
 use Rattle.afdx_send.proofs.NewLemmas.{are_sent, stands_new, quiet_new, held_new, IsNew}
@@ -22,6 +26,13 @@ made c = record {
   output = c.in_ok-output.output;
   ready = None;
 }
+
+pub new-requires-2-clause-rate : goal.new-requires-2-clause-rate
+new-requires-2-clause-rate c =
+    let row : SystemRow = system_row c.system-row.result.now in
+    subst IsByteTime (sym (c.byte_ns-byte_ns.ensures.time row c.system-row.ensures.row))
+    (system-time c.tables-tables.result.now c.args.system.0 row c.system-row.ensures.lawful
+    c.system-row.ensures.row)
 
 is_new : (c : goal.In_ok-output) (s : SystemRow)
     → slice_get c.args.tables.now.systems c.args.system.0 ≡ Some s
@@ -48,7 +59,9 @@ is_new c s at =
           in omega arith);
       agenda_count = c.in_ok-agenda.ensures.count
           ∙ (let ok = c.in_ok-lines.lines.ok.0 in let n = c.len.ensures in omega arith);
-      output = c.in_ok-output.ensures.stands;
+      output = subst (λ (n : ℕ). port.StandsFor facts c.in_ok-output.output (port.no_calls n 65536))
+          (c.byte_ns-byte_ns.ensures.time (system_row c.system-row.result.now) c.system-row.ensures.row)
+          c.in_ok-output.ensures.stands;
       port_clock = c.in_ok-output.ensures.clock;
       empty = c.in_ok-output.ensures.held;
     })

@@ -4,10 +4,8 @@ use Rattle.afdx_switch.proofs.ForwardLemmas.{none-renewed, renewed-next, all-ren
 use Rattle.afdx_switch.proofs.working.renew.Goals as goal
 
 pub loop-place-init : goal.loop-place-init
-loop-place-init c = record {
-  ranked = c.requires.ranked;
-  renewed = λ old is. none-renewed c.args.places.now old c.args.ports.now c.args.serving.now is;
-}
+loop-place-init c = λ old is.
+    none-renewed c.args.places.now old c.args.ports.now c.args.serving.now is
 
 pub loop-place-preserved : goal.loop-place-preserved
 loop-place-preserved c =
@@ -17,15 +15,12 @@ loop-place-preserved c =
     let below : place < 24 = c.requires.places.within c.loop-place.place-index place here in
     let at = slice_get_read c.args.ports.now _ place c.index-ports-place.result refl
     (omega (arith, below, c.requires.port_count)) c.index-ports-place.is in
-    record {
-      ranked = c.renew.ensures.ranked;
-      renewed = λ old is. renewed-next c.args.places.now old c.args.ports.now c.loop-place.serving
-          c.renew.new.self c.loop-place.place-index place c.index-ports-place.result
-          (inv.renewed old is) here below at c.renew.ensures.serving;
-    }
+    λ old is. renewed-next c.args.places.now old c.args.ports.now c.loop-place.serving
+    c.renew.new.self c.loop-place.place-index place c.index-ports-place.result
+    (inv old is) here below at c.renew.ensures
 
 pub returns : goal.returns
 returns c old is kept =
     all-renewed c.args.places.now old c.args.ports.now c.loop-place.serving c.loop-place.place-index
     (omega (arith, c.loop-place-test.false, c.loop-place.auto.place-index-end))
-    c.requires.port_count kept (c.loop-place.invariant.renewed old is)
+    c.requires.port_count kept (c.loop-place.invariant old is)

@@ -1,7 +1,10 @@
 use Rattle.std.proofs.Common.{◌≡◌, ◌<◌, length, refl, arith}
 use Rattle.std.proofs.lemmas.Option.{slice_get_read}
-use Rattle.afdx_port.proofs.ServingLemmas.{no-keys, keys-next, all-keys}
+use Rattle.afdx_port.proofs.ServingLemmas.{ranked-none, no-keys, keys-next, all-keys}
 use Rattle.afdx_port.proofs.serving.Serving.of.Goals as goal
+
+pub invariant_of-serving : goal.invariant_of-serving
+invariant_of-serving g c = record { ranked = ∣ ranked-none ∣₁ }
 
 pub loop-place-init : goal.loop-place-init
 loop-place-init g c = no-keys g.T.HasLength.facts c.args.ports.now
@@ -12,10 +15,9 @@ loop-place-preserved g c =
     let at = slice_get_read c.args.ports.now (length c.args.ports.now) c.loop-place.place
     c.index-ports-place.result refl within c.index-ports-place.is in
     keys-next g.T.HasLength.facts c.args.ports.now c.loop-place.serving.keys
-    c.loop-place.serving.least c.set.new.self.keys c.set.new.self.least c.loop-place.place
-    c.order.result c.index-ports-place.result
+    c.set.new.self.keys c.loop-place.place c.order.result c.index-ports-place.result
     c.loop-place-test.true at c.loop-place.invariant c.order.ensures.is c.order.ensures.limit
-    c.set.ensures.keys c.set.ensures.group_count c.set.ensures.ranked
+    c.set.ensures
 
 pub returns : goal.returns
 returns g c =

@@ -78,8 +78,8 @@ returns-clause-sound c =
       ports = taken-sound c.args.self.now.ports.items c.args.self.now.clock c.args.until
           c.in_ok-place.place c.index_mut-port.result.now c.take.new.self c.in-Some.left
           c.requires.sound.ports c.requires.clock first.1.below at c.take.ensures.clock c.in-Some.ensures.given;
-      serving = c.renew.ensures.serving c.args.self.now.ports.items c.requires.sound.serving;
-      served = c.first-self.ensures _ (c.renew.ensures.serving c.args.self.now.ports.items c.requires.sound.serving);
+      serving = c.renew.ensures c.args.self.now.ports.items c.requires.sound.serving;
+      served = c.first-self.ensures _ (c.renew.ensures c.args.self.now.ports.items c.requires.sound.serving);
     }
 
 pub returns-clause-given : goal.returns-clause-given
