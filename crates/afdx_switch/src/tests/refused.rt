@@ -47,7 +47,10 @@ fn a_refused_arrival_is_neither_charged_nor_forwarded(rt: HostRuntime) -> Result
     let early = answer(arrive(&mut switch, 499999, 1, 2, &HELLO));
     assert_eq!(rt; early, Ok(Verdict::Dropped(Reason::OverRate)));
     assert!(rt; is_still(&mut switch, 500000));
-    assert_eq!(rt; forwarded(arrive(&mut switch, 500000, 1, 3, &HELLO)), Ok(true));
+    assert_eq!(rt;
+        forwarded(arrive(&mut switch, 500000, 1, 3, &HELLO)),
+        Ok(true)
+    );
     assert_eq!(rt; left(&mut switch, 1000000), Some((3, 506720, 3, false)));
     assert!(rt; is_still(&mut switch, 1000000));
     Ok(())
