@@ -3,7 +3,7 @@ use Rattle.std.proofs.Common.{◌≡◌, ℕ, ◌≤◌, Bool, true, false, cond
 use Rattle.std.proofs.Common.{nat_eq, refl, ap, sym, subst, arith, ◌∙◌, None}
 use Rattle.std.proofs.lemmas.List.{append_assoc, length_push}
 use Rattle.std.proofs.lemmas.Bool.{eqb-false}
-use Rattle.afdx_comport.specs.Messages.{Message}
+use Rattle.afdx_comport.specs.Messages.{TimedMessage}
 use Rattle.afdx_comport.specs.declared.held.Held.{Held}
 use Rattle.afdx_comport.specs.declared.held.Held.TheVariants.{Sampling, Queuing}
 use Rattle.afdx_comport.specs.Held.{is_full, first_of, without_first}
@@ -17,7 +17,7 @@ record Queued (depth : ℕ) (held : Held) (came left : List (List ℕ)) : Type 0
   in_order : came ≡ left ++ messages
   within : length messages ≤ depth
 
-queue-put : (depth : ℕ) (m : Message) (held : Held) (came left : List (List ℕ)) → Queued depth held came left →
+queue-put : (depth : ℕ) (m : TimedMessage) (held : Held) (came left : List (List ℕ)) → Queued depth held came left →
     Queued depth (with_put m held) (cond (is_full held) came (came ++ m.bytes ∷ [])) left
 queue-put depth m held came left q =
     subst (λ h. Queued depth (with_put m h) (cond (is_full h) came (came ++ m.bytes ∷ [])) left)

@@ -1,18 +1,18 @@
 -- What a port holds after a list of calls, the newest first, and what was taken from it.
 use Rattle.std.specs.Prelude.{◌≡◌, ℕ, ◌≤◌, if◌then◌else◌, Option, Some, None, List, [], ◌∷◌, ◌++◌}
 use Rattle.std.specs.Prelude.{length}
-use Rattle.afdx_comport.specs.Messages.{Message}
+use Rattle.afdx_comport.specs.Messages.{TimedMessage}
 use Rattle.afdx_comport.specs.declared.held.Held.{Held}
 use Rattle.afdx_comport.specs.declared.held.Held.TheVariants.{Sampling, Queuing}
 use Rattle.afdx_comport.specs.Held.{is_full, with_message, first_of, sample_of, without_first}
 
 -- a message is put, or the oldest one is taken
 pub data Call : Type 0 where
-  Put : Message → Call
+  Put : TimedMessage → Call
   Take : Call
 
 -- a full port takes no message
-abbrev pub with_put : Message → Held → Held
+abbrev pub with_put : TimedMessage → Held → Held
 with_put m held = if is_full held then held else with_message m.time m.bytes held
 
 -- what a port holds that held this at first
@@ -44,7 +44,7 @@ waiting (Sampling sample) = []
 waiting (Queuing line) = line.messages
 
 -- the message that was put last
-unfoldable pub newest : List Call → Option Message
+unfoldable pub newest : List Call → Option TimedMessage
 newest [] = None
 newest (Put m ∷ past) = Some m
 newest (Take ∷ past) = newest past

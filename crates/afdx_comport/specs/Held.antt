@@ -1,7 +1,7 @@
 -- What a port holds, and how it changes (ARINC 664 Part 7: sampling and queuing ports).
 use Rattle.std.specs.Prelude.{◌≡◌, ℕ, ◌≤◌, Bool, false, nat_eq, Option, Some, None, option_map}
 use Rattle.std.specs.Prelude.{List, [], ◌∷◌, ◌++◌, length}
-use Rattle.afdx_comport.specs.Messages.{Message}
+use Rattle.afdx_comport.specs.Messages.{TimedMessage}
 use Rattle.afdx_comport.specs.declared.held.Held.{Held}
 use Rattle.afdx_comport.specs.declared.held.Held.TheVariants.{Sampling, Queuing}
 
@@ -17,7 +17,7 @@ with_message time bytes (Queuing line) =
     Queuing (record line { messages = line.messages ++ bytes ∷ [] })
 
 -- the newest message of a sampling port
-abbrev pub sample_of : Held → Option Message
+abbrev pub sample_of : Held → Option TimedMessage
 sample_of (Sampling sample) = sample
 sample_of (Queuing line) = None
 

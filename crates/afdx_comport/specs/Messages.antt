@@ -2,7 +2,7 @@
 use Rattle.std.specs.Prelude.{ℕ, List}
 
 -- a message, and when it came, in ns
-pub record Message : Type 0 where
+pub record TimedMessage : Type 0 where
   pub time : ℕ
   pub bytes : List ℕ
 

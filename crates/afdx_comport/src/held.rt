@@ -19,9 +19,9 @@ pub(crate) struct Sample {
 }
 
 impl Model for Sample {
-    ghost use Rattle.afdx_comport.specs.Messages.{Message};
+    ghost use Rattle.afdx_comport.specs.Messages.{TimedMessage};
 
-    ghost Value = { Message };
+    ghost Value = { TimedMessage };
 
     ghost view = { λ s. record { time = s.time; bytes = s.bytes.items } };
 }

@@ -5,7 +5,7 @@ use Rattle.std.specs.Prelude.{position, slice_get, slice_set}
 use Rattle.std.proofs.lemmas.Bool.{cases_eq}
 use Rattle.std.proofs.lemmas.List.{get_or-set_same, get_or-set_other, length-set}
 use Rattle.std.proofs.lemmas.Option.{slice_get-get_or, slice_get_past, slice_get_cases, slice_get_within}
-use Rattle.afdx_comport.specs.Messages.{Message}
+use Rattle.afdx_comport.specs.Messages.{TimedMessage}
 use Rattle.afdx_comport.specs.Held.{with_message, without_first, sample_of, first_of, IsRead}
 use Rattle.afdx_comport.specs.Ports.{is_for}
 use Rattle.afdx_comport.specs.declared.held.Held.{Held}
@@ -55,11 +55,11 @@ read_but_at ports after place port read here now same j other is =
     ]
 
 -- what was put is what the sample is
-sample_read : (held : Held) (time : ℕ) (bytes : List ℕ) (m : Message)
+sample_read : (held : Held) (time : ℕ) (bytes : List ℕ) (m : TimedMessage)
     → Some m ≡ sample_of (with_message time bytes held) → (m.bytes ≡ bytes)
     × IsRead (with_message time bytes held)
 sample_read (Sampling sample) time bytes m is =
-    (let same : m ≡ record { time = time; bytes = bytes } = cc in ap (λ (x : Message). x.bytes) same, tt)
+    (let same : m ≡ record { time = time; bytes = bytes } = cc in ap (λ (x : TimedMessage). x.bytes) same, tt)
 sample_read (Queuing line) time bytes m is = absurd cc
 
 -- and what is taken of a queue of which all was read
@@ -119,7 +119,7 @@ module _ (ports : List ComPort) (place time : ℕ) (message : List ℕ) (after :
   found_then link udp = ap (position (is_for link udp)) put.now ∙ stays ports place link udp put.port held_then put.here
 
   -- a sample was read
-  pub sampled : (m : Message)
+  pub sampled : (m : TimedMessage)
       → ((p : ComPort) → slice_get after place ≡ Some p → Some m ≡ sample_of p.held)
       → IsPassedOn ports after × (m.bytes ≡ message)
   unfolding port_then held_then
