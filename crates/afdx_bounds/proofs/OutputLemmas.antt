@@ -8,6 +8,7 @@ use Rattle.std.proofs.lemmas.Bool.{cases_Bool, eqb-true, and_parts, cond-false}
 use Rattle.std.proofs.lemmas.List.{reverse-append}
 use Rattle.std.proofs.lemmas.List.Elements.{All-push}
 use Rattle.afdx_frame.specs.Flows.{Flow}
+use Rattle.afdx_frame.proofs.SideLemmas.{is_side-same}
 use Rattle.afdx_police.specs.Arrival.{Arrival, is_side, own}
 use Rattle.afdx_police.specs.Charge.{charge_by}
 use Rattle.afdx_police.specs.Laws.{EachAccountMoves, ArrivalsAreOffers}
@@ -33,7 +34,7 @@ use Rattle.afdx_bounds.proofs.LeftLemmas.{each-left}
 use Rattle.afdx_bounds.proofs.BoundLemmas.{turn_at}
 use Rattle.afdx_bounds.proofs.ListLemmas.{get_all, all_get}
 use Rattle.afdx_bounds.proofs.NextLemmas.{order-push, next-regulated, offer-kept}
-use Rattle.afdx_bounds.proofs.VerdictLemmas.{looks, charge-least, same-side, one-name, both-then, accepted-more}
+use Rattle.afdx_bounds.proofs.VerdictLemmas.{looks, charge-least, one-name, both-then, accepted-more}
 use Rattle.afdx_bounds.proofs.RowLemmas.{flow-from, flow-to, flows-are, find-some, find-none}
 
 -- what a row that sends the arrival to the port does
@@ -121,7 +122,7 @@ module _ {X : Type 0} where
       (let short = l.short in omega (arith, short)) in
       let is : charged_to vl_of charge_of r.rule.vl entries ≡ accepted_own r.rule (own r.rule.vl x.side past)
       = inv.owned r stands s.goes
-      ∙ ap (λ side. accepted_own r.rule (own r.rule.vl side past)) (same-side o.side x.side s.side) in
+      ∙ ap (λ side. accepted_own r.rule (own r.rule.vl side past)) (is_side-same o.side x.side s.side) in
       let P : List Charged → Type 0 = λ xs. fits (regulation_of r.rule) xs (charged_by r.rule x) ≡ true in
       let Q : Charged → Type 0 =
       λ a. fits (regulation_of r.rule) (charged_to vl_of charge_of r.rule.vl entries) a ≡ true in

@@ -10,8 +10,8 @@ use Rattle.afdx_frame.specs.Layout.{link_named_by}
 use Rattle.afdx_frame.specs.declared.link.Policing.{Policing}
 use Rattle.afdx_frame.specs.declared.link.Policing.TheVariants.{Byte, Frame}
 use Rattle.afdx_frame.specs.declared.link.Side.{Side}
-use Rattle.afdx_frame.specs.declared.link.Side.TheVariants.{A, B}
 use Rattle.afdx_frame.specs.declared.link.VlId.{VlId}
+use Rattle.afdx_frame.proofs.SideLemmas.{is_side-same}
 use Rattle.afdx_police.specs.declared.shape.Reason.{Reason}
 use Rattle.afdx_police.specs.declared.shape.Reason.TheVariants.{OverRate}
 use Rattle.afdx_police.specs.Arrival.{Arrival, is_side, names, own}
@@ -77,12 +77,6 @@ pub charge-least : (p : Policing) (smax wire : ℕ) → wire ≤ smax →
 charge-least Byte smax wire h = (omega arith, h)
 charge-least Frame smax wire h = (h, omega arith)
 
-pub same-side : (a b : Side) → is_side a b ≡ true → a ≡ b
-same-side A A h = refl
-same-side A B h = absurd (cc h)
-same-side B A h = absurd (cc h)
-same-side B B h = refl
-
 same-named : (o : Option VlId) (a b : ℕ) → option_map_or (λ vl. vl.0 == a) o false ≡ true →
     option_map_or (λ vl. vl.0 == b) o false ≡ true → a ≡ b
 same-named None a b h k = absurd (cc h)
@@ -123,12 +117,12 @@ accepted-more r side past x =
           [ inl is ↦ rw (other, is) refl | inr isnt ↦ rw (other, isnt) refl ]
       | inl on ↦ elim (cases_Bool (accepts past x r)) [
         | inl is ↦ (let l = looks r past x is in
-            own-more r.rule side past x true (same-side side x.side on) is l.named on
+            own-more r.rule side past x true (is_side-same side x.side on) is l.named on
             ∙ both-then (accepts past x r) (is_side side x.side)
             (charged_by r.rule x ∷ accepted_own r.rule (own r.rule.vl side past))
             (accepted_own r.rule (own r.rule.vl side past)) is on)
         | inr isnt ↦ elim (cases_Bool (names r.rule.vl x.bytes)) [
-          | inl named ↦ (let more = own-more r.rule side past x false (same-side side x.side on)
+          | inl named ↦ (let more = own-more r.rule side past x false (is_side-same side x.side on)
               isnt named on in rw isnt more)
           | inr other ↦ rw (isnt, on, other) refl
         ]

@@ -1,18 +1,20 @@
 -- What a port holds after a list of calls, the newest first, and what was taken from it.
 use Rattle.std.specs.Prelude.{◌≡◌, ℕ, ◌≤◌, if◌then◌else◌, Option, Some, None, List, [], ◌∷◌, ◌++◌}
 use Rattle.std.specs.Prelude.{length}
-use Rattle.afdx_comport.specs.Messages.{Message}
+use Rattle.afdx_comport.specs.Messages.{TimedMessage}
 use Rattle.afdx_comport.specs.declared.held.Held.{Held}
 use Rattle.afdx_comport.specs.declared.held.Held.TheVariants.{Sampling, Queuing}
-use Rattle.afdx_comport.specs.Held.{is_full, with_message, first_of, sample_of, without_first}
+use Rattle.afdx_comport.specs.Held.{is_full, with_message, with_spare}
+use Rattle.afdx_comport.specs.Held.{first_of, sample_of, without_first}
 
--- a message is put, or the oldest one is taken
+-- a message is put, the oldest one is taken, or memory for so many bytes is given back
 pub data Call : Type 0 where
-  Put : Message → Call
+  Put : TimedMessage → Call
   Take : Call
+  GiveBack : ℕ → Call
 
 -- a full port takes no message
-abbrev pub with_put : Message → Held → Held
+abbrev pub with_put : TimedMessage → Held → Held
 with_put m held = if is_full held then held else with_message m.time m.bytes held
 
 -- what a port holds that held this at first
@@ -20,6 +22,7 @@ unfoldable pub held_after : Held → List Call → Held
 held_after start [] = start
 held_after start (Put m ∷ past) = with_put m (held_after start past)
 held_after start (Take ∷ past) = without_first (held_after start past)
+held_after start (GiveBack room ∷ past) = with_spare room (held_after start past)
 
 -- the messages that the port took in, the oldest first
 unfoldable pub put_in : Held → List Call → List (List ℕ)
@@ -27,6 +30,7 @@ put_in start [] = []
 put_in start (Put m ∷ past) =
     if is_full (held_after start past) then put_in start past else put_in start past ++ m.bytes ∷ []
 put_in start (Take ∷ past) = put_in start past
+put_in start (GiveBack room ∷ past) = put_in start past
 
 -- with one more, if there is one
 abbrev pub and_then : List (List ℕ) → Option (List ℕ) → List (List ℕ)
@@ -38,19 +42,21 @@ unfoldable pub taken_from : Held → List Call → List (List ℕ)
 taken_from start [] = []
 taken_from start (Put m ∷ past) = taken_from start past
 taken_from start (Take ∷ past) = and_then (taken_from start past) (first_of (held_after start past))
+taken_from start (GiveBack room ∷ past) = taken_from start past
 
 abbrev pub waiting : Held → List (List ℕ)
 waiting (Sampling sample) = []
 waiting (Queuing line) = line.messages
 
 -- the message that was put last
-unfoldable pub newest : List Call → Option Message
+unfoldable pub newest : List Call → Option TimedMessage
 newest [] = None
 newest (Put m ∷ past) = Some m
 newest (Take ∷ past) = newest past
+newest (GiveBack room ∷ past) = newest past
 
 abbrev pub empty_queue : ℕ → Held
-empty_queue depth = Queuing (record { depth = depth; messages = [] })
+empty_queue depth = Queuing (record { depth = depth; messages = []; spare = None })
 
 -- what a queue took in is what was taken from it and then what waits, in this order: so the
 -- messages leave first in, first out, each once. And no more wait than its depth

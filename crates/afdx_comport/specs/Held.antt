@@ -1,7 +1,8 @@
 -- What a port holds, and how it changes (ARINC 664 Part 7: sampling and queuing ports).
 use Rattle.std.specs.Prelude.{◌≡◌, ℕ, ◌≤◌, Bool, false, nat_eq, Option, Some, None, option_map}
-use Rattle.std.specs.Prelude.{List, [], ◌∷◌, ◌++◌, length}
-use Rattle.afdx_comport.specs.Messages.{Message}
+use Rattle.std.specs.Prelude.{List, [], ◌∷◌, ◌++◌, length, nat_le}
+use Rattle.std.specs.Option.{option_map_or}
+use Rattle.afdx_comport.specs.Messages.{TimedMessage}
 use Rattle.afdx_comport.specs.declared.held.Held.{Held}
 use Rattle.afdx_comport.specs.declared.held.Held.TheVariants.{Sampling, Queuing}
 
@@ -14,10 +15,23 @@ is_full (Queuing line) = nat_eq (length line.messages) line.depth
 abbrev pub with_message : ℕ → List ℕ → Held → Held
 with_message time bytes (Sampling sample) = Sampling (Some (record { time = time; bytes = bytes }))
 with_message time bytes (Queuing line) =
-    Queuing (record line { messages = line.messages ++ bytes ∷ [] })
+    Queuing (record line { messages = line.messages ++ bytes ∷ []; spare = None })
+
+-- memory for so many bytes was given back
+abbrev pub with_spare : ℕ → Held → Held
+with_spare room (Sampling sample) = Sampling sample
+with_spare room (Queuing line) = Queuing (record line { spare = Some room })
+
+-- a message of so many bytes has room in it
+abbrev pub is_enough : ℕ → Option ℕ → Bool
+is_enough bytes spare = option_map_or (λ room. nat_le bytes room) spare false
+
+abbrev pub has_spare : ℕ → Held → Bool
+has_spare bytes (Sampling sample) = false
+has_spare bytes (Queuing line) = is_enough bytes line.spare
 
 -- the newest message of a sampling port
-abbrev pub sample_of : Held → Option Message
+abbrev pub sample_of : Held → Option TimedMessage
 sample_of (Sampling sample) = sample
 sample_of (Queuing line) = None
 

@@ -13,7 +13,7 @@ use Rattle.afdx_comport.specs.declared.com_ports.ComPort.{ComPort}
 -- a port of a kind and a depth that holds nothing
 abbrev pub empty_of : Kind → ℕ → Held
 empty_of kind.Sampling depth = Sampling None
-empty_of kind.Queuing depth = Queuing (record { depth = depth; messages = [] })
+empty_of kind.Queuing depth = Queuing (record { depth = depth; messages = []; spare = None })
 
 abbrev pub port_at_first : PortRow → ComPort
 port_at_first row =

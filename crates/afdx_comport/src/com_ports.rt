@@ -3,9 +3,10 @@
 ghost use Rattle.std.specs.Prelude.{◌≡◌, ◌↔◌, ◌<◌, Some, Err, IfOk, IfSome, OnOk, OnErr, IsTrue};
 ghost use Rattle.std.specs.Prelude.{length};
 ghost use Rattle.std.specs.Prelude.{position, slice_get, slice_set, option_map};
+ghost use Rattle.std.specs.Vec.{vec_capacity};
 ghost use Rattle.afdx_comport.specs.Held.{is_full, with_message, sample_of, first_of};
-ghost use Rattle.afdx_comport.specs.Held.{without_first};
-ghost use Rattle.afdx_comport.specs.declared.fault.PutFault.TheVariants.{Full};
+ghost use Rattle.afdx_comport.specs.Held.{without_first, with_spare, has_spare};
+ghost use Rattle.afdx_comport.specs.declared.fault.PutFault.TheVariants.{Full, Memory};
 
 use crate::fault::PutFault;
 use crate::held::{Held, Queue};
@@ -44,8 +45,8 @@ impl ComPort {
 }
 
 /// The communication ports of an end system (ARINC 664 Part 7). A contract sees them as a list of
-/// ports in the order of the tables, each with its link, its UDP port and the messages that it
-/// holds.
+/// ports in the order of the tables, each with its link, its UDP port, the messages that it holds
+/// and the room that a message which was given back leaves for the next one.
 #[derive(Drop)]
 pub struct ComPorts {
     alloc: Global,
@@ -105,8 +106,9 @@ impl ComPorts {
     /// it in place of the one before, a queuing port puts it behind the others.
     ///
     /// `Full` comes exactly where a queue holds as many messages as its depth, and before any
-    /// memory is asked for; else `Memory` comes where the room for the message's bytes is refused.
-    /// After an error every port is as it was, and after `Ok` every other port.
+    /// memory is asked for; else `Memory` comes where the room for the message's bytes is refused,
+    /// and never where a message that was given back has room for them. After an error every port
+    /// is as it was, and after `Ok` every other port.
     pub fn put(&mut self, port: usize, time: u64, message: &[u8]) -> Result<(), PutFault>
         requires { port < length self.old }
         ensures full { (p : ComPort) → slice_get self.old port ≡ Some p →
@@ -116,6 +118,8 @@ impl ComPorts {
             (self.new
             ≡ slice_set self.old port (record p { held = with_message time message.now p.held })) }
         ensures err { OnErr result (self.new ≡ self.old) }
+        ensures spared { (p : ComPort) → slice_get self.old port ≡ Some p →
+            IsTrue (has_spare (length message.now) p.held) → ¬ (result ≡ Err Memory) }
         ensures count { length self.new ≡ length self.old }
     {
         let alloc = self.alloc;
@@ -146,11 +150,15 @@ impl ComPorts {
     }
 
     /// Gives the queuing port at this place a message back that was taken out of it, when its bytes
-    /// were read: the next one is put into its room, and takes no memory where that is enough. What
-    /// the ports hold stays the same.
+    /// were read: the next one is put into its room, and takes no memory where that is enough
+    /// (clause `spared` of `put`). The messages that the ports hold stay the same.
     pub fn give_back(&mut self, port: usize, message: Vec<u8>)
         requires { port < length self.old }
-        ensures { self.new ≡ self.old }
+        ensures spare { (p : ComPort) → slice_get self.old port ≡ Some p →
+            self.new
+            ≡ slice_set self.old port
+            (record p { held = with_spare (vec_capacity message) p.held }) }
+        ensures count { length self.new ≡ length self.old }
     {
         self.ports[port].held.give_back(message);
     }

@@ -1,10 +1,12 @@
 //! What one port holds.
 
 ghost use Rattle.std.specs.Prelude.{◌≡◌, ◌↔◌, ◌≤◌, ◌<◌, [], ◌∷◌, ◌++◌, length, nat_eq, IsTrue, Err};
-ghost use Rattle.std.specs.Prelude.{IfOk, OnOk, OnErr, MatchOption, option_map};
+ghost use Rattle.std.specs.Prelude.{None, Some, false, IsOk, IfOk, OnOk, OnErr, MatchOption};
+ghost use Rattle.std.specs.Prelude.{option_map};
+ghost use Rattle.std.specs.Vec.{vec_capacity};
 ghost use Rattle.afdx_comport.specs.Held.{is_full, with_message, sample_of, first_of};
-ghost use Rattle.afdx_comport.specs.Held.{without_first};
-ghost use Rattle.afdx_comport.specs.declared.fault.PutFault.TheVariants.{Full};
+ghost use Rattle.afdx_comport.specs.Held.{without_first, with_spare, is_enough, has_spare};
+ghost use Rattle.afdx_comport.specs.declared.fault.PutFault.TheVariants.{Full, Memory};
 
 use crate::fault::PutFault;
 use std::alloc::{AllocError, Global};
@@ -19,9 +21,9 @@ pub(crate) struct Sample {
 }
 
 impl Model for Sample {
-    ghost use Rattle.afdx_comport.specs.Messages.{Message};
+    ghost use Rattle.afdx_comport.specs.Messages.{TimedMessage};
 
-    ghost Value = { Message };
+    ghost Value = { TimedMessage };
 
     ghost view = { λ s. record { time = s.time; bytes = s.bytes.items } };
 }
@@ -53,14 +55,18 @@ pub(crate) struct Queue {
 }
 
 impl Model for Queue {
-    ghost use Rattle.std.specs.Prelude.{◌≤◌, map};
+    ghost use Rattle.std.specs.Prelude.{◌≤◌, map, option_map};
+    ghost use Rattle.std.specs.Vec.{vec_capacity};
     ghost use Rattle.std.specs.VecDeque.{deque_len, deque_capacity};
     ghost use Rattle.afdx_comport.specs.Messages.{Line};
 
     ghost Value = { Line };
 
-    ghost view = { λ q.
-        record { depth = q.depth; messages = map (λ m. m.items) q.messages.items } };
+    ghost view = { λ q. record {
+      depth = q.depth;
+      messages = map (λ m. m.items) q.messages.items;
+      spare = option_map (λ room. vec_capacity room) q.spare;
+    } };
 
     ghost invariant = { λ q.
         (deque_len q.messages ≤ q.depth) × (q.depth ≤ deque_capacity q.messages) };
@@ -69,7 +75,7 @@ impl Model for Queue {
 impl Queue {
     /// An empty queue, with room for as many messages as its depth.
     pub(crate) fn new(alloc: Global, depth: usize) -> Result<Queue, AllocError>
-        ensures { IfOk result (λ q. q ≡ record { depth = depth; messages = [] }) }
+        ensures { IfOk result (λ q. q ≡ record { depth = depth; messages = []; spare = None }) }
     {
         let messages = VecDeque::with_capacity(alloc, depth)?;
         Ok(Queue {
@@ -87,17 +93,34 @@ impl Queue {
         self.messages.len() == self.depth
     }
 
-    /// A copy of a message, in the room that was given back where that is enough.
+    /// Takes the memory that was given back, if this many bytes have room in it.
+    fn take_spare(&mut self, length: usize) -> Option<Vec<u8>>
+        ensures spare { MatchOption result
+            ((is_enough length self.old.spare ≡ false) × (self.new ≡ self.old))
+            (λ room. (length ≤ vec_capacity room) × (self.new ≡ record self.old { spare = None })) }
+    {
+        match self.spare.take() {
+            Some(room) if length <= room.capacity() => Some(room),
+            small => {
+                self.spare = small;
+                None
+            }
+        }
+    }
+
+    /// A copy of a message, in the memory that was given back where that is enough: then it asks
+    /// for none.
     pub(crate) fn copy(&mut self, alloc: Global, message: &[u8]) -> Result<Vec<u8>, AllocError>
         ensures copy { IfOk result (λ bytes. bytes.items ≡ message.now) }
-        ensures stays { self.new ≡ self.old }
+        ensures ok { OnOk result (self.new ≡ record self.old { spare = None }) }
+        ensures err { OnErr result (self.new ≡ self.old) }
+        ensures spared { IsTrue (is_enough (length message.now) self.old.spare) → IsOk result }
     {
-        let Some(mut room) = self.spare.take() else {
-            return Vec::from_slice(alloc, message);
+        let Some(mut room) = self.take_spare(message.len()) else {
+            let copied = Vec::from_slice(alloc, message)?;
+            self.spare = None;
+            return Ok(copied);
         };
-        if room.capacity() < message.len() {
-            return Vec::from_slice(alloc, message);
-        }
         room.clear();
         room.extend_from_slice(message)?;
         Ok(room)
@@ -105,7 +128,7 @@ impl Queue {
 
     /// Keeps room for the next message.
     pub(crate) fn give_back(&mut self, room: Vec<u8>)
-        ensures { self.new ≡ self.old }
+        ensures { self.new ≡ record self.old { spare = Some (vec_capacity room) } }
     {
         self.spare = Some(room);
     }
@@ -141,6 +164,8 @@ impl Held {
         ensures full { (result ≡ Err Full) ↔ IsTrue (is_full self.old) }
         ensures ok { OnOk result (self.new ≡ with_message time message.now self.old) }
         ensures err { OnErr result (self.new ≡ self.old) }
+        ensures spared { IsTrue (has_spare (length message.now) self.old) →
+            ¬ (result ≡ Err Memory) }
     {
         match self {
             Held::Sampling(Some(sample)) => sample.replace(alloc, time, message)?,
@@ -183,7 +208,7 @@ impl Held {
 
     /// Gives room for the next message, if this is a queuing port.
     pub(crate) fn give_back(&mut self, room: Vec<u8>)
-        ensures { self.new ≡ self.old }
+        ensures { self.new ≡ with_spare (vec_capacity room) self.old }
     {
         if let Held::Queuing(queue) = self {
             queue.give_back(room);

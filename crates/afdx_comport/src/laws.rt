@@ -24,8 +24,8 @@ pub fn found_stays()
     ensures { FoundStays }
 {}
 
-/// Over any list of puts and takes, a queue's messages are taken in the order in which they were
-/// put, each once, and no more wait than its depth.
+/// Over any list of calls, a queue's messages are taken in the order in which they were put, each
+/// once, and no more wait than its depth.
 pub fn first_in_first_out()
     ensures { FirstInFirstOut }
 {}

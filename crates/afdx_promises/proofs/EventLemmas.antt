@@ -9,6 +9,7 @@ use Rattle.std.proofs.lemmas.List.Elements.{filter-append}
 use Rattle.std.proofs.lemmas.Bool.{eqb-true, eq-eqb, and_parts, cases_lt, lt-ltb, le-ltb}
 use Rattle.afdx_frame.specs.declared.link.Side.{Side}
 use Rattle.afdx_frame.specs.declared.link.Side.TheVariants.{A, B}
+use Rattle.afdx_frame.proofs.SideLemmas.{is_side-same}
 use Rattle.afdx_config.specs.Lawful.{IsLawful}
 use Rattle.afdx_config.specs.Rows.{Rows}
 use Rattle.afdx_police.specs.Arrival.{Arrival, is_side}
@@ -16,7 +17,6 @@ use Rattle.afdx_port.specs.Schedule.{Entry, Turn, AreTurns}
 use Rattle.afdx_bounds.specs.Outputs.{AreTimed}
 use Rattle.afdx_receive.proofs.StreamLemmas.{same_self}
 use Rattle.afdx_bounds.proofs.TableLemmas.{byte-time}
-use Rattle.afdx_bounds.proofs.VerdictLemmas.{same-side}
 use Rattle.afdx_switch.specs.Admitted.{IsAdmittedRun, IsInTime, slots, frames_left}
 use Rattle.afdx_switch.specs.Switching.{taken_at}
 use Rattle.afdx_switch.specs.Verdicts.{is_lost_at, numbers, lost_ports}
@@ -140,7 +140,7 @@ module _ (t : Rows) (arrivals : List Arrival) (events : List Event) (side : Side
           let r = turn-of left.0 at.port (turns_at t left.0 at.port arrivals) e at.among in
           let passes : is_at side port (Left r.d) ≡ true = sym (ap (is_at side port) r.is) ∙ here in
           let parts = and_parts (is_side side r.d.side) (r.d.port == port) passes in
-          let same_side : left.0 ≡ side = sym r.side_is ∙ sym (same-side side r.d.side parts.0) in
+          let same_side : left.0 ≡ side = sym r.side_is ∙ sym (is_side-same side r.d.side parts.0) in
           let same_port : at.port ≡ port = sym r.port_is ∙ eqb-true r.d.port port parts.1 in
           subst (λ s. IsAmong e (departures_of s port (turns_at t s port arrivals))) same_side
           (subst (λ n. IsAmong e (departures_of left.0 n (turns_at t left.0 n arrivals)))
@@ -254,7 +254,7 @@ brought-by-side side port (Left d ∷ before) =
     by true true false here on old rest =
         let at : is_at side port (Left d) ≡ true = rw (on, here) refl in
         let own : is_from side (brought d.side d.turn) ≡ true = from-is d.side side ∙ on in
-        let side_is : d.side ≡ side = sym (same-side side d.side on) in
+        let side_is : d.side ≡ side = sym (is_side-same side d.side on) in
         ap (λ b. filter (is_from side)
         (if b then brought d.side d.turn ∷ brought_by port before else brought_by port before))
         (ap (λ o. (d.port == port) && not o) old ∙ and-true (d.port == port) ∙ here)

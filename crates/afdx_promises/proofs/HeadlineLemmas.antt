@@ -5,6 +5,7 @@ use Rattle.std.specs.Prelude.{Option, Some, None, is_none, slice_get, reverse, i
 use Rattle.std.specs.List.{AllByRecursion}
 use Rattle.std.proofs.lemmas.Bool.{eq-eqb, and_parts}
 use Rattle.afdx_frame.specs.declared.link.Side.{Side}
+use Rattle.afdx_frame.proofs.SideLemmas.{is_side-same}
 use Rattle.afdx_config.specs.Lawful.{IsLawful}
 use Rattle.afdx_config.specs.Rows.{LinkRow, Rows}
 use Rattle.afdx_police.specs.Arrival.{Arrival, is_side, names, own}
@@ -40,7 +41,7 @@ use Rattle.afdx_promises.proofs.ListLemmas.{filter-reverse, map-reverse, same-re
 use Rattle.afdx_promises.proofs.PortLemmas.{entries_back, in-reverse, in-time, left-are-accepted, left-back}
 use Rattle.afdx_promises.proofs.PromiseLemmas.{no-row, unknown-reason}
 use Rattle.afdx_promises.proofs.ReceiverLemmas.{IsFrameOn, accepted-frames, vl-is, none-is}
-use Rattle.afdx_promises.proofs.RuleLemmas.{same-side, one-verdicts, verdicts_of, own_verdicts, own-verdicts}
+use Rattle.afdx_promises.proofs.RuleLemmas.{one-verdicts, verdicts_of, own_verdicts, own-verdicts}
 
 -- ---- verdicts
 
@@ -205,7 +206,7 @@ accepted-as t lines d l due = by (goes_to t l d.port) refl due
           among = x.1;
           verdict = subst (λ w. IsIn (Verdict w) lines) is (judged-line v.0 lines own_one.0);
           frame = x.2;
-          side = same-side d.side v.0.arrival.side parts.0 ∙ ap (λ (y : Arrival). y.side) (sym v.2);
+          side = is_side-same d.side v.0.arrival.side parts.0 ∙ ap (λ (y : Arrival). y.side) (sym v.2);
           named = ap (λ (y : Arrival). names l.vl y.bytes) v.2 ∙ parts.1;
           goes = goes;
         }

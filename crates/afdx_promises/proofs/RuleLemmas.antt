@@ -2,7 +2,7 @@
 use Rattle.std.proofs.Common.{◌≡◌, ◌&&◌, Bool, true, false, List, [], ◌∷◌, map, filter, refl, sym, ap, ◌∙◌, subst}
 use Rattle.std.specs.Prelude.{ℕ, Option, Some, None, is_none, slice_get, if◌then◌else◌}
 use Rattle.afdx_frame.specs.declared.link.Side.{Side}
-use Rattle.afdx_frame.specs.declared.link.Side.TheVariants.{A, B}
+use Rattle.afdx_frame.proofs.SideLemmas.{is_side-same}
 use Rattle.afdx_config.specs.Lawful.{IsLawful}
 use Rattle.afdx_config.specs.Rows.{LinkRow, Rows}
 use Rattle.afdx_police.specs.Arrival.{Arrival, is_side, names, own}
@@ -20,12 +20,6 @@ use Rattle.afdx_switch.specs.Verdicts.{reason_of}
 use Rattle.afdx_switch.proofs.AdmittedLemmas.{link-reason}
 use Rattle.afdx_promises.specs.Lines.{Judged, accepted_in, arrivals_judged}
 use Rattle.afdx_promises.specs.WindowRule.{KeepsWindows, IsByWindowRule, AreByWindowRule}
-
-pub same-side : (a b : Side) → is_side a b ≡ true → a ≡ b
-same-side A A h = refl
-same-side A B h = absurd (cc h)
-same-side B A h = absurd (cc h)
-same-side B B h = refl
 
 -- ---- the rule's answer to one arrival
 
@@ -157,7 +151,7 @@ own-verdicts t l side place lawful at (x ∷ past) =
     by true true on named before =
         let reason : reason_of t past x ≡ reason_after (rule_of t l) (own l.vl side past) x =
         link-reason t past x place l lawful at named
-        ∙ ap (λ s. reason_after (rule_of t l) (own l.vl s past) x) (sym (same-side side x.side on)) in
+        ∙ ap (λ s. reason_after (rule_of t l) (own l.vl s past) x) (sym (is_side-same side x.side on)) in
         record {
           accepted = rw (on, named, reason)
               (push (is_none (reason_after (rule_of t l) (own l.vl side past) x)) before.accepted);

@@ -9,12 +9,13 @@ use Rattle.std.proofs.lemmas.Bool.{cond-true, cond-false, cases_lt, leb-false}
 use Rattle.std.proofs.lemmas.Option.{slice_get_within, slice_get-get_or, IfSome_then}
 use Rattle.afdx_frame.specs.declared.link.Side.{Side}
 use Rattle.afdx_frame.specs.Sides.{is_side}
+use Rattle.afdx_frame.proofs.SideLemmas.{is_side-same}
 use Rattle.afdx_config.specs.LawfulStream.{Sending}
 use Rattle.afdx_receive.specs.Integrity.{Incoming}
 use Rattle.afdx_receive.specs.Redundancy.{newest}
 use Rattle.afdx_receive.specs.TwoStreams.{other_side, count_of, is_first_copy, first_copies}
 use Rattle.afdx_receive.specs.Copies.{AreCopies}
-use Rattle.afdx_receive.proofs.StreamLemmas.{own_place, counted, same_side-eq, most_any}
+use Rattle.afdx_receive.proofs.StreamLemmas.{own_place, counted, most_any}
 
 -- ---- moments
 
@@ -121,7 +122,7 @@ last_sent latency stream (frame ∷ before) copies side place count =
         WasSent stream place (frame ∷ before)
     at true e older =
         let same : count_of frame.side before ≡ place =
-        ap (λ s. count_of s before) (same_side-eq frame.side side e)
+        ap (λ s. count_of s before) (is_side-same frame.side side e)
         ∙ suc_same (count_of side before) place (sym (count_more side frame before e) ∙ count) in
         record {
           sending = copies.0.sending;

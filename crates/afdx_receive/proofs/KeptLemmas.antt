@@ -1,12 +1,14 @@
 -- Memories that are found by the identifiers of their links.
 use Rattle.std.proofs.Common.{◌≡◌, ℕ, zero, suc, ◌<◌, ◌≤◌, Bool, true, false, cond, inl, inr}
-use Rattle.std.proofs.Common.{Option, Some, None, List, [], ◌∷◌, ◌++◌, length, replicate}
+use Rattle.std.proofs.Common.{Option, Some, None, List, [], ◌∷◌, ◌++◌, length, unwrap_or, Bor}
 use Rattle.std.proofs.Common.{nat_eq, refl, sym, subst, ◌∙◌, ap, arith}
 use Rattle.std.specs.Prelude.{slice_get, slice_set, option_and_then, ◌⊎◌}
+use Rattle.std.specs.Option.{option_copied, option_flatten}
+use Rattle.std.specs.Slice.{IsItemAt}
 use Rattle.std.proofs.lemmas.Bool.{cases_eq, eqb-true, eqb-false}
-use Rattle.std.proofs.lemmas.List.{length_push, get_or-replicate, get_or-set_same, get_or-set_other}
-use Rattle.std.proofs.lemmas.Option.{slice_get-get_or, slice_get_past, slice_get_cases, slice_get_read}
-use Rattle.std.proofs.Math.ListN.{get_or, length-set, length-replicate}
+use Rattle.std.proofs.lemmas.List.{length_push, get_or-set_same, get_or-set_other}
+use Rattle.std.proofs.lemmas.Option.{slice_get-get_or, slice_get_past, slice_get_cases, slice_get_read, unwrap_or-slice_get}
+use Rattle.std.proofs.Math.ListN.{get_or, length-set}
 use Rattle.afdx_receive.specs.Kept.{Kept, IsKept, place_in, memory_at}
 use Rattle.afdx_receive.specs.declared.memory.LinkMemory.{LinkMemory}
 
@@ -37,34 +39,15 @@ module _ {X : Type 0} where
 
 -- ---- no link
 
-no_place : (n vl : ℕ) → place_in (replicate n None) vl ≡ None
-no_place n vl =
-    elim (slice_get_cases nones vl).1 [
-      | inl found ↦ ap (option_and_then (λ place. place)) (found.2 ∙ ap Some (sym found.3 ∙ at found.0 found.1))
-      | inr past ↦ ap (option_and_then (λ place. place)) past.1
-    ]
-  where
-    nones : List (Option ℕ)
-    nones = replicate n None
-
-    at : (d : Option ℕ) → vl < length nones → get_or nones vl d ≡ None
-    at d within = get_or-replicate n vl None d (subst (λ m. vl < m) (length-replicate n None) within)
-
--- what is like nothing is nothing
-pub none_of : (P : Option ℕ → Type 0) → ((x : ℕ) → P (Some x) → ⊥) → (y : Option ℕ) → P y → y ≡ None
-none_of P apart None e = refl
-none_of P apart (Some x) e = absurd (apart x e)
-
 some_none : (a : ℕ) → None ≡ Some a → ⊥
 some_none a e = cc
 
-module _ (places : List (Option ℕ)) (memories : List LinkMemory) (n : ℕ) (none : places ≡ replicate n None) where
+module _ (places : List (Option ℕ)) (memories : List LinkMemory) (none : places ≡ []) where
   nowhere : (vl : ℕ) → place_in places vl ≡ None
-  nowhere vl = ap (λ ps. place_in ps vl) none ∙ no_place n vl
+  nowhere vl = ap (λ ps. place_in ps vl) none
 
-  pub first_kept : n ≡ 65536 → IsKept (record { places = places; memories = memories })
-  first_kept room = record {
-    room = ap length none ∙ length-replicate n None ∙ room;
+  pub first_kept : IsKept (record { places = places; memories = memories })
+  first_kept = record {
     within = λ vl place e. absurd (some_none place (sym (nowhere vl) ∙ e));
     own = λ a b place e f. absurd (some_none place (sym (nowhere a) ∙ e));
   }
@@ -73,9 +56,23 @@ module _ (places : List (Option ℕ)) (memories : List LinkMemory) (n : ℕ) (no
   unfolding memory_at
   none_kept vl = ap (option_and_then (λ place. slice_get memories place)) (nowhere vl)
 
+-- ---- room for more identifiers
+
+module _ (kept : Kept) (places : List (Option ℕ))
+    (same : (q : ℕ) → place_in places q ≡ place_in kept.places q) where
+  pub grown_kept : IsKept kept → IsKept (record kept { places = places })
+  grown_kept is = record {
+    within = λ q place e. is.within q place (sym (same q) ∙ e);
+    own = λ a b place e f. is.own a b place (sym (same a) ∙ e) (sym (same b) ∙ f);
+  }
+
+  pub grown_memory : (q : ℕ) → memory_at (record kept { places = places }) q ≡ memory_at kept q
+  unfolding memory_at
+  grown_memory q = ap (option_and_then (λ place. slice_get kept.memories place)) (same q)
+
 -- ---- a link more
 
-module _ (kept : Kept) (is : IsKept kept) (vl : ℕ) (memory : LinkMemory) (few : vl < 65536) where
+module _ (kept : Kept) (is : IsKept kept) (vl : ℕ) (memory : LinkMemory) (room : vl < length kept.places) where
   abbrev pub with_link : Kept
   with_link = record {
     places = slice_set kept.places vl (Some (length kept.memories));
@@ -83,11 +80,11 @@ module _ (kept : Kept) (is : IsKept kept) (vl : ℕ) (memory : LinkMemory) (few 
   }
 
   placed_here : place_in with_link.places vl ≡ Some (length kept.memories)
-  placed_here = ap (option_and_then (λ place. place))
-      (set_here kept.places vl (Some (length kept.memories)) (omega (arith, few, is.room)))
+  placed_here = ap option_flatten
+      (set_here kept.places vl (Some (length kept.memories)) room)
 
   placed_there : (q : ℕ) → (q ≡ vl → ⊥) → place_in with_link.places q ≡ place_in kept.places q
-  placed_there q other = ap (option_and_then (λ place. place))
+  placed_there q other = ap option_flatten
       (set_there kept.places vl q (Some (length kept.memories)) other)
 
   some_same : (a b : ℕ) → Some a ≡ Some b → a ≡ b
@@ -95,7 +92,6 @@ module _ (kept : Kept) (is : IsKept kept) (vl : ℕ) (memory : LinkMemory) (few 
 
   pub link_kept : IsKept with_link
   link_kept = record {
-    room = length-set kept.places vl (Some (length kept.memories)) ∙ is.room;
     within = λ q place e. within q place e (cases_eq q vl);
     own = λ a b place e f. own a b place e f (cases_eq a vl) (cases_eq b vl);
   }
@@ -148,6 +144,24 @@ module _ (kept : Kept) (is : IsKept kept) (vl : ℕ) (memory : LinkMemory) (few 
           (placed_there q (λ same. eqb-false vl q e (sym same)))
           ∙ old (place_in kept.places q) (is.within q)
 
+-- the same, where room was made for it
+module _ (kept : Kept) (is : IsKept kept) (places : List (Option ℕ))
+    (same : (q : ℕ) → place_in places q ≡ place_in kept.places q) (vl : ℕ) (room : vl < length places)
+    (memory : LinkMemory) (place : ℕ) (last : place ≡ length kept.memories)
+    (memories : List LinkMemory) (pushed : memories ≡ kept.memories ++ memory ∷ []) where
+  abbrev grown : Kept
+  grown = record kept { places = places }
+
+  pub added_kept : IsKept (record { places = slice_set places vl (Some place); memories = memories })
+  added_kept = rw (last, pushed) (link_kept grown (grown_kept kept places same is) vl memory room)
+
+  pub added_updates : (q : ℕ) →
+      memory_at (record { places = slice_set places vl (Some place); memories = memories }) q
+      ≡ cond (nat_eq vl q) (Some memory) (memory_at kept q)
+  added_updates q =
+      rw (last, pushed) (link_updates grown (grown_kept kept places same is) vl memory room q
+      ∙ ap (cond (nat_eq vl q) (Some memory)) (grown_memory kept places same q))
+
 -- ---- a frame of a link
 
 module _ (kept : Kept) (is : IsKept kept) (vl place : ℕ)
@@ -157,7 +171,6 @@ module _ (kept : Kept) (is : IsKept kept) (vl place : ℕ)
 
   pub memory_kept : IsKept with_memory
   memory_kept = record {
-    room = is.room;
     within = λ q p e. subst (λ n. p < n) (sym (length-set kept.memories place moved)) (is.within q p e);
     own = is.own;
   }
@@ -182,10 +195,18 @@ module _ (kept : Kept) (is : IsKept kept) (vl place : ℕ)
           eqb-false vl q e (is.own vl q place placed (here ∙ ap Some same)))
 
 -- what is read of the places and of the memories
-pub placed_at : (kept : Kept) → IsKept kept → (vl : ℕ) (o : Option ℕ) → vl < 65536
-    → o ≡ get_or kept.places vl o → place_in kept.places vl ≡ o
-placed_at kept is vl o few read =
-    ap (option_and_then (λ place. place)) (slice_get_read kept.places 65536 vl o (sym is.room) few read)
+flattened : (o : Option (Option ℕ)) → option_flatten o ≡ unwrap_or o None
+flattened None = refl
+flattened (Some place) = refl
+
+pub placed_at : (places lent : List (Option ℕ)) (vl : ℕ) (item : Option (Bor (Option ℕ)))
+    (read : Option (Option ℕ)) (o : Option ℕ) → lent ≡ places → IsItemAt lent vl item →
+    read ≡ option_copied item → o ≡ option_flatten read → place_in places vl ≡ o
+placed_at places lent vl item read o e f g h =
+    let there : unwrap_or (option_copied item) None ≡ get_or places vl None =
+    subst (λ xs. unwrap_or (option_copied item) None ≡ get_or xs vl None) e (f.4 (omega arith) None) in
+    flattened (slice_get places vl) ∙ unwrap_or-slice_get places vl None ∙ sym there
+    ∙ ap (λ r. unwrap_or r None) (sym g) ∙ sym (flattened read) ∙ sym h
 
 pub memory_found : (kept : Kept) → IsKept kept → (vl place : ℕ) → place_in kept.places vl
     ≡ Some place → (memory : LinkMemory) →
@@ -198,15 +219,3 @@ memory_found kept is vl place placed memory read =
 pub none_found : (kept : Kept) (vl : ℕ) → place_in kept.places vl ≡ None → memory_at kept vl ≡ None
 unfolding memory_at
 none_found kept vl none = ap (option_and_then (λ place. slice_get kept.memories place)) none
-
-pub added : (kept : Kept) (vl : ℕ) (memory : LinkMemory) (place : ℕ) (memories : List LinkMemory)
-    (q : ℕ) → place ≡ length kept.memories →
-    memories ≡ kept.memories ++ memory ∷ [] →
-    memory_at (record {
-      places = slice_set kept.places vl (Some (length kept.memories));
-      memories = kept.memories ++ memory ∷ [];
-    }) q
-    ≡ cond (nat_eq vl q) (Some memory) (memory_at kept q) →
-    memory_at (record { places = slice_set kept.places vl (Some place); memories = memories }) q
-    ≡ cond (nat_eq vl q) (Some memory) (memory_at kept q)
-added kept vl memory place memories q e f h = rw (e, f) h

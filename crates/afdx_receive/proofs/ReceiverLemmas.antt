@@ -6,7 +6,7 @@ use Rattle.std.specs.Option.{IsSome, option_map}
 use Rattle.afdx_frame.specs.Parts.{FrameParts, frame_of, IsFrameOf}
 use Rattle.afdx_config.specs.Rows.{Rows, LinkRow}
 use Rattle.afdx_receive.specs.Integrity.{Incoming, previous}
-use Rattle.afdx_receive.specs.Memory.{Remembers, kept_number, number_of}
+use Rattle.afdx_receive.specs.Memory.{Remembers, kept_number, sequence_number_of}
 use Rattle.afdx_receive.specs.Kept.{Kept, memory_at, IsConsidered}
 use Rattle.afdx_receive.specs.Arrivals.{Arrived, incoming, frames_of}
 use Rattle.afdx_frame.specs.Carried.{carried_by}
@@ -140,6 +140,6 @@ unfolding frames_of
 link_at_first tables system vl None e = e
 link_at_first tables system vl (Some link) e = (link, e, refl, record { numbers = numbers; winner = refl })
   where
-    numbers : (side : Side) → kept_number (memory_at_first link) side ≡ option_map number_of (previous side [])
+    numbers : (side : Side) → kept_number (memory_at_first link) side ≡ option_map sequence_number_of (previous side [])
     numbers A = refl
     numbers B = refl

@@ -8,6 +8,7 @@ use Rattle.std.proofs.lemmas.Bool.{lt-leb, leb-true, leb-false, le-ltb, false_fr
 use Rattle.afdx_frame.specs.declared.link.Side.{Side}
 use Rattle.afdx_frame.specs.declared.link.Side.TheVariants.{A, B}
 use Rattle.afdx_frame.specs.Sides.{is_side}
+use Rattle.afdx_frame.proofs.SideLemmas.{is_side-same}
 use Rattle.afdx_config.specs.Numbers.{next_number, after_steps}
 use Rattle.afdx_receive.specs.Steps.{is_within_steps}
 use Rattle.afdx_receive.specs.Integrity.{Incoming, previous, may_follow, is_valid}
@@ -143,12 +144,6 @@ counted (frame ∷ before) = at (is_first_copy before frame) refl (counted befor
 
 -- ---- the last ones
 
-pub same_side-eq : (a b : Side) → is_side a b ≡ true → a ≡ b
-same_side-eq A A e = refl
-same_side-eq B B e = refl
-same_side-eq A B e = absurd (cc)
-same_side-eq B A e = absurd (cc)
-
 -- of n frames in order the last one has the number of its place
 abbrev LastOf : Option Incoming → ℕ → Type 0
 LastOf last n = MatchOption last (n ≡ 0) (λ frame. (k : ℕ) × (n ≡ suc k) × (frame.number ≡ after_steps k 0))
@@ -175,7 +170,7 @@ last_number skew (frame ∷ before) streams side =
           count_of side before,
           refl,
           streams.0.number
-              ∙ ap (λ s. after_steps (count_of s before) 0) (same_side-eq frame.side side e),
+              ∙ ap (λ s. after_steps (count_of s before) 0) (is_side-same frame.side side e),
         )
     at false e so_far =
         last_at (previous side (frame ∷ before)) (previous side before)

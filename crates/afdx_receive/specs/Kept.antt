@@ -1,6 +1,7 @@
 -- What a receiver keeps of all its links, each found by its identifier.
 use Rattle.std.specs.Prelude.{◌≡◌, ℕ, ◌<◌, cond, nat_eq, Option, Some, List, ◌∷◌, length}
 use Rattle.std.specs.Prelude.{option_and_then, slice_get}
+use Rattle.std.specs.Option.{option_flatten}
 use Rattle.afdx_frame.specs.declared.link.Side.{Side}
 use Rattle.afdx_receive.specs.Integrity.{Incoming}
 use Rattle.afdx_receive.specs.Memory.{Remembers}
@@ -8,22 +9,21 @@ use Rattle.afdx_receive.specs.Standing.{standing}
 use Rattle.afdx_receive.specs.declared.memory.LinkMemory.{LinkMemory}
 use Rattle.afdx_receive.specs.declared.memory.Standing.{Standing}
 
--- by identifier the place of its link's memory, and the memories
+-- by identifier the place of its link's memory, as far as there are such, and the memories
 pub record Kept : Type 0 where
   pub places : List (Option ℕ)
   pub memories : List LinkMemory
 
 abbrev pub place_in : List (Option ℕ) → ℕ → Option ℕ
-place_in places vl = option_and_then (λ place. place) (slice_get places vl)
+place_in places vl = option_flatten (slice_get places vl)
 
 -- the memory of the link of an identifier, if it is kept
 unfoldable pub memory_at : Kept → ℕ → Option LinkMemory
 memory_at kept vl =
     option_and_then (λ place. slice_get kept.memories place) (place_in kept.places vl)
 
--- there is room for each identifier, and each link that is kept has a memory of its own
+-- each link that is kept has a memory of its own
 pub record IsKept (kept : Kept) : Type 0 where
-  pub room : length kept.places ≡ 65536
   pub within : (vl place : ℕ) → place_in kept.places vl ≡ Some place → place < length kept.memories
   pub own : (a b place : ℕ) → place_in kept.places a ≡ Some place →
       place_in kept.places b ≡ Some place → a ≡ b

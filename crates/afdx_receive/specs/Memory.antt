@@ -7,8 +7,8 @@ use Rattle.afdx_receive.specs.Redundancy.{newest, winners}
 use Rattle.afdx_receive.specs.declared.memory.LastWinner.{LastWinner}
 use Rattle.afdx_receive.specs.declared.memory.LinkMemory.{LinkMemory}
 
-abbrev pub number_of : Incoming → ℕ
-number_of frame = frame.number
+abbrev pub sequence_number_of : Incoming → ℕ
+sequence_number_of frame = frame.number
 
 abbrev pub stamp_of : Incoming → LastWinner
 stamp_of frame = record { number = frame.number; time = frame.time }
@@ -24,5 +24,6 @@ with_number memory B number = record memory { previous_b = Some number }
 
 -- it keeps the last number of each side, and the last winner, of those that came
 pub record Remembers (memory : LinkMemory) (came : List Incoming) : Type 0 where
-  pub numbers : (side : Side) → kept_number memory side ≡ option_map number_of (previous side came)
+  pub numbers : (side : Side) →
+      kept_number memory side ≡ option_map sequence_number_of (previous side came)
   pub winner : memory.winner ≡ option_map stamp_of (newest (winners memory.skew_ns came))

@@ -1,8 +1,8 @@
 //! What a receiver keeps of all its links, each found by its identifier.
 
 ghost use Rattle.std.specs.Prelude.{◌≡◌, ℕ, ◌+◌, ◌<◌, cond, nat_eq, None, Some, length};
-ghost use Rattle.std.specs.Prelude.{IfOk, OnOk, IfNone, IfSome};
-ghost use Rattle.afdx_receive.specs.Kept.{memory_at, IsConsidered};
+ghost use Rattle.std.specs.Prelude.{OnOk, IfNone, IfSome};
+ghost use Rattle.afdx_receive.specs.Kept.{place_in, memory_at, IsConsidered};
 
 use crate::memory::{LinkMemory, Standing};
 use afdx_frame::{Side, VlId};
@@ -12,7 +12,7 @@ use std::marker::Model;
 /// The memories of the links that go to a system.
 #[derive(Drop)]
 pub(crate) struct Links {
-    /// By identifier, the place of its link's memory.
+    /// By identifier, the place of its link's memory. No longer than the greatest one needs.
     places: Vec<Option<u16>>,
     memories: Vec<LinkMemory>,
 }
@@ -28,20 +28,32 @@ impl Model for Links {
         IsKept (record { places = l.places.items; memories = l.memories.items }) };
 }
 
+/// Fills up with `None` until there is a place for this identifier.
+fn make_room(places: &mut Vec<Option<u16>>, vl: VlId) -> Result<(), AllocError>
+    ensures same { (q : ℕ) → place_in places.new.items q ≡ place_in places.old.items q }
+    ensures room { OnOk result (vl.0 < length places.new.items) }
+{
+    let least = vl.0 as usize + 1;
+    if places.len() < least {
+        places.resize(least, None)?;
+    }
+    Ok(())
+}
+
 impl Links {
-    /// No link. It takes room for the places of all 65,536 identifiers: 256 KiB.
-    pub(crate) fn new(alloc: Global) -> Result<Links, AllocError>
-        ensures none { IfOk result (λ links. (vl : ℕ) → memory_at links vl ≡ None) }
-        ensures count { IfOk result (λ links. length links.memories ≡ 0) }
+    /// No link. It takes no memory.
+    pub(crate) fn new(alloc: Global) -> Links
+        ensures none { (vl : ℕ) → memory_at result vl ≡ None }
+        ensures count { length result.memories ≡ 0 }
     {
-        let places = Vec::from_elem(alloc, None, 65536)?;
-        Ok(Links {
-            places,
+        Links {
+            places: Vec::new(alloc),
             memories: Vec::new(alloc),
-        })
+        }
     }
 
-    /// Keeps the memory of a link.
+    /// Keeps the memory of a link. It takes room for that, and for the places of the identifiers up
+    /// to the link's.
     pub(crate) fn insert(&mut self, vl: VlId, memory: LinkMemory) -> Result<(), AllocError>
         requires { length self.old.memories < 65536 }
         ensures updates { OnOk result ((q : ℕ) →
@@ -50,6 +62,7 @@ impl Links {
             (length self.new.memories ≡ length self.old.memories + 1) }
     {
         let place = self.memories.len() as u16;
+        make_room(&mut self.places, vl)?;
         self.memories.push(memory)?;
         self.places[vl.0 as usize] = Some(place);
         Ok(())
@@ -68,7 +81,7 @@ impl Links {
         ensures considered { IfSome result (λ how.
             IsConsidered self.old vl.0 time side number how self.new) }
     {
-        let place = self.places[vl.0 as usize]?;
+        let place = self.places.get(vl.0 as usize).copied().flatten()?;
         Some(self.memories[place as usize].consider(time, side, number))
     }
 }

@@ -44,7 +44,7 @@ fn links_of(alloc: Global, tables: &Tables, system: SystemId) -> Result<Links, A
     ensures { IfOk result (λ links. (vl : ℕ) →
         memory_at links vl ≡ option_map memory_at_first (subscription tables.now system.0 vl)) }
 {
-    let mut links = Links::new(alloc)?;
+    let mut links = Links::new(alloc);
     let count = tables.link_count();
     for index in 0..count {
         let link = tables.link(index);
@@ -79,7 +79,8 @@ fn ports_of(
 
 impl Receiver {
     /// A receiver of the system, to which nothing arrived. It takes room for all that it will keep,
-    /// and 256 KiB for finding links by their identifiers. The error is want of memory alone.
+    /// and, to find links by their identifiers, a table as long as the greatest of them. The error
+    /// is want of memory alone.
     pub fn new(alloc: Global, tables: &Tables, system: SystemId) -> Result<Receiver, AllocError>
         ensures stands { IfOk result (λ receiver. StandsFor tables.now system.0 receiver []) }
     {

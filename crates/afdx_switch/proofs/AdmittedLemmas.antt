@@ -13,6 +13,7 @@ use Rattle.std.proofs.lemmas.Option.{slice_get-get_or, slice_get-map}
 use Rattle.afdx_frame.specs.Layout.{link_named_by}
 use Rattle.afdx_frame.specs.declared.link.Side.{Side}
 use Rattle.afdx_frame.specs.declared.link.VlId.{VlId}
+use Rattle.afdx_frame.proofs.SideLemmas.{is_side-same}
 use Rattle.afdx_config.specs.Lawful.{IsLawful, AreDistinct}
 use Rattle.afdx_config.specs.Reading.{system_at_port}
 use Rattle.afdx_config.specs.Rows.{SystemRow, LinkRow, Rows, is_to}
@@ -37,7 +38,7 @@ use Rattle.afdx_bounds.proofs.ListLemmas.{all_get}
 use Rattle.afdx_bounds.proofs.OutputLemmas.{arrival-kept}
 use Rattle.afdx_bounds.proofs.TableLemmas.{output-served, rows-are}
 use Rattle.afdx_bounds.proofs.TableLawLemmas.{contains-row, has-slot, slot-has-come}
-use Rattle.afdx_bounds.proofs.VerdictLemmas.{one-name, same-side}
+use Rattle.afdx_bounds.proofs.VerdictLemmas.{one-name}
 use Rattle.afdx_switch.specs.Admitted.{IsAdmittedRun, Passing, passing, passing_in}
 use Rattle.afdx_switch.specs.Admitted.{accepted_arrivals, accepted_on, accepted_frames}
 use Rattle.afdx_switch.specs.Admitted.{frames_among, AcceptedIsKept, LosesNothing, AcceptedEnter}
@@ -382,7 +383,7 @@ accepted-enter t (x ∷ past) side port place l run at =
     by (inl here) before =
         subst (λ s. frames_among l.vl (entries_at t s port past) ≡ Entered t l s port past
         → frames_among l.vl (entries_at t s port (x ∷ past)) ≡ Entered t l s port (x ∷ past))
-        (sym (same-side side x.side here))
+        (sym (is_side-same side x.side here))
         (enter-here t past x port place l run at) before
     by (inr other) before =
         ap (frames_among l.vl) ((entries-grow t side port x past run.lawful).other_side other) ∙ before

@@ -5,6 +5,7 @@ use Rattle.std.specs.Option.{option_map_or}
 use Rattle.std.proofs.lemmas.List.{map_push, map-append, append-nil}
 use Rattle.std.proofs.lemmas.List.Elements.{filter-append}
 use Rattle.afdx_frame.specs.declared.link.Side.{Side}
+use Rattle.afdx_frame.proofs.SideLemmas.{is_side-same}
 use Rattle.afdx_config.specs.Lawful.{IsLawful}
 use Rattle.afdx_config.specs.Rows.{Rows}
 use Rattle.afdx_police.specs.Arrival.{Arrival, is_side, names}
@@ -13,7 +14,7 @@ use Rattle.afdx_port.specs.Classes.{entries_in, without_turn}
 use Rattle.afdx_port.specs.Schedule.{Entry}
 use Rattle.afdx_port.proofs.ClassLemmas.{all_go_in_order}
 use Rattle.afdx_bounds.specs.Outputs.{Row, entry_of, offers_at}
-use Rattle.afdx_bounds.proofs.VerdictLemmas.{same-side, one-name}
+use Rattle.afdx_bounds.proofs.VerdictLemmas.{one-name}
 use Rattle.afdx_switch.specs.Carried.{Carried}
 use Rattle.afdx_switch.specs.Laws.{EntriesStep, is_of}
 use Rattle.afdx_switch.specs.LinkFrames.{goes_on, enters, entered, FramesAreOwn, AllFramesAreOwn, OthersGetNone}
@@ -125,7 +126,7 @@ module _ (t : Rows) (port vl : ℕ) (x : Arrival) (past : List Arrival) where
     where
       by : (b : Bool) → is_side side x.side ≡ b → Step side
       by false other = kept side ((entries-grow t side port x past lawful).other_side other) (elsewhere side other)
-      by true same = subst Step (sym (same-side side x.side same))
+      by true same = subst Step (sym (is_side-same side x.side same))
           (of-reason (entries-grow t x.side port x past lawful) (reason_of t past x) refl)
 
 -- the entries of a link are its frames that entered

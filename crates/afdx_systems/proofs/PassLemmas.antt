@@ -5,8 +5,8 @@ use Rattle.std.specs.Prelude.{position, slice_get, slice_set}
 use Rattle.std.proofs.lemmas.Bool.{cases_eq}
 use Rattle.std.proofs.lemmas.List.{get_or-set_same, get_or-set_other, length-set}
 use Rattle.std.proofs.lemmas.Option.{slice_get-get_or, slice_get_past, slice_get_cases, slice_get_within}
-use Rattle.afdx_comport.specs.Messages.{Message}
-use Rattle.afdx_comport.specs.Held.{with_message, without_first, sample_of, first_of, IsRead}
+use Rattle.afdx_comport.specs.Messages.{TimedMessage}
+use Rattle.afdx_comport.specs.Held.{with_message, without_first, with_spare, sample_of, first_of, IsRead}
 use Rattle.afdx_comport.specs.Ports.{is_for}
 use Rattle.afdx_comport.specs.declared.held.Held.{Held}
 use Rattle.afdx_comport.specs.declared.held.Held.TheVariants.{Sampling, Queuing}
@@ -55,11 +55,11 @@ read_but_at ports after place port read here now same j other is =
     ]
 
 -- what was put is what the sample is
-sample_read : (held : Held) (time : ℕ) (bytes : List ℕ) (m : Message)
+sample_read : (held : Held) (time : ℕ) (bytes : List ℕ) (m : TimedMessage)
     → Some m ≡ sample_of (with_message time bytes held) → (m.bytes ≡ bytes)
     × IsRead (with_message time bytes held)
 sample_read (Sampling sample) time bytes m is =
-    (let same : m ≡ record { time = time; bytes = bytes } = cc in ap (λ (x : Message). x.bytes) same, tt)
+    (let same : m ≡ record { time = time; bytes = bytes } = cc in ap (λ (x : TimedMessage). x.bytes) same, tt)
 sample_read (Queuing line) time bytes m is = absurd cc
 
 -- and what is taken of a queue of which all was read
@@ -119,7 +119,7 @@ module _ (ports : List ComPort) (place time : ℕ) (message : List ℕ) (after :
   found_then link udp = ap (position (is_for link udp)) put.now ∙ stays ports place link udp put.port held_then put.here
 
   -- a sample was read
-  pub sampled : (m : Message)
+  pub sampled : (m : TimedMessage)
       → ((p : ComPort) → slice_get after place ≡ Some p → Some m ≡ sample_of p.held)
       → IsPassedOn ports after × (m.bytes ≡ message)
   unfolding port_then held_then
@@ -176,6 +176,29 @@ module _ (ports : List ComPort) (place time : ℕ) (message : List ℕ) (after :
   none_left all no-sample no-first =
       none_read put.port.held time message (all place put.port put.here)
       (no-sample port_then here_then) (no-first port_then here_then)
+
+-- its memory was given back
+still_read : (held : Held) (room : ℕ) → IsRead held → IsRead (with_spare room held)
+still_read (Sampling sample) room all = tt
+still_read (Queuing line) room all = all
+
+pub given_back : (ports rest after : List ComPort) (place room : ℕ) → place < length rest →
+    ((p : ComPort) → slice_get rest place ≡ Some p
+    → after ≡ slice_set rest place (record p { held = with_spare room p.held })) →
+    IsPassedOn ports rest → IsPassedOn ports after
+given_back ports rest after place room within gives passed =
+    let port = port_at rest place within in
+    let given : ComPort = record port.0 { held = with_spare room port.0.held } in
+    let now : after ≡ slice_set rest place given = gives port.0 port.1 in
+    record {
+      read = λ all. read_but_at rest after place given (passed.read all)
+          (ap (λ (xs : List ComPort). slice_get xs place) now ∙ slice_get-set_here rest place given within)
+          (still_read port.0.held room (passed.read all place port.0 port.1))
+          (λ j other. ap (λ (xs : List ComPort). slice_get xs j) now
+          ∙ slice_get-set_there rest place j given other);
+      found = λ link udp. ap (position (is_for link udp)) now
+          ∙ stays rest place link udp port.0 (with_spare room port.0.held) port.1 ∙ passed.found link udp;
+    }
 
 -- the line of a message, of another that is the same
 pub line_of_same : {E : Type 0} (r : Result (Unit {0}) E) (text : List ℕ) (old : List ℕ) (time : ℕ)

@@ -14,7 +14,7 @@ loop-index-preserved c =
             c.link-link.result.now.vl.0 c.loop-index.links w.insert.new.self
             c.loop-index.invariant.so_far c.link-link.ensures.lawful.links.identifiers
             c.link-link.ensures.row refl (rw c.goes_to.ensures at w.if-goes_to.true)
-            (rw w.new-then-goes_to.ensures at w.in_ok-insert.ensures.updates));
+            (rw w.new.ensures at w.in_ok-insert.ensures.updates));
         few = rw w.links-is (omega (arith, w.in_ok-insert.ensures.count, c.loop-index.invariant.few));
       }
       | else-goes_to w ↦ record {

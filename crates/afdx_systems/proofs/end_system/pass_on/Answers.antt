@@ -1,5 +1,5 @@
-use Rattle.std.proofs.Common.{◌∙◌}
-use Rattle.afdx_systems.proofs.PassLemmas.{put_at, sampled, taken, taken_message, none_left, line_of_same}
+use Rattle.std.proofs.Common.{◌∙◌, arith}
+use Rattle.afdx_systems.proofs.PassLemmas.{put_at, sampled, taken, given_back, taken_message, none_left, line_of_same}
 use Rattle.afdx_systems.proofs.end_system.pass_on.Goals as goal
 
 pub returns-in-Some-clause-read : goal.returns-in-Some-clause-read
@@ -30,13 +30,17 @@ pub returns-in-Some-take_queued-clause-read : goal.returns-in-Some-take_queued-c
 returns-in-Some-take_queued-clause-read c =
     let put = put_at c.args.ports.now c.args.place c.args.time c.args.message.now c.put.new.self
     c.requires c.in-Ok.ensures.ok in
-    rw c.give_back.ensures (taken _ _ _ _ _ put c.take_queued.new.self c.in-Some-take_queued.ensures.rest).read
+    (given_back _ _ _ c.args.place _
+    (omega (arith, c.requires, c.put.ensures.count, c.take_queued.ensures.count)) c.give_back.ensures.spare
+    (taken _ _ _ _ _ put c.take_queued.new.self c.in-Some-take_queued.ensures.rest)).read
 
 pub returns-in-Some-take_queued-clause-found : goal.returns-in-Some-take_queued-clause-found
 returns-in-Some-take_queued-clause-found c =
     let put = put_at c.args.ports.now c.args.place c.args.time c.args.message.now c.put.new.self
     c.requires c.in-Ok.ensures.ok in
-    rw c.give_back.ensures (taken _ _ _ _ _ put c.take_queued.new.self c.in-Some-take_queued.ensures.rest).found
+    (given_back _ _ _ c.args.place _
+    (omega (arith, c.requires, c.put.ensures.count, c.take_queued.ensures.count)) c.give_back.ensures.spare
+    (taken _ _ _ _ _ put c.take_queued.new.self c.in-Some-take_queued.ensures.rest)).found
 
 pub returns-in-Some-take_queued-clause-line : goal.returns-in-Some-take_queued-clause-line
 returns-in-Some-take_queued-clause-line c =
