@@ -4,12 +4,14 @@ ghost use Rattle.std.specs.Prelude.{◌≤◌, nat_le, length, true, IfSome, Mat
 ghost use Rattle.memchr.specs.Find.{IsFirstByte, is_byte};
 ghost use Rattle.std.specs.Str.Lines.{strip_carriage_return};
 ghost use Rattle.afdx_lists.specs.Fields.{between_spaces, fields_after, number_of, bytes_of_digits, is_skipped};
-ghost use Rattle.afdx_lists.specs.Fields.{SplitsNumber, holds_space};
+ghost use Rattle.afdx_lists.specs.Fields.{SplitsNumber, holds_space, time_fault, cut_number};
 ghost use Rattle.afdx_lists.specs.declared.fault.LineFault.TheVariants.{BadLine, Memory, BadHex};
 
 use crate::fault::LineFault;
 use hex::FromHexError;
 
+/// The latest time, in ns.
+const LAST_TIME: u64 = 1_000_000_000_000_000;
 /// The number of so many decimal digits is less than 2^64.
 const FEW_DIGITS: usize = 19;
 /// So many hexadecimal digits are read at once.
@@ -78,7 +80,7 @@ fn split_few_digits(text: &[u8]) -> Option<(u64, &[u8])>
 #[inline(never)]
 fn read_many_digits(text: &[u8]) -> Option<u64>
     requires { 1 ≤ length text.now }
-    ensures { result ≡ option_map (λ n. min n (2 ^ 64 - 1)) (number_of text.now) }
+    ensures { result ≡ cut_number (number_of text.now) }
 {
     let mut value = 0u64;
     for digit in text {
@@ -115,6 +117,21 @@ pub(crate) fn split_number(text: &[u8]) -> (Option<u64>, Option<&[u8]>)
     match split_few_digits(text) {
         Some((number, rest)) => (Some(number), Some(rest)),
         None => split_any_number(text),
+    }
+}
+
+/// The first false check of a line's time, after one of the latest time.
+pub(crate) fn fault_of_time(time: u64, latest: u64) -> Option<LineFault>
+    ensures fault { result ≡ time_fault time latest }
+    ensures time { result ≡ None → time ≤ 10 ^ 15 }
+    ensures order { result ≡ None → latest ≤ time }
+{
+    if time > LAST_TIME {
+        Some(LineFault::TimeTooLarge)
+    } else if time < latest {
+        Some(LineFault::TimeBack)
+    } else {
+        None
     }
 }
 

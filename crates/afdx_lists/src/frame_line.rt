@@ -1,11 +1,16 @@
 //! One line of a frame list.
 ghost use Rattle.std.specs.Prelude.{◌≡◌, ◌⊎◌, ◌^◌, ◌≤◌, None, Ok, Err, IfOk, IfSome, IfErr, OnOk, option_map};
 ghost use Rattle.afdx_frame.specs.Sealing.{is_sealed, sealed_wrongly};
-ghost use Rattle.afdx_lists.specs.FrameLines.{kind_of, side_of, frame_fields, frame_bytes, frame_of, line_says, saturated, fields_of, fields_with, if_five, numbers_fault};
+ghost use Rattle.afdx_lists.specs.Forms.{from_five, if_five};
+ghost use Rattle.afdx_lists.specs.FrameLines.{kind_of, side_of, frame_fields, frame_bytes};
+ghost use Rattle.afdx_lists.specs.FrameLines.{frame_of, line_says, cut_frame, frame_fields_of};
+ghost use Rattle.afdx_lists.specs.FrameLines.{frame_fields_with, frame_form, numbers_fault, port_fault};
 ghost use Rattle.afdx_lists.specs.declared.fault.LineFault.TheVariants.{Memory};
 
 use crate::fault::LineFault;
-use crate::fields::{first_fault, read_bytes, says_nothing, split_field, split_number, trim_line};
+use crate::fields::{
+    fault_of_time, first_fault, read_bytes, says_nothing, split_field, split_number, trim_line,
+};
 use afdx_frame::{Side, fcs, is_sealed, seal};
 use std::alloc::AllocError;
 
@@ -43,8 +48,6 @@ struct Fields<'a> {
     digits: &'a [u8],
 }
 
-const LAST_TIME: u64 = 1_000_000_000_000_000;
-
 fn read_kind(text: &[u8]) -> Option<Kind>
     ensures { result ≡ kind_of text.now }
 {
@@ -74,7 +77,8 @@ fn fields_from<'a>(
     port: Option<u64>,
     digits: &'a [u8],
 ) -> Option<Fields<'a>>
-    ensures { option_map fields_of result ≡ fields_with kind time side port digits.entry.now }
+    ensures { option_map frame_fields_of result
+        ≡ from_five frame_fields_with kind time side port digits.entry.now }
 {
     if digits.is_empty() {
         return None;
@@ -91,8 +95,8 @@ fn fields_from<'a>(
 /// The fields of a text. The last one is all that stands behind the fourth space: it isn't searched
 /// for a further one.
 fn read_fields(text: &[u8]) -> Option<Fields<'_>>
-    ensures { if_five (option_map fields_of result)
-        ≡ option_map saturated (frame_fields text.now) }
+    ensures { if_five frame_form (option_map frame_fields_of result)
+        ≡ option_map cut_frame (frame_fields text.now) }
 {
     let (kind, rest) = split_field(text);
     let Some(text) = rest else {
@@ -113,6 +117,19 @@ fn read_fields(text: &[u8]) -> Option<Fields<'_>>
     fields_from(read_kind(kind), time, read_side(side), port, digits)
 }
 
+/// The fault of a port that is not one of 1 to 24.
+fn fault_of_port(port: u64) -> Option<LineFault>
+    ensures fault { result ≡ port_fault port }
+    ensures some_port { result ≡ None → 1 ≤ port }
+    ensures port { result ≡ None → port ≤ 24 }
+{
+    if port < 1 || port > 24 {
+        Some(LineFault::BadPort)
+    } else {
+        None
+    }
+}
+
 /// The first false check of a line's numbers.
 fn fault_of_numbers(time: u64, port: u64, latest: u64) -> Option<LineFault>
     ensures fault { result ≡ numbers_fault time port latest }
@@ -121,14 +138,9 @@ fn fault_of_numbers(time: u64, port: u64, latest: u64) -> Option<LineFault>
     ensures some_port { result ≡ None → 1 ≤ port }
     ensures port { result ≡ None → port ≤ 24 }
 {
-    if time > LAST_TIME {
-        Some(LineFault::TimeTooLarge)
-    } else if time < latest {
-        Some(LineFault::TimeBack)
-    } else if port < 1 || port > 24 {
-        Some(LineFault::BadPort)
-    } else {
-        None
+    match fault_of_time(time, latest) {
+        Some(fault) => Some(fault),
+        None => fault_of_port(port),
     }
 }
 

@@ -1,10 +1,15 @@
 //! One line of a submission list.
 ghost use Rattle.std.specs.Prelude.{◌≡◌, ◌⊎◌, ◌^◌, ◌-◌, ◌<◌, ◌≤◌, min, None, Ok, Err, IfOk, IfSome, IfErr, option_map};
-ghost use Rattle.afdx_lists.specs.SubmissionLines.{at_most, submission_fields, submission_of, submission_said, saturated, fields_of, fields_with, if_five, time_fault};
+ghost use Rattle.afdx_lists.specs.Forms.{from_five, if_five};
+ghost use Rattle.afdx_lists.specs.SubmissionLines.{at_most, submission_fields, submission_of};
+ghost use Rattle.afdx_lists.specs.SubmissionLines.{submission_said, cut_submission, submission_form};
+ghost use Rattle.afdx_lists.specs.SubmissionLines.{submission_fields_of, submission_fields_with};
 ghost use Rattle.afdx_lists.specs.declared.fault.LineFault.TheVariants.{Memory};
 
 use crate::fault::LineFault;
-use crate::fields::{first_fault, read_bytes, says_nothing, split_number, trim_line};
+use crate::fields::{
+    fault_of_time, first_fault, read_bytes, says_nothing, split_number, trim_line,
+};
 
 /// When a message is handed to a sender, and for what.
 #[derive(Clone, Copy, Debug, PartialEq, Eq)]
@@ -28,8 +33,6 @@ struct Fields<'a> {
     udp: u16,
     digits: &'a [u8],
 }
-
-const LAST_TIME: u64 = 1_000_000_000_000_000;
 
 /// A number that isn't over its limit.
 fn small_of(number: Option<u64>, limit: u64) -> Option<u64>
@@ -68,7 +71,8 @@ fn fields_from<'a>(
     udp: Option<u16>,
     digits: &'a [u8],
 ) -> Option<Fields<'a>>
-    ensures { option_map fields_of result ≡ fields_with time vl sub udp digits.entry.now }
+    ensures { option_map submission_fields_of result
+        ≡ from_five submission_fields_with time vl sub udp digits.entry.now }
 {
     if digits.is_empty() {
         return None;
@@ -85,8 +89,8 @@ fn fields_from<'a>(
 /// The fields of a text. The last one is all that stands behind the fourth space: it isn't searched
 /// for a further one.
 fn read_fields(text: &[u8]) -> Option<Fields<'_>>
-    ensures { if_five (option_map fields_of result)
-        ≡ option_map saturated (submission_fields text.now) }
+    ensures { if_five submission_form (option_map submission_fields_of result)
+        ≡ option_map cut_submission (submission_fields text.now) }
 {
     let (time, rest) = split_number(text);
     let Some(text) = rest else {
@@ -105,21 +109,6 @@ fn read_fields(text: &[u8]) -> Option<Fields<'_>>
         return None;
     };
     fields_from(time, port_of(vl), sub_of(sub), port_of(udp), digits)
-}
-
-/// The first false check of a line's time.
-fn fault_of_time(time: u64, latest: u64) -> Option<LineFault>
-    ensures fault { result ≡ time_fault time latest }
-    ensures time { result ≡ None → time ≤ 10 ^ 15 }
-    ensures order { result ≡ None → latest ≤ time }
-{
-    if time > LAST_TIME {
-        Some(LineFault::TimeTooLarge)
-    } else if time < latest {
-        Some(LineFault::TimeBack)
-    } else {
-        None
-    }
 }
 
 /// What a line says that comes after one of this time: a message, whose bytes are put in the place

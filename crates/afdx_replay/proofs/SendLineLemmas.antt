@@ -16,7 +16,7 @@ use Rattle.afdx_frame.specs.declared.link.Side.TheVariants.{A, B}
 use Rattle.afdx_config.specs.Rows.{SystemRow}
 use Rattle.afdx_lists.specs.FrameLines.{line_says}
 use Rattle.afdx_lists.specs.Lines.{lines_of, HasNoFeed}
-use Rattle.afdx_lists.proofs.FieldLemmas.{line_says_nothing}
+use Rattle.afdx_lists.proofs.FrameLemmas.{line_says_nothing}
 use Rattle.afdx_lists.proofs.LineLemmas.{lines_of_feed, lines_of_nothing}
 use Rattle.afdx_port.specs.Schedule.{Turn}
 use Rattle.afdx_send.specs.Frames as send

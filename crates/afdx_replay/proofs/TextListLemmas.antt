@@ -19,7 +19,7 @@ use Rattle.afdx_lists.specs.FrameLines.{Frame, line_says}
 use Rattle.afdx_lists.specs.Lines.{lines_of}
 use Rattle.afdx_lists.specs.declared.fault.RunFault.{RunFault}
 use Rattle.afdx_lists.specs.declared.fault.RunFault.TheVariants as run
-use Rattle.afdx_lists.proofs.FieldLemmas.{line_says_nothing}
+use Rattle.afdx_lists.proofs.FrameLemmas.{line_says_nothing}
 use Rattle.afdx_send.specs.Frames as send
 use Rattle.afdx_send.specs.declared.fault.SendFault.{SendFault}
 use Rattle.afdx_send.specs.declared.fault.SendFault.TheVariants.{NotMyLink, NoSuchSub, Empty}
