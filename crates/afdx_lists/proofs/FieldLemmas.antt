@@ -1,5 +1,5 @@
 -- The fields of a line.
-use Rattle.std.proofs.Common.{◌≡◌, ℕ, ◌+◌, ◌-◌, ◌*◌, ◌^◌, ◌<◌, ◌≤◌, List, [], ◌∷◌, ◌++◌}
+use Rattle.std.proofs.Common.{◌≡◌, ℕ, ◌+◌, ◌-◌, ◌*◌, ◌<◌, ◌≤◌, List, [], ◌∷◌, ◌++◌}
 use Rattle.std.proofs.Common.{length, get_or, take, drop, Bool, true, false, cond, ◌&&◌, refl, ap}
 use Rattle.std.proofs.Common.{sym, ◌∙◌, arith, eqb, eq-eqb, Option, Some, None, suc, zero, nat_lt, ltb-false}
 use Rattle.std.proofs.lemmas.Grind.{common_steps}
@@ -11,7 +11,7 @@ use Rattle.afdx_lists.proofs.LineLemmas.{piece_before, no_feed_at_all}
 use Rattle.std.proofs.Common.{Result, Ok, Err}
 use Rattle.afdx_lists.specs.declared.fault.LineFault.TheVariants.{TimeTooLarge, TimeBack}
 use Rattle.afdx_lists.specs.Fields.{number_of, number_after, all_digits, bytes_of_digits, ok_of}
-use Rattle.afdx_lists.specs.Fields.{cut, time_fault}
+use Rattle.afdx_lists.specs.Fields.{cut, time_fault, time_limit}
 use Rattle.hex.specs.Hex.{decode_of, decode_sized}
 use Rattle.hex.specs.declared.error.FromHexError.{FromHexError}
 use Rattle.std.specs.Prelude.{MatchResult, ◌/◌, ◌%◌}
@@ -68,18 +68,18 @@ pub rest_is_none : {X : Type 0} (o : Option X) → ((x : X) → o ≡ Some x →
 rest_is_none None h = refl
 rest_is_none (Some x) h = absurd (h x refl)
 
-pub time_fault-cut : (time latest : ℕ) → latest ≤ 10 ^ 15 → time_fault (cut time) latest ≡ time_fault time latest
+pub time_fault-cut : (time latest : ℕ) → latest ≤ time_limit → time_fault (cut time) latest ≡ time_fault time latest
 time_fault-cut time latest h = grind (arith, common_steps)
 
 -- no check of a time is false
-pub time_fault-none : (time latest : ℕ) → time_fault time latest ≡ None → (time ≤ 10 ^ 15) × (latest ≤ time)
-time_fault-none time latest none = by (nat_lt (10 ^ 15) time) refl (nat_lt time latest) refl none
+pub time_fault-none : (time latest : ℕ) → time_fault time latest ≡ None → (time ≤ time_limit) × (latest ≤ time)
+time_fault-none time latest none = by (nat_lt time_limit time) refl (nat_lt time latest) refl none
   where
-    by : (a : Bool) → nat_lt (10 ^ 15) time ≡ a → (b : Bool) → nat_lt time latest ≡ b
-        → cond a (Some TimeTooLarge) (cond b (Some TimeBack) None) ≡ None → (time ≤ 10 ^ 15) × (latest ≤ time)
+    by : (a : Bool) → nat_lt time_limit time ≡ a → (b : Bool) → nat_lt time latest ≡ b
+        → cond a (Some TimeTooLarge) (cond b (Some TimeBack) None) ≡ None → (time ≤ time_limit) × (latest ≤ time)
     by true large b back h = absurd (cc h)
     by false large true back h = absurd (cc h)
-    by false large false back h = (ltb-false (10 ^ 15) time large, ltb-false time latest back)
+    by false large false back h = (ltb-false time_limit time large, ltb-false time latest back)
 
 -- digits are decoded into half as many bytes
 decode_sized_half-by : (b c : Bool) (odd whole wrong : Result (List ℕ) FromHexError) → c ≡ true

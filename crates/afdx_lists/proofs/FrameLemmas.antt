@@ -1,5 +1,5 @@
 -- The fields of a frame line.
-use Rattle.std.proofs.Common.{◌≡◌, ℕ, ◌^◌, ◌≤◌, List, [], ◌∷◌, true, refl}
+use Rattle.std.proofs.Common.{◌≡◌, ℕ, ◌≤◌, List, [], ◌∷◌, true, refl}
 use Rattle.std.proofs.Common.{ap, ap₂, arith, Option, Some, None, Ok}
 use Rattle.std.proofs.lemmas.Grind.{common_steps}
 use Rattle.std.specs.Option.{option_map}
@@ -11,6 +11,8 @@ use Rattle.afdx_lists.specs.Fields.{between_spaces, cut, cut_number, number_of, 
 use Rattle.afdx_lists.specs.Forms.{from_five, five_of, if_five}
 use Rattle.afdx_lists.specs.FrameLines.{kind_of, side_of, frame_fields_with, frame_fields_from, cut_frame}
 use Rattle.afdx_lists.specs.FrameLines.{Frame, frame_form, port_fault, numbers_fault, line_says}
+use Rattle.afdx_lists.specs.Fields.{time_limit}
+use Rattle.afdx_lists.specs.FrameLines.{last_port}
 use Rattle.afdx_lists.proofs.FieldLemmas.{time_fault-cut, time_fault-none}
 use Rattle.afdx_lists.proofs.FormLemmas.{IsCut, five_fields, says_nothing, says-from, says-alone}
 
@@ -36,7 +38,7 @@ frame_five kind time side port digits =
 port_fault-cut : (port : ℕ) → port_fault (cut port) ≡ port_fault port
 port_fault-cut port = grind (arith, common_steps)
 
-port_fault-none : (port : ℕ) → port_fault port ≡ None → (1 ≤ port) × (port ≤ 24)
+port_fault-none : (port : ℕ) → port_fault port ≡ None → (1 ≤ port) × (port ≤ last_port)
 port_fault-none port h = grind (arith, common_steps, h)
 
 -- no check of the numbers is false
@@ -48,7 +50,7 @@ numbers_fault-none time port latest h = by (time_fault time latest) h
     by None h = (refl, h)
     by (Some fault) h = cc
 
-pub frame_is_cut : (latest : ℕ) → latest ≤ 10 ^ 15 → IsCut frame_form cut_frame latest
+pub frame_is_cut : (latest : ℕ) → latest ≤ time_limit → IsCut frame_form cut_frame latest
 frame_is_cut latest low = record {
   same_fault = λ fields. ap₂ fault_or (time_fault-cut fields.time latest low) (port_fault-cut fields.port);
   whole = λ fields none.

@@ -2,7 +2,7 @@
 use Rattle.std.proofs.Common.{◌≡◌, ℕ, ◌-◌, ◌^◌, ◌≤◌, ◌<◌, List, [], ◌∷◌, refl, arith, Option, Some, None}
 use Rattle.std.proofs.lemmas.Grind.{common_steps}
 use Rattle.std.specs.Option.{option_map}
-use Rattle.afdx_lists.specs.Fields.{between_spaces, cut, cut_number, number_of}
+use Rattle.afdx_lists.specs.Fields.{between_spaces, cut, cut_number, number_of, time_limit}
 use Rattle.afdx_lists.specs.Forms.{from_five, five_of, if_five}
 use Rattle.afdx_lists.specs.SubmissionLines.{at_most, submission_fields_with, submission_fields_from}
 use Rattle.afdx_lists.specs.SubmissionLines.{cut_submission, submission_form}
@@ -40,7 +40,7 @@ submission_five time vl sub udp digits =
     (five_fields submission_form submission_fields_with (λ a b c d x. refl) submission_fields_from
     cut_submission time vl sub udp digits _ _ _ _ (from_five-cut _ _ _ _ digits))
 
-pub submission_is_cut : (latest : ℕ) → latest ≤ 10 ^ 15 → IsCut submission_form cut_submission latest
+pub submission_is_cut : (latest : ℕ) → latest ≤ time_limit → IsCut submission_form cut_submission latest
 submission_is_cut latest low = record {
   same_fault = λ fields. time_fault-cut fields.time latest low;
   whole = λ fields none.

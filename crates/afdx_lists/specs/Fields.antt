@@ -67,10 +67,14 @@ abbrev pub is_skipped : List ℕ → Bool
 is_skipped [] = true
 is_skipped (byte ∷ bytes) = byte == 35
 
+-- the latest time that a line may have, in ns
+abbrev pub time_limit : ℕ
+time_limit = 10 ^ 15
+
 -- the first false check of a time, after a line of the latest time
 abbrev pub time_fault : ℕ → ℕ → Option LineFault
 time_fault time latest =
-    if nat_lt (10 ^ 15) time then Some TimeTooLarge
+    if nat_lt time_limit time then Some TimeTooLarge
     else if nat_lt time latest then Some TimeBack
     else None
 

@@ -71,9 +71,13 @@ frame_said fields bytes = record {
   bytes = frame_bytes fields.kind bytes;
 }
 
+-- the greatest number of a port; the first one is 1
+abbrev pub last_port : ℕ
+last_port = 24
+
 -- the fault of a port that is not one of 1 to 24
 abbrev pub port_fault : ℕ → Option LineFault
-port_fault port = if nat_lt port 1 || nat_lt 24 port then Some BadPort else None
+port_fault port = if nat_lt port 1 || nat_lt last_port port then Some BadPort else None
 
 -- the first false check of a time and a port, after a frame of the latest time
 abbrev pub numbers_fault : ℕ → ℕ → ℕ → Option LineFault

@@ -4,14 +4,14 @@ ghost use Rattle.std.specs.Prelude.{◌≤◌, nat_le, length, true, IfSome, Mat
 ghost use Rattle.memchr.specs.Find.{IsFirstByte, is_byte};
 ghost use Rattle.std.specs.Str.Lines.{strip_carriage_return};
 ghost use Rattle.afdx_lists.specs.Fields.{between_spaces, fields_after, number_of, bytes_of_digits, is_skipped};
-ghost use Rattle.afdx_lists.specs.Fields.{SplitsNumber, holds_space, time_fault, cut_number};
+ghost use Rattle.afdx_lists.specs.Fields.{SplitsNumber, holds_space, time_fault, time_limit, cut_number};
 ghost use Rattle.afdx_lists.specs.declared.fault.LineFault.TheVariants.{BadLine, Memory, BadHex};
 
 use crate::fault::LineFault;
 use hex::FromHexError;
 
-/// The latest time, in ns.
-const LAST_TIME: u64 = 1_000_000_000_000_000;
+/// The latest time that a line may have, in ns.
+const TIME_LIMIT: u64 = 1_000_000_000_000_000;
 /// The number of so many decimal digits is less than 2^64.
 const FEW_DIGITS: usize = 19;
 /// So many hexadecimal digits are read at once.
@@ -123,10 +123,10 @@ pub(crate) fn split_number(text: &[u8]) -> (Option<u64>, Option<&[u8]>)
 /// The first false check of a line's time, after one of the latest time.
 pub(crate) fn fault_of_time(time: u64, latest: u64) -> Option<LineFault>
     ensures fault { result ≡ time_fault time latest }
-    ensures time { result ≡ None → time ≤ 10 ^ 15 }
+    ensures time { result ≡ None → time ≤ time_limit }
     ensures order { result ≡ None → latest ≤ time }
 {
-    if time > LAST_TIME {
+    if time > TIME_LIMIT {
         Some(LineFault::TimeTooLarge)
     } else if time < latest {
         Some(LineFault::TimeBack)

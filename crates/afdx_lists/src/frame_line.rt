@@ -1,10 +1,12 @@
 //! One line of a frame list.
 ghost use Rattle.std.specs.Prelude.{◌≡◌, ◌⊎◌, ◌^◌, ◌≤◌, None, Ok, Err, IfOk, IfSome, IfErr, OnOk, option_map};
 ghost use Rattle.afdx_frame.specs.Sealing.{is_sealed, sealed_wrongly};
+ghost use Rattle.afdx_lists.specs.Fields.{time_limit};
 ghost use Rattle.afdx_lists.specs.Forms.{from_five, if_five};
 ghost use Rattle.afdx_lists.specs.FrameLines.{kind_of, side_of, frame_fields, frame_bytes};
 ghost use Rattle.afdx_lists.specs.FrameLines.{frame_of, line_says, cut_frame, frame_fields_of};
-ghost use Rattle.afdx_lists.specs.FrameLines.{frame_fields_with, frame_form, numbers_fault, port_fault};
+ghost use Rattle.afdx_lists.specs.FrameLines.{frame_fields_with, frame_form, numbers_fault};
+ghost use Rattle.afdx_lists.specs.FrameLines.{port_fault, last_port};
 ghost use Rattle.afdx_lists.specs.declared.fault.LineFault.TheVariants.{Memory};
 
 use crate::fault::LineFault;
@@ -13,6 +15,9 @@ use crate::fields::{
 };
 use afdx_frame::{Side, fcs, is_sealed, seal};
 use std::alloc::AllocError;
+
+/// The greatest number of a port of a switch; the first one is 1.
+pub const LAST_PORT: u8 = 24;
 
 /// When and where a frame comes in at a switch.
 #[derive(Clone, Copy, Debug, PartialEq, Eq)]
@@ -121,9 +126,9 @@ fn read_fields(text: &[u8]) -> Option<Fields<'_>>
 fn fault_of_port(port: u64) -> Option<LineFault>
     ensures fault { result ≡ port_fault port }
     ensures some_port { result ≡ None → 1 ≤ port }
-    ensures port { result ≡ None → port ≤ 24 }
+    ensures port { result ≡ None → port ≤ last_port }
 {
-    if port < 1 || port > 24 {
+    if port < 1 || port > u64::from(LAST_PORT) {
         Some(LineFault::BadPort)
     } else {
         None
@@ -133,10 +138,10 @@ fn fault_of_port(port: u64) -> Option<LineFault>
 /// The first false check of a line's numbers.
 fn fault_of_numbers(time: u64, port: u64, latest: u64) -> Option<LineFault>
     ensures fault { result ≡ numbers_fault time port latest }
-    ensures time { result ≡ None → time ≤ 10 ^ 15 }
+    ensures time { result ≡ None → time ≤ time_limit }
     ensures order { result ≡ None → latest ≤ time }
     ensures some_port { result ≡ None → 1 ≤ port }
-    ensures port { result ≡ None → port ≤ 24 }
+    ensures port { result ≡ None → port ≤ last_port }
 {
     match fault_of_time(time, latest) {
         Some(fault) => Some(fault),
@@ -181,11 +186,11 @@ pub fn read_frame_line(
     latest: u64,
     frame: &mut Vec<u8>,
 ) -> Result<Option<Heading>, LineFault>
-    requires { latest ≤ 10 ^ 15 }
-    ensures time { IfOk result (λ heading. IfSome heading (λ h. h.time ≤ 10 ^ 15)) }
+    requires { latest ≤ time_limit }
+    ensures time { IfOk result (λ heading. IfSome heading (λ h. h.time ≤ time_limit)) }
     ensures order { IfOk result (λ heading. IfSome heading (λ h. latest ≤ h.time)) }
     ensures some_port { IfOk result (λ heading. IfSome heading (λ h. 1 ≤ h.port)) }
-    ensures port { IfOk result (λ heading. IfSome heading (λ h. h.port ≤ 24)) }
+    ensures port { IfOk result (λ heading. IfSome heading (λ h. h.port ≤ last_port)) }
     ensures sealed { IfOk result (λ heading.
         IfSome heading (λ h. h.is_sealed ≡ is_sealed frame.new.items)) }
     ensures ok { IfOk result (λ heading. line_says latest line.now

@@ -1,5 +1,6 @@
 //! One line of a submission list.
 ghost use Rattle.std.specs.Prelude.{◌≡◌, ◌⊎◌, ◌^◌, ◌-◌, ◌<◌, ◌≤◌, min, None, Ok, Err, IfOk, IfSome, IfErr, option_map};
+ghost use Rattle.afdx_lists.specs.Fields.{time_limit};
 ghost use Rattle.afdx_lists.specs.Forms.{from_five, if_five};
 ghost use Rattle.afdx_lists.specs.SubmissionLines.{at_most, submission_fields, submission_of};
 ghost use Rattle.afdx_lists.specs.SubmissionLines.{submission_said, cut_submission, submission_form};
@@ -122,8 +123,8 @@ pub fn read_submission_line(
     latest: u64,
     payload: &mut Vec<u8>,
 ) -> Result<Option<Handed>, LineFault>
-    requires { latest ≤ 10 ^ 15 }
-    ensures time { IfOk result (λ handed. IfSome handed (λ h. h.time ≤ 10 ^ 15)) }
+    requires { latest ≤ time_limit }
+    ensures time { IfOk result (λ handed. IfSome handed (λ h. h.time ≤ time_limit)) }
     ensures order { IfOk result (λ handed. IfSome handed (λ h. latest ≤ h.time)) }
     ensures ok { IfOk result (λ handed. submission_said latest line.now
         ≡ Ok (option_map (λ h. submission_of h payload.new.items) handed)) }

@@ -14,6 +14,7 @@ use Rattle.afdx_lists.specs.FrameLines.{Frame, line_says}
 use Rattle.afdx_lists.proofs.FrameLemmas.{line_says-alone}
 use Rattle.afdx_lists.specs.declared.fault.LineFault.{LineFault}
 use Rattle.afdx_lists.specs.declared.fault.RunFault.TheVariants as run
+use Rattle.afdx_lists.specs.Lines.{most_lines, longest_line}
 use Rattle.afdx_promises.specs.Sent.{arrivals_at}
 use Rattle.afdx_replay.specs.EndToEnd.{says_at, lines_at}
 use Rattle.afdx_replay.specs.Listed.{frames, arrival_at, arrivals_of, AreSound}
@@ -57,7 +58,7 @@ module _ (side : Side) (port : ℕ) where
 
   said-ok : (list : List (List ℕ)) (n : ℕ) (fault : LineFault) → fault_in frames list n ≡ None
       → item_said frames list n ≡ Err fault → ⊥
-  said-ok list n fault none e = by (nat_le 1000000 n) (nat_lt 4200 (length (slice_index_or list n []))) (rw e at none)
+  said-ok list n fault none e = by (nat_le most_lines n) (nat_lt longest_line (length (slice_index_or list n []))) (rw e at none)
     where
       by : (many long : Bool) →
           (if many then Some run.TooManyLines else if long then Some (run.LineTooLong (n + 1)) else

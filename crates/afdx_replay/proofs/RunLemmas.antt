@@ -12,7 +12,7 @@ use Rattle.afdx_lists.specs.declared.fault.LineFault.{LineFault}
 use Rattle.afdx_lists.specs.declared.fault.LineFault.TheVariants.{BadLine, TimeTooLarge, TimeBack}
 use Rattle.afdx_lists.specs.declared.fault.LineFault.TheVariants.{BadPort, BadHex, Memory}
 use Rattle.afdx_lists.specs.Lines.{lines_of, whole_lines_of, TakesLine, CanStop, HasNoFeed}
-use Rattle.afdx_lists.specs.Lines.{TakesBytes, HasTaken, GaveWhole}
+use Rattle.afdx_lists.specs.Lines.{TakesBytes, HasTaken, GaveWhole, most_lines, longest_line}
 use Rattle.afdx_lists.proofs.WholeLemmas.{HasTaken-next}
 use Rattle.afdx_lists.proofs.LineLemmas.{lines_of_nothing}
 use Rattle.afdx_lists.specs.Faults.{fault_with}
@@ -63,8 +63,8 @@ said_then k lines n line latest same is said =
 
 -- a line that may be taken: it is short, and not one too many
 pub record IsTaken (n : ℕ) (line : List ℕ) (before rest : Option (List ℕ)) : Type 0 where
-  pub few : n < 1000000
-  pub short : length line ≤ 4200
+  pub few : n < most_lines
+  pub short : length line ≤ longest_line
   pub takes : TakesLine before rest line
 
 drop_nothing : (n : ℕ) (xs : List (List ℕ)) → drop n xs ≡ [] → n ≤ length xs → n ≡ length xs
@@ -75,16 +75,16 @@ more_left n lines h = grind (arith, common_steps)
 
 module _ {Y X : Type 0} (k : Kind Y X) where
   -- a line of lawful place and length has the fault that it says
-  fault_at_line : (lines : List (List ℕ)) (n : ℕ) (line : List ℕ) → n < 1000000
-      → get_or lines n [] ≡ line → length line ≤ 4200
+  fault_at_line : (lines : List (List ℕ)) (n : ℕ) (line : List ℕ) → n < most_lines
+      → get_or lines n [] ≡ line → length line ≤ longest_line
       → fault_in k lines n ≡ fault_said (n + 1) (item_said k lines n)
   fault_at_line lines n line few same short =
-      let place : nat_le 1000000 n ≡ false = grind (arith, common_steps) in
-      let size : nat_lt 4200 (length (get_or lines n [])) ≡ false = rw same (grind (arith, common_steps)) in
+      let place : nat_le most_lines n ≡ false = grind (arith, common_steps) in
+      let size : nat_lt longest_line (length (get_or lines n [])) ≡ false = rw same (grind (arith, common_steps)) in
       rw (place, size) refl
 
   HasRead-skip : (told : List X → Type 0) (latest n : ℕ) (lines : List (List ℕ))
-      (old_rest rest line : List ℕ) → n < 1000000 → length line ≤ 4200
+      (old_rest rest line : List ℕ) → n < most_lines → length line ≤ longest_line
       → HasRead k told latest n lines old_rest → lines_of old_rest ≡ line ∷ lines_of rest
       → k.says latest line ≡ Ok None → HasRead k told latest (n + 1) lines rest
   HasRead-skip told latest n lines old_rest rest line few short h takes said =
@@ -101,7 +101,7 @@ module _ {Y X : Type 0} (k : Kind Y X) where
       }
 
   HasRead-item : (told after : List X → Type 0) (latest n : ℕ) (lines : List (List ℕ))
-      (old_rest rest line : List ℕ) (y : Y) → n < 1000000 → length line ≤ 4200
+      (old_rest rest line : List ℕ) (y : Y) → n < most_lines → length line ≤ longest_line
       → HasRead k told latest n lines old_rest → lines_of old_rest ≡ line ∷ lines_of rest
       → k.says latest line ≡ Ok (Some y)
       → ((past : List X) → told past → after (k.item (n + 1) y ∷ past))
@@ -284,8 +284,8 @@ module _ {Y X : Type 0} (k : Kind Y X) (told all beginning : List X → Type 0) 
   one_of bytes after m BadHex h d = h
   one_of bytes after m Memory h d = d
 
-  first_fault : (latest n : ℕ) (lines : List (List ℕ)) (old_rest rest line : List ℕ) (fault : LineFault) → n < 1000000 →
-      length line ≤ 4200 → HasRead k told latest n lines old_rest → lines_of old_rest ≡ line ∷ lines_of rest →
+  first_fault : (latest n : ℕ) (lines : List (List ℕ)) (old_rest rest line : List ℕ) (fault : LineFault) → n < most_lines →
+      length line ≤ longest_line → HasRead k told latest n lines old_rest → lines_of old_rest ≡ line ∷ lines_of rest →
       k.says latest line ≡ Err fault → ((past : List X) → told past → all past) →
       HaveFirstFault k lines n (fault_with (n + 1) fault) × all (items_of k lines n)
   first_fault latest n lines old_rest rest line fault few short h takes said f =
@@ -331,7 +331,7 @@ module _ {Y X : Type 0} (k : Kind Y X) (told all beginning : List X → Type 0) 
       → (fault ≡ run.Read → GaveWhole (Some bytes) after n)
       → ((past : List X) → told past → all past) → StopsIn k all beginning bytes after fault
   stop_answers latest n bytes rest after run.TooManyLines h stop gave f =
-      let place : nat_le 1000000 n ≡ true = grind (arith, common_steps, stop.0) in (
+      let place : nat_le most_lines n ≡ true = grind (arith, common_steps, stop.0) in (
         n,
         (more_left n (lines_of bytes) (rw (← h.rest_is) stop.1), h.sound, rw place refl),
         f (items_of k (lines_of bytes) n) h.are_told,
@@ -339,8 +339,8 @@ module _ {Y X : Type 0} (k : Kind Y X) (told all beginning : List X → Type 0) 
   stop_answers latest n bytes rest after (run.LineTooLong m) h stop gave f =
       let line = stop.2 in
       let begins = drop_begins n (lines_of bytes) line.0 line.1 (sym h.rest_is ∙ line.2) in
-      let place : nat_le 1000000 n ≡ false = grind (arith, common_steps, stop.1) in
-      let size : nat_lt 4200 (length (get_or (lines_of bytes) n [])) ≡ true =
+      let place : nat_le most_lines n ≡ false = grind (arith, common_steps, stop.1) in
+      let size : nat_lt longest_line (length (get_or (lines_of bytes) n [])) ≡ true =
       rw begins.0 (grind (arith, common_steps, line.3)) in
       (n, (begins.2, h.sound, rw (place, size, stop.0) refl), f (items_of k (lines_of bytes) n) h.are_told)
   stop_answers latest n bytes rest after run.Read h stop gave f =

@@ -18,6 +18,7 @@ use Rattle.afdx_lists.specs.SubmissionLines.{submission_fields_with, submission_
 use Rattle.afdx_lists.specs.SubmissionLines.{submission_form, submission_said}
 use Rattle.afdx_lists.proofs.FormLemmas.{says-from}
 use Rattle.afdx_lists.specs.declared.fault.LineFault.{LineFault}
+use Rattle.afdx_lists.specs.Lines.{most_lines}
 use Rattle.afdx_replay.specs.Lists.{with_item, item_said, items_of, fault_in, HaveNoFault}
 use Rattle.afdx_replay.specs.SendEvents.{Handed, submissions}
 
@@ -109,14 +110,14 @@ said-upto most list (suc n) le = by (item_said submissions list n) refl (said-up
     by (Err fault) e rest = rest
 
 -- a list without fault has at most a million lines
-few-lines : (list : List (List ℕ)) (n : ℕ) → HaveNoFault submissions list n → n ≤ 1000000
+few-lines : (list : List (List ℕ)) (n : ℕ) → HaveNoFault submissions list n → n ≤ most_lines
 few-lines list zero sound = omega arith
-few-lines list (suc n) sound = by (nat_le 1000000 n) refl (sound n (omega arith))
+few-lines list (suc n) sound = by (nat_le most_lines n) refl (sound n (omega arith))
   where
-    by : (b : Bool) → nat_le 1000000 n ≡ b → fault_in submissions list n ≡ None → suc n ≤ 1000000
-    by false e h = (let lt : n < 1000000 = grind (arith, nat_tests, e) in omega (arith, lt))
+    by : (b : Bool) → nat_le most_lines n ≡ b → fault_in submissions list n ≡ None → suc n ≤ most_lines
+    by false e h = (let lt : n < most_lines = grind (arith, nat_tests, e) in omega (arith, lt))
     by true e h = absurd (let f = rw e at h in cc f)
 
 pub all-said : (list : List (List ℕ)) (n : ℕ) → HaveNoFault submissions list n
-    → AllByRecursion (IsSaid 1000000) (items_of submissions list n)
-all-said list n sound = said-upto 1000000 list n (few-lines list n sound)
+    → AllByRecursion (IsSaid most_lines) (items_of submissions list n)
+all-said list n sound = said-upto most_lines list n (few-lines list n sound)

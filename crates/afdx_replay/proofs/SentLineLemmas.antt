@@ -26,7 +26,8 @@ use Rattle.afdx_lists.specs.Fields.{between_spaces, number_of, number_after, all
 use Rattle.afdx_lists.specs.Forms.{from_five, five_of, said_with}
 use Rattle.afdx_lists.specs.FrameLines.{FrameFields, kind_of, side_of, frame_fields, frame_fields_with}
 use Rattle.afdx_lists.specs.FrameLines.{frame_fields_from, frame_bytes, frame_form, numbers_fault, line_says}
-use Rattle.afdx_lists.specs.Lines.{lines_of}
+use Rattle.afdx_lists.specs.Lines.{lines_of, longest_line}
+use Rattle.afdx_lists.specs.Fields.{time_limit}
 use Rattle.afdx_lists.proofs.FieldLemmas.{number_of_digits}
 use Rattle.afdx_lists.proofs.FormLemmas.{says_item}
 use Rattle.afdx_lists.proofs.LineLemmas.{lines_of_feed, lines_of_nothing}
@@ -198,7 +199,7 @@ reads B time port (d ∷ digits) bytes some = record {
   frame = refl;
 }
 
-no-fault : (time port latest : ℕ) → 1 ≤ port → port ≤ 24 → time ≤ 10 ^ 15 → latest ≤ time
+no-fault : (time port latest : ℕ) → 1 ≤ port → port ≤ 24 → time ≤ time_limit → latest ≤ time
     → numbers_fault time port latest ≡ None
 no-fault time port latest one most early late = grind (arith, nat_tests, one, most, early, late)
 
@@ -224,7 +225,7 @@ line-feed A port time bytes = feed-at 65 port time bytes ∙ grind (arith, commo
 line-feed B port time bytes = feed-at 66 port time bytes ∙ grind (arith, common_steps)
 
 module _ (side : Side) (port time : ℕ) (bytes : List ℕ) (one : 1 ≤ port) (most : port ≤ 24)
-    (early : time ≤ 10 ^ 15) (frame : AreOfFrame bytes) where
+    (early : time ≤ time_limit) (frame : AreOfFrame bytes) where
   abbrev pub digits : List ℕ
   digits = encode_lower bytes
 
@@ -305,7 +306,7 @@ module _ (side : Side) (port time : ℕ) (bytes : List ℕ) (one : 1 ≤ port) (
       ∙ ap (λ n. from_five frame_fields_with (kind_of (82 ∷ [])) (Some time) (side_of (side_text side)) n digits)
       (number-decimal port port_fits) ∙ r.are
 
-  r_early : r.fields.time ≤ 10 ^ 15
+  r_early : r.fields.time ≤ time_limit
   r_early = let t = r.time_is in omega (arith, t, early)
 
   r_most : r.fields.port ≤ 24
@@ -330,7 +331,7 @@ module _ (side : Side) (port time : ℕ) (bytes : List ℕ) (one : 1 ≤ port) (
   pub says : line_says 0 line ≡ Ok (Some (record { time = time; side = side; port = port; bytes = bytes }))
   says = says-after 0 (omega arith)
 
-  pub short : length line ≤ 4200
+  pub short : length line ≤ longest_line
   short =
       let t = length-decimal-le 16 time (omega arith) (omega (arith, early)) time_fits in
       let p = length-decimal-le 2 port (omega arith) (omega (arith, most)) port_fits in
@@ -348,7 +349,7 @@ module _ (side : Side) (port time : ℕ) (bytes : List ℕ) (one : 1 ≤ port) (
 
   fine : fault_in frames (line ∷ []) 0 ≡ None
   unfolding items_of
-  fine = let size : nat_lt 4200 (length line) ≡ false = grind (arith, nat_tests, short) in
+  fine = let size : nat_lt longest_line (length line) ≡ false = grind (arith, nat_tests, short) in
       rw size (ap (λ r. fault_said 1 r) says)
 
   arrived : items_of frames (line ∷ []) 1 ≡ arrival_with 1 time side port bytes ∷ []

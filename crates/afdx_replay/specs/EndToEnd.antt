@@ -1,6 +1,6 @@
 -- From the lists of the senders to the messages of the receivers, over texts: what each sender took
 -- is told once. Lists of lines and of submissions have the first one first.
-use Rattle.std.specs.Prelude.{ℕ, ◌^◌, ◌≡◌, ◌≤◌, ◌==◌, ◌&&◌, Bool, true, false, List, [], length, filter, map, reverse, Option, Some, None, Result, Ok, Err, slice_get}
+use Rattle.std.specs.Prelude.{ℕ, ◌≡◌, ◌≤◌, ◌==◌, ◌&&◌, Bool, true, false, List, [], length, filter, map, reverse, Option, Some, None, Result, Ok, Err, slice_get}
 use Rattle.std.specs.List.{AllByRecursion}
 use Rattle.afdx_frame.specs.Sides.{is_side}
 use Rattle.afdx_frame.specs.declared.link.Side.{Side}
@@ -10,7 +10,8 @@ use Rattle.afdx_config.specs.Reading.{has_port}
 use Rattle.afdx_config.specs.Rows.{SystemRow, LinkRow, Rows, is_to}
 use Rattle.afdx_config.specs.SentList.{Message}
 use Rattle.afdx_lists.specs.FrameLines.{Frame, line_says}
-use Rattle.afdx_lists.specs.Lines.{lines_of}
+use Rattle.afdx_lists.specs.Fields.{time_limit}
+use Rattle.afdx_lists.specs.Lines.{lines_of, most_lines}
 use Rattle.afdx_lists.specs.declared.fault.LineFault.{LineFault}
 use Rattle.afdx_send.specs.Complete.{submissions_of, AreReleasesOfAll}
 use Rattle.afdx_send.specs.Releases.{Submission, Release}
@@ -49,7 +50,7 @@ pub record HasSent (t : Rows) (sender : ℕ) (s : SystemRow) (given : List (List
   pub are_events : AreEventsOf s (links_from t.links sender)
       (items_of submissions given (length given)) events
   pub are_done : AreDone s (links_from t.links sender) events
-  pub early : AllByRecursion (λ turn. turn.end ≤ 10 ^ 15) (turns_in events)
+  pub early : AllByRecursion (λ turn. turn.end ≤ time_limit) (turns_in events)
 
 -- of these submissions to a link, the messages whose UDP port a system has for the link
 abbrev pub heard_of : Rows → ℕ → LinkRow → List Submission → List Message
@@ -91,7 +92,7 @@ abbrev pub WrittenIsSent : Type 0
 WrittenIsSent = (t : Rows) (sender : ℕ) (s : SystemRow) (given text : List ℕ) (sends : Summary) →
     slice_get t.systems sender ≡ Some s →
     (sent : WritesAll (source_at t sender s) (lines_of given) (Some []) (Some text) sends) →
-    AllByRecursion (λ turn. turn.end ≤ 10 ^ 15) (turns_in sent.writes.events) →
+    AllByRecursion (λ turn. turn.end ≤ time_limit) (turns_in sent.writes.events) →
     HasSent t sender s (lines_of given) sent.writes.events
     × (text ≡ send_text s sent.writes.events)
 
@@ -102,7 +103,7 @@ RunsTellTakenOnce = (t : Rows) (sender : ℕ) (s : SystemRow) (given text bytes 
     (old new : Option (List ℕ)) (sends replays : Summary) →
     IsLawful t → IsAdmitted t → slice_get t.systems sender ≡ Some s →
     (sent : WritesAll (source_at t sender s) (lines_of given) (Some []) (Some text) sends) →
-    AllByRecursion (λ turn. turn.end ≤ 10 ^ 15) (turns_in sent.writes.events) →
+    AllByRecursion (λ turn. turn.end ≤ time_limit) (turns_in sent.writes.events) →
     HoldsText s (lines_of bytes) text →
     (told : WritesPromised t (lines_of bytes) old new replays) →
     EachIsToldAsTaken t sender sent.writes.events told.lines
@@ -111,5 +112,5 @@ RunsTellTakenOnce = (t : Rows) (sender : ℕ) (s : SystemRow) (given text bytes 
 abbrev pub TextsAreLists : Type 0
 TextsAreLists = (t : Rows) (sender : ℕ) (s : SystemRow) (given : List (List ℕ))
     (events : List Event) → IsLawful t → IsAdmitted t → HasSent t sender s given events →
-    length (lines_of (send_text s events)) ≤ 1000000 →
+    length (lines_of (send_text s events)) ≤ most_lines →
     AreSound (lines_of (send_text s events)) (length (lines_of (send_text s events)))

@@ -1,6 +1,7 @@
 //! A run that sends the messages of a list.
 ghost use Rattle.std.specs.Prelude.{◌≡◌, ◌<◌, ◌≤◌, ◌+◌, ◌^◌, ◌⊎◌, ◌++◌, ◌∷◌, ℕ, List, Option, Some, IfOk, IfErr, IfSome, OnOk, OnErr, length, slice_get, true, false};
-ghost use Rattle.afdx_lists.specs.Lines.{most_reads};
+ghost use Rattle.afdx_lists.specs.Fields.{time_limit};
+ghost use Rattle.afdx_lists.specs.Lines.{most_lines, most_reads};
 ghost use Rattle.afdx_config.specs.Rows.{SystemRow};
 ghost use Rattle.afdx_lists.specs.Texts.{text_bytes};
 ghost use Rattle.afdx_lists.specs.Calls.{is_failed_read, is_failed_write};
@@ -116,7 +117,7 @@ impl Sending {
         output: &mut Watched<W>,
     ) -> Result<(), RunFault>
         requires clock { last_time self.old.sender ≤ until }
-        requires room { (n : ℕ) × (n ≤ 1000000) ×
+        requires room { (n : ℕ) × (n ≤ most_lines) ×
             HasRoom self.old.counts (frames_held self.old.sender) n }
         requires sound { has_failed output.old ≡ false }
         ensures failed { has_failed output.new ≡ is_failed_write result }
@@ -147,10 +148,10 @@ impl Sending {
 
     /// Hands a message to the sender, and counts it. It says why it was refused, if it was.
     fn submit(&mut self, handed: &Handed, payload: &[u8]) -> Result<Option<SendFault>, AllocError>
-        requires limit { handed.now.time ≤ 10 ^ 15 }
+        requires limit { handed.now.time ≤ time_limit }
         requires clock { last_time self.old.sender ≤ handed.now.time }
         requires quiet { IsQuiet self.old.sender handed.now.time }
-        requires room { (n : ℕ) × (n < 1000000) ×
+        requires room { (n : ℕ) × (n < most_lines) ×
             HasRoom self.old.counts (frames_held self.old.sender) n }
         ensures port { self.new.port ≡ self.old.port }
         ensures clock { last_time self.new.sender ≡ handed.now.time }
@@ -191,9 +192,9 @@ impl Sending {
         payload: &[u8],
         output: &mut Watched<W>,
     ) -> Result<(), RunFault>
-        requires limit { handed.now.time ≤ 10 ^ 15 }
+        requires limit { handed.now.time ≤ time_limit }
         requires clock { last_time self.old.sender ≤ handed.now.time }
-        requires room { (m : ℕ) × (m < 1000000) ×
+        requires room { (m : ℕ) × (m < most_lines) ×
             HasRoom self.old.counts (frames_held self.old.sender) m }
         requires sound { has_failed output.old ≡ false }
         ensures failed { has_failed output.new ≡ is_failed_write result }

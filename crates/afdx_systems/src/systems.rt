@@ -15,11 +15,8 @@ use crate::end_system::EndSystem;
 use crate::handover::Handover;
 use afdx_config::Tables;
 use afdx_frame::is_sealed;
-use afdx_lists::Text;
+use afdx_lists::{LAST_PORT, Text};
 use std::alloc::{AllocError, Global};
-
-/// The greatest number of a port of the switch.
-const LAST_PORT: u8 = 24;
 
 /// The end systems of a network. A contract speaks of them as what they stand for: a list of all
 /// frames that were handed over to them, the newest first.
