@@ -1,10 +1,10 @@
 -- What a line says, whatever list it stands in. The last of its fields isn't searched for a space.
-use Rattle.std.proofs.Common.{◌≡◌, ℕ, ◌⊎◌, inl, inr, List, [], ◌∷◌, Bool, cond, true, false, refl, ap}
+use Rattle.std.proofs.Common.{◌≡◌, ℕ, List, [], ◌∷◌, Bool, cond, true, false, refl, ap}
 use Rattle.std.proofs.Common.{sym, ◌∙◌, Option, Some, None, Ok, Err}
 use Rattle.std.specs.Option.{option_map}
 use Rattle.std.specs.Str.Lines.{strip_carriage_return}
 use Rattle.afdx_lists.specs.declared.fault.LineFault.{LineFault}
-use Rattle.afdx_lists.specs.declared.fault.LineFault.TheVariants.{BadLine, BadHex, Memory}
+use Rattle.afdx_lists.specs.declared.fault.LineFault.TheVariants.{BadLine, BadHex}
 use Rattle.afdx_lists.specs.Fields.{between_spaces, holds_space, is_skipped, bytes_of_digits}
 use Rattle.afdx_lists.specs.Forms.{Form, from_five, five_of, if_five, said_with, fields_say_with}
 use Rattle.afdx_lists.specs.Forms.{fields_say, said_by}
@@ -98,20 +98,15 @@ module _ {F Y : Type 0} (form : Form F Y) (latest : ℕ) (line text : List ℕ) 
             → said_by form latest line ≡ said_with form fields (bytes_of_digits (form.digits fields))
         says_whole same sound = says_item fields (whole_from (form.fields text) same sound) sound
 
-        -- a fault of what stands behind the fourth space, or a space in it
-        pub says_digits_fault : (fault : LineFault) →
-            if_five form (Some fields) ≡ option_map cut (form.fields text) → form.fault latest fields ≡ None →
-            (fault ≡ Memory) ⊎ ((fault ≡ BadHex) × (bytes_of_digits (form.digits fields) ≡ None)) →
-            (cond (holds_space (form.digits fields)) BadLine fault ≡ Memory)
-            ⊎ (said_by form latest line ≡ Err (cond (holds_space (form.digits fields)) BadLine fault))
-        says_digits_fault fault five sound why = by (holds_space (form.digits fields)) refl why
+        -- what stands behind the fourth space isn't digits, or a space is in it
+        pub says_bad_hex : if_five form (Some fields) ≡ option_map cut (form.fields text)
+            → form.fault latest fields ≡ None → bytes_of_digits (form.digits fields) ≡ None →
+            said_by form latest line ≡ Err (cond (holds_space (form.digits fields)) BadLine BadHex)
+        says_bad_hex five sound bad = by (holds_space (form.digits fields)) refl
           where
-            by : (b : Bool) → holds_space (form.digits fields) ≡ b → (fault ≡ Memory)
-                ⊎ ((fault ≡ BadHex) × (bytes_of_digits (form.digits fields) ≡ None)) →
-                (cond b BadLine fault ≡ Memory) ⊎ (said_by form latest line ≡ Err (cond b BadLine fault))
-            by true e why = inr (says_bad_line (none_of _ fields _ e five))
-            by false e (inl memory) = inl memory
-            by false e (inr bad) = inr (says_whole (first_of _ fields _ e five) sound ∙ rw (bad.0, bad.1) refl)
+            by : (b : Bool) → holds_space (form.digits fields) ≡ b → said_by form latest line ≡ Err (cond b BadLine BadHex)
+            by true e = says_bad_line (none_of _ fields _ e five)
+            by false e = says_whole (first_of _ fields _ e five) sound ∙ ap (said_with form fields) bad
 
 -- ---- what was said
 

@@ -1,14 +1,16 @@
 //! The fields of a line: text between spaces, numbers, and bytes in hexadecimal digits.
 ghost use Rattle.hex.specs.Hex.{hex_digit_value, decode_pairs, decode_sized};
 ghost use Rattle.std.specs.Prelude.{◌≤◌, nat_le, length, true, IfSome, MatchResult, Err, ◌*◌, Ok, if◌then◌else◌, ◌≡◌, ◌∷◌, ◌⊎◌, ◌^◌, ◌-◌, min, Some, None, OnOk, IfErr, option_map};
+ghost use Rattle.std.specs.Prelude.{false};
 ghost use Rattle.memchr.specs.Find.{IsFirstByte, is_byte};
 ghost use Rattle.std.specs.Str.Lines.{strip_carriage_return};
 ghost use Rattle.afdx_lists.specs.Fields.{between_spaces, fields_after, number_of, bytes_of_digits, is_skipped};
 ghost use Rattle.afdx_lists.specs.Fields.{SplitsNumber, holds_space, time_fault, time_limit, cut_number};
-ghost use Rattle.afdx_lists.specs.declared.fault.LineFault.TheVariants.{BadLine, Memory, BadHex};
+ghost use Rattle.afdx_lists.specs.declared.fault.LineFault.TheVariants.{BadLine};
 
 use crate::fault::LineFault;
 use hex::FromHexError;
+use std::alloc::AllocError;
 
 /// The latest time that a line may have, in ns.
 const TIME_LIMIT: u64 = 1_000_000_000_000_000;
@@ -246,19 +248,19 @@ fn decode_to_slice(digits: &[u8], out: &mut [u8]) -> Result<(), FromHexError>
     hex::decode_to_slice(digits, out)
 }
 
-/// Puts the bytes that hexadecimal digits write, or `-` for none, in the place of `bytes`.
-pub(crate) fn read_bytes(digits: &[u8], bytes: &mut Vec<u8>) -> Result<(), LineFault>
-    ensures ok { OnOk result (bytes_of_digits digits.now ≡ Some bytes.new.items) }
-    ensures err { IfErr result (λ fault.
-        (fault ≡ Memory) ⊎ ((fault ≡ BadHex) × (bytes_of_digits digits.now ≡ None))) }
+/// Puts the bytes that hexadecimal digits write, or `-` for none, in the place of `bytes`. False:
+/// they aren't pairs of such digits.
+pub(crate) fn read_bytes(digits: &[u8], bytes: &mut Vec<u8>) -> Result<bool, AllocError>
+    ensures read { result ≡ Ok true → bytes_of_digits digits.now ≡ Some bytes.new.items }
+    ensures bad { result ≡ Ok false → bytes_of_digits digits.now ≡ None }
 {
     if digits == b"-".as_slice() {
         bytes.clear();
-        return Ok(());
+        return Ok(true);
     }
     bytes.resize(digits.len() / 2, 0)?;
     match decode_to_slice(digits, bytes.as_mut_slice()) {
-        Ok(()) => Ok(()),
-        Err(_) => Err(LineFault::BadHex),
+        Ok(()) => Ok(true),
+        Err(_) => Ok(false),
     }
 }

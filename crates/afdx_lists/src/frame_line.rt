@@ -1,15 +1,15 @@
 //! One line of a frame list.
 ghost use Rattle.std.specs.Prelude.{◌≡◌, ◌⊎◌, ◌^◌, ◌≤◌, None, Ok, Err, IfOk, IfSome, IfErr, OnOk, option_map};
 ghost use Rattle.afdx_frame.specs.Sealing.{is_sealed, sealed_wrongly};
+ghost use Rattle.afdx_lists.specs.Faults.{IsErrorOf};
 ghost use Rattle.afdx_lists.specs.Fields.{time_limit};
 ghost use Rattle.afdx_lists.specs.Forms.{from_five, if_five};
 ghost use Rattle.afdx_lists.specs.FrameLines.{kind_of, side_of, frame_fields, frame_bytes};
 ghost use Rattle.afdx_lists.specs.FrameLines.{frame_of, line_says, cut_frame, frame_fields_of};
 ghost use Rattle.afdx_lists.specs.FrameLines.{frame_fields_with, frame_form, numbers_fault};
 ghost use Rattle.afdx_lists.specs.FrameLines.{port_fault, last_port};
-ghost use Rattle.afdx_lists.specs.declared.fault.LineFault.TheVariants.{Memory};
 
-use crate::fault::LineFault;
+use crate::fault::{LineError, LineFault};
 use crate::fields::{
     fault_of_time, first_fault, read_bytes, says_nothing, split_field, split_number, trim_line,
 };
@@ -185,7 +185,7 @@ pub fn read_frame_line(
     line: &[u8],
     latest: u64,
     frame: &mut Vec<u8>,
-) -> Result<Option<Heading>, LineFault>
+) -> Result<Option<Heading>, LineError>
     requires { latest ≤ time_limit }
     ensures time { IfOk result (λ heading. IfSome heading (λ h. h.time ≤ time_limit)) }
     ensures order { IfOk result (λ heading. IfSome heading (λ h. latest ≤ h.time)) }
@@ -195,8 +195,7 @@ pub fn read_frame_line(
         IfSome heading (λ h. h.is_sealed ≡ is_sealed frame.new.items)) }
     ensures ok { IfOk result (λ heading. line_says latest line.now
         ≡ Ok (option_map (λ h. frame_of h frame.new.items) heading)) }
-    ensures err { IfErr result (λ fault.
-        (fault ≡ Memory) ⊎ (line_says latest line.now ≡ Err fault)) }
+    ensures err { IfErr result (IsErrorOf (line_says latest line.now)) }
 {
     let text = trim_line(line);
     if says_nothing(text) {
@@ -204,14 +203,15 @@ pub fn read_frame_line(
     }
     let fields = match read_fields(text) {
         Some(fields) => fields,
-        None => return Err(LineFault::BadLine),
+        None => return Err(LineError::Fault(LineFault::BadLine)),
     };
     if let Some(fault) = fault_of_numbers(fields.time, fields.port, latest) {
-        return Err(first_fault(fields.digits, fault));
+        return Err(LineError::Fault(first_fault(fields.digits, fault)));
     }
-    match read_bytes(fields.digits, frame) {
-        Ok(()) => {}
-        Err(fault) => return Err(first_fault(fields.digits, fault)),
+    let are_digits = read_bytes(fields.digits, frame)?;
+    if !are_digits {
+        let fault = first_fault(fields.digits, LineFault::BadHex);
+        return Err(LineError::Fault(fault));
     }
     let is_sealed = finish_frame(fields.kind, frame)?;
     Ok(Some(Heading {

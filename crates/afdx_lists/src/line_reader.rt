@@ -95,7 +95,8 @@ impl LineReader {
             (left R.remaining self.new input.new) (latest_line self.new) }
         ensures short { result ≡ Ok true → length (latest_line self.new) ≤ longest_line }
         ensures lines { result ≡ Ok true →
-            (lines_taken self.new ≡ lines_taken self.old + 1) × (lines_taken self.new ≤ most_lines) }
+            (lines_taken self.new ≡ lines_taken self.old + 1)
+            × (lines_taken self.new ≤ most_lines) }
         ensures same { result ≢ Ok true → lines_taken self.new ≡ lines_taken self.old }
         ensures last { result ≡ Ok false →
             (has_ended input.new ≡ true) × IsAtEnd (left R.remaining self.old input.old) }
@@ -145,7 +146,8 @@ impl LineReader {
 
     /// Whether a byte is held that belongs to no line that may be taken.
     fn holds_too_many(&self) -> bool
-        ensures yes { result ≡ true → (most_lines ≤ self.now.lines) × (self.now.start < self.now.end) }
+        ensures yes { result ≡ true →
+            (most_lines ≤ self.now.lines) × (self.now.start < self.now.end) }
         ensures no { result ≡ false → most_lines ≤ self.now.lines → self.now.start ≡ self.now.end }
     {
         self.lines >= MOST_LINES && self.start < self.end

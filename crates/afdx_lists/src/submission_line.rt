@@ -1,13 +1,13 @@
 //! One line of a submission list.
 ghost use Rattle.std.specs.Prelude.{◌≡◌, ◌⊎◌, ◌^◌, ◌-◌, ◌<◌, ◌≤◌, min, None, Ok, Err, IfOk, IfSome, IfErr, option_map};
+ghost use Rattle.afdx_lists.specs.Faults.{IsErrorOf};
 ghost use Rattle.afdx_lists.specs.Fields.{time_limit};
 ghost use Rattle.afdx_lists.specs.Forms.{from_five, if_five};
 ghost use Rattle.afdx_lists.specs.SubmissionLines.{at_most, submission_fields, submission_of};
 ghost use Rattle.afdx_lists.specs.SubmissionLines.{submission_said, cut_submission, submission_form};
 ghost use Rattle.afdx_lists.specs.SubmissionLines.{submission_fields_of, submission_fields_with};
-ghost use Rattle.afdx_lists.specs.declared.fault.LineFault.TheVariants.{Memory};
 
-use crate::fault::LineFault;
+use crate::fault::{LineError, LineFault};
 use crate::fields::{
     fault_of_time, first_fault, read_bytes, says_nothing, split_number, trim_line,
 };
@@ -122,14 +122,13 @@ pub fn read_submission_line(
     line: &[u8],
     latest: u64,
     payload: &mut Vec<u8>,
-) -> Result<Option<Handed>, LineFault>
+) -> Result<Option<Handed>, LineError>
     requires { latest ≤ time_limit }
     ensures time { IfOk result (λ handed. IfSome handed (λ h. h.time ≤ time_limit)) }
     ensures order { IfOk result (λ handed. IfSome handed (λ h. latest ≤ h.time)) }
     ensures ok { IfOk result (λ handed. submission_said latest line.now
         ≡ Ok (option_map (λ h. submission_of h payload.new.items) handed)) }
-    ensures err { IfErr result (λ fault. (fault ≡ Memory)
-        ⊎ (submission_said latest line.now ≡ Err fault)) }
+    ensures err { IfErr result (IsErrorOf (submission_said latest line.now)) }
 {
     let text = trim_line(line);
     if says_nothing(text) {
@@ -137,14 +136,15 @@ pub fn read_submission_line(
     }
     let fields = match read_fields(text) {
         Some(fields) => fields,
-        None => return Err(LineFault::BadLine),
+        None => return Err(LineError::Fault(LineFault::BadLine)),
     };
     if let Some(fault) = fault_of_time(fields.time, latest) {
-        return Err(first_fault(fields.digits, fault));
+        return Err(LineError::Fault(first_fault(fields.digits, fault)));
     }
-    match read_bytes(fields.digits, payload) {
-        Ok(()) => {}
-        Err(fault) => return Err(first_fault(fields.digits, fault)),
+    let are_digits = read_bytes(fields.digits, payload)?;
+    if !are_digits {
+        let fault = first_fault(fields.digits, LineFault::BadHex);
+        return Err(LineError::Fault(fault));
     }
     Ok(Some(Handed {
         time: fields.time,

@@ -15,7 +15,7 @@ use Rattle.afdx_lists.proofs.FrameLemmas.{line_says-later}
 use Rattle.afdx_lists.specs.Lines.{lines_of}
 use Rattle.afdx_lists.specs.declared.fault.LineFault.{LineFault}
 use Rattle.afdx_lists.specs.declared.fault.RunFault.{RunFault}
-use Rattle.afdx_lists.specs.declared.fault.RunFault.TheVariants.{Read, Write, Memory, TooManyLines, LineTooLong}
+use Rattle.afdx_lists.specs.declared.fault.RunFault.TheVariants.{Read, Write, Memory, TooManyLines, LineTooLong, Line}
 use Rattle.afdx_replay.specs.Lists.{items_of}
 use Rattle.afdx_replay.specs.Listed.{frames, latest_time, arrival_at, with_said, said_after, arrivals_of}
 use Rattle.afdx_replay.specs.ReplayPromises.{IsListed, ArrivalsAreListed}
@@ -123,7 +123,7 @@ module _ (t : Rows) (bytes : List ℕ) (old new : Option (List ℕ)) (lawful : I
   stops-promised rest Memory h = (h.0, h.1, told-some h.0 h.2)
   stops-promised rest TooManyLines h = (h.0, h.1, all-told h.0 h.2)
   stops-promised rest (LineTooLong m) h = (h.0, h.1, all-told h.0 h.2)
-  stops-promised rest fault h = (h.0, h.1, h.2, all-told h.0 h.3)
+  stops-promised rest (Line m fault) h = (h.0, h.1, h.2, all-told h.0 h.3)
 
   pub promised-answers : (rest : Option (List ℕ)) (r : Result Summary RunFault)
       → Answers t bytes rest old new r → PromisedAnswers t bytes rest old new r

@@ -9,13 +9,13 @@ use Rattle.std.proofs.KnownBytes.{Consumes-nil}
 use Rattle.afdx_lists.specs.declared.fault.RunFault.{RunFault}
 use Rattle.afdx_lists.specs.declared.fault.RunFault.TheVariants as run
 use Rattle.afdx_lists.specs.declared.fault.LineFault.{LineFault}
-use Rattle.afdx_lists.specs.declared.fault.LineFault.TheVariants.{BadLine, TimeTooLarge, TimeBack}
-use Rattle.afdx_lists.specs.declared.fault.LineFault.TheVariants.{BadPort, BadHex, Memory}
+use Rattle.afdx_lists.specs.declared.fault.LineError.{LineError}
+use Rattle.afdx_lists.specs.declared.fault.LineError.TheVariants.{Fault, Memory}
 use Rattle.afdx_lists.specs.Lines.{lines_of, whole_lines_of, TakesLine, CanStop, HasNoFeed}
 use Rattle.afdx_lists.specs.Lines.{TakesBytes, HasTaken, GaveWhole, most_lines, longest_line}
 use Rattle.afdx_lists.proofs.WholeLemmas.{HasTaken-next}
 use Rattle.afdx_lists.proofs.LineLemmas.{lines_of_nothing}
-use Rattle.afdx_lists.specs.Faults.{fault_with}
+use Rattle.afdx_lists.specs.Faults.{fault_at, IsErrorOf}
 use Rattle.afdx_replay.specs.Lists.{Kind, latest_in, with_item, items_of, item_said, fault_in}
 use Rattle.afdx_replay.specs.Lists.{fault_said, HaveNoFault, HaveFirstFault}
 use Rattle.afdx_replay.specs.Stops.{GaveLines, IsToldOf, StopsIn}
@@ -272,22 +272,10 @@ module _ {Y X : Type 0} (k : Kind Y X) (told all beginning : List X → Type 0) 
       (n, gave, told_so_far k told beginning latest n bytes rest h f)
 
   -- a line can't be read
-  one_of : (bytes : List ℕ) (after : Option (List ℕ)) (m : ℕ) (fault : LineFault) →
-      (n : ℕ) × GaveLines (Some bytes) after (n + 1) × HaveFirstFault k (lines_of bytes) n (fault_with m fault)
-      × all (items_of k (lines_of bytes) n) →
-      (n : ℕ) × GaveLines (Some bytes) after n × IsToldOf k beginning (lines_of bytes) n
-      → StopsIn k all beginning bytes after (fault_with m fault)
-  one_of bytes after m BadLine h d = h
-  one_of bytes after m TimeTooLarge h d = h
-  one_of bytes after m TimeBack h d = h
-  one_of bytes after m BadPort h d = h
-  one_of bytes after m BadHex h d = h
-  one_of bytes after m Memory h d = d
-
   first_fault : (latest n : ℕ) (lines : List (List ℕ)) (old_rest rest line : List ℕ) (fault : LineFault) → n < most_lines →
       length line ≤ longest_line → HasRead k told latest n lines old_rest → lines_of old_rest ≡ line ∷ lines_of rest →
       k.says latest line ≡ Err fault → ((past : List X) → told past → all past) →
-      HaveFirstFault k lines n (fault_with (n + 1) fault) × all (items_of k lines n)
+      HaveFirstFault k lines n (run.Line (n + 1) fault) × all (items_of k lines n)
   first_fault latest n lines old_rest rest line fault few short h takes said f =
       let next = next_line_is lines n line old_rest rest h.rest_is takes in
       let says_fault : item_said k lines n ≡ Err fault =
@@ -299,32 +287,28 @@ module _ {Y X : Type 0} (k : Kind Y X) (told all beginning : List X → Type 0) 
   stops_said : (latest n : ℕ) (input before rest after : Option (List ℕ)) (line : List ℕ) (fault : LineFault) →
       IsTaken n line before rest → HasComeIn k told latest n input before → GaveLines input after (n + 1) →
       k.says latest line ≡ Err fault → ((past : List X) → told past → all past) →
-      ((past : List X) → told past → beginning past) →
-      IfSome input (λ bytes. StopsIn k all beginning bytes after (fault_with (n + 1) fault))
-  stops_said latest n None before rest after line fault taken h gave said f g = tt
-  stops_said latest n (Some bytes) None rest after line fault taken h gave said f g = absurd h
-  stops_said latest n (Some bytes) (Some before) None after line fault taken h gave said f g = absurd taken.takes
-  stops_said latest n (Some bytes) (Some before) (Some rest) after line fault taken h gave said f g =
+      IfSome input (λ bytes. StopsIn k all beginning bytes after (run.Line (n + 1) fault))
+  stops_said latest n None before rest after line fault taken h gave said f = tt
+  stops_said latest n (Some bytes) None rest after line fault taken h gave said f = absurd h
+  stops_said latest n (Some bytes) (Some before) None after line fault taken h gave said f = absurd taken.takes
+  stops_said latest n (Some bytes) (Some before) (Some rest) after line fault taken h gave said f =
       let first = first_fault latest n (lines_of bytes) before rest line fault taken.few taken.short
       h taken.takes said f in
-      let gave_before = GaveLines-before (Some bytes) after n (n + 1) refl gave in
-      one_of bytes after (n + 1) fault (n, gave, first.0, first.1)
-      (n, gave_before, told_so_far k told beginning latest n bytes before h g)
+      (n, gave, first.0, first.1)
 
   pub stops-line : (latest n m : ℕ) (input before rest after : Option (List ℕ)) (line : List ℕ)
-      (fault : LineFault) (stop : RunFault) →
-      m ≡ n + 1 → stop ≡ fault_with m fault → (fault ≡ Memory) ⊎ (k.says latest line ≡ Err fault)
+      (error : LineError) (stop : RunFault) →
+      m ≡ n + 1 → stop ≡ fault_at m error → IsErrorOf (k.says latest line) error
       → IsTaken n line before rest →
       HasComeIn k told latest n input before → GaveLines input after m → ((past : List X) → told past → all past) →
       ((past : List X) → told past → beginning past) → IfSome input (λ bytes. StopsIn k all beginning bytes after stop)
-  stops-line latest n m input before rest after line fault stop place is (inl memory) taken h gave f g =
-      rw (is ∙ ap (fault_with m) memory)
-      (stops-memory latest n input before after h (GaveLines-before input after n m place gave) g)
-  stops-line latest n m input before rest after line fault stop place is (inr said) taken h gave f g =
+  stops-line latest n m input before rest after line Memory stop place is said taken h gave f g =
+      rw is (stops-memory latest n input before after h (GaveLines-before input after n m place gave) g)
+  stops-line latest n m input before rest after line (Fault fault) stop place is said taken h gave f g =
       let P : RunFault → Type 0 = λ s. IfSome input (λ bytes. StopsIn k all beginning bytes after s) in
       let gave_all = subst (λ (i : ℕ). GaveLines input after i) place gave in
-      let stops = stops_said latest n input before rest after line fault taken h gave_all said f g in
-      subst P (sym (is ∙ ap (λ (i : ℕ). fault_with i fault) place)) stops
+      let stops = stops_said latest n input before rest after line fault taken h gave_all said f in
+      subst P (sym (is ∙ ap (λ (i : ℕ). run.Line i fault) place)) stops
 
   stop_answers : (latest n : ℕ) (bytes rest : List ℕ) (after : Option (List ℕ)) (fault : RunFault)
       → HasRead k told latest n (lines_of bytes) rest → CanStop fault n (Some rest)
@@ -347,11 +331,7 @@ module _ {Y X : Type 0} (k : Kind Y X) (told all beginning : List X → Type 0) 
       (n, gave refl, told_so_far k told all latest n bytes rest h f)
   stop_answers latest n bytes rest after run.Memory h stop gave f = absurd stop
   stop_answers latest n bytes rest after run.Write h stop gave f = absurd stop
-  stop_answers latest n bytes rest after (run.BadLine m) h stop gave f = absurd stop
-  stop_answers latest n bytes rest after (run.BadHex m) h stop gave f = absurd stop
-  stop_answers latest n bytes rest after (run.TimeBack m) h stop gave f = absurd stop
-  stop_answers latest n bytes rest after (run.TimeTooLarge m) h stop gave f = absurd stop
-  stop_answers latest n bytes rest after (run.BadPort m) h stop gave f = absurd stop
+  stop_answers latest n bytes rest after (run.Line m said) h stop gave f = absurd stop
 
   -- no further line could be taken
   pub stops-reader : (latest n : ℕ) (input left after : Option (List ℕ)) (fault : RunFault)

@@ -221,7 +221,7 @@ pub fn run_unadmitted<R: Read, W: Write>(
         let heading = match read_frame_line(reader.line(), latest, &mut frame) {
             Ok(Some(heading)) => heading,
             Ok(None) => continue,
-            Err(fault) => return Err(fault.at_line(n)),
+            Err(error) => return Err(error.at_line(n)),
         };
         latest = heading.time;
         replay.tell_arrival(n, &heading, frame.as_slice(), output)?;

@@ -278,7 +278,7 @@ pub fn run_send<R: Read, W: Write>(
         let handed = match read_submission_line(reader.line(), latest, &mut payload) {
             Ok(Some(handed)) => handed,
             Ok(None) => continue,
-            Err(fault) => return Err(fault.at_line(n)),
+            Err(error) => return Err(error.at_line(n)),
         };
         latest = handed.time;
         sending.tell_submission(n, &handed, payload.as_slice(), output)?;
