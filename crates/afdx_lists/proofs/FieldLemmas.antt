@@ -1,24 +1,18 @@
 -- The fields of a line.
-use Rattle.std.proofs.Common.{◌≡◌, ℕ, ◌+◌, ◌-◌, ◌*◌, ◌^◌, ◌<◌, ◌≤◌, min, List, [], ◌∷◌, ◌++◌}
+use Rattle.std.proofs.Common.{◌≡◌, ℕ, ◌+◌, ◌-◌, ◌*◌, ◌<◌, ◌≤◌, List, [], ◌∷◌, ◌++◌}
 use Rattle.std.proofs.Common.{length, get_or, take, drop, Bool, true, false, cond, ◌&&◌, refl, ap}
-use Rattle.std.proofs.Common.{sym, ◌∙◌, arith, eqb, eq-eqb, Option, Some, None, suc, zero}
+use Rattle.std.proofs.Common.{sym, ◌∙◌, arith, eqb, eq-eqb, Option, Some, None, suc, zero, nat_lt, ltb-false}
 use Rattle.std.proofs.lemmas.Grind.{common_steps}
 use Rattle.std.specs.Char.{is_ascii_digit}
 use Rattle.std.specs.List.{slice_split}
 use Rattle.std.proofs.lemmas.List.Splits.{slice_split_at, slice_split_none}
 use Rattle.memchr.specs.Find.{IsFirstByte, is_byte}
 use Rattle.afdx_lists.proofs.LineLemmas.{piece_before, no_feed_at_all}
-use Rattle.std.specs.Option.{option_map}
-use Rattle.std.specs.Str.Lines.{strip_carriage_return}
 use Rattle.std.proofs.Common.{Result, Ok, Err}
-use Rattle.afdx_frame.specs.declared.link.Side.{Side}
-use Rattle.afdx_lists.specs.declared.frame_line.Kind.{Kind}
-use Rattle.afdx_lists.specs.declared.fault.LineFault.{LineFault}
-use Rattle.afdx_lists.specs.declared.fault.LineFault.TheVariants.{BadLine}
-use Rattle.afdx_lists.specs.Fields.{number_of, number_after, all_digits, is_skipped, bytes_of_digits, ok_of}
-use Rattle.afdx_lists.specs.FrameLines.{FrameFields, fields_with, saturated, frame_fields}
-use Rattle.afdx_lists.specs.FrameLines.{fields_say, fields_say_with, numbers_fault, line_says}
-use Rattle.afdx_lists.specs.FrameLines.{frame_with}
+use Rattle.afdx_lists.specs.declared.fault.LineFault.TheVariants.{TimeTooLarge, TimeBack}
+use Rattle.afdx_lists.specs.Fields.{number_of, number_after, all_digits, bytes_of_digits, ok_of}
+use Rattle.afdx_frame.specs.Times.{latest_listed}
+use Rattle.afdx_lists.specs.Fields.{cut, time_fault}
 use Rattle.hex.specs.Hex.{decode_of, decode_sized}
 use Rattle.hex.specs.declared.error.FromHexError.{FromHexError}
 use Rattle.std.specs.Prelude.{MatchResult, ◌/◌, ◌%◌}
@@ -75,86 +69,18 @@ pub rest_is_none : {X : Type 0} (o : Option X) → ((x : X) → o ≡ Some x →
 rest_is_none None h = refl
 rest_is_none (Some x) h = absurd (h x refl)
 
-pub fields_with-saturated : (kind : Option Kind) (time : Option ℕ) (side : Option Side)
-    (port : Option ℕ) (digits : List ℕ)
-    → fields_with kind (option_map (λ n. min n (2 ^ 64 - 1)) time) side
-    (option_map (λ n. min n (2 ^ 64 - 1)) port) digits
-    ≡ option_map saturated (fields_with kind time side port digits)
-fields_with-saturated None time side port digits = refl
-fields_with-saturated (Some kind) None side port digits = refl
-fields_with-saturated (Some kind) (Some time) None port digits = refl
-fields_with-saturated (Some kind) (Some time) (Some side) None digits = refl
-fields_with-saturated (Some kind) (Some time) (Some side) (Some port) [] = refl
-fields_with-saturated (Some kind) (Some time) (Some side) (Some port) (digit ∷ digits) = refl
+pub time_fault-cut : (time latest : ℕ) → latest ≤ latest_listed → time_fault (cut time) latest ≡ time_fault time latest
+time_fault-cut time latest h = grind (arith, common_steps)
 
-pub line_says_nothing : (latest : ℕ) (line text : List ℕ) → text ≡ strip_carriage_return line
-    → is_skipped text ≡ true → line_says latest line ≡ Ok None
-unfolding line_says
-line_says_nothing latest line text e h = rw (← e, h) refl
-
-line_says_fields : (latest : ℕ) (line text : List ℕ) → text ≡ strip_carriage_return line
-    → is_skipped text ≡ false → line_says latest line ≡ fields_say latest (frame_fields text)
-unfolding line_says
-line_says_fields latest line text e h = rw (← e, h) refl
-
-numbers_fault-sat : (time port latest : ℕ) → latest ≤ 10 ^ 15
-    → numbers_fault (min time (2 ^ 64 - 1)) (min port (2 ^ 64 - 1)) latest
-    ≡ numbers_fault time port latest
-numbers_fault-sat time port latest h = grind (arith, common_steps)
-
--- no field is cut off where no check of the numbers is false
-same_fields : (fields : FrameFields) (latest : ℕ) → fields.time ≤ 10 ^ 15 → fields.port ≤ 24 → saturated fields ≡ fields
-same_fields fields latest t p = let same_time : min fields.time (2 ^ 64 - 1) ≡ fields.time =
-    omega arith in let same_port : min fields.port (2 ^ 64 - 1) ≡ fields.port = omega arith in
-    rw (same_time, same_port) refl
-
--- what is read of a line whose numbers may be cut off
-none_from : (o : Option FrameFields) → None ≡ option_map saturated o → o ≡ None
-none_from None h = refl
-none_from (Some fields) h = cc
-
-pub says_bad_line : (latest : ℕ) (line text : List ℕ) → text ≡ strip_carriage_return line
-    → is_skipped text ≡ false → None ≡ option_map saturated (frame_fields text)
-    → line_says latest line ≡ Err BadLine
-says_bad_line latest line text e h none = line_says_fields latest line text e h
-    ∙ ap (fields_say latest) (none_from (frame_fields text) none)
-
-fields_fault : (latest : ℕ) (o : Option FrameFields) (fields : FrameFields) (fault : LineFault)
-    → Some fields ≡ option_map saturated o → latest ≤ 10 ^ 15
-    → Some fault ≡ numbers_fault fields.time fields.port latest → fields_say latest o ≡ Err fault
-fields_fault latest None fields fault same low h = cc
-fields_fault latest (Some whole) fields fault same low h =
-    let cut : fields ≡ saturated whole = cc in
-    let found : Some fault ≡ numbers_fault whole.time whole.port latest = rw cut at h
-    ∙ numbers_fault-sat whole.time whole.port latest low in
-    ap (fields_say_with whole) (sym found)
-
-pub says_fault : (latest : ℕ) (line text : List ℕ) (fields : FrameFields) (fault : LineFault)
-    → text ≡ strip_carriage_return line → is_skipped text ≡ false
-    → Some fields ≡ option_map saturated (frame_fields text) → latest ≤ 10 ^ 15
-    → Some fault ≡ numbers_fault fields.time fields.port latest → line_says latest line ≡ Err fault
-says_fault latest line text fields fault e h same low found = line_says_fields latest line text e h
-    ∙ fields_fault latest (frame_fields text) fields fault same low found
-
-fields_frame : (latest : ℕ) (o : Option FrameFields) (fields : FrameFields)
-    → Some fields ≡ option_map saturated o → None ≡ numbers_fault fields.time fields.port latest
-    → fields.time ≤ 10 ^ 15 → fields.port ≤ 24
-    → fields_say latest o ≡ frame_with fields (bytes_of_digits fields.digits)
-fields_frame latest None fields same h t p = cc
-fields_frame latest (Some whole) fields same h t p =
-    let cut : fields ≡ saturated whole = cc in
-    let small_time : whole.time ≤ 10 ^ 15 = omega (arith, ap (λ f. f.time) cut) in
-    let small_port : whole.port ≤ 24 = omega (arith, ap (λ f. f.port) cut) in
-    let same_fields : fields ≡ whole = cut ∙ same_fields whole latest small_time small_port in
-    rw same_fields (ap (fields_say_with whole) (sym (rw same_fields at h)))
-
-pub says_frame : (latest : ℕ) (line text : List ℕ) (fields : FrameFields)
-    → text ≡ strip_carriage_return line → is_skipped text ≡ false
-    → Some fields ≡ option_map saturated (frame_fields text)
-    → None ≡ numbers_fault fields.time fields.port latest → fields.time ≤ 10 ^ 15 → fields.port ≤ 24
-    → line_says latest line ≡ frame_with fields (bytes_of_digits fields.digits)
-says_frame latest line text fields e h same found t p = line_says_fields latest line text e h
-    ∙ fields_frame latest (frame_fields text) fields same found t p
+-- no check of a time is false
+pub time_fault-none : (time latest : ℕ) → time_fault time latest ≡ None → (time ≤ latest_listed) × (latest ≤ time)
+time_fault-none time latest none = by (nat_lt latest_listed time) refl (nat_lt time latest) refl none
+  where
+    by : (a : Bool) → nat_lt latest_listed time ≡ a → (b : Bool) → nat_lt time latest ≡ b
+        → cond a (Some TimeTooLarge) (cond b (Some TimeBack) None) ≡ None → (time ≤ latest_listed) × (latest ≤ time)
+    by true large b back h = absurd (cc h)
+    by false large true back h = absurd (cc h)
+    by false large false back h = (ltb-false latest_listed time large, ltb-false time latest back)
 
 -- digits are decoded into half as many bytes
 decode_sized_half-by : (b c : Bool) (odd whole wrong : Result (List ℕ) FromHexError) → c ≡ true

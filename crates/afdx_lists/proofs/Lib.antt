@@ -1,4 +1,5 @@
 pub mod FieldLemmas
+pub mod FormLemmas
 pub mod LineLemmas
 pub mod ReaderLemmas
 pub mod TakingLemmas
@@ -9,5 +10,5 @@ pub mod TellingLemmas
 mod DigitLemmas
 mod EncodingLemmas
 mod SpaceLemmas
-mod FrameLemmas
+pub mod FrameLemmas
 mod BlockLemmas

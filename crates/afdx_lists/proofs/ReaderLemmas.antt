@@ -5,7 +5,7 @@ use Rattle.std.proofs.Common.{slice_range, append_assoc}
 use Rattle.std.proofs.lemmas.List.{drop-take, take-append-drop, take-take, take_at}
 use Rattle.std.proofs.lemmas.Grind.{common_steps}
 use Rattle.afdx_lists.specs.declared.line_reader.LineReader.{LineReader}
-use Rattle.afdx_lists.specs.Lines.{unread}
+use Rattle.afdx_lists.specs.Lines.{unread, most_lines}
 
 pub nothing_between : (xs : List ℕ) → slice_range xs 0 0 ≡ []
 nothing_between xs = grind (arith, common_steps)
@@ -82,8 +82,8 @@ gave_none ended count room none some = let b : ltb 0 room ≡ true = grind (arit
     rw (none, b) (or_true ended)
 
 -- not all lines were taken where a byte is held that may belong to one
-pub few_lines : (lines start end held : ℕ) → (1000000 ≤ lines → start ≡ end) → held ≤ end - start
-    → 0 < held → lines < 1000000
+pub few_lines : (lines start end held : ℕ) → (most_lines ≤ lines → start ≡ end) → held ≤ end - start
+    → 0 < held → lines < most_lines
 few_lines lines start end held full within some = grind (arith, full)
 
 pub unread_nothing : (reader : LineReader) → reader.end - reader.start ≡ 0 → unread reader ≡ []

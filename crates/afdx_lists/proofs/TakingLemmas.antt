@@ -5,7 +5,7 @@ use Rattle.std.specs.Io.KnownBytes.{prepend_known, IsAtEnd}
 use Rattle.std.proofs.KnownBytes.{Consumes-nil, Consumes-trans}
 use Rattle.std.proofs.lemmas.List.{append-nil}
 use Rattle.std.proofs.lemmas.Grind.{common_steps}
-use Rattle.afdx_lists.specs.Lines.{lines_of, HasNoFeed, TakesLine, TakesBytes}
+use Rattle.afdx_lists.specs.Lines.{lines_of, HasNoFeed, TakesLine, TakesBytes, longest_line}
 use Rattle.afdx_lists.proofs.LineLemmas.{lines_of_feed, lines_of_last, lines_of_nothing, lines_of_some, lines_of_front}
 
 -- nothing was taken yet
@@ -74,9 +74,9 @@ some_line_left (Some xs) (Some ys) u v some h =
 
 -- the first line is long where it begins with so many bytes
 pub long_line_left : (a b : Option (List ℕ)) (u v piece tail : List ℕ) → HasNoFeed piece
-    → 4200 < length piece → v ≡ piece ++ tail → TakesBytes a b u v []
+    → longest_line < length piece → v ≡ piece ++ tail → TakesBytes a b u v []
     → IfSome (prepend_known u a) (λ bytes. (line : List ℕ) × (lines : List (List ℕ))
-    × (lines_of bytes ≡ line ∷ lines) × (4200 < length line))
+    × (lines_of bytes ≡ line ∷ lines) × (longest_line < length line))
 long_line_left None b u v piece tail none long e h = tt
 long_line_left (Some xs) None u v piece tail none long e h = absurd h.consumed
 long_line_left (Some xs) (Some ys) u v piece tail none long e h =

@@ -1,19 +1,36 @@
 -- The faults of lines and of runs.
-use Rattle.std.specs.Prelude.{ℕ, List, [], ◌++◌, Option, Some, None, codes}
+use Rattle.std.specs.Prelude.{ℕ, ◌≡◌, ⊤, List, [], ◌++◌, Option, Some, None, Result, Err, codes}
 use Rattle.std.specs.Fmt.{decimal}
 use Rattle.afdx_lists.specs.declared.fault.LineFault.{LineFault}
-use Rattle.afdx_lists.specs.declared.fault.LineFault.TheVariants.{BadLine, TimeTooLarge, TimeBack, BadPort, BadHex, Memory}
+use Rattle.afdx_lists.specs.declared.fault.LineFault.TheVariants.{BadLine, TimeTooLarge, TimeBack}
+use Rattle.afdx_lists.specs.declared.fault.LineFault.TheVariants.{BadPort, BadHex}
+use Rattle.afdx_lists.specs.declared.fault.LineError.{LineError}
+use Rattle.afdx_lists.specs.declared.fault.LineError.TheVariants as line
 use Rattle.afdx_lists.specs.declared.fault.RunFault.{RunFault}
 use Rattle.afdx_lists.specs.declared.fault.RunFault.TheVariants as run
 
--- the fault of a run whose line n can't be read
-abbrev pub fault_with : ℕ → LineFault → RunFault
-fault_with n BadLine = run.BadLine n
-fault_with n TimeTooLarge = run.TimeTooLarge n
-fault_with n TimeBack = run.TimeBack n
-fault_with n BadPort = run.BadPort n
-fault_with n BadHex = run.BadHex n
-fault_with n Memory = run.Memory
+-- the word of a line's fault
+abbrev pub line_word : LineFault → List ℕ
+line_word BadLine = codes "BadLine"
+line_word TimeTooLarge = codes "TimeTooLarge"
+line_word TimeBack = codes "TimeBack"
+line_word BadPort = codes "BadPort"
+line_word BadHex = codes "BadHex"
+
+-- the text of why a line wasn't read
+abbrev pub error_word : LineError → List ℕ
+error_word (line.Fault fault) = line_word fault
+error_word line.Memory = codes "memory"
+
+-- a line that says this wasn't read: for its fault, or for want of memory
+abbrev pub IsErrorOf : {A : Type 0} → Result A LineFault → LineError → Type 0
+IsErrorOf said (line.Fault fault) = said ≡ Err fault
+IsErrorOf said line.Memory = ⊤
+
+-- the fault of a run whose line n wasn't read
+abbrev pub fault_at : ℕ → LineError → RunFault
+fault_at n (line.Fault fault) = run.Line n fault
+fault_at n line.Memory = run.Memory
 
 -- the exit status: 3 for a fault of the list, 4 for a device or memory
 abbrev pub status_of : RunFault → ℕ
@@ -22,14 +39,15 @@ status_of run.Write = 4
 status_of run.Memory = 4
 status_of _ = 3
 
+-- the number of a line after a word, where there is one
+abbrev pub number_text : Option ℕ → List ℕ
+number_text (Some n) = codes " " ++ decimal n
+number_text None = []
+
 -- the text of a fault: its words, and the number of its line where it has one
 abbrev pub fault_text : RunFault → List ℕ
-fault_text (run.BadLine n) = codes "list BadLine " ++ decimal n
-fault_text (run.BadHex n) = codes "list BadHex " ++ decimal n
-fault_text (run.TimeBack n) = codes "list TimeBack " ++ decimal n
-fault_text (run.TimeTooLarge n) = codes "list TimeTooLarge " ++ decimal n
-fault_text (run.BadPort n) = codes "list BadPort " ++ decimal n
-fault_text (run.LineTooLong n) = codes "list LineTooLong " ++ decimal n
+fault_text (run.Line n fault) = codes "list " ++ line_word fault ++ number_text (Some n)
+fault_text (run.LineTooLong n) = codes "list LineTooLong" ++ number_text (Some n)
 fault_text run.TooManyLines = codes "list TooManyLines"
 fault_text run.Read = codes "device Read"
 fault_text run.Write = codes "device Write"
@@ -38,8 +56,3 @@ fault_text run.Memory = codes "memory"
 -- its one line on standard error
 unfoldable pub fault_line : RunFault → List ℕ
 fault_line fault = fault_text fault ++ codes "\n"
-
--- the number of a line, where there is one
-abbrev pub number_text : Option ℕ → List ℕ
-number_text (Some n) = decimal n
-number_text None = []

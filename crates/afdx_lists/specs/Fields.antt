@@ -1,11 +1,14 @@
 -- Numbers and bytes as the fields of a line write them.
 use Rattle.std.specs.Prelude.{ℕ, ◌+◌, ◌-◌, ◌*◌, ◌^◌, min, ◌==◌, ◌≡◌, Bool, true, false, ◌&&◌, ◌||◌, List, [], ◌∷◌, Option}
-use Rattle.std.specs.Prelude.{Some, None, Result, Ok, Err, if◌then◌else◌, option_map}
+use Rattle.std.specs.Prelude.{Some, None, Result, Ok, Err, if◌then◌else◌, option_map, nat_lt}
 use Rattle.std.specs.Borrow.{Bor}
 use Rattle.std.specs.List.{slice_split}
 use Rattle.std.specs.Str.{bytes_eq}
 use Rattle.std.specs.Char.{is_ascii_digit}
 use Rattle.hex.specs.Hex.{decode_of}
+use Rattle.afdx_frame.specs.Times.{latest_listed}
+use Rattle.afdx_lists.specs.declared.fault.LineFault.{LineFault}
+use Rattle.afdx_lists.specs.declared.fault.LineFault.TheVariants.{TimeTooLarge, TimeBack}
 
 -- the fields of a text, which stand between spaces
 abbrev pub between_spaces : List ℕ → List (List ℕ)
@@ -42,8 +45,12 @@ unfoldable pub bytes_of_digits : List ℕ → Option (List ℕ)
 bytes_of_digits digits = if bytes_eq digits (45 ∷ []) then Some [] else ok_of (decode_of digits)
 
 -- as much of a number as 64 bits hold
+abbrev pub cut : ℕ → ℕ
+cut n = min n (2 ^ 64 - 1)
+
+-- as much of it, where there is one
 abbrev pub cut_number : Option ℕ → Option ℕ
-cut_number number = option_map (λ n. min n (2 ^ 64 - 1)) number
+cut_number number = option_map cut number
 
 -- a text begins with a field that is this number, as much as 64 bits hold of it, or none, and has
 -- this rest after it
@@ -60,3 +67,15 @@ holds_space (byte ∷ bytes) = byte == 32 || holds_space bytes
 abbrev pub is_skipped : List ℕ → Bool
 is_skipped [] = true
 is_skipped (byte ∷ bytes) = byte == 35
+
+-- the first false check of a time, after a line of the latest time
+abbrev pub time_fault : ℕ → ℕ → Option LineFault
+time_fault time latest =
+    if nat_lt latest_listed time then Some TimeTooLarge
+    else if nat_lt time latest then Some TimeBack
+    else None
+
+-- the first of two checks that is false
+abbrev pub fault_or : Option LineFault → Option LineFault → Option LineFault
+fault_or (Some fault) next = Some fault
+fault_or None next = next

@@ -3,6 +3,7 @@ pub mod Watching
 pub mod Faults
 pub mod Lines
 pub mod Fields
+pub mod Forms
 pub mod FrameLines
 pub mod SubmissionLines
 pub mod Texts

@@ -1,5 +1,5 @@
 -- The lines of a list, and how a reader takes them from what it holds and what its input has left.
-use Rattle.std.specs.Prelude.{ℕ, ◌==◌, ◌≡◌, ◌<◌, ◌≤◌, ◌+◌, true, false, List, [], ◌∷◌, ◌++◌, length}
+use Rattle.std.specs.Prelude.{ℕ, ◌==◌, ◌≡◌, ◌<◌, ◌≤◌, ◌+◌, ◌*◌, true, false, List, [], ◌∷◌, ◌++◌, length}
 use Rattle.std.specs.Prelude.{take, drop, Option, Some, None, ⊤, IfSome, slice_range}
 use Rattle.std.specs.List.{slice_split, All}
 use Rattle.std.specs.Io.KnownBytes.{Consumes, prepend_known, IsAtEnd}
@@ -38,9 +38,21 @@ abbrev pub WholeLinesAreFirst : Type 0
 WholeLinesAreFirst = (front rest : List ℕ) →
     take (length (whole_lines_of front)) (lines_of (front ++ rest)) ≡ whole_lines_of front
 
--- the most reads of a list: 4,201 for each of 1,000,000 lines, and the one that finds the end
+-- the most lines of a list, blank ones and remarks counted
+abbrev pub most_lines : ℕ
+most_lines = 1000000
+
+-- the most bytes of a line, without its line feed
+abbrev pub longest_line : ℕ
+longest_line = 4200
+
+-- the most reads of a line: one for each of its bytes, and one for its line feed
+abbrev pub reads_of_line : ℕ
+reads_of_line = longest_line + 1
+
+-- the most reads of a list: those of its lines, and the one that finds the end
 abbrev pub most_reads : ℕ
-most_reads = 4201000001
+most_reads = reads_of_line * most_lines + 1
 
 -- no byte is a line feed
 abbrev pub HasNoFeed : List ℕ → Type 0
@@ -108,10 +120,10 @@ pub record AreWhole (bytes rest : List ℕ) (n : ℕ) : Type 0 where
 
 -- the taking of a line from what is left, after n others, may stop with this fault
 abbrev pub CanStop : RunFault → ℕ → Option (List ℕ) → Type 0
-CanStop TooManyLines n left = (1000000 ≤ n) × IfSome left (λ bytes. 0 < length (lines_of bytes))
+CanStop TooManyLines n left = (most_lines ≤ n) × IfSome left (λ bytes. 0 < length (lines_of bytes))
 CanStop (LineTooLong m) n left =
-    (m ≡ n + 1) × (n < 1000000)
+    (m ≡ n + 1) × (n < most_lines)
     × IfSome left (λ bytes. (line : List ℕ) × (lines : List (List ℕ))
-    × (lines_of bytes ≡ line ∷ lines) × (4200 < length line))
+    × (lines_of bytes ≡ line ∷ lines) × (longest_line < length line))
 CanStop Read n left = ⊤
 CanStop _ n left = ⊥

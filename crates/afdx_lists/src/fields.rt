@@ -1,14 +1,18 @@
 //! The fields of a line: text between spaces, numbers, and bytes in hexadecimal digits.
 ghost use Rattle.hex.specs.Hex.{hex_digit_value, decode_pairs, decode_sized};
 ghost use Rattle.std.specs.Prelude.{◌≤◌, nat_le, length, true, IfSome, MatchResult, Err, ◌*◌, Ok, if◌then◌else◌, ◌≡◌, ◌∷◌, ◌⊎◌, ◌^◌, ◌-◌, min, Some, None, OnOk, IfErr, option_map};
+ghost use Rattle.std.specs.Prelude.{false};
 ghost use Rattle.memchr.specs.Find.{IsFirstByte, is_byte};
 ghost use Rattle.std.specs.Str.Lines.{strip_carriage_return};
 ghost use Rattle.afdx_lists.specs.Fields.{between_spaces, fields_after, number_of, bytes_of_digits, is_skipped};
-ghost use Rattle.afdx_lists.specs.Fields.{SplitsNumber, holds_space};
-ghost use Rattle.afdx_lists.specs.declared.fault.LineFault.TheVariants.{BadLine, Memory, BadHex};
+ghost use Rattle.afdx_frame.specs.Times.{latest_listed};
+ghost use Rattle.afdx_lists.specs.Fields.{SplitsNumber, holds_space, time_fault, cut_number};
+ghost use Rattle.afdx_lists.specs.declared.fault.LineFault.TheVariants.{BadLine};
 
 use crate::fault::LineFault;
+use afdx_frame::LATEST_LISTED;
 use hex::FromHexError;
+use std::alloc::AllocError;
 
 /// The number of so many decimal digits is less than 2^64.
 const FEW_DIGITS: usize = 19;
@@ -78,7 +82,7 @@ fn split_few_digits(text: &[u8]) -> Option<(u64, &[u8])>
 #[inline(never)]
 fn read_many_digits(text: &[u8]) -> Option<u64>
     requires { 1 ≤ length text.now }
-    ensures { result ≡ option_map (λ n. min n (2 ^ 64 - 1)) (number_of text.now) }
+    ensures { result ≡ cut_number (number_of text.now) }
 {
     let mut value = 0u64;
     for digit in text {
@@ -115,6 +119,21 @@ pub(crate) fn split_number(text: &[u8]) -> (Option<u64>, Option<&[u8]>)
     match split_few_digits(text) {
         Some((number, rest)) => (Some(number), Some(rest)),
         None => split_any_number(text),
+    }
+}
+
+/// The first false check of a line's time, after one of the latest time.
+pub(crate) fn fault_of_time(time: u64, latest: u64) -> Option<LineFault>
+    ensures fault { result ≡ time_fault time latest }
+    ensures time { result ≡ None → time ≤ latest_listed }
+    ensures order { result ≡ None → latest ≤ time }
+{
+    if time > LATEST_LISTED {
+        Some(LineFault::TimeTooLarge)
+    } else if time < latest {
+        Some(LineFault::TimeBack)
+    } else {
+        None
     }
 }
 
@@ -229,19 +248,19 @@ fn decode_to_slice(digits: &[u8], out: &mut [u8]) -> Result<(), FromHexError>
     hex::decode_to_slice(digits, out)
 }
 
-/// Puts the bytes that hexadecimal digits write, or `-` for none, in the place of `bytes`.
-pub(crate) fn read_bytes(digits: &[u8], bytes: &mut Vec<u8>) -> Result<(), LineFault>
-    ensures ok { OnOk result (bytes_of_digits digits.now ≡ Some bytes.new.items) }
-    ensures err { IfErr result (λ fault.
-        (fault ≡ Memory) ⊎ ((fault ≡ BadHex) × (bytes_of_digits digits.now ≡ None))) }
+/// Puts the bytes that hexadecimal digits write, or `-` for none, in the place of `bytes`. False:
+/// they aren't pairs of such digits.
+pub(crate) fn read_bytes(digits: &[u8], bytes: &mut Vec<u8>) -> Result<bool, AllocError>
+    ensures read { result ≡ Ok true → bytes_of_digits digits.now ≡ Some bytes.new.items }
+    ensures bad { result ≡ Ok false → bytes_of_digits digits.now ≡ None }
 {
     if digits == b"-".as_slice() {
         bytes.clear();
-        return Ok(());
+        return Ok(true);
     }
     bytes.resize(digits.len() / 2, 0)?;
     match decode_to_slice(digits, bytes.as_mut_slice()) {
-        Ok(()) => Ok(()),
-        Err(_) => Err(LineFault::BadHex),
+        Ok(()) => Ok(true),
+        Err(_) => Ok(false),
     }
 }

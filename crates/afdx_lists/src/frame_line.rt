@@ -1,14 +1,23 @@
 //! One line of a frame list.
 ghost use Rattle.std.specs.Prelude.{◌≡◌, ◌⊎◌, ◌^◌, ◌≤◌, None, Ok, Err, IfOk, IfSome, IfErr, OnOk, option_map};
 ghost use Rattle.afdx_frame.specs.Sealing.{is_sealed, sealed_wrongly};
+ghost use Rattle.afdx_lists.specs.Faults.{IsErrorOf};
 ghost use Rattle.afdx_frame.specs.Times.{latest_listed};
-ghost use Rattle.afdx_lists.specs.FrameLines.{kind_of, side_of, frame_fields, frame_bytes, frame_of, line_says, saturated, fields_of, fields_with, if_five, numbers_fault};
-ghost use Rattle.afdx_lists.specs.declared.fault.LineFault.TheVariants.{Memory};
+ghost use Rattle.afdx_lists.specs.Forms.{from_five, if_five};
+ghost use Rattle.afdx_lists.specs.FrameLines.{kind_of, side_of, frame_fields, frame_bytes};
+ghost use Rattle.afdx_lists.specs.FrameLines.{frame_of, line_says, cut_frame, frame_fields_of};
+ghost use Rattle.afdx_lists.specs.FrameLines.{frame_fields_with, frame_form, numbers_fault};
+ghost use Rattle.afdx_lists.specs.FrameLines.{port_fault, last_port};
 
-use crate::fault::LineFault;
-use crate::fields::{first_fault, read_bytes, says_nothing, split_field, split_number, trim_line};
-use afdx_frame::{LATEST_LISTED, Side, fcs, is_sealed, seal};
+use crate::fault::{LineError, LineFault};
+use crate::fields::{
+    fault_of_time, first_fault, read_bytes, says_nothing, split_field, split_number, trim_line,
+};
+use afdx_frame::{Side, fcs, is_sealed, seal};
 use std::alloc::AllocError;
+
+/// The greatest number of a port of a switch; the first one is 1.
+pub const LAST_PORT: u8 = 24;
 
 /// When and where a frame comes in at a switch.
 #[derive(Clone, Copy, Debug, PartialEq, Eq)]
@@ -73,7 +82,8 @@ fn fields_from<'a>(
     port: Option<u64>,
     digits: &'a [u8],
 ) -> Option<Fields<'a>>
-    ensures { option_map fields_of result ≡ fields_with kind time side port digits.entry.now }
+    ensures { option_map frame_fields_of result
+        ≡ from_five frame_fields_with kind time side port digits.entry.now }
 {
     if digits.is_empty() {
         return None;
@@ -90,8 +100,8 @@ fn fields_from<'a>(
 /// The fields of a text. The last one is all that stands behind the fourth space: it isn't searched
 /// for a further one.
 fn read_fields(text: &[u8]) -> Option<Fields<'_>>
-    ensures { if_five (option_map fields_of result)
-        ≡ option_map saturated (frame_fields text.now) }
+    ensures { if_five frame_form (option_map frame_fields_of result)
+        ≡ option_map cut_frame (frame_fields text.now) }
 {
     let (kind, rest) = split_field(text);
     let Some(text) = rest else {
@@ -112,22 +122,30 @@ fn read_fields(text: &[u8]) -> Option<Fields<'_>>
     fields_from(read_kind(kind), time, read_side(side), port, digits)
 }
 
+/// The fault of a port that is not one of 1 to 24.
+fn fault_of_port(port: u64) -> Option<LineFault>
+    ensures fault { result ≡ port_fault port }
+    ensures some_port { result ≡ None → 1 ≤ port }
+    ensures port { result ≡ None → port ≤ last_port }
+{
+    if port < 1 || port > u64::from(LAST_PORT) {
+        Some(LineFault::BadPort)
+    } else {
+        None
+    }
+}
+
 /// The first false check of a line's numbers.
 fn fault_of_numbers(time: u64, port: u64, latest: u64) -> Option<LineFault>
     ensures fault { result ≡ numbers_fault time port latest }
     ensures time { result ≡ None → time ≤ latest_listed }
     ensures order { result ≡ None → latest ≤ time }
     ensures some_port { result ≡ None → 1 ≤ port }
-    ensures port { result ≡ None → port ≤ 24 }
+    ensures port { result ≡ None → port ≤ last_port }
 {
-    if time > LATEST_LISTED {
-        Some(LineFault::TimeTooLarge)
-    } else if time < latest {
-        Some(LineFault::TimeBack)
-    } else if port < 1 || port > 24 {
-        Some(LineFault::BadPort)
-    } else {
-        None
+    match fault_of_time(time, latest) {
+        Some(fault) => Some(fault),
+        None => fault_of_port(port),
     }
 }
 
@@ -167,18 +185,17 @@ pub fn read_frame_line(
     line: &[u8],
     latest: u64,
     frame: &mut Vec<u8>,
-) -> Result<Option<Heading>, LineFault>
+) -> Result<Option<Heading>, LineError>
     requires { latest ≤ latest_listed }
     ensures time { IfOk result (λ heading. IfSome heading (λ h. h.time ≤ latest_listed)) }
     ensures order { IfOk result (λ heading. IfSome heading (λ h. latest ≤ h.time)) }
     ensures some_port { IfOk result (λ heading. IfSome heading (λ h. 1 ≤ h.port)) }
-    ensures port { IfOk result (λ heading. IfSome heading (λ h. h.port ≤ 24)) }
+    ensures port { IfOk result (λ heading. IfSome heading (λ h. h.port ≤ last_port)) }
     ensures sealed { IfOk result (λ heading.
         IfSome heading (λ h. h.is_sealed ≡ is_sealed frame.new.items)) }
     ensures ok { IfOk result (λ heading. line_says latest line.now
         ≡ Ok (option_map (λ h. frame_of h frame.new.items) heading)) }
-    ensures err { IfErr result (λ fault.
-        (fault ≡ Memory) ⊎ (line_says latest line.now ≡ Err fault)) }
+    ensures err { IfErr result (IsErrorOf (line_says latest line.now)) }
 {
     let text = trim_line(line);
     if says_nothing(text) {
@@ -186,14 +203,15 @@ pub fn read_frame_line(
     }
     let fields = match read_fields(text) {
         Some(fields) => fields,
-        None => return Err(LineFault::BadLine),
+        None => return Err(LineError::Fault(LineFault::BadLine)),
     };
     if let Some(fault) = fault_of_numbers(fields.time, fields.port, latest) {
-        return Err(first_fault(fields.digits, fault));
+        return Err(LineError::Fault(first_fault(fields.digits, fault)));
     }
-    match read_bytes(fields.digits, frame) {
-        Ok(()) => {}
-        Err(fault) => return Err(first_fault(fields.digits, fault)),
+    let are_digits = read_bytes(fields.digits, frame)?;
+    if !are_digits {
+        let fault = first_fault(fields.digits, LineFault::BadHex);
+        return Err(LineError::Fault(fault));
     }
     let is_sealed = finish_frame(fields.kind, frame)?;
     Ok(Some(Heading {

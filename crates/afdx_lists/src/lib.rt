@@ -14,8 +14,8 @@ mod watched;
 mod writing;
 
 pub use buffered::Buffered;
-pub use fault::{LineFault, RunFault};
-pub use frame_line::{Heading, read_frame_line};
+pub use fault::{LineError, LineFault, RunFault};
+pub use frame_line::{Heading, LAST_PORT, read_frame_line};
 pub use line_reader::LineReader;
 pub use submission_line::{Handed, read_submission_line};
 pub use telling::{tell, tell_fault};

@@ -45,7 +45,7 @@ fn new_chunk(alloc: Global) -> Result<Vec<u8>, AllocError>
 impl LineReader {
     ghost use Rattle.afdx_lists.specs.Lines.{unread, latest_line, lines_taken, left, IsHonest};
     ghost use Rattle.afdx_lists.specs.Lines.{HasNoFeed, IsFirstFeed, TakesLine, TakesBytes};
-    ghost use Rattle.afdx_lists.specs.Lines.{CanStop};
+    ghost use Rattle.afdx_lists.specs.Lines.{CanStop, most_lines, longest_line, reads_of_line};
     ghost use Rattle.afdx_lists.specs.Watching.{calls_of, device_of, has_ended, has_failed};
 
     /// A reader that has taken nothing yet.
@@ -93,9 +93,10 @@ impl LineReader {
         // What is taken, of what is left of the list.
         ensures line { result ≡ Ok true → TakesLine (left R.remaining self.old input.old)
             (left R.remaining self.new input.new) (latest_line self.new) }
-        ensures short { result ≡ Ok true → length (latest_line self.new) ≤ 4200 }
+        ensures short { result ≡ Ok true → length (latest_line self.new) ≤ longest_line }
         ensures lines { result ≡ Ok true →
-            (lines_taken self.new ≡ lines_taken self.old + 1) × (lines_taken self.new ≤ 1000000) }
+            (lines_taken self.new ≡ lines_taken self.old + 1)
+            × (lines_taken self.new ≤ most_lines) }
         ensures same { result ≢ Ok true → lines_taken self.new ≡ lines_taken self.old }
         ensures last { result ≡ Ok false →
             (has_ended input.new ≡ true) × IsAtEnd (left R.remaining self.old input.old) }
@@ -113,8 +114,8 @@ impl LineReader {
             (unread self.old) (unread self.new) [] }
 
         // How often the input is read.
-        ensures calls { calls_of input.new ≤ calls_of input.old + 4201 }
-        ensures last_call { 1000000 ≤ lines_taken self.old →
+        ensures calls { calls_of input.new ≤ calls_of input.old + reads_of_line }
+        ensures last_call { most_lines ≤ lines_taken self.old →
             calls_of input.new ≤ calls_of input.old + 1 }
     {
         let mut searched = 0usize;
@@ -145,8 +146,9 @@ impl LineReader {
 
     /// Whether a byte is held that belongs to no line that may be taken.
     fn holds_too_many(&self) -> bool
-        ensures yes { result ≡ true → (1000000 ≤ self.now.lines) × (self.now.start < self.now.end) }
-        ensures no { result ≡ false → 1000000 ≤ self.now.lines → self.now.start ≡ self.now.end }
+        ensures yes { result ≡ true →
+            (most_lines ≤ self.now.lines) × (self.now.start < self.now.end) }
+        ensures no { result ≡ false → most_lines ≤ self.now.lines → self.now.start ≡ self.now.end }
     {
         self.lines >= MOST_LINES && self.start < self.end
     }
@@ -170,7 +172,7 @@ impl LineReader {
     /// Takes a line of so many bytes, and what ends it.
     fn take_line(&mut self, length: usize, ending: usize)
         requires within { length + ending ≤ self.old.end - self.old.start }
-        requires few { self.old.lines < 1000000 }
+        requires few { self.old.lines < most_lines }
         ensures line { latest_line self.new ≡ take length (unread self.old) }
         ensures rest { unread self.new ≡ drop (length + ending) (unread self.old) }
         ensures lines { self.new.lines ≡ self.old.lines + 1 }
@@ -185,7 +187,7 @@ impl LineReader {
     fn refill<R: Read>(&mut self, input: &mut Watched<R>) -> Result<bool, RunFault>
         requires sound { has_failed input.old ≡ false }
         requires honest { IsHonest R.remaining input.old }
-        requires short { self.old.end - self.old.start ≤ 4200 }
+        requires short { self.old.end - self.old.start ≤ longest_line }
         ensures honest { IsHonest R.remaining input.new }
         ensures fault { IfErr result (λ fault. fault ≡ RunFault.Read) }
         ensures failed { has_failed input.new ≡ is_failed_read result }

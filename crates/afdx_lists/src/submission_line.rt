@@ -1,12 +1,16 @@
 //! One line of a submission list.
 ghost use Rattle.std.specs.Prelude.{◌≡◌, ◌⊎◌, ◌^◌, ◌-◌, ◌<◌, ◌≤◌, min, None, Ok, Err, IfOk, IfSome, IfErr, option_map};
+ghost use Rattle.afdx_lists.specs.Faults.{IsErrorOf};
 ghost use Rattle.afdx_frame.specs.Times.{latest_listed};
-ghost use Rattle.afdx_lists.specs.SubmissionLines.{at_most, submission_fields, submission_of, submission_said, saturated, fields_of, fields_with, if_five, time_fault};
-ghost use Rattle.afdx_lists.specs.declared.fault.LineFault.TheVariants.{Memory};
+ghost use Rattle.afdx_lists.specs.Forms.{from_five, if_five};
+ghost use Rattle.afdx_lists.specs.SubmissionLines.{at_most, submission_fields, submission_of};
+ghost use Rattle.afdx_lists.specs.SubmissionLines.{submission_said, cut_submission, submission_form};
+ghost use Rattle.afdx_lists.specs.SubmissionLines.{submission_fields_of, submission_fields_with};
 
-use crate::fault::LineFault;
-use crate::fields::{first_fault, read_bytes, says_nothing, split_number, trim_line};
-use afdx_frame::LATEST_LISTED;
+use crate::fault::{LineError, LineFault};
+use crate::fields::{
+    fault_of_time, first_fault, read_bytes, says_nothing, split_number, trim_line,
+};
 
 /// When a message is handed to a sender, and for what.
 #[derive(Clone, Copy, Debug, PartialEq, Eq)]
@@ -68,7 +72,8 @@ fn fields_from<'a>(
     udp: Option<u16>,
     digits: &'a [u8],
 ) -> Option<Fields<'a>>
-    ensures { option_map fields_of result ≡ fields_with time vl sub udp digits.entry.now }
+    ensures { option_map submission_fields_of result
+        ≡ from_five submission_fields_with time vl sub udp digits.entry.now }
 {
     if digits.is_empty() {
         return None;
@@ -85,8 +90,8 @@ fn fields_from<'a>(
 /// The fields of a text. The last one is all that stands behind the fourth space: it isn't searched
 /// for a further one.
 fn read_fields(text: &[u8]) -> Option<Fields<'_>>
-    ensures { if_five (option_map fields_of result)
-        ≡ option_map saturated (submission_fields text.now) }
+    ensures { if_five submission_form (option_map submission_fields_of result)
+        ≡ option_map cut_submission (submission_fields text.now) }
 {
     let (time, rest) = split_number(text);
     let Some(text) = rest else {
@@ -107,21 +112,6 @@ fn read_fields(text: &[u8]) -> Option<Fields<'_>>
     fields_from(time, port_of(vl), sub_of(sub), port_of(udp), digits)
 }
 
-/// The first false check of a line's time.
-fn fault_of_time(time: u64, latest: u64) -> Option<LineFault>
-    ensures fault { result ≡ time_fault time latest }
-    ensures time { result ≡ None → time ≤ latest_listed }
-    ensures order { result ≡ None → latest ≤ time }
-{
-    if time > LATEST_LISTED {
-        Some(LineFault::TimeTooLarge)
-    } else if time < latest {
-        Some(LineFault::TimeBack)
-    } else {
-        None
-    }
-}
-
 /// What a line says that comes after one of this time: a message, whose bytes are put in the place
 /// of `payload`, or nothing if it is to be skipped.
 ///
@@ -132,14 +122,13 @@ pub fn read_submission_line(
     line: &[u8],
     latest: u64,
     payload: &mut Vec<u8>,
-) -> Result<Option<Handed>, LineFault>
+) -> Result<Option<Handed>, LineError>
     requires { latest ≤ latest_listed }
     ensures time { IfOk result (λ handed. IfSome handed (λ h. h.time ≤ latest_listed)) }
     ensures order { IfOk result (λ handed. IfSome handed (λ h. latest ≤ h.time)) }
     ensures ok { IfOk result (λ handed. submission_said latest line.now
         ≡ Ok (option_map (λ h. submission_of h payload.new.items) handed)) }
-    ensures err { IfErr result (λ fault. (fault ≡ Memory)
-        ⊎ (submission_said latest line.now ≡ Err fault)) }
+    ensures err { IfErr result (IsErrorOf (submission_said latest line.now)) }
 {
     let text = trim_line(line);
     if says_nothing(text) {
@@ -147,14 +136,15 @@ pub fn read_submission_line(
     }
     let fields = match read_fields(text) {
         Some(fields) => fields,
-        None => return Err(LineFault::BadLine),
+        None => return Err(LineError::Fault(LineFault::BadLine)),
     };
     if let Some(fault) = fault_of_time(fields.time, latest) {
-        return Err(first_fault(fields.digits, fault));
+        return Err(LineError::Fault(first_fault(fields.digits, fault)));
     }
-    match read_bytes(fields.digits, payload) {
-        Ok(()) => {}
-        Err(fault) => return Err(first_fault(fields.digits, fault)),
+    let are_digits = read_bytes(fields.digits, payload)?;
+    if !are_digits {
+        let fault = first_fault(fields.digits, LineFault::BadHex);
+        return Err(LineError::Fault(fault));
     }
     Ok(Some(Handed {
         time: fields.time,

@@ -21,7 +21,7 @@ pub fn tell<W: Write>(device: &mut Watched<W>, text: &[u8])
     }
 }
 
-/// Hands a number to a device, if there is one.
+/// Hands a space and a number to a device, if there is one.
 fn tell_number<W: Write>(device: &mut Watched<W>, number: Option<u64>)
     ensures told { Tells W.contents device.old device.new (number_text number) }
     ensures unasked { has_failed device.old ≡ true → device.new ≡ device.old }
@@ -29,6 +29,7 @@ fn tell_number<W: Write>(device: &mut Watched<W>, number: Option<u64>)
     match number {
         Some(number) => {
             let mut digits = Buffer::new();
+            tell(device, b" ");
             tell(device, digits.format(number).as_bytes());
         }
         None => {}
@@ -40,8 +41,9 @@ fn tell_number<W: Write>(device: &mut Watched<W>, number: Option<u64>)
 pub fn tell_fault<W: Write>(device: &mut Watched<W>, fault: &RunFault)
     ensures { Tells W.contents device.old device.new (fault_line fault.now) }
 {
-    let (words, number) = fault.parts();
-    tell(device, words.as_bytes());
+    let (of, word, number) = fault.parts();
+    tell(device, of.as_bytes());
+    tell(device, word.as_bytes());
     tell_number(device, number);
     tell(device, b"\n");
 }

@@ -1,10 +1,8 @@
 -- A replay of admitted tables tells what is promised.
-use Rattle.std.proofs.Common.{◌≡◌, ℕ, zero, suc, ◌+◌, ◌^◌, ◌≤◌, ◌||◌, Bool, true, false, nat_lt}
+use Rattle.std.proofs.Common.{◌≡◌, ℕ, zero, suc, ◌+◌, ◌≤◌}
 use Rattle.std.proofs.Common.{List, [], ◌∷◌, length, refl, ap, ◌∙◌, subst, arith, inl, inr}
-use Rattle.std.specs.Prelude.{Option, Some, None, Result, Ok, Err, All, IfSome, slice_index_or, if◌then◌else◌}
-use Rattle.std.specs.Str.Lines.{strip_carriage_return}
+use Rattle.std.specs.Prelude.{Option, Some, None, Result, Ok, Err, All, IfSome, slice_index_or}
 use Rattle.std.specs.Io.KnownBytes.{Appends}
-use Rattle.std.proofs.lemmas.Bool.{ltb-false}
 use Rattle.afdx_config.specs.Admission.{IsAdmitted}
 use Rattle.afdx_config.specs.Lawful.{IsLawful}
 use Rattle.afdx_config.specs.Rows.{Rows}
@@ -12,14 +10,12 @@ use Rattle.afdx_police.specs.Arrival.{Arrival}
 use Rattle.afdx_bounds.specs.Outputs.{AreTimed}
 use Rattle.afdx_switch.specs.Admitted.{IsAdmittedRun}
 use Rattle.afdx_lists.specs.Calls.{AppendsFront}
-use Rattle.afdx_lists.specs.Fields.{bytes_of_digits, is_skipped}
-use Rattle.afdx_lists.specs.FrameLines.{Frame, FrameFields, frame_fields, frame_with, numbers_fault}
-use Rattle.afdx_lists.specs.FrameLines.{fields_say_with, fields_say, line_says}
+use Rattle.afdx_lists.specs.FrameLines.{Frame}
+use Rattle.afdx_lists.proofs.FrameLemmas.{line_says-later}
 use Rattle.afdx_lists.specs.Lines.{lines_of}
 use Rattle.afdx_lists.specs.declared.fault.LineFault.{LineFault}
-use Rattle.afdx_lists.specs.declared.fault.LineFault.TheVariants.{TimeTooLarge, TimeBack, BadPort}
 use Rattle.afdx_lists.specs.declared.fault.RunFault.{RunFault}
-use Rattle.afdx_lists.specs.declared.fault.RunFault.TheVariants.{Read, Write, Memory, TooManyLines, LineTooLong}
+use Rattle.afdx_lists.specs.declared.fault.RunFault.TheVariants.{Read, Write, Memory, TooManyLines, LineTooLong, Line}
 use Rattle.afdx_replay.specs.Lists.{items_of}
 use Rattle.afdx_replay.specs.Listed.{frames, latest_time, arrival_at, with_said, said_after, arrivals_of}
 use Rattle.afdx_replay.specs.ReplayPromises.{IsListed, ArrivalsAreListed}
@@ -31,51 +27,6 @@ use Rattle.afdx_replay.specs.declared.summary.Summary.{Summary}
 use Rattle.afdx_replay.proofs.PromisedLemmas.{replay-promised, so-far-told, none-counted}
 
 -- ---- the times of a list's arrivals don't decrease
-
-numbers-later : (time port latest : ℕ) → numbers_fault time port latest ≡ None → latest ≤ time
-numbers-later time port latest none =
-    by (nat_lt (10 ^ 15) time) (nat_lt time latest) (nat_lt port 1 || nat_lt 24 port) refl none
-  where
-    by : (a b c : Bool) → nat_lt time latest ≡ b
-        → (if a then Some TimeTooLarge else if b then Some TimeBack else if c then Some BadPort else
-        None) ≡ None → latest ≤ time
-    by true b c is h = absurd (cc h)
-    by false true c is h = absurd (cc h)
-    by false false c is h = ltb-false time latest is
-
-time_in : Result (Option Frame) LineFault → ℕ
-time_in (Ok (Some frame)) = frame.time
-time_in (Ok None) = 0
-time_in (Err fault) = 0
-
-with-time : (fields : FrameFields) (bytes : Option (List ℕ)) (frame : Frame)
-    → frame_with fields bytes ≡ Ok (Some frame) → fields.time ≡ frame.time
-unfolding time_in
-with-time fields None frame h = absurd (cc h)
-with-time fields (Some bytes) frame h = ap time_in h
-
-fields-later : (latest : ℕ) (o : Option FrameFields) (frame : Frame)
-    → fields_say latest o ≡ Ok (Some frame) → latest ≤ frame.time
-fields-later latest None frame h = absurd (cc h)
-fields-later latest (Some fields) frame h = by (numbers_fault fields.time fields.port latest) refl h
-  where
-    by : (n : Option LineFault) → numbers_fault fields.time fields.port latest ≡ n
-        → fields_say_with fields n ≡ Ok (Some frame) → latest ≤ frame.time
-    by (Some fault) some is = absurd (cc is)
-    by None none is =
-        let later = numbers-later fields.time fields.port latest none in
-        let same = with-time fields (bytes_of_digits fields.digits) frame is in
-        omega (arith, later, same)
-
-says-later : (latest : ℕ) (line : List ℕ) (frame : Frame) → line_says latest line ≡ Ok (Some frame)
-    → latest ≤ frame.time
-unfolding line_says
-says-later latest line frame h = by (is_skipped (strip_carriage_return line)) h
-  where
-    by : (b : Bool) → (if b then Ok None else fields_say latest
-        (frame_fields (strip_carriage_return line))) ≡ Ok (Some frame) → latest ≤ frame.time
-    by true is = absurd (cc is)
-    by false is = fields-later latest (frame_fields (strip_carriage_return line)) frame is
 
 latest-most : (past : List Arrival) → AreTimed past → All (λ y. y.time ≤ latest_time past) past
 latest-most [] timed k d lt = absurd (omega (arith, lt))
@@ -94,7 +45,7 @@ arrivals-timed lines (suc n) = by (said_after (arrivals_of lines n) (slice_index
     by (Err fault) is timed = timed
     by (Ok None) is timed = timed
     by (Ok (Some frame)) is timed =
-        let later = says-later (latest_time (arrivals_of lines n)) (slice_index_or lines n []) frame is in
+        let later = line_says-later (latest_time (arrivals_of lines n)) (slice_index_or lines n []) frame is in
         ((λ k d lt. let most = latest-most (arrivals_of lines n) timed k d lt in omega (arith, most, later)), timed)
 
 -- ---- each arrival is that of its line
@@ -172,7 +123,7 @@ module _ (t : Rows) (bytes : List ℕ) (old new : Option (List ℕ)) (lawful : I
   stops-promised rest Memory h = (h.0, h.1, told-some h.0 h.2)
   stops-promised rest TooManyLines h = (h.0, h.1, all-told h.0 h.2)
   stops-promised rest (LineTooLong m) h = (h.0, h.1, all-told h.0 h.2)
-  stops-promised rest fault h = (h.0, h.1, h.2, all-told h.0 h.3)
+  stops-promised rest (Line m fault) h = (h.0, h.1, h.2, all-told h.0 h.3)
 
   pub promised-answers : (rest : Option (List ℕ)) (r : Result Summary RunFault)
       → Answers t bytes rest old new r → PromisedAnswers t bytes rest old new r

@@ -1,5 +1,5 @@
 -- From what the senders took to what the receivers are told.
-use Rattle.std.proofs.Common.{◌≡◌, ◌≢◌, ℕ, zero, suc, ◌+◌, ◌<◌, ◌≤◌, ◌^◌, Bool, true, false}
+use Rattle.std.proofs.Common.{◌≡◌, ◌≢◌, ℕ, zero, suc, ◌+◌, ◌<◌, ◌≤◌, Bool, true, false}
 use Rattle.std.proofs.Common.{if◌then◌else◌, List, [], ◌∷◌, ◌++◌, length, take, filter, map, nat_eq}
 use Rattle.std.proofs.Common.{Some, refl, sym, ap, subst, ◌∙◌, arith, inl, inr, append_assoc}
 use Rattle.std.proofs.Common.{append-nil}
@@ -21,7 +21,8 @@ use Rattle.afdx_config.specs.SentList.{Message}
 use Rattle.afdx_config.proofs.EachRow.{all_at}
 use Rattle.afdx_lists.specs.FrameLines as frame
 use Rattle.afdx_lists.specs.FrameLines.{line_says}
-use Rattle.afdx_lists.specs.Lines.{lines_of}
+use Rattle.afdx_lists.specs.Lines.{lines_of, most_lines}
+use Rattle.afdx_frame.specs.Times.{latest_listed}
 use Rattle.afdx_police.specs.Arrival.{Arrival}
 use Rattle.afdx_port.specs.Schedule.{Turn}
 use Rattle.afdx_receive.specs.Copies.{AreSendable}
@@ -134,7 +135,7 @@ of-frame computed s turn is side =
     record { are_bytes = k.bytes; least = omega (arith, long, least); most = omega (arith, long, most, fits) }
 
 can-be-read : BuiltIsComputed → (s : SystemRow) (turns : List (Turn Frame))
-    → AllByRecursion (IsBuildable s) turns → AllByRecursion (λ turn. turn.end ≤ 10 ^ 15) turns
+    → AllByRecursion (IsBuildable s) turns → AllByRecursion (λ turn. turn.end ≤ latest_listed) turns
     → AllByRecursion (CanBeRead s) turns
 can-be-read computed s [] build early = tt
 can-be-read computed s (turn ∷ turns) build early = (
@@ -143,7 +144,7 @@ can-be-read computed s (turn ∷ turns) build early = (
 )
 
 all-fine : (s : SystemRow) (events : List Event) → AllByRecursion (CanBeRead s) (turns_in events)
-    → AllByRecursion (IsSaid 1000000) (submissions_in events) → AllByRecursion (IsFine s) events
+    → AllByRecursion (IsSaid most_lines) (submissions_in events) → AllByRecursion (IsFine s) events
 all-fine s [] can said = tt
 all-fine s (Emitted turn ∷ before) can said = (can.0, all-fine s before can.1 said)
 all-fine s (Submitted x fault ∷ before) can said = (said.0.line, all-fine s before can said.1)
@@ -288,8 +289,8 @@ module _ (laws : Laws) (t : Rows) (lawful : IsLawful t) (admitted : IsAdmitted t
   is_system : IsSystem t.profile s
   is_system = all_at (IsSystem t.profile) t.systems sender s lawful.systems.each sent.stands
 
-  said : AllByRecursion (IsSaid 1000000) (submissions_in events)
-  said = subst (λ (z : List Handed). AllByRecursion (IsSaid 1000000) z)
+  said : AllByRecursion (IsSaid most_lines) (submissions_in events)
+  said = subst (λ (z : List Handed). AllByRecursion (IsSaid most_lines) z)
       (sym sent.are_events.submissions_are) (all-said given (length given) sent.sound)
 
   is_link : (i : ℕ) (l : LinkRow) → slice_get links i ≡ Some l → IsLink (length t.systems) l
@@ -297,7 +298,7 @@ module _ (laws : Laws) (t : Rows) (lawful : IsLawful t) (admitted : IsAdmitted t
       all_at (IsLink (length t.systems)) t.links r.0 l lawful.links.each r.1)
 
   good : (i : ℕ) (l : LinkRow) → slice_get links i ≡ Some l → AllByRecursion (IsGood l) (taken_by l.vl events)
-  good i l at = taken-good 1000000 s links (distinct_links t.links sender lawful.links.identifiers)
+  good i l at = taken-good most_lines s links (distinct_links t.links sender lawful.links.identifiers)
       events sent.are_events.follow said i l at
 
   own-is : (i : ℕ) (l : LinkRow) → slice_get links i ≡ Some l → own_submissions h.taken i ≡ taken_by l.vl events
@@ -331,7 +332,7 @@ module _ (laws : Laws) (t : Rows) (lawful : IsLawful t) (admitted : IsAdmitted t
       → lines_at side port (lines_of (send_text s events)) ≡ []
   text-elsewhere side port ne = text-off-port s is_system.port.0 is_system.port.1 side port events ne fine
 
-  text-sound : length (lines_of (send_text s events)) ≤ 1000000
+  text-sound : length (lines_of (send_text s events)) ≤ most_lines
       → AreSound (lines_of (send_text s events)) (length (lines_of (send_text s events)))
   text-sound few = text-is-list s links is_system.port.0 is_system.port.1 events sent.are_events.follow fine few
 

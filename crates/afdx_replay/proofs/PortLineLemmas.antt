@@ -1,63 +1,24 @@
 -- The arrivals at a port are those that the lines at the port say.
-use Rattle.std.proofs.Common.{◌≡◌, ℕ, zero, suc, ◌+◌, ◌<◌, ◌≤◌, ◌^◌, ◌==◌, ◌&&◌, ◌||◌, Bool, true}
+use Rattle.std.proofs.Common.{◌≡◌, ℕ, zero, suc, ◌+◌, ◌<◌, ◌≤◌, ◌==◌, ◌&&◌, Bool, true}
 use Rattle.std.proofs.Common.{false, if◌then◌else◌, List, [], ◌∷◌, ◌++◌, length, take, filter}
 use Rattle.std.proofs.Common.{Option, Some, None, refl, sym, ap, subst, ◌∙◌, arith, nat_lt, nat_le}
 use Rattle.std.proofs.Common.{slice_index_or}
 use Rattle.std.specs.Prelude.{Result, Ok, Err}
-use Rattle.std.specs.Str.Lines.{strip_carriage_return}
-use Rattle.std.proofs.lemmas.Bool.Decides.{nat_tests}
 use Rattle.std.proofs.lemmas.List.{append-nil}
 use Rattle.std.proofs.lemmas.List.Elements.{filter-append}
 use Rattle.std.proofs.Math.Seq.{take-suc}
 use Rattle.afdx_frame.specs.Sides.{is_side}
 use Rattle.afdx_frame.specs.declared.link.Side.{Side}
 use Rattle.afdx_police.specs.Arrival.{Arrival}
-use Rattle.afdx_lists.specs.Fields.{is_skipped}
-use Rattle.afdx_lists.specs.FrameLines.{Frame, FrameFields, frame_fields, fields_say, fields_say_with, line_says}
+use Rattle.afdx_lists.specs.FrameLines.{Frame, line_says}
+use Rattle.afdx_lists.proofs.FrameLemmas.{line_says-alone}
 use Rattle.afdx_lists.specs.declared.fault.LineFault.{LineFault}
 use Rattle.afdx_lists.specs.declared.fault.RunFault.TheVariants as run
-use Rattle.afdx_lists.specs.declared.fault.LineFault.TheVariants.{TimeTooLarge, TimeBack, BadPort}
+use Rattle.afdx_lists.specs.Lines.{most_lines, longest_line}
 use Rattle.afdx_promises.specs.Sent.{arrivals_at}
 use Rattle.afdx_replay.specs.EndToEnd.{says_at, lines_at}
 use Rattle.afdx_replay.specs.Listed.{frames, arrival_at, arrivals_of, AreSound}
 use Rattle.afdx_replay.specs.Lists.{with_item, item_said, items_of, fault_in, fault_said}
-
--- ---- what a line says after others it says alone
-
-none-before : (time : ℕ) → nat_lt time 0 ≡ false
-none-before time = grind (arith, nat_tests)
-
-abbrev with_tests : FrameFields → Bool → Bool → Bool → Result (Option Frame) LineFault
-with_tests fields large back wrong =
-    fields_say_with fields (if large then Some TimeTooLarge else if back then Some TimeBack else if
-    wrong then Some BadPort else None)
-
-tests-alone : (fields : FrameFields) (large back wrong : Bool) (o : Option Frame)
-    → with_tests fields large back wrong ≡ Ok o → with_tests fields large false wrong ≡ Ok o
-tests-alone fields true back wrong o h = h
-tests-alone fields false true wrong o h = absurd (cc h)
-tests-alone fields false false wrong o h = h
-
-fields-alone : (latest : ℕ) (found : Option FrameFields) (o : Option Frame)
-    → fields_say latest found ≡ Ok o → fields_say 0 found ≡ Ok o
-fields-alone latest None o h = h
-fields-alone latest (Some fields) o h =
-    rw (none-before fields.time)
-    (tests-alone fields (nat_lt (10 ^ 15) fields.time) (nat_lt fields.time latest)
-    (nat_lt fields.port 1 || nat_lt 24 fields.port) o h)
-
-pub says-alone : (latest : ℕ) (line : List ℕ) (o : Option Frame) → line_says latest line ≡ Ok o
-    → line_says 0 line ≡ Ok o
-unfolding line_says
-says-alone latest line o h = by (is_skipped (strip_carriage_return line)) h
-  where
-    by : (b : Bool) → (if b then Ok None else fields_say latest
-        (frame_fields (strip_carriage_return line))) ≡ Ok o
-        → (if b then Ok None else fields_say 0 (frame_fields (strip_carriage_return line))) ≡ Ok o
-    by true k = k
-    by false k = fields-alone latest (frame_fields (strip_carriage_return line)) o k
-
--- ---- arrivals and lines
 
 -- an arrival is the frame that a line says
 pub record IsSaidBy (line : List ℕ) (x : Arrival) : Type 0 where
@@ -97,7 +58,7 @@ module _ (side : Side) (port : ℕ) where
 
   said-ok : (list : List (List ℕ)) (n : ℕ) (fault : LineFault) → fault_in frames list n ≡ None
       → item_said frames list n ≡ Err fault → ⊥
-  said-ok list n fault none e = by (nat_le 1000000 n) (nat_lt 4200 (length (slice_index_or list n []))) (rw e at none)
+  said-ok list n fault none e = by (nat_le most_lines n) (nat_lt longest_line (length (slice_index_or list n []))) (rw e at none)
     where
       by : (many long : Bool) →
           (if many then Some run.TooManyLines else if long then Some (run.LineTooLong (n + 1)) else
@@ -126,14 +87,14 @@ module _ (side : Side) (port : ℕ) where
         lines_at side port (take n list),
         line,
         line-on list n (omega (arith, le))
-            (ap (says_at side port) (says-alone _ line (Some f) e) ∙ test),
-        record { frame = f; said = says-alone _ line (Some f) e; time = refl; bytes = refl },
+            (ap (says_at side port) (line_says-alone _ line (Some f) e) ∙ test),
+        record { frame = f; said = line_says-alone _ line (Some f) e; time = refl; bytes = refl },
         rest,
       )
       by_test f e false test rest =
           subst (λ (z : List (List ℕ)). AreSaidBy (arrivals_at side port (arrivals_of list n)) z)
           (sym (line-off list n (omega (arith, le))
-          (ap (says_at side port) (says-alone _ line (Some f) e) ∙ test))) rest
+          (ap (says_at side port) (line_says-alone _ line (Some f) e) ∙ test))) rest
 
       by : (r : Result (Option Frame) LineFault) → item_said frames list n ≡ r
           → AreSaidBy (arrivals_at side port (arrivals_of list n)) (lines_at side port (take n list)) →
@@ -143,5 +104,5 @@ module _ (side : Side) (port : ℕ) where
       by (Ok None) e rest = subst
           (λ (z : List (List ℕ)). AreSaidBy (arrivals_at side port (arrivals_of list n)) z)
           (sym (line-off list n (omega (arith, le))
-          (ap (says_at side port) (says-alone _ line None e)))) rest
+          (ap (says_at side port) (line_says-alone _ line None e)))) rest
       by (Err fault) e rest = absurd (said-ok list n fault (sound n (omega arith)) e)

@@ -9,13 +9,13 @@ use Rattle.std.proofs.KnownBytes.{Consumes-nil}
 use Rattle.afdx_lists.specs.declared.fault.RunFault.{RunFault}
 use Rattle.afdx_lists.specs.declared.fault.RunFault.TheVariants as run
 use Rattle.afdx_lists.specs.declared.fault.LineFault.{LineFault}
-use Rattle.afdx_lists.specs.declared.fault.LineFault.TheVariants.{BadLine, TimeTooLarge, TimeBack}
-use Rattle.afdx_lists.specs.declared.fault.LineFault.TheVariants.{BadPort, BadHex, Memory}
+use Rattle.afdx_lists.specs.declared.fault.LineError.{LineError}
+use Rattle.afdx_lists.specs.declared.fault.LineError.TheVariants.{Fault, Memory}
 use Rattle.afdx_lists.specs.Lines.{lines_of, whole_lines_of, TakesLine, CanStop, HasNoFeed}
-use Rattle.afdx_lists.specs.Lines.{TakesBytes, HasTaken, GaveWhole}
+use Rattle.afdx_lists.specs.Lines.{TakesBytes, HasTaken, GaveWhole, most_lines, longest_line}
 use Rattle.afdx_lists.proofs.WholeLemmas.{HasTaken-next}
 use Rattle.afdx_lists.proofs.LineLemmas.{lines_of_nothing}
-use Rattle.afdx_lists.specs.Faults.{fault_with}
+use Rattle.afdx_lists.specs.Faults.{fault_at, IsErrorOf}
 use Rattle.afdx_replay.specs.Lists.{Kind, latest_in, with_item, items_of, item_said, fault_in}
 use Rattle.afdx_replay.specs.Lists.{fault_said, HaveNoFault, HaveFirstFault}
 use Rattle.afdx_replay.specs.Stops.{GaveLines, IsToldOf, StopsIn}
@@ -63,8 +63,8 @@ said_then k lines n line latest same is said =
 
 -- a line that may be taken: it is short, and not one too many
 pub record IsTaken (n : ℕ) (line : List ℕ) (before rest : Option (List ℕ)) : Type 0 where
-  pub few : n < 1000000
-  pub short : length line ≤ 4200
+  pub few : n < most_lines
+  pub short : length line ≤ longest_line
   pub takes : TakesLine before rest line
 
 drop_nothing : (n : ℕ) (xs : List (List ℕ)) → drop n xs ≡ [] → n ≤ length xs → n ≡ length xs
@@ -75,16 +75,16 @@ more_left n lines h = grind (arith, common_steps)
 
 module _ {Y X : Type 0} (k : Kind Y X) where
   -- a line of lawful place and length has the fault that it says
-  fault_at_line : (lines : List (List ℕ)) (n : ℕ) (line : List ℕ) → n < 1000000
-      → get_or lines n [] ≡ line → length line ≤ 4200
+  fault_at_line : (lines : List (List ℕ)) (n : ℕ) (line : List ℕ) → n < most_lines
+      → get_or lines n [] ≡ line → length line ≤ longest_line
       → fault_in k lines n ≡ fault_said (n + 1) (item_said k lines n)
   fault_at_line lines n line few same short =
-      let place : nat_le 1000000 n ≡ false = grind (arith, common_steps) in
-      let size : nat_lt 4200 (length (get_or lines n [])) ≡ false = rw same (grind (arith, common_steps)) in
+      let place : nat_le most_lines n ≡ false = grind (arith, common_steps) in
+      let size : nat_lt longest_line (length (get_or lines n [])) ≡ false = rw same (grind (arith, common_steps)) in
       rw (place, size) refl
 
   HasRead-skip : (told : List X → Type 0) (latest n : ℕ) (lines : List (List ℕ))
-      (old_rest rest line : List ℕ) → n < 1000000 → length line ≤ 4200
+      (old_rest rest line : List ℕ) → n < most_lines → length line ≤ longest_line
       → HasRead k told latest n lines old_rest → lines_of old_rest ≡ line ∷ lines_of rest
       → k.says latest line ≡ Ok None → HasRead k told latest (n + 1) lines rest
   HasRead-skip told latest n lines old_rest rest line few short h takes said =
@@ -101,7 +101,7 @@ module _ {Y X : Type 0} (k : Kind Y X) where
       }
 
   HasRead-item : (told after : List X → Type 0) (latest n : ℕ) (lines : List (List ℕ))
-      (old_rest rest line : List ℕ) (y : Y) → n < 1000000 → length line ≤ 4200
+      (old_rest rest line : List ℕ) (y : Y) → n < most_lines → length line ≤ longest_line
       → HasRead k told latest n lines old_rest → lines_of old_rest ≡ line ∷ lines_of rest
       → k.says latest line ≡ Ok (Some y)
       → ((past : List X) → told past → after (k.item (n + 1) y ∷ past))
@@ -272,22 +272,10 @@ module _ {Y X : Type 0} (k : Kind Y X) (told all beginning : List X → Type 0) 
       (n, gave, told_so_far k told beginning latest n bytes rest h f)
 
   -- a line can't be read
-  one_of : (bytes : List ℕ) (after : Option (List ℕ)) (m : ℕ) (fault : LineFault) →
-      (n : ℕ) × GaveLines (Some bytes) after (n + 1) × HaveFirstFault k (lines_of bytes) n (fault_with m fault)
-      × all (items_of k (lines_of bytes) n) →
-      (n : ℕ) × GaveLines (Some bytes) after n × IsToldOf k beginning (lines_of bytes) n
-      → StopsIn k all beginning bytes after (fault_with m fault)
-  one_of bytes after m BadLine h d = h
-  one_of bytes after m TimeTooLarge h d = h
-  one_of bytes after m TimeBack h d = h
-  one_of bytes after m BadPort h d = h
-  one_of bytes after m BadHex h d = h
-  one_of bytes after m Memory h d = d
-
-  first_fault : (latest n : ℕ) (lines : List (List ℕ)) (old_rest rest line : List ℕ) (fault : LineFault) → n < 1000000 →
-      length line ≤ 4200 → HasRead k told latest n lines old_rest → lines_of old_rest ≡ line ∷ lines_of rest →
+  first_fault : (latest n : ℕ) (lines : List (List ℕ)) (old_rest rest line : List ℕ) (fault : LineFault) → n < most_lines →
+      length line ≤ longest_line → HasRead k told latest n lines old_rest → lines_of old_rest ≡ line ∷ lines_of rest →
       k.says latest line ≡ Err fault → ((past : List X) → told past → all past) →
-      HaveFirstFault k lines n (fault_with (n + 1) fault) × all (items_of k lines n)
+      HaveFirstFault k lines n (run.Line (n + 1) fault) × all (items_of k lines n)
   first_fault latest n lines old_rest rest line fault few short h takes said f =
       let next = next_line_is lines n line old_rest rest h.rest_is takes in
       let says_fault : item_said k lines n ≡ Err fault =
@@ -299,39 +287,35 @@ module _ {Y X : Type 0} (k : Kind Y X) (told all beginning : List X → Type 0) 
   stops_said : (latest n : ℕ) (input before rest after : Option (List ℕ)) (line : List ℕ) (fault : LineFault) →
       IsTaken n line before rest → HasComeIn k told latest n input before → GaveLines input after (n + 1) →
       k.says latest line ≡ Err fault → ((past : List X) → told past → all past) →
-      ((past : List X) → told past → beginning past) →
-      IfSome input (λ bytes. StopsIn k all beginning bytes after (fault_with (n + 1) fault))
-  stops_said latest n None before rest after line fault taken h gave said f g = tt
-  stops_said latest n (Some bytes) None rest after line fault taken h gave said f g = absurd h
-  stops_said latest n (Some bytes) (Some before) None after line fault taken h gave said f g = absurd taken.takes
-  stops_said latest n (Some bytes) (Some before) (Some rest) after line fault taken h gave said f g =
+      IfSome input (λ bytes. StopsIn k all beginning bytes after (run.Line (n + 1) fault))
+  stops_said latest n None before rest after line fault taken h gave said f = tt
+  stops_said latest n (Some bytes) None rest after line fault taken h gave said f = absurd h
+  stops_said latest n (Some bytes) (Some before) None after line fault taken h gave said f = absurd taken.takes
+  stops_said latest n (Some bytes) (Some before) (Some rest) after line fault taken h gave said f =
       let first = first_fault latest n (lines_of bytes) before rest line fault taken.few taken.short
       h taken.takes said f in
-      let gave_before = GaveLines-before (Some bytes) after n (n + 1) refl gave in
-      one_of bytes after (n + 1) fault (n, gave, first.0, first.1)
-      (n, gave_before, told_so_far k told beginning latest n bytes before h g)
+      (n, gave, first.0, first.1)
 
   pub stops-line : (latest n m : ℕ) (input before rest after : Option (List ℕ)) (line : List ℕ)
-      (fault : LineFault) (stop : RunFault) →
-      m ≡ n + 1 → stop ≡ fault_with m fault → (fault ≡ Memory) ⊎ (k.says latest line ≡ Err fault)
+      (error : LineError) (stop : RunFault) →
+      m ≡ n + 1 → stop ≡ fault_at m error → IsErrorOf (k.says latest line) error
       → IsTaken n line before rest →
       HasComeIn k told latest n input before → GaveLines input after m → ((past : List X) → told past → all past) →
       ((past : List X) → told past → beginning past) → IfSome input (λ bytes. StopsIn k all beginning bytes after stop)
-  stops-line latest n m input before rest after line fault stop place is (inl memory) taken h gave f g =
-      rw (is ∙ ap (fault_with m) memory)
-      (stops-memory latest n input before after h (GaveLines-before input after n m place gave) g)
-  stops-line latest n m input before rest after line fault stop place is (inr said) taken h gave f g =
+  stops-line latest n m input before rest after line Memory stop place is said taken h gave f g =
+      rw is (stops-memory latest n input before after h (GaveLines-before input after n m place gave) g)
+  stops-line latest n m input before rest after line (Fault fault) stop place is said taken h gave f g =
       let P : RunFault → Type 0 = λ s. IfSome input (λ bytes. StopsIn k all beginning bytes after s) in
       let gave_all = subst (λ (i : ℕ). GaveLines input after i) place gave in
-      let stops = stops_said latest n input before rest after line fault taken h gave_all said f g in
-      subst P (sym (is ∙ ap (λ (i : ℕ). fault_with i fault) place)) stops
+      let stops = stops_said latest n input before rest after line fault taken h gave_all said f in
+      subst P (sym (is ∙ ap (λ (i : ℕ). run.Line i fault) place)) stops
 
   stop_answers : (latest n : ℕ) (bytes rest : List ℕ) (after : Option (List ℕ)) (fault : RunFault)
       → HasRead k told latest n (lines_of bytes) rest → CanStop fault n (Some rest)
       → (fault ≡ run.Read → GaveWhole (Some bytes) after n)
       → ((past : List X) → told past → all past) → StopsIn k all beginning bytes after fault
   stop_answers latest n bytes rest after run.TooManyLines h stop gave f =
-      let place : nat_le 1000000 n ≡ true = grind (arith, common_steps, stop.0) in (
+      let place : nat_le most_lines n ≡ true = grind (arith, common_steps, stop.0) in (
         n,
         (more_left n (lines_of bytes) (rw (← h.rest_is) stop.1), h.sound, rw place refl),
         f (items_of k (lines_of bytes) n) h.are_told,
@@ -339,19 +323,15 @@ module _ {Y X : Type 0} (k : Kind Y X) (told all beginning : List X → Type 0) 
   stop_answers latest n bytes rest after (run.LineTooLong m) h stop gave f =
       let line = stop.2 in
       let begins = drop_begins n (lines_of bytes) line.0 line.1 (sym h.rest_is ∙ line.2) in
-      let place : nat_le 1000000 n ≡ false = grind (arith, common_steps, stop.1) in
-      let size : nat_lt 4200 (length (get_or (lines_of bytes) n [])) ≡ true =
+      let place : nat_le most_lines n ≡ false = grind (arith, common_steps, stop.1) in
+      let size : nat_lt longest_line (length (get_or (lines_of bytes) n [])) ≡ true =
       rw begins.0 (grind (arith, common_steps, line.3)) in
       (n, (begins.2, h.sound, rw (place, size, stop.0) refl), f (items_of k (lines_of bytes) n) h.are_told)
   stop_answers latest n bytes rest after run.Read h stop gave f =
       (n, gave refl, told_so_far k told all latest n bytes rest h f)
   stop_answers latest n bytes rest after run.Memory h stop gave f = absurd stop
   stop_answers latest n bytes rest after run.Write h stop gave f = absurd stop
-  stop_answers latest n bytes rest after (run.BadLine m) h stop gave f = absurd stop
-  stop_answers latest n bytes rest after (run.BadHex m) h stop gave f = absurd stop
-  stop_answers latest n bytes rest after (run.TimeBack m) h stop gave f = absurd stop
-  stop_answers latest n bytes rest after (run.TimeTooLarge m) h stop gave f = absurd stop
-  stop_answers latest n bytes rest after (run.BadPort m) h stop gave f = absurd stop
+  stop_answers latest n bytes rest after (run.Line m said) h stop gave f = absurd stop
 
   -- no further line could be taken
   pub stops-reader : (latest n : ℕ) (input left after : Option (List ℕ)) (fault : RunFault)

@@ -11,12 +11,14 @@ use Rattle.hex.specs.Hex.{decode_of}
 use Rattle.hex.specs.declared.error.FromHexError.{FromHexError}
 use Rattle.hex.proofs.HexLemmas.{decode_of-ok}
 use Rattle.afdx_frame.specs.Sealing.{AreBytes}
-use Rattle.afdx_lists.specs.Fields.{number_of, bytes_of_digits, between_spaces, is_skipped, ok_of}
-use Rattle.afdx_lists.specs.SubmissionLines.{Submission, SubmissionFields, at_most, fields_with}
-use Rattle.afdx_lists.specs.SubmissionLines.{fields_of_parts, submission_fields, submission_with}
-use Rattle.afdx_lists.specs.SubmissionLines.{time_fault, fields_say, fields_say_with}
-use Rattle.afdx_lists.specs.SubmissionLines.{submission_said}
+use Rattle.afdx_lists.specs.Fields.{number_of, bytes_of_digits, between_spaces, ok_of}
+use Rattle.afdx_lists.specs.Forms.{from_five, five_of}
+use Rattle.afdx_lists.specs.SubmissionLines.{Submission, SubmissionFields, at_most, submission_fields}
+use Rattle.afdx_lists.specs.SubmissionLines.{submission_fields_with, submission_fields_from}
+use Rattle.afdx_lists.specs.SubmissionLines.{submission_form, submission_said}
+use Rattle.afdx_lists.proofs.FormLemmas.{says-from}
 use Rattle.afdx_lists.specs.declared.fault.LineFault.{LineFault}
+use Rattle.afdx_lists.specs.Lines.{most_lines}
 use Rattle.afdx_replay.specs.Lists.{with_item, item_said, items_of, fault_in, HaveNoFault}
 use Rattle.afdx_replay.specs.SendEvents.{Handed, submissions}
 
@@ -44,7 +46,7 @@ within limit n (Some m) h = by (nat_lt limit m) refl h
         omega (arith, same, le))
 
 udp-of : (time vl sub udp : Option ℕ) (digits : List ℕ) (fields : SubmissionFields)
-    → fields_with time vl sub udp digits ≡ Some fields → udp ≡ Some fields.udp
+    → from_five submission_fields_with time vl sub udp digits ≡ Some fields → udp ≡ Some fields.udp
 udp-of (Some time) (Some vl) (Some sub) (Some udp) (digit ∷ digits) fields h =
     (let same : record { time = time; vl = vl; sub = sub; udp = udp; digits = digit ∷ digits }
     ≡ fields = cc h in ap (λ (f : SubmissionFields). Some f.udp) same)
@@ -55,7 +57,7 @@ udp-of (Some time) None sub udp digits fields h = absurd (cc h)
 udp-of None vl sub udp digits fields h = absurd (cc h)
 
 udp-of-parts : (parts : List (List ℕ)) (fields : SubmissionFields)
-    → fields_of_parts parts ≡ Some fields → fields.udp ≤ 65535
+    → five_of submission_fields_from parts ≡ Some fields → fields.udp ≤ 65535
 udp-of-parts [] fields h = absurd (cc h)
 udp-of-parts (time ∷ []) fields h = absurd (cc h)
 udp-of-parts (time ∷ vl ∷ []) fields h = absurd (cc h)
@@ -83,37 +85,12 @@ record IsInRange (x : Submission) : Type 0 where
 
 said-in-range : (latest : ℕ) (line : List ℕ) (x : Submission) → submission_said latest line ≡ Ok (Some x) → IsInRange x
 unfolding submission_said
-said-in-range latest line x h = by (is_skipped (strip_carriage_return line)) h
-  where
-    with_bytes : (fields : SubmissionFields) → fields.udp ≤ 65535 → (o : Option (List ℕ))
-        → bytes_of_digits fields.digits ≡ o → submission_with fields o ≡ Ok (Some x) → IsInRange x
-    with_bytes fields udp None e k = absurd (cc k)
-    with_bytes fields udp (Some bytes) e k =
-        (let same : record {
-          time = fields.time;
-          vl = fields.vl;
-          sub = fields.sub;
-          udp = fields.udp;
-          payload = bytes;
-        } ≡ x = cc k in
-        subst (λ (z : Submission). IsInRange z) same (record { bytes = digits-bytes fields.digits bytes e; udp = udp }))
-
-    with_fault : (fields : SubmissionFields) → fields.udp ≤ 65535 → (o : Option LineFault)
-        → fields_say_with fields o ≡ Ok (Some x) → IsInRange x
-    with_fault fields udp None k = with_bytes fields udp (bytes_of_digits fields.digits) refl k
-    with_fault fields udp (Some fault) k = absurd (cc k)
-
-    with_fields : (o : Option SubmissionFields) → submission_fields (strip_carriage_return line) ≡ o
-        → fields_say latest o ≡ Ok (Some x) → IsInRange x
-    with_fields None e k = absurd (cc k)
-    with_fields (Some fields) e k =
-        with_fault fields (udp-of-fields (strip_carriage_return line) fields e)
-        (time_fault fields.time latest) k
-
-    by : (b : Bool) → (if b then Ok None else fields_say latest
-        (submission_fields (strip_carriage_return line))) ≡ Ok (Some x) → IsInRange x
-    by true k = absurd (cc k)
-    by false k = with_fields (submission_fields (strip_carriage_return line)) refl k
+said-in-range latest line x h =
+    let s = says-from submission_form latest line x h in
+    subst (λ (z : Submission). IsInRange z) s.is (record {
+      bytes = digits-bytes s.fields.digits s.bytes s.of_digits;
+      udp = udp-of-fields (strip_carriage_return line) s.fields s.are;
+    })
 
 -- ---- the items of a list
 
@@ -133,14 +110,14 @@ said-upto most list (suc n) le = by (item_said submissions list n) refl (said-up
     by (Err fault) e rest = rest
 
 -- a list without fault has at most a million lines
-few-lines : (list : List (List ℕ)) (n : ℕ) → HaveNoFault submissions list n → n ≤ 1000000
+few-lines : (list : List (List ℕ)) (n : ℕ) → HaveNoFault submissions list n → n ≤ most_lines
 few-lines list zero sound = omega arith
-few-lines list (suc n) sound = by (nat_le 1000000 n) refl (sound n (omega arith))
+few-lines list (suc n) sound = by (nat_le most_lines n) refl (sound n (omega arith))
   where
-    by : (b : Bool) → nat_le 1000000 n ≡ b → fault_in submissions list n ≡ None → suc n ≤ 1000000
-    by false e h = (let lt : n < 1000000 = grind (arith, nat_tests, e) in omega (arith, lt))
+    by : (b : Bool) → nat_le most_lines n ≡ b → fault_in submissions list n ≡ None → suc n ≤ most_lines
+    by false e h = (let lt : n < most_lines = grind (arith, nat_tests, e) in omega (arith, lt))
     by true e h = absurd (let f = rw e at h in cc f)
 
 pub all-said : (list : List (List ℕ)) (n : ℕ) → HaveNoFault submissions list n
-    → AllByRecursion (IsSaid 1000000) (items_of submissions list n)
-all-said list n sound = said-upto 1000000 list n (few-lines list n sound)
+    → AllByRecursion (IsSaid most_lines) (items_of submissions list n)
+all-said list n sound = said-upto most_lines list n (few-lines list n sound)

@@ -1,5 +1,5 @@
 -- The lines of a sender's text, and those at its port.
-use Rattle.std.proofs.Common.{◌≡◌, ℕ, ◌-◌, ◌<◌, ◌≤◌, ◌^◌, ◌==◌, ◌&&◌, Bool, true, false}
+use Rattle.std.proofs.Common.{◌≡◌, ℕ, ◌-◌, ◌<◌, ◌≤◌, ◌==◌, ◌&&◌, Bool, true, false}
 use Rattle.std.proofs.Common.{if◌then◌else◌, List, [], ◌∷◌, ◌++◌, length, Some, None, refl, sym, ap}
 use Rattle.std.proofs.Common.{◌∙◌, arith, append_assoc, append-nil}
 use Rattle.std.specs.Prelude.{Ok}
@@ -15,8 +15,9 @@ use Rattle.afdx_frame.specs.declared.link.Side.{Side}
 use Rattle.afdx_frame.specs.declared.link.Side.TheVariants.{A, B}
 use Rattle.afdx_config.specs.Rows.{SystemRow}
 use Rattle.afdx_lists.specs.FrameLines.{line_says}
-use Rattle.afdx_lists.specs.Lines.{lines_of, HasNoFeed}
-use Rattle.afdx_lists.proofs.FieldLemmas.{line_says_nothing}
+use Rattle.afdx_lists.specs.Lines.{lines_of, HasNoFeed, most_lines}
+use Rattle.afdx_frame.specs.Times.{latest_listed}
+use Rattle.afdx_lists.proofs.FrameLemmas.{line_says_nothing}
 use Rattle.afdx_lists.proofs.LineLemmas.{lines_of_feed, lines_of_nothing}
 use Rattle.afdx_port.specs.Schedule.{Turn}
 use Rattle.afdx_send.specs.Frames as send
@@ -72,7 +73,7 @@ word-least TooLarge = (omega arith, (omega arith, tt))
 word-least QueueFull = (omega arith, (omega arith, tt))
 word-least Memory = (omega arith, (omega arith, tt))
 
-pub refused-least : (n : ℕ) (fault : SendFault) → n ≤ 1000000 → AtLeast 32 (refused n fault)
+pub refused-least : (n : ℕ) (fault : SendFault) → n ≤ most_lines → AtLeast 32 (refused n fault)
 refused-least n fault few = (
   omega arith,
   (
@@ -96,7 +97,7 @@ no-return line some least =
     (λ e. (let k = index-least 32 (length line - 1) line (omega (arith, some)) least in
     absurd (omega (arith, e, k))))) refl
 
-refused-says : (n : ℕ) (fault : SendFault) → n ≤ 1000000 → line_says 0 (refused n fault) ≡ Ok None
+refused-says : (n : ℕ) (fault : SendFault) → n ≤ most_lines → line_says 0 (refused n fault) ≡ Ok None
 refused-says n fault few =
     line_says_nothing 0 (refused n fault) (refused n fault)
     (no-return (refused n fault) (omega arith) (refused-least n fault few)) refl
@@ -143,12 +144,12 @@ text-fed s (e ∷ before) =
 
 -- an emission whose frames a list can hold
 pub record CanBeRead (s : SystemRow) (turn : Turn send.Frame) : Type 0 where
-  pub early : turn.end ≤ 10 ^ 15
+  pub early : turn.end ≤ latest_listed
   pub frames : (side : Side) → AreOfFrame (frame_on s side turn.entry.item)
 
 abbrev pub IsFine : SystemRow → Event → Type 0
 IsFine s (Emitted turn) = CanBeRead s turn
-IsFine s (Submitted x fault) = x.line ≤ 1000000
+IsFine s (Submitted x fault) = x.line ≤ most_lines
 
 module _ (s : SystemRow) (one : 1 ≤ s.port) (most : s.port ≤ 24) where
   turn-feed : (side : Side) (turn : Turn send.Frame) → CanBeRead s turn → HasNoFeed (line_on s side turn)

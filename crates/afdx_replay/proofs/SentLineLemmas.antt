@@ -1,5 +1,5 @@
 -- The line of a frame that is sent, read as a line of a frame list.
-use Rattle.std.proofs.Common.{◌≡◌, ℕ, zero, suc, ◌/◌, ◌%◌, ◌^◌, ◌-◌, ◌<◌, ◌≤◌, ◌==◌, ◌&&◌, min}
+use Rattle.std.proofs.Common.{◌≡◌, ℕ, zero, suc, ◌/◌, ◌%◌, ◌^◌, ◌-◌, ◌<◌, ◌≤◌, ◌==◌, ◌&&◌}
 use Rattle.std.proofs.Common.{Bool, true, false, nat_lt, nat_eq, List, [], ◌∷◌, ◌++◌, length}
 use Rattle.std.proofs.Common.{Option, Some, None, Ok, refl, ap, sym, ◌∙◌, subst, arith}
 use Rattle.std.proofs.Common.{append_assoc}
@@ -13,7 +13,7 @@ use Rattle.std.specs.Char.{is_ascii_digit}
 use Rattle.std.specs.Fmt.{decimal}
 use Rattle.std.specs.Int.{IsInRange}
 use Rattle.std.specs.List.{All, AllByRecursion, slice_index}
-use Rattle.std.specs.Option.{is_some, option_map}
+use Rattle.std.specs.Option.{is_some}
 use Rattle.std.specs.Str.{bytes_eq}
 use Rattle.std.specs.Str.Lines.{strip_carriage_return}
 use Rattle.hex.specs.Hex.{encode_with, encode_lower, lower_digits}
@@ -23,11 +23,13 @@ use Rattle.afdx_frame.specs.declared.link.Side.{Side}
 use Rattle.afdx_frame.specs.declared.link.Side.TheVariants.{A, B}
 use Rattle.afdx_police.specs.Arrival.{arrival_with}
 use Rattle.afdx_lists.specs.Fields.{between_spaces, number_of, number_after, all_digits, bytes_of_digits}
-use Rattle.afdx_lists.specs.FrameLines.{FrameFields, fields_of_parts, fields_with, kind_of, side_of}
-use Rattle.afdx_lists.specs.FrameLines.{frame_fields, frame_bytes, frame_with, numbers_fault}
-use Rattle.afdx_lists.specs.FrameLines.{line_says, saturated}
-use Rattle.afdx_lists.specs.Lines.{lines_of}
-use Rattle.afdx_lists.proofs.FieldLemmas.{number_of_digits, says_frame}
+use Rattle.afdx_lists.specs.Forms.{from_five, five_of, said_with}
+use Rattle.afdx_lists.specs.FrameLines.{FrameFields, kind_of, side_of, frame_fields, frame_fields_with}
+use Rattle.afdx_lists.specs.FrameLines.{frame_fields_from, frame_bytes, frame_form, numbers_fault, line_says}
+use Rattle.afdx_lists.specs.Lines.{lines_of, longest_line}
+use Rattle.afdx_frame.specs.Times.{latest_listed}
+use Rattle.afdx_lists.proofs.FieldLemmas.{number_of_digits}
+use Rattle.afdx_lists.proofs.FormLemmas.{says_item}
 use Rattle.afdx_lists.proofs.LineLemmas.{lines_of_feed, lines_of_nothing}
 use Rattle.afdx_replay.specs.Lists.{with_item, items_of, fault_in, fault_said, HaveNoFault}
 use Rattle.afdx_replay.specs.Listed.{frames, arrivals_of}
@@ -168,18 +170,18 @@ the_fields (Some fields) h = fields
 -- what its fields are once the numbers are read: those of raw bytes
 record Reads (side : Side) (time port : ℕ) (digits bytes : List ℕ) : Type 0 where
   fields : FrameFields
-  are : fields_with (kind_of (82 ∷ [])) (Some time) (side_of (side_text side)) (Some port) digits ≡ Some fields
+  are : from_five frame_fields_with (kind_of (82 ∷ [])) (Some time) (side_of (side_text side)) (Some port) digits ≡ Some fields
   time_is : fields.time ≡ time
   port_is : fields.port ≡ port
   digits_are : fields.digits ≡ digits
-  frame : frame_with fields (Some bytes) ≡ Ok (Some (record { time = time; side = side; port = port; bytes = bytes }))
+  frame : said_with frame_form fields (Some bytes) ≡ Ok (Some (record { time = time; side = side; port = port; bytes = bytes }))
 
 reads : (side : Side) (time port : ℕ) (digits bytes : List ℕ) → 0 < length digits → Reads side time port digits bytes
 unfolding frame_bytes the_fields
 reads A time port [] bytes some = absurd (omega (arith, some))
 reads B time port [] bytes some = absurd (omega (arith, some))
 reads A time port (d ∷ digits) bytes some = record {
-  fields = the_fields (fields_with (kind_of (82 ∷ [])) (Some time) (side_of (side_text A))
+  fields = the_fields (from_five frame_fields_with (kind_of (82 ∷ [])) (Some time) (side_of (side_text A))
       (Some port) (d ∷ digits)) refl;
   are = refl;
   time_is = refl;
@@ -188,7 +190,7 @@ reads A time port (d ∷ digits) bytes some = record {
   frame = refl;
 }
 reads B time port (d ∷ digits) bytes some = record {
-  fields = the_fields (fields_with (kind_of (82 ∷ [])) (Some time) (side_of (side_text B))
+  fields = the_fields (from_five frame_fields_with (kind_of (82 ∷ [])) (Some time) (side_of (side_text B))
       (Some port) (d ∷ digits)) refl;
   are = refl;
   time_is = refl;
@@ -197,13 +199,8 @@ reads B time port (d ∷ digits) bytes some = record {
   frame = refl;
 }
 
-whole : (fields : FrameFields) → fields.time ≤ 10 ^ 15 → fields.port ≤ 24 → saturated fields ≡ fields
-whole fields early most =
-    let t : min fields.time (2 ^ 64 - 1) ≡ fields.time = omega (arith, early) in
-    let n : min fields.port (2 ^ 64 - 1) ≡ fields.port = omega (arith, most) in rw (t, n) refl
-
-no-fault : (time port latest : ℕ) → 1 ≤ port → port ≤ 24 → time ≤ 10 ^ 15 → latest ≤ time
-    → None ≡ numbers_fault time port latest
+no-fault : (time port latest : ℕ) → 1 ≤ port → port ≤ 24 → time ≤ latest_listed → latest ≤ time
+    → numbers_fault time port latest ≡ None
 no-fault time port latest one most early late = grind (arith, nat_tests, one, most, early, late)
 
 abbrev pub line_of : Side → ℕ → ℕ → List ℕ → List ℕ
@@ -228,7 +225,7 @@ line-feed A port time bytes = feed-at 65 port time bytes ∙ grind (arith, commo
 line-feed B port time bytes = feed-at 66 port time bytes ∙ grind (arith, common_steps)
 
 module _ (side : Side) (port time : ℕ) (bytes : List ℕ) (one : 1 ≤ port) (most : port ≤ 24)
-    (early : time ≤ 10 ^ 15) (frame : AreOfFrame bytes) where
+    (early : time ≤ latest_listed) (frame : AreOfFrame bytes) where
   abbrev pub digits : List ℕ
   digits = encode_lower bytes
 
@@ -303,13 +300,13 @@ module _ (side : Side) (port time : ℕ) (bytes : List ℕ) (one : 1 ≤ port) (
   fields-are : frame_fields line ≡ Some r.fields
   unfolding frame_fields
   fields-are =
-      ap fields_of_parts parts
-      ∙ ap (λ t. fields_with (kind_of (82 ∷ [])) t (side_of (side_text side))
+      ap (five_of frame_fields_from) parts
+      ∙ ap (λ t. from_five frame_fields_with (kind_of (82 ∷ [])) t (side_of (side_text side))
       (number_of (decimal port)) digits) (number-decimal time time_fits)
-      ∙ ap (λ n. fields_with (kind_of (82 ∷ [])) (Some time) (side_of (side_text side)) n digits)
+      ∙ ap (λ n. from_five frame_fields_with (kind_of (82 ∷ [])) (Some time) (side_of (side_text side)) n digits)
       (number-decimal port port_fits) ∙ r.are
 
-  r_early : r.fields.time ≤ 10 ^ 15
+  r_early : r.fields.time ≤ latest_listed
   r_early = let t = r.time_is in omega (arith, t, early)
 
   r_most : r.fields.port ≤ 24
@@ -324,17 +321,17 @@ module _ (side : Side) (port time : ℕ) (bytes : List ℕ) (one : 1 ≤ port) (
   pub says-after : (latest : ℕ) → latest ≤ time
       → line_says latest line ≡ Ok (Some
       (record { time = time; side = side; port = port; bytes = bytes }))
+  unfolding line_says
   says-after latest late =
-      says_frame latest line line r.fields no-return refl
-      (sym (ap (option_map saturated) fields-are ∙ ap Some (whole r.fields r_early r_most)))
-      (no-fault r.fields.time r.fields.port latest r_one r_most r_early (r_late latest late)) r_early r_most
-      ∙ ap (frame_with r.fields)
+      says_item frame_form latest line line no-return refl r.fields fields-are
+      (no-fault r.fields.time r.fields.port latest r_one r_most r_early (r_late latest late))
+      ∙ ap (said_with frame_form r.fields)
       (ap bytes_of_digits r.digits_are ∙ bytes-back bytes frame.are_bytes frame.least) ∙ r.frame
 
   pub says : line_says 0 line ≡ Ok (Some (record { time = time; side = side; port = port; bytes = bytes }))
   says = says-after 0 (omega arith)
 
-  pub short : length line ≤ 4200
+  pub short : length line ≤ longest_line
   short =
       let t = length-decimal-le 16 time (omega arith) (omega (arith, early)) time_fits in
       let p = length-decimal-le 2 port (omega arith) (omega (arith, most)) port_fits in
@@ -352,7 +349,7 @@ module _ (side : Side) (port time : ℕ) (bytes : List ℕ) (one : 1 ≤ port) (
 
   fine : fault_in frames (line ∷ []) 0 ≡ None
   unfolding items_of
-  fine = let size : nat_lt 4200 (length line) ≡ false = grind (arith, nat_tests, short) in
+  fine = let size : nat_lt longest_line (length line) ≡ false = grind (arith, nat_tests, short) in
       rw size (ap (λ r. fault_said 1 r) says)
 
   arrived : items_of frames (line ∷ []) 1 ≡ arrival_with 1 time side port bytes ∷ []

@@ -16,10 +16,10 @@ use Rattle.afdx_config.specs.Rows.{SystemRow, LinkRow}
 use Rattle.afdx_police.specs.Arrival.{Arrival}
 use Rattle.afdx_port.specs.Schedule.{Turn, end_of}
 use Rattle.afdx_lists.specs.FrameLines.{Frame, line_says}
-use Rattle.afdx_lists.specs.Lines.{lines_of}
+use Rattle.afdx_lists.specs.Lines.{lines_of, most_lines, longest_line}
 use Rattle.afdx_lists.specs.declared.fault.RunFault.{RunFault}
 use Rattle.afdx_lists.specs.declared.fault.RunFault.TheVariants as run
-use Rattle.afdx_lists.proofs.FieldLemmas.{line_says_nothing}
+use Rattle.afdx_lists.proofs.FrameLemmas.{line_says_nothing}
 use Rattle.afdx_send.specs.Frames as send
 use Rattle.afdx_send.specs.declared.fault.SendFault.{SendFault}
 use Rattle.afdx_send.specs.declared.fault.SendFault.TheVariants.{NotMyLink, NoSuchSub, Empty}
@@ -48,8 +48,8 @@ items-front xs line (suc n) le =
 
 abbrev fault_by : ℕ → List ℕ → List Arrival → Option RunFault
 fault_by n line past =
-    if nat_le 1000000 n then Some run.TooManyLines
-    else if nat_lt 4200 (length line) then Some (run.LineTooLong (n + 1))
+    if nat_le most_lines n then Some run.TooManyLines
+    else if nat_lt longest_line (length line) then Some (run.LineTooLong (n + 1))
     else fault_said (n + 1) (item_after frames past line)
 
 fault-front : (xs : List (List ℕ)) (line : List ℕ) (n : ℕ) → n < length xs
@@ -76,7 +76,7 @@ more-length : (xs : List (List ℕ)) (line : List ℕ) → length (xs ++ line �
 more-length xs line = let n = length-append xs (line ∷ []) in omega (arith, n)
 
 module _ (xs : List (List ℕ)) (line : List ℕ) (latest : ℕ) (found : Option Frame)
-    (k : IsList xs latest) (few : length xs < 1000000) (small : length line ≤ 4200)
+    (k : IsList xs latest) (few : length xs < most_lines) (small : length line ≤ longest_line)
     (says : line_says latest line ≡ Ok found) where
   here : slice_index_or (xs ++ line ∷ []) (length xs) [] ≡ line
   here = get_or-append_seam xs line [] []
@@ -86,8 +86,8 @@ module _ (xs : List (List ℕ)) (line : List ℕ) (latest : ℕ) (found : Option
 
   fine : fault_in frames (xs ++ line ∷ []) (length xs) ≡ None
   fine =
-      let many : nat_le 1000000 (length xs) ≡ false = grind (arith, nat_tests, few) in
-      let long : nat_lt 4200 (length line) ≡ false = grind (arith, nat_tests, small) in
+      let many : nat_le most_lines (length xs) ≡ false = grind (arith, nat_tests, few) in
+      let long : nat_lt longest_line (length line) ≡ false = grind (arith, nat_tests, small) in
       ap (λ past. fault_by (length xs) (slice_index_or (xs ++ line ∷ []) (length xs) []) past)
       (items-front xs line (length xs) (omega arith))
       ∙ ap (λ l. fault_by (length xs) l (arrivals_of xs (length xs))) here
@@ -131,7 +131,7 @@ word-short TooLarge = refl
 word-short QueueFull = refl
 word-short Memory = refl
 
-refused-short : (n : ℕ) (fault : SendFault) → n ≤ 1000000 → length (refused n fault) ≤ 4200
+refused-short : (n : ℕ) (fault : SendFault) → n ≤ most_lines → length (refused n fault) ≤ longest_line
 refused-short n fault few =
     let d = length-decimal-le 7 n (omega arith) (omega (arith, few)) (omega (arith, few)) in
     let a = length-append (decimal n) (32 ∷ refusal_text fault) in
@@ -140,7 +140,7 @@ refused-short n fault few =
 
 module _ (s : SystemRow) (links : List LinkRow) (one : 1 ≤ s.port) (most : s.port ≤ 24) where
   turn-more : (xs : List (List ℕ)) (latest : ℕ) (side : Side) (turn : Turn send.Frame)
-      → IsList xs latest → length xs < 1000000 → latest ≤ turn.end → CanBeRead s turn
+      → IsList xs latest → length xs < most_lines → latest ≤ turn.end → CanBeRead s turn
       → IsList (xs ++ line_on s side turn ∷ []) turn.end
   turn-more xs latest side turn k few late can =
       one-more xs (line_on s side turn) latest
@@ -155,7 +155,7 @@ module _ (s : SystemRow) (links : List LinkRow) (one : 1 ≤ s.port) (most : s.p
       most can.early (can.frames side) latest late)
 
   is-list : (events : List Event) → EachFollows s links events → AllByRecursion (IsFine s) events
-      → length (all_lines s events) ≤ 1000000 → IsList (all_lines s events) (end_of (turns_in events))
+      → length (all_lines s events) ≤ most_lines → IsList (all_lines s events) (end_of (turns_in events))
   is-list [] follow all few = none-yet
   is-list (Emitted turn ∷ before) follow all few =
       let n = length-append (all_lines s before) (line_on s A turn ∷ line_on s B turn ∷ []) in
@@ -179,12 +179,12 @@ module _ (s : SystemRow) (links : List LinkRow) (one : 1 ≤ s.port) (most : s.p
   is-list (Submitted x None ∷ before) follow all few =
       let same = append-nil (all_lines s before) in
       subst (λ (z : List (List ℕ)). IsList z (end_of (turns_in before))) (sym same)
-      (is-list before follow.1 all.1 (subst (λ (z : List (List ℕ)). length z ≤ 1000000) same few))
+      (is-list before follow.1 all.1 (subst (λ (z : List (List ℕ)). length z ≤ most_lines) same few))
 
   pub text-is-list : (events : List Event) → EachFollows s links events
-      → AllByRecursion (IsFine s) events → length (lines_of (send_text s events)) ≤ 1000000
+      → AllByRecursion (IsFine s) events → length (lines_of (send_text s events)) ≤ most_lines
       → AreSound (lines_of (send_text s events)) (length (lines_of (send_text s events)))
   text-is-list events follow all few =
       let same = lines-of-text s one most events all in
       subst (λ (z : List (List ℕ)). AreSound z (length z)) (sym same)
-      (is-list events follow all (subst (λ (z : List (List ℕ)). length z ≤ 1000000) same few)).sound
+      (is-list events follow all (subst (λ (z : List (List ℕ)). length z ≤ most_lines) same few)).sound

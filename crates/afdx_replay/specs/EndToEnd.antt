@@ -11,7 +11,7 @@ use Rattle.afdx_config.specs.Reading.{has_port}
 use Rattle.afdx_config.specs.Rows.{SystemRow, LinkRow, Rows, is_to}
 use Rattle.afdx_config.specs.SentList.{Message}
 use Rattle.afdx_lists.specs.FrameLines.{Frame, line_says}
-use Rattle.afdx_lists.specs.Lines.{lines_of}
+use Rattle.afdx_lists.specs.Lines.{lines_of, most_lines}
 use Rattle.afdx_lists.specs.declared.fault.LineFault.{LineFault}
 use Rattle.afdx_send.specs.Complete.{submissions_of, AreReleasesOfAll}
 use Rattle.afdx_send.specs.Releases.{Submission, Release}
@@ -112,5 +112,5 @@ RunsTellTakenOnce = (t : Rows) (sender : ℕ) (s : SystemRow) (given text bytes 
 abbrev pub TextsAreLists : Type 0
 TextsAreLists = (t : Rows) (sender : ℕ) (s : SystemRow) (given : List (List ℕ))
     (events : List Event) → IsLawful t → IsAdmitted t → HasSent t sender s given events →
-    length (lines_of (send_text s events)) ≤ 1000000 →
+    length (lines_of (send_text s events)) ≤ most_lines →
     AreSound (lines_of (send_text s events)) (length (lines_of (send_text s events)))

@@ -4,7 +4,7 @@ use Rattle.std.specs.Prelude.{ℕ, zero, suc, ◌+◌, ◌<◌, ◌≡◌, List,
 use Rattle.afdx_lists.specs.declared.fault.RunFault.{RunFault}
 use Rattle.afdx_lists.specs.declared.fault.RunFault.TheVariants as run
 use Rattle.afdx_lists.specs.declared.fault.LineFault.{LineFault}
-use Rattle.afdx_lists.specs.Faults.{fault_with}
+use Rattle.afdx_lists.specs.Lines.{most_lines, longest_line}
 
 -- a kind of list: what a line says that comes after one of the latest time, what that is as
 -- something of line n, and its time
@@ -15,7 +15,7 @@ pub record Kind (Y X : Type 0) : Type 0 where
 
 abbrev pub fault_said : {Y : Type 0} → ℕ → Result (Option Y) LineFault → Option RunFault
 fault_said n (Ok said) = None
-fault_said n (Err fault) = Some (fault_with n fault)
+fault_said n (Err fault) = Some (run.Line n fault)
 
 module _ {Y X : Type 0} (k : Kind Y X) where
   -- the time of the newest, or 0
@@ -47,8 +47,9 @@ module _ {Y X : Type 0} (k : Kind Y X) where
   -- the fault at line n, counted from 0, after the lines before it: the first false check
   abbrev pub fault_in : List (List ℕ) → ℕ → Option RunFault
   fault_in lines n =
-      if nat_le 1000000 n then Some run.TooManyLines
-      else if nat_lt 4200 (length (slice_index_or lines n [])) then Some (run.LineTooLong (n + 1))
+      if nat_le most_lines n then Some run.TooManyLines
+      else if nat_lt longest_line (length (slice_index_or lines n []))
+      then Some (run.LineTooLong (n + 1))
       else fault_said (n + 1) (item_said lines n)
 
   -- none of the first n lines has a fault

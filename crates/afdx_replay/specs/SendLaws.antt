@@ -1,7 +1,6 @@
 -- What is true of the texts of senders: what a replay reads of a line, and that a list of
 -- submissions has one text.
 use Rattle.std.specs.Prelude.{ℕ, ◌≡◌, ◌≤◌, List, [], ◌∷◌, length, Some}
-use Rattle.afdx_frame.specs.Lengths.{greatest_frame}
 use Rattle.afdx_frame.specs.Sealing.{AreBytes}
 use Rattle.afdx_frame.specs.Times.{latest_listed}
 use Rattle.afdx_frame.specs.declared.link.Side.{Side}
@@ -10,6 +9,7 @@ use Rattle.afdx_config.specs.Lawful.{IsLawful}
 use Rattle.afdx_config.specs.Rows.{SystemRow, Rows}
 use Rattle.afdx_police.specs.Arrival.{Arrival, arrival_with}
 use Rattle.afdx_lists.specs.Lines.{lines_of}
+use Rattle.afdx_lists.specs.FrameLines.{last_port}
 use Rattle.afdx_replay.specs.Listed.{AreSound, arrivals_of}
 use Rattle.afdx_replay.specs.SendEvents.{Handed, Event, AreEventsOf, AreDone}
 use Rattle.afdx_replay.specs.SendText.{sent_line}
@@ -32,7 +32,7 @@ pub record AreOfFrame (bytes : List ℕ) : Type 0 where
 -- frame's arrival at the same time, side and port.
 abbrev pub SentLinesAreArrivals : Type 0
 SentLinesAreArrivals = (side : Side) (port time : ℕ) (bytes : List ℕ) →
-    1 ≤ port → port ≤ 24 → time ≤ latest_listed → AreOfFrame bytes →
+    1 ≤ port → port ≤ last_port → time ≤ latest_listed → AreOfFrame bytes →
     IsArrival (sent_line side port time bytes) (arrival_with 1 time side port bytes)
 
 -- What a run that sends tells is determined by its list: events of the same submissions, after

@@ -5,7 +5,7 @@ use Rattle.afdx_police.specs.Arrival.{Arrival}
 use Rattle.afdx_lists.specs.Lines.{lines_of, GaveWhole}
 use Rattle.afdx_lists.specs.declared.fault.RunFault.{RunFault}
 use Rattle.afdx_lists.specs.declared.fault.RunFault.TheVariants.{Read, Write, Memory}
-use Rattle.afdx_lists.specs.declared.fault.RunFault.TheVariants.{TooManyLines, LineTooLong}
+use Rattle.afdx_lists.specs.declared.fault.RunFault.TheVariants.{TooManyLines, LineTooLong, Line}
 use Rattle.afdx_replay.specs.Lists.{Kind, items_of, HaveNoFault, HaveFirstFault}
 use Rattle.afdx_replay.specs.Listed.{frames}
 
@@ -40,9 +40,9 @@ module _ {Y X : Type 0} (k : Kind Y X) where
   StopsIn all beginning bytes rest (LineTooLong m) =
       (n : ℕ) × HaveFirstFault k (lines_of bytes) n (LineTooLong m)
       × all (items_of k (lines_of bytes) n)
-  StopsIn all beginning bytes rest fault =
-      (n : ℕ) × GaveLines (Some bytes) rest (n + 1) × HaveFirstFault k (lines_of bytes) n fault
-      × all (items_of k (lines_of bytes) n)
+  StopsIn all beginning bytes rest (Line m fault) =
+      (n : ℕ) × GaveLines (Some bytes) rest (n + 1)
+      × HaveFirstFault k (lines_of bytes) n (Line m fault) × all (items_of k (lines_of bytes) n)
 
 -- a run over a list of frames
 abbrev pub StopsAt : (all beginning : List Arrival → Type 0) → List ℕ → Option (List ℕ) →

@@ -18,7 +18,7 @@ mod verdict;
 
 pub use admitted_run::run;
 pub use afdx_frame::Policing;
-pub use afdx_lists::{Buffered, RunFault, Watched};
+pub use afdx_lists::{Buffered, LineFault, RunFault, Watched};
 pub use check_command::check;
 pub use ending::{Ended, finish};
 pub use police_command::{CommandedRule, police};

@@ -11,7 +11,7 @@ ghost use Rattle.afdx_lists.specs.Watching.{calls_of, device_of, has_ended, has_
 use crate::ending::{Ended, end};
 use crate::police_run::run_police;
 use afdx_frame::{Policing, VlId};
-use afdx_lists::{Watched, tell};
+use afdx_lists::{LAST_PORT, Watched, tell};
 use afdx_police::LinkRule;
 use std::alloc::Global;
 use std::io::{Read, Write};
@@ -19,8 +19,6 @@ use std::io::{Read, Write};
 const WRONG_WORDS: u8 = 2;
 
 const LARGEST_LINK: u64 = 65_535;
-
-const LARGEST_PORT: u64 = 24;
 
 /// The rule of a link as a command is given it: its values may be out of their ranges.
 ///
@@ -46,7 +44,7 @@ impl CommandedRule {
         ensures in_range { IsSome result ↔ IsCommanded self.now }
         ensures given { IfSome result (λ rule. rule_of rule ≡ commanded_rule self.now) }
     {
-        if self.vl > LARGEST_LINK || self.port > LARGEST_PORT {
+        if self.vl > LARGEST_LINK || self.port > u64::from(LAST_PORT) {
             return None;
         }
         LinkRule::new(

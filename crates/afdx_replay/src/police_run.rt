@@ -115,7 +115,7 @@ pub fn run_police<R: Read, W: Write>(
         let heading = match read_frame_line(reader.line(), latest, &mut frame) {
             Ok(Some(heading)) => heading,
             Ok(None) => continue,
-            Err(fault) => return Err(fault.at_line(n)),
+            Err(error) => return Err(error.at_line(n)),
         };
         latest = heading.time;
         let reason = policers.verdict(&heading, frame.as_slice());

@@ -1,7 +1,8 @@
 //! A run that replays a list through the switches of both sides and the systems behind them.
 ghost use Rattle.std.specs.Prelude.{◌≡◌, ℕ, ◌+◌, ◌*◌, ◌-◌, ◌^◌, ◌≤◌, ◌<◌, ◌⊎◌, ◌++◌, ◌∷◌, [], List, Option, length, OnOk, OnErr, IfErr, IfSome, true, false};
 ghost use Rattle.afdx_port.specs.Times.{drain_end};
-ghost use Rattle.afdx_lists.specs.Lines.{most_reads};
+ghost use Rattle.afdx_frame.specs.Times.{latest_listed};
+ghost use Rattle.afdx_lists.specs.Lines.{most_lines, most_reads};
 ghost use Rattle.afdx_config.specs.Rows.{Rows};
 ghost use Rattle.afdx_frame.specs.Sealing.{is_sealed};
 ghost use Rattle.afdx_police.specs.Arrival.{Arrival};
@@ -40,7 +41,7 @@ struct Replay {
 
 /// Counts an arrival, and the copies that it lost.
 fn count_admission(counts: &mut Summary, reason: Option<Reason>, lost: u64)
-    requires room { (n held : ℕ) × (n < 1000000) × HasRoom counts.old held n }
+    requires room { (n held : ℕ) × (n < most_lines) × HasRoom counts.old held n }
     requires few { lost ≤ 24 }
     ensures counted { counts.new ≡ with_admission counts.old reason lost }
     ensures room { (n held : ℕ) →
@@ -61,7 +62,7 @@ impl Replay {
     /// Puts the lines of a departure in the place of the text, hands its frame over to the port's
     /// system if it left, and counts it.
     fn put_lines(&mut self, departed: &Departed) -> Result<(), AllocError>
-        requires room { (n held : ℕ) × (n ≤ 1000000) × HasRoom self.old.counts (held + 1) n }
+        requires room { (n held : ℕ) × (n ≤ most_lines) × HasRoom self.old.counts (held + 1) n }
         ensures network { self.new.network ≡ self.old.network }
         ensures room { (n held : ℕ) →
             HasRoom self.old.counts (held + 1) n → OnOk result (HasRoom self.new.counts held n) }
@@ -99,7 +100,7 @@ impl Replay {
         output: &mut Watched<W>,
     ) -> Result<(), RunFault>
         requires clock { network.IsUntil self.old.network until }
-        requires room { (n : ℕ) × (n ≤ 1000000) × HasRoomFor self.old n }
+        requires room { (n : ℕ) × (n ≤ most_lines) × HasRoomFor self.old n }
         requires sound { has_failed output.old ≡ false }
         ensures failed { has_failed output.new ≡ is_failed_write result }
         ensures fault { IfErr result IsOutputFault }
@@ -134,10 +135,10 @@ impl Replay {
         frame: &[u8],
         output: &mut Watched<W>,
     ) -> Result<(), RunFault>
-        requires limit { heading.now.time ≤ 10 ^ 15 }
+        requires limit { heading.now.time ≤ latest_listed }
         requires sealed { heading.now.is_sealed ≡ is_sealed frame.now }
         requires clock { network.IsUntil self.old.network heading.now.time }
-        requires room { (m : ℕ) × (m < 1000000) × HasRoomFor self.old m }
+        requires room { (m : ℕ) × (m < most_lines) × HasRoomFor self.old m }
         requires sound { has_failed output.old ≡ false }
         ensures failed { has_failed output.new ≡ is_failed_write result }
         ensures fault { IfErr result IsOutputFault }
@@ -218,7 +219,7 @@ pub fn run_unadmitted<R: Read, W: Write>(
         let heading = match read_frame_line(reader.line(), latest, &mut frame) {
             Ok(Some(heading)) => heading,
             Ok(None) => continue,
-            Err(fault) => return Err(fault.at_line(n)),
+            Err(error) => return Err(error.at_line(n)),
         };
         latest = heading.time;
         replay.tell_arrival(n, &heading, frame.as_slice(), output)?;

@@ -1,7 +1,7 @@
 //! A run that sends the messages of a list.
-ghost use Rattle.std.specs.Prelude.{◌≡◌, ◌<◌, ◌≤◌, ◌+◌, ◌⊎◌, ◌++◌, ◌∷◌, ℕ, List, Option, Some, IfOk, IfErr, IfSome, OnOk, OnErr, length, slice_get, true, false};
+ghost use Rattle.std.specs.Prelude.{◌≡◌, ◌<◌, ◌≤◌, ◌+◌, ◌^◌, ◌⊎◌, ◌++◌, ◌∷◌, ℕ, List, Option, Some, IfOk, IfErr, IfSome, OnOk, OnErr, length, slice_get, true, false};
 ghost use Rattle.afdx_frame.specs.Times.{latest_listed};
-ghost use Rattle.afdx_lists.specs.Lines.{most_reads};
+ghost use Rattle.afdx_lists.specs.Lines.{most_lines, most_reads};
 ghost use Rattle.afdx_config.specs.Rows.{SystemRow};
 ghost use Rattle.afdx_lists.specs.Texts.{text_bytes};
 ghost use Rattle.afdx_lists.specs.Calls.{is_failed_read, is_failed_write};
@@ -117,7 +117,7 @@ impl Sending {
         output: &mut Watched<W>,
     ) -> Result<(), RunFault>
         requires clock { last_time self.old.sender ≤ until }
-        requires room { (n : ℕ) × (n ≤ 1000000) ×
+        requires room { (n : ℕ) × (n ≤ most_lines) ×
             HasRoom self.old.counts (frames_held self.old.sender) n }
         requires sound { has_failed output.old ≡ false }
         ensures failed { has_failed output.new ≡ is_failed_write result }
@@ -151,7 +151,7 @@ impl Sending {
         requires limit { handed.now.time ≤ latest_listed }
         requires clock { last_time self.old.sender ≤ handed.now.time }
         requires quiet { IsQuiet self.old.sender handed.now.time }
-        requires room { (n : ℕ) × (n < 1000000) ×
+        requires room { (n : ℕ) × (n < most_lines) ×
             HasRoom self.old.counts (frames_held self.old.sender) n }
         ensures port { self.new.port ≡ self.old.port }
         ensures clock { last_time self.new.sender ≡ handed.now.time }
@@ -194,7 +194,7 @@ impl Sending {
     ) -> Result<(), RunFault>
         requires limit { handed.now.time ≤ latest_listed }
         requires clock { last_time self.old.sender ≤ handed.now.time }
-        requires room { (m : ℕ) × (m < 1000000) ×
+        requires room { (m : ℕ) × (m < most_lines) ×
             HasRoom self.old.counts (frames_held self.old.sender) m }
         requires sound { has_failed output.old ≡ false }
         ensures failed { has_failed output.new ≡ is_failed_write result }
@@ -278,7 +278,7 @@ pub fn run_send<R: Read, W: Write>(
         let handed = match read_submission_line(reader.line(), latest, &mut payload) {
             Ok(Some(handed)) => handed,
             Ok(None) => continue,
-            Err(fault) => return Err(fault.at_line(n)),
+            Err(error) => return Err(error.at_line(n)),
         };
         latest = handed.time;
         sending.tell_submission(n, &handed, payload.as_slice(), output)?;

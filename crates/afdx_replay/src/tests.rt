@@ -7,7 +7,7 @@ mod refusals;
 mod replays;
 mod sends;
 
-use crate::{CommandedRule, RunFault, Summary, Watched, police, run_police};
+use crate::{CommandedRule, LineFault, RunFault, Summary, Watched, police, run_police};
 use afdx_frame::{Policing, VlId};
 use afdx_police::LinkRule;
 use std::alloc::{AllocError, Global};
@@ -166,28 +166,28 @@ fn under_lmin_only_by_bytes(rt: HostRuntime) -> Result<(), Fail> {
 fn list_faults(rt: HostRuntime) -> Result<(), Fail> {
     let rule = rule(64).ok_or("a rule")?;
     let rows = [
-        ("F 5 A", RunFault::BadLine(2)),
-        ("F 5 A 1 030", RunFault::BadHex(2)),
-        ("F 5 A 1 0g", RunFault::BadHex(2)),
-        ("F 5 C 1 00", RunFault::BadLine(2)),
-        ("F 5 A 25 00", RunFault::BadPort(2)),
-        ("F 5 A 0 00", RunFault::BadPort(2)),
-        ("F 5 A 99999999999999999999 00", RunFault::BadPort(2)),
-        ("F 99999999999999999999 A 1 00", RunFault::TimeTooLarge(2)),
-        ("F 1000000000000001 A 1 H1", RunFault::TimeTooLarge(2)),
-        ("F 4 A 1 H1", RunFault::TimeBack(2)),
-        ("F  5 A 1 00", RunFault::BadLine(2)),
-        ("F 5 A 1 00 00", RunFault::BadLine(2)),
-        ("G 5 A 1 00", RunFault::BadLine(2)),
-        ("F +5 A 1 00", RunFault::BadLine(2)),
-        ("F 5 A 1 ", RunFault::BadLine(2)),
+        ("F 5 A", LineFault::BadLine),
+        ("F 5 A 1 030", LineFault::BadHex),
+        ("F 5 A 1 0g", LineFault::BadHex),
+        ("F 5 C 1 00", LineFault::BadLine),
+        ("F 5 A 25 00", LineFault::BadPort),
+        ("F 5 A 0 00", LineFault::BadPort),
+        ("F 5 A 99999999999999999999 00", LineFault::BadPort),
+        ("F 99999999999999999999 A 1 00", LineFault::TimeTooLarge),
+        ("F 1000000000000001 A 1 H1", LineFault::TimeTooLarge),
+        ("F 4 A 1 H1", LineFault::TimeBack),
+        ("F  5 A 1 00", LineFault::BadLine),
+        ("F 5 A 1 00 00", LineFault::BadLine),
+        ("G 5 A 1 00", LineFault::BadLine),
+        ("F +5 A 1 00", LineFault::BadLine),
+        ("F 5 A 1 ", LineFault::BadLine),
     ];
     for (line, want) in rows {
         let first = spelled(rt.alloc(), "F 5 A 1 H1\n")?;
         let line = spelled(rt.alloc(), line)?;
         let list = format!(in rt.alloc(); "{first}{line}")?;
         let (result, written) = answer(rt.alloc(), &rule, list.as_bytes());
-        assert_eq!(rt; result, Err(want), "{line}");
+        assert_eq!(rt; result, Err(RunFault::Line(2, want)), "{line}");
         assert!(rt;
             written.as_slice() == b"V 1 A accept\n".as_slice(),
             "{line}"

@@ -13,11 +13,8 @@ ghost use Rattle.afdx_systems.specs.StandsFor.{IsAt};
 use crate::end_system::EndSystem;
 use crate::handover::Handover;
 use afdx_config::Tables;
-use afdx_lists::Text;
+use afdx_lists::{LAST_PORT, Text};
 use std::alloc::{AllocError, Global};
-
-/// The greatest number of a port of the switch.
-const LAST_PORT: u8 = 24;
 
 /// The end systems of a network. A contract speaks of them as what they stand for: a list of all
 /// frames that were handed over to them, the newest first.

@@ -1,12 +1,12 @@
 //! What a line says, and its faults.
 
-use crate::{Handed, Heading, LineFault, read_frame_line, read_submission_line};
+use crate::{Handed, Heading, LineError, LineFault, read_frame_line, read_submission_line};
 use afdx_frame::Side;
 use std::alloc::Global;
 use std::process::Abort;
 
 /// What a line says after a frame at time 5, and the bytes of its frame.
-fn said(alloc: Global, line: &str) -> (Result<Option<Heading>, LineFault>, Vec<u8>) {
+fn said(alloc: Global, line: &str) -> (Result<Option<Heading>, LineError>, Vec<u8>) {
     let mut frame = Vec::new(alloc);
     let said = read_frame_line(line.as_bytes(), 5, &mut frame);
     (said, frame)
@@ -24,7 +24,7 @@ fn lines_that_say_nothing(rt: HostRuntime) {
 fn have_fault(rt: &impl Abort, alloc: Global, lines: &[&str], wanted: LineFault) {
     for line in lines {
         let (said, _) = said(alloc, line);
-        assert_eq!(rt; said, Err(wanted), "{line}");
+        assert_eq!(rt; said, Err(LineError::Fault(wanted)), "{line}");
     }
 }
 
@@ -157,7 +157,7 @@ fn the_buffer_is_used_again(rt: HostRuntime) {
 }
 
 /// What a submission line says after one at 5 ns, and the bytes.
-fn handed(alloc: Global, line: &str) -> (Result<Option<Handed>, LineFault>, Vec<u8>) {
+fn handed(alloc: Global, line: &str) -> (Result<Option<Handed>, LineError>, Vec<u8>) {
     let mut payload = Vec::new(alloc);
     let said = read_submission_line(line.as_bytes(), 5, &mut payload);
     (said, payload)
@@ -187,7 +187,7 @@ fn submission_lines(rt: HostRuntime) {
         ("6 1 1 1000 0", LineFault::BadHex),
     ] {
         let (said, _) = handed(alloc, line);
-        assert_eq!(rt; said, Err(fault), "{line}");
+        assert_eq!(rt; said, Err(LineError::Fault(fault)), "{line}");
     }
     for line in ["", "# 6 1 1 1000 00"] {
         let (said, _) = handed(alloc, line);

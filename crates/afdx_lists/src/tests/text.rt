@@ -2,7 +2,7 @@
 
 use super::weak::{Break, WeakWriter};
 use crate::fields::read_bytes;
-use crate::{Buffered, LineFault, RunFault, Text, Watched, tell_fault, write_text};
+use crate::{Buffered, LineError, LineFault, RunFault, Text, Watched, tell_fault, write_text};
 use std::alloc::Global;
 use std::process::Abort;
 use std::test::Fail;
@@ -62,18 +62,23 @@ fn line_of(rt: &impl Abort, alloc: Global, fault: RunFault) -> Result<String, Fa
     Ok(format!(in alloc; "{fault} {status}")?)
 }
 
+/// The fault of a run whose line `n` has this one.
+fn at_line(fault: LineFault, n: u64) -> RunFault {
+    LineError::Fault(fault).at_line(n)
+}
+
 #[test]
 fn faults_are_told(rt: HostRuntime) -> Result<(), Fail> {
     for (fault, wanted) in [
-        (LineFault::BadLine.at_line(1), "list BadLine 1 3"),
-        (LineFault::BadHex.at_line(20), "list BadHex 20 3"),
-        (LineFault::TimeBack.at_line(3), "list TimeBack 3 3"),
-        (LineFault::TimeTooLarge.at_line(3), "list TimeTooLarge 3 3"),
+        (at_line(LineFault::BadLine, 1), "list BadLine 1 3"),
+        (at_line(LineFault::BadHex, 20), "list BadHex 20 3"),
+        (at_line(LineFault::TimeBack, 3), "list TimeBack 3 3"),
+        (at_line(LineFault::TimeTooLarge, 3), "list TimeTooLarge 3 3"),
         (
-            LineFault::BadPort.at_line(1_000_000),
+            at_line(LineFault::BadPort, 1_000_000),
             "list BadPort 1000000 3",
         ),
-        (LineFault::Memory.at_line(3), "memory 4"),
+        (LineError::Memory.at_line(3), "memory 4"),
         (RunFault::LineTooLong(3), "list LineTooLong 3 3"),
         (RunFault::TooManyLines, "list TooManyLines 3"),
         (RunFault::Read, "device Read 4"),
@@ -152,11 +157,10 @@ fn digits_of_many_bytes(rt: HostRuntime) -> Result<(), Fail> {
         let digits = hex::encode(alloc, bytes.as_slice())?;
         assert_eq!(rt; text.as_bytes(), digits.as_bytes());
         let mut read = Vec::new(alloc);
-        assert_eq!(rt; read_bytes(text.as_bytes(), &mut read), Ok(()));
+        assert_eq!(rt; read_bytes(text.as_bytes(), &mut read), Ok(true));
         assert_eq!(rt; read.as_slice(), bytes.as_slice());
         text.put(b"g0")?;
-        let fault = read_bytes(text.as_bytes(), &mut read);
-        assert_eq!(rt; fault, Err(LineFault::BadHex));
+        assert_eq!(rt; read_bytes(text.as_bytes(), &mut read), Ok(false));
     }
     Ok(())
 }

@@ -2,7 +2,7 @@
 
 use super::checks::BASE;
 use super::replays::both_spelled;
-use crate::{RunFault, Summary, Watched, run, run_send};
+use crate::{LineFault, RunFault, Summary, Watched, run, run_send};
 use afdx_admit::{Admitted, admit};
 use afdx_config::{SystemId, read_tables};
 use std::alloc::Global;
@@ -146,6 +146,6 @@ fn frames_after_the_last_time_are_no_list(rt: HostRuntime) -> Result<(), Fail> {
     let text = sent(rt.alloc(), &tables, 0, "1000000000000000 1 1 1000 61\n")?;
     assert!(rt; text.as_str().starts_with("R 1000000000006720 A 1 "));
     let (result, _) = replayed(rt.alloc(), &tables, text.as_str())?;
-    assert_eq!(rt; result, Err(RunFault::TimeTooLarge(1)));
+    assert_eq!(rt; result, Err(RunFault::Line(1, LineFault::TimeTooLarge)));
     Ok(())
 }

@@ -2,7 +2,7 @@
 
 use super::checks::{BASE, changed};
 use super::{H1, spelled};
-use crate::{RunFault, Summary, Watched, run_unadmitted};
+use crate::{LineFault, RunFault, Summary, Watched, run_unadmitted};
 use afdx_config::read_tables;
 use std::alloc::{AllocError, Global};
 use std::test::Fail;
@@ -118,7 +118,7 @@ fn a_list_with_a_fault(rt: HostRuntime) -> Result<(), Fail> {
         "latency_us = 21",
         "F 0 A 1 H1\nF 20000 A 2 H2\nF 19999 A 2 H2\n",
     )?;
-    assert_eq!(rt; result, Err(RunFault::TimeBack(3)));
+    assert_eq!(rt; result, Err(RunFault::Line(3, LineFault::TimeBack)));
     let text = "V 1 A accept\nD 1 6720 A 3\nM 6720 s3 1 68656c6c6f\nV 2 A accept\n";
     assert!(rt; written.as_slice() == text.as_bytes());
     Ok(())

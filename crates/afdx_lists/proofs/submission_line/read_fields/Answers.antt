@@ -1,7 +1,7 @@
 use Rattle.std.proofs.Common.{refl}
 use Rattle.afdx_lists.specs.SubmissionLines.{submission_fields}
 use Rattle.afdx_lists.proofs.FieldLemmas.{rest_is_none}
-use Rattle.afdx_lists.proofs.SubmissionLemmas.{five_fields}
+use Rattle.afdx_lists.proofs.SubmissionLemmas.{submission_five}
 use Rattle.afdx_lists.proofs.submission_line.read_fields.Goals as goal
 
 pub returns-in_default : goal.returns-in_default
@@ -69,5 +69,5 @@ returns c =
       c.port_of-2.ensures,
       c.split_number-udp.ensures.1,
     )
-    (five_fields c.split_number-time.ensures.0 c.split_number-vl.ensures.0
+    (submission_five c.split_number-time.ensures.0 c.split_number-vl.ensures.0
     c.split_number-sub.ensures.0 c.split_number-udp.ensures.0 c.in-Some-rest-3.digits.now)

@@ -1,42 +1,48 @@
-use Rattle.std.proofs.Common.{refl, sym, ap, ◌∙◌, inr, Err}
-use Rattle.afdx_lists.specs.SubmissionLines.{fields_of}
-use Rattle.afdx_lists.proofs.SubmissionLemmas.{line_says_nothing, says_bad_line, says_first_fault}
-use Rattle.afdx_lists.proofs.SubmissionLemmas.{says_digits_fault, says_submission}
+use Rattle.std.proofs.Common.{refl, sym, ap, ◌∙◌, Ok, Err}
+use Rattle.afdx_lists.specs.SubmissionLines.{submission_form, cut_submission, submission_fields_of, submission_said}
+use Rattle.afdx_lists.proofs.FormLemmas.{says_nothing, says_bad_line, says_first_fault}
+use Rattle.afdx_lists.proofs.FormLemmas.{says_bad_hex, says_whole}
+use Rattle.afdx_lists.proofs.SubmissionLemmas.{submission_is_cut}
 use Rattle.afdx_lists.proofs.SpaceLemmas.{bytes_hold_none, first_of}
 use Rattle.afdx_lists.proofs.submission_line.read_submission_line.Goals as goal
 
 pub returns-then-says_nothing-clause-ok : goal.returns-then-says_nothing-clause-ok
+unfolding submission_said
 returns-then-says_nothing-clause-ok c =
-    line_says_nothing _ _ c.trim_line-text.result.now c.trim_line-text.ensures
+    says_nothing submission_form c.args.latest c.args.line.now _ c.trim_line-text.ensures
     (sym c.says_nothing.ensures ∙ c.if-says_nothing.true)
 
 pub returns-in-None-clause-err : goal.returns-in-None-clause-err
+unfolding submission_said
 returns-in-None-clause-err c =
-    inr (says_bad_line _ _ c.trim_line-text.result.now c.trim_line-text.ensures
-    (sym c.says_nothing.ensures ∙ c.if-says_nothing.false) c.in-None.ensures)
+    (says_bad_line submission_form c.args.latest c.args.line.now _ c.trim_line-text.ensures
+    (sym c.says_nothing.ensures ∙ c.if-says_nothing.false) cut_submission c.in-None.ensures)
 
 pub returns-in-Some-fault_of_time-clause-err : goal.returns-in-Some-fault_of_time-clause-err
+unfolding submission_said
 returns-in-Some-fault_of_time-clause-err c =
-    let says = says_first_fault _ _ c.trim_line-text.result.now (fields_of c.in-Some.fields)
-    c.in-Some-fault_of_time.fault c.trim_line-text.ensures
-    (sym c.says_nothing.ensures ∙ c.if-says_nothing.false) c.in-Some.ensures c.requires
+    let says = says_first_fault submission_form c.args.latest c.args.line.now _ c.trim_line-text.ensures
+    (sym c.says_nothing.ensures ∙ c.if-says_nothing.false) cut_submission (submission_is_cut _ c.requires)
+    (submission_fields_of c.in-Some.fields) c.in-Some-fault_of_time.fault c.in-Some.ensures
     c.in-Some-fault_of_time.ensures.fault in
-    inr (says ∙ ap Err (sym c.first_fault.ensures))
+    (says ∙ ap Err (sym c.first_fault.ensures))
 
-pub returns-in-Err-clause-err : goal.returns-in-Err-clause-err
-returns-in-Err-clause-err c =
-    rw c.first_fault-in-Err.ensures
-    (says_digits_fault _ _ c.trim_line-text.result.now (fields_of c.in-Some.fields) _
-    c.trim_line-text.ensures (sym c.says_nothing.ensures ∙ c.if-says_nothing.false)
-    c.in-Some.ensures (sym c.in_default.is ∙ c.fault_of_time.ensures.fault)
-    (c.fault_of_time.ensures.time c.in_default.is) c.in-Err.ensures.err)
+pub returns-then-not-are_digits-clause-err : goal.returns-then-not-are_digits-clause-err
+unfolding submission_said
+returns-then-not-are_digits-clause-err c =
+    let says = says_bad_hex submission_form c.args.latest c.args.line.now _ c.trim_line-text.ensures
+    (sym c.says_nothing.ensures ∙ c.if-says_nothing.false) cut_submission (submission_is_cut _ c.requires)
+    (submission_fields_of c.in-Some.fields) c.in-Some.ensures (sym c.fault_of_time.ensures.fault ∙ c.in_default.is)
+    (c.in_ok-are_digits.ensures.bad (ap Ok c.if-not-are_digits.true)) in
+    says ∙ ap Err (sym c.first_fault-fault.ensures)
 
 pub returns-clause-ok : goal.returns-clause-ok
+unfolding submission_said
 returns-clause-ok c =
-    let five = first_of _ (fields_of c.in-Some.fields) _
-    (bytes_hold_none c.in-Some.fields.digits.now _ c.in-Ok.ensures.ok) c.in-Some.ensures in
-    let says = says_submission _ _ c.trim_line-text.result.now (fields_of c.in-Some.fields)
-    c.trim_line-text.ensures (sym c.says_nothing.ensures ∙ c.if-says_nothing.false) five
-    (sym c.in_default.is ∙ c.fault_of_time.ensures.fault)
-    (c.fault_of_time.ensures.time c.in_default.is) in
-    says ∙ rw c.in-Ok.ensures.ok refl
+    let bytes = c.in_ok-are_digits.ensures.read (ap Ok c.if-not-are_digits.false) in
+    let five = first_of _ (submission_fields_of c.in-Some.fields) _
+    (bytes_hold_none c.in-Some.fields.digits.now _ bytes) c.in-Some.ensures in
+    let says = says_whole submission_form c.args.latest c.args.line.now _ c.trim_line-text.ensures
+    (sym c.says_nothing.ensures ∙ c.if-says_nothing.false) cut_submission (submission_is_cut _ c.requires)
+    (submission_fields_of c.in-Some.fields) five (sym c.fault_of_time.ensures.fault ∙ c.in_default.is) in
+    says ∙ rw bytes refl

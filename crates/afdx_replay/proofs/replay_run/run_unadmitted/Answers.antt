@@ -119,7 +119,7 @@ returns-in-Err-clause-answer g c =
     let gave = GaveLines-next _ _ _ _ _ _ _ _ _ _ place c.loop-frame.invariant.taken
     (c.next_line.ensures.whole (search rules))
     c.next_line.ensures.honest in
-    stops-line frames _ _ _ _ _ _ _ _ _ _ _ c.in-Err.fault _ place c.at_line.ensures
+    stops-line frames _ _ _ _ _ _ _ _ _ _ _ c.in-Err.error _ place c.at_line.ensures
     (rw c.line.ensures at c.in-Err.ensures.err)
     (record {
       few = omega (arith, lines.0, lines.1);

@@ -123,7 +123,7 @@ returns-in-Err-clause-answer g c row is =
     (c.next_line.ensures.whole (search rules))
     c.next_line.ensures.honest in
     let s = source_at c.args.tables.now c.args.system.0 row in
-    stops-line submissions _ _ _ _ _ _ _ _ _ _ _ c.in-Err.fault _ place c.at_line.ensures
+    stops-line submissions _ _ _ _ _ _ _ _ _ _ _ c.in-Err.error _ place c.at_line.ensures
     (rw c.line.ensures at c.in-Err.ensures.err)
     (record {
       few = omega (arith, lines.0, lines.1);

@@ -1,7 +1,9 @@
-use Rattle.std.proofs.Common.{◌≡◌, ◌≤◌, ◌+◌, ◌*◌, ◌-◌, ◌^◌, Some, false}
+use Rattle.std.proofs.Common.{◌≡◌, ◌≤◌, ◌+◌, ◌*◌, ◌-◌, Some, false}
 use Rattle.std.specs.List.{slice_get}
 use Rattle.afdx_config.specs.Rows.{SystemRow}
 use Rattle.afdx_lists.specs.Lines.{IsHonest, HasTaken, left, lines_taken, unread}
+use Rattle.afdx_frame.specs.Times.{latest_listed}
+use Rattle.afdx_lists.specs.Lines.{most_lines, reads_of_line}
 use Rattle.afdx_send.specs.Sender.{last_time, frames_held}
 use Rattle.afdx_replay.specs.SendEvents.{submissions}
 use Rattle.afdx_replay.specs.Sent.{source_at}
@@ -14,11 +16,11 @@ invariant-loop-payload g l = record {
   sound_input : l.input.failed ≡ false;
   sound_output : l.output.failed ≡ false;
   honest : IsHonest g.R.Read.remaining l.input;
-  few : lines_taken l.reader ≤ 1000000;
-  early : l.latest ≤ 10 ^ 15;
+  few : lines_taken l.reader ≤ most_lines;
+  early : l.latest ≤ latest_listed;
   clock : last_time l.sending.sender ≤ l.latest;
   room : HasRoom l.sending.counts (frames_held l.sending.sender) (lines_taken l.reader);
-  calls : l.input.calls ≤ l.fn.input.calls + 4201 * lines_taken l.reader;
+  calls : l.input.calls ≤ l.fn.input.calls + reads_of_line * lines_taken l.reader;
   taken : l.input.ended ≡ false
       → HasTaken (g.R.Read.remaining l.fn.input.inner) (g.R.Read.remaining l.input.inner)
       (unread l.reader) (lines_taken l.reader);
@@ -30,4 +32,4 @@ invariant-loop-payload g l = record {
 }
 
 abbrev pub decreases-loop-payload : goal.decreases-loop-payload
-decreases-loop-payload g l = 1000000 - lines_taken l.reader
+decreases-loop-payload g l = most_lines - lines_taken l.reader

@@ -1,5 +1,6 @@
 use Rattle.std.proofs.Common.{◌≡◌, ◌≤◌, ◌+◌, ◌-◌, [], take, false}
 use Rattle.afdx_lists.specs.Lines.{unread, IsHonest, HasNoFeed, TakesBytes}
+use Rattle.afdx_lists.specs.Lines.{most_lines, longest_line, reads_of_line}
 use Rattle.afdx_lists.proofs.line_reader.LineReader.next_line.Given as goal
 
 abbrev pub invariant-reads : goal.invariant-reads
@@ -9,8 +10,8 @@ invariant-reads g l = record {
   ended : l.input.ended ≡ l.initial.input.ended;
   lines : l.self.lines ≡ l.initial.self.lines;
   within : l.searched ≤ l.self.end - l.self.start;
-  short : l.searched ≤ 4200;
-  full : 1000000 ≤ l.self.lines → l.searched ≡ 0;
+  short : l.searched ≤ longest_line;
+  full : most_lines ≤ l.self.lines → l.searched ≡ 0;
   no_feed : HasNoFeed (take l.searched (unread l.self));
   taken : TakesBytes (g.R.Read.remaining l.initial.input.inner) (g.R.Read.remaining l.input.inner)
       (unread l.initial.self) (unread l.self) [];
@@ -19,4 +20,4 @@ invariant-reads g l = record {
 }
 
 abbrev pub decreases-reads : goal.decreases-reads
-decreases-reads g l = 4201 - (l.self.end - l.self.start)
+decreases-reads g l = reads_of_line - (l.self.end - l.self.start)
