@@ -10,7 +10,7 @@ use Rattle.afdx_lists.specs.declared.fault.LineFault.{LineFault}
 use Rattle.afdx_lists.specs.Fields.{between_spaces, cut, cut_number, number_of, is_skipped, fault_or, time_fault}
 use Rattle.afdx_lists.specs.Forms.{from_five, five_of, if_five}
 use Rattle.afdx_lists.specs.FrameLines.{kind_of, side_of, frame_fields_with, frame_fields_from, cut_frame}
-use Rattle.afdx_lists.specs.FrameLines.{Frame, frame_form, port_fault, numbers_fault, line_says}
+use Rattle.afdx_lists.specs.FrameLines.{ListedFrame, frame_form, port_fault, numbers_fault, line_says}
 use Rattle.afdx_frame.specs.Times.{latest_listed}
 use Rattle.afdx_lists.specs.FrameLines.{last_port}
 use Rattle.afdx_lists.proofs.FieldLemmas.{time_fault-cut, time_fault-none}
@@ -71,7 +71,7 @@ time_fault-alone : (time latest : ℕ) → time_fault time latest ≡ None → t
 time_fault-alone time latest none = let parts = time_fault-none time latest none in grind (arith, common_steps, parts.0)
 
 -- what a line says after others it says alone
-pub line_says-alone : (latest : ℕ) (line : List ℕ) (o : Option Frame) → line_says latest line ≡ Ok o
+pub line_says-alone : (latest : ℕ) (line : List ℕ) (o : Option ListedFrame) → line_says latest line ≡ Ok o
     → line_says 0 line ≡ Ok o
 unfolding line_says
 line_says-alone latest line o h =
@@ -80,12 +80,12 @@ line_says-alone latest line o h =
     ap₂ fault_or (time_fault-alone fields.time latest parts.0) parts.1) latest line o h
 
 -- a frame isn't earlier than what came before it
-pub line_says-later : (latest : ℕ) (line : List ℕ) (frame : Frame) → line_says latest line ≡ Ok (Some frame)
+pub line_says-later : (latest : ℕ) (line : List ℕ) (frame : ListedFrame) → line_says latest line ≡ Ok (Some frame)
     → latest ≤ frame.time
 unfolding line_says
 line_says-later latest line frame h =
     let s = says-from frame_form latest line frame h in
     let parts = numbers_fault-none s.fields.time s.fields.port latest s.sound in
     let later = time_fault-none s.fields.time latest parts.0 in
-    let same : s.fields.time ≡ frame.time = ap (λ (f : Frame). f.time) s.is in
+    let same : s.fields.time ≡ frame.time = ap (λ (f : ListedFrame). f.time) s.is in
     omega (arith, later.1, same)

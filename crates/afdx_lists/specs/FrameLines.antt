@@ -14,7 +14,7 @@ use Rattle.afdx_lists.specs.declared.fault.LineFault.{LineFault}
 use Rattle.afdx_lists.specs.declared.fault.LineFault.TheVariants.{BadPort}
 
 -- a frame that comes in at a switch
-pub record Frame : Type 0 where
+pub record ListedFrame : Type 0 where
   pub time : ℕ
   pub side : Side
   pub port : ℕ
@@ -63,7 +63,7 @@ frame_bytes Bad bytes = sealed_wrongly bytes
 frame_bytes Raw bytes = bytes
 
 -- the frame of a line with these fields and bytes
-abbrev pub frame_said : FrameFields → List ℕ → Frame
+abbrev pub frame_said : FrameFields → List ℕ → ListedFrame
 frame_said fields bytes = record {
   time = fields.time;
   side = fields.side;
@@ -84,7 +84,7 @@ abbrev pub numbers_fault : ℕ → ℕ → ℕ → Option LineFault
 numbers_fault time port latest = fault_or (time_fault time latest) (port_fault port)
 
 -- frame lines
-abbrev pub frame_form : Form FrameFields Frame
+abbrev pub frame_form : Form FrameFields ListedFrame
 frame_form = record {
   fields = frame_fields;
   digits = λ fields. fields.digits;
@@ -94,12 +94,12 @@ frame_form = record {
 
 -- what a line says that comes after a frame of the latest time: a frame, or nothing, or why it
 -- can't be read
-unfoldable pub line_says : ℕ → List ℕ → Result (Option Frame) LineFault
+unfoldable pub line_says : ℕ → List ℕ → Result (Option ListedFrame) LineFault
 line_says latest line = said_by frame_form latest line
 
 -- the frame of a heading and its bytes
-abbrev pub frame_of : Heading → List ℕ → Frame
-frame_of heading bytes =
+abbrev pub listed_frame : Heading → List ℕ → ListedFrame
+listed_frame heading bytes =
     record { time = heading.time; side = heading.side; port = heading.port; bytes = bytes }
 
 -- the fields that the program read

@@ -5,7 +5,7 @@ ghost use Rattle.afdx_lists.specs.Faults.{IsErrorOf};
 ghost use Rattle.afdx_frame.specs.Times.{latest_listed};
 ghost use Rattle.afdx_lists.specs.Forms.{from_five, if_five};
 ghost use Rattle.afdx_lists.specs.FrameLines.{kind_of, side_of, frame_fields, frame_bytes};
-ghost use Rattle.afdx_lists.specs.FrameLines.{frame_of, line_says, cut_frame, frame_fields_of};
+ghost use Rattle.afdx_lists.specs.FrameLines.{listed_frame, line_says, cut_frame, frame_fields_of};
 ghost use Rattle.afdx_lists.specs.FrameLines.{frame_fields_with, frame_form, numbers_fault};
 ghost use Rattle.afdx_lists.specs.FrameLines.{port_fault, last_port};
 
@@ -194,7 +194,7 @@ pub fn read_frame_line(
     ensures sealed { IfOk result (λ heading.
         IfSome heading (λ h. h.is_sealed ≡ is_sealed frame.new.items)) }
     ensures ok { IfOk result (λ heading. line_says latest line.now
-        ≡ Ok (option_map (λ h. frame_of h frame.new.items) heading)) }
+        ≡ Ok (option_map (λ h. listed_frame h frame.new.items) heading)) }
     ensures err { IfErr result (IsErrorOf (line_says latest line.now)) }
 {
     let text = trim_line(line);

@@ -8,7 +8,7 @@ use Rattle.afdx_config.specs.Rows.{Rows}
 use Rattle.afdx_police.specs.Arrival.{Arrival, is_side}
 use Rattle.afdx_port.specs.Schedule.{Turn}
 use Rattle.afdx_port.proofs.TurnLemmas.{eqb-same}
-use Rattle.afdx_switch.specs.Carried.{Carried}
+use Rattle.afdx_switch.specs.HeldFrames.{HeldFrame}
 use Rattle.afdx_switch.specs.Switching.{PortTurn, taken_at}
 use Rattle.afdx_network.specs.Events.{Event, Came, Left, Admission, Departure, departure_with}
 use Rattle.afdx_network.specs.Events.{admissions, turns_at, departures_of, departures_below}
@@ -18,14 +18,14 @@ use Rattle.afdx_network.specs.Network.{EachFollows}
 use Rattle.afdx_network.proofs.OrderLemmas.{among_left, among_right, among_either}
 
 -- an event that is a turn of a port
-pub record IsTurnOf (side : Side) (port : ℕ) (turns : List (Turn Carried)) (e : Event) : Type 0 where
+pub record IsTurnOf (side : Side) (port : ℕ) (turns : List (Turn HeldFrame)) (e : Event) : Type 0 where
   pub d : Departure
   pub is : e ≡ Left d
   pub side_is : d.side ≡ side
   pub port_is : d.port ≡ port
   pub below : d.place < length turns
 
-pub turn-of : (side : Side) (port : ℕ) (turns : List (Turn Carried)) (e : Event)
+pub turn-of : (side : Side) (port : ℕ) (turns : List (Turn HeldFrame)) (e : Event)
     → IsAmong e (departures_of side port turns) → IsTurnOf side port turns e
 turn-of side port [] e h = absurd h
 turn-of side port (s ∷ earlier) e (inl same) =
@@ -139,7 +139,7 @@ taken-same x before =
     ∙ ap (λ b. if b then x.turn ∷ taken_at x.port (turns_on x.side before) else taken_at x.port
     (turns_on x.side before)) (eqb-same x.port x.port refl)
 
-skips : (n port : ℕ) (s : Turn Carried) (earlier : List PortTurn) → (port ≡ n → ⊥)
+skips : (n port : ℕ) (s : Turn HeldFrame) (earlier : List PortTurn) → (port ≡ n → ⊥)
     → taken_at port (record { port = n; turn = s } ∷ earlier) ≡ taken_at port earlier
 unfolding taken_at
 skips n port s earlier other =

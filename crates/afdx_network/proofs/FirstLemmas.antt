@@ -11,9 +11,9 @@ use Rattle.afdx_port.specs.ScheduleOf.{AreInOrder as AreTimed}
 use Rattle.afdx_port.proofs.ScheduleLemmas.{schedule_of_is}
 use Rattle.afdx_port.proofs.TurnLemmas.{next_of, schedule_begins, same_schedule}
 use Rattle.afdx_bounds.proofs.TableLemmas.{byte-time}
-use Rattle.afdx_switch.specs.Carried.{Carried}
+use Rattle.afdx_switch.specs.HeldFrames.{HeldFrame}
 use Rattle.afdx_switch.specs.Switching as switch
-use Rattle.afdx_switch.specs.Switching.{History, IsDone, taken_at}
+use Rattle.afdx_switch.specs.Switching.{SwitchHistory, IsDone, taken_at}
 use Rattle.afdx_switch.specs.Tables.{byte_ns_at, entries_at}
 use Rattle.afdx_switch.specs.declared.working.Working.{Working}
 use Rattle.afdx_switch.proofs.LawLemmas.{taken-turns}
@@ -29,7 +29,7 @@ use Rattle.afdx_network.proofs.EventLemmas.{at-port-of, is-departure, is-admissi
 use Rattle.afdx_network.proofs.EventLemmas.{came-all, came-own, left-all, left-own}
 use Rattle.afdx_network.proofs.TurnLemmas.{IsLater, split-later, join-later, later-after}
 
-entries-timed : (t : Rows) (side : Side) (w : Working) (h : History) (port : ℕ)
+entries-timed : (t : Rows) (side : Side) (w : Working) (h : SwitchHistory) (port : ℕ)
     → switch.StandsFor t side w h → 1 ≤ port → port ≤ 24 → AreTimed (entries_at t side port h.arrivals)
 entries-timed t side w h zero st low high = absurd (omega (arith, low))
 entries-timed t side w h (suc i) st low high =
@@ -38,7 +38,7 @@ entries-timed t side w h (suc i) st low high =
 
 -- the turns of a port are those that were taken, and later ones
 record Splits (t : Rows) (events : List Event) (side : Side) (port : ℕ) : Type 0 where
-  more : List (Turn Carried)
+  more : List (Turn HeldFrame)
   is : turns_at t side port (arrivals_in events) ≡ more ++ taken_at port (turns_on side events)
   are : AreTurns (byte_ns_at t port) (entries_at t side port (arrivals_in events))
       (more ++ taken_at port (turns_on side events))
@@ -69,7 +69,7 @@ done-on t side w events time port st low high done =
     (schedule_of_is (byte_ns_at t port) (entries_at t side port (arrivals_in events))
     (entries-timed t side w (calls_on side events time) port st low high)) done
 
-some-later : (side : Side) (port : ℕ) (e : Event) (more turns : List (Turn Carried))
+some-later : (side : Side) (port : ℕ) (e : Event) (more turns : List (Turn HeldFrame))
     → IsLater side port e more turns → 0 < length more
 some-later side port e [] turns h = absurd h
 some-later side port e (x ∷ more) turns h = omega arith

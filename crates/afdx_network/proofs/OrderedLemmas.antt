@@ -8,7 +8,7 @@ use Rattle.afdx_frame.specs.declared.link.Side.TheVariants.{A, B}
 use Rattle.afdx_config.specs.Rows.{Rows}
 use Rattle.afdx_police.specs.Arrival.{Arrival}
 use Rattle.afdx_port.specs.Schedule.{Turn}
-use Rattle.afdx_switch.specs.Carried.{Carried}
+use Rattle.afdx_switch.specs.HeldFrames.{HeldFrame}
 use Rattle.afdx_network.specs.Events.{Event, Came, Left, Admission, Departure, admission_after}
 use Rattle.afdx_network.specs.Events.{departure_with, admissions, turns_at, departures_of}
 use Rattle.afdx_network.specs.Events.{departures_below, departures, all_events, arrivals_in}
@@ -129,7 +129,7 @@ admissions-apart t (x ∷ past) = (
   admissions-apart t past,
 )
 
-turns-apart : (side : Side) (port : ℕ) (turns : List (Turn Carried)) → AreApart (departures_of side port turns)
+turns-apart : (side : Side) (port : ℕ) (turns : List (Turn HeldFrame)) → AreApart (departures_of side port turns)
 turns-apart side port [] = tt
 turns-apart side port (s ∷ earlier) = (
   λ d among same.

@@ -14,9 +14,9 @@ use Rattle.afdx_port.specs.Due.{given_at, IsBy, IsAfter, order_of}
 use Rattle.afdx_port.specs.History.{due_at}
 use Rattle.afdx_port.specs.Schedule.{Turn, IsNext}
 use Rattle.afdx_bounds.proofs.TableLemmas.{byte-time}
-use Rattle.afdx_switch.specs.Carried.{Carried}
+use Rattle.afdx_switch.specs.HeldFrames.{HeldFrame}
 use Rattle.afdx_switch.specs.Switching as switch
-use Rattle.afdx_switch.specs.Switching.{History, PortTurn, IsNextAt, IsNextOf, IsDue, IsDone}
+use Rattle.afdx_switch.specs.Switching.{SwitchHistory, PortTurn, IsNextAt, IsNextOf, IsDue, IsDone}
 use Rattle.afdx_switch.specs.Switching.{GoesBefore, taken_at, with_arrival, with_take}
 use Rattle.afdx_switch.specs.Tables.{byte_ns_at, entries_at}
 use Rattle.afdx_switch.specs.declared.switch.Departure as switch_departure
@@ -97,15 +97,15 @@ abbrev tail-of : List Event → Side → ℕ → List ℕ
 tail-of events side port = side_number side ∷ port ∷ length (taken_at port (turns_on side events)) ∷ []
 
 -- a turn goes before those of all other ports
-abbrev pub IsFirstTurn : Rows → List Event → Side → ℕ → Turn Carried → Type 0
+abbrev pub IsFirstTurn : Rows → List Event → Side → ℕ → Turn HeldFrame → Type 0
 IsFirstTurn t events side port s =
-    (other : Side) (number : ℕ) (r : Turn Carried) → 1 ≤ number → number ≤ 24
+    (other : Side) (number : ℕ) (r : Turn HeldFrame) → 1 ≤ number → number ≤ 24
     → IsNextOn t events other number r → (other ≡ side → number ≡ port → ⊥) →
     is_before (Left (departure_after events side port s)) (Left (departure_after events other number r)) ≡ true
 
 -- the switches so far, and the next departure
 module _ (t : Rows) (n : Network) (events : List Event) (st : StandsFor t n events) where
-  module _ (side : Side) (port : ℕ) (s : Turn Carried) (low : 1 ≤ port) (high : port ≤ 24)
+  module _ (side : Side) (port : ℕ) (s : Turn HeldFrame) (low : 1 ≤ port) (high : port ≤ 24)
       (next : IsNextOn t events side port s) (first : IsFirstTurn t events side port s) where
     abbrev new_events : List Event
     new_events = Left (departure_after events side port s) ∷ events
@@ -114,9 +114,9 @@ module _ (t : Rows) (n : Network) (events : List Event) (st : StandsFor t n even
     before-it e among = st.next side port s low high next e among
 
     -- all come before the next turn of each port still
-    abbrev IsBeforeNext : Side → ℕ → Event → List (Turn Carried) → Type 0
+    abbrev IsBeforeNext : Side → ℕ → Event → List (Turn HeldFrame) → Type 0
     IsBeforeNext other number e turns =
-        (r : Turn Carried) → IsNext (byte_ns_at t number)
+        (r : Turn HeldFrame) → IsNext (byte_ns_at t number)
         (entries_at t other number (arrivals_in events)) turns r
         → is_before e (Left (departure_with other number (length turns) r)) ≡ true
 
@@ -147,7 +147,7 @@ module _ (t : Rows) (n : Network) (events : List Event) (st : StandsFor t n even
           | inr old ↦ st.next other number r least most is_next e old
         ])
 
-    next-stays : (other : Side) (number : ℕ) (r : Turn Carried) → 1 ≤ number → number ≤ 24
+    next-stays : (other : Side) (number : ℕ) (r : Turn HeldFrame) → 1 ≤ number → number ≤ 24
         → IsNextOn t new_events other number r → (e : Event) → IsAmong e new_events →
         is_before e (Left (departure_after new_events other number r)) ≡ true
     next-stays other number r least most is_next e among =
@@ -171,7 +171,7 @@ module _ (t : Rows) (n : Network) (events : List Event) (st : StandsFor t n even
     ]
 
   -- side A gives the next departure
-  pub stands-left-a : (a : Working) (until port : ℕ) (s : Turn Carried) → 1 ≤ port → port ≤ 24
+  pub stands-left-a : (a : Working) (until port : ℕ) (s : Turn HeldFrame) → 1 ≤ port → port ≤ 24
       → IsNextOn t events A port s → IsFirstTurn t events A port s → IsBy until (due_at s)
       → switch.last_time n.a ≤ until →
       switch.StandsFor t A a (with_take (calls_on A events (switch.last_time n.a))
@@ -194,7 +194,7 @@ module _ (t : Rows) (n : Network) (events : List Event) (st : StandsFor t n even
     next = next-stays A port s low high next first;
   }
 
-  pub stands-left-b : (b : Working) (until port : ℕ) (s : Turn Carried) → 1 ≤ port → port ≤ 24
+  pub stands-left-b : (b : Working) (until port : ℕ) (s : Turn HeldFrame) → 1 ≤ port → port ≤ 24
       → IsNextOn t events B port s → IsFirstTurn t events B port s → IsBy until (due_at s)
       → switch.last_time n.b ≤ until →
       switch.StandsFor t B b (with_take (calls_on B events (switch.last_time n.b))
@@ -218,11 +218,11 @@ module _ (t : Rows) (n : Network) (events : List Event) (st : StandsFor t n even
   }
 
   -- what is due at a switch goes at or after m, so each next turn there does
-  pub due-least : (side : Side) (h : History) (o : Option Due) (m : ℕ)
+  pub due-least : (side : Side) (h : SwitchHistory) (o : Option Due) (m : ℕ)
       → IfSome o (λ d. IsDue t side h d)
       → ((port : ℕ) → 1 ≤ port → port ≤ 24 → IfNone o (IsDone t side h port))
       → IfSome o (λ d. m ≤ order_of d) →
-      (port : ℕ) (s : Turn Carried) → 1 ≤ port → port ≤ 24 → IsNextAt t side h port s → m ≤ order_of (due_at s)
+      (port : ℕ) (s : Turn HeldFrame) → 1 ≤ port → port ≤ 24 → IsNextAt t side h port s → m ≤ order_of (due_at s)
   due-least side h None m due done le port s low high next =
       absurd (let all = (done port low high).all_have_turns s.place
       (slice_get_within (entries_at t side port h.arrivals) s.place s.entry next.own.stands) in
@@ -237,7 +237,7 @@ module _ (t : Rows) (n : Network) (events : List Event) (st : StandsFor t n even
   if-less (Some d) m h = omega (arith, h)
 
   -- a switch's next turn goes no later than what is due there
-  pub gone-least : (side : Side) (h : History) (gone : PortTurn) (d : Due) → IsNextOf t side h gone
+  pub gone-least : (side : Side) (h : SwitchHistory) (gone : PortTurn) (d : Due) → IsNextOf t side h gone
       → IsDue t side h d → order_of (due_at gone.turn) ≤ order_of d
   gone-least side h gone d next due =
       let is : order_of d ≡ order_of (due_at due.gone.turn) = ap (λ z. order_of z) due.is in
@@ -245,9 +245,9 @@ module _ (t : Rows) (n : Network) (events : List Event) (st : StandsFor t n even
       due.next.next) [ inl lt ↦ omega (arith, is, lt) | inr same ↦ omega (arith, is, same.0) ]
 
   -- a switch's next turn goes before those of its other ports
-  own-first : (side : Side) (time port : ℕ) (s : Turn Carried)
+  own-first : (side : Side) (time port : ℕ) (s : Turn HeldFrame)
       → IsNextOf t side (calls_on side events time) (record { port = port; turn = s })
-      → (number : ℕ) (r : Turn Carried) → 1 ≤ number → number ≤ 24 → IsNextOn t events side number r →
+      → (number : ℕ) (r : Turn HeldFrame) → 1 ≤ number → number ≤ 24 → IsNextOn t events side number r →
       (number ≡ port → ⊥) → is_before (Left (departure_after events side port s))
       (Left (departure_after events side number r)) ≡ true
   own-first side time port s next number r low high is_next apart =
@@ -268,9 +268,9 @@ module _ (t : Rows) (n : Network) (events : List Event) (st : StandsFor t n even
         )
       ])
 
-  pub first-a : (time port : ℕ) (s : Turn Carried)
+  pub first-a : (time port : ℕ) (s : Turn HeldFrame)
       → IsNextOf t A (calls_on A events time) (record { port = port; turn = s }) →
-      ((number : ℕ) (r : Turn Carried) → 1 ≤ number → number ≤ 24 → IsNextOn t events B number r
+      ((number : ℕ) (r : Turn HeldFrame) → 1 ≤ number → number ≤ 24 → IsNextOn t events B number r
       → order_of (due_at s) ≤ order_of (due_at r)) → IsFirstTurn t events A port s
   first-a time port s next others A number r low high is_next apart =
       own-first A time port s next number r low high is_next (λ same. apart refl same)
@@ -287,9 +287,9 @@ module _ (t : Rows) (n : Network) (events : List Event) (st : StandsFor t n even
         | inr other ↦ inl (omega (arith, le, other))
       ])
 
-  pub first-b : (time port : ℕ) (s : Turn Carried)
+  pub first-b : (time port : ℕ) (s : Turn HeldFrame)
       → IsNextOf t B (calls_on B events time) (record { port = port; turn = s }) →
-      ((number : ℕ) (r : Turn Carried) → 1 ≤ number → number ≤ 24 → IsNextOn t events A number r
+      ((number : ℕ) (r : Turn HeldFrame) → 1 ≤ number → number ≤ 24 → IsNextOn t events A number r
       → order_of (due_at s) + 1 ≤ order_of (due_at r)) → IsFirstTurn t events B port s
   first-b time port s next others B number r low high is_next apart =
       own-first B time port s next number r low high is_next (λ same. apart refl same)
@@ -353,7 +353,7 @@ module _ (t : Rows) (n : Network) (events : List Event) (st : StandsFor t n even
   -- a frame arrived at side A
   module _ (time : ℕ) (until : IsUntil n time) (x : Arrival) (at : x.time ≡ time) (new : Network)
       (later : (u : ℕ) → IsUntil new u → (time ≤ u) × IsUntil n u)
-      (quiet : (side : Side) (port : ℕ) (s : Turn Carried) → 1 ≤ port → port ≤ 24
+      (quiet : (side : Side) (port : ℕ) (s : Turn HeldFrame) → 1 ≤ port → port ≤ 24
       → IsNextOn t (Came (admission_after t (arrivals_in events) x) ∷ events) side port s
       → IsAfter time (due_at s)) where
     abbrev came : List Event
@@ -378,7 +378,7 @@ module _ (t : Rows) (n : Network) (events : List Event) (st : StandsFor t n even
               (omega arith) (omega arith))
         ]
 
-    came-next : (side : Side) (port : ℕ) (s : Turn Carried) → 1 ≤ port → port ≤ 24
+    came-next : (side : Side) (port : ℕ) (s : Turn HeldFrame) → 1 ≤ port → port ≤ 24
         → IsNextOn t came side port s → (e : Event) → IsAmong e came
         → is_before e (Left (departure_after came side port s)) ≡ true
     came-next side port s low high is_next e among =
@@ -431,7 +431,7 @@ module _ (t : Rows) (n : Network) (events : List Event) (st : StandsFor t n even
         record { on_a = omega (arith, clock, h.on_a, until.on_a); on_b = h.on_b },
       )
 
-      quiet : (side : Side) (number : ℕ) (s : Turn Carried) → 1 ≤ number → number ≤ 24
+      quiet : (side : Side) (number : ℕ) (s : Turn HeldFrame) → 1 ≤ number → number ≤ 24
           → IsNextOn t (Came (admission_after t (arrivals_in events)
           (arrival_with tag time A port bytes)) ∷ events) side number s → IsAfter time (due_at s)
       quiet A number s low high next =
@@ -479,7 +479,7 @@ module _ (t : Rows) (n : Network) (events : List Event) (st : StandsFor t n even
         record { on_a = h.on_a; on_b = omega (arith, clock, h.on_b, until.on_b) },
       )
 
-      quiet : (side : Side) (number : ℕ) (s : Turn Carried) → 1 ≤ number → number ≤ 24
+      quiet : (side : Side) (number : ℕ) (s : Turn HeldFrame) → 1 ≤ number → number ≤ 24
           → IsNextOn t (Came (admission_after t (arrivals_in events)
           (arrival_with tag time B port bytes)) ∷ events) side number s → IsAfter time (due_at s)
       quiet A number s low high next =

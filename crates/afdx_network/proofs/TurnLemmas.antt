@@ -5,7 +5,7 @@ use Rattle.afdx_frame.specs.declared.link.Side.{Side}
 use Rattle.afdx_port.specs.Schedule.{Entry, Turn, lasting, IsNext, AreTurns}
 use Rattle.afdx_port.proofs.TurnLemmas.{same_next}
 use Rattle.afdx_bounds.proofs.AdmittedLemmas.{product-positive}
-use Rattle.afdx_switch.specs.Carried.{Carried}
+use Rattle.afdx_switch.specs.HeldFrames.{HeldFrame}
 use Rattle.afdx_network.specs.Events.{Event, Left, departure_with, departures_of}
 use Rattle.afdx_network.specs.Order.{phase_of, side_number, is_below, is_before, IsAmong}
 use Rattle.afdx_network.proofs.OrderLemmas.{below_first, below_next, before_trans}
@@ -33,8 +33,8 @@ later byte_time bytes end moment over k l o false some lasts after lt = let long
     product-positive (bytes + 20) byte_time (omega arith) some in inl (omega (arith, lasts, after, long))
 
 -- a turn comes before the next one of its port
-pub next-after : (side : Side) (port byte_time : ℕ) (entries : List (Entry Carried))
-    (y : Turn Carried) (earlier : List (Turn Carried)) (x : Turn Carried) → 0 < byte_time
+pub next-after : (side : Side) (port byte_time : ℕ) (entries : List (Entry HeldFrame))
+    (y : Turn HeldFrame) (earlier : List (Turn HeldFrame)) (x : Turn HeldFrame) → 0 < byte_time
     → IsNext byte_time entries (y ∷ earlier) x →
     is_before (Left (departure_with side port (length earlier) y))
     (Left (departure_with side port (length (y ∷ earlier)) x)) ≡ true
@@ -45,12 +45,12 @@ next-after side port byte_time entries y earlier x some n =
     y.too_old x.too_old some n.lasts n.after (omega arith))
 
 -- an event that is one of the later turns
-abbrev pub IsLater : Side → ℕ → Event → List (Turn Carried) → List (Turn Carried) → Type 0
+abbrev pub IsLater : Side → ℕ → Event → List (Turn HeldFrame) → List (Turn HeldFrame) → Type 0
 IsLater side port e [] turns = ⊥
 IsLater side port e (x ∷ more) turns =
     (e ≡ Left (departure_with side port (length (more ++ turns)) x)) ⊎ IsLater side port e more turns
 
-pub split-later : (side : Side) (port : ℕ) (e : Event) (more turns : List (Turn Carried))
+pub split-later : (side : Side) (port : ℕ) (e : Event) (more turns : List (Turn HeldFrame))
     → IsAmong e (departures_of side port (more ++ turns))
     → IsAmong e (departures_of side port turns) ⊎ IsLater side port e more turns
 split-later side port e [] turns h = inl h
@@ -58,15 +58,15 @@ split-later side port e (x ∷ more) turns (inl same) = inr (inl same)
 split-later side port e (x ∷ more) turns (inr rest) =
     elim (split-later side port e more turns rest) [ inl early ↦ inl early | inr late ↦ inr (inr late) ]
 
-pub join-later : (side : Side) (port : ℕ) (e : Event) (more turns : List (Turn Carried))
+pub join-later : (side : Side) (port : ℕ) (e : Event) (more turns : List (Turn HeldFrame))
     → IsAmong e (departures_of side port turns) → IsAmong e (departures_of side port (more ++ turns))
 join-later side port e [] turns h = h
 join-later side port e (x ∷ more) turns h = inr (join-later side port e more turns h)
 
 -- a later turn is the next one, or comes after it
-pub later-after : (side : Side) (port byte_time : ℕ) (entries : List (Entry Carried))
-    (more turns : List (Turn Carried)) → 0 < byte_time → AreTurns byte_time entries (more ++ turns) →
-    (s : Turn Carried) → IsNext byte_time entries turns s → (e : Event) → IsLater side port e more turns →
+pub later-after : (side : Side) (port byte_time : ℕ) (entries : List (Entry HeldFrame))
+    (more turns : List (Turn HeldFrame)) → 0 < byte_time → AreTurns byte_time entries (more ++ turns) →
+    (s : Turn HeldFrame) → IsNext byte_time entries turns s → (e : Event) → IsLater side port e more turns →
     (e ≡ Left (departure_with side port (length turns) s))
     ⊎ IsTrue (is_before (Left (departure_with side port (length turns) s)) e)
 later-after side port byte_time entries [] turns some are s n e h = absurd h

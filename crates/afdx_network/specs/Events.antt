@@ -8,8 +8,8 @@ use Rattle.afdx_police.specs.Arrival.{Arrival, is_side}
 use Rattle.afdx_police.specs.declared.shape.Reason.{Reason}
 use Rattle.afdx_port.specs.Schedule.{Turn}
 use Rattle.afdx_port.specs.ScheduleOf.{schedule_of}
-use Rattle.afdx_switch.specs.Carried.{Carried}
-use Rattle.afdx_switch.specs.Switching.{PortTurn, History}
+use Rattle.afdx_switch.specs.HeldFrames.{HeldFrame}
+use Rattle.afdx_switch.specs.Switching.{PortTurn, SwitchHistory}
 use Rattle.afdx_switch.specs.Tables.{byte_ns_at, entries_at}
 use Rattle.afdx_switch.specs.Verdicts.{reason_of, lost_ports}
 
@@ -26,14 +26,14 @@ pub record Departure : Type 0 where
   pub side : Side
   pub port : ℕ
   pub place : ℕ
-  pub turn : Turn Carried
+  pub turn : Turn HeldFrame
 
 pub data Event : Type 0 where
   Came : Admission → Event
   Left : Departure → Event
 
 -- in this order
-abbrev pub departure_with : Side → ℕ → ℕ → Turn Carried → Departure
+abbrev pub departure_with : Side → ℕ → ℕ → Turn HeldFrame → Departure
 departure_with side port place turn =
     record { side = side; port = port; place = place; turn = turn }
 
@@ -52,11 +52,11 @@ admissions t [] = []
 admissions t (x ∷ past) = Came (admission_after t past x) ∷ admissions t past
 
 -- the turns of an output port after these arrivals, if no more come
-unfoldable pub turns_at : Rows → Side → ℕ → List Arrival → List (Turn Carried)
+unfoldable pub turns_at : Rows → Side → ℕ → List Arrival → List (Turn HeldFrame)
 turns_at t side port arrivals = schedule_of (byte_ns_at t port) (entries_at t side port arrivals)
 
 -- the events that turns of a port are
-abbrev pub departures_of : Side → ℕ → List (Turn Carried) → List Event
+abbrev pub departures_of : Side → ℕ → List (Turn HeldFrame) → List Event
 departures_of side port [] = []
 departures_of side port (s ∷ earlier) =
     Left (departure_with side port (length earlier) s) ∷ departures_of side port earlier
@@ -91,6 +91,6 @@ turns_on side (Left d ∷ before) =
     else turns_on side before
 
 -- the calls of a side's switch that events are, of which the last was at this time
-abbrev pub calls_on : Side → List Event → ℕ → History
+abbrev pub calls_on : Side → List Event → ℕ → SwitchHistory
 calls_on side events time =
     record { arrivals = arrivals_in events; taken = turns_on side events; time = time }

@@ -9,7 +9,7 @@ use Rattle.afdx_port.specs.Due.{IsBy}
 use Rattle.afdx_port.specs.History.{left_of, due_at}
 use Rattle.afdx_port.specs.Schedule.{Turn}
 use Rattle.afdx_switch.specs.Departures.{as_given, giving_port}
-use Rattle.afdx_switch.specs.Carried.{Carried}
+use Rattle.afdx_switch.specs.HeldFrames.{HeldFrame}
 use Rattle.afdx_switch.specs.Switching as switch
 use Rattle.afdx_switch.specs.Switching.{IsNextAt, taken_at}
 use Rattle.afdx_switch.specs.Ports.{holds}
@@ -64,12 +64,12 @@ abbrev pub frames_held : Network → ℕ
 frames_held n = switch.frames_held n.a + switch.frames_held n.b
 
 -- the turn of a port as the event that it is after these
-abbrev pub departure_after : List Event → Side → ℕ → Turn Carried → Departure
+abbrev pub departure_after : List Event → Side → ℕ → Turn HeldFrame → Departure
 departure_after before side port s =
     departure_with side port (length (taken_at port (turns_on side before))) s
 
 -- the next turn of a port of a side, after these events
-abbrev pub IsNextOn : Rows → List Event → Side → ℕ → Turn Carried → Type 0
+abbrev pub IsNextOn : Rows → List Event → Side → ℕ → Turn HeldFrame → Type 0
 IsNextOn t events side port s = IsNextAt t side (calls_on side events 0) port s
 
 -- the switches of both sides are those that these events leave
@@ -83,7 +83,7 @@ pub record StandsFor (t : Rows) (n : Network) (events : List Event) : Type 0 whe
   pub past : (time : ℕ) → IsUntil n time → (e : Event) → IsAmong e events →
       is_below (key e) (time ∷ 1 ∷ length (arrivals_in events) ∷ []) ≡ true
   -- and before the next turn of each port
-  pub next : (side : Side) (port : ℕ) (s : Turn Carried) → 1 ≤ port → port ≤ 24 →
+  pub next : (side : Side) (port : ℕ) (s : Turn HeldFrame) → 1 ≤ port → port ≤ 24 →
       IsNextOn t events side port s → (e : Event) → IsAmong e events →
       is_before e (Left (departure_after events side port s)) ≡ true
 

@@ -11,8 +11,8 @@ use Rattle.afdx_port.specs.declared.pending.Pending.{Pending}
 use Rattle.afdx_port.specs.Facts.{Facts, AreLawful}
 use Rattle.afdx_port.specs.Schedule.{lasting}
 use Rattle.afdx_port.specs.Held.{frames_held, sending_count, choice_of, queue_of, is_too_old, due_from, due_of}
-use Rattle.afdx_port.specs.Sound.{ChangesQueue, IsSound}
-use Rattle.afdx_port.specs.History.{History, at, StandsFor}
+use Rattle.afdx_port.specs.Sound.{ChangesQueue, IsPortSound}
+use Rattle.afdx_port.specs.History.{PortHistory, at, StandsFor}
 use Rattle.afdx_port.proofs.DueLemmas.{due_idle, due_busy}
 use Rattle.afdx_port.proofs.HistoryLemmas.{other, left, begin_stands}
 use Rattle.afdx_port.proofs.SoundLemmas.{lasting_short, count_least, start_is, stays}
@@ -26,7 +26,7 @@ module _ {X : Type 0} where
   pub record Begins (facts : X → Facts) (old mid : Pending X) (time moment : ℕ) (c : Priority)
       (w : Waiting X) (n : ℕ) (d : Due) : Type 0 where
     pub lawful : (x : X) → AreLawful (facts x)
-    pub sound : IsSound facts old
+    pub sound : IsPortSound facts old
     pub clock : old.clock ≡ time
     pub before : moment < time
     pub idle : old.sending ≡ None
@@ -48,7 +48,7 @@ module _ {X : Type 0} where
     pub few : length old.high.items + length old.low.items ≤ 65536
 
   pub counts : (facts : X → Facts) (old mid : Pending X) (c : Priority) (w : Waiting X)
-      → ((x : X) → AreLawful (facts x)) → IsSound facts old → queue_of c old ≡ w ∷ queue_of c mid
+      → ((x : X) → AreLawful (facts x)) → IsPortSound facts old → queue_of c old ≡ w ∷ queue_of c mid
       → ChangesQueue c old mid → Counts facts old mid c w
   counts facts old mid High w lawful sound front changes =
       let st = stays High old mid changes in
@@ -122,7 +122,7 @@ module _ {X : Type 0} where
 
   pub begun_sound : (facts : X → Facts) (old mid : Pending X) (time moment : ℕ) (c : Priority)
       (w : Waiting X) (n : ℕ) (d : Due) → Begins facts old mid time moment c w n d
-      → IsSound facts (begun mid c w.item n d)
+      → IsPortSound facts (begun mid c w.item n d)
   begun_sound facts old mid time moment c w n d b =
       let st = stays c old mid b.changes in
       let k = counts facts old mid c w b.lawful b.sound b.front b.changes in
@@ -153,7 +153,7 @@ module _ {X : Type 0} where
       }
 
   pub begun_stands : (facts : X → Facts) (old mid : Pending X) (time moment : ℕ) (c : Priority)
-      (w : Waiting X) (n : ℕ) (d : Due) → Begins facts old mid time moment c w n d → (h : History X)
+      (w : Waiting X) (n : ℕ) (d : Due) → Begins facts old mid time moment c w n d → (h : PortHistory X)
       → h.time ≤ time → StandsFor facts old h → StandsFor facts (begun mid c w.item n d) (at h time)
   begun_stands facts old mid time moment c w n d b h le s =
       let st = stays c old mid b.changes in

@@ -13,7 +13,7 @@ use Rattle.afdx_port.specs.Schedule.{Entry, Turn, end_of, IsNext, AreTurns}
 use Rattle.afdx_port.specs.Due.{IsAfter}
 use Rattle.afdx_port.specs.Held.{frames_held, sending_count, ready, choice, choice_of, queue_of}
 use Rattle.afdx_port.specs.Held.{due_from, due_next, due_first, due_of, IsQuiet}
-use Rattle.afdx_port.specs.History.{History, due_at, IsQueue, HasBegun, StandsFor}
+use Rattle.afdx_port.specs.History.{PortHistory, due_at, IsQueue, HasBegun, StandsFor}
 use Rattle.afdx_port.proofs.TurnLemmas.{same_next}
 use Rattle.afdx_port.proofs.QueueLemmas.{front_turn, by_class, high_next, low_next, next_chosen, pair_same}
 
@@ -102,7 +102,7 @@ module _ {X : Type 0} where
       (r.place, r.next)
 
   -- the turn that comes next is that which is due
-  pub next_due : (facts : X → Facts) (p : Pending X) (h : History X) (s : Turn X)
+  pub next_due : (facts : X → Facts) (p : Pending X) (h : PortHistory X) (s : Turn X)
       → StandsFor facts p h → IsNext h.byte_ns h.entries h.taken s → due_of facts p ≡ Some (due_at s)
   next_due facts p h s st n = by_sending p.sending refl st.has_begun
     where
@@ -132,7 +132,7 @@ module _ {X : Type 0} where
           ∙ ap (λ z. Some (due_at z)) (sym same))
 
   -- what is due is the turn of the next frame
-  pub due_comes : (facts : X → Facts) (p : Pending X) (h : History X) (d : Due)
+  pub due_comes : (facts : X → Facts) (p : Pending X) (h : PortHistory X) (d : Due)
       → StandsFor facts p h → due_of facts p ≡ Some d → (s : Turn X)
       × IsNext h.byte_ns h.entries h.taken s × (d ≡ due_at s)
   due_comes facts p h d st is = by_sending p.sending refl st.has_begun
@@ -173,21 +173,21 @@ module _ {X : Type 0} where
                 (sym is ∙ (due_busy facts p l e ∙ due_same p.free b.0.end l.too_old b.0.too_old end old)),
           )
 
-  pub if_due_comes : (facts : X → Facts) (p : Pending X) (h : History X) (o : Option Due)
+  pub if_due_comes : (facts : X → Facts) (p : Pending X) (h : PortHistory X) (o : Option Due)
       → StandsFor facts p h → o ≡ due_of facts p
       → IfSome o (λ d. (s : Turn X) × IsNext h.byte_ns h.entries h.taken s × (d ≡ due_at s))
   if_due_comes facts p h None st is = tt
   if_due_comes facts p h (Some d) st is = due_comes facts p h d st (sym is)
 
   -- no further turn is given by t exactly where the next one is given after t
-  pub quiet_after : (facts : X → Facts) (p : Pending X) (h : History X) (t : ℕ) (s : Turn X)
+  pub quiet_after : (facts : X → Facts) (p : Pending X) (h : PortHistory X) (t : ℕ) (s : Turn X)
       → StandsFor facts p h → IsQuiet facts p t → IsNext h.byte_ns h.entries h.taken s
       → IsAfter t (due_at s)
   quiet_after facts p h t s st quiet n =
       let P : Option Due → Type 0 = λ o. IfSome o (λ d. IsAfter t d) in
       subst P (next_due facts p h s st n) quiet
 
-  pub after_quiet : (facts : X → Facts) (p : Pending X) (h : History X) (t : ℕ)
+  pub after_quiet : (facts : X → Facts) (p : Pending X) (h : PortHistory X) (t : ℕ)
       → StandsFor facts p h → ((s : Turn X) → IsNext h.byte_ns h.entries h.taken s
       → IsAfter t (due_at s)) → IsQuiet facts p t
   after_quiet facts p h t st after = by_due (due_of facts p) refl

@@ -14,8 +14,8 @@ use Rattle.afdx_port.specs.declared.pending.Pending.{Pending}
 use Rattle.afdx_port.specs.Facts.{Facts, AreLawful}
 use Rattle.afdx_port.specs.Due.{IsAfter}
 use Rattle.afdx_port.specs.Held.{frames_held, sending_count, ready, choice, choice_of, queue_of, due_of, IsQuiet}
-use Rattle.afdx_port.specs.Sound.{HasRoom, ChangesQueue, IsSound}
-use Rattle.afdx_port.specs.History.{History, at, with_put, entry_of, StandsFor}
+use Rattle.afdx_port.specs.Sound.{HasRoom, ChangesQueue, IsPortSound}
+use Rattle.afdx_port.specs.History.{PortHistory, at, with_put, entry_of, StandsFor}
 use Rattle.afdx_port.proofs.TurnLemmas.{nat_lt-true, nat_lt-false}
 use Rattle.afdx_port.proofs.QueueLemmas.{pair_same}
 use Rattle.afdx_port.proofs.DueLemmas.{due, due_busy}
@@ -66,7 +66,7 @@ module _ {X : Type 0} where
   times_push t (v ∷ vs) w h le = (h.0, times_push t vs w h.1 le)
 
   pub has_room : (facts : X → Facts) (p : Pending X) (c : Priority) (n : ℕ)
-      → ((x : X) → AreLawful (facts x)) → IsSound facts p → p.waiting + n ≤ p.buffer → 64 ≤ n
+      → ((x : X) → AreLawful (facts x)) → IsPortSound facts p → p.waiting + n ≤ p.buffer → 64 ≤ n
       → HasRoom c p
   has_room facts p High n lawful s fits least =
       let all = s.waiting in
@@ -82,7 +82,7 @@ module _ {X : Type 0} where
   -- what is known where a frame is put
   pub record Puts (facts : X → Facts) (old mid : Pending X) (time : ℕ) (c : Priority) (x : X) (n : ℕ) : Type 0 where
     pub lawful : (y : X) → AreLawful (facts y)
-    pub sound : IsSound facts old
+    pub sound : IsPortSound facts old
     pub clock : old.clock ≡ time
     pub limit : time ≤ 1000032768000000
     pub fits : old.waiting + n ≤ old.buffer
@@ -160,7 +160,7 @@ module _ {X : Type 0} where
       }
 
   pub pushed_sound : (facts : X → Facts) (old mid : Pending X) (time : ℕ) (c : Priority) (x : X)
-      (n : ℕ) → Puts facts old mid time c x n → IsSound facts (record mid { waiting = mid.waiting + n })
+      (n : ℕ) → Puts facts old mid time c x n → IsPortSound facts (record mid { waiting = mid.waiting + n })
   pushed_sound facts old mid time c x n p =
       let st = stays c old mid p.changes in
       let k = pushed facts old mid time c x n p in
@@ -190,7 +190,7 @@ module _ {X : Type 0} where
       }
 
   pub pushed_stands : (facts : X → Facts) (old mid : Pending X) (time : ℕ) (c : Priority) (x : X)
-      (n : ℕ) → Puts facts old mid time c x n → (h : History X) → StandsFor facts old (at h time) →
+      (n : ℕ) → Puts facts old mid time c x n → (h : PortHistory X) → StandsFor facts old (at h time) →
       StandsFor facts (record mid { waiting = mid.waiting + n }) (with_put h (entry_of facts time c x))
   pushed_stands facts old mid time c x n p h s =
       let st = stays c old mid p.changes in

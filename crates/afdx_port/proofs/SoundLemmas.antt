@@ -14,7 +14,7 @@ use Rattle.afdx_port.specs.Facts.{Facts, AreLawful}
 use Rattle.afdx_port.specs.Schedule.{lasting}
 use Rattle.afdx_port.specs.Due.{IsAfter}
 use Rattle.afdx_port.specs.Held.{ready, choice, choice_of, queue_of, is_too_old, due_of, IsQuiet}
-use Rattle.afdx_port.specs.Sound.{ChangesQueue, IsSound}
+use Rattle.afdx_port.specs.Sound.{ChangesQueue, IsPortSound}
 use Rattle.afdx_port.proofs.QueueLemmas.{choice_high, choice_low}
 use Rattle.afdx_port.proofs.DueLemmas.{due_idle, due_nothing, has_front, not_empty}
 use Rattle.afdx_port.proofs.HistoryLemmas.{other}
@@ -94,8 +94,8 @@ module _ {X : Type 0} where
     low_room = h.1;
   }
 
-  pub clock_sound : (facts : X → Facts) (p : Pending X) (t : ℕ) → IsSound facts p → p.clock ≤ t
-      → IsSound facts (record p { clock = t })
+  pub clock_sound : (facts : X → Facts) (p : Pending X) (t : ℕ) → IsPortSound facts p → p.clock ≤ t
+      → IsPortSound facts (record p { clock = t })
   clock_sound facts p t s le = record {
     rate = s.rate;
     buffer = s.buffer;
@@ -116,13 +116,13 @@ module _ {X : Type 0} where
     pub soon : moment ≤ 1100000000000000
     pub fits : moment + 1230400 < 2 ^ 64
 
-  pub times_of : (facts : X → Facts) (p : Pending X) (c : Priority) → IsSound facts p
+  pub times_of : (facts : X → Facts) (p : Pending X) (c : Priority) → IsPortSound facts p
       → AllByRecursion (λ w. w.time ≤ 1000032768000000) (queue_of c p)
   times_of facts p High s = s.high_times
   times_of facts p Low s = s.low_times
 
   pub timely : (facts : X → Facts) (p : Pending X) (c : Priority) (moment : ℕ) (w : Waiting X)
-      → IsSound facts p → choice_of p ≡ Some (c, moment) → slice_get (queue_of c p) 0 ≡ Some w
+      → IsPortSound facts p → choice_of p ≡ Some (c, moment) → slice_get (queue_of c p) 0 ≡ Some w
       → IsTimely p w moment
   timely facts p c moment w s chosen front = by_queue (queue_of c p) refl
     where

@@ -16,8 +16,8 @@ use Rattle.afdx_port.specs.Schedule.{Entry, Turn, has_turn, end_of, lasting, IsW
 use Rattle.afdx_port.specs.Schedule.{AreTurns, IsSchedule}
 use Rattle.afdx_port.specs.Due.{given_at, IsAfter}
 use Rattle.afdx_port.specs.Held.{ready, choice, choice_of, queue_of, is_too_old, due_from, due_of, IsQuiet}
-use Rattle.afdx_port.specs.Sound.{IsSound}
-use Rattle.afdx_port.specs.History.{History, at, due_at, IsQueue, HasBegun, StandsFor, Gives}
+use Rattle.afdx_port.specs.Sound.{IsPortSound}
+use Rattle.afdx_port.specs.History.{PortHistory, at, due_at, IsQueue, HasBegun, StandsFor, Gives}
 use Rattle.afdx_port.proofs.TurnLemmas.{priority_cases, nat_lt-true, nat_lt-false}
 use Rattle.afdx_port.proofs.DueLemmas.{due, due_idle, due_busy, due_nothing, has_front, quiet_after}
 use Rattle.afdx_port.proofs.HistoryLemmas.{taken_turns}
@@ -36,7 +36,7 @@ choice_some_low (Some h) n e = choice_some_high h (Some n) e
 
 module _ {X : Type 0} where
   -- the frame of the turn that has begun is taken
-  pub take_gives : (facts : X → Facts) (p : Pending X) (h : History X) (until : ℕ) (l : Left X)
+  pub take_gives : (facts : X → Facts) (p : Pending X) (h : PortHistory X) (until : ℕ) (l : Left X)
       → StandsFor facts p (at h until) → p.sending ≡ Some l → p.free ≤ until
       → Gives facts h until l (record p { sending = None })
   take_gives facts p h until l st is le =
@@ -75,7 +75,7 @@ module _ {X : Type 0} where
       by_kind false moment end bytes lasts before le = omega arith
 
   -- the clauses of a take, by what was being sent
-  pub take_some : (facts : X → Facts) (p : Pending X) (h : History X) (until : ℕ)
+  pub take_some : (facts : X → Facts) (p : Pending X) (h : PortHistory X) (until : ℕ)
       (o after : Option (Left X)) → StandsFor facts p (at h until) → p.free ≤ until → o ≡ p.sending
       → after ≡ None →
       IfSome o (λ l. Gives facts h until l (record p { sending = after }))
@@ -84,7 +84,7 @@ module _ {X : Type 0} where
       let P : Option (Left X) → Type 0 = λ a. Gives facts h until l (record p { sending = a }) in
       subst P (sym gone) (take_gives facts p h until l st (sym is) le)
 
-  pub take_kept : (facts : X → Facts) (p : Pending X) (h : History X) (until : ℕ)
+  pub take_kept : (facts : X → Facts) (p : Pending X) (h : PortHistory X) (until : ℕ)
       (o after : Option (Left X)) → StandsFor facts p (at h until) → o ≡ p.sending → after ≡ None →
       IfNone o (StandsFor facts (record p { sending = after }) (at h until))
   take_kept facts p h until None after st is gone =
@@ -113,7 +113,7 @@ module _ {X : Type 0} where
       subst P (sym is ∙ sym gone) (idle_quiet facts p t rate (sym is) late)
   take_quiet facts p t (Some l) after rate is gone late = tt
 
-  pub take_no_more : (facts : X → Facts) (p : Pending X) (h : History X) (t : ℕ) (s : Turn X)
+  pub take_no_more : (facts : X → Facts) (p : Pending X) (h : PortHistory X) (t : ℕ) (s : Turn X)
       (o : Option (Left X)) → 1 ≤ p.byte_ns → StandsFor facts p (at h t) → o ≡ p.sending →
       ((c : Priority) (moment : ℕ) → p.sending ≡ None → choice_of p ≡ Some (c, moment) → t ≤ moment)
       → IsNext h.byte_ns h.entries h.taken s → IfNone o (IsAfter t (due_at s))
@@ -149,7 +149,7 @@ module _ {X : Type 0} where
 
   -- all that is held has its turn by this time
   due_bounded : (facts : X → Facts) (p : Pending X) (d : Due) → ((x : X) → AreLawful (facts x))
-      → IsSound facts p → due_of facts p ≡ Some d → given_at d ≤ 1200000000000000
+      → IsPortSound facts p → due_of facts p ≡ Some d → given_at d ≤ 1200000000000000
   due_bounded facts p d lawful s is = by_sending p.sending refl
     where
       by_kind : (o : Bool) (n : ℕ) → n ≤ 1100000001230400 → n + (if o then 1 else 0) ≤ 1200000000000000
@@ -182,7 +182,7 @@ module _ {X : Type 0} where
           (by_kind l.too_old p.free (omega arith))
 
   -- where nothing is held, no entry is without a turn
-  none_left : (facts : X → Facts) (p : Pending X) (h : History X) (place : ℕ) (e : Entry X)
+  none_left : (facts : X → Facts) (p : Pending X) (h : PortHistory X) (place : ℕ) (e : Entry X)
       → StandsFor facts p h → due_of facts p ≡ None → slice_get h.entries place ≡ Some e
       → has_turn h.taken place ≡ false → ⊥
   none_left facts p h place e st none stands without =
@@ -200,7 +200,7 @@ module _ {X : Type 0} where
 
   -- nothing is due where no further turn is given by then
   none_due : (facts : X → Facts) (p : Pending X) (t : ℕ) → ((x : X) → AreLawful (facts x))
-      → IsSound facts p → 1200000000000000 ≤ t → IsQuiet facts p t → due_of facts p ≡ None
+      → IsPortSound facts p → 1200000000000000 ≤ t → IsQuiet facts p t → due_of facts p ≡ None
   none_due facts p t lawful s late quiet = by_due (due_of facts p) refl
     where
       by_due : (o : Option Due) → due_of facts p ≡ o → due_of facts p ≡ None
@@ -212,7 +212,7 @@ module _ {X : Type 0} where
           absurd (omega (arith, after, soon))
 
   -- where nothing is due, each entry has had its turn
-  pub all_done : (facts : X → Facts) (p : Pending X) (h : History X) → StandsFor facts p h
+  pub all_done : (facts : X → Facts) (p : Pending X) (h : PortHistory X) → StandsFor facts p h
       → due_of facts p ≡ None → IsSchedule h.byte_ns h.entries h.taken
   all_done facts p h st none = record {
     each_next = taken_turns facts p h st;
@@ -227,19 +227,19 @@ module _ {X : Type 0} where
       has place e stands true is = is
       has place e stands false is = absurd (none_left facts p h place e st none stands is)
 
-  pub if_all_done : (facts : X → Facts) (p : Pending X) (h : History X) (o : Option Due)
+  pub if_all_done : (facts : X → Facts) (p : Pending X) (h : PortHistory X) (o : Option Due)
       → StandsFor facts p h → o ≡ due_of facts p → IfNone o (IsSchedule h.byte_ns h.entries h.taken)
   if_all_done facts p h None st is = all_done facts p h st (sym is)
   if_all_done facts p h (Some d) st is = tt
 
   -- nor is one left where no turn is given by then
-  pub quiet_all_done : (facts : X → Facts) (p : Pending X) (h : History X) (t : ℕ)
-      → ((x : X) → AreLawful (facts x)) → IsSound facts p → StandsFor facts p h
+  pub quiet_all_done : (facts : X → Facts) (p : Pending X) (h : PortHistory X) (t : ℕ)
+      → ((x : X) → AreLawful (facts x)) → IsPortSound facts p → StandsFor facts p h
       → 1200000000000000 ≤ t → IsQuiet facts p t → IsSchedule h.byte_ns h.entries h.taken
   quiet_all_done facts p h t lawful s st late quiet = all_done facts p h st (none_due facts p t lawful s late quiet)
 
-  pub take_all_done : (facts : X → Facts) (p : Pending X) (h : History X) (t : ℕ)
-      (o : Option (Left X)) → ((x : X) → AreLawful (facts x)) → IsSound facts p
+  pub take_all_done : (facts : X → Facts) (p : Pending X) (h : PortHistory X) (t : ℕ)
+      (o : Option (Left X)) → ((x : X) → AreLawful (facts x)) → IsPortSound facts p
       → StandsFor facts p (at h t) → o ≡ p.sending → 1200000000000000 ≤ t →
       ((c : Priority) (moment : ℕ) → p.sending ≡ None → choice_of p ≡ Some (c, moment) → t ≤ moment)
       → IfNone o (IsSchedule h.byte_ns h.entries h.taken)

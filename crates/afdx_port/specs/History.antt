@@ -15,7 +15,7 @@ use Rattle.afdx_port.specs.Due.{IsBy}
 
 -- the calls of a port so far: its line and its buffer, the frames that were put and not lost,
 -- the turns of the frames that were taken, the latest first, and the last time used
-pub record History (X : Type 0) : Type 0 where
+pub record PortHistory (X : Type 0) : Type 0 where
   pub byte_ns : ℕ
   pub buffer : ℕ
   pub entries : List (Entry X)
@@ -24,16 +24,16 @@ pub record History (X : Type 0) : Type 0 where
 
 module _ {X : Type 0} where
   -- a new port's
-  abbrev pub no_calls : ℕ → ℕ → History X
+  abbrev pub no_calls : ℕ → ℕ → PortHistory X
   no_calls byte_ns buffer =
       record { byte_ns = byte_ns; buffer = buffer; entries = []; taken = []; time = 0 }
 
   -- after a call that puts or takes no frame
-  abbrev pub at : History X → ℕ → History X
+  abbrev pub at : PortHistory X → ℕ → PortHistory X
   at h t = record h { time = t }
 
   -- after a put
-  abbrev pub with_put : History X → Entry X → History X
+  abbrev pub with_put : PortHistory X → Entry X → PortHistory X
   with_put h e = record {
     byte_ns = h.byte_ns;
     buffer = h.buffer;
@@ -43,7 +43,7 @@ module _ {X : Type 0} where
   }
 
   -- after a take
-  abbrev pub with_take : History X → Turn X → ℕ → History X
+  abbrev pub with_take : PortHistory X → Turn X → ℕ → PortHistory X
   with_take h s until = record {
     byte_ns = h.byte_ns;
     buffer = h.buffer;
@@ -97,7 +97,7 @@ module _ {X : Type 0} where
   HasBegun (Some left) taken begun = (s : Turn X) × (begun ≡ s ∷ taken) × (left ≡ left_of s)
 
   -- what the port holds is what these calls leave
-  pub record StandsFor (facts : X → Facts) (p : Pending X) (h : History X) : Type 0 where
+  pub record StandsFor (facts : X → Facts) (p : Pending X) (h : PortHistory X) : Type 0 where
     pub byte_ns : p.byte_ns ≡ h.byte_ns
     pub buffer : p.buffer ≡ h.buffer
     pub clock : p.clock ≡ h.time
@@ -113,7 +113,7 @@ module _ {X : Type 0} where
     pub come : (i : ℕ) (e : Entry X) → slice_get h.entries i ≡ Some e → e.time ≤ h.time
 
   -- the next turn is given by `until`, and its frame is handed out
-  pub record Gives (facts : X → Facts) (h : History X) (until : ℕ) (left : Left X)
+  pub record Gives (facts : X → Facts) (h : PortHistory X) (until : ℕ) (left : Left X)
       (new : Pending X) : Type 0 where
     pub turn : Turn X
     pub next : IsNext h.byte_ns h.entries h.taken turn

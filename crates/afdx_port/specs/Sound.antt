@@ -22,7 +22,7 @@ module _ {X : Type 0} where
   HasRoom Low p = length p.low.items < p.low.capacity
 
   -- what is true of every port, whatever the calls
-  pub record IsSound (facts : X → Facts) (p : Pending X) : Type 0 where
+  pub record IsPortSound (facts : X → Facts) (p : Pending X) : Type 0 where
     pub rate : (1 ≤ p.byte_ns) × (p.byte_ns ≤ 800)
     pub buffer : p.buffer ≤ greatest_buffer
     pub waiting : p.waiting ≡ sum_by (λ w. (facts w.item).bytes) p.high.items

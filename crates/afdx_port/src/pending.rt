@@ -53,14 +53,14 @@ impl<T: HasLength> Pending<T> {
     ghost use Rattle.afdx_port.specs.Due.{given_at, IsAfter};
     ghost use Rattle.afdx_port.specs.Held.{IsByteTime, choice_of, queue_of, due_from, due_of};
     ghost use Rattle.afdx_port.specs.Held.{IsQuiet, frames_held};
-    ghost use Rattle.afdx_port.specs.Sound.{ChangesQueue, HasRoom, IsSound};
-    ghost use Rattle.afdx_port.specs.History.{History, no_calls, at, with_put, entry_of, due_at};
+    ghost use Rattle.afdx_port.specs.Sound.{ChangesQueue, HasRoom, IsPortSound};
+    ghost use Rattle.afdx_port.specs.History.{PortHistory, no_calls, at, with_put, entry_of, due_at};
     ghost use Rattle.afdx_port.specs.History.{StandsFor, Gives};
 
     pub(crate) fn new(alloc: Global, byte_ns: u64, buffer: u64) -> Result<Pending<T>, AllocError>
         requires rate { IsByteTime byte_ns }
         requires buffer { (least_frame ≤ buffer) × (buffer ≤ greatest_buffer) }
-        ensures sound { IfOk result (λ p. IsSound T.facts p) }
+        ensures sound { IfOk result (λ p. IsPortSound T.facts p) }
         ensures stands { IfOk result (λ p. StandsFor T.facts p (no_calls byte_ns buffer)) }
         ensures held { IfOk result (λ p. frames_held p ≡ 0) }
         ensures quiet { (t : ℕ) → IfOk result (λ p. IsQuiet T.facts p t) }
@@ -133,7 +133,7 @@ impl<T: HasLength> Pending<T> {
     /// When the next turn is over.
     #[inline]
     pub(crate) fn due(&self) -> Option<Due>
-        requires sound { IsSound T.facts self.now }
+        requires sound { IsPortSound T.facts self.now }
         ensures due { result ≡ due_of T.facts self.now }
         ensures limit { IfSome result (λ due. given_at due ≤ drain_end) }
     {
@@ -178,10 +178,10 @@ impl<T: HasLength> Pending<T> {
     #[inline]
     fn advance(&mut self, time: u64)
         requires clock { self.old.clock ≤ time }
-        requires sound { IsSound T.facts self.old }
-        ensures sound { IsSound T.facts self.new }
+        requires sound { IsPortSound T.facts self.old }
+        ensures sound { IsPortSound T.facts self.new }
         ensures clock { self.new.clock ≡ time }
-        ensures stands { (h : History T) → StandsFor T.facts self.old h →
+        ensures stands { (h : PortHistory T) → StandsFor T.facts self.old h →
             StandsFor T.facts self.new (at h time) }
         ensures chosen { (c : Priority) (moment : ℕ) → self.new.sending ≡ None →
             choice_of self.new ≡ Some (c, moment) → time ≤ moment }
@@ -220,21 +220,21 @@ impl<T: HasLength> Pending<T> {
         requires clock { self.old.clock ≤ time }
         requires limit { time ≤ latest_put }
         requires quiet { IsQuiet T.facts self.old time }
-        requires sound { IsSound T.facts self.old }
-        ensures sound { IsSound T.facts self.new }
+        requires sound { IsPortSound T.facts self.old }
+        ensures sound { IsPortSound T.facts self.new }
         ensures quiet { IsQuiet T.facts self.new time }
         ensures clock { self.new.clock ≡ time }
         ensures held { MatchResult result (λ _. frames_held self.new ≡ frames_held self.old + 1)
             (λ _. frames_held self.new ≡ frames_held self.old) }
-        ensures ok { (h : History T) → StandsFor T.facts self.old h →
+        ensures ok { (h : PortHistory T) → StandsFor T.facts self.old h →
             OnOk result (StandsFor T.facts self.new
             (with_put h (entry_of T.facts time priority item))) }
-        ensures err { (h : History T) → StandsFor T.facts self.old h →
+        ensures err { (h : PortHistory T) → StandsFor T.facts self.old h →
             OnErr result (StandsFor T.facts self.new (at h time)) }
         ensures back { IfErr result (λ back. back ≡ item) }
         ensures due { is_some self.new.sending ≡ true →
             due_of T.facts self.new ≡ due_of T.facts self.old }
-        ensures lost { (h : History T) (turns : List (Turn T)) → StandsFor T.facts self.old h →
+        ensures lost { (h : PortHistory T) (turns : List (Turn T)) → StandsFor T.facts self.old h →
             IsSchedule h.byte_ns h.entries turns →
             (IsErr result ↔ IsLost h.buffer h.entries turns time (T.facts item).bytes) }
     {
@@ -258,19 +258,19 @@ impl<T: HasLength> Pending<T> {
     #[inline]
     pub(crate) fn take(&mut self, until: u64) -> Option<Left<T>>
         requires clock { self.old.clock ≤ until }
-        requires sound { IsSound T.facts self.old }
-        ensures sound { IsSound T.facts self.new }
+        requires sound { IsPortSound T.facts self.old }
+        ensures sound { IsPortSound T.facts self.new }
         ensures clock { self.new.clock ≡ until }
         ensures quiet { IfNone result (IsQuiet T.facts self.new until) }
         ensures held { MatchOption result (frames_held self.new ≡ frames_held self.old)
             (λ _. frames_held self.new + 1 ≡ frames_held self.old) }
-        ensures given { (h : History T) → StandsFor T.facts self.old h →
+        ensures given { (h : PortHistory T) → StandsFor T.facts self.old h →
             IfSome result (λ left. Gives T.facts h until left self.new) }
-        ensures none { (h : History T) → StandsFor T.facts self.old h →
+        ensures none { (h : PortHistory T) → StandsFor T.facts self.old h →
             IfNone result (StandsFor T.facts self.new (at h until)) }
-        ensures no_more { (h : History T) (s : Turn T) → StandsFor T.facts self.old h →
+        ensures no_more { (h : PortHistory T) (s : Turn T) → StandsFor T.facts self.old h →
             IsNext h.byte_ns h.entries h.taken s → IfNone result (IsAfter until (due_at s)) }
-        ensures all_done { (h : History T) → StandsFor T.facts self.old h →
+        ensures all_done { (h : PortHistory T) → StandsFor T.facts self.old h →
             drain_end ≤ until → IfNone result (IsSchedule h.byte_ns h.entries h.taken) }
     {
         self.advance(until);

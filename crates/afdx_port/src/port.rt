@@ -50,13 +50,13 @@ impl<T: HasLength> Model for Port<T> {
 
     ghost use Rattle.std.specs.Prelude.{◌≡◌};
     ghost use Rattle.afdx_port.specs.Held.{due_of};
-    ghost use Rattle.afdx_port.specs.Sound.{IsSound};
+    ghost use Rattle.afdx_port.specs.Sound.{IsPortSound};
 
     ghost view = { λ p. p.pending };
 
     ghost use Rattle.afdx_port.specs.Ports.{order_at};
 
-    ghost invariant = { λ p. IsSound T.facts p.pending × (p.due ≡ due_of T.facts p.pending)
+    ghost invariant = { λ p. IsPortSound T.facts p.pending × (p.due ≡ due_of T.facts p.pending)
         × (p.order ≡ order_at (due_of T.facts p.pending)) };
 }
 
@@ -64,7 +64,7 @@ impl<T: HasLength> Port<T> {
     ghost use Rattle.afdx_port.specs.Due.{given_at, IsAfter};
     ghost use Rattle.afdx_port.specs.Ports.{order_at, order_without_turn};
     ghost use Rattle.afdx_port.specs.Held.{IsByteTime, due_of, IsQuiet, last_time, frames_held};
-    ghost use Rattle.afdx_port.specs.History.{History, no_calls, at, with_put, entry_of, due_at};
+    ghost use Rattle.afdx_port.specs.History.{PortHistory, no_calls, at, with_put, entry_of, due_at};
     ghost use Rattle.afdx_port.specs.History.{StandsFor, Gives};
 
     /// An idle port at time 0, whose line takes `byte_ns` for a byte: 8, 80 or 800 ns.
@@ -94,16 +94,16 @@ impl<T: HasLength> Port<T> {
         requires clock { last_time self.old ≤ time }
         requires limit { time ≤ latest_put }
         requires quiet { IsQuiet T.facts self.old time }
-        ensures ok { (h : History T) → StandsFor T.facts self.old h →
+        ensures ok { (h : PortHistory T) → StandsFor T.facts self.old h →
             OnOk result (StandsFor T.facts self.new
             (with_put h (entry_of T.facts time priority item))) }
-        ensures err { (h : History T) → StandsFor T.facts self.old h →
+        ensures err { (h : PortHistory T) → StandsFor T.facts self.old h →
             OnErr result (StandsFor T.facts self.new (at h time)) }
         ensures back { IfErr result (λ back. back ≡ item) }
-        ensures lost { (h : History T) → StandsFor T.facts self.old h →
+        ensures lost { (h : PortHistory T) → StandsFor T.facts self.old h →
             (IsErr result ↔ IsLost h.buffer h.entries (schedule_of h.byte_ns h.entries) time
             (T.facts item).bytes) }
-        ensures lost_by_any { (h : History T) (turns : List (Turn T)) →
+        ensures lost_by_any { (h : PortHistory T) (turns : List (Turn T)) →
             StandsFor T.facts self.old h → IsSchedule h.byte_ns h.entries turns →
             (IsErr result ↔ IsLost h.buffer h.entries turns time (T.facts item).bytes) }
         ensures quiet { IsQuiet T.facts self.new time }
@@ -123,12 +123,12 @@ impl<T: HasLength> Port<T> {
     /// None if the port holds nothing: then each frame that was put and not lost has had its turn.
     pub fn due(&self) -> Option<Due>
         ensures due { result ≡ due_of T.facts self.now }
-        ensures is_next { (h : History T) (s : Turn T) → StandsFor T.facts self.now h →
+        ensures is_next { (h : PortHistory T) (s : Turn T) → StandsFor T.facts self.now h →
             IsNext h.byte_ns h.entries h.taken s → result ≡ Some (due_at s) }
-        ensures comes { (h : History T) → StandsFor T.facts self.now h →
+        ensures comes { (h : PortHistory T) → StandsFor T.facts self.now h →
             IfSome result (λ due. (s : Turn T) × IsNext h.byte_ns h.entries h.taken s
             × (due ≡ due_at s)) }
-        ensures all_done { (h : History T) → StandsFor T.facts self.now h →
+        ensures all_done { (h : PortHistory T) → StandsFor T.facts self.now h →
             IfNone result (IsSchedule h.byte_ns h.entries h.taken) }
         ensures limit { IfSome result (λ due. given_at due ≤ drain_end) }
     {
@@ -157,13 +157,13 @@ impl<T: HasLength> Port<T> {
     /// 1.2e15 or later, None says that each frame that was put and not lost has had its turn.
     pub fn take(&mut self, until: u64) -> Option<Left<T>>
         requires clock { last_time self.old ≤ until }
-        ensures given { (h : History T) → StandsFor T.facts self.old h →
+        ensures given { (h : PortHistory T) → StandsFor T.facts self.old h →
             IfSome result (λ left. Gives T.facts h until left self.new) }
-        ensures none { (h : History T) → StandsFor T.facts self.old h →
+        ensures none { (h : PortHistory T) → StandsFor T.facts self.old h →
             IfNone result (StandsFor T.facts self.new (at h until)) }
-        ensures no_more { (h : History T) (s : Turn T) → StandsFor T.facts self.old h →
+        ensures no_more { (h : PortHistory T) (s : Turn T) → StandsFor T.facts self.old h →
             IsNext h.byte_ns h.entries h.taken s → IfNone result (IsAfter until (due_at s)) }
-        ensures all_done { (h : History T) → StandsFor T.facts self.old h →
+        ensures all_done { (h : PortHistory T) → StandsFor T.facts self.old h →
             drain_end ≤ until → IfNone result (IsSchedule h.byte_ns h.entries h.taken) }
         ensures quiet { IfNone result (IsQuiet T.facts self.new until) }
         ensures held { MatchOption result (frames_held self.new ≡ frames_held self.old)

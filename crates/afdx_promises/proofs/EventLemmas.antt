@@ -21,7 +21,7 @@ use Rattle.afdx_switch.specs.Admitted.{IsAdmittedRun, IsInTime, slots, frames_le
 use Rattle.afdx_switch.specs.Switching.{taken_at}
 use Rattle.afdx_switch.specs.Verdicts.{is_lost_at, numbers, lost_ports}
 use Rattle.afdx_switch.proofs.AdmittedLemmas.{turn-in-time}
-use Rattle.afdx_switch.specs.Carried.{Carried}
+use Rattle.afdx_switch.specs.HeldFrames.{HeldFrame}
 use Rattle.afdx_switch.specs.Tables.{byte_ns_at, entries_at}
 use Rattle.afdx_network.specs.Events.{Event, Came, Left, Admission, Departure, departure_with}
 use Rattle.afdx_network.specs.Events.{admission_after, admissions, turns_on, turns_at}
@@ -45,13 +45,13 @@ abbrev pub is_at : Side → ℕ → Event → Bool
 is_at side port (Came c) = false
 is_at side port (Left d) = is_side side d.side && (d.port == port)
 
-abbrev pub turns_in : List Event → List (Turn Carried)
+abbrev pub turns_in : List Event → List (Turn HeldFrame)
 turns_in [] = []
 turns_in (Came c ∷ before) = turns_in before
 turns_in (Left d ∷ before) = d.turn ∷ turns_in before
 
-departures-ordered : (side : Side) (port byte_ns : ℕ) (entries : List (Entry Carried))
-    (turns : List (Turn Carried)) → 0 < byte_ns → AreTurns byte_ns entries turns
+departures-ordered : (side : Side) (port byte_ns : ℕ) (entries : List (Entry HeldFrame))
+    (turns : List (Turn HeldFrame)) → 0 < byte_ns → AreTurns byte_ns entries turns
     → AreInOrder (departures_of side port turns)
 departures-ordered side port byte_ns entries [] some are = tt
 departures-ordered side port byte_ns entries (x ∷ []) some are = (tt, tt)
@@ -114,7 +114,7 @@ came-is t side port [] e h = absurd h
 came-is t side port (x ∷ past) e (inl same) = ap (is_at side port) same
 came-is t side port (x ∷ past) e (inr later) = came-is t side port past e later
 
-turn-is-at : (side : Side) (port : ℕ) (turns : List (Turn Carried)) (e : Event)
+turn-is-at : (side : Side) (port : ℕ) (turns : List (Turn HeldFrame)) (e : Event)
     → IsAmong e (departures_of side port turns) → is_at side port e ≡ true
 turn-is-at side port turns e h =
     let r = turn-of side port turns e h in
@@ -168,7 +168,7 @@ module _ (t : Rows) (arrivals : List Arrival) (events : List Event) (side : Side
 
 -- ---- what they bring
 
-pub turns-back : (side : Side) (port : ℕ) (turns : List (Turn Carried))
+pub turns-back : (side : Side) (port : ℕ) (turns : List (Turn HeldFrame))
     → turns_in (departures_of side port turns) ≡ turns
 turns-back side port [] = refl
 turns-back side port (s ∷ earlier) = ap (λ ts. s ∷ ts) (turns-back side port earlier)
@@ -417,7 +417,7 @@ promised t arrivals c run a =
     }
 
 one-in-time : (t : Rows) (arrivals : List Arrival) (side : Side) (port : ℕ) (d : Departure)
-    (turns : List (Turn Carried)) → IsAdmittedRun t arrivals
+    (turns : List (Turn HeldFrame)) → IsAdmittedRun t arrivals
     → AreTurns (byte_ns_at t port) (entries_at t side port arrivals) turns →
     IsAmong (Left d) (departures_of side port turns) → IsInTime t d.turn
 one-in-time t arrivals side port d [] run are h = absurd h
@@ -530,7 +530,7 @@ so-far-is t arrivals events are =
 -- what has left a port is the beginning of its turns
 taken-so-far : (t : Rows) (arrivals : List Arrival) (events : List Event) (side : Side) (port : ℕ)
     → IsLawful t → AreTimed arrivals → 1 ≤ port → port ≤ 24 → AreEventsSoFar t arrivals events →
-    (later : List (Turn Carried)) × (turns_at t side port arrivals ≡ later ++ taken_at port (turns_on side events))
+    (later : List (Turn HeldFrame)) × (turns_at t side port arrivals ≡ later ++ taken_at port (turns_on side events))
 taken-so-far t arrivals events side port lawful timed low high are =
     let more = so-far-is t arrivals events are in (
       turns_in (filter (is_at side port) more.0),

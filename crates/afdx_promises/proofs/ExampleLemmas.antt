@@ -6,7 +6,7 @@ use Rattle.afdx_promises.proofs.PortLemmas.{slots-are-all}
 use Rattle.afdx_network.specs.Events.{turns_at}
 use Rattle.afdx_bounds.proofs.TableLemmas.{port-of-system}
 use Rattle.afdx_switch.specs.Laws.{is_of}
-use Rattle.afdx_switch.specs.Carried.{Carried}
+use Rattle.afdx_switch.specs.HeldFrames.{HeldFrame}
 use Rattle.afdx_port.specs.Schedule.{Entry, Turn, lasting, has_turn, IsNext, AreTurns}
 use Rattle.afdx_port.specs.Classes.{entries_in}
 use Rattle.std.proofs.Common.{◌≡◌, ℕ, Bool, false, true, zero, suc, ◌+◌, ◌*◌, ◌-◌, ◌^◌, ◌<◌, ◌≤◌}
@@ -429,7 +429,7 @@ premises-met computed = record {
 -- ---- with a latency that is less than a frame takes on the line
 
 -- no turn of a link's frame is a slot that ends within it
-never-in-time : (latency : ℕ) (entries : List (Entry Carried)) (turns : List (Turn Carried))
+never-in-time : (latency : ℕ) (entries : List (Entry HeldFrame)) (turns : List (Turn HeldFrame))
     → latency ≤ 1 → AreTurns 80 entries turns → AreInTime (link_with latency) turns
     → filter (is_of 1) (entries_in turns) ≡ []
 never-in-time latency entries [] fast are soon = refl
@@ -497,27 +497,27 @@ admission-needed computed =
 
 -- ---- where times go back
 
-module _ (first second : Entry Carried) (late : first.time ≡ 1000000) (early : second.time ≡ 0)
+module _ (first second : Entry HeldFrame) (late : first.time ≡ 1000000) (early : second.time ≡ 0)
     (same : first.priority ≡ second.priority) where
-  class-of : (k : ℕ) (e : Entry Carried) → slice_get (first ∷ second ∷ []) k ≡ Some e → first.priority ≡ e.priority
-  class-of zero e at = ap (λ (x : Entry Carried). x.priority) (the-one first e at)
+  class-of : (k : ℕ) (e : Entry HeldFrame) → slice_get (first ∷ second ∷ []) k ≡ Some e → first.priority ≡ e.priority
+  class-of zero e at = ap (λ (x : Entry HeldFrame). x.priority) (the-one first e at)
     where
-      the-one : (x y : Entry Carried) → Some x ≡ Some y → x ≡ y
+      the-one : (x y : Entry HeldFrame) → Some x ≡ Some y → x ≡ y
       the-one x y h = cc h
-  class-of (suc zero) e at = same ∙ ap (λ (x : Entry Carried). x.priority) (the-one second e at)
+  class-of (suc zero) e at = same ∙ ap (λ (x : Entry HeldFrame). x.priority) (the-one second e at)
     where
-      the-one : (x y : Entry Carried) → Some x ≡ Some y → x ≡ y
+      the-one : (x y : Entry HeldFrame) → Some x ≡ Some y → x ≡ y
       the-one x y h = cc h
   class-of (suc (suc k)) e at = absurd (cc at)
 
-  time-of : (k : ℕ) (e : Entry Carried) → k ≤ 0 → slice_get (first ∷ second ∷ []) k ≡ Some e → first.time ≡ e.time
-  time-of zero e low at = ap (λ (x : Entry Carried). x.time) (the-one first e at)
+  time-of : (k : ℕ) (e : Entry HeldFrame) → k ≤ 0 → slice_get (first ∷ second ∷ []) k ≡ Some e → first.time ≡ e.time
+  time-of zero e low at = ap (λ (x : Entry HeldFrame). x.time) (the-one first e at)
     where
-      the-one : (x y : Entry Carried) → Some x ≡ Some y → x ≡ y
+      the-one : (x y : Entry HeldFrame) → Some x ≡ Some y → x ≡ y
       the-one x y h = cc h
   time-of (suc k) e low at = absurd (omega (arith, low))
 
-  no-first : (s : Turn Carried) → IsNext 80 (first ∷ second ∷ []) [] s → ⊥
+  no-first : (s : Turn HeldFrame) → IsNext 80 (first ∷ second ∷ []) [] s → ⊥
   no-first s next =
       let place : s.place ≤ 0 = next.in_order 0 first (record { stands = refl; without = refl })
       (class-of s.place s.entry next.own.stands) in
@@ -526,7 +526,7 @@ module _ (first second : Entry Carried) (late : first.time ≡ 1000000) (early :
       (omega (arith, early)) (omega arith) in
       omega (arith, time, late, soon, next.come)
 
-  no-turns : (turns : List (Turn Carried)) → AreTurns 80 (first ∷ second ∷ []) turns → turns ≡ []
+  no-turns : (turns : List (Turn HeldFrame)) → AreTurns 80 (first ∷ second ∷ []) turns → turns ≡ []
   no-turns [] are = refl
   no-turns (s ∷ earlier) are =
       absurd (no-first s (subst (λ ts. IsNext 80 (first ∷ second ∷ []) ts s)

@@ -17,7 +17,7 @@ use Rattle.afdx_switch.specs.Admitted as switch
 use Rattle.afdx_switch.specs.Admitted.{IsAdmittedRun, Passing, passing, passing_in}
 use Rattle.afdx_switch.specs.Admitted.{accepted_arrivals, accepted_on, accepted_frames}
 use Rattle.afdx_switch.specs.Admitted.{frames_among, frames_left, slots}
-use Rattle.afdx_switch.specs.Carried.{Carried}
+use Rattle.afdx_switch.specs.HeldFrames.{HeldFrame}
 use Rattle.afdx_switch.specs.Laws.{is_of}
 use Rattle.afdx_switch.specs.Tables.{rule_of, goes_to}
 use Rattle.afdx_switch.specs.Verdicts.{reason_of}
@@ -136,7 +136,7 @@ frames-are t arrivals run side port place l low high at =
 
 -- ---- so far
 
-back-more : (vl : ℕ) (later begun : List (Turn Carried))
+back-more : (vl : ℕ) (later begun : List (Turn HeldFrame))
     → frames_among vl (entries_back (later ++ begun)) ≡ frames_among vl (entries_back later)
     ++ frames_among vl (entries_back begun)
 back-more vl later begun =

@@ -13,7 +13,7 @@ use Rattle.afdx_bounds.specs.Outputs.{AreTimed}
 use Rattle.afdx_port.specs.Schedule.{Turn}
 use Rattle.afdx_receive.specs.Arrivals.{Arrived}
 use Rattle.afdx_switch.specs.Admitted.{passing_in, slots, frames_among}
-use Rattle.afdx_switch.specs.Carried.{Carried}
+use Rattle.afdx_switch.specs.HeldFrames.{HeldFrame}
 use Rattle.afdx_switch.specs.Laws.{is_of}
 use Rattle.afdx_switch.specs.Verdicts.{reason_of}
 use Rattle.afdx_network.specs.Events.{Event, Came, Left, Admission, Departure, admission_after}
@@ -292,7 +292,7 @@ frames-told t vl side port events =
     (told-left t events) ∙ frames-of-turns vl side port events
 
 -- none of them is a drop
-pub slots-back : (vl : ℕ) (turns : List (Turn Carried)) → NoneIsOld vl turns
+pub slots-back : (vl : ℕ) (turns : List (Turn HeldFrame)) → NoneIsOld vl turns
     → frames_among vl (entries_back (slots turns)) ≡ frames_among vl (entries_back turns)
 slots-back vl [] none = refl
 slots-back vl (s ∷ earlier) none =

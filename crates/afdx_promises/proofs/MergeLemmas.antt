@@ -10,7 +10,7 @@ use Rattle.afdx_frame.specs.Sides.{is_side}
 use Rattle.afdx_port.specs.Schedule.{Entry, Turn, AreTurns, end_of}
 use Rattle.afdx_receive.specs.Arrivals.{Arrived}
 use Rattle.afdx_switch.specs.Admitted.{slots}
-use Rattle.afdx_switch.specs.Carried.{Carried}
+use Rattle.afdx_switch.specs.HeldFrames.{HeldFrame}
 use Rattle.afdx_switch.specs.Tables.{byte_ns_at, entries_at}
 use Rattle.afdx_switch.proofs.ListLemmas.{bool_cases}
 use Rattle.afdx_network.specs.Events.{turns_at}
@@ -194,7 +194,7 @@ merged-of-b from_a (b ∷ from_b) none all order =
 
 -- ---- slots end one after another
 
-ends-before : (byte_ns : ℕ) (entries : List (Entry Carried)) (turns : List (Turn Carried))
+ends-before : (byte_ns : ℕ) (entries : List (Entry HeldFrame)) (turns : List (Turn HeldFrame))
     → AreTurns byte_ns entries turns → AllByRecursion (λ s. s.end ≤ end_of turns) turns
 ends-before byte_ns entries [] are = tt
 ends-before byte_ns entries (s ∷ earlier) are =
@@ -207,8 +207,8 @@ ends-before byte_ns entries (s ∷ earlier) are =
 order-on : (side : Side) (m n : ℕ) → m ≤ n → 2 * m + side_number side ≤ 2 * n + side_number side
 order-on side m n le = omega (arith, le)
 
-brought-ordered : (byte_ns : ℕ) (entries : List (Entry Carried)) (side : Side)
-    (turns : List (Turn Carried)) → AreTurns byte_ns entries turns
+brought-ordered : (byte_ns : ℕ) (entries : List (Entry HeldFrame)) (side : Side)
+    (turns : List (Turn HeldFrame)) → AreTurns byte_ns entries turns
     → ComeInOrder (map (brought side) (slots turns))
 brought-ordered byte_ns entries side [] are = tt
 brought-ordered byte_ns entries side (s ∷ earlier) are =
@@ -231,7 +231,7 @@ brought-ordered byte_ns entries side (s ∷ earlier) are =
     by false rest = (before, rest)
 
 all-own : (side : Side) (p : Arrived → Bool) (b : Bool)
-    → ((s : Turn Carried) → p (brought side s) ≡ b) → (ss : List (Turn Carried))
+    → ((s : Turn HeldFrame) → p (brought side s) ≡ b) → (ss : List (Turn HeldFrame))
     → AllByRecursion (λ x. p x ≡ b) (map (brought side) ss)
 all-own side p b each [] = tt
 all-own side p b each (s ∷ ss) = (each s, all-own side p b each ss)

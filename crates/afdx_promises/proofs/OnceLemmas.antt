@@ -26,7 +26,7 @@ use Rattle.afdx_receive.specs.TwoStreams.{count_of}
 use Rattle.afdx_receive.proofs.OnceLemmas.{stream_delivered_once}
 use Rattle.afdx_receive.proofs.StreamLemmas.{same_self}
 use Rattle.afdx_switch.specs.Admitted.{IsAdmittedRun, Passing, passing, passing_in, accepted_on, frames_among, slots}
-use Rattle.afdx_switch.specs.Carried.{Carried}
+use Rattle.afdx_switch.specs.HeldFrames.{HeldFrame}
 use Rattle.afdx_switch.specs.Laws.{is_of}
 use Rattle.afdx_switch.specs.Tables.{byte_ns_at, entries_at}
 use Rattle.afdx_switch.proofs.ListLemmas.{bool_cases}
@@ -66,14 +66,14 @@ record Copies (latency : ℕ) (stream : List Sending) (count : ℕ) (frames : Li
   are : AreCopiesOn latency stream frames
 
 -- a slot of the link ends within the latency
-abbrev EndsInTime : ℕ → ℕ → List (Turn Carried) → Type 0
+abbrev EndsInTime : ℕ → ℕ → List (Turn HeldFrame) → Type 0
 EndsInTime vl latency ss =
     AllByRecursion (λ s. (s.entry.time ≤ s.end)
     × (is_of vl s.entry ≡ true → s.end ≤ s.entry.time + latency)) ss
 
 module _ (vl latency : ℕ) (side : Side) (stream : List Sending)
     (frames : (k : ℕ) (y : Sending) → slice_get stream k ≡ Some y → IsFrameOn vl (copy_on side y)) where
-  copies-by-slots : (ss : List (Turn Carried)) (xs : List Arrival) → AreSendings side stream xs
+  copies-by-slots : (ss : List (Turn HeldFrame)) (xs : List Arrival) → AreSendings side stream xs
       → EndsInTime vl latency ss → frames_among vl (entries_back ss) ≡ map passing xs →
       Copies latency stream (length xs) (frames_of vl (map (brought side) ss))
   unfolding frames_of
@@ -222,7 +222,7 @@ frames-in-time vl (x ∷ past) order = joined (frame_of x.bytes) (frames-in-time
 
 -- ---- turns end within the latency
 
-each-ends : (vl latency byte_ns : ℕ) (entries : List (Entry Carried)) (turns : List (Turn Carried))
+each-ends : (vl latency byte_ns : ℕ) (entries : List (Entry HeldFrame)) (turns : List (Turn HeldFrame))
     → AreTurns byte_ns entries turns →
     All (λ s. is_of vl s.entry ≡ true → (s.too_old ≡ false) × (s.end ≤ s.entry.time + latency))
     turns → EndsInTime vl latency turns
@@ -232,7 +232,7 @@ each-ends vl latency byte_ns entries (s ∷ earlier) are soon = (
   each-ends vl latency byte_ns entries earlier are.1 (λ k d lt. soon (suc k) d (omega (arith, lt))),
 )
 
-slots-end : (vl latency : ℕ) (turns : List (Turn Carried)) → EndsInTime vl latency turns
+slots-end : (vl latency : ℕ) (turns : List (Turn HeldFrame)) → EndsInTime vl latency turns
     → EndsInTime vl latency (slots turns)
 slots-end vl latency turns ends =
     all-imply (λ s. ((s.entry.time ≤ s.end)

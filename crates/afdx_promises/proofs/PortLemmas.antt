@@ -18,7 +18,7 @@ use Rattle.afdx_bounds.specs.Outputs.{Row, AreTimed, sends, entry_of, with_sent,
 use Rattle.afdx_bounds.proofs.NextLemmas.{order-push}
 use Rattle.afdx_switch.specs.Admitted.{IsAdmittedRun, passing, passing_in, accepted_on}
 use Rattle.afdx_switch.specs.Admitted.{accepted_frames, frames_among, slots, frames_left, AreInTime}
-use Rattle.afdx_switch.specs.Carried.{Carried}
+use Rattle.afdx_switch.specs.HeldFrames.{HeldFrame}
 use Rattle.afdx_switch.specs.Laws.{is_of}
 use Rattle.afdx_switch.specs.Tables.{goes_to, rows_of, output_at, byte_ns_at, carried, entries_at}
 use Rattle.afdx_switch.proofs.AdmittedLemmas.{accepted-enter, turns-in-time}
@@ -31,18 +31,18 @@ use Rattle.afdx_promises.proofs.ListLemmas.{reverse-cons, filter-reverse, map-re
 
 -- ---- entries stand in the order of their times
 
-record Ordered (arrivals : List Arrival) (es : List (Entry Carried)) : Type 0 where
+record Ordered (arrivals : List Arrival) (es : List (Entry HeldFrame)) : Type 0 where
   order : AreInOrder es
   come : (time : ℕ) → All (λ y. y.time ≤ time) arrivals → All (λ e. e.time ≤ time) es
 
-stays : (x : Arrival) (past : List Arrival) (es : List (Entry Carried)) → Ordered past es → Ordered (x ∷ past) es
+stays : (x : Arrival) (past : List Arrival) (es : List (Entry HeldFrame)) → Ordered past es → Ordered (x ∷ past) es
 stays x past es inv = record {
   order = inv.order;
   come = λ time all. inv.come time (λ k d lt. all (suc k) d (omega (arith, lt)));
 }
 
 module _ (t : Rows) (x : Arrival) (past : List Arrival) (times : All (λ y. y.time ≤ x.time) past) where
-  grows : (r : Row) (es : List (Entry Carried)) → Ordered past es
+  grows : (r : Row) (es : List (Entry HeldFrame)) → Ordered past es
       → Ordered (x ∷ past) (es ++ entry_of (carried t) r x ∷ [])
   grows r es inv = record {
     order = order-push es (entry_of (carried t) r x) inv.order (inv.come x.time times);
@@ -50,12 +50,12 @@ module _ (t : Rows) (x : Arrival) (past : List Arrival) (times : All (λ y. y.ti
         (inv.come time (λ k d lt. all (suc k) d (omega (arith, lt)))) (all 0 x (omega arith));
   }
 
-  with-one : (b : Bool) (r : Row) (es : List (Entry Carried)) → Ordered past es
+  with-one : (b : Bool) (r : Row) (es : List (Entry HeldFrame)) → Ordered past es
       → Ordered (x ∷ past) (if b then es else es ++ entry_of (carried t) r x ∷ [])
   with-one true r es inv = stays x past es inv
   with-one false r es inv = grows r es inv
 
-  with-row : (byte_ns buffer : ℕ) (offers : List (Entry Carried)) (o : Option Row)
+  with-row : (byte_ns buffer : ℕ) (offers : List (Entry HeldFrame)) (o : Option Row)
       → Ordered past (entries_of byte_ns buffer offers)
       → Ordered (x ∷ past) (entries_of byte_ns buffer (with_sent (carried t) x o offers))
   with-row byte_ns buffer offers None inv = stays x past (entries_of byte_ns buffer offers) inv
@@ -96,20 +96,20 @@ in-time t arrivals side port place l run at =
 -- ---- the frames of a link that leave
 
 -- none of its turns is a drop
-abbrev pub NoneIsOld : ℕ → List (Turn Carried) → Type 0
-NoneIsOld vl turns = (k : ℕ) (d : Turn Carried) → k < length turns
+abbrev pub NoneIsOld : ℕ → List (Turn HeldFrame) → Type 0
+NoneIsOld vl turns = (k : ℕ) (d : Turn HeldFrame) → k < length turns
     → is_of vl (slice_index_or turns k d).entry ≡ true → (slice_index_or turns k d).too_old ≡ false
 
-older : (vl : ℕ) (s : Turn Carried) (earlier : List (Turn Carried)) → NoneIsOld vl (s ∷ earlier) → NoneIsOld vl earlier
+older : (vl : ℕ) (s : Turn HeldFrame) (earlier : List (Turn HeldFrame)) → NoneIsOld vl (s ∷ earlier) → NoneIsOld vl earlier
 older vl s earlier none k d lt = none (suc k) d (omega (arith, lt))
 
-push-same : (vl : ℕ) (xs ys : List (Entry Carried)) (e : Entry Carried)
+push-same : (vl : ℕ) (xs ys : List (Entry HeldFrame)) (e : Entry HeldFrame)
     → filter (is_of vl) xs ≡ filter (is_of vl) ys → filter (is_of vl) (xs ++ e ∷ [])
     ≡ filter (is_of vl) (ys ++ e ∷ [])
 push-same vl xs ys e same = filter-append (is_of vl) xs (e ∷ [])
     ∙ ap (λ zs. zs ++ filter (is_of vl) (e ∷ [])) same ∙ sym (filter-append (is_of vl) ys (e ∷ []))
 
-pass-same : (vl : ℕ) (xs ys : List (Entry Carried)) (e : Entry Carried) → is_of vl e ≡ false
+pass-same : (vl : ℕ) (xs ys : List (Entry HeldFrame)) (e : Entry HeldFrame) → is_of vl e ≡ false
     → filter (is_of vl) xs ≡ filter (is_of vl) ys
     → filter (is_of vl) xs ≡ filter (is_of vl) (ys ++ e ∷ [])
 pass-same vl xs ys e other same =
@@ -117,11 +117,11 @@ pass-same vl xs ys e other same =
     ∙ ap (λ b. filter (is_of vl) ys ++ (if b then e ∷ [] else [])) other
     ∙ none (filter (is_of vl) ys))
   where
-    none : (zs : List (Entry Carried)) → zs ++ [] ≡ zs
+    none : (zs : List (Entry HeldFrame)) → zs ++ [] ≡ zs
     none [] = refl
     none (z ∷ zs) = ap (λ ws. z ∷ ws) (none zs)
 
-pub slots-are-all : (vl : ℕ) (turns : List (Turn Carried)) → NoneIsOld vl turns
+pub slots-are-all : (vl : ℕ) (turns : List (Turn HeldFrame)) → NoneIsOld vl turns
     → filter (is_of vl) (entries_in (slots turns)) ≡ filter (is_of vl) (entries_in turns)
 slots-are-all vl [] none = refl
 slots-are-all vl (s ∷ earlier) none = by s.too_old refl (slots-are-all vl earlier (older vl s earlier none))
@@ -150,10 +150,10 @@ left-are-accepted t arrivals side port place l run at =
 
 -- ---- the same, the newest first
 
-abbrev pub entries_back : List (Turn Carried) → List (Entry Carried)
+abbrev pub entries_back : List (Turn HeldFrame) → List (Entry HeldFrame)
 entries_back turns = map (λ s. s.entry) turns
 
-pub in-reverse : (turns : List (Turn Carried)) → entries_in turns ≡ reverse (entries_back turns)
+pub in-reverse : (turns : List (Turn HeldFrame)) → entries_in turns ≡ reverse (entries_back turns)
 in-reverse [] = refl
 in-reverse (s ∷ earlier) = ap (λ es. es ++ s.entry ∷ []) (in-reverse earlier)
     ∙ sym (reverse-cons s.entry (entries_back earlier))
@@ -177,7 +177,7 @@ left-back t arrivals side port place l run at goes =
 
 -- ---- so far
 
-entries-more : (later begun : List (Turn Carried)) → entries_in (slots (later ++ begun))
+entries-more : (later begun : List (Turn HeldFrame)) → entries_in (slots (later ++ begun))
     ≡ entries_in (slots begun) ++ entries_in (slots later)
 entries-more [] begun = sym (append-nil (entries_in (slots begun)))
 entries-more (s ∷ later) begun = by s.too_old (entries-more later begun)
@@ -189,7 +189,7 @@ entries-more (s ∷ later) begun = by s.too_old (entries-more later begun)
     by false rest = ap (λ es. es ++ s.entry ∷ []) rest
         ∙ append_assoc (entries_in (slots begun)) (entries_in (slots later)) (s.entry ∷ [])
 
-pub frames-more : (vl : ℕ) (later begun : List (Turn Carried)) → frames_left vl (later ++ begun)
+pub frames-more : (vl : ℕ) (later begun : List (Turn HeldFrame)) → frames_left vl (later ++ begun)
     ≡ frames_left vl begun ++ frames_left vl later
 frames-more vl later begun =
     ap (λ es. map passing_in (filter (is_of vl) es)) (entries-more later begun)

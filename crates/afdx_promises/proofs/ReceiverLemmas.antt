@@ -31,7 +31,7 @@ use Rattle.afdx_receive.specs.Integrity.{Incoming}
 use Rattle.afdx_receive.proofs.ReceptionLemmas.{frames_with, frames_other, frames_damaged, answer_own}
 use Rattle.afdx_receive.proofs.TableLemmas.{received}
 use Rattle.afdx_switch.specs.Admitted.{Passing, passing, passing_in, accepted_arrivals, frames_among}
-use Rattle.afdx_switch.specs.Carried.{Carried}
+use Rattle.afdx_switch.specs.HeldFrames.{HeldFrame}
 use Rattle.afdx_switch.specs.Laws.{is_of}
 use Rattle.afdx_switch.specs.Tables.{rule_of}
 use Rattle.afdx_switch.proofs.ListLemmas.{bool_cases}
@@ -138,7 +138,7 @@ frames-by-side vl side (x ∷ past) = by (is_from side x) refl (frames-by-side v
     by false other rest = side-kept vl side x past (frame_of x.bytes) false other ∙ rest
 
 -- a slot of the link brings one more
-pub own-slot : (vl : ℕ) (side : Side) (s : Turn Carried) (ss : List (Turn Carried))
+pub own-slot : (vl : ℕ) (side : Side) (s : Turn HeldFrame) (ss : List (Turn HeldFrame))
     (is : IsFrameOn vl s.entry.item.bytes) →
     frames_of vl (map (brought side) (s ∷ ss)) ≡ incoming (brought side s) is.parts
     ∷ frames_of vl (map (brought side) ss)
@@ -199,7 +199,7 @@ names-frame vl bytes frame is =
     ap (λ (o : Option VlId). option_map_or (λ named. named.0 == vl) o false) (frame-parts bytes frame is)
 
 -- and one of another link none
-pub other-slot : (vl : ℕ) (side : Side) (s : Turn Carried) (ss : List (Turn Carried))
+pub other-slot : (vl : ℕ) (side : Side) (s : Turn HeldFrame) (ss : List (Turn HeldFrame))
     → is_of vl s.entry ≡ false → frames_of vl (map (brought side) (s ∷ ss))
     ≡ frames_of vl (map (brought side) ss)
 other-slot vl side s ss other = by (frame_of s.entry.item.bytes) refl
@@ -259,7 +259,7 @@ accepted-frames rule (x ∷ past) = by (is_none (reason_after rule past x)) refl
 
 -- ---- what comes by a side are the accepted ones
 
-pub bytes-of-slots : (vl : ℕ) (side : Side) (ss : List (Turn Carried)) (xs : List Arrival)
+pub bytes-of-slots : (vl : ℕ) (side : Side) (ss : List (Turn HeldFrame)) (xs : List Arrival)
     → AllByRecursion (λ x. IsFrameOn vl x.bytes) xs → frames_among vl (entries_back ss) ≡ map passing xs →
     map (λ (f : Incoming). f.bytes) (frames_of vl (map (brought side) ss)) ≡ map (λ (x : Arrival). x.bytes) xs
 unfolding frames_of

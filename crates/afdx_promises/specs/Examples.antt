@@ -15,7 +15,7 @@ use Rattle.afdx_police.specs.Arrival.{Arrival, arrival_with}
 use Rattle.afdx_receive.specs.Arrivals.{Arrived}
 use Rattle.afdx_bounds.specs.Outputs.{AreTimed}
 use Rattle.afdx_port.specs.Schedule.{Entry, Turn, IsSchedule}
-use Rattle.afdx_switch.specs.Carried.{Carried}
+use Rattle.afdx_switch.specs.HeldFrames.{HeldFrame}
 use Rattle.afdx_switch.specs.Admitted.{IsAdmittedRun}
 use Rattle.afdx_promises.specs.Lines.{messages_told}
 use Rattle.afdx_promises.specs.Promises.{told}
@@ -115,6 +115,6 @@ pub record AdmissionIsNeeded : Type 0 where
 -- that came at 0, of the same class. The first turn would come at 0, and be that of the frame that
 -- hasn't come.
 abbrev pub TimesAreNeeded : Type 0
-TimesAreNeeded = (first second : Entry Carried) (turns : List (Turn Carried)) →
+TimesAreNeeded = (first second : Entry HeldFrame) (turns : List (Turn HeldFrame)) →
     first.time ≡ 1000000 → second.time ≡ 0 → first.priority ≡ second.priority →
     IsSchedule 80 (first ∷ second ∷ []) turns → ⊥

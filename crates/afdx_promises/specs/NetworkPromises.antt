@@ -17,7 +17,7 @@ use Rattle.afdx_bounds.specs.Outputs.{AreTimed}
 use Rattle.afdx_switch.specs.Admitted.{IsAdmittedRun, Passing, accepted_on, accepted_frames, frames_left, AreInTime, IsInTime}
 use Rattle.afdx_switch.specs.Regular.{IsRegularAt}
 use Rattle.afdx_switch.specs.Switching.{taken_at}
-use Rattle.afdx_switch.specs.Carried.{Carried}
+use Rattle.afdx_switch.specs.HeldFrames.{HeldFrame}
 use Rattle.afdx_switch.specs.Tables.{rule_of, goes_to, byte_ns_at, entries_at}
 use Rattle.afdx_switch.specs.Verdicts.{reason_of, is_lost_at}
 use Rattle.afdx_receive.specs.Arrivals.{Arrived, frames_of}
@@ -80,7 +80,7 @@ PortsAreAsPromised = (t : Rows) (arrivals : List Arrival) → IsAdmittedRun t ar
 -- those
 abbrev pub LeftSoFarAreFirst : Type 0
 LeftSoFarAreFirst = (t : Rows) (arrivals : List Arrival) (side : Side) (port place : ℕ)
-    (l : LinkRow) (turns : List (Turn Carried)) → IsAdmittedRun t arrivals →
+    (l : LinkRow) (turns : List (Turn HeldFrame)) → IsAdmittedRun t arrivals →
     slice_get t.links place ≡ Some l →
     AreTurns (byte_ns_at t port) (entries_at t side port arrivals) turns →
     (rest : List Passing) × ((if goes_to t l port then accepted_frames t l side arrivals else [])

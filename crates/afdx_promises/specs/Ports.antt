@@ -5,10 +5,10 @@ use Rattle.afdx_frame.specs.declared.link.Side.{Side}
 use Rattle.afdx_config.specs.Rows.{Rows}
 use Rattle.afdx_police.specs.Arrival.{Arrival}
 use Rattle.afdx_port.specs.Schedule.{Turn, IsSchedule}
-use Rattle.afdx_switch.specs.Carried.{Carried}
+use Rattle.afdx_switch.specs.HeldFrames.{HeldFrame}
 use Rattle.afdx_switch.specs.Tables.{byte_ns_at, entries_at}
 
 -- these are the turns of all its entries
-abbrev pub AreItsTurns : Rows → Side → ℕ → List Arrival → List (Turn Carried) → Type 0
+abbrev pub AreItsTurns : Rows → Side → ℕ → List Arrival → List (Turn HeldFrame) → Type 0
 AreItsTurns t side port arrivals turns =
     IsSchedule (byte_ns_at t port) (entries_at t side port arrivals) turns

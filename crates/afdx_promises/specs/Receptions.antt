@@ -12,7 +12,7 @@ use Rattle.afdx_config.specs.SentList.{Message}
 use Rattle.afdx_police.specs.Arrival.{Arrival}
 use Rattle.afdx_port.specs.Schedule.{Turn}
 use Rattle.afdx_switch.specs.Admitted.{slots}
-use Rattle.afdx_switch.specs.Carried.{Carried}
+use Rattle.afdx_switch.specs.HeldFrames.{HeldFrame}
 use Rattle.afdx_receive.specs.Answers.{Answer, answer_after, answer_to}
 use Rattle.afdx_receive.specs.Arrivals.{Arrived, arrived}
 use Rattle.afdx_receive.specs.Delivery.{with_answer}
@@ -21,7 +21,7 @@ use Rattle.afdx_network.specs.Events.{Event, Came, Left, turns_at}
 use Rattle.afdx_network.specs.Order.{side_number}
 
 -- what a slot brings: the frame, when the slot ends, by the network of its side
-abbrev pub brought : Side → Turn Carried → Arrived
+abbrev pub brought : Side → Turn HeldFrame → Arrived
 brought side s = arrived s.end side s.entry.item.bytes
 
 -- it came by this side

@@ -15,7 +15,7 @@ use Rattle.afdx_receive.specs.Copies.{copy_on, AreSendable}
 use Rattle.afdx_send.specs.Emissions.{AreSendings, own, sent_list}
 use Rattle.afdx_send.specs.Frames.{Frame, address_with}
 use Rattle.afdx_send.specs.Laws.{EmitsLawfully}
-use Rattle.afdx_send.specs.Sender.{History}
+use Rattle.afdx_send.specs.Sender.{SenderHistory}
 use Rattle.afdx_promises.specs.Lines.{Line, messages_told}
 use Rattle.afdx_promises.specs.Promises.{EachIsToldOnce, EachIsToldOnceSoFar, most_come}
 use Rattle.afdx_promises.specs.Streams.{IsFed}
@@ -89,7 +89,7 @@ StreamIsOfSendings = (s : SystemRow) (vl : ℕ) (emitted : List (Turn Frame)) �
 -- M lines of each receiver of the link are exactly the released messages to its UDP ports, each
 -- once and in order of their releases.
 abbrev pub ReleasedAreToldOnce : Type 0
-ReleasedAreToldOnce = (t : Rows) (arrivals : List Arrival) (lines : List Line) (h : History)
+ReleasedAreToldOnce = (t : Rows) (arrivals : List Arrival) (lines : List Line) (h : SenderHistory)
     (system place at : ℕ) (s : SystemRow) (l : LinkRow) →
     EachIsToldOnce t arrivals lines → slice_get t.systems system ≡ Some s → slice_get t.links place
     ≡ Some l → is_to system l ≡ true →
@@ -109,7 +109,7 @@ IsMergedSoFar s emitted arrivals = (side : Side) →
 
 -- Then the released messages are told as far as one of the sides has come.
 abbrev pub ReleasedAreToldSoFar : Type 0
-ReleasedAreToldSoFar = (t : Rows) (arrivals : List Arrival) (lines : List Line) (h : History)
+ReleasedAreToldSoFar = (t : Rows) (arrivals : List Arrival) (lines : List Line) (h : SenderHistory)
     (system place at : ℕ) (s : SystemRow) (l : LinkRow) →
     EachIsToldOnceSoFar t arrivals lines → slice_get t.systems system ≡ Some s → slice_get t.links
     place ≡ Some l → is_to system l ≡ true →
@@ -123,7 +123,7 @@ ReleasedAreToldSoFar = (t : Rows) (arrivals : List Arrival) (lines : List Line) 
 
 -- So all of them are, where on one side all comes.
 abbrev pub OneSideIsEnough : Type 0
-OneSideIsEnough = (t : Rows) (arrivals : List Arrival) (h : History) (at : ℕ) (l : LinkRow)
+OneSideIsEnough = (t : Rows) (arrivals : List Arrival) (h : SenderHistory) (at : ℕ) (l : LinkRow)
     (whole : Side) → slice_get t.systems l.from ≡ Some h.system →
     AllByRecursion (IsBuildable h.system) h.emitted →
     AreSentAs h.system whole h.emitted (arrivals_at whole h.system.port arrivals) →

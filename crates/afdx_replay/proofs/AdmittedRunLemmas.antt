@@ -10,7 +10,7 @@ use Rattle.afdx_police.specs.Arrival.{Arrival}
 use Rattle.afdx_bounds.specs.Outputs.{AreTimed}
 use Rattle.afdx_switch.specs.Admitted.{IsAdmittedRun}
 use Rattle.afdx_lists.specs.Calls.{AppendsFront}
-use Rattle.afdx_lists.specs.FrameLines.{Frame}
+use Rattle.afdx_lists.specs.FrameLines.{ListedFrame}
 use Rattle.afdx_lists.proofs.FrameLemmas.{line_says-later}
 use Rattle.afdx_lists.specs.Lines.{lines_of}
 use Rattle.afdx_lists.specs.declared.fault.LineFault.{LineFault}
@@ -39,7 +39,7 @@ arrivals-timed lines zero = tt
 arrivals-timed lines (suc n) = by (said_after (arrivals_of lines n) (slice_index_or lines n []))
     refl (arrivals-timed lines n)
   where
-    by : (r : Result (Option Frame) LineFault)
+    by : (r : Result (Option ListedFrame) LineFault)
         → said_after (arrivals_of lines n) (slice_index_or lines n []) ≡ r
         → AreTimed (arrivals_of lines n) → AreTimed (with_said (suc n) r (arrivals_of lines n))
     by (Err fault) is timed = timed
@@ -65,7 +65,7 @@ arrivals-listed list (suc n) x h = by (said_after (arrivals_of list n) (slice_in
       is = is.is;
     }
 
-    by : (r : Result (Option Frame) LineFault)
+    by : (r : Result (Option ListedFrame) LineFault)
         → said_after (arrivals_of list n) (slice_index_or list n []) ≡ r
         → IsIn x (with_said (suc n) r (arrivals_of list n))
         → (IsIn x (arrivals_of list n) → IsListed list n x) → IsListed list (suc n) x

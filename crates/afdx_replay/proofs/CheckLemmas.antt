@@ -5,22 +5,22 @@ use Rattle.std.specs.Prelude.{if◌then◌else◌}
 use Rattle.std.proofs.lemmas.List.{append-nil}
 use Rattle.afdx_config.specs.Rows.{Rows}
 use Rattle.afdx_config.specs.Reading.{system_at_port}
-use Rattle.afdx_replay.specs.CheckText.{port_line, port_lines, line_if_used}
+use Rattle.afdx_replay.specs.CheckText.{port_line, used_port_lines, line_if_used}
 
-pub port_lines-none : (t : Rows) (text : List ℕ) → text ≡ text ++ port_lines t 0
-unfolding port_lines
+pub port_lines-none : (t : Rows) (text : List ℕ) → text ≡ text ++ used_port_lines t 0
+unfolding used_port_lines
 port_lines-none t text = sym (append-nil text)
 
-port_lines-more : (t : Rows) (count : ℕ) → port_lines t (count + 1) ≡ port_lines t count ++ line_if_used t (count + 1)
-unfolding port_lines
+port_lines-more : (t : Rows) (count : ℕ) → used_port_lines t (count + 1) ≡ used_port_lines t count ++ line_if_used t (count + 1)
+unfolding used_port_lines
 port_lines-more t count = rw add-one refl
 
 -- the line of one port more was added, if it has one
-pub port_lines-next : (t : Rows) (count : ℕ) (old before after : List ℕ) → before ≡ old ++ port_lines t count →
-    after ≡ before ++ line_if_used t (count + 1) → after ≡ old ++ port_lines t (count + 1)
+pub port_lines-next : (t : Rows) (count : ℕ) (old before after : List ℕ) → before ≡ old ++ used_port_lines t count →
+    after ≡ before ++ line_if_used t (count + 1) → after ≡ old ++ used_port_lines t (count + 1)
 port_lines-next t count old before after e f =
     f ∙ ap (λ (text : List ℕ). text ++ line_if_used t (count + 1)) e
-    ∙ append_assoc old (port_lines t count) (line_if_used t (count + 1))
+    ∙ append_assoc old (used_port_lines t count) (line_if_used t (count + 1))
     ∙ ap (λ (text : List ℕ). old ++ text) (sym (port_lines-more t count))
 
 pub line-used : (t : Rows) (port : ℕ) → true ≡ is_some (system_at_port t.systems port)

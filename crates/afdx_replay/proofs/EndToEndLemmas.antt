@@ -29,9 +29,9 @@ use Rattle.afdx_receive.specs.Copies.{AreSendable}
 use Rattle.afdx_send.specs.Complete.{IsFor, HasSentAll, EmitsAll, IsOfTaken, AllIsSent}
 use Rattle.afdx_send.specs.Complete.{EmissionsAreOfTaken, submissions_of, AreReleasesOfAll}
 use Rattle.afdx_send.specs.Emissions.{own, own_submissions, sent_list}
-use Rattle.afdx_send.specs.Frames.{Frame, frame_with, address_with}
+use Rattle.afdx_send.specs.Frames.{Frame, numbered_frame, address_with}
 use Rattle.afdx_send.specs.Releases.{Submission, Release, AreReleases}
-use Rattle.afdx_send.specs.Sender.{History}
+use Rattle.afdx_send.specs.Sender.{SenderHistory}
 use Rattle.afdx_send.proofs.NewLemmas.{from_filter, distinct_links}
 use Rattle.afdx_send.proofs.NextLemmas.{split_last}
 use Rattle.afdx_promises.specs.Lines.{Line, messages_told}
@@ -90,7 +90,7 @@ number-small (suc k) = step-small (after_steps k 0) (number-small k)
 
 buildable : (n profile : ℕ) (s : SystemRow) (l : LinkRow) (m : Message) (k : ℕ) → IsSystem profile s
     → IsLink n l → 1 ≤ length m.payload → length m.payload + 47 ≤ l.lmax → m.udp ≤ 65535 →
-    Buildable (address_with s.id s.partition (frame_with l.vl l.lmin k m.udp m.payload)) m.payload
+    Buildable (address_with s.id s.partition (numbered_frame l.vl l.lmin k m.udp m.payload)) m.payload
 buildable n profile s l m k system link some fits udp = record {
   least = link.lmin.0;
   most = (let low = link.lmin.1 in omega (arith, low));
@@ -103,7 +103,7 @@ buildable n profile s l m k system link some fits udp = record {
   partition = (let high = system.partition.1 in omega (arith, high));
 }
 
-turn-buildable : (n profile : ℕ) (s : SystemRow) (h : History) → IsSystem profile s
+turn-buildable : (n profile : ℕ) (s : SystemRow) (h : SenderHistory) → IsSystem profile s
     → ((i : ℕ) (l : LinkRow) → slice_get h.links i ≡ Some l → IsLink n l) →
     ((i : ℕ) (l : LinkRow) → slice_get h.links i ≡ Some l
     → AllByRecursion (IsGood l) (own_submissions h.taken i)) → (turn : Turn Frame)
@@ -173,7 +173,7 @@ sent-as s side one most [] (x ∷ past) can said = not-empty said.0 said.1 (sym 
 sent-as s side one most (turn ∷ earlier) [] can said = not-empty (lines_on s side earlier) (line_on s side turn) said
 sent-as s side one most (turn ∷ earlier) (x ∷ past) can said =
     let same = snoc-same (lines_on s side earlier) said.0 (line_on s side turn) said.1 said.2 in
-    let f : frame.Frame = record {
+    let f : frame.ListedFrame = record {
       time = turn.end;
       side = side;
       port = s.port;
@@ -182,9 +182,9 @@ sent-as s side one most (turn ∷ earlier) (x ∷ past) can said =
     let says = sym (turn-says s one most side turn can.0) ∙ ap (line_says 0) same.1 ∙ said.3.said in
     let is : f ≡ said.3.frame = cc says in (
       record {
-        time = said.3.time ∙ sym (ap (λ (z : frame.Frame). z.time) is);
+        time = said.3.time ∙ sym (ap (λ (z : frame.ListedFrame). z.time) is);
         bytes = said.3.bytes
-            ∙ sym (ap (λ (z : frame.Frame). z.bytes) is) ∙ sym (copy-is s turn side);
+            ∙ sym (ap (λ (z : frame.ListedFrame). z.bytes) is) ∙ sym (copy-is s turn side);
       },
       sent-as s side one most earlier past can.1 (subst (λ (z : List (List ℕ)). AreSaidBy past z) (sym same.0) said.4),
     )
@@ -283,7 +283,7 @@ module _ (laws : Laws) (t : Rows) (lawful : IsLawful t) (admitted : IsAdmitted t
   abbrev links : List LinkRow
   links = links_from t.links sender
 
-  abbrev h : History
+  abbrev h : SenderHistory
   h = calls_in s links events 1200000000000000
 
   is_system : IsSystem t.profile s

@@ -15,7 +15,7 @@ use Rattle.afdx_send.specs.Complete.{IsFor}
 use Rattle.afdx_send.specs.Emissions.{LinkRelease, own, own_submissions}
 use Rattle.afdx_send.specs.Frames.{Frame}
 use Rattle.afdx_send.specs.Releases.{Submission, count_without}
-use Rattle.afdx_send.specs.Sender.{History, HasLink, IsSub, AreUnreleased}
+use Rattle.afdx_send.specs.Sender.{SenderHistory, HasLink, IsSub, AreUnreleased}
 use Rattle.afdx_send.specs.declared.fault.SendFault.{SendFault}
 use Rattle.afdx_send.specs.declared.fault.SendFault.TheVariants.{NotMyLink, NoSuchSub, Empty}
 use Rattle.afdx_send.specs.declared.fault.SendFault.TheVariants.{TooLarge, QueueFull, Memory}
@@ -59,7 +59,7 @@ back (Some QueueFull) = refl
 back None = refl
 back (Some Memory) = refl
 
-module _ (h : History) (distinct : AreDistinct (λ l. l.vl) h.links) (subs : AllSubs h.links h.taken)
+module _ (h : SenderHistory) (distinct : AreDistinct (λ l. l.vl) h.links) (subs : AllSubs h.links h.taken)
     (x : list.Submission) where
   row-of : (i j : ℕ) (a b : LinkRow) → HasLink h x.vl i a → HasLink h x.vl j b → a ≡ b
   row-of i j a b p q = same-row h.links distinct i j a b p.0 q.0 (p.1 ∙ sym q.1)

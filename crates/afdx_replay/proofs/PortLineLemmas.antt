@@ -10,7 +10,7 @@ use Rattle.std.proofs.Math.Seq.{take-suc}
 use Rattle.afdx_frame.specs.Sides.{is_side}
 use Rattle.afdx_frame.specs.declared.link.Side.{Side}
 use Rattle.afdx_police.specs.Arrival.{Arrival}
-use Rattle.afdx_lists.specs.FrameLines.{Frame, line_says}
+use Rattle.afdx_lists.specs.FrameLines.{ListedFrame, line_says}
 use Rattle.afdx_lists.proofs.FrameLemmas.{line_says-alone}
 use Rattle.afdx_lists.specs.declared.fault.LineFault.{LineFault}
 use Rattle.afdx_lists.specs.declared.fault.RunFault.TheVariants as run
@@ -22,7 +22,7 @@ use Rattle.afdx_replay.specs.Lists.{with_item, item_said, items_of, fault_in, fa
 
 -- an arrival is the frame that a line says
 pub record IsSaidBy (line : List ℕ) (x : Arrival) : Type 0 where
-  pub frame : Frame
+  pub frame : ListedFrame
   pub said : line_says 0 line ≡ Ok (Some frame)
   pub time : x.time ≡ frame.time
   pub bytes : x.bytes ≡ frame.bytes
@@ -62,7 +62,7 @@ module _ (side : Side) (port : ℕ) where
     where
       by : (many long : Bool) →
           (if many then Some run.TooManyLines else if long then Some (run.LineTooLong (n + 1)) else
-          fault_said {Y = Frame} (n + 1) (Err fault)) ≡ None → ⊥
+          fault_said {Y = ListedFrame} (n + 1) (Err fault)) ≡ None → ⊥
       by true long h = cc h
       by false true h = cc h
       by false false h = cc h
@@ -78,7 +78,7 @@ module _ (side : Side) (port : ℕ) where
       line : List ℕ
       line = slice_index_or list n []
 
-      by_test : (f : Frame) → item_said frames list n ≡ Ok (Some f) → (b : Bool)
+      by_test : (f : ListedFrame) → item_said frames list n ≡ Ok (Some f) → (b : Bool)
           → (is_side side f.side && (port == f.port)) ≡ b
           → AreSaidBy (arrivals_at side port (arrivals_of list n)) (lines_at side port (take n list)) →
           AreSaidBy (if b then arrival_at (suc n) f ∷ arrivals_at side port (arrivals_of list n)
@@ -96,7 +96,7 @@ module _ (side : Side) (port : ℕ) where
           (sym (line-off list n (omega (arith, le))
           (ap (says_at side port) (line_says-alone _ line (Some f) e) ∙ test))) rest
 
-      by : (r : Result (Option Frame) LineFault) → item_said frames list n ≡ r
+      by : (r : Result (Option ListedFrame) LineFault) → item_said frames list n ≡ r
           → AreSaidBy (arrivals_at side port (arrivals_of list n)) (lines_at side port (take n list)) →
           AreSaidBy (arrivals_at side port (with_item frames (suc n) r (arrivals_of list n)))
           (lines_at side port (take (suc n) list))

@@ -15,7 +15,7 @@ use Rattle.afdx_frame.specs.declared.link.Side.TheVariants.{A, B}
 use Rattle.afdx_config.specs.Rows.{SystemRow, LinkRow}
 use Rattle.afdx_police.specs.Arrival.{Arrival}
 use Rattle.afdx_port.specs.Schedule.{Turn, end_of}
-use Rattle.afdx_lists.specs.FrameLines.{Frame, line_says}
+use Rattle.afdx_lists.specs.FrameLines.{ListedFrame, line_says}
 use Rattle.afdx_lists.specs.Lines.{lines_of, most_lines, longest_line}
 use Rattle.afdx_lists.specs.declared.fault.RunFault.{RunFault}
 use Rattle.afdx_lists.specs.declared.fault.RunFault.TheVariants as run
@@ -64,7 +64,7 @@ record IsList (xs : List (List ℕ)) (latest : ℕ) : Type 0 where
   sound : AreSound xs (length xs)
   time : latest_time (arrivals_of xs (length xs)) ≡ latest
 
-abbrev time_after : Option Frame → ℕ → ℕ
+abbrev time_after : Option ListedFrame → ℕ → ℕ
 time_after None latest = latest
 time_after (Some frame) latest = frame.time
 
@@ -75,7 +75,7 @@ none-yet = record { sound = λ i lt. absurd (omega (arith, lt)); time = refl }
 more-length : (xs : List (List ℕ)) (line : List ℕ) → length (xs ++ line ∷ []) ≡ suc (length xs)
 more-length xs line = let n = length-append xs (line ∷ []) in omega (arith, n)
 
-module _ (xs : List (List ℕ)) (line : List ℕ) (latest : ℕ) (found : Option Frame)
+module _ (xs : List (List ℕ)) (line : List ℕ) (latest : ℕ) (found : Option ListedFrame)
     (k : IsList xs latest) (few : length xs < most_lines) (small : length line ≤ longest_line)
     (says : line_says latest line ≡ Ok found) where
   here : slice_index_or (xs ++ line ∷ []) (length xs) [] ≡ line
@@ -91,7 +91,7 @@ module _ (xs : List (List ℕ)) (line : List ℕ) (latest : ℕ) (found : Option
       ap (λ past. fault_by (length xs) (slice_index_or (xs ++ line ∷ []) (length xs) []) past)
       (items-front xs line (length xs) (omega arith))
       ∙ ap (λ l. fault_by (length xs) l (arrivals_of xs (length xs))) here
-      ∙ rw (many, long) (ap (λ r. fault_said {Y = Frame} (length xs + 1) r) item)
+      ∙ rw (many, long) (ap (λ r. fault_said {Y = ListedFrame} (length xs + 1) r) item)
 
   last : arrivals_of (xs ++ line ∷ []) (suc (length xs))
       ≡ with_item frames (suc (length xs)) (Ok found) (arrivals_of xs (length xs))
@@ -104,7 +104,7 @@ module _ (xs : List (List ℕ)) (line : List ℕ) (latest : ℕ) (found : Option
       (item_after frames (arrivals_of xs (length xs)) l) (arrivals_of xs (length xs))) here
       ∙ ap (λ r. with_item frames (suc (length xs)) r (arrivals_of xs (length xs))) item
 
-  last-time : (o : Option Frame)
+  last-time : (o : Option ListedFrame)
       → latest_time (with_item frames (suc (length xs)) (Ok o) (arrivals_of xs (length xs)))
       ≡ time_after o latest
   last-time None = k.time

@@ -35,9 +35,9 @@ abbrev pub line_if_used : Rows → ℕ → List ℕ
 line_if_used t port = if is_some (system_at_port t.systems port) then port_line t port else []
 
 -- the lines of the first ports of the switch, as many as this, that have a system
-unfoldable pub port_lines : Rows → ℕ → List ℕ
-port_lines t zero = []
-port_lines t (suc count) = port_lines t count ++ line_if_used t (suc count)
+unfoldable pub used_port_lines : Rows → ℕ → List ℕ
+used_port_lines t zero = []
+used_port_lines t (suc count) = used_port_lines t count ++ line_if_used t (suc count)
 
 -- admitted, or the first line of admission that is false
 abbrev pub answer_line : Rows → Option AdmitFault → List ℕ
@@ -45,7 +45,7 @@ answer_line t None = codes "ok\n"
 answer_line t (Some fault) = codes "no " ++ fault_text (name_of t fault) fault ++ codes "\n"
 
 abbrev pub check_text : Rows → List ℕ
-check_text t = port_lines t 24 ++ answer_line t (first_false (lines t))
+check_text t = used_port_lines t 24 ++ answer_line t (first_false (lines t))
 
 -- the text of the tables that these bytes spell is written
 pub record WritesCheck (config : List ℕ) (old new : Option (List ℕ)) (t : Rows) : Type 0 where

@@ -10,7 +10,7 @@ use Rattle.afdx_config.specs.Lawful.{IsLawful}
 use Rattle.afdx_config.specs.Reading.{has_port}
 use Rattle.afdx_config.specs.Rows.{SystemRow, LinkRow, Rows, is_to}
 use Rattle.afdx_config.specs.SentList.{Message}
-use Rattle.afdx_lists.specs.FrameLines.{Frame, line_says}
+use Rattle.afdx_lists.specs.FrameLines.{ListedFrame, line_says}
 use Rattle.afdx_lists.specs.Lines.{lines_of, most_lines}
 use Rattle.afdx_lists.specs.declared.fault.LineFault.{LineFault}
 use Rattle.afdx_send.specs.Complete.{submissions_of, AreReleasesOfAll}
@@ -26,7 +26,7 @@ use Rattle.afdx_replay.specs.Sent.{source_at, WritesAll}
 use Rattle.afdx_replay.specs.declared.summary.Summary.{Summary}
 
 -- what a line says is a frame that comes in at this port on this side
-abbrev pub says_at : Side → ℕ → Result (Option Frame) LineFault → Bool
+abbrev pub says_at : Side → ℕ → Result (Option ListedFrame) LineFault → Bool
 says_at side port (Ok (Some frame)) = is_side side frame.side && (port == frame.port)
 says_at side port (Ok None) = false
 says_at side port (Err fault) = false

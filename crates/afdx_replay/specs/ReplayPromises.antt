@@ -7,7 +7,7 @@ use Rattle.afdx_switch.specs.Admitted.{IsAdmittedRun}
 use Rattle.afdx_network.specs.Order.{events_of, events_so_far}
 use Rattle.afdx_promises.specs.Lines.{Line, Verdict, Departed, Received, IsIn}
 use Rattle.afdx_promises.specs.Promises.{KeepsPromises, KeepsPromisesSoFar, EachIsToldOnce, EachIsToldOnceSoFar}
-use Rattle.afdx_lists.specs.FrameLines.{Frame}
+use Rattle.afdx_lists.specs.FrameLines.{ListedFrame}
 use Rattle.afdx_systems.specs.Receptions.{name_of, answer_line}
 use Rattle.afdx_replay.specs.Listed.{arrival_at, arrivals_of, said_after}
 use Rattle.afdx_replay.specs.PoliceText.{verdict_line}
@@ -29,7 +29,7 @@ text_of t (line ∷ before) = text_of t before ++ line_text t line
 pub record IsListed (list : List (List ℕ)) (count : ℕ) (x : Arrival) : Type 0 where
   pub place : ℕ
   pub below : place < count
-  pub frame : Frame
+  pub frame : ListedFrame
   pub said : said_after (arrivals_of list place) (slice_index_or list place []) ≡ Ok (Some frame)
   pub is : x ≡ arrival_at (place + 1) frame
 

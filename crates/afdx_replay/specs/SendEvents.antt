@@ -7,7 +7,7 @@ use Rattle.afdx_lists.specs.SubmissionLines.{Submission, submission_said}
 use Rattle.afdx_port.specs.Schedule.{Turn, end_of}
 use Rattle.afdx_send.specs.Frames.{Frame}
 use Rattle.afdx_send.specs.Releases as send
-use Rattle.afdx_send.specs.Sender.{History, submission, IsNextIn, IsTaken, IsRefused, AreAllEmitted}
+use Rattle.afdx_send.specs.Sender.{SenderHistory, submission, IsNextIn, IsTaken, IsRefused, AreAllEmitted}
 use Rattle.afdx_send.specs.declared.fault.SendFault.{SendFault}
 use Rattle.afdx_send.specs.declared.fault.SendFault.TheVariants.{Memory}
 use Rattle.afdx_replay.specs.Lists.{Kind}
@@ -57,19 +57,19 @@ taken_by vl (Emitted turn ∷ before) = taken_by vl before
 taken_by vl (Submitted x fault ∷ before) = with_taken vl x fault (taken_by vl before)
 
 -- the calls of the system's sender that these events are, of which the last was at this time
-abbrev pub calls_in : SystemRow → List LinkRow → List Event → ℕ → History
+abbrev pub calls_in : SystemRow → List LinkRow → List Event → ℕ → SenderHistory
 calls_in s links events time =
     let taken = map (λ l. taken_by l.vl events) links in
     record { system = s; links = links; taken = taken; emitted = turns_in events; time = time }
 
 -- it is taken by one of the links, or refused for this reason. Want of memory is no such reason
-abbrev pub IsAnswered : History → Submission → Option SendFault → Type 0
+abbrev pub IsAnswered : SenderHistory → Submission → Option SendFault → Type 0
 IsAnswered h s None = (place : ℕ) × IsTaken h place s.vl (message_of s)
 IsAnswered h s (Some fault) =
     (fault ≡ Memory → ⊥) × IsRefused h s.time s.vl s.sub (length s.payload) fault
 
 -- before a submission stand exactly the emissions that end by its time
-pub record IsHandled (h : History) (s : Submission) (fault : Option SendFault) : Type 0 where
+pub record IsHandled (h : SenderHistory) (s : Submission) (fault : Option SendFault) : Type 0 where
   pub in_time : end_of h.emitted ≤ s.time
   pub no_more : (turn : Turn Frame) → IsNextIn h turn → s.time < turn.end
   pub answered : IsAnswered h s fault

@@ -4,7 +4,7 @@ ghost use Rattle.afdx_config.specs.Admission.{IsAdmitted};
 ghost use Rattle.afdx_admit.specs.Bounds.{IsBounds};
 ghost use Rattle.afdx_admit.specs.Lines.{first_false, lines};
 ghost use Rattle.afdx_config.specs.Rows.{Rows};
-ghost use Rattle.afdx_replay.specs.CheckText.{port_line, line_if_used, port_lines, answer_line};
+ghost use Rattle.afdx_replay.specs.CheckText.{port_line, line_if_used, used_port_lines, answer_line};
 ghost use Rattle.afdx_replay.specs.CheckText.{check_text, IsChecked, IsDenied, IsFaulty, IsCut};
 ghost use Rattle.afdx_replay.specs.CheckText.{IsUnchecked};
 ghost use Rattle.afdx_lists.specs.Watching.{has_failed};
@@ -47,7 +47,7 @@ fn put_port(text: &mut String, tables: &Tables, port: u8) -> Result<(), AllocErr
 /// Adds the lines of the ports that have a system.
 fn put_ports(text: &mut String, tables: &Tables) -> Result<(), AllocError>
     ensures { OnOk result
-        (string_bytes text.new ≡ string_bytes text.old ++ port_lines tables.now 24) }
+        (string_bytes text.new ≡ string_bytes text.old ++ used_port_lines tables.now 24) }
 {
     for count in 0..24_u8 {
         let port = count + 1;

@@ -7,7 +7,7 @@ ghost use Rattle.afdx_police.specs.Rule.{Rule};
 ghost use Rattle.afdx_police.specs.RuleOf.{rule_of};
 ghost use Rattle.afdx_police.specs.Verdicts.{verdict_in};
 ghost use Rattle.afdx_lists.specs.Calls.{is_failed_read, is_failed_write};
-ghost use Rattle.afdx_lists.specs.FrameLines.{frame_of};
+ghost use Rattle.afdx_lists.specs.FrameLines.{listed_frame};
 ghost use Rattle.afdx_lists.specs.Watching.{calls_of, device_of, has_ended, has_failed};
 ghost use Rattle.afdx_replay.specs.Listed.{arrival_at};
 ghost use Rattle.afdx_replay.specs.Policed.{Answers};
@@ -47,10 +47,10 @@ impl Policers {
         ensures until { AreUntil self.new heading.now.time }
         ensures answer { (rule : Rule) (past : List Arrival) (tag : ℕ) →
             HaveSeen self.old rule past →
-            result ≡ verdict_in rule past (arrival_at tag (frame_of heading.now frame.now)) }
+            result ≡ verdict_in rule past (arrival_at tag (listed_frame heading.now frame.now)) }
         ensures seen { (rule : Rule) (past : List Arrival) (tag : ℕ) →
             HaveSeen self.old rule past →
-            HaveSeen self.new rule (arrival_at tag (frame_of heading.now frame.now) ∷ past) }
+            HaveSeen self.new rule (arrival_at tag (listed_frame heading.now frame.now) ∷ past) }
     {
         let Heading {
             time,

@@ -12,7 +12,7 @@ ghost use Rattle.afdx_lists.specs.Calls.{is_failed_read, is_failed_write};
 ghost use Rattle.afdx_systems.specs.StandsFor as systems;
 ghost use Rattle.afdx_network.specs.Events.{Event, Departure, arrivals_in};
 ghost use Rattle.afdx_network.specs.Network as network;
-ghost use Rattle.afdx_lists.specs.FrameLines.{frame_of};
+ghost use Rattle.afdx_lists.specs.FrameLines.{listed_frame};
 ghost use Rattle.afdx_lists.specs.Watching.{calls_of, device_of, has_ended, has_failed};
 ghost use Rattle.afdx_replay.specs.Listed.{arrival_at};
 ghost use Rattle.afdx_replay.specs.Replayed.{WritesSome, Answers, ToldAll, TellsDeparture, HasRoom};
@@ -147,12 +147,12 @@ impl Replay {
         ensures told { (t : Rows) (start : Option (List ℕ)) (past : List Arrival) →
             TellsArrivals t self.old start (W.contents (device_of output.old)) past →
             OnOk result (TellsArrivals t self.new start (W.contents (device_of output.new))
-            (arrival_at n (frame_of heading.now frame.now) ∷ past)) }
+            (arrival_at n (listed_frame heading.now frame.now) ∷ past)) }
         ensures some { (t : Rows) (start : Option (List ℕ)) (past : List Arrival) →
             TellsArrivals t self.old start (W.contents (device_of output.old)) past →
             OnErr result (WritesSome t start (W.contents (device_of output.new)) past
             ⊎ WritesSome t start (W.contents (device_of output.new))
-            (arrival_at n (frame_of heading.now frame.now) ∷ past)) }
+            (arrival_at n (listed_frame heading.now frame.now) ∷ past)) }
     {
         self.tell_departures(heading.time, output)?;
         let arrived = Checked {

@@ -27,7 +27,7 @@ use Rattle.afdx_send.specs.Regulator.{IsQueue, HasQueue, Pushes, submission_of, 
 use Rattle.afdx_send.specs.Regulator.{next_time_of, sub_count, first_time}
 use Rattle.afdx_send.specs.Releases.{Submission, Release, has_release, IsUnreleased, AreReleases}
 use Rattle.afdx_send.specs.Releases.{count_without, earliest_after}
-use Rattle.afdx_send.specs.Sender.{History, with_submission, submission, nexts_of, HoldsMore}
+use Rattle.afdx_send.specs.Sender.{SenderHistory, with_submission, submission, nexts_of, HoldsMore}
 use Rattle.afdx_send.specs.Sender.{HoldsSame, IsIdle, IsPlaceOf, IsRefused, IsTaken, StandsFor}
 use Rattle.afdx_send.specs.Sender.{AreUnreleased}
 use Rattle.afdx_send.proofs.LineLemmas.{Takes, line_takes}
@@ -111,7 +111,7 @@ pub record Adds (w : Working) (place index : ℕ) (line line' : Line) (m : Queue
   pub agenda : nexts ag ≡ slice_set (nexts w.agenda) place (next_time_of line'.regulator)
   pub agenda_count : ag.count ≡ w.agenda.count
 
-pub submission_stands : (w : Working) (h : History) (place index : ℕ) (line line' : Line)
+pub submission_stands : (w : Working) (h : SenderHistory) (place index : ℕ) (line line' : Line)
     (m : Queued) (ag : Agenda) → StandsFor w h → Adds w place index line line' m ag →
     StandsFor (record w { lines = with_item w.lines place line'; agenda = ag })
     (with_submission h place (submission_of (index + 1) m))
@@ -256,7 +256,7 @@ nexts_same w place line line' read k =
     map-set_same (λ l. next_time_of l.regulator) w.lines.items place line' line
     (next_same line line' k ∙ ap (λ z. next_time_of z.regulator) read)
 
-pub same_stands : (w : Working) (h : History) (place : ℕ) (line line' : Line) → StandsFor w h
+pub same_stands : (w : Working) (h : SenderHistory) (place : ℕ) (line line' : Line) → StandsFor w h
     → slice_get w.lines.items place ≡ Some line → line ≡ slice_index_or w.lines.items place line
     → IsSame line line' →
     StandsFor (record w { lines = with_item w.lines place line' }) h
@@ -392,7 +392,7 @@ count_is ss rs c from (s ∷ rest) ms g h =
             let at : h.0 ≡ from = omega arith in
             let k = rec ms (subst (λ (z : ℕ). IsQueue ss rs c (z + 1) ms) at h.2) in omega arith
 
-pub unreleased : (w : Working) (h : History) (st : StandsFor w h) (place index : ℕ) (line : Line)
+pub unreleased : (w : Working) (h : SenderHistory) (st : StandsFor w h) (place index : ℕ) (line : Line)
     (l : LinkRow) (ms : List Queued) → IsIdle w
     → LineStands line l (own_submissions h.taken place) (own place st.released) →
     HasQueue (waiting_of line.regulator) index ms → AreUnreleased h w.clock place (index + 1) (length ms)
@@ -427,7 +427,7 @@ queue_at line index lt = (
 )
 
 -- why a line refuses a message is why its sender does
-pub refuses : (w : Working) (h : History) (st : StandsFor w h) (place vl sub n : ℕ) (line : Line)
+pub refuses : (w : Working) (h : SenderHistory) (st : StandsFor w h) (place vl sub n : ℕ) (line : Line)
     (fault : SendFault) → IsIdle w → IsPlaceOf h.links vl (Some place)
     → slice_get w.lines.items place ≡ Some line →
     LineRefuses line sub n fault → IsRefused h w.clock vl sub n fault
@@ -466,7 +466,7 @@ refuses w h st place vl (suc index) n line QueueFull idle p has r =
 refuses w h st place vl sub n line Memory idle p has r = absurd r
 
 -- what a line admits is taken
-pub taken : (w : Working) (h : History) (st : StandsFor w h) (place vl sub : ℕ) (m : Submission)
+pub taken : (w : Working) (h : SenderHistory) (st : StandsFor w h) (place vl sub : ℕ) (m : Submission)
     (line : Line) → IsIdle w → IsPlaceOf h.links vl (Some place) → slice_get w.lines.items place
     ≡ Some line →
     m.time ≡ w.clock → m.sub ≡ sub → LineAdmits line sub (length m.message.payload) → IsTaken h place vl m
@@ -490,7 +490,7 @@ taken w h st place vl (suc index) m line idle p has time is a =
       room = a.room index q.0 (omega arith) q.1;
     }
 
-pub place_below : (w : Working) (h : History) (vl place : ℕ) → StandsFor w h
+pub place_below : (w : Working) (h : SenderHistory) (vl place : ℕ) → StandsFor w h
     → IsPlaceOf h.links vl (Some place) → place < length w.lines.items
 place_below w h vl place st p = let a = slice_get_within h.links place p.0 p.1 in let c = st.count in omega arith
 

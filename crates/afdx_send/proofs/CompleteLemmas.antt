@@ -17,7 +17,7 @@ use Rattle.afdx_send.specs.Emissions.{LinkRelease, own, own_submissions, AreAllR
 use Rattle.afdx_send.specs.Emissions.{entries_of, AreSendings}
 use Rattle.afdx_send.specs.Frames.{Frame}
 use Rattle.afdx_send.specs.Releases.{Submission}
-use Rattle.afdx_send.specs.Sender.{History, AreSent, flows_of}
+use Rattle.afdx_send.specs.Sender.{SenderHistory, AreSent, flows_of}
 use Rattle.afdx_send.proofs.EmitLemmas.{are_ours}
 use Rattle.afdx_send.proofs.FullLemmas.{vl_of, charge_of, AllFit, charged_all, released_all}
 use Rattle.afdx_send.proofs.KeptLemmas.{order_push}
@@ -74,7 +74,7 @@ pairs-of links taken b all turns h schedule =
     → has_turn turns q ≡ true) p.is schedule.all_have_turns) (pairs_length turns p.first p.pairs) in
     subst (λ (z : List LinkRelease). Pairs turns z) (sym (p.is ∙ whole)) p.pairs
 
-of-taken : (h : History) (turns : List (Turn Frame)) (xs : List LinkRelease)
+of-taken : (h : SenderHistory) (turns : List (Turn Frame)) (xs : List LinkRelease)
     → AreAllReleases h.links h.taken xs → Pairs turns xs → AllByRecursion (IsOfTaken h) turns
 unfolding Pairs
 of-taken h [] [] are p = tt
@@ -96,7 +96,7 @@ of-taken h (s ∷ ss) (x ∷ xs) are p = (
 
 -- ---- a sender of admitted tables
 
-module _ (t : Rows) (system : ℕ) (h : History) (s : HasSentAll t system h) where
+module _ (t : Rows) (system : ℕ) (h : SenderHistory) (s : HasSentAll t system h) where
   sent : EachSystemIsSender → AreSent h.system h.links
   sent law = subst (λ (z : List LinkRow). AreSent h.system z) (sym s.links)
       (are_sent t system h.system law s.lawful s.admitted s.row)

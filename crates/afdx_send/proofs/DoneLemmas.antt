@@ -16,12 +16,12 @@ use Rattle.afdx_send.specs.Emissions.{own, own_submissions, entries_of}
 use Rattle.afdx_send.specs.Frames.{Frame}
 use Rattle.afdx_send.specs.Regulator.{HasQueue, waiting_of, next_time_of}
 use Rattle.afdx_send.specs.Releases.{Submission, has_release}
-use Rattle.afdx_send.specs.Sender.{History, at, HasGiven, AreAllEmitted, StandsFor, nexts_of}
+use Rattle.afdx_send.specs.Sender.{SenderHistory, at, HasGiven, AreAllEmitted, StandsFor, nexts_of}
 use Rattle.afdx_send.proofs.RegulatorLemmas.{not_none}
 use Rattle.afdx_send.proofs.ReleaseLemmas.{waits}
 use Rattle.afdx_send.proofs.StandLemmas.{in_limits}
 
-all_released : (w : Working) (h : History) (st : StandsFor w h) (t : ℕ) → NoneBefore (nexts_of w) t
+all_released : (w : Working) (h : SenderHistory) (st : StandsFor w h) (t : ℕ) → NoneBefore (nexts_of w) t
     → 1000032768000000 < t → (i place : ℕ) (l : LinkRow) → slice_get h.links i ≡ Some l
     → place < length (own_submissions h.taken i) → has_release (own i st.released) place ≡ true
 all_released w h st t none late i place l row lt =
@@ -56,7 +56,7 @@ none_is : {Y : Type 0} (o : Option Y) (P : Type 0) → o ≡ None → IfNone o P
 none_is None P e h = h
 none_is (Some y) P e h = absurd (cc e)
 
-pub all_emitted : (w : Working) (h : History) (st : StandsFor w h) (t : ℕ)
+pub all_emitted : (w : Working) (h : SenderHistory) (st : StandsFor w h) (t : ℕ)
     (left : Option (Left Frame)) → w.ready ≡ None → NoneBefore (nexts_of w) t → 1200000000000000 ≤ t
     → left ≡ None →
     IfNone left (IsSchedule (byte_ns h.system) (entries_of st.released) st.given) → AreAllEmitted h
@@ -72,7 +72,7 @@ all_emitted w h st t left idle none late gone done =
     }
 
 -- the last time used doesn't matter
-pub emitted_at : (h : History) (t : ℕ) → AreAllEmitted (at h t) → AreAllEmitted h
+pub emitted_at : (h : SenderHistory) (t : ℕ) → AreAllEmitted (at h t) → AreAllEmitted h
 emitted_at h t k = record {
   released = k.released;
   are_releases = k.are_releases;

@@ -25,7 +25,7 @@ use Rattle.afdx_send.specs.declared.working.Working.{Working}
 use Rattle.afdx_send.specs.Emissions.{LinkRelease, own, AreAllReleases, IsNextOf, entry_for, entries_of, IsSending}
 use Rattle.afdx_send.specs.Frames.{Frame, facts, address_with}
 use Rattle.afdx_send.specs.Releases.{Submission, Release}
-use Rattle.afdx_send.specs.Sender.{History, at, HasGiven, IsIdle, IsNextIn, StandsFor, Emits, port_history, sending_of}
+use Rattle.afdx_send.specs.Sender.{SenderHistory, at, HasGiven, IsIdle, IsNextIn, StandsFor, Emits, port_history, sending_of}
 use Rattle.afdx_send.proofs.LineLemmas.{mul_most}
 use Rattle.afdx_send.proofs.NextLemmas.{AllSubs, comparable, append_none, append_append}
 use Rattle.afdx_send.proofs.OwnLemmas.{next_later}
@@ -173,10 +173,10 @@ is_slot b es earlier s ours n =
 
 -- the law of ports: no further turn is given by t exactly where the next one is over after it
 abbrev pub QuietIsNext : Type 0
-QuietIsNext = (p : Pending Frame) (h : port.History Frame) (t : ℕ) → port.StandsFor facts p h →
+QuietIsNext = (p : Pending Frame) (h : port.PortHistory Frame) (t : ℕ) → port.StandsFor facts p h →
     (held.IsQuiet facts p t ↔ ((s : Turn Frame) → IsNext h.byte_ns h.entries h.taken s → IsAfter t (due_at s)))
 
-pub all_subs : (w : Working) (h : History) → StandsFor w h → AllSubs h.links h.taken
+pub all_subs : (w : Working) (h : SenderHistory) → StandsFor w h → AllSubs h.links h.taken
 all_subs w h st i l g j s k = by_line (slice_get w.lines.items i) refl
   where
     none : (xs : List Line) (m : ℕ) → m < length xs → slice_get xs m ≡ None → ⊥
@@ -198,7 +198,7 @@ after_is t b s slot h = by s.too_old slot.kept h
     by false e k = omega arith
 
 -- an idle sender has no further emission by the last time used
-pub no_more : (w : Working) (h : History) → QuietIsNext → StandsFor w h → IsIdle w
+pub no_more : (w : Working) (h : SenderHistory) → QuietIsNext → StandsFor w h → IsIdle w
     → (s : Turn Frame) → IsNextIn h s → w.clock < s.end
 no_more w h law st idle s n =
     let b = byte_ns h.system in
@@ -239,9 +239,9 @@ no_more w h law st idle s n =
     ]
 
 -- what is ready is the next emission
-pub emits : (w : Working) (h : History) (until : ℕ) (left : Left Frame) (e : Emission)
+pub emits : (w : Working) (h : SenderHistory) (until : ℕ) (left : Left Frame) (e : Emission)
     → StandsFor w (at h until) → w.ready ≡ Some left →
-    ((p : Pending Frame) (hp : port.History Frame) → port.StandsFor facts p hp
+    ((p : Pending Frame) (hp : port.PortHistory Frame) → port.StandsFor facts p hp
     → AreTurns hp.byte_ns hp.entries hp.taken) →
     e.time ≡ left.end → e.vl.0 ≡ left.item.vl
     → e.a.items ≡ built_frame (address_with w.system_id w.partition left.item) left.item.number

@@ -23,12 +23,12 @@ use Rattle.afdx_port.specs.Schedule.{Entry, Turn, IsNext, AreTurns, has_turn}
 use Rattle.afdx_port.specs.declared.left.Left.{Left}
 use Rattle.afdx_port.specs.declared.pending.Pending.{Pending}
 use Rattle.afdx_send.specs.declared.working.Working.{Working}
-use Rattle.afdx_send.specs.Emissions.{LinkRelease, own, AreAllReleases, frame_of, entry_for}
+use Rattle.afdx_send.specs.Emissions.{LinkRelease, own, AreAllReleases, released_frame, entry_for}
 use Rattle.afdx_send.specs.Emissions.{entries_of, IsSending, AreSendings, with_sending, sent_list}
 use Rattle.afdx_send.specs.Frames.{Frame, facts}
 use Rattle.afdx_send.specs.Laws.{EmissionsAreInTime, EmissionsAreLawful}
 use Rattle.afdx_send.specs.Releases.{Submission, Release, earliest_after}
-use Rattle.afdx_send.specs.Sender.{History, HasGiven, AreSent, flows_of, StandsFor, port_history}
+use Rattle.afdx_send.specs.Sender.{SenderHistory, HasGiven, AreSent, flows_of, StandsFor, port_history}
 use Rattle.afdx_send.proofs.EmitLemmas.{AreOurs, are_ours, is_slot, more_of, get_more}
 use Rattle.afdx_send.proofs.FullLemmas.{vl_of, charge_of, AllFit, charged_all, released_all}
 use Rattle.afdx_send.proofs.KeptLemmas.{all_fit}
@@ -38,11 +38,11 @@ use Rattle.afdx_send.proofs.ReleaseLemmas.{get_either, get_last}
 
 -- the law of ports: what a port took are the turns of its entries
 abbrev pub TakenAreTurns : Type 0
-TakenAreTurns = (p : Pending Frame) (h : port.History Frame) → port.StandsFor facts p h
+TakenAreTurns = (p : Pending Frame) (h : port.PortHistory Frame) → port.StandsFor facts p h
     → AreTurns h.byte_ns h.entries h.taken
 
 -- the emissions are turns
-pub emitted_are : (w : Working) (h : History) → TakenAreTurns → (st : StandsFor w h)
+pub emitted_are : (w : Working) (h : SenderHistory) → TakenAreTurns → (st : StandsFor w h)
     → AreTurns (byte_ns h.system) (entries_of st.released) h.emitted
 emitted_are w h law st =
     by w.ready st.given st.has_given
@@ -57,7 +57,7 @@ emitted_are w h law st =
         (subst (λ (z : List (Turn Frame)). AreTurns (byte_ns h.system) (entries_of st.released) z)
         g.1 are).1
 
-pub emitted_in_time : (w : Working) (h : History) → TakenAreTurns → SenderIsInTime Frame
+pub emitted_in_time : (w : Working) (h : SenderHistory) → TakenAreTurns → SenderIsInTime Frame
     → StandsFor w h → All (λ s. s.end
     ≤ s.entry.time + one_of_each (byte_ns h.system) (flows_of h.system h.links)) h.emitted
 emitted_in_time w h law in_time st =
@@ -315,8 +315,8 @@ is_sent : (s : SystemRow) (l : LinkRow) (n : ℕ) (x : LinkRelease) (k end : ℕ
     IsSent s l (record { message = x.release.submission.message; number = after_steps k 0 }) y
 is_sent s l n x k end y row lawful fits is =
     let m = x.release.submission.message in
-    let P : LinkRow → Type 0 = λ z. IsSending s.id s.partition end (frame_of z k x.release) y in
-    let own : IsSending s.id s.partition end (frame_of l k x.release) y = subst P row is in
+    let P : LinkRow → Type 0 = λ z. IsSending s.id s.partition end (released_frame z k x.release) y in
+    let own : IsSending s.id s.partition end (released_frame l k x.release) y = subst P row is in
     let a = own.a_long in
     let b = own.b_long in
     let low = lawful.lmin.0 in

@@ -9,7 +9,7 @@ use Rattle.afdx_send.specs.Emissions.{LinkRelease, own_submissions, AreAllReleas
 use Rattle.afdx_send.specs.Emissions.{AreReleasedBefore, entries_of, IsNextEmission}
 use Rattle.afdx_send.specs.Frames.{Frame}
 use Rattle.afdx_send.specs.Releases.{Submission}
-use Rattle.afdx_send.specs.Sender.{History, IsNextIn, AreAllEmitted}
+use Rattle.afdx_send.specs.Sender.{SenderHistory, IsNextIn, AreAllEmitted}
 use Rattle.afdx_send.proofs.EmitLemmas.{are_ours, get_more, more_of}
 use Rattle.afdx_send.proofs.LawLemmas.{GoInOrder, next_place, order_after}
 use Rattle.afdx_send.proofs.NextLemmas.{AllSubs, comparable, append_append, split_last, all_first}
@@ -123,7 +123,7 @@ released-once links taken t these those subs a b =
 
 -- ---- where all is emitted there is no next emission
 
-none-after : (h : History) (done : AreAllEmitted h) (xs later : List LinkRelease)
+none-after : (h : SenderHistory) (done : AreAllEmitted h) (xs later : List LinkRelease)
     → xs ≡ later ++ done.released → AreAllReleases h.links h.taken xs → xs ≡ done.released
 none-after h done xs later is are = elim (split_last later) [
   | inl none ↦ is ∙ ap (λ z. z ++ done.released) none
@@ -139,14 +139,14 @@ none-after h done xs later is are = elim (split_last later) [
       absurd (let e : true ≡ false = sym gone ∙ free in cc e))
 ]
 
-has-gone : (h : History) (done : AreAllEmitted h) (s : Turn Frame)
+has-gone : (h : SenderHistory) (done : AreAllEmitted h) (s : Turn Frame)
     → slice_get (entries_of done.released) s.place ≡ Some s.entry → has_turn h.emitted s.place ≡ false → ⊥
 has-gone h done s stands free =
     let gone = done.schedule.all_have_turns s.place
     (slice_get_within (entries_of done.released) s.place s.entry stands) in
     let e : true ≡ false = sym gone ∙ free in cc e
 
-pub none-is-next : (h : History) (s : Turn Frame) → AllSubs h.links h.taken → AreAllEmitted h → IsNextIn h s → ⊥
+pub none-is-next : (h : SenderHistory) (s : Turn Frame) → AllSubs h.links h.taken → AreAllEmitted h → IsNextIn h s → ⊥
 none-is-next h s subs done n =
     elim (comparable h.links h.taken n.released done.released subs n.are_releases done.are_releases) [
       | inl r ↦ (let m = begins h.links h.taken n.released done.released r.0 r.1 done.are_releases in

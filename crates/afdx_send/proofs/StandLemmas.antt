@@ -27,12 +27,12 @@ use Rattle.afdx_send.specs.declared.line.Line.{Line}
 use Rattle.afdx_send.specs.declared.working.Working.{Working}
 use Rattle.afdx_send.specs.Agenda.{NoneBefore, IsPlayed, IsSoonest, nexts}
 use Rattle.afdx_send.specs.Emissions.{LinkRelease, own, own_submissions, IsNextOf, IsNextOfAll}
-use Rattle.afdx_send.specs.Emissions.{frame_of, entry_for, entries_of}
-use Rattle.afdx_send.specs.Frames.{Frame, frame_with, facts}
+use Rattle.afdx_send.specs.Emissions.{released_frame, entry_for, entries_of}
+use Rattle.afdx_send.specs.Frames.{Frame, numbered_frame, facts}
 use Rattle.afdx_send.specs.Lines.{LineStands, LineReleases, held_by}
 use Rattle.afdx_send.specs.Regulator.{next_time_of, sub_count}
 use Rattle.afdx_send.specs.Releases.{Submission, Release, IsNext}
-use Rattle.afdx_send.specs.Sender.{History, at, HasGiven, messages_held, nexts_of, port_history, StandsFor}
+use Rattle.afdx_send.specs.Sender.{SenderHistory, at, HasGiven, messages_held, nexts_of, port_history, StandsFor}
 use Rattle.afdx_send.proofs.LineLemmas.{limited, time_limit, mul_most}
 use Rattle.afdx_send.proofs.OwnLemmas.{own_mine, own_other, before_longer}
 use Rattle.afdx_send.proofs.ReleaseLemmas.{get_set_same, get_set_other, length_set, next_time_is}
@@ -48,7 +48,7 @@ next_of_line : Line → Option ℕ
 next_of_line l = next_time_of l.regulator
 
 -- the last time used moves on
-pub later : (w : Working) (h : History) (t : ℕ) → h.time ≤ t → StandsFor w h
+pub later : (w : Working) (h : SenderHistory) (t : ℕ) → h.time ≤ t → StandsFor w h
     → StandsFor (record w { clock = t }) (at h t)
 later w h t le st = record {
   system_id = st.system_id;
@@ -82,11 +82,11 @@ by_end false e u h = omega arith
 -- the port gives its next frame, or none
 pub take_stands : (w : Working) (r : Option (Left Frame)) (out : Pending Frame) (until : ℕ)
     → w.ready ≡ None → out.clock ≡ until → until ≤ w.clock → NoneBefore (nexts_of w) until →
-    ((hp : port.History Frame) → port.StandsFor facts w.output hp
+    ((hp : port.PortHistory Frame) → port.StandsFor facts w.output hp
     → IfSome r (λ left. port.Gives facts hp until left out)) →
-    ((hp : port.History Frame) → port.StandsFor facts w.output hp
+    ((hp : port.PortHistory Frame) → port.StandsFor facts w.output hp
     → IfNone r (port.StandsFor facts out (port.at hp until))) →
-    (h : History) → StandsFor w h → StandsFor (record w { output = out; ready = r }) h
+    (h : SenderHistory) → StandsFor w h → StandsFor (record w { output = out; ready = r }) h
 take_stands w None out until idle clock early timely given none h st = record {
   system_id = st.system_id;
   partition = st.partition;
@@ -145,14 +145,14 @@ take_stands w (Some left) out until idle clock early timely given none h st =
     }
 
 -- the line and the row of one place
-pub record IsAt (w : Working) (h : History) (st : StandsFor w h) (place : ℕ) (line : Line) : Type 0 where
+pub record IsAt (w : Working) (h : SenderHistory) (st : StandsFor w h) (place : ℕ) (line : Line) : Type 0 where
   pub row : LinkRow
   pub link : slice_get h.links place ≡ Some row
   pub stands : LineStands line row (own_submissions h.taken place) (own place st.released)
   pub systems : ℕ
   pub lawful : IsLink systems row
 
-pub line_at : (w : Working) (h : History) (st : StandsFor w h) (place : ℕ) (line : Line)
+pub line_at : (w : Working) (h : SenderHistory) (st : StandsFor w h) (place : ℕ) (line : Line)
     → slice_get w.lines.items place ≡ Some line → IsAt w h st place line
 line_at w h st place line has =
     let below : place < length h.links =
@@ -170,7 +170,7 @@ line_at w h st place line has =
         record { row = l; link = e; stands = st.lines place line l has e; systems = k.0; lawful = k.1 }
 
 -- its next release is the link's next
-pub next_at : (w : Working) (h : History) (st : StandsFor w h) (i : ℕ) (l : LinkRow) (r : Release)
+pub next_at : (w : Working) (h : SenderHistory) (st : StandsFor w h) (i : ℕ) (l : LinkRow) (r : Release)
     → slice_get h.links i ≡ Some l → IsNextOf h.taken st.released i l r → slice_get (nexts_of w) i
     ≡ Some (Some r.time)
 next_at w h st i l r g n = by_line (slice_get w.lines.items i) refl
@@ -197,7 +197,7 @@ next_at w h st i l r g n = by_line (slice_get w.lines.items i) refl
         (own i st.released) r ls.regulates n')
 
 -- the next release of all
-pub next_of_all : (w : Working) (h : History) (st : StandsFor w h) (t place : ℕ) (line : Line)
+pub next_of_all : (w : Working) (h : SenderHistory) (st : StandsFor w h) (t place : ℕ) (line : Line)
     (l : LinkRow) (f : Frame) (new : Line) → IsSoonest (nexts_of w) t place →
     slice_get h.links place ≡ Some l
     → (k : LineReleases line l (own_submissions h.taken place) (own place st.released) t f new) →
@@ -211,13 +211,13 @@ next_of_all w h st t place line l f new s row k = record {
 }
 
 -- no link releases before the last time used: so none releases before it that isn't released yet
-pub none_before : (w : Working) (h : History) (st : StandsFor w h) (t : ℕ)
+pub none_before : (w : Working) (h : SenderHistory) (st : StandsFor w h) (t : ℕ)
     → NoneBefore (nexts_of w) t → (i : ℕ) (l : LinkRow) (r : Release) → slice_get h.links i ≡ Some l
     → IsNextOf h.taken st.released i l r → t ≤ r.time
 none_before w h st t none i l r g n = none i r.time (next_at w h st i l r g n)
 
 -- each link stands as before, but for the one that released
-line_after : (w : Working) (h : History) (st : StandsFor w h) (place : ℕ) (line' : Line)
+line_after : (w : Working) (h : SenderHistory) (st : StandsFor w h) (place : ℕ) (line' : Line)
     (l : LinkRow) (r : Release) → slice_get h.links place ≡ Some l →
     LineStands line' l (own_submissions h.taken place) (r ∷ own place st.released) →
     (i : ℕ) (line1 : Line) (l1 : LinkRow) → slice_get (slice_set w.lines.items place line') i
@@ -297,7 +297,7 @@ pub record IsInLimits (line : Line) (time : ℕ) : Type 0 where
   pub gap : line.regulator.bag ≤ 128000000
   pub limit : time ≤ 1000032768000000
 
-pub in_limits : (w : Working) (h : History) (time place : ℕ) (line : Line) → StandsFor w h
+pub in_limits : (w : Working) (h : SenderHistory) (time place : ℕ) (line : Line) → StandsFor w h
     → IsDueLine w time place line → IsInLimits line time
 in_limits w h time place line st d =
     let k = line_at w h st place line d.has in
@@ -315,7 +315,7 @@ in_limits w h time place line st d =
     }
 
 frame_is : (f : Frame) (vl least number : ℕ) (m : Message) → f.vl ≡ vl → f.least ≡ least
-    → f.number ≡ number → f.message ≡ m → f ≡ frame_with vl least number m.udp m.payload
+    → f.number ≡ number → f.message ≡ m → f ≡ numbered_frame vl least number m.udp m.payload
 frame_is f vl least number m a b c d =
     ap (λ z. record f { vl = z }) a ∙ ap (λ z. record f { vl = vl; least = z }) b
     ∙ ap (λ z. record f { vl = vl; least = least; number = z }) c
@@ -330,11 +330,11 @@ pub entry_is : (line : Line) (l : LinkRow) (ss : List Submission) (rs : List Rel
     ≡ entry_for (record { place = place; row = l; release = k.r }) (length rs)
 entry_is line l ss rs place time f new st k vl least number =
     let is = st.is_line in
-    let e : f ≡ frame_of l (length rs) k.r =
+    let e : f ≡ released_frame l (length rs) k.r =
     frame_is f l.vl l.lmin (after_steps (length rs) 0) k.r.submission.message (vl ∙ is.vl)
     (least ∙ is.least) (number ∙ st.number) k.message in
     ap (λ z. port.entry_of facts time Low z) e
-    ∙ ap (λ z. port.entry_of facts z Low (frame_of l (length rs) k.r)) (sym k.at)
+    ∙ ap (λ z. port.entry_of facts z Low (released_frame l (length rs) k.r)) (sym k.at)
 
 -- the next release of all enters the port
 pub record Releases (w : Working) (time place : ℕ) (line line' : Line) (f : Frame) (ag : Agenda)
@@ -353,10 +353,10 @@ pub record Releases (w : Working) (time place : ℕ) (line line' : Line) (f : Fr
   pub agenda : nexts ag ≡ slice_set (nexts w.agenda) place (next_time_of line'.regulator)
   pub agenda_count : ag.count ≡ w.agenda.count
   pub clock : out.clock ≡ time
-  pub put : (hp : port.History Frame) → port.StandsFor facts w.output hp
+  pub put : (hp : port.PortHistory Frame) → port.StandsFor facts w.output hp
       → port.StandsFor facts out (port.with_put hp (port.entry_of facts time Low f))
 
-pub release_stands : (w : Working) (h : History) (time place : ℕ) (line line' : Line) (f : Frame)
+pub release_stands : (w : Working) (h : SenderHistory) (time place : ℕ) (line line' : Line) (f : Frame)
     (ag : Agenda) (out : Pending Frame) → StandsFor w h → Releases w time place line line' f ag out →
     StandsFor (record w { lines = with_item w.lines place line'; agenda = ag; output = out }) h
 release_stands w h time place line line' f ag out st q =

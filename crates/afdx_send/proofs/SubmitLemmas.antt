@@ -13,13 +13,13 @@ use Rattle.afdx_send.specs.declared.working.Working.{Working}
 use Rattle.afdx_send.specs.Emissions.{entries_of}
 use Rattle.afdx_send.specs.Frames.{Frame, facts}
 use Rattle.afdx_send.specs.Releases.{Submission}
-use Rattle.afdx_send.specs.Sender.{History, at, with_submission, HasGiven, IsNextIn, IsQuiet}
-use Rattle.afdx_send.specs.Sender.{IsIdle, IsSound, IsTaken, IsRefused, StandsFor, port_history}
+use Rattle.afdx_send.specs.Sender.{SenderHistory, at, with_submission, HasGiven, IsNextIn, IsQuiet}
+use Rattle.afdx_send.specs.Sender.{IsIdle, IsSenderSound, IsTaken, IsRefused, StandsFor, port_history}
 use Rattle.afdx_send.proofs.EmitLemmas.{QuietIsNext, no_more}
 
 -- where no emission is left, none is ready
-pub none_ready : (w : Working) (h : History) (until : ℕ) → StandsFor w (at h until)
-    → ((p : Pending Frame) (hp : port.History Frame) → port.StandsFor facts p hp
+pub none_ready : (w : Working) (h : SenderHistory) (until : ℕ) → StandsFor w (at h until)
+    → ((p : Pending Frame) (hp : port.PortHistory Frame) → port.StandsFor facts p hp
     → AreTurns hp.byte_ns hp.entries hp.taken) →
     ((s : Turn Frame) → IsNextIn h s → until < s.end) → w.ready ≡ None
 none_ready w h until st law none = by_ready w.ready refl
@@ -38,14 +38,14 @@ none_ready w h until st law none = by_ready w.ready refl
         let le = st.in_time left e in
         let p = st.port_clock in omega arith)
 
-pub sound_by : {A : Type 0} (r : Result A SendFault) (new : Working) (h : History) (P : ℕ → Type 0)
+pub sound_by : {A : Type 0} (r : Result A SendFault) (new : Working) (h : SenderHistory) (P : ℕ → Type 0)
     (s : Submission) → OnOk r ((place : ℕ) × P place × StandsFor new (with_submission h place s))
-    → OnErr r (StandsFor new h) → IsSound new
+    → OnErr r (StandsFor new h) → IsSenderSound new
 sound_by (Ok x) new h P s ok err = (with_submission h ok.0 s, ok.2)
 sound_by (Err e) new h P s ok err = (h, err)
 
 -- time doesn't matter for what is taken and refused
-pub taken_at : (h : History) (t place vl : ℕ) (m : Submission) → IsTaken (at h t) place vl m → IsTaken h place vl m
+pub taken_at : (h : SenderHistory) (t place vl : ℕ) (m : Submission) → IsTaken (at h t) place vl m → IsTaken h place vl m
 taken_at h t place vl m k =
     record {
       row = k.row;
@@ -58,7 +58,7 @@ taken_at h t place vl m k =
       room = k.room;
     }
 
-pub refused_at : (h : History) (t u vl sub n : ℕ) (fault : SendFault)
+pub refused_at : (h : SenderHistory) (t u vl sub n : ℕ) (fault : SendFault)
     → IsRefused (at h t) u vl sub n fault → IsRefused h u vl sub n fault
 refused_at h t u vl sub n NotMyLink k = k
 refused_at h t u vl sub n NoSuchSub k = k
@@ -75,7 +75,7 @@ pub map_ok : {A E : Type 0} (r : Result A E) (P Q : Type 0) → (P → Q) → On
 map_ok (Ok x) P Q f h = f h
 map_ok (Err e) P Q f h = search
 
-pub still_quiet : (w : Working) (t : ℕ) → QuietIsNext → IsSound w → IsIdle w → w.clock ≡ t → IsQuiet w t
+pub still_quiet : (w : Working) (t : ℕ) → QuietIsNext → IsSenderSound w → IsIdle w → w.clock ≡ t → IsQuiet w t
 still_quiet w t law sound idle clock =
     (sound.0, sound.1, λ s n. (let lt = no_more w sound.0 law sound.1 idle s n in omega arith))
 

@@ -13,10 +13,10 @@ use Rattle.afdx_config.specs.Numbers.{after_steps}
 use Rattle.afdx_config.specs.Rows.{LinkRow, Rows}
 use Rattle.afdx_port.specs.Schedule.{Turn}
 use Rattle.afdx_send.specs.Emissions.{own, own_submissions, AreSendings}
-use Rattle.afdx_send.specs.Frames.{Frame, frame_with}
+use Rattle.afdx_send.specs.Frames.{Frame, numbered_frame}
 use Rattle.afdx_send.specs.Laws.{EmitsLawfully}
 use Rattle.afdx_send.specs.Releases.{Submission, Release, AreReleases}
-use Rattle.afdx_send.specs.Sender.{History, AreAllEmitted, IsSub}
+use Rattle.afdx_send.specs.Sender.{SenderHistory, AreAllEmitted, IsSub}
 
 -- a message that a link can take
 pub record IsFor (l : LinkRow) (m : Submission) : Type 0 where
@@ -25,7 +25,7 @@ pub record IsFor (l : LinkRow) (m : Submission) : Type 0 where
   pub fits : length m.message.payload + frame_overhead ≤ l.lmax
 
 -- the system at this place of admitted tables took such messages, and has emitted them all
-pub record HasSentAll (t : Rows) (system : ℕ) (h : History) : Type 0 where
+pub record HasSentAll (t : Rows) (system : ℕ) (h : SenderHistory) : Type 0 where
   pub lawful : IsLawful t
   pub admitted : IsAdmitted t
   pub row : slice_get t.systems system ≡ Some h.system
@@ -54,12 +54,13 @@ pub record AreReleasesOfAll (l : LinkRow) (taken : List Submission) (releases : 
 
 -- what the link at this place has emitted is a lawful stream of its sent list, which is that of
 -- all that it took
-pub record EmitsAll (h : History) (place : ℕ) (l : LinkRow) (stream : List Sending) : Type 0 where
-  pub emits : EmitsLawfully h place l stream
-  pub all : AreReleasesOfAll l (own_submissions h.taken place) (own place emits.released)
+pub record EmitsAll (h : SenderHistory) (place : ℕ) (l : LinkRow) (stream : List Sending) : Type 0
+  where
+    pub emits : EmitsLawfully h place l stream
+    pub all : AreReleasesOfAll l (own_submissions h.taken place) (own place emits.released)
 
 -- an emission is the frame of a link of the system, of one of the messages that the link took
-pub record IsOfTaken (h : History) (turn : Turn Frame) : Type 0 where
+pub record IsOfTaken (h : SenderHistory) (turn : Turn Frame) : Type 0 where
   pub link : ℕ
   pub row : LinkRow
   pub stands : slice_get h.links link ≡ Some row
@@ -67,15 +68,15 @@ pub record IsOfTaken (h : History) (turn : Turn Frame) : Type 0 where
   pub submission : Submission
   pub taken : slice_get (own_submissions h.taken link) place ≡ Some submission
   pub steps : ℕ
-  pub frame : turn.entry.item ≡ frame_with row.vl row.lmin (after_steps steps 0)
+  pub frame : turn.entry.item ≡ numbered_frame row.vl row.lmin (after_steps steps 0)
       submission.message.udp submission.message.payload
 
 abbrev pub AllIsSent : Type 0
-AllIsSent = (t : Rows) (system : ℕ) (h : History) (place : ℕ) (l : LinkRow)
+AllIsSent = (t : Rows) (system : ℕ) (h : SenderHistory) (place : ℕ) (l : LinkRow)
     (stream : List Sending) → HasSentAll t system h →
     slice_get h.links place ≡ Some l → AreSendings h.system l.vl h.emitted stream →
     EmitsAll h place l stream
 
 abbrev pub EmissionsAreOfTaken : Type 0
-EmissionsAreOfTaken = (t : Rows) (system : ℕ) (h : History) → HasSentAll t system h →
+EmissionsAreOfTaken = (t : Rows) (system : ℕ) (h : SenderHistory) → HasSentAll t system h →
     AllByRecursion (IsOfTaken h) h.emitted

@@ -13,7 +13,7 @@ use Rattle.afdx_config.specs.Rows.{SystemRow, LinkRow}
 use Rattle.afdx_config.specs.SentList.{Message}
 use Rattle.afdx_port.specs.History.{entry_of}
 use Rattle.afdx_port.specs.Schedule as port
-use Rattle.afdx_send.specs.Frames.{Frame, frame_with, address_with, facts}
+use Rattle.afdx_send.specs.Frames.{Frame, numbered_frame, address_with, facts}
 use Rattle.afdx_send.specs.Releases.{Submission, Release, IsNext}
 
 -- a release of the link at this place, with its row of the tables
@@ -65,13 +65,14 @@ pub record AreReleasedBefore (links : List LinkRow) (taken : List (List Submissi
 
 -- the k-th release of a link, counted from 0, as a frame: it has the number to which k steps lead
 -- from 0
-abbrev pub frame_of : LinkRow → ℕ → Release → Frame
-frame_of l k r =
-    frame_with l.vl l.lmin (after_steps k 0) r.submission.message.udp r.submission.message.payload
+abbrev pub released_frame : LinkRow → ℕ → Release → Frame
+released_frame l k r =
+    numbered_frame l.vl l.lmin (after_steps k 0) r.submission.message.udp
+    r.submission.message.payload
 
 -- the frame enters the port at its release
 abbrev pub entry_for : LinkRelease → ℕ → port.Entry Frame
-entry_for x k = entry_of facts x.release.time Low (frame_of x.row k x.release)
+entry_for x k = entry_of facts x.release.time Low (released_frame x.row k x.release)
 
 -- the port's entries, the first one first
 abbrev pub entries_of : List LinkRelease → List (port.Entry Frame)

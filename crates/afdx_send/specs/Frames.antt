@@ -14,8 +14,8 @@ pub record Frame : Type 0 where
   pub number : ℕ
   pub message : Message
 
-abbrev pub frame_with : ℕ → ℕ → ℕ → ℕ → List ℕ → Frame
-frame_with vl least number udp payload = record {
+abbrev pub numbered_frame : ℕ → ℕ → ℕ → ℕ → List ℕ → Frame
+numbered_frame vl least number udp payload = record {
   vl = vl;
   least = least;
   number = number;

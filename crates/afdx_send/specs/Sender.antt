@@ -33,7 +33,7 @@ use Rattle.afdx_send.specs.Releases.{Submission, has_release, count_without, que
 
 -- the calls of a sender so far: its system, the links that it sends in the order of the tables,
 -- what each link took, the emissions, the latest first, and the last time used
-pub record History : Type 0 where
+pub record SenderHistory : Type 0 where
   pub system : SystemRow
   pub links : List LinkRow
   pub taken : List (List Submission)
@@ -41,7 +41,7 @@ pub record History : Type 0 where
   pub time : ℕ
 
 -- a new sender's
-abbrev pub no_calls : Rows → ℕ → SystemRow → History
+abbrev pub no_calls : Rows → ℕ → SystemRow → SenderHistory
 no_calls t place s = record {
   system = s;
   links = links_from t.links place;
@@ -51,7 +51,7 @@ no_calls t place s = record {
 }
 
 -- after a call that takes and emits nothing
-abbrev pub at : History → ℕ → History
+abbrev pub at : SenderHistory → ℕ → SenderHistory
 at h t = record {
   system = h.system;
   links = h.links;
@@ -61,7 +61,7 @@ at h t = record {
 }
 
 -- after a submission to the link at this place
-abbrev pub with_submission : History → ℕ → Submission → History
+abbrev pub with_submission : SenderHistory → ℕ → Submission → SenderHistory
 with_submission h place s = record {
   system = h.system;
   links = h.links;
@@ -71,7 +71,7 @@ with_submission h place s = record {
 }
 
 -- after an emission
-abbrev pub with_emission : History → Turn Frame → ℕ → History
+abbrev pub with_emission : SenderHistory → Turn Frame → ℕ → SenderHistory
 with_emission h s until = record {
   system = h.system;
   links = h.links;
@@ -89,7 +89,7 @@ submission time sub udp payload = record {
 }
 
 -- the slot is that of the next emission
-abbrev pub IsNextIn : History → Turn Frame → Type 0
+abbrev pub IsNextIn : SenderHistory → Turn Frame → Type 0
 IsNextIn h s = IsNextEmission (byte_ns h.system) h.links h.taken h.emitted s
 
 -- the system's links, as its own port sees them
@@ -143,7 +143,8 @@ pub record AreSent (s : SystemRow) (links : List LinkRow) : Type 0 where
       one_of_each (byte_ns s) (flows_of s links) ≤ jitter (regulation_of_link l)
 
 -- the port's calls
-abbrev pub port_history : History → List LinkRelease → List (Turn Frame) → ℕ → port.History Frame
+abbrev pub port_history : SenderHistory → List LinkRelease → List (Turn Frame) → ℕ →
+    port.PortHistory Frame
 port_history h released given time = record {
   byte_ns = byte_ns h.system;
   buffer = 65536;
@@ -153,7 +154,7 @@ port_history h released given time = record {
 }
 
 -- the sender is what these calls leave
-pub record StandsFor (w : Working) (h : History) : Type 0 where
+pub record StandsFor (w : Working) (h : SenderHistory) : Type 0 where
   pub system_id : w.system_id ≡ h.system.id
   pub partition : w.partition ≡ h.system.partition
   pub clock : w.clock ≡ h.time
@@ -183,12 +184,12 @@ pub record StandsFor (w : Working) (h : History) : Type 0 where
   pub port_clock : w.output.clock ≤ h.time
 
 -- what is true of every sender
-abbrev pub IsSound : Working → Type 0
-IsSound w = (h : History) × StandsFor w h
+abbrev pub IsSenderSound : Working → Type 0
+IsSenderSound w = (h : SenderHistory) × StandsFor w h
 
 -- no emission that ends at or before t is left
 abbrev pub IsQuiet : Working → ℕ → Type 0
-IsQuiet w t = (h : History) × StandsFor w h × ((s : Turn Frame) → IsNextIn h s → t < s.end)
+IsQuiet w t = (h : SenderHistory) × StandsFor w h × ((s : Turn Frame) → IsNextIn h s → t < s.end)
 
 -- nothing that is released before the last time used is left to enter the port, and the port gives
 -- nothing by then
@@ -202,7 +203,7 @@ abbrev pub sending_of : Emission → Sending
 sending_of e = record { time = e.time; a = e.a.items; b = e.b.items }
 
 -- the next emission ends at or before `until`, and is given
-pub record Emits (h : History) (until : ℕ) (e : Emission) (new : Working) : Type 0 where
+pub record Emits (h : SenderHistory) (until : ℕ) (e : Emission) (new : Working) : Type 0 where
   pub slot : Turn Frame
   pub next : IsNextIn h slot
   pub in_time : slot.end ≤ until
@@ -218,7 +219,7 @@ pub record Emits (h : History) (until : ℕ) (e : Emission) (new : Working) : Ty
   pub stands : StandsFor new (with_emission h slot until)
 
 -- nothing is left: each message that was taken is released, and each release has had its slot
-pub record AreAllEmitted (h : History) : Type 0 where
+pub record AreAllEmitted (h : SenderHistory) : Type 0 where
   pub released : List LinkRelease
   pub are_releases : AreAllReleases h.links h.taken released
   pub all_released : (i place : ℕ) (l : LinkRow) → slice_get h.links i ≡ Some l →
@@ -226,20 +227,20 @@ pub record AreAllEmitted (h : History) : Type 0 where
   pub schedule : IsSchedule (byte_ns h.system) (entries_of released) h.emitted
 
 -- the link with this identifier
-abbrev pub HasLink : History → ℕ → ℕ → LinkRow → Type 0
+abbrev pub HasLink : SenderHistory → ℕ → ℕ → LinkRow → Type 0
 HasLink h vl place l = (slice_get h.links place ≡ Some l) × (l.vl ≡ vl)
 
 abbrev pub IsSub : LinkRow → ℕ → Type 0
 IsSub l sub = (1 ≤ sub) × (sub ≤ l.subs)
 
 -- so many messages of the sub-VL of the link at this place aren't released before t
-abbrev pub AreUnreleased : History → ℕ → ℕ → ℕ → ℕ → Type 0
+abbrev pub AreUnreleased : SenderHistory → ℕ → ℕ → ℕ → ℕ → Type 0
 AreUnreleased h t place sub n = (released : List LinkRelease)
     × AreReleasedBefore h.links h.taken t released ×
     (count_without (own place released) sub 0 (own_submissions h.taken place) ≡ n)
 
 -- why a message of n bytes isn't taken at t: the first of these that is true
-abbrev pub IsRefused : History → ℕ → ℕ → ℕ → ℕ → SendFault → Type 0
+abbrev pub IsRefused : SenderHistory → ℕ → ℕ → ℕ → ℕ → SendFault → Type 0
 IsRefused h t vl sub n NotMyLink = (i : ℕ) (l : LinkRow) → slice_get h.links i ≡ Some l →
     l.vl ≡ vl → ⊥
 IsRefused h t vl sub n NoSuchSub = (i : ℕ) × (l : LinkRow) × HasLink h vl i l
@@ -253,7 +254,7 @@ IsRefused h t vl sub n QueueFull = (i : ℕ) × (l : LinkRow) × HasLink h vl i 
 IsRefused h t vl sub n Memory = Unit {0}
 
 -- a message is taken by the link at this place
-pub record IsTaken (h : History) (place : ℕ) (vl : ℕ) (m : Submission) : Type 0 where
+pub record IsTaken (h : SenderHistory) (place : ℕ) (vl : ℕ) (m : Submission) : Type 0 where
   pub row : LinkRow
   pub link : HasLink h vl place row
   pub sub : IsSub row m.sub

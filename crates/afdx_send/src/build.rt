@@ -4,7 +4,7 @@ ghost use Rattle.afdx_config.specs.Admission.{links_from};
 ghost use Rattle.afdx_config.specs.Lawful.{IsLink};
 ghost use Rattle.afdx_config.specs.Rows.{SystemRow, LinkRow, link_row};
 ghost use Rattle.afdx_send.specs.declared.line.Line.{Line};
-ghost use Rattle.afdx_send.specs.Sender.{IsSound, IsQuiet, StandsFor, no_calls, last_time, frames_held};
+ghost use Rattle.afdx_send.specs.Sender.{IsSenderSound, IsQuiet, StandsFor, no_calls, last_time, frames_held};
 ghost use Rattle.afdx_send.specs.New.{IsNewLine, AreNewLines, IsPlaceIn};
 
 use crate::agenda::Agenda;
@@ -73,7 +73,7 @@ pub(crate) fn build(
     system: SystemId,
 ) -> Result<Working, AllocError>
     requires system { system.0 < length tables.now.systems }
-    ensures sound { IfOk result (λ w. IsSound w) }
+    ensures sound { IfOk result (λ w. IsSenderSound w) }
     ensures stands { (s : SystemRow) → slice_get tables.now.systems system.0 ≡ Some s →
         IfOk result (λ w. StandsFor w (no_calls tables.now system.0 s)) }
     ensures quiet { (t : ℕ) → IfOk result (λ w. IsQuiet w t) }

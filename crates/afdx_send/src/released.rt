@@ -40,12 +40,12 @@ impl Released {
     ghost use Rattle.std.specs.Prelude.{◌≡◌, ℕ};
     ghost use Rattle.afdx_frame.specs.declared.link.Side.TheVariants.{A, B};
     ghost use Rattle.afdx_frame.specs.Grammar.{Built, built_length, built_frame};
-    ghost use Rattle.afdx_send.specs.Frames.{Frame, frame_with, address_with};
+    ghost use Rattle.afdx_send.specs.Frames.{Frame, numbered_frame, address_with};
 
     pub(crate) fn new(vl: VlId, least: u16, number: u8, udp: u16, payload: Vec<u8>) -> Released
         requires least { (least_frame ≤ least) × (least ≤ greatest_frame) }
         requires payload { (1 ≤ length payload.items) × (length payload.items ≤ greatest_payload) }
-        ensures { result ≡ frame_with vl.0 least number udp payload.items }
+        ensures { result ≡ numbered_frame vl.0 least number udp payload.items }
     {
         Released {
             vl,

@@ -33,13 +33,13 @@ pub struct Sender {
 
 impl Model for Sender {
     ghost use Rattle.afdx_send.specs.declared.working.Working.{Working};
-    ghost use Rattle.afdx_send.specs.Sender.{IsSound};
+    ghost use Rattle.afdx_send.specs.Sender.{IsSenderSound};
 
     ghost Value = { Working };
 
     ghost view = { λ s. s.working };
 
-    ghost invariant = { λ s. IsSound s.working };
+    ghost invariant = { λ s. IsSenderSound s.working };
 }
 
 impl Sender {
@@ -48,7 +48,7 @@ impl Sender {
     ghost use Rattle.afdx_send.specs.Frames.{Frame};
     ghost use Rattle.afdx_send.specs.Laws.{EachEmitsLawfully};
     ghost use Rattle.afdx_send.specs.Releases.{Submission};
-    ghost use Rattle.afdx_send.specs.Sender.{History, no_calls, at, with_submission, IsNextIn};
+    ghost use Rattle.afdx_send.specs.Sender.{SenderHistory, no_calls, at, with_submission, IsNextIn};
     ghost use Rattle.afdx_send.specs.Sender.{IsQuiet, StandsFor, Emits, AreAllEmitted, IsTaken};
     ghost use Rattle.afdx_send.specs.Sender.{IsRefused, frames_held, last_time, submission};
 
@@ -83,13 +83,13 @@ impl Sender {
         requires clock { last_time self.old ≤ time }
         requires limit { time ≤ latest_listed }
         requires quiet { IsQuiet self.old time }
-        ensures ok { (h : History) → StandsFor self.old h →
+        ensures ok { (h : SenderHistory) → StandsFor self.old h →
             OnOk result ((place : ℕ) × IsTaken h place vl.0
             (submission time sub udp payload.now) × StandsFor self.new
             (with_submission h place (submission time sub udp payload.now))) }
-        ensures refused { (h : History) → StandsFor self.old h →
+        ensures refused { (h : SenderHistory) → StandsFor self.old h →
             IfErr result (λ fault. IsRefused h time vl.0 sub (length payload.now) fault) }
-        ensures unchanged { (h : History) → StandsFor self.old h →
+        ensures unchanged { (h : SenderHistory) → StandsFor self.old h →
             OnErr result (StandsFor self.new (at h time)) }
         ensures quiet { IsQuiet self.new time }
         ensures clock { last_time self.new ≡ time }
@@ -107,18 +107,19 @@ impl Sender {
     /// The error says that memory was refused; then the emission is left to be taken again.
     pub fn emit(&mut self, until: u64) -> Result<Option<Emission>, AllocError>
         requires clock { last_time self.old ≤ until }
-        ensures given { (h : History) → StandsFor self.old h →
+        ensures given { (h : SenderHistory) → StandsFor self.old h →
             IfOk result (λ o. IfSome o (λ e. Emits h until e self.new)) }
-        ensures none { (h : History) → StandsFor self.old h →
+        ensures none { (h : SenderHistory) → StandsFor self.old h →
             IfOk result (λ o. IfNone o (StandsFor self.new (at h until))) }
-        ensures no_more { (h : History) (s : Turn Frame) → StandsFor self.old h → IsNextIn h s →
+        ensures no_more { (h : SenderHistory) (s : Turn Frame) →
+            StandsFor self.old h → IsNextIn h s →
             IfOk result (λ o. IfNone o (until < s.end)) }
-        ensures all_done { (h : History) → StandsFor self.old h → drain_end ≤ until →
+        ensures all_done { (h : SenderHistory) → StandsFor self.old h → drain_end ≤ until →
             IfOk result (λ o. IfNone o (AreAllEmitted h)) }
-        ensures again { (h : History) → StandsFor self.old h →
+        ensures again { (h : SenderHistory) → StandsFor self.old h →
             OnErr result (StandsFor self.new (at h until)) }
         ensures quiet { IfOk result (λ o. IfNone o (IsQuiet self.new until)) }
-        ensures lawful { (h : History) → StandsFor self.new h → EachEmitsLawfully h }
+        ensures lawful { (h : SenderHistory) → StandsFor self.new h → EachEmitsLawfully h }
         ensures clock { last_time self.new ≡ until }
         ensures held { IfOk result (λ o. MatchOption o (frames_held self.new
             ≡ frames_held self.old) (λ _. frames_held self.new + 1 ≡ frames_held self.old)) }

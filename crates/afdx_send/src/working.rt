@@ -47,8 +47,8 @@ impl Working {
     ghost use Rattle.afdx_send.specs.Frames.{Frame, facts, address_with};
     ghost use Rattle.afdx_send.specs.Lines.{CanTake};
     ghost use Rattle.afdx_send.specs.Regulator.{sub_count, submission_of, next_time_of};
-    ghost use Rattle.afdx_send.specs.Sender.{History, at, with_submission, submission, sending_of};
-    ghost use Rattle.afdx_send.specs.Sender.{IsNextIn, IsPlaceOf, IsTaken, IsRefused, IsSound};
+    ghost use Rattle.afdx_send.specs.Sender.{SenderHistory, at, with_submission, submission, sending_of};
+    ghost use Rattle.afdx_send.specs.Sender.{IsNextIn, IsPlaceOf, IsTaken, IsRefused, IsSenderSound};
     ghost use Rattle.afdx_send.specs.Sender.{IsQuiet, IsIdle, StandsFor, Emits, AreAllEmitted};
     ghost use Rattle.afdx_send.specs.Sender.{nexts_of, messages_held, frames_held, ready_count};
     ghost use Rattle.afdx_send.specs.Sender.{HoldsMore, HoldsSame, last_time};
@@ -76,12 +76,12 @@ impl Working {
         requires clock { until ≤ self.old.clock }
         requires idle { self.old.ready ≡ None }
         requires timely { NoneBefore (nexts_of self.old) until }
-        ensures stands { (h : History) → StandsFor self.old h → StandsFor self.new h }
+        ensures stands { (h : SenderHistory) → StandsFor self.old h → StandsFor self.new h }
         ensures quiet { self.new.ready ≡ None → held.IsQuiet facts self.new.output until }
         ensures port_clock { held.last_time self.new.output ≡ until }
         ensures held { held.frames_held self.new.output + ready_count self.new.ready
             ≡ held.frames_held self.old.output }
-        ensures done { (h : History) → StandsFor self.old h → drain_end ≤ until →
+        ensures done { (h : SenderHistory) → StandsFor self.old h → drain_end ≤ until →
             self.new.ready ≡ None → AreAllEmitted h }
         ensures rest { self.new ≡ record self.old {
           output = self.new.output;
@@ -93,13 +93,13 @@ impl Working {
 
     /// Puts the next release of all into the port.
     fn release(&mut self, place: usize, time: u64)
-        requires sound { IsSound self.old }
+        requires sound { IsSenderSound self.old }
         requires soonest { IsSoonest (nexts_of self.old) time place }
         requires early { time < self.old.clock }
         requires port_clock { held.last_time self.old.output ≡ time }
         requires quiet { held.IsQuiet facts self.old.output time }
         requires idle { self.old.ready ≡ None }
-        ensures stands { (h : History) → StandsFor self.old h → StandsFor self.new h }
+        ensures stands { (h : SenderHistory) → StandsFor self.old h → StandsFor self.new h }
         ensures idle { self.new.ready ≡ None }
         ensures held { messages_held self.new + 1 ≡ messages_held self.old }
         ensures port_held { held.frames_held self.new.output
@@ -119,11 +119,11 @@ impl Working {
     /// Puts all that is released before the last time used into the port, until a frame has left
     /// it.
     fn advance(&mut self)
-        requires sound { IsSound self.old }
+        requires sound { IsSenderSound self.old }
         requires idle { self.old.ready ≡ None }
-        ensures stands { (h : History) → StandsFor self.old h → StandsFor self.new h }
+        ensures stands { (h : SenderHistory) → StandsFor self.old h → StandsFor self.new h }
         ensures idle { self.new.ready ≡ None → IsIdle self.new }
-        ensures done { (h : History) → StandsFor self.old h → drain_end ≤ self.old.clock →
+        ensures done { (h : SenderHistory) → StandsFor self.old h → drain_end ≤ self.old.clock →
             self.new.ready ≡ None → AreAllEmitted h }
         ensures clock { self.new.clock ≡ self.old.clock }
         ensures held { frames_held self.new ≡ frames_held self.old }
@@ -141,11 +141,12 @@ impl Working {
 
     /// Makes ready what leaves the port next, if it leaves by this time.
     fn prepare(&mut self, until: u64)
-        requires sound { IsSound self.old }
+        requires sound { IsSenderSound self.old }
         requires clock { self.old.clock ≤ until }
-        ensures stands { (h : History) → StandsFor self.old h → StandsFor self.new (at h until) }
+        ensures stands { (h : SenderHistory) →
+            StandsFor self.old h → StandsFor self.new (at h until) }
         ensures idle { self.new.ready ≡ None → IsIdle self.new }
-        ensures done { (h : History) → StandsFor self.old h → drain_end ≤ until →
+        ensures done { (h : SenderHistory) → StandsFor self.old h → drain_end ≤ until →
             self.new.ready ≡ None → AreAllEmitted h }
         ensures clock { self.new.clock ≡ until }
         ensures held { frames_held self.new ≡ frames_held self.old }
@@ -182,18 +183,19 @@ impl Working {
     }
 
     pub(crate) fn emit(&mut self, until: u64) -> Result<Option<Emission>, AllocError>
-        requires sound { IsSound self.old }
+        requires sound { IsSenderSound self.old }
         requires clock { self.old.clock ≤ until }
-        ensures sound { IsSound self.new }
-        ensures given { (h : History) → StandsFor self.old h →
+        ensures sound { IsSenderSound self.new }
+        ensures given { (h : SenderHistory) → StandsFor self.old h →
             IfOk result (λ o. IfSome o (λ e. Emits h until e self.new)) }
-        ensures none { (h : History) → StandsFor self.old h →
+        ensures none { (h : SenderHistory) → StandsFor self.old h →
             IfOk result (λ o. IfNone o (StandsFor self.new (at h until))) }
-        ensures no_more { (h : History) (s : Turn Frame) → StandsFor self.old h → IsNextIn h s →
+        ensures no_more { (h : SenderHistory) (s : Turn Frame) →
+            StandsFor self.old h → IsNextIn h s →
             IfOk result (λ o. IfNone o (until < s.end)) }
-        ensures all_done { (h : History) → StandsFor self.old h → drain_end ≤ until →
+        ensures all_done { (h : SenderHistory) → StandsFor self.old h → drain_end ≤ until →
             IfOk result (λ o. IfNone o (AreAllEmitted h)) }
-        ensures again { (h : History) → StandsFor self.old h →
+        ensures again { (h : SenderHistory) → StandsFor self.old h →
             OnErr result (StandsFor self.new (at h until)) }
         ensures quiet { IfOk result (λ o. IfNone o (IsQuiet self.new until)) }
         ensures clock { last_time self.new ≡ until }
@@ -218,8 +220,8 @@ impl Working {
 
     /// The place of the link with this identifier.
     fn place_of(&self, vl: VlId) -> Option<usize>
-        requires sound { IsSound self.now }
-        ensures { (h : History) → StandsFor self.now h → IsPlaceOf h.links vl.0 result }
+        requires sound { IsSenderSound self.now }
+        ensures { (h : SenderHistory) → StandsFor self.now h → IsPlaceOf h.links vl.0 result }
     {
         match self.places[usize::from(vl.0)] {
             Some(place) => Some(usize::from(place)),
@@ -229,17 +231,18 @@ impl Working {
 
     /// Adds a message to a queue of the link at this place.
     fn add(&mut self, place: usize, index: usize, message: Queued) -> Result<(), AllocError>
-        requires sound { IsSound self.old }
+        requires sound { IsSenderSound self.old }
         requires place { place < length self.old.lines.items }
         requires queue { (line : Line) → slice_get self.old.lines.items place ≡ Some line →
             CanTake line index message }
         requires limit { message.time ≤ latest_listed }
         requires clock { self.old.clock ≡ message.time }
         requires idle { IsIdle self.old }
-        ensures ok { (h : History) → StandsFor self.old h →
+        ensures ok { (h : SenderHistory) → StandsFor self.old h →
             OnOk result (StandsFor self.new (with_submission h place (submission_of (index
             + 1) message))) }
-        ensures err { (h : History) → StandsFor self.old h → OnErr result (StandsFor self.new h) }
+        ensures err { (h : SenderHistory) →
+            StandsFor self.old h → OnErr result (StandsFor self.new h) }
         ensures idle { IsIdle self.new }
         ensures clock { self.new.clock ≡ self.old.clock }
         ensures held { OnOk result (HoldsMore self.old self.new) }
@@ -253,16 +256,16 @@ impl Working {
 
     /// Takes a message at the last time used.
     fn accept(&mut self, vl: VlId, sub: u8, udp: u16, payload: &[u8]) -> Result<(), SendFault>
-        requires sound { IsSound self.old }
+        requires sound { IsSenderSound self.old }
         requires limit { self.old.clock ≤ latest_listed }
         requires idle { IsIdle self.old }
-        ensures ok { (h : History) → StandsFor self.old h →
+        ensures ok { (h : SenderHistory) → StandsFor self.old h →
             OnOk result ((place : ℕ) × IsTaken h place vl.0
             (submission self.old.clock sub udp payload.now) × StandsFor self.new
             (with_submission h place (submission self.old.clock sub udp payload.now))) }
-        ensures refused { (h : History) → StandsFor self.old h →
+        ensures refused { (h : SenderHistory) → StandsFor self.old h →
             IfErr result (λ fault. IsRefused h self.old.clock vl.0 sub (length payload.now) fault) }
-        ensures unchanged { (h : History) → StandsFor self.old h →
+        ensures unchanged { (h : SenderHistory) → StandsFor self.old h →
             OnErr result (StandsFor self.new h) }
         ensures idle { IsIdle self.new }
         ensures clock { self.new.clock ≡ self.old.clock }
@@ -293,18 +296,18 @@ impl Working {
         udp: u16,
         payload: &[u8],
     ) -> Result<(), SendFault>
-        requires sound { IsSound self.old }
+        requires sound { IsSenderSound self.old }
         requires clock { self.old.clock ≤ time }
         requires limit { time ≤ latest_listed }
         requires quiet { IsQuiet self.old time }
-        ensures sound { IsSound self.new }
-        ensures ok { (h : History) → StandsFor self.old h →
+        ensures sound { IsSenderSound self.new }
+        ensures ok { (h : SenderHistory) → StandsFor self.old h →
             OnOk result ((place : ℕ) × IsTaken h place vl.0
             (submission time sub udp payload.now) × StandsFor self.new
             (with_submission h place (submission time sub udp payload.now))) }
-        ensures refused { (h : History) → StandsFor self.old h →
+        ensures refused { (h : SenderHistory) → StandsFor self.old h →
             IfErr result (λ fault. IsRefused h time vl.0 sub (length payload.now) fault) }
-        ensures unchanged { (h : History) → StandsFor self.old h →
+        ensures unchanged { (h : SenderHistory) → StandsFor self.old h →
             OnErr result (StandsFor self.new (at h time)) }
         ensures quiet { IsQuiet self.new time }
         ensures clock { last_time self.new ≡ time }

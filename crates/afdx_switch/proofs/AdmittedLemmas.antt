@@ -43,10 +43,10 @@ use Rattle.afdx_switch.specs.Admitted.{IsAdmittedRun, Passing, passing, passing_
 use Rattle.afdx_switch.specs.Admitted.{accepted_arrivals, accepted_on, accepted_frames}
 use Rattle.afdx_switch.specs.Admitted.{frames_among, AcceptedIsKept, LosesNothing, AcceptedEnter}
 use Rattle.afdx_switch.specs.Admitted.{AreInTime, TurnsAreInTime, HaveLeft, AllHaveLeft, IsInTime}
-use Rattle.afdx_switch.specs.Carried.{Carried}
+use Rattle.afdx_switch.specs.HeldFrames.{HeldFrame}
 use Rattle.afdx_switch.specs.Laws.{is_of, EntriesStep}
 use Rattle.afdx_switch.specs.Ports.{holds}
-use Rattle.afdx_switch.specs.Switching.{PortTurn, History, StandsFor, IsNextAt, Gives, with_take, taken_at}
+use Rattle.afdx_switch.specs.Switching.{PortTurn, SwitchHistory, StandsFor, IsNextAt, Gives, with_take, taken_at}
 use Rattle.afdx_switch.specs.declared.switch.Departure.{Departure}
 use Rattle.afdx_switch.specs.declared.working.Working.{Working}
 use Rattle.afdx_switch.specs.Tables.{rule_of, goes_to, row_of, rows_of, byte_ns_at, output_at}
@@ -105,7 +105,7 @@ moves link is-bag = record {
   room = fits-room link is-bag;
 }
 
-bytes_of : Carried → List ℕ
+bytes_of : HeldFrame → List ℕ
 bytes_of c = c.bytes
 
 keeps : (t : Rows) (x : Arrival) → bytes_of (carried t x) ≡ x.bytes
@@ -267,7 +267,7 @@ passes-as : (t : Rows) (r : Row) (x : Arrival) → passing_in (entry_of (carried
 unfolding carried
 passes-as t r x = refl
 
-frames-push : (t : Rows) (vl : ℕ) (es : List (Entry Carried)) (r : Row) (x : Arrival)
+frames-push : (t : Rows) (vl : ℕ) (es : List (Entry HeldFrame)) (r : Row) (x : Arrival)
     → names vl x.bytes ≡ true → frames_among vl (es ++ entry_of (carried t) r x ∷ [])
     ≡ frames_among vl es ++ passing x ∷ []
 frames-push t vl es r x named =
@@ -279,7 +279,7 @@ frames-push t vl es r x named =
     ∙ map-append passing_in (filter (is_of vl) es) (entry_of (carried t) r x ∷ [])
     ∙ ap (λ p. frames_among vl es ++ p ∷ []) (passes-as t r x)
 
-frames-pass : (t : Rows) (vl : ℕ) (es : List (Entry Carried)) (r : Row) (x : Arrival)
+frames-pass : (t : Rows) (vl : ℕ) (es : List (Entry HeldFrame)) (r : Row) (x : Arrival)
     → names vl x.bytes ≡ false → frames_among vl (es ++ entry_of (carried t) r x ∷ [])
     ≡ frames_among vl es
 frames-pass t vl es r x other =
@@ -289,7 +289,7 @@ frames-pass t vl es r x other =
     ap (map passing_in) (filter-append (is_of vl) es (entry_of (carried t) r x ∷ [])
     ∙ ap (λ zs. filter (is_of vl) es ++ zs) last ∙ append-none (filter (is_of vl) es))
   where
-    append-none : (zs : List (Entry Carried)) → zs ++ [] ≡ zs
+    append-none : (zs : List (Entry HeldFrame)) → zs ++ [] ≡ zs
     append-none [] = refl
     append-none (z ∷ zs) = ap (λ ws. z ∷ ws) (append-none zs)
 
@@ -397,12 +397,12 @@ link-of : (vl : ℕ) (o : Option VlId) (none : ℕ) → option_map_or (λ named.
 link-of vl None none h = absurd (cc h)
 link-of vl (Some v) none h = eqb-true v.0 vl h
 
-named-in : (vl : ℕ) (e : Entry Carried) → is_of vl e ≡ true → link_in bytes_of e.item ≡ vl
+named-in : (vl : ℕ) (e : Entry HeldFrame) → is_of vl e ≡ true → link_in bytes_of e.item ≡ vl
 unfolding names bytes_of
 named-in vl e named = link-of vl (link_named_by e.item.bytes) 65536 named
 
 -- an entry of a link at a port that it doesn't go to
-none-among : (vl : ℕ) (es : List (Entry Carried)) (i : ℕ) (e : Entry Carried)
+none-among : (vl : ℕ) (es : List (Entry HeldFrame)) (i : ℕ) (e : Entry HeldFrame)
     → frames_among vl es ≡ [] → slice_get es i ≡ Some e → is_of vl e ≡ true → ⊥
 none-among vl [] i e none at named = cc at
 none-among vl (d ∷ ds) i e none at named =
@@ -423,7 +423,7 @@ not-there t arrivals side port place l run at stays =
     ∙ ap (λ b. if b then accepted_frames t l side arrivals else []) stays
 
 module _ (t : Rows) (arrivals : List Arrival) (side : Side) (place : ℕ) (l : LinkRow)
-    (turns : List (Turn Carried)) (run : IsAdmittedRun t arrivals)
+    (turns : List (Turn HeldFrame)) (run : IsAdmittedRun t arrivals)
     (at : slice_get t.links place ≡ Some l) where
   in-time-there : (system : ℕ) (s : SystemRow) → slice_get t.systems system ≡ Some s
       → is_to system l ≡ true → AreTurns (byte_ns_at t s.port) (entries_at t side s.port arrivals)
@@ -448,19 +448,19 @@ module _ (t : Rows) (arrivals : List Arrival) (side : Side) (place : ℕ) (l : L
 
   left-there : (system until : ℕ) (s : SystemRow) → slice_get t.systems system ≡ Some s
       → is_to system l ≡ true → AreTurns (byte_ns_at t s.port) (entries_at t side s.port arrivals) turns →
-      ((z : Turn Carried) → IsNext (byte_ns_at t s.port) (entries_at t side s.port arrivals) turns z
+      ((z : Turn HeldFrame) → IsNext (byte_ns_at t s.port) (entries_at t side s.port arrivals) turns z
       → IsAfter until (due_at z)) → HaveLeft l until (entries_at t side s.port arrivals) turns
   left-there system until s stands goes are next i e at_e named over =
       slot-has-come moves accepted_own-offers (carried t) bytes_of t side system s arrivals turns place l until i e
       (output-of t system s arrivals run stands) at goes are next at_e (named-in l.vl e named) over
 
   left-at : (port until : ℕ) → AreTurns (byte_ns_at t port) (entries_at t side port arrivals) turns →
-      ((z : Turn Carried) → IsNext (byte_ns_at t port) (entries_at t side port arrivals) turns z
+      ((z : Turn HeldFrame) → IsNext (byte_ns_at t port) (entries_at t side port arrivals) turns z
       → IsAfter until (due_at z)) → HaveLeft l until (entries_at t side port arrivals) turns
   left-at port until are next = elim (bool_cases (goes_to t l port)) [
     | inl goes ↦ (let to = goes-at t l port goes in
         subst (λ n. AreTurns (byte_ns_at t n) (entries_at t side n arrivals) turns →
-        ((z : Turn Carried) → IsNext (byte_ns_at t n) (entries_at t side n arrivals) turns z
+        ((z : Turn HeldFrame) → IsNext (byte_ns_at t n) (entries_at t side n arrivals) turns z
         → IsAfter until (due_at z)) → HaveLeft l until (entries_at t side n arrivals) turns) to.here
         (left-there to.system until to.s to.stands to.goes) are next)
     | inr stays ↦ (λ i e at_e named over.
@@ -482,13 +482,13 @@ pub verdict-kept : {E : Type 0} (r : Result Verdict E) (t : Rows) (past : List A
 verdict-kept (Ok v) t past x run is = loses-nothing t past x run v is
 verdict-kept (Err e) t past x run is = tt
 
-same-bytes : (t : Rows) (vl : ℕ) (e : Entry Carried) (r : Row) (x : Arrival)
+same-bytes : (t : Rows) (vl : ℕ) (e : Entry HeldFrame) (r : Row) (x : Arrival)
     → e ≡ entry_of (carried t) r x → names vl x.bytes ≡ true → is_of vl e ≡ true
 same-bytes t vl e r x is named = ap (is_of vl) is ∙ is-own t vl r x ∙ named
 
 -- a turn of a port is in time
-pub turn-in-time : (t : Rows) (arrivals : List Arrival) (side : Side) (port : ℕ) (s : Turn Carried)
-    (earlier : List (Turn Carried)) → IsAdmittedRun t arrivals →
+pub turn-in-time : (t : Rows) (arrivals : List Arrival) (side : Side) (port : ℕ) (s : Turn HeldFrame)
+    (earlier : List (Turn HeldFrame)) → IsAdmittedRun t arrivals →
     AreTurns (byte_ns_at t port) (entries_at t side port arrivals) (s ∷ earlier) → IsInTime t s
 turn-in-time t arrivals side port s earlier run are =
     let from = entry-from t side port arrivals s.place s.entry are.0.own.stands in
@@ -507,7 +507,7 @@ taken-first gone earlier =
     ap (λ b. if b then gone.turn ∷ taken_at gone.port earlier else taken_at gone.port earlier)
     (eqb-same gone.port gone.port refl)
 
-given-in-time : (t : Rows) (side : Side) (h : History) (until : ℕ) (d : Departure) (new : Working)
+given-in-time : (t : Rows) (side : Side) (h : SwitchHistory) (until : ℕ) (d : Departure) (new : Working)
     → IsAdmittedRun t h.arrivals → (g : Gives t side h until d new) → IsInTime t g.gone.turn
 given-in-time t side h until d new run g =
     turn-in-time t h.arrivals side g.gone.port g.gone.turn (taken_at g.gone.port h.taken) run
@@ -515,17 +515,17 @@ given-in-time t side h until d new run g =
     (taken-first g.gone h.taken)
     (taken-turns t side new (with_take h g.gone until) g.gone.port g.stands g.next.first_port g.next.last_port))
 
-pub each-in-time : (o : Option Departure) (t : Rows) (side : Side) (h : History) (until : ℕ)
+pub each-in-time : (o : Option Departure) (t : Rows) (side : Side) (h : SwitchHistory) (until : ℕ)
     (new : Working) → IsAdmittedRun t h.arrivals
     → IfSome o (λ d. (g : Gives t side h until d new) → IsInTime t g.gone.turn)
 each-in-time None t side h until new run = tt
 each-in-time (Some d) t side h until new run = given-in-time t side h until d new run
 
-pub none-left : (o : Option Departure) (t : Rows) (side : Side) (w : Working) (h : History)
+pub none-left : (o : Option Departure) (t : Rows) (side : Side) (w : Working) (h : SwitchHistory)
     (port place : ℕ) (l : LinkRow) (until : ℕ) → StandsFor t side w h → IsAdmittedRun t h.arrivals
     → 1 ≤ port → port ≤ 24 →
     slice_get t.links place ≡ Some l
-    → ((s : Turn Carried) → IsNextAt t side h port s → IfNone o (IsAfter until (due_at s)))
+    → ((s : Turn HeldFrame) → IsNextAt t side h port s → IfNone o (IsAfter until (due_at s)))
     → IfNone o (HaveLeft l until (entries_at t side port h.arrivals) (taken_at port h.taken))
 none-left None t side w h port place l until st run low high at next =
     all-left t h.arrivals side port place l (taken_at port h.taken) until run at

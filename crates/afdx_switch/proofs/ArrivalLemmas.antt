@@ -20,7 +20,7 @@ use Rattle.afdx_police.specs.declared.shape.Reason.TheVariants.{BadFcs, BadAddre
 use Rattle.afdx_bounds.specs.Offered.{is_lost, with_offer, entries_of}
 use Rattle.afdx_bounds.specs.Outputs.{Row, Output, accepts, sends, entry_of, with_sent, offers_at}
 use Rattle.afdx_bounds.proofs.VerdictLemmas.{looks}
-use Rattle.afdx_switch.specs.Carried.{carried_with}
+use Rattle.afdx_switch.specs.HeldFrames.{held_frame}
 use Rattle.afdx_switch.specs.Tables.{rows_of, output_at, byte_ns_at, row_named, wait_of, carried, entries_at}
 use Rattle.afdx_switch.specs.Verdicts.{fault_on, shape_fault, reason_on, reason_of, is_share_lost, is_lost_at}
 use Rattle.afdx_switch.specs.Lines.{IsNamed, IsNamedAt}
@@ -150,11 +150,11 @@ module _ (t : Rows) (x : Arrival) (past : List Arrival) where
       (small : IfSome longest_wait (λ wait. wait ≤ 100000000))
       (same_priority : priority ≡ n.row.priority)
       (same_wait : longest_wait ≡ n.row.longest_wait) where
-    is-carried : carried_with x.tag longest_wait x.bytes ≡ carried t x
+    is-carried : held_frame x.tag longest_wait x.bytes ≡ carried t x
     unfolding carried
-    is-carried = ap (λ w. carried_with x.tag w x.bytes) (same_wait ∙ sym (ap wait_of (row-named place n)))
+    is-carried = ap (λ w. held_frame x.tag w x.bytes) (same_wait ∙ sym (ap wait_of (row-named place n)))
 
-    entry-is : share_entry x.time priority (carried_with x.tag longest_wait x.bytes) ≡ entry_of (carried t) n.row x
+    entry-is : share_entry x.time priority (held_frame x.tag longest_wait x.bytes) ≡ entry_of (carried t) n.row x
     entry-is =
         let length-is : max 64 (min 1518 (length x.bytes)) ≡ length x.bytes = omega (arith, shortest, longest) in
         let limit : option_map (λ n. min 100000000 n) longest_wait ≡ n.row.longest_wait =
@@ -163,11 +163,11 @@ module _ (t : Rows) (x : Arrival) (past : List Arrival) where
 
     shared : (port buffer : ℕ) (goes : Bool) → n.row.goes_to port ≡ goes → (goes ≡ true → buffer ≡ t.buffer) →
         with_share x.time priority (byte_ns_at t port) buffer (entries_at t x.side port past)
-        (share_of (carried_with x.tag longest_wait x.bytes) goes)
+        (share_of (held_frame x.tag longest_wait x.bytes) goes)
         ≡ entries_at t x.side port (x ∷ past)
     shared port buffer true goes own =
         ap (λ b. with_offer (byte_ns_at t port) b (entries_at t x.side port past)
-        (share_entry x.time priority (carried_with x.tag longest_wait x.bytes))) (own refl)
+        (share_entry x.time priority (held_frame x.tag longest_wait x.bytes))) (own refl)
         ∙ ap (λ e. with_offer (byte_ns_at t port) t.buffer (entries_at t x.side port past) e) entry-is
         ∙ sym (entries-with port (Some n.row)
         (accepted-sent port place n accepted ∙ ap (λ b. if b then Some n.row else None) goes))
@@ -177,17 +177,17 @@ module _ (t : Rows) (x : Arrival) (past : List Arrival) where
     -- with a buffer that is the tables' where the link goes
     pub with-share-is : (port buffer : ℕ) → (n.row.goes_to port ≡ true → buffer ≡ t.buffer) →
         with_share x.time priority (byte_ns_at t port) buffer (entries_at t x.side port past)
-        (share_of (carried_with x.tag longest_wait x.bytes) (n.row.goes_to port))
+        (share_of (held_frame x.tag longest_wait x.bytes) (n.row.goes_to port))
         ≡ entries_at t x.side port (x ∷ past)
     with-share-is port buffer own = shared port buffer (n.row.goes_to port) refl own
 
     lost : (port buffer : ℕ) (goes : Bool) → n.row.goes_to port ≡ goes → (goes ≡ true → buffer ≡ t.buffer) →
         loses_share x.time priority (byte_ns_at t port) buffer (entries_at t x.side port past)
-        (share_of (carried_with x.tag longest_wait x.bytes) goes) ≡ is_lost_at t past x port
+        (share_of (held_frame x.tag longest_wait x.bytes) goes) ≡ is_lost_at t past x port
     unfolding is_lost_at
     lost port buffer true goes own =
         ap (λ b. is_lost (byte_ns_at t port) b (entries_at t x.side port past)
-        (share_entry x.time priority (carried_with x.tag longest_wait x.bytes))) (own refl)
+        (share_entry x.time priority (held_frame x.tag longest_wait x.bytes))) (own refl)
         ∙ ap (λ e. is_lost (byte_ns_at t port) t.buffer (entries_at t x.side port past) e) entry-is
         ∙ sym (ap (is_share_lost t past x port)
         (accepted-sent port place n accepted ∙ ap (λ b. if b then Some n.row else None) goes))
@@ -197,6 +197,6 @@ module _ (t : Rows) (x : Arrival) (past : List Arrival) where
 
     pub loses-share-is : (port buffer : ℕ) → (n.row.goes_to port ≡ true → buffer ≡ t.buffer) →
         loses_share x.time priority (byte_ns_at t port) buffer (entries_at t x.side port past)
-        (share_of (carried_with x.tag longest_wait x.bytes) (n.row.goes_to port))
+        (share_of (held_frame x.tag longest_wait x.bytes) (n.row.goes_to port))
         ≡ is_lost_at t past x port
     loses-share-is port buffer own = lost port buffer (n.row.goes_to port) refl own

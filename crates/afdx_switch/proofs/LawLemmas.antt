@@ -20,7 +20,7 @@ use Rattle.afdx_port.proofs.HistoryLemmas.{taken_turns}
 use Rattle.afdx_bounds.specs.Offered.{is_lost, entries_of}
 use Rattle.afdx_bounds.specs.Outputs.{Row, accepts, sends, entry_of, with_sent, offers_at}
 use Rattle.afdx_bounds.proofs.VerdictLemmas.{one-name}
-use Rattle.afdx_switch.specs.Carried.{Carried, facts}
+use Rattle.afdx_switch.specs.HeldFrames.{HeldFrame, facts}
 use Rattle.afdx_switch.specs.Laws.{VerdictsAreOwn, EntriesGrow, is_of, TakenAreTurns}
 use Rattle.afdx_switch.specs.Laws.{LinksGoInOrder, OtherSideIsApart, LostPortsAreListed}
 use Rattle.afdx_switch.specs.Tables.{rows_of, output_at, byte_ns_at, buffer_at, row_named, carried, entries_at}
@@ -136,7 +136,7 @@ entries-grow t side port x past lawful = record {
 }
 
 -- the arrival and the row that an entry is of
-pub record From (t : Rows) (e : Entry Carried) : Type 0 where
+pub record From (t : Rows) (e : Entry HeldFrame) : Type 0 where
   pub x : Arrival
   pub row : Row
   pub place : ℕ
@@ -145,7 +145,7 @@ pub record From (t : Rows) (e : Entry Carried) : Type 0 where
   pub is : e ≡ entry_of (carried t) row x
 
 pub entry-from : (t : Rows) (side : Side) (port : ℕ) (arrivals : List Arrival) (i : ℕ)
-    (e : Entry Carried) → slice_get (entries_at t side port arrivals) i ≡ Some e → From t e
+    (e : Entry HeldFrame) → slice_get (entries_at t side port arrivals) i ≡ Some e → From t e
 unfolding offers_at
 entry-from t side port [] i e at = absurd cc
 entry-from t side port (x ∷ past) i e at =
@@ -186,10 +186,10 @@ pub one-class : (t : Rows) (side : Side) (port vl : ℕ) (arrivals : List Arriva
 unfolding carried
 one-class t side port vl arrivals lawful = by (link_of t.links vl) (place-of t lawful vl (link_of t.links vl) refl)
   where
-    named-vl : (i : ℕ) (e : Entry Carried) (from : From t e) → is_of vl e ≡ true → from.row.rule.vl ≡ vl
+    named-vl : (i : ℕ) (e : Entry HeldFrame) (from : From t e) → is_of vl e ≡ true → from.row.rule.vl ≡ vl
     named-vl i e from test =
         one-name from.row.rule.vl vl from.x.bytes from.named
-        (sym (ap (λ (d : Entry Carried). is_of vl d) from.is) ∙ test)
+        (sym (ap (λ (d : Entry HeldFrame). is_of vl d) from.is) ∙ test)
 
     by : (place : Option ℕ) → IsPlaceOf (rows_of t) vl place
         → AreOfOneClass (is_of vl) (entries_at t side port arrivals)
@@ -208,7 +208,7 @@ one-class t side port vl arrivals lawful = by (link_of t.links vl) (place-of t l
           let from_stands : slice_get (rows_of t) place ≡ Some from.row =
           subst (λ k. slice_get (rows_of t) k ≡ Some from.row) same_place from.stands in
           let same : from.row ≡ is.row = cc in
-          ap (λ (d : Entry Carried). d.priority) from.is ∙ ap (λ (r : Row). r.priority) same,
+          ap (λ (d : Entry HeldFrame). d.priority) from.is ∙ ap (λ (r : Row). r.priority) same,
     )
 
 pub taken-turns : TakenAreTurns

@@ -15,7 +15,7 @@ use Rattle.afdx_port.specs.Schedule.{Entry}
 use Rattle.afdx_port.proofs.ClassLemmas.{all_go_in_order}
 use Rattle.afdx_bounds.specs.Outputs.{Row, entry_of, offers_at}
 use Rattle.afdx_bounds.proofs.VerdictLemmas.{one-name}
-use Rattle.afdx_switch.specs.Carried.{Carried}
+use Rattle.afdx_switch.specs.HeldFrames.{HeldFrame}
 use Rattle.afdx_switch.specs.Laws.{EntriesStep, is_of}
 use Rattle.afdx_switch.specs.LinkFrames.{goes_on, enters, entered, FramesAreOwn, AllFramesAreOwn, OthersGetNone}
 use Rattle.afdx_switch.specs.Switching.{taken_at}
@@ -26,28 +26,28 @@ use Rattle.afdx_switch.proofs.ListLemmas.{find-found}
 use Rattle.afdx_switch.proofs.LawLemmas.{entries-grow, one-class, links-in-order}
 
 -- the frames of a link among some entries
-abbrev items : ℕ → List (Entry Carried) → List Carried
+abbrev items : ℕ → List (Entry HeldFrame) → List HeldFrame
 items vl es = map (λ e. e.item) (filter (is_of vl) es)
 
-one-more : (t : Rows) (vl : ℕ) (r : Row) (x : Arrival) (es : List (Entry Carried)) →
+one-more : (t : Rows) (vl : ℕ) (r : Row) (x : Arrival) (es : List (Entry HeldFrame)) →
     items vl (es ++ entry_of (carried t) r x ∷ [])
     ≡ (if names vl x.bytes then items vl es ++ carried t x ∷ [] else items vl es)
 unfolding carried
 one-more t vl r x es =
-    ap (map (λ (e : Entry Carried). e.item))
+    ap (map (λ (e : Entry HeldFrame). e.item))
     (filter-append (is_of vl) es (entry_of (carried t) r x ∷ [])) ∙ by (names vl x.bytes)
   where
-    by : (b : Bool) → map (λ (e : Entry Carried). e.item)
+    by : (b : Bool) → map (λ (e : Entry HeldFrame). e.item)
         (filter (is_of vl) es ++ (if b then entry_of (carried t) r x ∷ [] else []))
         ≡ (if b then items vl es ++ carried t x ∷ [] else items vl es)
-    by true = map_push (λ (e : Entry Carried). e.item) (filter (is_of vl) es) (entry_of (carried t) r x)
-    by false = ap (map (λ (e : Entry Carried). e.item)) (append-nil (filter (is_of vl) es))
+    by true = map_push (λ (e : Entry HeldFrame). e.item) (filter (is_of vl) es) (entry_of (carried t) r x)
+    by false = ap (map (λ (e : Entry HeldFrame). e.item)) (append-nil (filter (is_of vl) es))
 
 -- the frames with one more arrival, where it enters or doesn't
-abbrev more : Bool → Bool → Carried → List Carried → List Carried
+abbrev more : Bool → Bool → HeldFrame → List HeldFrame → List HeldFrame
 more named enter c before = if named && enter then before ++ c ∷ [] else before
 
-stays : (named : Bool) (c : Carried) (before : List Carried) → more named false c before ≡ before
+stays : (named : Bool) (c : HeldFrame) (before : List HeldFrame) → more named false c before ≡ before
 stays true c before = refl
 stays false c before = refl
 
@@ -144,15 +144,15 @@ frames-own t side w h port vl lawful st low high =
     let turns = taken_at port h.taken in (
       items vl (without_turn turns 0 entries),
       sym (entered-is t side port vl h.arrivals lawful)
-          ∙ ap (map (λ (e : Entry Carried). e.item)) (links-in-order t side w h port vl lawful st low high)
-          ∙ map-append (λ (e : Entry Carried). e.item) (filter (is_of vl) (entries_in turns))
+          ∙ ap (map (λ (e : Entry HeldFrame). e.item)) (links-in-order t side w h port vl lawful st low high)
+          ∙ map-append (λ (e : Entry HeldFrame). e.item) (filter (is_of vl) (entries_in turns))
           (filter (is_of vl) (without_turn turns 0 entries)),
     )
 
 pub all-own : AllFramesAreOwn
 all-own t side h port vl lawful done =
     sym (entered-is t side port vl h.arrivals lawful)
-    ∙ ap (map (λ (e : Entry Carried). e.item))
+    ∙ ap (map (λ (e : Entry HeldFrame). e.item))
     (all_go_in_order (byte_ns_at t port) (is_of vl) (entries_at t side port h.arrivals)
     (taken_at port h.taken) (one-class t side port vl h.arrivals lawful) done)
 

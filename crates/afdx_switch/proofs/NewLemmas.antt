@@ -18,7 +18,7 @@ use Rattle.afdx_police.specs.Rule.{rule_with}
 use Rattle.afdx_bounds.specs.Outputs.{Row, offers_at}
 use Rattle.afdx_port.specs.History as queue
 use Rattle.afdx_port.specs.declared.pending.Pending.{Pending}
-use Rattle.afdx_switch.specs.Carried.{Carried, facts}
+use Rattle.afdx_switch.specs.HeldFrames.{HeldFrame, facts}
 use Rattle.afdx_switch.specs.New.{IsNewPort}
 use Rattle.afdx_switch.specs.Lines.{IsPlaceOf}
 use Rattle.afdx_switch.specs.Switching.{no_calls, calls_at, taken_at}
@@ -110,7 +110,7 @@ module _ (t : Rows) (lawful : IsLawful t) where
       }
 
 -- a new port stands for no calls
-pub port-stands : (t : Rows) (side : Side) (i : ℕ) (p : Pending Carried) → IsNewPort t i p
+pub port-stands : (t : Rows) (side : Side) (i : ℕ) (p : Pending HeldFrame) → IsNewPort t i p
     → queue.StandsFor facts p (calls_at t side (i + 1) no_calls p.clock)
 unfolding offers_at taken_at
 port-stands t side i p new =

@@ -17,11 +17,11 @@ use Rattle.afdx_port.specs.Held as held
 use Rattle.afdx_port.specs.History as queue
 use Rattle.afdx_port.specs.declared.pending.Pending.{Pending}
 use Rattle.afdx_bounds.specs.Outputs.{Row}
-use Rattle.afdx_switch.specs.Carried.{Carried, carried_with, facts}
+use Rattle.afdx_switch.specs.HeldFrames.{HeldFrame, held_frame, facts}
 use Rattle.afdx_switch.specs.Ports.{holds}
 use Rattle.afdx_switch.specs.Tables.{rows_of, output_at, byte_ns_at, buffer_at}
 use Rattle.afdx_switch.specs.Verdicts.{reason_of, is_lost_at}
-use Rattle.afdx_switch.specs.Switching.{History, StandsFor, calls_at, taken_at, with_arrival}
+use Rattle.afdx_switch.specs.Switching.{SwitchHistory, StandsFor, calls_at, taken_at, with_arrival}
 use Rattle.afdx_switch.specs.Lines.{IsLine, IsNamed, IsNamedAt, is_among}
 use Rattle.afdx_switch.specs.Sound.{IsPortSound}
 use Rattle.afdx_switch.specs.Shares.{IsOffered, calls_after, share_of}
@@ -44,11 +44,11 @@ found-at xs i below = elim (slice_get_cases xs i).1
     [ inl found ↦ (found.0, found.2) | inr past ↦ absurd (omega (arith, below, past.0)) ]
 
 -- each line is the one that its own arrivals leave, with one more
-abbrev pub LinesAfter : Rows → Arrival → History → List Line → Type 0
+abbrev pub LinesAfter : Rows → Arrival → SwitchHistory → List Line → Type 0
 LinesAfter t x h lines = (i : ℕ) (r : Row) (line : Line) → slice_get (rows_of t) i ≡ Some r
     → slice_get lines i ≡ Some line → IsLine x.side (x ∷ h.arrivals) r line
 
-module _ (t : Rows) (x : Arrival) (w : Working) (h : History) (st : StandsFor t x.side w h) where
+module _ (t : Rows) (x : Arrival) (w : Working) (h : SwitchHistory) (st : StandsFor t x.side w h) where
   line-other : (r : Row) (line : Line) → IsLine x.side h.arrivals r line → names r.rule.vl x.bytes
       ≡ false → IsLine x.side (x ∷ h.arrivals) r line
   line-other r line is other = record {
@@ -187,26 +187,26 @@ module _ (t : Rows) (x : Arrival) (w : Working) (h : History) (st : StandsFor t 
       (at : slice_get w.lines.items place ≡ Some line)
       (accepted : reason_of t h.arrivals x ≡ None) (shortest : 64 ≤ length x.bytes)
       (longest : length x.bytes ≤ 1518) (small : IfSome line.longest_wait (λ wait. wait ≤ 100000000))
-      (ports : List (Pending Carried)) (lost : PortSet) (old_count : length w.ports.items ≡ 24)
+      (ports : List (Pending HeldFrame)) (lost : PortSet) (old_count : length w.ports.items ≡ 24)
       (new_count : length ports ≡ 24)
-      (offered : (i : ℕ) (o p : Pending Carried) → slice_get w.ports.items i ≡ Some o → slice_get ports i ≡ Some p →
+      (offered : (i : ℕ) (o p : Pending HeldFrame) → slice_get w.ports.items i ≡ Some o → slice_get ports i ≡ Some p →
       IsOffered x.time line.priority
-      (share_of (carried_with x.tag line.longest_wait x.bytes) (is_among i line.goes.items)) o p
+      (share_of (held_frame x.tag line.longest_wait x.bytes) (is_among i line.goes.items)) o p
       (holds lost (i + 1))) where
     line-of : IsLine x.side h.arrivals n.row line
     line-of = st.lines place n.row line n.stands at
 
-    offered-at : (i : ℕ) (o p : Pending Carried) → i < 24 → slice_get w.ports.items i ≡ Some o
+    offered-at : (i : ℕ) (o p : Pending HeldFrame) → i < 24 → slice_get w.ports.items i ≡ Some o
         → slice_get ports i ≡ Some p →
         IsOffered x.time line.priority
-        (share_of (carried_with x.tag line.longest_wait x.bytes) (n.row.goes_to (i + 1))) o p
+        (share_of (held_frame x.tag line.longest_wait x.bytes) (n.row.goes_to (i + 1))) o p
         (holds lost (i + 1))
     offered-at i o p below at_o at_p =
         subst (λ b. IsOffered x.time line.priority
-        (share_of (carried_with x.tag line.longest_wait x.bytes) b) o p (holds lost (i + 1)))
+        (share_of (held_frame x.tag line.longest_wait x.bytes) b) o p (holds lost (i + 1)))
         (line-of.goes i below) (offered i o p at_o at_p)
 
-    port-after : (i : ℕ) (p : Pending Carried) → slice_get ports i ≡ Some p
+    port-after : (i : ℕ) (p : Pending HeldFrame) → slice_get ports i ≡ Some p
         → queue.StandsFor facts p (calls_at t x.side (i + 1) (with_arrival h x) p.clock)
     port-after i p at_p =
         let below : i < 24 = omega (arith, slice_get_within ports i p at_p, new_count) in
@@ -263,12 +263,12 @@ sum-grows f (x ∷ xs) (y ∷ ys) same each =
     omega (arith, first, rest, sum_by-cons f x xs, sum_by-cons f y ys)
 
 -- ports through the offers of shares are sound and quiet, and hold at most one frame more each
-module _ (time clock : ℕ) (priority : Priority) (old ports : List (Pending Carried))
-    (share : ℕ → Option Carried) (lost : PortSet) (old_count : length old ≡ 24)
+module _ (time clock : ℕ) (priority : Priority) (old ports : List (Pending HeldFrame))
+    (share : ℕ → Option HeldFrame) (lost : PortSet) (old_count : length old ≡ 24)
     (new_count : length ports ≡ 24)
-    (offered : (i : ℕ) (o p : Pending Carried) → slice_get old i ≡ Some o
+    (offered : (i : ℕ) (o p : Pending HeldFrame) → slice_get old i ≡ Some o
     → slice_get ports i ≡ Some p → IsOffered time priority (share i) o p (holds lost (i + 1))) where
-  old-at : (i : ℕ) (p : Pending Carried) → slice_get ports i ≡ Some p → (o : Pending Carried)
+  old-at : (i : ℕ) (p : Pending HeldFrame) → slice_get ports i ≡ Some p → (o : Pending HeldFrame)
       × (slice_get old i ≡ Some o)
   old-at i p at_p = found-at old i (omega (arith, slice_get_within ports i p at_p, new_count, old_count))
 

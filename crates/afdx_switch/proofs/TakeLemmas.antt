@@ -19,8 +19,8 @@ use Rattle.afdx_port.specs.declared.pending.Pending.{Pending}
 use Rattle.afdx_port.proofs.DueLemmas.{next_due, quiet_after, after_quiet}
 use Rattle.afdx_port.proofs.TakeLemmas as port
 use Rattle.afdx_port.proofs.TurnLemmas.{eqb-same}
-use Rattle.afdx_switch.specs.Carried.{Carried, facts}
-use Rattle.afdx_switch.specs.Switching.{History, PortTurn, StandsFor, IsNextAt, IsNextOf, IsDue}
+use Rattle.afdx_switch.specs.HeldFrames.{HeldFrame, facts}
+use Rattle.afdx_switch.specs.Switching.{SwitchHistory, PortTurn, StandsFor, IsNextAt, IsNextOf, IsDue}
 use Rattle.afdx_switch.specs.Switching.{IsDone, GoesBefore, calls_at, taken_at, with_take}
 use Rattle.afdx_switch.specs.Sound.{IsPortSound, IsLineSound}
 use Rattle.afdx_switch.specs.Tables.{byte_ns_at, buffer_at, entries_at}
@@ -29,21 +29,21 @@ use Rattle.afdx_switch.specs.declared.working.Working.{Working}
 use Rattle.afdx_switch.proofs.ListLemmas.{slice_get-set_here, slice_get-set_there, all-set, all-at}
 use Rattle.afdx_switch.proofs.StandsLemmas.{all-from}
 
-taken-here : (port : ℕ) (s : Turn Carried) (earlier : List PortTurn)
+taken-here : (port : ℕ) (s : Turn HeldFrame) (earlier : List PortTurn)
     → taken_at port (record { port = port; turn = s } ∷ earlier) ≡ s ∷ taken_at port earlier
 unfolding taken_at
 taken-here port s earlier = rw (eqb-same port port refl) refl
 
-taken-there : (n port : ℕ) (s : Turn Carried) (earlier : List PortTurn) → port ≢ n
+taken-there : (n port : ℕ) (s : Turn HeldFrame) (earlier : List PortTurn) → port ≢ n
     → taken_at port (record { port = n; turn = s } ∷ earlier) ≡ taken_at port earlier
 unfolding taken_at
 taken-there n port s earlier other = rw (ne_eqb n port (λ same. other (sym same))) refl
 
 -- a port that gives its turn by then gives it
-pub must-give : (ports : List (Pending Carried)) (until n place : ℕ) (d : Due) (p : Pending Carried)
-    (r : Option (Left Carried)) (calls : queue.History Carried) →
+pub must-give : (ports : List (Pending HeldFrame)) (until n place : ℕ) (d : Due) (p : Pending HeldFrame)
+    (r : Option (Left HeldFrame)) (calls : queue.PortHistory HeldFrame) →
     IsFirstAt facts ports until n place d → slice_get ports place ≡ Some p → queue.StandsFor facts p calls → r ≡ None →
-    ((h : queue.History Carried) (s : Turn Carried) → queue.StandsFor facts p h
+    ((h : queue.PortHistory HeldFrame) (s : Turn HeldFrame) → queue.StandsFor facts p h
     → IsNext h.byte_ns h.entries h.taken s → IfNone r (IsAfter until (queue.due_at s))) → ⊥
 must-give ports until n place d p r calls first at stands none no_more =
     let q_at = first.stands in
@@ -55,7 +55,7 @@ must-give ports until n place d p r calls first at stands none no_more =
     omega (arith, late, first.by)
 
 -- late enough, a port that gives no turn by then has none to come
-nothing-due : (ports : List (Pending Carried)) (until n i : ℕ) (p : Pending Carried)
+nothing-due : (ports : List (Pending HeldFrame)) (until n i : ℕ) (p : Pending HeldFrame)
     → AreQuiet facts ports until n → AreLimited facts ports n → 1200000000000000 ≤ until → i < n
     → slice_get ports i ≡ Some p →
     held.due_of facts p ≡ None
@@ -68,7 +68,7 @@ nothing-due ports until n i p quiet limited late below at = by (held.due_of fact
         absurd (omega (arith, after, late, limited i p d below at e))
 
 -- then none gives a turn at any time
-pub quiet-ever : (ports : List (Pending Carried)) (until time : ℕ)
+pub quiet-ever : (ports : List (Pending HeldFrame)) (until time : ℕ)
     → AreQuiet facts ports until (length ports) → AreLimited facts ports (length ports)
     → 1200000000000000 ≤ until → All (λ p. held.IsQuiet facts p time) ports
 quiet-ever ports until time quiet limited late = all-from (λ p. held.IsQuiet facts p time) ports (λ i p at.
@@ -77,7 +77,7 @@ quiet-ever ports until time quiet limited late = all-from (λ p. held.IsQuiet fa
     (slice_get_within ports i p at) at)) tt)
 
 -- where the turn that goes first is given by a time, it isn't so that none is given by then
-pub unquiet-first : (ports : List (Pending Carried)) (until place time : ℕ) (d : Due)
+pub unquiet-first : (ports : List (Pending HeldFrame)) (until place time : ℕ) (d : Due)
     → IsFirstAt facts ports until (length ports) place d
     → All (λ p. held.IsQuiet facts p time) ports → IsAfter time d
 unquiet-first ports until place time d first quiet =
@@ -93,13 +93,13 @@ before-given time m n false true le lt = omega arith
 before-given time m n false false le lt = omega arith
 
 -- where the turn that goes first is given after a time, none is given by then
-pub quiet-first : (ports : List (Pending Carried)) (until place time : ℕ) (d : Due)
+pub quiet-first : (ports : List (Pending HeldFrame)) (until place time : ℕ) (d : Due)
     → IsFirstAt facts ports until (length ports) place d → IsAfter time d
     → All (λ p. held.IsQuiet facts p time) ports
 quiet-first ports until place time d first after =
     all-from (λ p. held.IsQuiet facts p time) ports (λ i p at. by i p at (held.due_of facts p) refl)
   where
-    by : (i : ℕ) (p : Pending Carried) → slice_get ports i ≡ Some p → (o : Option Due)
+    by : (i : ℕ) (p : Pending HeldFrame) → slice_get ports i ≡ Some p → (o : Option Due)
         → held.due_of facts p ≡ o → held.IsQuiet facts p time
     by i p at None e = subst (λ z. IfSome z (λ x. IsAfter time x)) (sym e) tt
     by i p at (Some f) e =
@@ -108,8 +108,8 @@ quiet-first ports until place time d first after =
         subst (λ z. IfSome z (λ x. IsAfter time x)) (sym e) later
 
 -- what is due at the port that gives its turn first
-pub due-of-first : (ports : List (Pending Carried)) (until n place : ℕ) (d : Due)
-    (p : Pending Carried) → IsFirstAt facts ports until n place d → slice_get ports place ≡ Some p
+pub due-of-first : (ports : List (Pending HeldFrame)) (until n place : ℕ) (d : Due)
+    (p : Pending HeldFrame) → IsFirstAt facts ports until n place d → slice_get ports place ≡ Some p
     → held.due_of facts p ≡ Some d
 due-of-first ports until n place d p first at =
     let stands = first.stands in
@@ -117,7 +117,7 @@ due-of-first ports until n place d p first at =
     subst (λ q. held.due_of facts q ≡ Some d) (sym same) first.due
 
 -- so no port gives a turn by a time exactly where that one is given after it
-pub quiet-iff : (ports : List (Pending Carried)) (until place time : ℕ) (d : Due) (o : Option Due)
+pub quiet-iff : (ports : List (Pending HeldFrame)) (until place time : ℕ) (d : Due) (o : Option Due)
     → IsFirstAt facts ports until (length ports) place d → o ≡ Some d →
     (All (λ p. held.IsQuiet facts p time) ports → IfSome o (λ e. IsAfter time e))
     × (IfSome o (λ e. IsAfter time e) → All (λ p. held.IsQuiet facts p time) ports)
@@ -126,13 +126,13 @@ quiet-iff ports until place time d o first is = (
   λ after. quiet-first ports until place time d first (subst (λ z. IfSome z (λ e. IsAfter time e)) is after),
 )
 
-module _ (t : Rows) (side : Side) (w : Working) (h : History) (st : StandsFor t side w h) where
+module _ (t : Rows) (side : Side) (w : Working) (h : SwitchHistory) (st : StandsFor t side w h) where
   -- the turn that is due at a port
-  due-at : (i : ℕ) (p : Pending Carried) (s : Turn Carried) → slice_get w.ports.items i ≡ Some p
+  due-at : (i : ℕ) (p : Pending HeldFrame) (s : Turn HeldFrame) → slice_get w.ports.items i ≡ Some p
       → IsNextAt t side h (i + 1) s → held.due_of facts p ≡ Some (queue.due_at s)
   due-at i p s at next = next_due facts p (calls_at t side (i + 1) h p.clock) s (st.ports i p at) next
 
-  port-at : (i : ℕ) → i < length w.ports.items → (p : Pending Carried) × (slice_get w.ports.items i ≡ Some p)
+  port-at : (i : ℕ) → i < length w.ports.items → (p : Pending HeldFrame) × (slice_get w.ports.items i ≡ Some p)
   port-at i below = elim (slice_get_cases w.ports.items i).1 [
     | inl found ↦ (found.0, found.2)
     | inr past ↦ absurd (omega (arith, below, past.0))
@@ -140,7 +140,7 @@ module _ (t : Rows) (side : Side) (w : Working) (h : History) (st : StandsFor t 
 
   -- where no port gives a turn by then, no next turn is over by then
   pub none-next : (until : ℕ) → length w.ports.items ≡ 24
-      → AreQuiet facts w.ports.items until (length w.ports.items) → (port : ℕ) (s : Turn Carried)
+      → AreQuiet facts w.ports.items until (length w.ports.items) → (port : ℕ) (s : Turn HeldFrame)
       → 1 ≤ port → port ≤ 24 → IsNextAt t side h port s →
       IsAfter until (queue.due_at s)
   none-next until count quiet zero s low high next = absurd (omega (arith, low))
@@ -152,7 +152,7 @@ module _ (t : Rows) (side : Side) (w : Working) (h : History) (st : StandsFor t 
 
   -- where none gives a turn by a time, each next turn is given after it
   pub quiet-next : (time : ℕ) → All (λ p. held.IsQuiet facts p time) w.ports.items
-      → (port : ℕ) (s : Turn Carried) → 1 ≤ port → port ≤ 24 → IsNextAt t side h port s
+      → (port : ℕ) (s : Turn HeldFrame) → 1 ≤ port → port ≤ 24 → IsNextAt t side h port s
       → IsAfter time (queue.due_at s)
   quiet-next time quiet zero s low high next = absurd (omega (arith, low))
   quiet-next time quiet (suc i) s low high next =
@@ -177,7 +177,7 @@ module _ (t : Rows) (side : Side) (w : Working) (h : History) (st : StandsFor t 
       (st.ports i found.0 found.1) none)
 
   -- the turn of the port that gives its turn first is the next one
-  module _ (until place : ℕ) (d : Due) (p : Pending Carried) (turn : Turn Carried) (count : length w.ports.items ≡ 24)
+  module _ (until place : ℕ) (d : Due) (p : Pending HeldFrame) (turn : Turn HeldFrame) (count : length w.ports.items ≡ 24)
       (first : IsFirstAt facts w.ports.items until (length w.ports.items) place d)
       (at : slice_get w.ports.items place ≡ Some p)
       (next : IsNextAt t side h (place + 1) turn) where
@@ -189,7 +189,7 @@ module _ (t : Rows) (side : Side) (w : Working) (h : History) (st : StandsFor t 
         let is_next : held.due_of facts p ≡ Some (queue.due_at turn) = due-at place p turn at next in
         cc
 
-    before : (port : ℕ) (s : Turn Carried) → 1 ≤ port → port ≤ 24 → IsNextAt t side h port s
+    before : (port : ℕ) (s : Turn HeldFrame) → 1 ≤ port → port ≤ 24 → IsNextAt t side h port s
         → GoesBefore (record { port = place + 1; turn = turn }) port s
     before zero s low high is_next = absurd (omega (arith, low))
     before (suc i) s low high is_next =
@@ -217,10 +217,10 @@ module _ (t : Rows) (side : Side) (w : Working) (h : History) (st : StandsFor t 
     }
 
   -- what is due there is due at the switch
-  pub due-comes : (until place : ℕ) (d : Due) (p : Pending Carried) (o : Option Due)
+  pub due-comes : (until place : ℕ) (d : Due) (p : Pending HeldFrame) (o : Option Due)
       → length w.ports.items ≡ 24 → IsFirstAt facts w.ports.items until (length w.ports.items) place
       d → slice_get w.ports.items place ≡ Some p →
-      IfSome o (λ e. (s : Turn Carried) × IsNextAt t side h (place + 1) s × (e ≡ queue.due_at s))
+      IfSome o (λ e. (s : Turn HeldFrame) × IsNextAt t side h (place + 1) s × (e ≡ queue.due_at s))
       → IfSome o (λ e. IsDue t side h e)
   due-comes until place d p None count first at comes = tt
   due-comes until place d p (Some e) count first at comes =
@@ -230,7 +230,7 @@ module _ (t : Rows) (side : Side) (w : Working) (h : History) (st : StandsFor t 
         is = comes.2;
       }
 
-  module _ (until place : ℕ) (d : Due) (p new : Pending Carried) (left : Left Carried)
+  module _ (until place : ℕ) (d : Due) (p new : Pending HeldFrame) (left : Left HeldFrame)
       (count : length w.ports.items ≡ 24)
       (first : IsFirstAt facts w.ports.items until (length w.ports.items) place d)
       (at : slice_get w.ports.items place ≡ Some p)
@@ -238,7 +238,7 @@ module _ (t : Rows) (side : Side) (w : Working) (h : History) (st : StandsFor t 
     abbrev pub gone : PortTurn
     gone = record { port = place + 1; turn = gives.turn }
 
-    port-after : (i : ℕ) (q : Pending Carried) → slice_get (set w.ports.items place new) i ≡ Some q
+    port-after : (i : ℕ) (q : Pending HeldFrame) → slice_get (set w.ports.items place new) i ≡ Some q
         → (i ≡ place) ⊎ (i ≢ place) →
         queue.StandsFor facts q (calls_at t side (i + 1) (with_take h gone until) q.clock)
     port-after i q at_q (inl same) =
@@ -257,7 +257,7 @@ module _ (t : Rows) (side : Side) (w : Working) (h : History) (st : StandsFor t 
         (calls_at t side (place + 1) (with_take h gone until) k.clock)) is_new stands in
         subst (λ k. queue.StandsFor facts q (calls_at t side (k + 1) (with_take h gone until) q.clock)) (sym same) for_q
       where
-        calls : List (Turn Carried) → ℕ → queue.History Carried
+        calls : List (Turn HeldFrame) → ℕ → queue.PortHistory HeldFrame
         calls ts time = record {
           byte_ns = byte_ns_at t (place + 1);
           buffer = buffer_at t (place + 1);
@@ -290,11 +290,11 @@ module _ (t : Rows) (side : Side) (w : Working) (h : History) (st : StandsFor t 
     }
 
 -- a port that gave its turn is sound still
-pub taken-sound : (ports : List (Pending Carried)) (time until place : ℕ) (p new : Pending Carried)
-    (left : Left Carried) →
+pub taken-sound : (ports : List (Pending HeldFrame)) (time until place : ℕ) (p new : Pending HeldFrame)
+    (left : Left HeldFrame) →
     All (IsPortSound time) ports → time ≤ until → place < length ports
     → slice_get ports place ≡ Some p → held.last_time new ≡ until →
-    ((h : queue.History Carried) → queue.StandsFor facts p h → queue.Gives facts h until left new)
+    ((h : queue.PortHistory HeldFrame) → queue.StandsFor facts p h → queue.Gives facts h until left new)
     → All (IsPortSound until) (set ports place new)
 taken-sound ports time until place p new left all later below at clock gives =
     let sound = all-at (IsPortSound time) ports place p all at in
@@ -313,7 +313,7 @@ pub lines-later : (lines : List Line) (time until : ℕ) → time ≤ until → 
 lines-later lines time until later all k d lt = let s = all k d lt in
     record { in_time = omega (arith, s.in_time, later); wait = s.wait; goes = s.goes }
 
-pub ports-later : (ports : List (Pending Carried)) (time until : ℕ) → time ≤ until
+pub ports-later : (ports : List (Pending HeldFrame)) (time until : ℕ) → time ≤ until
     → All (IsPortSound time) ports → All (IsPortSound until) ports
 ports-later ports time until later all k d lt = let s = all k d lt in
     record { in_time = omega (arith, s.in_time, later); calls = s.calls; stands = s.stands }

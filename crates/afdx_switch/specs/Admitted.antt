@@ -13,7 +13,7 @@ use Rattle.afdx_port.specs.Due.{IsAfter}
 use Rattle.afdx_port.specs.History.{due_at}
 use Rattle.afdx_port.specs.Schedule.{Entry, Turn, has_turn, IsNext, AreTurns}
 use Rattle.afdx_bounds.specs.Outputs.{AreTimed}
-use Rattle.afdx_switch.specs.Carried.{Carried}
+use Rattle.afdx_switch.specs.HeldFrames.{HeldFrame}
 use Rattle.afdx_switch.specs.Laws.{is_of}
 use Rattle.afdx_switch.specs.Ports.{holds}
 use Rattle.afdx_switch.specs.Tables.{rule_of, goes_to, byte_ns_at, entries_at}
@@ -36,7 +36,7 @@ pub record Passing : Type 0 where
 abbrev pub passing : Arrival → Passing
 passing x = record { tag = x.tag; time = x.time; bytes = x.bytes }
 
-abbrev pub passing_in : Entry Carried → Passing
+abbrev pub passing_in : Entry HeldFrame → Passing
 passing_in e = record { tag = e.item.tag; time = e.time; bytes = e.item.bytes }
 
 -- those of a link's own arrivals that are accepted
@@ -55,15 +55,15 @@ abbrev pub accepted_frames : Rows → LinkRow → Side → List Arrival → List
 accepted_frames t l side arrivals = map passing (reverse (accepted_on t l side arrivals))
 
 -- the frames of a link among some entries, in their order
-abbrev pub frames_among : ℕ → List (Entry Carried) → List Passing
+abbrev pub frames_among : ℕ → List (Entry HeldFrame) → List Passing
 frames_among vl entries = map passing_in (filter (is_of vl) entries)
 
 -- those turns that are slots, and not drops of frames that are too old
-abbrev pub slots : List (Turn Carried) → List (Turn Carried)
+abbrev pub slots : List (Turn HeldFrame) → List (Turn HeldFrame)
 slots turns = filter (λ s. not s.too_old) turns
 
 -- the frames of a link that left a port by these turns, in the order in which they left
-abbrev pub frames_left : ℕ → List (Turn Carried) → List Passing
+abbrev pub frames_left : ℕ → List (Turn HeldFrame) → List Passing
 frames_left vl turns = frames_among vl (entries_in (slots turns))
 
 -- an accepted arrival is lost nowhere
@@ -85,34 +85,34 @@ AcceptedEnter = (t : Rows) (arrivals : List Arrival) (side : Side) (port place :
     ≡ (if goes_to t l port then accepted_frames t l side arrivals else [])
 
 -- the turns of a link's frames are slots, which end within its latency
-abbrev pub AreInTime : LinkRow → List (Turn Carried) → Type 0
+abbrev pub AreInTime : LinkRow → List (Turn HeldFrame) → Type 0
 AreInTime l turns = All (λ s. is_of l.vl s.entry ≡ true → (s.too_old ≡ false)
     × (s.end ≤ s.entry.time + 1000 * l.latency_us)) turns
 
 abbrev pub TurnsAreInTime : Type 0
 TurnsAreInTime = (t : Rows) (arrivals : List Arrival) (side : Side) (port place : ℕ) (l : LinkRow)
-    (turns : List (Turn Carried)) →
+    (turns : List (Turn HeldFrame)) →
     IsAdmittedRun t arrivals → slice_get t.links place ≡ Some l →
     AreTurns (byte_ns_at t port) (entries_at t side port arrivals) turns → AreInTime l turns
 
 -- each entry of a link whose latency is over by then has had its turn
-abbrev pub HaveLeft : LinkRow → ℕ → List (Entry Carried) → List (Turn Carried) → Type 0
+abbrev pub HaveLeft : LinkRow → ℕ → List (Entry HeldFrame) → List (Turn HeldFrame) → Type 0
 HaveLeft l until entries turns =
-    (place : ℕ) (e : Entry Carried) → slice_get entries place ≡ Some e → is_of l.vl e ≡ true →
+    (place : ℕ) (e : Entry HeldFrame) → slice_get entries place ≡ Some e → is_of l.vl e ≡ true →
     e.time + 1000 * l.latency_us ≤ until → has_turn turns place ≡ true
 
 -- so it is where no further turn is given by then
 abbrev pub AllHaveLeft : Type 0
 AllHaveLeft = (t : Rows) (arrivals : List Arrival) (side : Side) (port place : ℕ) (l : LinkRow)
-    (turns : List (Turn Carried)) (until : ℕ) →
+    (turns : List (Turn HeldFrame)) (until : ℕ) →
     IsAdmittedRun t arrivals → slice_get t.links place ≡ Some l →
     AreTurns (byte_ns_at t port) (entries_at t side port arrivals) turns →
-    ((s : Turn Carried) → IsNext (byte_ns_at t port) (entries_at t side port arrivals) turns s →
+    ((s : Turn HeldFrame) → IsNext (byte_ns_at t port) (entries_at t side port arrivals) turns s →
     IsAfter until (due_at s)) →
     HaveLeft l until (entries_at t side port arrivals) turns
 
 -- a turn is a slot, which ends within the latency of the link whose frame it is
-pub record IsInTime (t : Rows) (s : Turn Carried) : Type 0 where
+pub record IsInTime (t : Rows) (s : Turn HeldFrame) : Type 0 where
   pub place : ℕ
   pub link : LinkRow
   pub stands : slice_get t.links place ≡ Some link

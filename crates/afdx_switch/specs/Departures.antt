@@ -1,11 +1,11 @@
 -- What is known of a frame whose turn at an output port is over.
 use Rattle.std.specs.Prelude.{ℕ}
 use Rattle.afdx_port.specs.declared.left.Left.{Left}
-use Rattle.afdx_switch.specs.Carried.{Carried}
+use Rattle.afdx_switch.specs.HeldFrames.{HeldFrame}
 use Rattle.afdx_switch.specs.declared.switch.Departure.{Departure}
 
 -- the frame, when its slot ended, and whether it was dropped for its age, as its port gave it
-abbrev pub as_given : Departure → Left Carried
+abbrev pub as_given : Departure → Left HeldFrame
 as_given departure = departure.left
 
 -- the port that gave it, 1 to 24

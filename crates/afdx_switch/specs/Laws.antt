@@ -8,13 +8,13 @@ use Rattle.afdx_police.specs.declared.shape.Reason.{Reason}
 use Rattle.afdx_port.specs.Classes.{GoInOrder}
 use Rattle.afdx_port.specs.Schedule.{Entry, AreTurns}
 use Rattle.afdx_bounds.specs.Outputs.{Row, entry_of}
-use Rattle.afdx_switch.specs.Carried.{Carried}
+use Rattle.afdx_switch.specs.HeldFrames.{HeldFrame}
 use Rattle.afdx_switch.specs.Tables.{row_named, byte_ns_at, carried, entries_at}
 use Rattle.afdx_switch.specs.Ports.{holds}
 use Rattle.afdx_switch.specs.Verdicts.{reason_of, is_lost_at, numbers, lost_ports, IsVerdict}
 use Rattle.afdx_switch.specs.declared.ports.PortSet.{PortSet}
 use Rattle.afdx_switch.specs.declared.verdict.Verdict.TheVariants.{Accepted}
-use Rattle.afdx_switch.specs.Switching.{History, StandsFor, taken_at}
+use Rattle.afdx_switch.specs.Switching.{SwitchHistory, StandsFor, taken_at}
 use Rattle.afdx_switch.specs.declared.working.Working.{Working}
 
 -- a verdict comes from the own arrivals of the link that the frame names: where those are equal, it
@@ -48,29 +48,30 @@ EntriesGrow = (t : Rows) (side : Side) (port : ℕ) (x : Arrival) (past : List A
     EntriesStep t side port x past
 
 -- the entry is of a frame of this link
-abbrev pub is_of : ℕ → Entry Carried → Bool
+abbrev pub is_of : ℕ → Entry HeldFrame → Bool
 is_of vl e = names vl e.item.bytes
 
 -- the turns that a switch gave at a port are the first of the port's schedule, each next after
 -- those before it
 abbrev pub TakenAreTurns : Type 0
-TakenAreTurns = (t : Rows) (side : Side) (w : Working) (h : History) (port : ℕ) →
+TakenAreTurns = (t : Rows) (side : Side) (w : Working) (h : SwitchHistory) (port : ℕ) →
     StandsFor t side w h → 1 ≤ port → port ≤ 24 →
     AreTurns (byte_ns_at t port) (entries_at t side port h.arrivals) (taken_at port h.taken)
 
 -- the frames of a link leave a port, or are dropped there as too old, in the order in which they
 -- came: those that have had their turns, and then those that haven't, are its entries
 abbrev pub LinksGoInOrder : Type 0
-LinksGoInOrder = (t : Rows) (side : Side) (w : Working) (h : History) (port vl : ℕ) → IsLawful t →
+LinksGoInOrder = (t : Rows) (side : Side) (w : Working) (h : SwitchHistory) (port vl : ℕ) →
+    IsLawful t →
     StandsFor t side w h → 1 ≤ port → port ≤ 24 →
     GoInOrder (is_of vl) (entries_at t side port h.arrivals) (taken_at port h.taken)
 
 -- an arrival on the other side changes nothing
-abbrev pub with_other : History → Arrival → History
+abbrev pub with_other : SwitchHistory → Arrival → SwitchHistory
 with_other h x = record { arrivals = x ∷ h.arrivals; taken = h.taken; time = h.time }
 
 abbrev pub OtherSideIsApart : Type 0
-OtherSideIsApart = (t : Rows) (side : Side) (w : Working) (h : History) (x : Arrival) →
+OtherSideIsApart = (t : Rows) (side : Side) (w : Working) (h : SwitchHistory) (x : Arrival) →
     StandsFor t side w h → is_side side x.side ≡ false → StandsFor t side w (with_other h x)
 
 -- the ports of an answer's set, in ascending order, are those at which the arrival is lost

@@ -1,6 +1,6 @@
 pub mod Ports
-pub mod Carried
-pub mod CarriedLaw
+pub mod HeldFrames
+pub mod HeldFramesLaw
 pub mod Tables
 pub mod Verdicts
 pub mod Lines

@@ -9,9 +9,9 @@ use Rattle.afdx_police.specs.Arrival.{Arrival, is_side, names}
 use Rattle.afdx_port.specs.Classes.{entries_in}
 use Rattle.afdx_port.specs.Schedule.{Turn}
 use Rattle.afdx_bounds.specs.Outputs.{Row}
-use Rattle.afdx_switch.specs.Carried.{Carried}
+use Rattle.afdx_switch.specs.HeldFrames.{HeldFrame}
 use Rattle.afdx_switch.specs.Laws.{is_of}
-use Rattle.afdx_switch.specs.Switching.{History, StandsFor, IsDone, taken_at}
+use Rattle.afdx_switch.specs.Switching.{SwitchHistory, StandsFor, IsDone, taken_at}
 use Rattle.afdx_switch.specs.Tables.{rows_of, row_named, carried}
 use Rattle.afdx_switch.specs.Verdicts.{reason_of, is_lost_at}
 use Rattle.afdx_switch.specs.declared.working.Working.{Working}
@@ -28,7 +28,7 @@ enters t side port past x =
     && (goes_on t port x.bytes && not (is_lost_at t past x port)))
 
 -- the frames of the link with this identifier that enter, each with its tag, the first one first
-unfoldable pub entered : Rows → Side → ℕ → ℕ → List Arrival → List Carried
+unfoldable pub entered : Rows → Side → ℕ → ℕ → List Arrival → List HeldFrame
 entered t side port vl [] = []
 entered t side port vl (x ∷ past) =
     if names vl x.bytes && enters t side port past x
@@ -36,20 +36,21 @@ entered t side port vl (x ∷ past) =
     else entered t side port vl past
 
 -- the frames of the link that had these turns, the first one first
-abbrev pub frames_of : ℕ → List (Turn Carried) → List Carried
+abbrev pub frames_of : ℕ → List (Turn HeldFrame) → List HeldFrame
 frames_of vl turns = map (λ e. e.item) (filter (is_of vl) (entries_in turns))
 
 -- the frames of a link that a port gave are the first of those that entered it, byte for byte and
 -- with their tags; others wait
 abbrev pub FramesAreOwn : Type 0
-FramesAreOwn = (t : Rows) (side : Side) (w : Working) (h : History) (port vl : ℕ) → IsLawful t →
+FramesAreOwn = (t : Rows) (side : Side) (w : Working) (h : SwitchHistory) (port vl : ℕ) →
+    IsLawful t →
     StandsFor t side w h → 1 ≤ port → port ≤ 24 →
-    (waiting : List Carried) ×
+    (waiting : List HeldFrame) ×
     (entered t side port vl h.arrivals ≡ frames_of vl (taken_at port h.taken) ++ waiting)
 
 -- and all of them where each entry of the port has had its turn
 abbrev pub AllFramesAreOwn : Type 0
-AllFramesAreOwn = (t : Rows) (side : Side) (h : History) (port vl : ℕ) → IsLawful t →
+AllFramesAreOwn = (t : Rows) (side : Side) (h : SwitchHistory) (port vl : ℕ) → IsLawful t →
     IsDone t side h port →
     entered t side port vl h.arrivals ≡ frames_of vl (taken_at port h.taken)
 

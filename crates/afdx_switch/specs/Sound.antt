@@ -7,7 +7,7 @@ use Rattle.afdx_port.specs.Ports.{AreServed}
 use Rattle.afdx_port.specs.Serving.{IsServing}
 use Rattle.afdx_port.specs.Times.{greatest_wait}
 use Rattle.afdx_port.specs.declared.pending.Pending.{Pending}
-use Rattle.afdx_switch.specs.Carried.{Carried, facts}
+use Rattle.afdx_switch.specs.HeldFrames.{HeldFrame, facts}
 use Rattle.afdx_switch.specs.Lines.{ArePlaces}
 use Rattle.afdx_switch.specs.declared.line.Line.{Line}
 use Rattle.afdx_switch.specs.declared.working.Working.{Working}
@@ -18,12 +18,12 @@ pub record IsLineSound (time : ℕ) (line : Line) : Type 0 where
   pub wait : IfSome line.longest_wait (λ wait. wait ≤ greatest_wait)
   pub goes : ArePlaces line.goes.items
 
-pub record IsPortSound (time : ℕ) (p : Pending Carried) : Type 0 where
+pub record IsPortSound (time : ℕ) (p : Pending HeldFrame) : Type 0 where
   pub in_time : held.last_time p ≤ time
-  pub calls : queue.History Carried
+  pub calls : queue.PortHistory HeldFrame
   pub stands : queue.StandsFor facts p calls
 
-pub record IsSound (w : Working) : Type 0 where
+pub record IsSwitchSound (w : Working) : Type 0 where
   pub lines : All (IsLineSound w.clock) w.lines.items
   pub place_count : vec_len w.places ≡ 65536
   pub places : (vl place : ℕ) → slice_get w.places.items vl ≡ Some (Some place) →

@@ -11,7 +11,7 @@ use Rattle.afdx_port.specs.Schedule.{Turn, IsNext, IsSchedule}
 use Rattle.afdx_port.specs.declared.left.Due.{Due}
 use Rattle.afdx_port.specs.declared.pending.Pending.{Pending}
 use Rattle.afdx_bounds.specs.Outputs.{Row}
-use Rattle.afdx_switch.specs.Carried.{Carried, facts}
+use Rattle.afdx_switch.specs.HeldFrames.{HeldFrame, facts}
 use Rattle.afdx_switch.specs.Tables.{rows_of, byte_ns_at, buffer_at, entries_at}
 use Rattle.afdx_switch.specs.Departures.{as_given, giving_port}
 use Rattle.afdx_switch.specs.declared.line.Line.{Line}
@@ -22,35 +22,35 @@ use Rattle.afdx_switch.specs.Lines.{IsLine, IsPlaceOf}
 -- a turn of the output port of this number
 pub record PortTurn : Type 0 where
   pub port : ℕ
-  pub turn : Turn Carried
+  pub turn : Turn HeldFrame
 
 -- the calls of a switch so far: what arrived on either side, the turns that were taken, both with
 -- the newest first, and the last time used
-pub record History : Type 0 where
+pub record SwitchHistory : Type 0 where
   pub arrivals : List Arrival
   pub taken : List PortTurn
   pub time : ℕ
 
-abbrev pub no_calls : History
+abbrev pub no_calls : SwitchHistory
 no_calls = record { arrivals = []; taken = []; time = 0 }
 
-abbrev pub with_arrival : History → Arrival → History
+abbrev pub with_arrival : SwitchHistory → Arrival → SwitchHistory
 with_arrival h x = record { arrivals = x ∷ h.arrivals; taken = h.taken; time = x.time }
 
-abbrev pub with_take : History → PortTurn → ℕ → History
+abbrev pub with_take : SwitchHistory → PortTurn → ℕ → SwitchHistory
 with_take h gone until = record { arrivals = h.arrivals; taken = gone ∷ h.taken; time = until }
 
-abbrev pub at : History → ℕ → History
+abbrev pub at : SwitchHistory → ℕ → SwitchHistory
 at h time = record { arrivals = h.arrivals; taken = h.taken; time = time }
 
 -- the turns of a port that were taken
-unfoldable pub taken_at : ℕ → List PortTurn → List (Turn Carried)
+unfoldable pub taken_at : ℕ → List PortTurn → List (Turn HeldFrame)
 taken_at port [] = []
 taken_at port (gone ∷ earlier) =
     if gone.port == port then gone.turn ∷ taken_at port earlier else taken_at port earlier
 
 -- the calls of a port, of which the last was at this time
-abbrev pub calls_at : Rows → Side → ℕ → History → ℕ → queue.History Carried
+abbrev pub calls_at : Rows → Side → ℕ → SwitchHistory → ℕ → queue.PortHistory HeldFrame
 calls_at t side port h time =
     record {
       byte_ns = byte_ns_at t port;
@@ -61,37 +61,37 @@ calls_at t side port h time =
     }
 
 -- the next turn of a port
-abbrev pub IsNextAt : Rows → Side → History → ℕ → Turn Carried → Type 0
+abbrev pub IsNextAt : Rows → Side → SwitchHistory → ℕ → Turn HeldFrame → Type 0
 IsNextAt t side h port s =
     IsNext (byte_ns_at t port) (entries_at t side port h.arrivals) (taken_at port h.taken) s
 
 -- one port's next turn goes before or together with another's
-abbrev pub GoesBefore : PortTurn → ℕ → Turn Carried → Type 0
+abbrev pub GoesBefore : PortTurn → ℕ → Turn HeldFrame → Type 0
 GoesBefore gone port s =
     (order_of (queue.due_at gone.turn) < order_of (queue.due_at s))
     ⊎ ((order_of (queue.due_at gone.turn) ≡ order_of (queue.due_at s)) × (gone.port ≤ port))
 
 -- the next turn of the switch: by time, at one time slots before drops, then by port
-pub record IsNextOf (t : Rows) (side : Side) (h : History) (gone : PortTurn) : Type 0 where
+pub record IsNextOf (t : Rows) (side : Side) (h : SwitchHistory) (gone : PortTurn) : Type 0 where
   pub first_port : 1 ≤ gone.port
   pub last_port : gone.port ≤ 24
   pub next : IsNextAt t side h gone.port gone.turn
-  pub first : (port : ℕ) (s : Turn Carried) → 1 ≤ port → port ≤ 24 → IsNextAt t side h port s →
+  pub first : (port : ℕ) (s : Turn HeldFrame) → 1 ≤ port → port ≤ 24 → IsNextAt t side h port s →
       GoesBefore gone port s
 
 -- the next turn of the switch is due so
-pub record IsDue (t : Rows) (side : Side) (h : History) (due : Due) : Type 0 where
+pub record IsDue (t : Rows) (side : Side) (h : SwitchHistory) (due : Due) : Type 0 where
   pub gone : PortTurn
   pub next : IsNextOf t side h gone
   pub is : due ≡ queue.due_at gone.turn
 
 -- each entry of a port has had its turn
-abbrev pub IsDone : Rows → Side → History → ℕ → Type 0
+abbrev pub IsDone : Rows → Side → SwitchHistory → ℕ → Type 0
 IsDone t side h port =
     IsSchedule (byte_ns_at t port) (entries_at t side port h.arrivals) (taken_at port h.taken)
 
 -- the switch of this side is the one that these calls leave
-pub record StandsFor (t : Rows) (side : Side) (w : Working) (h : History) : Type 0 where
+pub record StandsFor (t : Rows) (side : Side) (w : Working) (h : SwitchHistory) : Type 0 where
   pub time : w.clock ≡ h.time
   pub line_count : vec_len w.lines ≡ length (rows_of t)
   pub lines : (i : ℕ) (r : Row) (line : Line) → slice_get (rows_of t) i ≡ Some r →
@@ -99,7 +99,7 @@ pub record StandsFor (t : Rows) (side : Side) (w : Working) (h : History) : Type
   pub places : (vl : ℕ) (place : Option ℕ) → slice_get w.places.items vl ≡ Some place →
       IsPlaceOf (rows_of t) vl place
   pub port_count : length w.ports.items ≡ 24
-  pub ports : (i : ℕ) (p : Pending Carried) → slice_get w.ports.items i ≡ Some p →
+  pub ports : (i : ℕ) (p : Pending HeldFrame) → slice_get w.ports.items i ≡ Some p →
       queue.StandsFor facts p (calls_at t side (i + 1) h p.clock)
 
 -- `take(t)` would answer None
@@ -119,7 +119,7 @@ pub record Hands (d : Departure) (gone : PortTurn) : Type 0 where
   pub left : as_given d ≡ queue.left_of gone.turn
 
 -- the next turn is given, which is given by then
-pub record Gives (t : Rows) (side : Side) (h : History) (until : ℕ) (d : Departure)
+pub record Gives (t : Rows) (side : Side) (h : SwitchHistory) (until : ℕ) (d : Departure)
     (new : Working) : Type 0 where
   pub gone : PortTurn
   pub next : IsNextOf t side h gone

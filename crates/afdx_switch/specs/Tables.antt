@@ -12,7 +12,7 @@ unfoldable pub use Rattle.afdx_bounds.specs.Tables.{port_of, rule_of, longest_wa
 unfoldable pub use Rattle.afdx_bounds.specs.Tables.{rows_of, byte_ns_at}
 pub use Rattle.afdx_bounds.specs.Tables.{row_of, output_at}
 use Rattle.afdx_bounds.specs.TableLaws.{entries_to}
-use Rattle.afdx_switch.specs.Carried.{Carried}
+use Rattle.afdx_switch.specs.HeldFrames.{HeldFrame}
 
 -- the buffer of a port in bytes: nothing goes to a port that no system has, so it has the least
 unfoldable pub buffer_at : Rows → ℕ → ℕ
@@ -27,9 +27,9 @@ wait_of None = None
 wait_of (Some r) = r.longest_wait
 
 -- what the output ports hold of an arrival
-unfoldable pub carried : Rows → Arrival → Carried
+unfoldable pub carried : Rows → Arrival → HeldFrame
 carried t x = record { tag = x.tag; longest_wait = wait_of (row_named t x.bytes); bytes = x.bytes }
 
 -- the entries of an output port, after these arrivals, the newest first
-abbrev pub entries_at : Rows → Side → ℕ → List Arrival → List (Entry Carried)
+abbrev pub entries_at : Rows → Side → ℕ → List Arrival → List (Entry HeldFrame)
 entries_at t side port arrivals = entries_to (carried t) t side port arrivals

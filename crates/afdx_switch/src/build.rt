@@ -9,9 +9,9 @@ ghost use Rattle.afdx_bounds.specs.Outputs.{Row};
 ghost use Rattle.afdx_port.specs.Held.{IsByteTime};
 ghost use Rattle.afdx_port.specs.Times.{greatest_wait};
 ghost use Rattle.afdx_port.specs.declared.pending.Pending.{Pending};
-ghost use Rattle.afdx_switch.specs.Carried.{Carried};
+ghost use Rattle.afdx_switch.specs.HeldFrames.{HeldFrame};
 ghost use Rattle.afdx_switch.specs.Tables.{row_of, rows_of, goes_to, byte_ns_at, buffer_at, longest_wait_of};
-ghost use Rattle.afdx_switch.specs.Sound.{IsSound};
+ghost use Rattle.afdx_switch.specs.Sound.{IsSwitchSound};
 ghost use Rattle.afdx_switch.specs.Switching.{IsQuiet, StandsFor, no_calls, last_time, frames_held};
 ghost use Rattle.afdx_switch.specs.Lines.{ArePlaces, is_among};
 ghost use Rattle.afdx_switch.specs.New.{IsNewLine, IsNewPort};
@@ -162,7 +162,8 @@ fn places(alloc: Global, tables: &Tables) -> Result<Vec<Option<u16>>, AllocError
 
 fn ports(alloc: Global, tables: &Tables) -> Result<Vec<Port<Frame>>, AllocError>
     ensures count { IfOk result (λ v. vec_len v ≡ 24) }
-    ensures each { IfOk result (λ v. (i : ℕ) (p : Pending Carried) → slice_get v.items i ≡ Some p →
+    ensures each { IfOk result (λ v. (i : ℕ) (p : Pending HeldFrame) →
+        slice_get v.items i ≡ Some p →
         IsNewPort tables.now i p) }
 {
     let mut ports = Vec::new(alloc);
@@ -176,7 +177,7 @@ fn ports(alloc: Global, tables: &Tables) -> Result<Vec<Port<Frame>>, AllocError>
 /// Full accounts and idle ports.
 pub(crate) fn build(alloc: Global, tables: &Tables) -> Result<Working, AllocError>
     ensures lawful { OnOk result (IsLawful tables.now) }
-    ensures sound { IfOk result (λ w. IsSound w) }
+    ensures sound { IfOk result (λ w. IsSwitchSound w) }
     ensures stands { (side : Side) → IfOk result (λ w. StandsFor tables.now side w no_calls) }
     ensures quiet { (t : ℕ) → IfOk result (λ w. IsQuiet w t) }
     ensures clock { IfOk result (λ w. last_time w ≡ 0) }

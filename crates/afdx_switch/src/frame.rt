@@ -28,9 +28,9 @@ impl Model for Frame {
     ghost use Rattle.afdx_frame.specs.Lengths.{least_frame, greatest_frame};
     ghost use Rattle.afdx_frame.specs.Sealing.{is_sealed};
     ghost use Rattle.afdx_port.specs.Times.{greatest_wait};
-    ghost use Rattle.afdx_switch.specs.Carried.{Carried};
+    ghost use Rattle.afdx_switch.specs.HeldFrames.{HeldFrame};
 
-    ghost Value = { Carried };
+    ghost Value = { HeldFrame };
 
     ghost view = { λ f. record {
       tag = f.stored.value.tag;
@@ -47,7 +47,7 @@ impl Model for Frame {
 impl Frame {
     ghost use Rattle.std.specs.Prelude.{true};
     ghost use Rattle.afdx_frame.specs.Sealing.{is_sealed};
-    ghost use Rattle.afdx_switch.specs.Carried.{Carried, carried_with};
+    ghost use Rattle.afdx_switch.specs.HeldFrames.{HeldFrame, held_frame};
 
     /// The one copy of a frame.
     pub(crate) fn copy(
@@ -60,7 +60,7 @@ impl Frame {
         requires longest { length bytes.now ≤ greatest_frame }
         requires wait { IfSome longest_wait (λ wait. wait ≤ greatest_wait) }
         requires sealed { is_sealed bytes.now ≡ true }
-        ensures { IfOk result (λ f. f ≡ carried_with tag longest_wait bytes.now) }
+        ensures { IfOk result (λ f. f ≡ held_frame tag longest_wait bytes.now) }
     {
         let bytes = Vec::from_slice(alloc, bytes)?;
         let stored = Stored {
@@ -97,8 +97,8 @@ impl Frame {
 }
 
 impl HasLength for Frame {
-    ghost use Rattle.afdx_switch.specs.CarriedLaw.{facts-lawful};
-    ghost use Rattle.afdx_switch.specs.Carried.{facts};
+    ghost use Rattle.afdx_switch.specs.HeldFramesLaw.{facts-lawful};
+    ghost use Rattle.afdx_switch.specs.HeldFrames.{facts};
 
     ghost facts = { facts };
 

@@ -73,13 +73,13 @@ pub struct Switch {
 impl Model for Switch {
     ghost use Rattle.afdx_switch.specs.declared.working.Working.{Working};
     ghost use Rattle.std.specs.Prelude.{◌≡◌, []};
-    ghost use Rattle.afdx_switch.specs.Sound.{IsSound};
+    ghost use Rattle.afdx_switch.specs.Sound.{IsSwitchSound};
 
     ghost Value = { Working };
 
     ghost view = { λ s. s.working };
 
-    ghost invariant = { λ s. IsSound s.working × (s.shares.items ≡ []) };
+    ghost invariant = { λ s. IsSwitchSound s.working × (s.shares.items ≡ []) };
 }
 
 impl Switch {
@@ -90,12 +90,12 @@ impl Switch {
     ghost use Rattle.afdx_port.specs.Due.{given_at, IsAfter};
     ghost use Rattle.afdx_port.specs.History.{due_at};
     ghost use Rattle.afdx_port.specs.Schedule.{Turn};
-    ghost use Rattle.afdx_switch.specs.Carried.{Carried};
+    ghost use Rattle.afdx_switch.specs.HeldFrames.{HeldFrame};
     ghost use Rattle.afdx_switch.specs.Admitted.{IsAdmittedRun, LosesNothing, IsInTime, HaveLeft};
     ghost use Rattle.afdx_switch.specs.Tables.{rule_of, entries_at};
     ghost use Rattle.afdx_switch.specs.Regular.{IsRegularAt, IsAccepted};
     ghost use Rattle.afdx_switch.specs.Verdicts.{IsVerdict, shape_fault};
-    ghost use Rattle.afdx_switch.specs.Switching.{History, StandsFor, IsQuiet, IsNextAt, IsDue, IsDone, Gives, no_calls, with_arrival, at, taken_at, frames_held, last_time};
+    ghost use Rattle.afdx_switch.specs.Switching.{SwitchHistory, StandsFor, IsQuiet, IsNextAt, IsDue, IsDone, Gives, no_calls, with_arrival, at, taken_at, frames_held, last_time};
 
     /// A switch of these tables at time 0, with full accounts and idle ports.
     /// The error says that memory was refused.
@@ -129,23 +129,26 @@ impl Switch {
         requires limit { time ≤ latest_put }
         requires clock { last_time self.old ≤ time }
         requires quiet { IsQuiet self.old time }
-        ensures verdict { (t : Rows) (side : Side) (h : History) → StandsFor t side self.old h →
+        ensures verdict { (t : Rows) (side : Side) (h : SwitchHistory) →
+            StandsFor t side self.old h →
             let arrival = arrival_with tag time side port frame.entry.bytes.now in
             IfOk result (IsVerdict t h.arrivals arrival) }
-        ensures stands { (t : Rows) (side : Side) (h : History) → StandsFor t side self.old h →
+        ensures stands { (t : Rows) (side : Side) (h : SwitchHistory) →
+            StandsFor t side self.old h →
             let arrival = arrival_with tag time side port frame.entry.bytes.now in
             OnOk result (StandsFor t side self.new (with_arrival h arrival)) }
-        ensures kept { (t : Rows) (side : Side) (h : History) → StandsFor t side self.old h →
+        ensures kept { (t : Rows) (side : Side) (h : SwitchHistory) → StandsFor t side self.old h →
             let arrival = arrival_with tag time side port frame.entry.bytes.now in
             IsAdmittedRun t (arrival ∷ h.arrivals) → IfOk result LosesNothing }
-        ensures regular { (t : Rows) (side : Side) (h : History) (place : ℕ) (l : LinkRow) →
+        ensures regular { (t : Rows) (side : Side) (h : SwitchHistory) (place : ℕ) (l : LinkRow) →
             StandsFor t side self.old h → IsLawful t → slice_get t.links place ≡ Some l →
             names l.vl frame.entry.bytes.now ≡ true →
             (rule_of t l).port ≡ port →
             let arrival = arrival_with tag time side port frame.entry.bytes.now in
             let own = own l.vl side (arrival ∷ h.arrivals) in
             IsRegularAt (rule_of t l) own → IfOk result IsAccepted }
-        ensures judged { (t : Rows) (side : Side) (h : History) → StandsFor t side self.old h →
+        ensures judged { (t : Rows) (side : Side) (h : SwitchHistory) →
+            StandsFor t side self.old h →
             let arrival = arrival_with tag time side port frame.entry.bytes.now in
             OnErr result (shape_fault t arrival ≡ None) }
         ensures refused { OnErr result (self.new ≡ self.old) }
@@ -163,9 +166,9 @@ impl Switch {
     /// When the next turn of all ports will be over if no frame arrives before, and whether it is a
     /// drop. None if each frame that was accepted and not lost has had its turn at each port.
     pub fn due(&self) -> Option<Due>
-        ensures comes { (t : Rows) (side : Side) (h : History) → StandsFor t side self.now h →
+        ensures comes { (t : Rows) (side : Side) (h : SwitchHistory) → StandsFor t side self.now h →
             IfSome result (λ due. IsDue t side h due) }
-        ensures all_done { (t : Rows) (side : Side) (h : History) (port : ℕ) →
+        ensures all_done { (t : Rows) (side : Side) (h : SwitchHistory) (port : ℕ) →
             StandsFor t side self.now h → 1 ≤ port → port ≤ 24 →
             IfNone result (IsDone t side h port) }
         ensures quiet { (time : ℕ) → IsQuiet self.now time ↔
@@ -182,21 +185,23 @@ impl Switch {
     #[inline(always)]
     pub fn take(&mut self, until: u64) -> Option<Departure>
         requires clock { last_time self.old ≤ until }
-        ensures given { (t : Rows) (side : Side) (h : History) → StandsFor t side self.old h →
+        ensures given { (t : Rows) (side : Side) (h : SwitchHistory) → StandsFor t side self.old h →
             IfSome result (λ d. Gives t side h until d self.new) }
-        ensures none { (t : Rows) (side : Side) (h : History) → StandsFor t side self.old h →
+        ensures none { (t : Rows) (side : Side) (h : SwitchHistory) → StandsFor t side self.old h →
             IfNone result (StandsFor t side self.new (at h until)) }
-        ensures no_more { (t : Rows) (side : Side) (h : History) (port : ℕ) (s : Turn Carried) →
+        ensures no_more { (t : Rows) (side : Side) (h : SwitchHistory) (port : ℕ) (s : Turn
+            HeldFrame) →
             StandsFor t side self.old h → 1 ≤ port → port ≤ 24 → IsNextAt t side h port s →
             IfNone result (IsAfter until (due_at s)) }
-        ensures in_time { (t : Rows) (side : Side) (h : History) → IsAdmittedRun t h.arrivals →
+        ensures in_time { (t : Rows) (side : Side) (h : SwitchHistory) →
+            IsAdmittedRun t h.arrivals →
             IfSome result (λ d. (g : Gives t side h until d self.new) → IsInTime t g.gone.turn) }
-        ensures left { (t : Rows) (side : Side) (h : History) (port place : ℕ) (l : LinkRow) →
+        ensures left { (t : Rows) (side : Side) (h : SwitchHistory) (port place : ℕ) (l : LinkRow) →
             StandsFor t side self.old h → IsAdmittedRun t h.arrivals → 1 ≤ port → port ≤ 24 →
             slice_get t.links place ≡ Some l →
             let entries = entries_at t side port h.arrivals in
             IfNone result (HaveLeft l until entries (taken_at port h.taken)) }
-        ensures all_done { (t : Rows) (side : Side) (h : History) (port : ℕ) →
+        ensures all_done { (t : Rows) (side : Side) (h : SwitchHistory) (port : ℕ) →
             StandsFor t side self.old h → drain_end ≤ until → 1 ≤ port → port ≤ 24 →
             IfNone result (IsDone t side h port) }
         ensures gives { IfNone result (IsQuiet self.old until) }

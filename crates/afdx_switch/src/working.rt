@@ -7,7 +7,7 @@ ghost use Rattle.afdx_port.specs.declared.pending.Pending.{Pending};
 ghost use Rattle.afdx_port.specs.History as queue;
 ghost use Rattle.afdx_port.specs.Held as held;
 ghost use Rattle.afdx_switch.specs.Ports.{holds};
-ghost use Rattle.afdx_switch.specs.Carried.{Carried, carried_with, facts};
+ghost use Rattle.afdx_switch.specs.HeldFrames.{HeldFrame, held_frame, facts};
 ghost use Rattle.afdx_switch.specs.Sound.{IsPortSound};
 ghost use Rattle.afdx_switch.specs.Lines.{ArePlaces, is_among};
 ghost use Rattle.afdx_switch.specs.Shares.{AreKept, AreShares, IsOffered, share_of};
@@ -77,7 +77,8 @@ fn forward(
     requires clocks { All (λ p. held.last_time p ≤ time) ports.old }
     requires quiet { All (λ p. held.IsQuiet facts p time) ports.old }
     ensures count { length ports.new ≡ 24 }
-    ensures offered { (c : Carried) (i : ℕ) (o n : Pending Carried) → AreShares c shares.old.items →
+    ensures offered { (c : HeldFrame) (i : ℕ) (o n : Pending HeldFrame) →
+        AreShares c shares.old.items →
         slice_get ports.old i ≡ Some o → slice_get ports.new i ≡ Some n →
         IsOffered time priority (share_of c (is_among i places.now)) o n (holds result (i + 1)) }
     ensures numbers { (p : ℕ) → holds result p ≡ true → (1 ≤ p) × (p ≤ 24) }
@@ -99,7 +100,7 @@ fn forward(
 fn renew(serving: &mut Serving, ports: &[Port<Frame>], places: &[u8])
     requires port_count { length ports.now ≡ 24 }
     requires places { ArePlaces places.now }
-    ensures { (old : List (Pending Carried)) → IsServing facts old serving.old →
+    ensures { (old : List (Pending HeldFrame)) → IsServing facts old serving.old →
         AreKept places.now old ports.now → IsServing facts ports.now serving.new }
 {
     for place in places {
@@ -116,15 +117,15 @@ impl Working {
     ghost use Rattle.afdx_port.specs.Schedule.{Turn};
     ghost use Rattle.afdx_switch.specs.Verdicts.{IsVerdict, shape_fault};
     ghost use Rattle.afdx_switch.specs.Tables.{rows_of};
-    ghost use Rattle.afdx_switch.specs.Switching.{History, StandsFor, IsQuiet, IsNextAt, IsDue, IsDone, Gives, with_arrival, at, frames_held, last_time};
-    ghost use Rattle.afdx_switch.specs.Sound.{IsSound};
+    ghost use Rattle.afdx_switch.specs.Switching.{SwitchHistory, StandsFor, IsQuiet, IsNextAt, IsDue, IsDone, Gives, with_arrival, at, frames_held, last_time};
+    ghost use Rattle.afdx_switch.specs.Sound.{IsSwitchSound};
     ghost use Rattle.afdx_switch.specs.Lines.{IsNamed};
 
     /// The place of the link that the bytes name.
     fn place_of(&self, bytes: &[u8]) -> Option<usize>
-        requires { IsSound self.now }
+        requires { IsSwitchSound self.now }
         ensures within { IfSome result (λ i. i < vec_len self.now.lines) }
-        ensures place { (t : Rows) (side : Side) (h : History) → StandsFor t side self.now h →
+        ensures place { (t : Rows) (side : Side) (h : SwitchHistory) → StandsFor t side self.now h →
             IsNamed (rows_of t) bytes.now result }
     {
         let vl = vl_of(bytes)?;
@@ -145,20 +146,23 @@ impl Working {
     ) -> Result<Verdict, AllocError>
         requires shares { shares.old.items ≡ [] }
         requires limit { time ≤ latest_put }
-        requires sound { IsSound self.old }
+        requires sound { IsSwitchSound self.old }
         requires clock { last_time self.old ≤ time }
         requires quiet { IsQuiet self.old time }
-        ensures verdict { (t : Rows) (side : Side) (h : History) → StandsFor t side self.old h →
+        ensures verdict { (t : Rows) (side : Side) (h : SwitchHistory) →
+            StandsFor t side self.old h →
             let arrival = arrival_with tag time side port frame.entry.bytes.now in
             IfOk result (IsVerdict t h.arrivals arrival) }
-        ensures stands { (t : Rows) (side : Side) (h : History) → StandsFor t side self.old h →
+        ensures stands { (t : Rows) (side : Side) (h : SwitchHistory) →
+            StandsFor t side self.old h →
             let arrival = arrival_with tag time side port frame.entry.bytes.now in
             OnOk result (StandsFor t side self.new (with_arrival h arrival)) }
-        ensures judged { (t : Rows) (side : Side) (h : History) → StandsFor t side self.old h →
+        ensures judged { (t : Rows) (side : Side) (h : SwitchHistory) →
+            StandsFor t side self.old h →
             let arrival = arrival_with tag time side port frame.entry.bytes.now in
             OnErr result (shape_fault t arrival ≡ None) }
         ensures refused { OnErr result (self.new ≡ self.old) }
-        ensures sound { IsSound self.new }
+        ensures sound { IsSwitchSound self.new }
         ensures quiet { IsQuiet self.new time }
         ensures held { frames_held self.new ≤ frames_held self.old + 24 }
         ensures clock { OnOk result (last_time self.new ≡ time) }
@@ -192,10 +196,10 @@ impl Working {
 
     /// When the next turn is over.
     pub(crate) fn due(&self) -> Option<Due>
-        requires { IsSound self.now }
-        ensures comes { (t : Rows) (side : Side) (h : History) → StandsFor t side self.now h →
+        requires { IsSwitchSound self.now }
+        ensures comes { (t : Rows) (side : Side) (h : SwitchHistory) → StandsFor t side self.now h →
             IfSome result (λ due. IsDue t side h due) }
-        ensures all_done { (t : Rows) (side : Side) (h : History) (port : ℕ) →
+        ensures all_done { (t : Rows) (side : Side) (h : SwitchHistory) (port : ℕ) →
             StandsFor t side self.now h → 1 ≤ port → port ≤ 24 →
             IfNone result (IsDone t side h port) }
         ensures quiet { (time : ℕ) → IsQuiet self.now time ↔
@@ -208,17 +212,18 @@ impl Working {
 
     #[inline(always)]
     pub(crate) fn take(&mut self, until: u64) -> Option<Departure>
-        requires sound { IsSound self.old }
+        requires sound { IsSwitchSound self.old }
         requires clock { last_time self.old ≤ until }
-        ensures sound { IsSound self.new }
-        ensures given { (t : Rows) (side : Side) (h : History) → StandsFor t side self.old h →
+        ensures sound { IsSwitchSound self.new }
+        ensures given { (t : Rows) (side : Side) (h : SwitchHistory) → StandsFor t side self.old h →
             IfSome result (λ d. Gives t side h until d self.new) }
-        ensures none { (t : Rows) (side : Side) (h : History) → StandsFor t side self.old h →
+        ensures none { (t : Rows) (side : Side) (h : SwitchHistory) → StandsFor t side self.old h →
             IfNone result (StandsFor t side self.new (at h until)) }
-        ensures no_more { (t : Rows) (side : Side) (h : History) (port : ℕ) (s : Turn Carried) →
+        ensures no_more { (t : Rows) (side : Side) (h : SwitchHistory) (port : ℕ) (s : Turn
+            HeldFrame) →
             StandsFor t side self.old h → 1 ≤ port → port ≤ 24 → IsNextAt t side h port s →
             IfNone result (IsAfter until (queue.due_at s)) }
-        ensures all_done { (t : Rows) (side : Side) (h : History) (port : ℕ) →
+        ensures all_done { (t : Rows) (side : Side) (h : SwitchHistory) (port : ℕ) →
             StandsFor t side self.old h → drain_end ≤ until → 1 ≤ port → port ≤ 24 →
             IfNone result (IsDone t side h port) }
         ensures gives { IfNone result (IsQuiet self.old until) }

@@ -1,6 +1,6 @@
 use Rattle.std.proofs.Common.{rules, arith, ap, ◌∙◌, Err}
 use Rattle.afdx_police.specs.RuleOf.{rule_of}
-use Rattle.afdx_lists.specs.FrameLines.{frame_of}
+use Rattle.afdx_lists.specs.FrameLines.{listed_frame}
 use Rattle.afdx_lists.proofs.WholeLemmas.{HasTaken-start, HasTaken-next, HasTaken-stop}
 use Rattle.afdx_replay.specs.PoliceText.{verdict_line}
 use Rattle.afdx_replay.specs.Policed.{WritesText, WritesBeginning}
@@ -126,7 +126,7 @@ loop-text-preserved g c =
       taken = HasTaken-next _ _ _ _ _ _ _ _ _ _ lines.0 c.loop-text.invariant.taken
           (c.next_line.ensures.whole (search rules));
       come = HasCome-item frames _ _ _ _ _ _ _ _ _
-          (frame_of c.in-Ok-Some.heading c.read_frame_line.new.frame.items) lines.0
+          (listed_frame c.in-Ok-Some.heading c.read_frame_line.new.frame.items) lines.0
           (record {
             few = omega (arith, lines.0, lines.1);
             short = c.next_line.ensures.short (search rules);
@@ -135,7 +135,7 @@ loop-text-preserved g c =
           c.loop-text.invariant.come (rw (c.line.ensures, c.in-Ok-Some.field-0-is) at c.in-Ok-Some.ensures.ok)
           (λ past told. told-next _ _ _ _ _ _ _ _ _ _
           (arrival_at c.next_line.new.self.lines
-          (frame_of c.in-Ok-Some.heading c.read_frame_line.new.frame.items)) past _ _ told
+          (listed_frame c.in-Ok-Some.heading c.read_frame_line.new.frame.items)) past _ _ told
           (rw c.as_slice.ensures.value at
           (c.verdict-reason.ensures.answer (rule_of c.args.rule.now) past
           c.next_line.new.self.lines told.seen))
@@ -157,7 +157,7 @@ returns-in_err-write_text-clause-answer g c =
     let text = c.as_bytes.ensures ∙ c.in_ok-put_verdict.ensures
     ∙ ap (λ n. verdict_line n c.in-Ok-Some.heading.side c.verdict-reason.result) c.lines-n.ensures in
     let come = HasCome-item frames _ (WritesBeginning rule old new) _ _ _ _ _ _ _
-    (frame_of c.in-Ok-Some.heading c.read_frame_line.new.frame.items) lines.0
+    (listed_frame c.in-Ok-Some.heading c.read_frame_line.new.frame.items) lines.0
     (record {
       few = omega (arith, lines.0, lines.1);
       short = c.next_line.ensures.short (search rules);
@@ -166,7 +166,7 @@ returns-in_err-write_text-clause-answer g c =
     c.loop-text.invariant.come (rw (c.line.ensures, c.in-Ok-Some.field-0-is) at c.in-Ok-Some.ensures.ok)
     (λ past told. begun-next _ _ _ _ _ _ _
     (arrival_at c.next_line.new.self.lines
-    (frame_of c.in-Ok-Some.heading c.read_frame_line.new.frame.items)) past _ _ told
+    (listed_frame c.in-Ok-Some.heading c.read_frame_line.new.frame.items)) past _ _ told
     (rw c.as_slice.ensures.value at (c.verdict-reason.ensures.answer rule past c.next_line.new.self.lines told.seen))
     text c.in_err-write_text.ensures.front) in
     let stop = stops-write frames _ (WritesText rule old new) (WritesBeginning rule old new) _ _ _ _

@@ -1,6 +1,6 @@
 use Rattle.std.proofs.Common.{rules, arith, ℕ, List, ap, ◌∙◌, Err, sym, subst}
 use Rattle.afdx_police.specs.Arrival.{Arrival}
-use Rattle.afdx_lists.specs.FrameLines.{frame_of}
+use Rattle.afdx_lists.specs.FrameLines.{listed_frame}
 use Rattle.afdx_lists.proofs.WholeLemmas.{HasTaken-start, HasTaken-next, HasTaken-stop}
 use Rattle.afdx_network.specs.Network as network
 use Rattle.afdx_replay.specs.Replayed.{WritesSoFar, WritesSome, ToldAll, HasRoom}
@@ -69,7 +69,7 @@ loop-frame-preserved g c =
       taken = HasTaken-next _ _ _ _ _ _ _ _ _ _ lines.0 c.loop-frame.invariant.taken
           (c.next_line.ensures.whole (search rules));
       come = HasCome-item frames _ _ _ _ _ _ _ _ _
-          (frame_of c.in-Ok-Some.heading c.read_frame_line.new.frame.items) lines.0
+          (listed_frame c.in-Ok-Some.heading c.read_frame_line.new.frame.items) lines.0
           (record {
             few = omega (arith, lines.0, lines.1);
             short = c.next_line.ensures.short (search rules);
@@ -140,7 +140,7 @@ returns-in_err-tell_arrival-clause-answer g c =
     let stop = stops-item frames _ (WritesSoFar c.args.tables.now old new)
     (WritesSome c.args.tables.now old new) _ _ _ _ _ _
     (g.R.Read.remaining c.next_line.new.input.inner) _
-    (frame_of c.in-Ok-Some.heading c.read_frame_line.new.frame.items)
+    (listed_frame c.in-Ok-Some.heading c.read_frame_line.new.frame.items)
     c.in_err-tell_arrival.field-0.0 c.in_err-tell_arrival.ensures.fault lines.0
     (record {
       few = omega (arith, lines.0, lines.1);

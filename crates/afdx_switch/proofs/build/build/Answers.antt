@@ -2,7 +2,7 @@ use Rattle.std.proofs.Common.{sym, ◌∙◌, subst, arith, refl, Some, []}
 use Rattle.std.proofs.lemmas.Option.{slice_get_within}
 use Rattle.afdx_port.specs.Held as held
 use Rattle.afdx_port.specs.Serving.{IsServing}
-use Rattle.afdx_switch.specs.Carried.{facts}
+use Rattle.afdx_switch.specs.HeldFrames.{facts}
 use Rattle.afdx_switch.specs.Lines.{IsLine}
 use Rattle.afdx_switch.specs.Sound.{IsLineSound, IsPortSound}
 use Rattle.afdx_switch.proofs.StandsLemmas.{all-from, found-at}

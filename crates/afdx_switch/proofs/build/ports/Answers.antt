@@ -1,6 +1,6 @@
 use Rattle.std.proofs.Common.{◌+◌, ℕ, subst}
 use Rattle.afdx_port.specs.History as queue
-use Rattle.afdx_switch.specs.Carried.{facts}
+use Rattle.afdx_switch.specs.HeldFrames.{facts}
 use Rattle.afdx_switch.specs.New.{IsNewPort}
 use Rattle.afdx_switch.specs.Tables.{byte_ns_at, buffer_at}
 use Rattle.afdx_switch.proofs.NewLemmas.{gathered-push}

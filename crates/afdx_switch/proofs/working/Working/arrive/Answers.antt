@@ -7,7 +7,7 @@ use Rattle.afdx_police.specs.Shape.{fault_of}
 use Rattle.afdx_police.specs.Verdicts.{reason_after}
 use Rattle.afdx_police.specs.declared.shape.Reason.TheVariants.{OverRate}
 use Rattle.afdx_port.specs.Serving.{IsServing}
-use Rattle.afdx_switch.specs.Carried.{Carried, carried_with, facts}
+use Rattle.afdx_switch.specs.HeldFrames.{HeldFrame, held_frame, facts}
 use Rattle.afdx_switch.specs.Ports.{holds}
 use Rattle.afdx_port.specs.declared.pending.Pending.{Pending}
 use Rattle.afdx_switch.specs.declared.line.Line.{Line}
@@ -152,16 +152,16 @@ returns-clause-verdict c t side h st =
     c.in-Some.place c.index_mut-line.result.now c.requires.sound.lines at_line).wait in
     let longest : length c.args.frame.bytes.now ≤ 1518 =
     omega (arith, c.in_default-judge-2.ensures.longest, c.rule.result.now.in_range.longest) in
-    let shared : AreShares (carried_with c.args.tag c.index-line.result.now.longest_wait
+    let shared : AreShares (held_frame c.args.tag c.index-line.result.now.longest_wait
     c.args.frame.bytes.now) c.share_out.new.shares.items =
-    subst (λ (f : Carried). AreShares f c.share_out.new.shares.items) c.in_ok-copy.ensures
+    subst (λ (f : HeldFrame). AreShares f c.share_out.new.shares.items) c.in_ok-copy.ensures
     c.in_ok-share_out.ensures.each in
     let shared_line = subst (λ (l : Line).
-    AreShares (carried_with c.args.tag l.longest_wait c.args.frame.bytes.now)
+    AreShares (held_frame c.args.tag l.longest_wait c.args.frame.bytes.now)
     c.share_out.new.shares.items) same_line shared in
     let of_line = c.index_mut-line.result.now in
-    let carried : Carried = carried_with c.args.tag of_line.longest_wait c.args.frame.bytes.now in
-    let offered : (i : ℕ) (o p : Pending Carried) → slice_get c.args.self.now.ports.items i ≡ Some o
+    let carried : HeldFrame = held_frame c.args.tag of_line.longest_wait c.args.frame.bytes.now in
+    let offered : (i : ℕ) (o p : Pending HeldFrame) → slice_get c.args.self.now.ports.items i ≡ Some o
     → slice_get c.forward-lost.new.ports i ≡ Some p →
     IsOffered c.args.time of_line.priority (share_of carried (is_among i of_line.goes.items)) o p
     (holds c.forward-lost.result (i + 1)) =
@@ -207,16 +207,16 @@ returns-clause-stands c t side h st =
     c.in-Some.place c.index_mut-line.result.now c.requires.sound.lines at_line).wait in
     let longest : length c.args.frame.bytes.now ≤ 1518 =
     omega (arith, c.in_default-judge-2.ensures.longest, c.rule.result.now.in_range.longest) in
-    let shared : AreShares (carried_with c.args.tag c.index-line.result.now.longest_wait
+    let shared : AreShares (held_frame c.args.tag c.index-line.result.now.longest_wait
     c.args.frame.bytes.now) c.share_out.new.shares.items =
-    subst (λ (f : Carried). AreShares f c.share_out.new.shares.items) c.in_ok-copy.ensures
+    subst (λ (f : HeldFrame). AreShares f c.share_out.new.shares.items) c.in_ok-copy.ensures
     c.in_ok-share_out.ensures.each in
     let shared_line = subst (λ (l : Line).
-    AreShares (carried_with c.args.tag l.longest_wait c.args.frame.bytes.now)
+    AreShares (held_frame c.args.tag l.longest_wait c.args.frame.bytes.now)
     c.share_out.new.shares.items) same_line shared in
     let of_line = c.index_mut-line.result.now in
-    let carried : Carried = carried_with c.args.tag of_line.longest_wait c.args.frame.bytes.now in
-    let offered : (i : ℕ) (o p : Pending Carried) → slice_get c.args.self.now.ports.items i ≡ Some o
+    let carried : HeldFrame = held_frame c.args.tag of_line.longest_wait c.args.frame.bytes.now in
+    let offered : (i : ℕ) (o p : Pending HeldFrame) → slice_get c.args.self.now.ports.items i ≡ Some o
     → slice_get c.forward-lost.new.ports i ≡ Some p →
     IsOffered c.args.time of_line.priority (share_of carried (is_among i of_line.goes.items)) o p
     (holds c.forward-lost.result (i + 1)) =
@@ -248,16 +248,16 @@ returns-clause-sound c =
     omega (arith, c.args.self.now.ports.ok.0, c.requires.sound.port_count) in
     let line_sound = all-at (IsLineSound c.args.self.now.clock) c.args.self.now.lines.items
     c.in-Some.place c.index_mut-line.result.now c.requires.sound.lines at_line in
-    let shared : AreShares (carried_with c.args.tag c.index-line.result.now.longest_wait
+    let shared : AreShares (held_frame c.args.tag c.index-line.result.now.longest_wait
     c.args.frame.bytes.now) c.share_out.new.shares.items =
-    subst (λ (f : Carried). AreShares f c.share_out.new.shares.items) c.in_ok-copy.ensures
+    subst (λ (f : HeldFrame). AreShares f c.share_out.new.shares.items) c.in_ok-copy.ensures
     c.in_ok-share_out.ensures.each in
     let shared_line = subst (λ (l : Line).
-    AreShares (carried_with c.args.tag l.longest_wait c.args.frame.bytes.now)
+    AreShares (held_frame c.args.tag l.longest_wait c.args.frame.bytes.now)
     c.share_out.new.shares.items) same_line shared in
     let of_line = c.index_mut-line.result.now in
-    let carried : Carried = carried_with c.args.tag of_line.longest_wait c.args.frame.bytes.now in
-    let offered : (i : ℕ) (o p : Pending Carried) → slice_get c.args.self.now.ports.items i ≡ Some o
+    let carried : HeldFrame = held_frame c.args.tag of_line.longest_wait c.args.frame.bytes.now in
+    let offered : (i : ℕ) (o p : Pending HeldFrame) → slice_get c.args.self.now.ports.items i ≡ Some o
     → slice_get c.forward-lost.new.ports i ≡ Some p →
     IsOffered c.args.time of_line.priority (share_of carried (is_among i of_line.goes.items)) o p
     (holds c.forward-lost.result (i + 1)) =
@@ -309,16 +309,16 @@ returns-clause-quiet c =
     c.index_mut-line.result.now c.args.self.now.lines.ok.0 c.in-Some.ensures.within
     c.index_mut-line.ensures.value in
     let same_line : c.index-line.result.now ≡ c.index_mut-line.result.now = cc in
-    let shared : AreShares (carried_with c.args.tag c.index-line.result.now.longest_wait
+    let shared : AreShares (held_frame c.args.tag c.index-line.result.now.longest_wait
     c.args.frame.bytes.now) c.share_out.new.shares.items =
-    subst (λ (f : Carried). AreShares f c.share_out.new.shares.items) c.in_ok-copy.ensures
+    subst (λ (f : HeldFrame). AreShares f c.share_out.new.shares.items) c.in_ok-copy.ensures
     c.in_ok-share_out.ensures.each in
     let shared_line = subst (λ (l : Line).
-    AreShares (carried_with c.args.tag l.longest_wait c.args.frame.bytes.now)
+    AreShares (held_frame c.args.tag l.longest_wait c.args.frame.bytes.now)
     c.share_out.new.shares.items) same_line shared in
     let of_line = c.index_mut-line.result.now in
-    let carried : Carried = carried_with c.args.tag of_line.longest_wait c.args.frame.bytes.now in
-    let offered : (i : ℕ) (o p : Pending Carried) → slice_get c.args.self.now.ports.items i ≡ Some o
+    let carried : HeldFrame = held_frame c.args.tag of_line.longest_wait c.args.frame.bytes.now in
+    let offered : (i : ℕ) (o p : Pending HeldFrame) → slice_get c.args.self.now.ports.items i ≡ Some o
     → slice_get c.forward-lost.new.ports i ≡ Some p →
     IsOffered c.args.time of_line.priority (share_of carried (is_among i of_line.goes.items)) o p
     (holds c.forward-lost.result (i + 1)) =
@@ -346,16 +346,16 @@ returns-clause-held c =
     c.index_mut-line.result.now c.args.self.now.lines.ok.0 c.in-Some.ensures.within
     c.index_mut-line.ensures.value in
     let same_line : c.index-line.result.now ≡ c.index_mut-line.result.now = cc in
-    let shared : AreShares (carried_with c.args.tag c.index-line.result.now.longest_wait
+    let shared : AreShares (held_frame c.args.tag c.index-line.result.now.longest_wait
     c.args.frame.bytes.now) c.share_out.new.shares.items =
-    subst (λ (f : Carried). AreShares f c.share_out.new.shares.items) c.in_ok-copy.ensures
+    subst (λ (f : HeldFrame). AreShares f c.share_out.new.shares.items) c.in_ok-copy.ensures
     c.in_ok-share_out.ensures.each in
     let shared_line = subst (λ (l : Line).
-    AreShares (carried_with c.args.tag l.longest_wait c.args.frame.bytes.now)
+    AreShares (held_frame c.args.tag l.longest_wait c.args.frame.bytes.now)
     c.share_out.new.shares.items) same_line shared in
     let of_line = c.index_mut-line.result.now in
-    let carried : Carried = carried_with c.args.tag of_line.longest_wait c.args.frame.bytes.now in
-    let offered : (i : ℕ) (o p : Pending Carried) → slice_get c.args.self.now.ports.items i ≡ Some o
+    let carried : HeldFrame = held_frame c.args.tag of_line.longest_wait c.args.frame.bytes.now in
+    let offered : (i : ℕ) (o p : Pending HeldFrame) → slice_get c.args.self.now.ports.items i ≡ Some o
     → slice_get c.forward-lost.new.ports i ≡ Some p →
     IsOffered c.args.time of_line.priority (share_of carried (is_among i of_line.goes.items)) o p
     (holds c.forward-lost.result (i + 1)) =

@@ -1,7 +1,7 @@
 use Rattle.std.proofs.Common.{◌≡◌, ◌+◌, ◌∙◌, arith, refl, subst, length}
 use Rattle.std.proofs.lemmas.Option.{slice_get_read}
 use Rattle.afdx_port.specs.Ports.{IsFirstDue, AreQuiet}
-use Rattle.afdx_switch.specs.Carried.{facts}
+use Rattle.afdx_switch.specs.HeldFrames.{facts}
 use Rattle.afdx_switch.specs.Switching.{calls_at}
 use Rattle.afdx_switch.proofs.TakeLemmas.{all-done, quiet-ever, due-of-first, quiet-iff, due-comes}
 use Rattle.afdx_switch.proofs.working.Working.due.Goals as goal

@@ -1,7 +1,7 @@
 use Rattle.std.proofs.Common.{◌≡◌, ◌+◌, arith, refl, subst, length}
 use Rattle.std.proofs.lemmas.Option.{slice_get_read, slice_get-get_or}
 use Rattle.afdx_port.specs.Ports.{IsFirstDue, AreQuiet}
-use Rattle.afdx_switch.specs.Carried.{facts}
+use Rattle.afdx_switch.specs.HeldFrames.{facts}
 use Rattle.afdx_switch.specs.Sound.{IsPortSound}
 use Rattle.afdx_switch.specs.Switching.{calls_at}
 use Rattle.afdx_switch.proofs.ListLemmas.{all-at}

@@ -5,19 +5,19 @@ use Rattle.afdx_port.specs.Facts.{Facts}
 use Rattle.afdx_port.specs.Times.{greatest_wait}
 
 -- the caller's tag, how long it may wait for its turn in ns if there is a limit, and all bytes
-pub record Carried : Type 0 where
+pub record HeldFrame : Type 0 where
   pub tag : ℕ
   pub longest_wait : Option ℕ
   pub bytes : List ℕ
 
 -- in this order
-abbrev pub carried_with : ℕ → Option ℕ → List ℕ → Carried
-carried_with tag longest_wait bytes =
+abbrev pub held_frame : ℕ → Option ℕ → List ℕ → HeldFrame
+held_frame tag longest_wait bytes =
     record { tag = tag; longest_wait = longest_wait; bytes = bytes }
 
 -- what a port knows of it. A frame that is accepted is neither too short nor too long, and its
 -- limit, if there is one, is at most 100 ms
-abbrev pub facts : Carried → Facts
+abbrev pub facts : HeldFrame → Facts
 facts c = record {
   bytes = max least_frame (min greatest_frame (length c.bytes));
   longest_wait = option_map (λ wait. min greatest_wait wait) c.longest_wait;
