@@ -1,6 +1,7 @@
 -- What is true of the texts of senders: what a replay reads of a line, and that a list of
 -- submissions has one text.
 use Rattle.std.specs.Prelude.{ℕ, ◌≡◌, ◌≤◌, List, [], ◌∷◌, length, Some}
+use Rattle.afdx_frame.specs.Lengths.{greatest_frame}
 use Rattle.afdx_frame.specs.Sealing.{AreBytes}
 use Rattle.afdx_frame.specs.Times.{latest_listed}
 use Rattle.afdx_frame.specs.declared.link.Side.{Side}
