@@ -48,8 +48,8 @@ impl Sums {
         requires lawful { CanSend (link_row link.now) }
         ensures { Adds (flow_of_link (link_row link.now)) self result }
     {
-        let burst = burst(link);
-        let load = load(self.byte_ns, link);
+        let burst = burst_of(link);
+        let load = load_of(self.byte_ns, link);
         let all = Sums {
             burst: self.burst + burst,
             load: self.load + load,
@@ -125,7 +125,7 @@ pub(crate) fn wire_size(link: &Link) -> u64
 }
 
 /// What a link may send at once.
-fn burst(link: &Link) -> u64
+fn burst_of(link: &Link) -> u64
     requires { CanSend (link_row link.now) }
     ensures burst { result ≡ cap (regulation_of_link (link_row link.now)) }
     ensures small { result ≤ 393728000000 }
@@ -134,7 +134,7 @@ fn burst(link: &Link) -> u64
 }
 
 /// What a link may send in the time of a byte.
-fn load(byte_ns: u64, link: &Link) -> u64
+fn load_of(byte_ns: u64, link: &Link) -> u64
     requires lawful { CanSend (link_row link.now) }
     requires slow { byte_ns ≤ 800 }
     ensures load { result ≡ fill_rate (regulation_of_link (link_row link.now)) * byte_ns }

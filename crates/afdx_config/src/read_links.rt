@@ -99,7 +99,7 @@ fn destinations(
 }
 
 #[tactic(auto, unfolding(crate::specs::Keys::word))]
-fn priority(table: &Table, place: Place) -> Result<Priority, ConfigFault>
+fn priority_at(table: &Table, place: Place) -> Result<Priority, ConfigFault>
     ensures { Gives (λ p. p) result
         (keys.word place (codes "priority") ((codes "high", High) ∷ (codes "low", Low) ∷ [])
         (table_view table.now)) }
@@ -112,7 +112,7 @@ fn priority(table: &Table, place: Place) -> Result<Priority, ConfigFault>
 }
 
 #[tactic(auto, unfolding(crate::specs::Keys::word))]
-fn policing(table: &Table, place: Place) -> Result<Policing, ConfigFault>
+fn policing_at(table: &Table, place: Place) -> Result<Policing, ConfigFault>
     ensures { Gives (λ p. p) result
         (keys.word place (codes "policing") ((codes "byte", Byte) ∷ (codes "frame", Frame) ∷ [])
         (table_view table.now)) }
@@ -181,8 +181,8 @@ fn treatment_of(table: &Table, index: usize) -> Result<Treatment, ConfigFault>
     ensures value { Gives (λ x. x) result
         (spec.treatment_at (keys.place Part.Link index) (table_view table.now)) }
 {
-    let priority = priority(table, place(Part::Link, index, 8))?;
-    let policing = policing(table, place(Part::Link, index, 9))?;
+    let priority = priority_at(table, place(Part::Link, index, 8))?;
+    let policing = policing_at(table, place(Part::Link, index, 9))?;
     let latency_us = whole(
         table,
         place(Part::Link, index, 10),

@@ -64,7 +64,7 @@ fn com_of(
     if is_taken(before, system, link, udp) {
         return Err(ConfigFault::Twice(at));
     }
-    let kind = kind(table, place(Part::Port, index, 4))?;
+    let kind = kind_at(table, place(Part::Port, index, 4))?;
     let depth = whole(
         table,
         place(Part::Port, index, 5),
@@ -92,7 +92,7 @@ fn deepest(kind: Kind) -> u64
 }
 
 #[tactic(auto, unfolding(crate::specs::Keys::word))]
-fn kind(table: &Table, place: Place) -> Result<Kind, ConfigFault>
+fn kind_at(table: &Table, place: Place) -> Result<Kind, ConfigFault>
     ensures { Gives (λ k. k) result
         (keys.word place (codes "kind")
         ((codes "sampling", Kind.Sampling) ∷ (codes "queuing", Kind.Queuing) ∷ [])

@@ -35,7 +35,7 @@ fn line(alloc: Global, link: &Link) -> Result<Line, AllocError>
 }
 
 /// Of each link that the system sends.
-fn lines(alloc: Global, tables: &Tables, system: SystemId) -> Result<Vec<Line>, AllocError>
+fn new_lines(alloc: Global, tables: &Tables, system: SystemId) -> Result<Vec<Line>, AllocError>
     ensures new { IfOk result (λ v. AreNewLines (links_from tables.now.links system.0) v.items) }
     ensures count { IfOk result (λ v. vec_len v ≤ 4096) }
 {
@@ -50,7 +50,7 @@ fn lines(alloc: Global, tables: &Tables, system: SystemId) -> Result<Vec<Line>, 
 }
 
 /// By identifier, the place of its line.
-fn places(alloc: Global, lines: &Vec<Line>) -> Result<Vec<Option<u16>>, AllocError>
+fn new_places(alloc: Global, lines: &Vec<Line>) -> Result<Vec<Option<u16>>, AllocError>
     requires { vec_len lines.now ≤ 4096 }
     ensures count { IfOk result (λ v. vec_len v ≡ 65536) }
     ensures each { IfOk result (λ v. (vl : ℕ) (place : Option ℕ) →
@@ -83,8 +83,8 @@ pub(crate) fn build(
     tables_are_served();
     let tables = tables.tables();
     let row = tables.system(system);
-    let lines = lines(alloc, tables, system)?;
-    let places = places(alloc, &lines)?;
+    let lines = new_lines(alloc, tables, system)?;
+    let places = new_places(alloc, &lines)?;
     let agenda = Agenda::new(alloc, lines.len())?;
     let byte_ns = tables.byte_ns(system);
     let output = Port::new(alloc, byte_ns, BUFFER)?;

@@ -121,7 +121,7 @@ fn line(tables: &Tables, place: usize) -> Line
     }
 }
 
-fn lines(alloc: Global, tables: &Tables) -> Result<Vec<Line>, AllocError>
+fn new_lines(alloc: Global, tables: &Tables) -> Result<Vec<Line>, AllocError>
     ensures lawful { IsLawful tables.now }
     ensures count { IfOk result (λ v. vec_len v ≡ length tables.now.links) }
     ensures each { IfOk result (λ v. (i : ℕ) (l : LinkRow) (line : Line) →
@@ -147,7 +147,7 @@ fn place(tables: &Tables, vl: u16) -> Option<u16>
     }
 }
 
-fn places(alloc: Global, tables: &Tables) -> Result<Vec<Option<u16>>, AllocError>
+fn new_places(alloc: Global, tables: &Tables) -> Result<Vec<Option<u16>>, AllocError>
     requires { length tables.now.links ≤ 4096 }
     ensures count { IfOk result (λ v. vec_len v ≡ 65536) }
     ensures each { IfOk result (λ v. (vl : ℕ) (place : Option ℕ) →
@@ -160,7 +160,7 @@ fn places(alloc: Global, tables: &Tables) -> Result<Vec<Option<u16>>, AllocError
     Ok(places)
 }
 
-fn ports(alloc: Global, tables: &Tables) -> Result<Vec<Port<Frame>>, AllocError>
+fn new_ports(alloc: Global, tables: &Tables) -> Result<Vec<Port<Frame>>, AllocError>
     ensures count { IfOk result (λ v. vec_len v ≡ 24) }
     ensures each { IfOk result (λ v. (i : ℕ) (p : Pending HeldFrame) →
         slice_get v.items i ≡ Some p →
@@ -183,9 +183,9 @@ pub(crate) fn build(alloc: Global, tables: &Tables) -> Result<Working, AllocErro
     ensures clock { IfOk result (λ w. last_time w ≡ 0) }
     ensures held { IfOk result (λ w. frames_held w ≡ 0) }
 {
-    let lines = lines(alloc, tables)?;
-    let places = places(alloc, tables)?;
-    let ports = ports(alloc, tables)?;
+    let lines = new_lines(alloc, tables)?;
+    let places = new_places(alloc, tables)?;
+    let ports = new_ports(alloc, tables)?;
     let serving = Serving::of(&ports);
     let first = serving.first::<Frame>();
     Ok(Working {

@@ -1,7 +1,7 @@
 use Rattle.std.proofs.Common.{arith, sym, subst, ◌<◌, ◌≤◌, ◌+◌, length, slice_set, Some, ℕ}
 use Rattle.afdx_send.proofs.NewLemmas.{ArePlaces, place_set, all_places}
 use Rattle.afdx_send.proofs.StandLemmas.{read_at}
-use Rattle.afdx_send.proofs.build.places.Goals as goal
+use Rattle.afdx_send.proofs.build.new_places.Goals as goal
 
 pub loop-place-preserved : goal.loop-place-preserved
 loop-place-preserved c =

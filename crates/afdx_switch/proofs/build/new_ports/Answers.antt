@@ -4,7 +4,7 @@ use Rattle.afdx_switch.specs.HeldFrames.{facts}
 use Rattle.afdx_switch.specs.New.{IsNewPort}
 use Rattle.afdx_switch.specs.Tables.{byte_ns_at, buffer_at}
 use Rattle.afdx_switch.proofs.NewLemmas.{gathered-push}
-use Rattle.afdx_switch.proofs.build.ports.Goals as goal
+use Rattle.afdx_switch.proofs.build.new_ports.Goals as goal
 
 pub loop-place-preserved : goal.loop-place-preserved
 loop-place-preserved c =

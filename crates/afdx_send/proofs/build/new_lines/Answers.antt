@@ -6,8 +6,8 @@ use Rattle.afdx_admit.proofs.Taken.{with_row, without_row}
 use Rattle.afdx_send.specs.declared.line.Line.{Line}
 use Rattle.afdx_send.specs.New.{AreNewLines}
 use Rattle.afdx_send.proofs.NewLemmas.{lines_push, filter_short}
-use Rattle.afdx_send.proofs.build.lines.Goals as goal
-use Rattle.afdx_send.proofs.build.lines.Goals.{then-eq+in_ok-line+in_ok-push, else-eq}
+use Rattle.afdx_send.proofs.build.new_lines.Goals as goal
+use Rattle.afdx_send.proofs.build.new_lines.Goals.{then-eq+in_ok-line+in_ok-push, else-eq}
 
 pub loop-place-preserved : goal.loop-place-preserved
 loop-place-preserved c =

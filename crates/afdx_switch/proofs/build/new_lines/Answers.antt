@@ -1,5 +1,5 @@
 use Rattle.afdx_switch.proofs.NewLemmas.{gathered-push}
-use Rattle.afdx_switch.proofs.build.lines.Goals as goal
+use Rattle.afdx_switch.proofs.build.new_lines.Goals as goal
 
 pub loop-place-preserved : goal.loop-place-preserved
 loop-place-preserved c =

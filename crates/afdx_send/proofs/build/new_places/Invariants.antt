@@ -1,6 +1,6 @@
 use Rattle.std.proofs.Common.{◌≡◌, replicate, None}
 use Rattle.afdx_send.proofs.NewLemmas.{ArePlaces}
-use Rattle.afdx_send.proofs.build.places.Given as goal
+use Rattle.afdx_send.proofs.build.new_places.Given as goal
 
 abbrev pub invariant-loop : goal.invariant-loop
 invariant-loop l = l.places.items ≡ replicate l.counter None

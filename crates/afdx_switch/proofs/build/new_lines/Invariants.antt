@@ -4,7 +4,7 @@ use Rattle.afdx_config.specs.Rows.{LinkRow}
 use Rattle.afdx_switch.specs.New.{IsNewLine}
 use Rattle.afdx_switch.specs.Tables.{row_of}
 use Rattle.afdx_switch.proofs.NewLemmas.{Gathered}
-use Rattle.afdx_switch.proofs.build.lines.Given as goal
+use Rattle.afdx_switch.proofs.build.new_lines.Given as goal
 
 abbrev pub invariant-loop-place : goal.invariant-loop-place
 invariant-loop-place l =
