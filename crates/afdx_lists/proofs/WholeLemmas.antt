@@ -3,6 +3,7 @@ use Rattle.std.proofs.Common.{IfSome, None, ◌≡◌, ℕ, zero, suc, ◌+◌, 
 use Rattle.std.proofs.Common.{false, List, [], ◌∷◌, ◌++◌, length, take, refl, ap, ◌∙◌, arith, eqb}
 use Rattle.std.proofs.Common.{cond, Option, Some, append_assoc, ◌⊎◌, inl, inr, length-append}
 use Rattle.std.specs.List.{count_by, slice_split}
+use Rattle.std.specs.Io.KnownBytes.{Consumes}
 use Rattle.std.proofs.KnownBytes.{Consumes-nil, Consumes-trans}
 use Rattle.std.proofs.lemmas.List.{length-take}
 use Rattle.std.proofs.lemmas.Grind.{common_steps}
@@ -11,9 +12,22 @@ use Rattle.std.proofs.lemmas.List.Elements.{All-append}
 use Rattle.std.proofs.lemmas.Bool.{eqb-true}
 use Rattle.std.proofs.lemmas.List.Sums.{sum_by-append}
 use Rattle.afdx_lists.specs.Lines.{lines_of, whole_lines_of, WholeLinesAreFirst, but_last}
-use Rattle.afdx_lists.specs.Lines.{between_feeds, HasNoFeed, TakesBytes, HasTaken, GaveWhole}
-use Rattle.afdx_lists.specs.Lines.{AreWhole}
+use Rattle.afdx_lists.specs.Lines.{between_feeds, HasNoFeed, TakesBytes, GaveWhole}
 use Rattle.afdx_lists.proofs.LineLemmas.{lines_of_feed, HasFirst, slice_split-has_first}
+
+-- of all that the input gave, n whole lines were taken, and the others are unread
+pub record HasTaken (old new : Option (List ℕ)) (unread : List ℕ) (n : ℕ) : Type 0 where
+  pub read : List ℕ
+  pub consumed : Consumes old new read
+  pub counted : length (whole_lines_of read) ≡ n + length (whole_lines_of unread)
+
+-- of a list whose rest is unread, the first n lines are the whole lines of what was read
+pub record AreWhole (bytes rest : List ℕ) (n : ℕ) : Type 0 where
+  pub read : List ℕ
+  pub parts : bytes ≡ read ++ rest
+  pub counted : n ≡ length (whole_lines_of read)
+  pub first : take n (lines_of bytes) ≡ whole_lines_of read
+  pub within : n ≤ length (lines_of bytes)
 
 but_last-cons : (part : List ℕ) (parts : List (List ℕ)) → HasFirst parts → but_last (part ∷ parts)
     ≡ part ∷ but_last parts

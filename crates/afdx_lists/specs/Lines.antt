@@ -98,25 +98,11 @@ pub record TakesBytes (old new : Option (List ℕ)) (before after taken : List �
   pub consumed : Consumes old new given
   pub parts : before ++ given ≡ taken ++ after
 
--- of all that the input gave, n whole lines were taken, and the others are unread
-pub record HasTaken (old new : Option (List ℕ)) (unread : List ℕ) (n : ℕ) : Type 0 where
-  pub read : List ℕ
-  pub consumed : Consumes old new read
-  pub counted : length (whole_lines_of read) ≡ n + length (whole_lines_of unread)
-
 -- the input gave n whole lines, and perhaps a beginning of one more
 pub record GaveWhole (old new : Option (List ℕ)) (n : ℕ) : Type 0 where
   pub read : List ℕ
   pub consumed : Consumes old new read
   pub counted : n ≡ length (whole_lines_of read)
-
--- of a list whose rest is unread, the first n lines are the whole lines of what was read
-pub record AreWhole (bytes rest : List ℕ) (n : ℕ) : Type 0 where
-  pub read : List ℕ
-  pub parts : bytes ≡ read ++ rest
-  pub counted : n ≡ length (whole_lines_of read)
-  pub first : take n (lines_of bytes) ≡ whole_lines_of read
-  pub within : n ≤ length (lines_of bytes)
 
 -- the taking of a line from what is left, after n others, may stop with this fault
 abbrev pub CanStop : RunFault → ℕ → Option (List ℕ) → Type 0

@@ -16,8 +16,8 @@ use Rattle.afdx_lists.specs.Lines.{lines_of}
 use Rattle.afdx_lists.specs.declared.fault.LineFault.{LineFault}
 use Rattle.afdx_lists.specs.declared.fault.RunFault.{RunFault}
 use Rattle.afdx_lists.specs.declared.fault.RunFault.TheVariants.{Read, Write, Memory, TooManyLines, LineTooLong, Line}
-use Rattle.afdx_replay.specs.Lists.{items_of}
-use Rattle.afdx_replay.specs.Listed.{frames, latest_time, arrival_at, with_said, said_after, arrivals_of}
+use Rattle.afdx_replay.specs.Lists.{items_of, latest_in, with_item}
+use Rattle.afdx_replay.specs.Listed.{frames, arrival_at, said_after, arrivals_of}
 use Rattle.afdx_replay.specs.ReplayPromises.{IsListed, ArrivalsAreListed}
 use Rattle.afdx_promises.specs.Lines.{IsIn}
 use Rattle.afdx_replay.specs.PromisedRun.{WritesPromisedSoFar, WritesPromisedSome, PromisedAnswers}
@@ -28,7 +28,7 @@ use Rattle.afdx_replay.proofs.PromisedLemmas.{replay-promised, so-far-told, none
 
 -- ---- the times of a list's arrivals don't decrease
 
-latest-most : (past : List Arrival) → AreTimed past → All (λ y. y.time ≤ latest_time past) past
+latest-most : (past : List Arrival) → AreTimed past → All (λ y. y.time ≤ latest_in frames past) past
 latest-most [] timed k d lt = absurd (omega (arith, lt))
 latest-most (x ∷ past) timed zero d lt = omega arith
 latest-most (x ∷ past) timed (suc k) d lt = timed.0 k d (omega (arith, lt))
@@ -41,11 +41,11 @@ arrivals-timed lines (suc n) = by (said_after (arrivals_of lines n) (slice_index
   where
     by : (r : Result (Option ListedFrame) LineFault)
         → said_after (arrivals_of lines n) (slice_index_or lines n []) ≡ r
-        → AreTimed (arrivals_of lines n) → AreTimed (with_said (suc n) r (arrivals_of lines n))
+        → AreTimed (arrivals_of lines n) → AreTimed (with_item frames (suc n) r (arrivals_of lines n))
     by (Err fault) is timed = timed
     by (Ok None) is timed = timed
     by (Ok (Some frame)) is timed =
-        let later = line_says-later (latest_time (arrivals_of lines n)) (slice_index_or lines n []) frame is in
+        let later = line_says-later (latest_in frames (arrivals_of lines n)) (slice_index_or lines n []) frame is in
         ((λ k d lt. let most = latest-most (arrivals_of lines n) timed k d lt in omega (arith, most, later)), timed)
 
 -- ---- each arrival is that of its line
@@ -67,7 +67,7 @@ arrivals-listed list (suc n) x h = by (said_after (arrivals_of list n) (slice_in
 
     by : (r : Result (Option ListedFrame) LineFault)
         → said_after (arrivals_of list n) (slice_index_or list n []) ≡ r
-        → IsIn x (with_said (suc n) r (arrivals_of list n))
+        → IsIn x (with_item frames (suc n) r (arrivals_of list n))
         → (IsIn x (arrivals_of list n) → IsListed list n x) → IsListed list (suc n) x
     by (Err fault) is g rest = earlier (rest g)
     by (Ok None) is g rest = earlier (rest g)

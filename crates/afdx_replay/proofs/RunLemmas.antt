@@ -12,8 +12,8 @@ use Rattle.afdx_lists.specs.declared.fault.LineFault.{LineFault}
 use Rattle.afdx_lists.specs.declared.fault.LineError.{LineError}
 use Rattle.afdx_lists.specs.declared.fault.LineError.TheVariants.{Fault, Memory}
 use Rattle.afdx_lists.specs.Lines.{lines_of, whole_lines_of, TakesLine, CanStop, HasNoFeed}
-use Rattle.afdx_lists.specs.Lines.{TakesBytes, HasTaken, GaveWhole, most_lines, longest_line}
-use Rattle.afdx_lists.proofs.WholeLemmas.{HasTaken-next}
+use Rattle.afdx_lists.specs.Lines.{TakesBytes, GaveWhole, most_lines, longest_line}
+use Rattle.afdx_lists.proofs.WholeLemmas.{HasTaken, HasTaken-next}
 use Rattle.afdx_lists.proofs.LineLemmas.{lines_of_nothing}
 use Rattle.afdx_lists.specs.Faults.{fault_at, IsErrorOf}
 use Rattle.afdx_replay.specs.Lists.{Kind, latest_in, with_item, items_of, item_said, fault_in}

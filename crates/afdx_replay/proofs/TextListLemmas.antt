@@ -25,8 +25,8 @@ use Rattle.afdx_send.specs.declared.fault.SendFault.{SendFault}
 use Rattle.afdx_send.specs.declared.fault.SendFault.TheVariants.{NotMyLink, NoSuchSub, Empty}
 use Rattle.afdx_send.specs.declared.fault.SendFault.TheVariants.{TooLarge, QueueFull, Memory}
 use Rattle.afdx_promises.specs.Sent.{frame_on}
-use Rattle.afdx_replay.specs.Listed.{frames, arrivals_of, latest_time, AreSound}
-use Rattle.afdx_replay.specs.Lists.{with_item, item_after, items_of, fault_in, fault_said}
+use Rattle.afdx_replay.specs.Listed.{frames, arrivals_of, AreSound}
+use Rattle.afdx_replay.specs.Lists.{latest_in, with_item, item_after, items_of, fault_in, fault_said}
 use Rattle.afdx_replay.specs.SendEvents.{Event, Emitted, Submitted, turns_in, EachFollows}
 use Rattle.afdx_replay.specs.SendText.{refusal_text, send_text}
 use Rattle.afdx_replay.proofs.SendLineLemmas.{no-return, refused, refused-least, line_on, all_lines}
@@ -62,7 +62,7 @@ fault-front xs line n lt =
 -- a list without fault, whose last frame has this time
 record IsList (xs : List (List ℕ)) (latest : ℕ) : Type 0 where
   sound : AreSound xs (length xs)
-  time : latest_time (arrivals_of xs (length xs)) ≡ latest
+  time : latest_in frames (arrivals_of xs (length xs)) ≡ latest
 
 abbrev time_after : Option ListedFrame → ℕ → ℕ
 time_after None latest = latest
@@ -105,7 +105,7 @@ module _ (xs : List (List ℕ)) (line : List ℕ) (latest : ℕ) (found : Option
       ∙ ap (λ r. with_item frames (suc (length xs)) r (arrivals_of xs (length xs))) item
 
   last-time : (o : Option ListedFrame)
-      → latest_time (with_item frames (suc (length xs)) (Ok o) (arrivals_of xs (length xs)))
+      → latest_in frames (with_item frames (suc (length xs)) (Ok o) (arrivals_of xs (length xs)))
       ≡ time_after o latest
   last-time None = k.time
   last-time (Some frame) = refl
@@ -117,8 +117,8 @@ module _ (xs : List (List ℕ)) (line : List ℕ) (latest : ℕ) (found : Option
       | inr new ↦ (let n = more-length xs line in let at : length xs ≡ i = omega (arith, n, lt, new)
           in subst (λ (z : ℕ). fault_in frames (xs ++ line ∷ []) z ≡ None) at fine)
     ];
-    time = ap (λ n. latest_time (arrivals_of (xs ++ line ∷ []) n)) (more-length xs line)
-        ∙ ap latest_time last ∙ last-time found;
+    time = ap (λ n. latest_in frames (arrivals_of (xs ++ line ∷ []) n)) (more-length xs line)
+        ∙ ap (latest_in frames) last ∙ last-time found;
   }
 
 -- ---- the lines of events

@@ -4,7 +4,7 @@ use Rattle.std.specs.Prelude.{ℕ, List, Option, Result}
 use Rattle.afdx_police.specs.Arrival.{Arrival}
 use Rattle.afdx_lists.specs.FrameLines.{ListedFrame, line_says}
 use Rattle.afdx_lists.specs.declared.fault.LineFault.{LineFault}
-use Rattle.afdx_replay.specs.Lists.{Kind, latest_in, with_item, item_after, items_of, HaveNoFault}
+use Rattle.afdx_replay.specs.Lists.{Kind, item_after, items_of, HaveNoFault}
 
 -- the arrival of the frame of line n
 abbrev pub arrival_at : ℕ → ListedFrame → Arrival
@@ -14,14 +14,6 @@ arrival_at n frame =
 -- lists of frames
 abbrev pub frames : Kind ListedFrame Arrival
 frames = record { says = line_says; item = arrival_at; time = λ x. x.time }
-
--- the time of the newest arrival, or 0
-abbrev pub latest_time : List Arrival → ℕ
-latest_time past = latest_in frames past
-
--- these arrivals, and the one that line n says, if it says one
-abbrev pub with_said : ℕ → Result (Option ListedFrame) LineFault → List Arrival → List Arrival
-with_said n said past = with_item frames n said past
 
 -- what a line says that comes after these arrivals
 abbrev pub said_after : List Arrival → List ℕ → Result (Option ListedFrame) LineFault

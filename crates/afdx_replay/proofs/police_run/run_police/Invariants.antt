@@ -1,6 +1,7 @@
 use Rattle.std.proofs.Common.{◌≡◌, ◌≤◌, ◌+◌, ◌*◌, ◌-◌, false}
 use Rattle.afdx_police.specs.RuleOf.{rule_of}
-use Rattle.afdx_lists.specs.Lines.{IsHonest, HasTaken, left, lines_taken, unread}
+use Rattle.afdx_lists.specs.Lines.{IsHonest, left, lines_taken, unread}
+use Rattle.afdx_lists.proofs.WholeLemmas.{HasTaken}
 use Rattle.afdx_frame.specs.Times.{latest_listed}
 use Rattle.afdx_lists.specs.Lines.{most_lines, reads_of_line}
 use Rattle.afdx_replay.specs.Policers.{AreUntil}

@@ -1,5 +1,6 @@
 use Rattle.std.proofs.Common.{◌≡◌, ◌≤◌, ◌+◌, ◌*◌, ◌-◌, false}
-use Rattle.afdx_lists.specs.Lines.{IsHonest, HasTaken, left, lines_taken, unread}
+use Rattle.afdx_lists.specs.Lines.{IsHonest, left, lines_taken, unread}
+use Rattle.afdx_lists.proofs.WholeLemmas.{HasTaken}
 use Rattle.afdx_frame.specs.Times.{latest_listed}
 use Rattle.afdx_lists.specs.Lines.{most_lines, reads_of_line}
 use Rattle.afdx_network.specs.Network as network

@@ -1,7 +1,8 @@
 use Rattle.std.proofs.Common.{◌≡◌, ◌≤◌, ◌+◌, ◌*◌, ◌-◌, Some, false}
 use Rattle.std.specs.List.{slice_get}
 use Rattle.afdx_config.specs.Rows.{SystemRow}
-use Rattle.afdx_lists.specs.Lines.{IsHonest, HasTaken, left, lines_taken, unread}
+use Rattle.afdx_lists.specs.Lines.{IsHonest, left, lines_taken, unread}
+use Rattle.afdx_lists.proofs.WholeLemmas.{HasTaken}
 use Rattle.afdx_frame.specs.Times.{latest_listed}
 use Rattle.afdx_lists.specs.Lines.{most_lines, reads_of_line}
 use Rattle.afdx_send.specs.Sender.{last_time, frames_held}
