@@ -52,6 +52,8 @@ impl fmt::Display for DropReason {
     }
 }
 
+impl std::error::Error for DropReason {}
+
 /// What a receiver makes of what arrived.
 #[derive(Clone, Copy, Debug, PartialEq, Eq)]
 pub enum Reception<'a> {

@@ -21,6 +21,7 @@ use Rattle.afdx_lists.proofs.FrameLemmas.{line_says_nothing}
 use Rattle.afdx_lists.proofs.LineLemmas.{lines_of_feed, lines_of_nothing}
 use Rattle.afdx_port.specs.Schedule.{Turn}
 use Rattle.afdx_send.specs.Frames as send
+use Rattle.afdx_send.specs.Words.{refusal_word}
 use Rattle.afdx_send.specs.declared.fault.SendFault.{SendFault}
 use Rattle.afdx_send.specs.declared.fault.SendFault.TheVariants.{NotMyLink, NoSuchSub, Empty}
 use Rattle.afdx_send.specs.declared.fault.SendFault.TheVariants.{TooLarge, QueueFull, Memory}
@@ -28,7 +29,7 @@ use Rattle.afdx_promises.specs.Sent.{frame_on}
 use Rattle.afdx_replay.specs.EndToEnd.{says_at, lines_at}
 use Rattle.afdx_replay.specs.SendEvents.{Event, Emitted, Submitted, turns_in}
 use Rattle.afdx_replay.specs.SendLaws.{AreOfFrame}
-use Rattle.afdx_replay.specs.SendText.{sent_line, refusal_text, refusal_line, event_lines, send_text}
+use Rattle.afdx_replay.specs.SendText.{sent_line, refusal_line, event_lines, send_text}
 use Rattle.afdx_replay.proofs.SendLemmas.{text-none, text-more}
 use Rattle.afdx_replay.proofs.SentLineLemmas.{AtLeast, append-least, lower-least, none-below}
 use Rattle.afdx_replay.proofs.SentLineLemmas.{index-least, decimal-least, line_of, line-feed}
@@ -59,13 +60,13 @@ all-join P (x ∷ xs) ys a b = (a.0, all-join P xs ys a.1 b)
 -- ---- a refusal's line
 
 abbrev pub refused : ℕ → SendFault → List ℕ
-refused n fault = 35 ∷ 32 ∷ (decimal n ++ 32 ∷ refusal_text fault)
+refused n fault = 35 ∷ 32 ∷ (decimal n ++ 32 ∷ refusal_word fault)
 
 refused-feed : (n : ℕ) (fault : SendFault) → refused n fault ++ 10 ∷ [] ≡ refusal_line n fault
 refused-feed n fault = ap (λ (z : List ℕ). 35 ∷ 32 ∷ z)
-    (append_assoc (decimal n) (32 ∷ refusal_text fault) (10 ∷ [])) ∙ grind (arith, common_steps)
+    (append_assoc (decimal n) (32 ∷ refusal_word fault) (10 ∷ [])) ∙ grind (arith, common_steps)
 
-word-least : (fault : SendFault) → AtLeast 48 (refusal_text fault)
+word-least : (fault : SendFault) → AtLeast 48 (refusal_word fault)
 word-least NotMyLink = (omega arith, (omega arith, tt))
 word-least NoSuchSub = (omega arith, (omega arith, tt))
 word-least Empty = (omega arith, (omega arith, tt))
@@ -78,9 +79,9 @@ refused-least n fault few = (
   omega arith,
   (
     omega arith,
-    append-least 32 (decimal n) (32 ∷ refusal_text fault)
+    append-least 32 (decimal n) (32 ∷ refusal_word fault)
         (lower-least 32 48 (decimal n) (omega arith) (decimal-least n (omega (arith, few))))
-        (omega arith, lower-least 32 48 (refusal_text fault) (omega arith) (word-least fault)),
+        (omega arith, lower-least 32 48 (refusal_word fault) (omega arith) (word-least fault)),
   ),
 )
 

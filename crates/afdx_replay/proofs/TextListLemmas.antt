@@ -21,6 +21,7 @@ use Rattle.afdx_lists.specs.declared.fault.RunFault.{RunFault}
 use Rattle.afdx_lists.specs.declared.fault.RunFault.TheVariants as run
 use Rattle.afdx_lists.proofs.FrameLemmas.{line_says_nothing}
 use Rattle.afdx_send.specs.Frames as send
+use Rattle.afdx_send.specs.Words.{refusal_word}
 use Rattle.afdx_send.specs.declared.fault.SendFault.{SendFault}
 use Rattle.afdx_send.specs.declared.fault.SendFault.TheVariants.{NotMyLink, NoSuchSub, Empty}
 use Rattle.afdx_send.specs.declared.fault.SendFault.TheVariants.{TooLarge, QueueFull, Memory}
@@ -28,7 +29,7 @@ use Rattle.afdx_promises.specs.Sent.{frame_on}
 use Rattle.afdx_replay.specs.Listed.{frames, arrivals_of, AreSound}
 use Rattle.afdx_replay.specs.Lists.{latest_in, with_item, item_after, items_of, fault_in, fault_said}
 use Rattle.afdx_replay.specs.SendEvents.{Event, Emitted, Submitted, turns_in, EachFollows}
-use Rattle.afdx_replay.specs.SendText.{refusal_text, send_text}
+use Rattle.afdx_replay.specs.SendText.{send_text}
 use Rattle.afdx_replay.proofs.SendLineLemmas.{no-return, refused, refused-least, line_on, all_lines}
 use Rattle.afdx_replay.proofs.SendLineLemmas.{CanBeRead, IsFine, lines-of-text}
 use Rattle.afdx_replay.proofs.SentLineLemmas.{says-after, short}
@@ -123,7 +124,7 @@ module _ (xs : List (List ℕ)) (line : List ℕ) (latest : ℕ) (found : Option
 
 -- ---- the lines of events
 
-word-short : (fault : SendFault) → length (refusal_text fault) ≡ 2
+word-short : (fault : SendFault) → length (refusal_word fault) ≡ 2
 word-short NotMyLink = refl
 word-short NoSuchSub = refl
 word-short Empty = refl
@@ -134,7 +135,7 @@ word-short Memory = refl
 refused-short : (n : ℕ) (fault : SendFault) → n ≤ most_lines → length (refused n fault) ≤ longest_line
 refused-short n fault few =
     let d = length-decimal-le 7 n (omega arith) (omega (arith, few)) (omega (arith, few)) in
-    let a = length-append (decimal n) (32 ∷ refusal_text fault) in
+    let a = length-append (decimal n) (32 ∷ refusal_word fault) in
     let w = word-short fault in
     omega (arith, d, a, w)
 

@@ -9,7 +9,7 @@ use Rattle.afdx_config.specs.LawfulStream.{Sending}
 use Rattle.afdx_config.specs.Rows.{SystemRow}
 use Rattle.afdx_promises.specs.Sent.{sent_in}
 use Rattle.afdx_send.specs.declared.fault.SendFault.{SendFault}
-use Rattle.afdx_send.specs.declared.fault.SendFault.TheVariants.{NotMyLink, NoSuchSub, Empty, TooLarge, QueueFull, Memory}
+use Rattle.afdx_send.specs.Words.{refusal_word}
 use Rattle.afdx_replay.specs.PoliceText.{side_text}
 use Rattle.afdx_replay.specs.ReplayText.{no_counts}
 use Rattle.afdx_replay.specs.SendEvents.{Event, Emitted, Submitted}
@@ -25,17 +25,9 @@ sent_line side port time bytes =
 abbrev pub emission_lines : ℕ → Sending → List ℕ
 emission_lines port y = sent_line A port y.time y.a ++ sent_line B port y.time y.b
 
-abbrev pub refusal_text : SendFault → List ℕ
-refusal_text NotMyLink = codes "S1"
-refusal_text NoSuchSub = codes "S2"
-refusal_text Empty = codes "S3"
-refusal_text TooLarge = codes "S4"
-refusal_text QueueFull = codes "S5"
-refusal_text Memory = codes "S6"
-
 -- the line of a message, on line n, that isn't taken
 abbrev pub refusal_line : ℕ → SendFault → List ℕ
-refusal_line n fault = codes "# " ++ decimal n ++ codes " " ++ refusal_text fault ++ codes "\n"
+refusal_line n fault = codes "# " ++ decimal n ++ codes " " ++ refusal_word fault ++ codes "\n"
 
 -- the lines of an event: a submission has one only where it is refused
 abbrev pub event_lines : SystemRow → Event → List ℕ

@@ -8,7 +8,7 @@ ghost use Rattle.afdx_lists.specs.Calls.{is_failed_read, is_failed_write};
 ghost use Rattle.afdx_lists.specs.Watching.{calls_of, device_of, has_ended, has_failed};
 ghost use Rattle.afdx_send.specs.Sender.{StandsFor, IsQuiet, frames_held, last_time, sending_of};
 ghost use Rattle.afdx_replay.specs.SendEvents.{Handed as HandedSubmission, Event, submissions_in, calls_in};
-ghost use Rattle.afdx_replay.specs.SendText.{sent_line, emission_lines, refusal_line, refusal_text, send_counts};
+ghost use Rattle.afdx_replay.specs.SendText.{sent_line, emission_lines, refusal_line, send_counts};
 ghost use Rattle.afdx_replay.specs.Sent.{Source, source_at, WritesSome, Answers};
 ghost use Rattle.afdx_replay.specs.SendProgress.{handed_at, HasTold, AreTold, ToldUntil, TellsSubmission, HasRoom};
 
@@ -58,20 +58,6 @@ fn put_emission(text: &mut Text, port: u8, emission: &Emission) -> Result<(), Al
     put_sent(text, time, Side::B, port, emission.b.as_slice())
 }
 
-/// How a refusal is written.
-fn refusal_words(fault: SendFault) -> &'static str
-    ensures { result.now ≡ refusal_text fault }
-{
-    match fault {
-        SendFault::NotMyLink => "S1",
-        SendFault::NoSuchSub => "S2",
-        SendFault::Empty => "S3",
-        SendFault::TooLarge => "S4",
-        SendFault::QueueFull => "S5",
-        SendFault::Memory => "S6",
-    }
-}
-
 /// Whether it isn't the message that was refused, but memory.
 fn is_memory(fault: SendFault) -> bool
     ensures { result ≡ false → fault ≡ SendFault.Memory → ⊥ }
@@ -90,12 +76,11 @@ fn is_memory(fault: SendFault) -> bool
 fn put_refusal(text: &mut Text, n: u64, fault: SendFault) -> Result<(), AllocError>
     ensures { OnOk result (text_bytes text.new ≡ refusal_line n fault) }
 {
-    let words = refusal_words(fault);
     text.clear();
     text.put(b"# ")?;
     text.put_number(n)?;
     text.put(b" ")?;
-    text.put(words.as_bytes())?;
+    text.put(fault.word().as_bytes())?;
     text.put(b"\n")
 }
 

@@ -8,3 +8,4 @@ pub mod Sender
 pub mod New
 pub mod Laws
 pub mod Complete
+pub mod Words

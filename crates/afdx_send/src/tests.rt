@@ -272,3 +272,8 @@ fn numbers_go_round(rt: HostRuntime) -> Result<(), Fail> {
     }
     Ok(())
 }
+
+#[test]
+fn refusals_in_words(rt: HostRuntime) {
+    assert_eq!(rt; SendFault::QueueFull.word(), "S5");
+}
