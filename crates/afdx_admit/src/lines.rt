@@ -5,6 +5,7 @@ ghost use Rattle.std.specs.Prelude.{IfNone};
 ghost use Rattle.afdx_config.specs.Rows.{link_row};
 ghost use Rattle.afdx_config.specs.Lawful.{IsLawful};
 ghost use Rattle.afdx_frame.specs.Flows.{is_class, of_class};
+ghost use Rattle.afdx_frame.specs.Regulation.{byte_units};
 ghost use Rattle.afdx_config.specs.Admission.{flows_to};
 ghost use Rattle.afdx_admit.specs.Lines as spec;
 ghost use Rattle.afdx_admit.specs.Late as late;
@@ -26,7 +27,7 @@ fn is_class(class: Priority, priority: Priority) -> bool
 /// `wait`.
 fn is_late(link: &Link, system: SystemId, class: Priority, wait: u64, left: u64) -> bool
     requires lawful { CanSend (link_row link.now) }
-    requires small { left ≤ 128000000 }
+    requires small { left ≤ byte_units }
     ensures { result ≡ late.is_late system.0 class wait left (link_row link.now) }
 {
     link.goes_to(system) && is_class(class, link.priority) && 1000 * link.latency_us * left < wait
@@ -40,7 +41,7 @@ fn first_late(
     wait: u64,
     left: u64,
 ) -> Option<VlId>
-    requires { left ≤ 128000000 }
+    requires { left ≤ byte_units }
     ensures { option_map (λ vl. vl.0) result
         ≡ late.first_late wait left (of_class class (flows_to tables.now.links system.0)) }
 {

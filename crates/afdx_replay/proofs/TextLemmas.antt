@@ -1,6 +1,6 @@
 -- The text and the counts of one arrival more.
 use Rattle.std.proofs.Common.{◌≡◌, ℕ, ◌+◌, suc, List, [], ◌∷◌, ◌++◌, refl, ap, sym, ◌∙◌, Option}
-use Rattle.std.proofs.Common.{Some, None, arith, is_none, cond, append_assoc}
+use Rattle.std.proofs.Common.{Bool, true, false, arith, cond, append_assoc}
 use Rattle.std.specs.Io.KnownBytes.{Appends}
 use Rattle.std.proofs.KnownBytes.{Appends-trans}
 use Rattle.afdx_lists.specs.Calls.{AppendsFront}
@@ -8,7 +8,7 @@ use Rattle.afdx_police.specs.declared.shape.Reason.{Reason}
 use Rattle.afdx_police.specs.Arrival.{Arrival}
 use Rattle.afdx_police.specs.Rule.{Rule}
 use Rattle.afdx_police.specs.Verdicts.{verdict_in}
-use Rattle.afdx_replay.specs.PoliceText.{text_of, accepted_in, dropped_in, verdict_line}
+use Rattle.afdx_replay.specs.PoliceText.{text_of, count_judged, verdict_line}
 
 pub text_of-none : (rule : Rule) → text_of rule [] ≡ []
 unfolding text_of
@@ -20,41 +20,26 @@ pub text_of-more : (rule : Rule) (x : Arrival) (past : List Arrival) (reason : O
 unfolding text_of
 text_of-more rule x past reason e = ap (λ (r : Option Reason). text_of rule past ++ verdict_line x.tag x.side r) (sym e)
 
-pub accepted_in-none : (rule : Rule) → accepted_in rule [] ≡ 0
-unfolding accepted_in
-accepted_in-none rule = refl
+-- one more arrival counts, where its verdict is such a one
+pub judged-more : (test : Option Reason → Bool) (rule : Rule) (x : Arrival) (past : List Arrival)
+    (verdict : Option Reason) → verdict ≡ verdict_in rule past x → test verdict ≡ true
+    → count_judged test rule (x ∷ past) ≡ count_judged test rule past + 1
+unfolding count_judged
+judged-more test rule x past verdict e yes =
+    ap (λ (b : Bool). cond b (suc (count_judged test rule past)) (count_judged test rule past))
+    (ap test (sym e) ∙ yes) ∙ omega arith
 
-pub dropped_in-none : (rule : Rule) → dropped_in rule [] ≡ 0
-unfolding dropped_in
-dropped_in-none rule = refl
+pub judged-same : (test : Option Reason → Bool) (rule : Rule) (x : Arrival) (past : List Arrival)
+    (verdict : Option Reason) → verdict ≡ verdict_in rule past x → test verdict ≡ false
+    → count_judged test rule (x ∷ past) ≡ count_judged test rule past
+unfolding count_judged
+judged-same test rule x past verdict e no =
+    ap (λ (b : Bool). cond b (suc (count_judged test rule past)) (count_judged test rule past))
+    (ap test (sym e) ∙ no)
 
-pub accepted_in-accepted : (rule : Rule) (x : Arrival) (past : List Arrival)
-    → None ≡ verdict_in rule past x → accepted_in rule (x ∷ past) ≡ accepted_in rule past + 1
-unfolding accepted_in
-accepted_in-accepted rule x past e =
-    ap (λ (r : Option Reason). cond (is_none r) (suc (accepted_in rule past))
-    (accepted_in rule past)) (sym e) ∙ omega arith
-
-pub accepted_in-dropped : (rule : Rule) (x : Arrival) (past : List Arrival) (reason : Reason)
-    → Some reason ≡ verdict_in rule past x → accepted_in rule (x ∷ past) ≡ accepted_in rule past
-unfolding accepted_in
-accepted_in-dropped rule x past reason e =
-    ap (λ (r : Option Reason). cond (is_none r) (suc (accepted_in rule past))
-    (accepted_in rule past)) (sym e)
-
-pub dropped_in-accepted : (rule : Rule) (x : Arrival) (past : List Arrival)
-    → None ≡ verdict_in rule past x → dropped_in rule (x ∷ past) ≡ dropped_in rule past
-unfolding dropped_in
-dropped_in-accepted rule x past e =
-    ap (λ (r : Option Reason). cond (is_none r) (dropped_in rule past) (suc (dropped_in rule past)))
-    (sym e)
-
-pub dropped_in-dropped : (rule : Rule) (x : Arrival) (past : List Arrival) (reason : Reason)
-    → Some reason ≡ verdict_in rule past x → dropped_in rule (x ∷ past) ≡ dropped_in rule past + 1
-unfolding dropped_in
-dropped_in-dropped rule x past reason e =
-    ap (λ (r : Option Reason). cond (is_none r) (dropped_in rule past) (suc (dropped_in rule past)))
-    (sym e) ∙ omega arith
+pub judged-none : (test : Option Reason → Bool) (rule : Rule) → count_judged test rule [] ≡ 0
+unfolding count_judged
+judged-none test rule = refl
 
 -- a whole text is a beginning of itself
 pub front-whole : (old new : Option (List ℕ)) (text : List ℕ) → Appends old new text → AppendsFront old new text

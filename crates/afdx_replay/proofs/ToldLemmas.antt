@@ -15,29 +15,27 @@ use Rattle.afdx_replay.specs.declared.police_run.Policers.{Policers}
 use Rattle.afdx_replay.specs.declared.summary.Summary.{Summary}
 use Rattle.afdx_replay.specs.Listed.{frames}
 use Rattle.afdx_replay.specs.Stops.{StopsAt}
-use Rattle.afdx_replay.specs.PoliceText.{text_of, accepted_in, dropped_in, verdict_line}
+use Rattle.afdx_replay.specs.PoliceText.{text_of, count_judged, verdict_line}
 use Rattle.afdx_replay.specs.Policed.{WritesText, WritesBeginning, WritesAll}
 use Rattle.afdx_replay.specs.Policers.{HaveSeen}
 use Rattle.afdx_replay.proofs.RunLemmas.{IsDone, stops-at-start}
-use Rattle.afdx_replay.proofs.TextLemmas.{text_of-none, text_of-more, accepted_in-none}
-use Rattle.afdx_replay.proofs.TextLemmas.{dropped_in-none, accepted_in-accepted}
-use Rattle.afdx_replay.proofs.TextLemmas.{accepted_in-dropped, dropped_in-accepted}
-use Rattle.afdx_replay.proofs.TextLemmas.{dropped_in-dropped, front-whole, front-more}
+use Rattle.afdx_replay.proofs.TextLemmas.{text_of-none, text_of-more, judged-none}
+use Rattle.afdx_replay.proofs.TextLemmas.{judged-more, judged-same, front-whole, front-more}
 
 -- These arrivals are told: the accounts stand for them, they are counted, and their text is written
 pub record HasTold (rule : Rule) (policers : Policers) (accepted dropped : ℕ)
     (old new : Option (List ℕ)) (past : List Arrival) : Type 0 where
   pub seen : HaveSeen policers rule past
-  pub accepted_is : accepted ≡ accepted_in rule past
-  pub dropped_is : dropped ≡ dropped_in rule past
+  pub accepted_is : accepted ≡ count_judged is_none rule past
+  pub dropped_is : dropped ≡ count_judged is_some rule past
   pub written : WritesText rule old new past
 
 pub told-start : (rule : Rule) (policers : Policers) (output : Option (List ℕ))
     → HaveSeen policers rule [] → HasTold rule policers 0 0 output output []
 told-start rule policers output seen = record {
   seen = seen;
-  accepted_is = sym (accepted_in-none rule);
-  dropped_is = sym (dropped_in-none rule);
+  accepted_is = sym (judged-none is_none rule);
+  dropped_is = sym (judged-none is_some rule);
   written = subst (λ (t : List ℕ). Appends output output t) (sym (text_of-none rule)) (Appends-nil output);
 }
 
@@ -67,19 +65,19 @@ counts-one (Some why) accepted dropped accepted' dropped' k = let one = k.if_dro
 counted : (rule : Rule) (x : Arrival) (past : List Arrival) (reason : Option Reason)
     (accepted dropped accepted' dropped' : ℕ)
     → reason ≡ verdict_in rule past x → Counts reason accepted dropped accepted' dropped'
-    → accepted ≡ accepted_in rule past → dropped ≡ dropped_in rule past
-    → (accepted' ≡ accepted_in rule (x ∷ past)) × (dropped' ≡ dropped_in rule (x ∷ past))
+    → accepted ≡ count_judged is_none rule past → dropped ≡ count_judged is_some rule past
+    → (accepted' ≡ count_judged is_none rule (x ∷ past)) × (dropped' ≡ count_judged is_some rule (x ∷ past))
 counted rule x past None accepted dropped accepted' dropped' e k a d =
     let one = k.if_accepted refl in (
-      one.0 ∙ ap (λ (n : ℕ). n + 1) a ∙ sym (accepted_in-accepted rule x past e),
+      one.0 ∙ ap (λ (n : ℕ). n + 1) a ∙ sym (judged-more is_none rule x past None e refl),
       one.1 ∙ d
-          ∙ sym (dropped_in-accepted rule x past e),
+          ∙ sym (judged-same is_some rule x past None e refl),
     )
 counted rule x past (Some why) accepted dropped accepted' dropped' e k a d =
     let one = k.if_dropped why refl in (
-      one.0 ∙ a ∙ sym (accepted_in-dropped rule x past why e),
+      one.0 ∙ a ∙ sym (judged-same is_none rule x past (Some why) e refl),
       one.1 ∙ ap (λ (n : ℕ). n + 1) d
-          ∙ sym (dropped_in-dropped rule x past why e),
+          ∙ sym (judged-more is_some rule x past (Some why) e refl),
     )
 
 -- an arrival more, whose verdict's line was written

@@ -1,6 +1,7 @@
 -- The text of a run that polices one link: a line for each arrival. A list of arrivals has the
 -- newest first.
-use Rattle.std.specs.Prelude.{ℕ, suc, List, [], ◌∷◌, ◌++◌, Option, Some, None, codes, is_none, if◌then◌else◌}
+use Rattle.std.specs.Prelude.{ℕ, suc, Bool, List, [], ◌∷◌, ◌++◌, Option, Some, None, codes}
+use Rattle.std.specs.Prelude.{is_none, is_some, if◌then◌else◌}
 use Rattle.std.specs.Fmt.{decimal}
 use Rattle.afdx_frame.specs.declared.link.Side.{Side}
 use Rattle.afdx_frame.specs.declared.link.Side.TheVariants.{A, B}
@@ -31,27 +32,20 @@ unfoldable pub text_of : Rule → List Arrival → List ℕ
 text_of rule [] = []
 text_of rule (x ∷ past) = text_of rule past ++ verdict_line x.tag x.side (verdict_in rule past x)
 
--- how many of the arrivals are accepted, and how many are dropped
-unfoldable pub accepted_in : Rule → List Arrival → ℕ
-accepted_in rule [] = 0
-accepted_in rule (x ∷ past) =
-    if is_none (verdict_in rule past x)
-    then suc (accepted_in rule past)
-    else accepted_in rule past
-
-unfoldable pub dropped_in : Rule → List Arrival → ℕ
-dropped_in rule [] = 0
-dropped_in rule (x ∷ past) =
-    if is_none (verdict_in rule past x)
-    then dropped_in rule past
-    else suc (dropped_in rule past)
+-- how many of the arrivals have such a verdict
+unfoldable pub count_judged : (Option Reason → Bool) → Rule → List Arrival → ℕ
+count_judged test rule [] = 0
+count_judged test rule (x ∷ past) =
+    if test (verdict_in rule past x)
+    then suc (count_judged test rule past)
+    else count_judged test rule past
 
 -- what a run over n lines counts; nothing departs and nothing is received in it
 abbrev pub counts_of : Rule → ℕ → List Arrival → Summary
 counts_of rule n past = record {
   lines = n;
-  accepted = accepted_in rule past;
-  dropped = dropped_in rule past;
+  accepted = count_judged is_none rule past;
+  dropped = count_judged is_some rule past;
   lost = 0;
   departed = 0;
   too_old = 0;

@@ -95,7 +95,7 @@ fn says_frame(
 }
 
 #[test]
-fn lines_that_say_a_frame(rt: HostRuntime) {
+fn sealed_lines_that_say_a_frame(rt: HostRuntime) {
     let alloc = rt.alloc();
     let good = b"123456789\x26\x39\xf4\xcb";
     let bad = b"123456789\xd9\xc6\x0b\x34";
@@ -117,6 +117,12 @@ fn lines_that_say_a_frame(rt: HostRuntime) {
         false,
         bad,
     );
+}
+
+#[test]
+fn raw_lines_that_say_a_frame(rt: HostRuntime) {
+    let alloc = rt.alloc();
+    let good = b"123456789\x26\x39\xf4\xcb";
     says_frame(
         &rt,
         alloc,
