@@ -25,17 +25,17 @@ pub judged-more : (test : Option Reason → Bool) (rule : Rule) (x : Arrival) (p
     (verdict : Option Reason) → verdict ≡ verdict_in rule past x → test verdict ≡ true
     → count_judged test rule (x ∷ past) ≡ count_judged test rule past + 1
 unfolding count_judged
-judged-more test rule x past verdict e yes =
+judged-more test rule x past verdict e is =
     ap (λ (b : Bool). cond b (suc (count_judged test rule past)) (count_judged test rule past))
-    (ap test (sym e) ∙ yes) ∙ omega arith
+    (ap test (sym e) ∙ is) ∙ omega arith
 
 pub judged-same : (test : Option Reason → Bool) (rule : Rule) (x : Arrival) (past : List Arrival)
     (verdict : Option Reason) → verdict ≡ verdict_in rule past x → test verdict ≡ false
     → count_judged test rule (x ∷ past) ≡ count_judged test rule past
 unfolding count_judged
-judged-same test rule x past verdict e no =
+judged-same test rule x past verdict e is =
     ap (λ (b : Bool). cond b (suc (count_judged test rule past)) (count_judged test rule past))
-    (ap test (sym e) ∙ no)
+    (ap test (sym e) ∙ is)
 
 pub judged-none : (test : Option Reason → Bool) (rule : Rule) → count_judged test rule [] ≡ 0
 unfolding count_judged

@@ -1,4 +1,5 @@
 -- What a run that polices one link has told.
+use Rattle.std.specs.Prelude.{is_none}
 use Rattle.std.proofs.Common.{◌≡◌, ℕ, ◌+◌, List, [], ◌∷◌, refl, ap, sym, ◌∙◌, subst, Option, Some}
 use Rattle.std.proofs.Common.{None, arith, IfSome, Bool, true, false, not, is_some}
 use Rattle.std.specs.Prelude.{if◌then◌else◌}
