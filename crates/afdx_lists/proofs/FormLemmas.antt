@@ -1,14 +1,22 @@
 -- What a line says, whatever list it stands in. The last of its fields isn't searched for a space.
 use Rattle.std.proofs.Common.{◌≡◌, ℕ, List, [], ◌∷◌, Bool, cond, true, false, refl, ap}
-use Rattle.std.proofs.Common.{sym, ◌∙◌, Option, Some, None, Ok, Err}
+use Rattle.std.proofs.Common.{sym, ◌∙◌, Option, Some, None, Result, Ok, Err, IfErr, IsErrAnd, subst}
 use Rattle.std.specs.Option.{option_map}
 use Rattle.std.specs.Str.Lines.{strip_carriage_return}
 use Rattle.afdx_lists.specs.declared.fault.LineFault.{LineFault}
-use Rattle.afdx_lists.specs.declared.fault.LineFault.TheVariants.{BadLine, BadHex}
+use Rattle.afdx_lists.specs.declared.fault.LineFault.TheVariants.{BadLine}
+use Rattle.afdx_lists.specs.declared.fault.LineError.{LineError}
+use Rattle.afdx_lists.specs.declared.fault.LineError.TheVariants.{Fault, Memory}
+use Rattle.afdx_lists.specs.Faults.{IsErrorOf, IsBytesError, NeedsRoom}
 use Rattle.afdx_lists.specs.Fields.{between_spaces, holds_space, is_skipped, bytes_of_digits}
 use Rattle.afdx_lists.specs.Forms.{Form, from_five, five_of, if_five, said_with, fields_say_with}
 use Rattle.afdx_lists.specs.Forms.{fields_say, said_by}
 use Rattle.afdx_lists.proofs.SpaceLemmas.{one_part, more_parts, none_either, first_of, none_of}
+
+-- the error that `?` passes on
+pub passed_on : {T E : Type 0} (r : Result T E) (e : E) (P : E → Type 0) → IsErrAnd r (λ y. y ≡ e) → P e → IfErr r P
+passed_on (Err y) e P h p = subst P (sym h) p
+passed_on (Ok x) e P h p = tt
 
 -- ---- five fields
 
@@ -83,30 +91,47 @@ module _ {F Y : Type 0} (form : Form F Y) (latest : ℕ) (line text : List ℕ) 
             let none = sym (ap (form.fault latest) is ∙ is_cut.same_fault whole) ∙ sound in
             ap Some (sym (is ∙ is_cut.whole whole none))
 
-        -- a fault of the fields, or a space behind the fourth one
+        -- an error of the fields, or a space behind the fourth one
+        first_error : (error : LineError) → if_five form (Some fields) ≡ option_map cut (form.fields text)
+            → (Some fields ≡ option_map cut (form.fields text) → IsErrorOf (said_by form latest line) error) →
+            IsErrorOf (said_by form latest line) (cond (holds_space (form.digits fields)) (Fault BadLine) error)
+        first_error error five is = by (holds_space (form.digits fields)) refl
+          where
+            by : (b : Bool) → holds_space (form.digits fields) ≡ b
+                → IsErrorOf (said_by form latest line) (cond b (Fault BadLine) error)
+            by true e = says_bad_line (none_of _ fields _ e five)
+            by false e = is (first_of _ fields _ e five)
+
         pub says_first_fault : (fault : LineFault) → if_five form (Some fields) ≡ option_map cut (form.fields text)
             → Some fault ≡ form.fault latest fields →
-            said_by form latest line ≡ Err (cond (holds_space (form.digits fields)) BadLine fault)
-        says_first_fault fault five found = by (holds_space (form.digits fields)) refl
-          where
-            by : (b : Bool) → holds_space (form.digits fields) ≡ b → said_by form latest line ≡ Err (cond b BadLine fault)
-            by true e = says_bad_line (none_of _ fields _ e five)
-            by false e = says_fields (form.fields text) refl
-                ∙ fault_from (form.fields text) fault (first_of _ fields _ e five) found
+            IsErrorOf (said_by form latest line) (cond (holds_space (form.digits fields)) (Fault BadLine) (Fault fault))
+        says_first_fault fault five found = first_error (Fault fault) five
+            (λ same. says_fields (form.fields text) refl ∙ fault_from (form.fields text) fault same found)
 
         pub says_whole : Some fields ≡ option_map cut (form.fields text) → form.fault latest fields ≡ None
             → said_by form latest line ≡ said_with form fields (bytes_of_digits (form.digits fields))
         says_whole same sound = says_item fields (whole_from (form.fields text) same sound) sound
 
-        -- what stands behind the fourth space isn't digits, or a space is in it
-        pub says_bad_hex : if_five form (Some fields) ≡ option_map cut (form.fields text)
-            → form.fault latest fields ≡ None → bytes_of_digits (form.digits fields) ≡ None →
-            said_by form latest line ≡ Err (cond (holds_space (form.digits fields)) BadLine BadHex)
-        says_bad_hex five sound bad = by (holds_space (form.digits fields)) refl
+        -- fields of which no check is false need room
+        pub says_memory : Some fields ≡ option_map cut (form.fields text) → form.fault latest fields ≡ None
+            → NeedsRoom (said_by form latest line)
+        says_memory same sound = rw (says_whole same sound) (needs (bytes_of_digits (form.digits fields)))
           where
-            by : (b : Bool) → holds_space (form.digits fields) ≡ b → said_by form latest line ≡ Err (cond b BadLine BadHex)
-            by true e = says_bad_line (none_of _ fields _ e five)
-            by false e = says_whole (first_of _ fields _ e five) sound ∙ ap (said_with form fields) bad
+            needs : (o : Option (List ℕ)) → NeedsRoom (said_with form fields o)
+            needs (Some bytes) = tt
+            needs None = refl
+
+        -- what stands behind the fourth space isn't digits, or finds no room
+        pub says_bytes_error : (error : LineError) → if_five form (Some fields) ≡ option_map cut (form.fields text)
+            → form.fault latest fields ≡ None → IsBytesError (bytes_of_digits (form.digits fields)) error →
+            IsErrorOf (said_by form latest line) (cond (holds_space (form.digits fields)) (Fault BadLine) error)
+        says_bytes_error error five sound is = first_error error five (by error is)
+          where
+            by : (error : LineError) → IsBytesError (bytes_of_digits (form.digits fields)) error →
+                Some fields ≡ option_map cut (form.fields text) → IsErrorOf (said_by form latest line) error
+            by (Fault fault) is same =
+                says_whole same sound ∙ ap (said_with form fields) is.0 ∙ ap Err (sym is.1)
+            by Memory is same = says_memory same sound
 
 -- ---- what was said
 

@@ -1,5 +1,6 @@
 -- The faults of lines and of runs.
-use Rattle.std.specs.Prelude.{ℕ, ◌≡◌, ⊤, List, [], ◌++◌, Option, Some, None, Result, Err, codes}
+use Rattle.std.specs.Prelude.{ℕ, ◌≡◌, ⊤, List, [], ◌++◌, Option, Some, None, Result}
+use Rattle.std.specs.Prelude.{Ok, Err, codes}
 use Rattle.std.specs.Fmt.{decimal}
 use Rattle.afdx_lists.specs.declared.fault.LineFault.{LineFault}
 use Rattle.afdx_lists.specs.declared.fault.LineFault.TheVariants.{BadLine, TimeTooLarge, TimeBack}
@@ -22,10 +23,21 @@ abbrev pub error_word : LineError → List ℕ
 error_word (line.Fault fault) = line_word fault
 error_word line.Memory = codes "memory"
 
+-- a field of digits that write these bytes, or none, wasn't read
+abbrev pub IsBytesError : Option (List ℕ) → LineError → Type 0
+IsBytesError bytes (line.Fault fault) = (bytes ≡ None) × (fault ≡ BadHex)
+IsBytesError bytes line.Memory = ⊤
+
+-- a line that says this is read up to its digits, and so needs room for bytes
+abbrev pub NeedsRoom : {A : Type 0} → Result (Option A) LineFault → Type 0
+NeedsRoom (Ok (Some item)) = ⊤
+NeedsRoom (Ok None) = ⊥
+NeedsRoom (Err fault) = fault ≡ BadHex
+
 -- a line that says this wasn't read: for its fault, or for want of memory
-abbrev pub IsErrorOf : {A : Type 0} → Result A LineFault → LineError → Type 0
+abbrev pub IsErrorOf : {A : Type 0} → Result (Option A) LineFault → LineError → Type 0
 IsErrorOf said (line.Fault fault) = said ≡ Err fault
-IsErrorOf said line.Memory = ⊤
+IsErrorOf said line.Memory = NeedsRoom said
 
 -- the fault of a run whose line n wasn't read
 abbrev pub fault_at : ℕ → LineError → RunFault

@@ -7,9 +7,11 @@ ghost use Rattle.std.specs.Str.Lines.{strip_carriage_return};
 ghost use Rattle.afdx_lists.specs.Fields.{between_spaces, fields_after, number_of, bytes_of_digits, is_skipped};
 ghost use Rattle.afdx_frame.specs.Times.{latest_listed};
 ghost use Rattle.afdx_lists.specs.Fields.{SplitsNumber, holds_space, time_fault, cut_number};
+ghost use Rattle.afdx_lists.specs.Faults.{IsBytesError};
 ghost use Rattle.afdx_lists.specs.declared.fault.LineFault.TheVariants.{BadLine};
+ghost use Rattle.afdx_lists.specs.declared.fault.LineError.TheVariants.{Fault};
 
-use crate::fault::LineFault;
+use crate::fault::{LineError, LineFault};
 use afdx_frame::LATEST_LISTED;
 use hex::FromHexError;
 use std::alloc::AllocError;
@@ -149,17 +151,17 @@ fn has_space(bytes: &[u8]) -> bool
     }
 }
 
-/// What is wrong with a line of which one check is false and this is what stands behind the fourth
-/// space. A space in it is the first fault, since the line then has more than five fields.
+/// Why a line isn't read for which this error was found and this is what stands behind the fourth
+/// space. A space in it comes first, since the line then has more than five fields.
 ///
 /// So a space is searched for only in lines that can't be read: hexadecimal digits have none.
-pub(crate) fn first_fault(last: &[u8], fault: LineFault) -> LineFault
-    ensures { result ≡ (if holds_space last.now then BadLine else fault) }
+pub(crate) fn first_error(last: &[u8], error: LineError) -> LineError
+    ensures { result ≡ (if holds_space last.now then Fault BadLine else error) }
 {
     if has_space(last) {
-        LineFault::BadLine
+        LineError::Fault(LineFault::BadLine)
     } else {
-        fault
+        error
     }
 }
 
@@ -248,19 +250,19 @@ fn decode_to_slice(digits: &[u8], out: &mut [u8]) -> Result<(), FromHexError>
     hex::decode_to_slice(digits, out)
 }
 
-/// Puts the bytes that hexadecimal digits write, or `-` for none, in the place of `bytes`. False:
-/// they aren't pairs of such digits.
-pub(crate) fn read_bytes(digits: &[u8], bytes: &mut Vec<u8>) -> Result<bool, AllocError>
-    ensures read { result ≡ Ok true → bytes_of_digits digits.now ≡ Some bytes.new.items }
-    ensures bad { result ≡ Ok false → bytes_of_digits digits.now ≡ None }
+/// Puts the bytes that hexadecimal digits write, or `-` for none, in the place of `bytes`. An error:
+/// they aren't pairs of such digits, or there is no room.
+pub(crate) fn read_bytes(digits: &[u8], bytes: &mut Vec<u8>) -> Result<(), LineError>
+    ensures read { OnOk result (bytes_of_digits digits.now ≡ Some bytes.new.items) }
+    ensures err { IfErr result (IsBytesError (bytes_of_digits digits.now)) }
 {
     if digits == b"-".as_slice() {
         bytes.clear();
-        return Ok(true);
+        return Ok(());
     }
     bytes.resize(digits.len() / 2, 0)?;
     match decode_to_slice(digits, bytes.as_mut_slice()) {
-        Ok(()) => Ok(true),
-        Err(_) => Ok(false),
+        Ok(()) => Ok(()),
+        Err(_) => Err(LineError::Fault(LineFault::BadHex)),
     }
 }

@@ -11,7 +11,7 @@ ghost use Rattle.afdx_lists.specs.FrameLines.{port_fault, last_port};
 
 use crate::fault::{LineError, LineFault};
 use crate::fields::{
-    fault_of_time, first_fault, read_bytes, says_nothing, split_field, split_number, trim_line,
+    fault_of_time, first_error, read_bytes, says_nothing, split_field, split_number, trim_line,
 };
 use afdx_frame::{Side, fcs, is_sealed, seal};
 use std::alloc::AllocError;
@@ -179,7 +179,7 @@ fn finish_frame(kind: Kind, frame: &mut Vec<u8>) -> Result<bool, AllocError>
 /// `frame`, or nothing if it is to be skipped.
 ///
 /// The line stands without its line feed. An error is the first check of the line that is false;
-/// want of memory comes where `frame` can't grow. After an error, and after a line that is skipped,
+/// want of memory comes only where that is of the digits, or none, and `frame` can't grow. After an error, and after a line that is skipped,
 /// `frame` holds any bytes.
 pub fn read_frame_line(
     line: &[u8],
@@ -206,12 +206,10 @@ pub fn read_frame_line(
         None => return Err(LineError::Fault(LineFault::BadLine)),
     };
     if let Some(fault) = fault_of_numbers(fields.time, fields.port, latest) {
-        return Err(LineError::Fault(first_fault(fields.digits, fault)));
+        return Err(first_error(fields.digits, LineError::Fault(fault)));
     }
-    let are_digits = read_bytes(fields.digits, frame)?;
-    if !are_digits {
-        let fault = first_fault(fields.digits, LineFault::BadHex);
-        return Err(LineError::Fault(fault));
+    if let Err(error) = read_bytes(fields.digits, frame) {
+        return Err(first_error(fields.digits, error));
     }
     let is_sealed = finish_frame(fields.kind, frame)?;
     Ok(Some(Heading {

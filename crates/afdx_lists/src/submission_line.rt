@@ -9,7 +9,7 @@ ghost use Rattle.afdx_lists.specs.SubmissionLines.{submission_fields_of, submiss
 
 use crate::fault::{LineError, LineFault};
 use crate::fields::{
-    fault_of_time, first_fault, read_bytes, says_nothing, split_number, trim_line,
+    fault_of_time, first_error, read_bytes, says_nothing, split_number, trim_line,
 };
 
 /// When a message is handed to a sender, and for what.
@@ -116,7 +116,7 @@ fn read_fields(text: &[u8]) -> Option<Fields<'_>>
 /// of `payload`, or nothing if it is to be skipped.
 ///
 /// The line stands without its line feed. An error is the first check of the line that is false;
-/// want of memory comes where `payload` can't grow. After an error, and after a line that is
+/// want of memory comes only where that is of the digits, or none, and `payload` can't grow. After an error, and after a line that is
 /// skipped, `payload` holds any bytes.
 pub fn read_submission_line(
     line: &[u8],
@@ -139,12 +139,10 @@ pub fn read_submission_line(
         None => return Err(LineError::Fault(LineFault::BadLine)),
     };
     if let Some(fault) = fault_of_time(fields.time, latest) {
-        return Err(LineError::Fault(first_fault(fields.digits, fault)));
+        return Err(first_error(fields.digits, LineError::Fault(fault)));
     }
-    let are_digits = read_bytes(fields.digits, payload)?;
-    if !are_digits {
-        let fault = first_fault(fields.digits, LineFault::BadHex);
-        return Err(LineError::Fault(fault));
+    if let Err(error) = read_bytes(fields.digits, payload) {
+        return Err(first_error(fields.digits, error));
     }
     Ok(Some(Handed {
         time: fields.time,

@@ -1,7 +1,6 @@
 //! A run that polices the frames of one link.
 ghost use Rattle.std.specs.Prelude.{◌≡◌, ◌<◌, ◌≤◌, ◌+◌, ◌-◌, ◌^◌, if◌then◌else◌, ◌∷◌, [], ℕ, List, IfSome, OnOk, true, false};
 ghost use Rattle.afdx_lists.specs.Lines.{most_reads};
-ghost use Rattle.afdx_frame.specs.Sealing.{is_sealed};
 ghost use Rattle.afdx_police.specs.Arrival.{Arrival};
 ghost use Rattle.afdx_police.specs.Rule.{Rule};
 ghost use Rattle.afdx_police.specs.RuleOf.{rule_of};
@@ -41,30 +40,21 @@ impl Policers {
     }
 
     /// Why an arrival is dropped, if it is.
-    fn verdict(&mut self, heading: &Heading, frame: &[u8]) -> Option<Reason>
+    fn verdict(&mut self, heading: &Heading, arrived: Checked<'_>) -> Option<Reason>
         requires until { AreUntil self.old heading.now.time }
-        requires sealed { heading.now.is_sealed ≡ is_sealed frame.now }
         ensures until { AreUntil self.new heading.now.time }
         ensures answer { (rule : Rule) (past : List Arrival) (tag : ℕ) →
             HaveSeen self.old rule past →
-            result ≡ verdict_in rule past (arrival_at tag (listed_frame heading.now frame.now)) }
+            result ≡ verdict_in rule past
+            (arrival_at tag (listed_frame heading.now arrived.entry.bytes.now)) }
         ensures seen { (rule : Rule) (past : List Arrival) (tag : ℕ) →
             HaveSeen self.old rule past →
-            HaveSeen self.new rule (arrival_at tag (listed_frame heading.now frame.now) ∷ past) }
+            HaveSeen self.new rule
+            (arrival_at tag (listed_frame heading.now arrived.entry.bytes.now) ∷ past) }
     {
-        let Heading {
-            time,
-            side,
-            port,
-            is_sealed,
-        } = *heading;
-        let arrived = Checked {
-            bytes: frame,
-            sealed: is_sealed,
-        };
-        match side {
-            Side::A => self.a.police(time, port, arrived),
-            Side::B => self.b.police(time, port, arrived),
+        match heading.side {
+            Side::A => self.a.police(heading.time, heading.port, arrived),
+            Side::B => self.b.police(heading.time, heading.port, arrived),
         }
     }
 }
@@ -118,7 +108,12 @@ pub fn run_police<R: Read, W: Write>(
             Err(error) => return Err(error.at_line(n)),
         };
         latest = heading.time;
-        let reason = policers.verdict(&heading, frame.as_slice());
+        let bytes = frame.as_slice();
+        let arrived = Checked {
+            bytes,
+            sealed: heading.is_sealed,
+        };
+        let reason = policers.verdict(&heading, arrived);
         let is_accepted = reason.is_none();
         accepted = count_if(accepted, is_accepted);
         dropped = count_if(dropped, !is_accepted);

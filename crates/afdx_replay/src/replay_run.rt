@@ -4,7 +4,6 @@ ghost use Rattle.afdx_port.specs.Times.{drain_end};
 ghost use Rattle.afdx_frame.specs.Times.{latest_listed};
 ghost use Rattle.afdx_lists.specs.Lines.{most_lines, most_reads};
 ghost use Rattle.afdx_config.specs.Rows.{Rows};
-ghost use Rattle.afdx_frame.specs.Sealing.{is_sealed};
 ghost use Rattle.afdx_police.specs.Arrival.{Arrival};
 ghost use Rattle.afdx_police.specs.declared.shape.Reason.{Reason as DropReason};
 ghost use Rattle.afdx_lists.specs.Texts.{text_bytes};
@@ -132,11 +131,10 @@ impl Replay {
         &mut self,
         n: u64,
         heading: &Heading,
-        frame: &[u8],
+        arrived: Checked<'_>,
         output: &mut Watched<W>,
     ) -> Result<(), RunFault>
         requires limit { heading.now.time ≤ latest_listed }
-        requires sealed { heading.now.is_sealed ≡ is_sealed frame.now }
         requires clock { network.IsUntil self.old.network heading.now.time }
         requires room { (m : ℕ) × (m < most_lines) × HasRoomFor self.old m }
         requires sound { has_failed output.old ≡ false }
@@ -147,18 +145,14 @@ impl Replay {
         ensures told { (t : Rows) (start : Option (List ℕ)) (past : List Arrival) →
             TellsArrivals t self.old start (W.contents (device_of output.old)) past →
             OnOk result (TellsArrivals t self.new start (W.contents (device_of output.new))
-            (arrival_at n (listed_frame heading.now frame.now) ∷ past)) }
+            (arrival_at n (listed_frame heading.now arrived.entry.bytes.now) ∷ past)) }
         ensures some { (t : Rows) (start : Option (List ℕ)) (past : List Arrival) →
             TellsArrivals t self.old start (W.contents (device_of output.old)) past →
             OnErr result (WritesSome t start (W.contents (device_of output.new)) past
             ⊎ WritesSome t start (W.contents (device_of output.new))
-            (arrival_at n (listed_frame heading.now frame.now) ∷ past)) }
+            (arrival_at n (listed_frame heading.now arrived.entry.bytes.now) ∷ past)) }
     {
         self.tell_departures(heading.time, output)?;
-        let arrived = Checked {
-            bytes: frame,
-            sealed: heading.is_sealed,
-        };
         let verdict = self
             .network
             .arrive(heading.side, heading.time, heading.port, n, arrived)?;
@@ -222,7 +216,12 @@ pub fn run_unadmitted<R: Read, W: Write>(
             Err(error) => return Err(error.at_line(n)),
         };
         latest = heading.time;
-        replay.tell_arrival(n, &heading, frame.as_slice(), output)?;
+        let bytes = frame.as_slice();
+        let arrived = Checked {
+            bytes,
+            sealed: heading.is_sealed,
+        };
+        replay.tell_arrival(n, &heading, arrived, output)?;
     }
     replay.tell_departures(u64::MAX, output)?;
     let mut summary = replay.counts;

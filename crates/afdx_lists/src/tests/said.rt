@@ -200,3 +200,12 @@ fn submission_lines(rt: HostRuntime) {
         assert_eq!(rt; said, Ok(None));
     }
 }
+
+#[test]
+fn a_space_among_digits_whose_memory_is_refused(rt: HostRuntime) {
+    let alloc = rt.alloc();
+    let (said, _) = said(alloc, "F 6 A 1 00 00");
+    assert_eq!(rt; said, Err(LineError::Fault(LineFault::BadLine)));
+    let (handed, _) = handed(alloc, "6 1 1 1000 00 00");
+    assert_eq!(rt; handed, Err(LineError::Fault(LineFault::BadLine)));
+}

@@ -146,6 +146,7 @@ fn numbers_that_come_again(rt: HostRuntime) -> Result<(), Fail> {
 #[test]
 fn digits_of_many_bytes(rt: HostRuntime) -> Result<(), Fail> {
     let alloc = rt.alloc();
+    let bad_hex = Err(LineError::Fault(LineFault::BadHex));
     let mut text = Text::new(alloc);
     for size in [1usize, 31, 32, 33, 63, 64, 65, 100] {
         let mut bytes = Vec::new(alloc);
@@ -157,10 +158,10 @@ fn digits_of_many_bytes(rt: HostRuntime) -> Result<(), Fail> {
         let digits = hex::encode(alloc, bytes.as_slice())?;
         assert_eq!(rt; text.as_bytes(), digits.as_bytes());
         let mut read = Vec::new(alloc);
-        assert_eq!(rt; read_bytes(text.as_bytes(), &mut read), Ok(true));
+        assert_eq!(rt; read_bytes(text.as_bytes(), &mut read), Ok(()));
         assert_eq!(rt; read.as_slice(), bytes.as_slice());
         text.put(b"g0")?;
-        assert_eq!(rt; read_bytes(text.as_bytes(), &mut read), Ok(false));
+        assert_eq!(rt; read_bytes(text.as_bytes(), &mut read), bad_hex);
     }
     Ok(())
 }

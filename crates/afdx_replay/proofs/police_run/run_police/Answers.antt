@@ -136,10 +136,10 @@ loop-text-preserved g c =
           (λ past told. told-next _ _ _ _ _ _ _ _ _ _
           (arrival_at c.next_line.new.self.lines
           (listed_frame c.in-Ok-Some.heading c.read_frame_line.new.frame.items)) past _ _ told
-          (rw c.as_slice.ensures.value at
+          (rw c.as_slice-bytes.ensures.value at
           (c.verdict-reason.ensures.answer (rule_of c.args.rule.now) past
           c.next_line.new.self.lines told.seen))
-          (rw c.as_slice.ensures.value at
+          (rw c.as_slice-bytes.ensures.value at
           (c.verdict-reason.ensures.seen (rule_of c.args.rule.now) past
           c.next_line.new.self.lines told.seen))
           counts text c.in_ok-write_text.ensures.written);
@@ -167,7 +167,7 @@ returns-in_err-write_text-clause-answer g c =
     (λ past told. begun-next _ _ _ _ _ _ _
     (arrival_at c.next_line.new.self.lines
     (listed_frame c.in-Ok-Some.heading c.read_frame_line.new.frame.items)) past _ _ told
-    (rw c.as_slice.ensures.value at (c.verdict-reason.ensures.answer rule past c.next_line.new.self.lines told.seen))
+    (rw c.as_slice-bytes.ensures.value at (c.verdict-reason.ensures.answer rule past c.next_line.new.self.lines told.seen))
     text c.in_err-write_text.ensures.front) in
     let stop = stops-write frames _ (WritesText rule old new) (WritesBeginning rule old new) _ _ _ _
     (g.R.Read.remaining c.next_line.new.input.inner)

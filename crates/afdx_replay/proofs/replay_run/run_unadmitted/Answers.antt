@@ -76,7 +76,7 @@ loop-frame-preserved g c =
             takes = c.next_line.ensures.line (search rules);
           })
           c.loop-frame.invariant.come (rw (c.line.ensures, c.in-Ok-Some.field-0-is) at c.in-Ok-Some.ensures.ok)
-          (λ past told. rw (c.as_slice.ensures.value, c.lines-n.ensures) at
+          (λ past told. rw (c.as_slice-bytes.ensures.value, c.lines-n.ensures) at
           (c.in_ok-tell_arrival.ensures.told c.args.tables.now
           (g.W.Write.contents c.args.output.now.inner) past told));
     }
@@ -148,7 +148,7 @@ returns-in_err-tell_arrival-clause-answer g c =
       takes = c.next_line.ensures.line (search rules);
     })
     c.loop-frame.invariant.come gave (rw (c.line.ensures, c.in-Ok-Some.field-0-is) at c.in-Ok-Some.ensures.ok)
-    (λ past told. rw (c.as_slice.ensures.value, c.lines-n.ensures) at
+    (λ past told. rw (c.as_slice-bytes.ensures.value, c.lines-n.ensures) at
     (c.in_err-tell_arrival.ensures.some c.args.tables.now old past told)) in
     search rules
 

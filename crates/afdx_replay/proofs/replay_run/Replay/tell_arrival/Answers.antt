@@ -21,7 +21,7 @@ pub returns-clause-told : goal.returns-clause-told
 returns-clause-told g c t start past h =
     let k = c.in_ok-tell_departures.ensures.told t h.events start h.told in
     let x = arrival_with c.args.n c.args.heading.now.time c.args.heading.now.side
-    c.args.heading.now.port c.args.frame.now in
+    c.args.heading.now.port c.args.arrived.bytes.now in
     let a = admission_after t (arrivals_in k.0) x in
     let v = c.in_ok-verdict.ensures.verdict t k.0 k.2.switches_are in
     record {
@@ -56,7 +56,7 @@ pub returns-in_err-write_text-clause-some : goal.returns-in_err-write_text-claus
 returns-in_err-write_text-clause-some g c t start past h =
     let k = c.in_ok-tell_departures.ensures.told t h.events start h.told in
     let x = arrival_with c.args.n c.args.heading.now.time c.args.heading.now.side
-    c.args.heading.now.port c.args.frame.now in
+    c.args.heading.now.port c.args.arrived.bytes.now in
     let a = admission_after t (arrivals_in k.0) x in
     let v = c.in_ok-verdict.ensures.verdict t k.0 k.2.switches_are in
     on-err c.from_residual-in_err-write_text.result _
