@@ -250,8 +250,8 @@ fn decode_to_slice(digits: &[u8], out: &mut [u8]) -> Result<(), FromHexError>
     hex::decode_to_slice(digits, out)
 }
 
-/// Puts the bytes that hexadecimal digits write, or `-` for none, in the place of `bytes`. An error:
-/// they aren't pairs of such digits, or there is no room.
+/// Puts the bytes that hexadecimal digits write, or `-` for none, in the place of `bytes`. It fails
+/// where they aren't pairs of such digits, or there is no room.
 pub(crate) fn read_bytes(digits: &[u8], bytes: &mut Vec<u8>) -> Result<(), LineError>
     ensures read { OnOk result (bytes_of_digits digits.now ≡ Some bytes.new.items) }
     ensures err { IfErr result (IsBytesError (bytes_of_digits digits.now)) }

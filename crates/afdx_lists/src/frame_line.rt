@@ -178,9 +178,9 @@ fn finish_frame(kind: Kind, frame: &mut Vec<u8>) -> Result<bool, AllocError>
 /// What a line says that comes after one of this time: a frame, whose bytes are put in the place of
 /// `frame`, or nothing if it is to be skipped.
 ///
-/// The line stands without its line feed. An error is the first check of the line that is false;
-/// want of memory comes only where that is of the digits, or none, and `frame` can't grow. After an error, and after a line that is skipped,
-/// `frame` holds any bytes.
+/// The line stands without its line feed. An error is the first check of the line that is false, or
+/// want of memory: where `frame` can't grow, and no check is false before that of the digits.
+/// After an error, and after a line that is skipped, `frame` holds any bytes.
 pub fn read_frame_line(
     line: &[u8],
     latest: u64,

@@ -115,9 +115,9 @@ fn read_fields(text: &[u8]) -> Option<Fields<'_>>
 /// What a line says that comes after one of this time: a message, whose bytes are put in the place
 /// of `payload`, or nothing if it is to be skipped.
 ///
-/// The line stands without its line feed. An error is the first check of the line that is false;
-/// want of memory comes only where that is of the digits, or none, and `payload` can't grow. After an error, and after a line that is
-/// skipped, `payload` holds any bytes.
+/// The line stands without its line feed. An error is the first check of the line that is false, or
+/// want of memory: where `payload` can't grow, and no check is false before that of the digits.
+/// After an error, and after a line that is skipped, `payload` holds any bytes.
 pub fn read_submission_line(
     line: &[u8],
     latest: u64,
