@@ -74,7 +74,7 @@ fn summary_option<'a>(alloc: Global) -> Arg<'a> {
         .action(ArgAction::SetTrue)
 }
 
-const CHECK_ABOUT: &str = "Says whether a network keeps its latencies";
+const CHECK_ABOUT: &str = "Says whether a network is sure to keep its latencies";
 
 const CHECK_AFTER: &str = "\
 For each port of the switch that has a system, ascending, a line is printed:
@@ -87,14 +87,15 @@ bytes of buffer that the port needs. Then comes 'ok', or 'no' with the first of
 these lines that is false:
 
   A1 port            the links to the port send no more than its line carries
-  A2 port bytes      the port's buffer holds all that may wait there
-  A3 port vl ns      each high link's latency is at least the bound of the port
-  A4 port vl ns      each low link's latency is at least the bound of the port
+  A2 port needed     the port's buffer holds all that may wait there
+  A3 port vl bound   each high link's latency is at least the bound of the port
+  A4 port vl bound   each low link's latency is at least the bound of the port
   A5 system ns       the jitter at a system's output is at most 500 us
-  A6 vl ns           a link's jitter is at least that of its sender's output
+  A6 vl needed       a link's jitter is at least that of its sender's output
   A7 vl              a link's latency is at most its skew
 
-Ports come first, A1 to A4 at each; then systems, then links in the file's order.
+The last number of A2 is in bytes, those of A3 to A6 are in ns. Ports come first, A1
+to A4 at each; then systems, then links in the file's order.
 
 A closed pipe, as with '| head', is the fault 'device Write', status 4.
 
@@ -259,10 +260,10 @@ const EXPLAIN_ABOUT: &str = "Says in plain words what a line of the program mean
 
 const EXPLAIN_AFTER: &str = "\
 TEXT is a line that the program printed, as it was printed: a fault on standard
-error, the last line of 'check', a line of 'replay', 'police' or 'send'. Or it is a
-word of such a line: why a frame was dropped, a line of admission, why a message
-was refused. With a text that is none of these the line is 'words UnknownText' and
-the status 2.
+error, the line of --summary, a line of 'check', 'replay', 'police' or 'send'. Or it
+is a word of such a line: 'accept', why a frame was dropped, a line of admission,
+why a message was refused. With a text that is none of these the line is 'words
+UnknownText' and the status 2.
 
 Examples:
   afdx explain 'config Missing link 1 key 7'

@@ -56,8 +56,8 @@ ended before this one. A closed pipe is a failed write, as with '| head'.",
         &["memory"],
         "\
 There was no memory. The status is 4.
-A large buffer in the configuration asks for most of it: in each port of both switches
-buffer / 64 places of 40 bytes, twice. Replay one list at a time.",
+A large buffer in the configuration asks for most of it: for each port of both switches that
+has a system, two queues of buffer / 64 places of 16 bytes. Replay one list at a time.",
     ),
     (
         &["config NotToml"],
@@ -139,7 +139,7 @@ more, 1 to 100000).",
     (
         &["A5", "no|admit A5 * n"],
         "\
-A5 name ns: the system name has a jitter of ns, over 500,000 ns.
+A5 system ns: the system's jitter is ns, over 500,000 ns.
 What may help: fewer links or shorter frames from it, a faster line (lmax of its links, its
 rate).",
     ),

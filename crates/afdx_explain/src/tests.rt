@@ -19,7 +19,7 @@ fn lines_are_explained(rt: HostRuntime) {
     assert!(rt; says("no A2 3 252", "A2 port needed"));
     assert!(rt; says("P 3 16800 20297 252", "P port high low buffer"));
     assert!(rt; says("P 3 16800 - 252", "P port high low buffer"));
-    assert!(rt; says("admit A5 s1 600000", "A5 name ns"));
+    assert!(rt; says("admit A5 s1 600000", "A5 system ns"));
     assert!(rt; says("V 7 A drop over-rate", "over-rate:"));
     assert!(rt; says("over-rate", "over-rate:"));
     assert!(rt; says("X 6720 s3 2 redundant", "redundant:"));
