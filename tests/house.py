@@ -8,7 +8,7 @@
   definitions.
 - Each must-fail edit finds the text that it changes, once.
 - Each source file says at its head what it is; lines of definitions, of contracts and of code have
-  at most 100 columns, those of proofs at most 140; imports and tests may be wider.
+  at most 100 columns, those of proofs at most 140; imports may be wider.
 
 Prints a line for each fault, then `N passed, M failed`; ends with status 1 if there is one.
 """
@@ -118,7 +118,7 @@ def is_import(line: str) -> bool:
 def wide_lines(pattern: str, most: int) -> list[str]:
     faults = []
     for path in sources(pattern):
-        if path == NUMBERS or path.name == "tests.rt" or "tests" in path.parts:
+        if path == NUMBERS:
             continue
         for number, line in enumerate(text_of(path).splitlines(), 1):
             if len(line) > most and not is_import(line):

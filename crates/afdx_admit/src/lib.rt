@@ -11,6 +11,3 @@ mod sums;
 pub use admitted::{Admitted, admit};
 pub use bounds::{PortBounds, bounds_of, buffer_need, high_bound, low_bound};
 pub use fault::{AdmitFault, AdmitText};
-
-#[cfg(test)]
-mod tests;

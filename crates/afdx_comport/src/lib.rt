@@ -9,6 +9,3 @@ pub mod laws;
 
 pub use com_ports::ComPorts;
 pub use fault::PutFault;
-
-#[cfg(test)]
-mod tests;

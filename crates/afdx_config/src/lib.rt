@@ -17,6 +17,3 @@ pub use fault::{ConfigFault, Part, Place};
 pub use read::read_tables;
 pub use rows::{ComRow, Kind, Link, System, SystemId};
 pub use tables::Tables;
-
-#[cfg(test)]
-mod tests;

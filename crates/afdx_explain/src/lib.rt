@@ -10,6 +10,3 @@ mod kinds;
 mod lines;
 
 pub use explaining::{kind_of, meaning_of};
-
-#[cfg(test)]
-mod tests;

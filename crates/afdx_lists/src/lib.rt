@@ -22,6 +22,3 @@ pub use telling::{tell, tell_fault};
 pub use text::Text;
 pub use watched::Watched;
 pub use writing::write_text;
-
-#[cfg(test)]
-mod tests;

@@ -13,6 +13,3 @@ pub use charge::{ByteCharge, Charge, FrameCharge};
 pub use policer::Policer;
 pub use rule::LinkRule;
 pub use shape::{Reason, judge};
-
-#[cfg(test)]
-mod tests;

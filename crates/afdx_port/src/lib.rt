@@ -8,8 +8,6 @@ mod pending;
 mod port;
 mod ports;
 mod serving;
-#[cfg(test)]
-mod tests;
 
 pub use has_length::HasLength;
 pub use left::{Due, Left};

@@ -11,6 +11,3 @@ mod sequence;
 
 pub use receiver::Receiver;
 pub use reception::{DropReason, Reception};
-
-#[cfg(test)]
-mod tests;

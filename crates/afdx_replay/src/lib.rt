@@ -28,6 +28,3 @@ pub use replay_run::run_unadmitted;
 pub use send_command::send;
 pub use send_run::run_send;
 pub use summary::Summary;
-
-#[cfg(test)]
-mod tests;

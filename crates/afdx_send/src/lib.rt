@@ -10,8 +10,6 @@ mod line;
 mod regulator;
 mod released;
 mod sender;
-#[cfg(test)]
-mod tests;
 mod working;
 
 pub use fault::SendFault;

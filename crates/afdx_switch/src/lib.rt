@@ -7,8 +7,6 @@ pub mod laws;
 mod line;
 mod ports;
 mod switch;
-#[cfg(test)]
-mod tests;
 mod verdict;
 mod working;
 

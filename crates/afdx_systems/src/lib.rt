@@ -10,6 +10,3 @@ mod systems;
 
 pub use handover::Handover;
 pub use systems::Systems;
-
-#[cfg(test)]
-mod tests;

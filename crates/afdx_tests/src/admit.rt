@@ -2,7 +2,7 @@
 //!
 //! Each reading that lacks memory is made again, so the tests pass where any one growth is refused.
 
-use crate::{AdmitFault, AdmitText, admit, bounds_of, buffer_need, high_bound, low_bound};
+use afdx_admit::{AdmitFault, AdmitText, admit, bounds_of, buffer_need, high_bound, low_bound};
 use afdx_config::{ConfigFault, SystemId, Tables, read_tables};
 use afdx_frame::VlId;
 use std::alloc::Global;

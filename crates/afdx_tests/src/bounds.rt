@@ -5,7 +5,7 @@ ghost use Rattle.std.specs.Prelude.{◌≡◌, ℕ, ◌≤◌, None, IfOk, IsTru
 ghost use Rattle.afdx_frame.specs.Lengths.{least_frame, greatest_frame, greatest_buffer};
 ghost use Rattle.afdx_port.specs.Held.{IsByteTime, IsQuiet, last_time};
 
-use crate::laws;
+use afdx_bounds::laws;
 use afdx_frame::Priority;
 use afdx_port::{HasLength, Port};
 use std::alloc::{AllocError, Global};

@@ -1,63 +1,15 @@
 //! Ports of a small network, filled and read.
 
-use crate::{ComPorts, PutFault};
-use afdx_config::{ConfigFault, SystemId, Tables, read_tables};
+use crate::samples::{GREATEST_COUNT, base_tables, largest, read};
+use afdx_comport::{ComPorts, PutFault};
+use afdx_config::{SystemId, Tables};
 use afdx_frame::VlId;
 use std::alloc::{AllocError, Global};
 use std::process::Abort;
 use std::test::Fail;
 
-const SYSTEMS: &str = "profile = 1
-buffer = 252
-
-[[system]]
-name = \"s1\"
-port = 1
-id = 1
-partition = 1
-rate = 100
-
-[[system]]
-name = \"s2\"
-port = 2
-id = 2
-partition = 1
-rate = 100
-
-[[system]]
-name = \"s3\"
-port = 3
-id = 3
-partition = 1
-rate = 100
-";
-
-// A sampling port of link 1 and a queuing port of link 2, both of the third system.
-const PORTS: &str = "
-[[port]]
-system = \"s3\"
-link = 1
-udp = 1000
-kind = \"sampling\"
-depth = 1
-
-[[port]]
-system = \"s3\"
-link = 2
-udp = 2000
-kind = \"queuing\"
-depth = 4
-";
-
 // Of all growths one alone may be refused in these tests: a call that is refused memory is made
 // again.
-fn read(alloc: Global, text: &str) -> Result<Tables, ConfigFault> {
-    match read_tables(alloc, text.as_bytes()) {
-        Err(ConfigFault::Memory) => read_tables(alloc, text.as_bytes()),
-        answer => answer,
-    }
-}
-
 fn new_ports(alloc: Global, tables: &Tables, system: SystemId) -> Result<ComPorts, AllocError> {
     match ComPorts::new(alloc, tables, system) {
         Err(_) => ComPorts::new(alloc, tables, system),
@@ -65,31 +17,9 @@ fn new_ports(alloc: Global, tables: &Tables, system: SystemId) -> Result<ComPort
     }
 }
 
-fn push_link(text: &mut String, vl: u16, from: &str, to: &str) -> Result<(), AllocError> {
-    write!(
-        text,
-        "\n[[link]]\nvl = {vl}\nfrom = \"{from}\"\nto = [{to}]\n"
-    )?;
-    text.push_str("bag_ms = 1\nlmin = 64\nlmax = 64\njitter_us = 500\npriority = \"high\"\n")?;
-    text.push_str("policing = \"frame\"\nlatency_us = 17\nskew_us = 1000\nsubs = 2\n")
-}
-
-fn base_text(alloc: Global) -> Result<String, AllocError> {
-    let mut text = String::new(alloc);
-    text.push_str(SYSTEMS)?;
-    push_link(&mut text, 1, "s1", "\"s3\"")?;
-    push_link(&mut text, 2, "s2", "\"s3\"")?;
-    text.push_str(PORTS)?;
-    Ok(text)
-}
-
 // The ports of the third system.
 fn base_ports(alloc: Global) -> Result<ComPorts, Fail> {
-    let text = match base_text(alloc) {
-        Err(_) => base_text(alloc)?,
-        Ok(text) => text,
-    };
-    let tables = read(alloc, text.as_str())?;
+    let tables = base_tables(alloc)?;
     Ok(new_ports(alloc, &tables, SystemId(2))?)
 }
 
@@ -233,31 +163,9 @@ fn each_port_by_itself(rt: HostRuntime) -> Result<(), Fail> {
     Ok(())
 }
 
-const GREATEST_COUNT: u16 = 4096;
-
-// Each of the links has a port of the second system.
-fn largest_text(alloc: Global) -> Result<String, AllocError> {
-    let mut text = String::new(alloc);
-    text.push_str(SYSTEMS)?;
-    for vl in 0..GREATEST_COUNT {
-        push_link(&mut text, vl, "s1", "\"s2\", \"s3\"")?;
-    }
-    for vl in 0..GREATEST_COUNT {
-        write!(
-            text,
-            "\n[[port]]\nsystem = \"s2\"\nlink = {vl}\nudp = 1000\n"
-        )?;
-        text.push_str("kind = \"sampling\"\ndepth = 1\n")?;
-    }
-    Ok(text)
-}
-
 #[test]
 fn largest_tables(rt: HostRuntime) -> Result<(), Fail> {
-    let text = match largest_text(rt.alloc()) {
-        Err(_) => largest_text(rt.alloc())?,
-        Ok(text) => text,
-    };
+    let text = largest(rt.alloc())?;
     let tables = read(rt.alloc(), text.as_str())?;
     let ports = new_ports(rt.alloc(), &tables, SystemId(1))?;
     for vl in 0..GREATEST_COUNT {

@@ -2,79 +2,13 @@
 //!
 //! Each reading that lacks memory is made again, so the tests pass where any one growth is refused.
 
-use crate::{ConfigFault, Kind, Part, Place, SystemId, Tables, read_tables};
+use crate::samples::base;
+use afdx_config::{ConfigFault, Kind, Part, Place, SystemId, Tables, read_tables};
 use afdx_frame::{Policing, Priority, VlId};
 use std::alloc::Global;
 use std::test::Fail;
 
 mod faults;
-
-const BASE: &str = "profile = 1
-buffer = 252
-
-[[system]]
-name = \"s1\"
-port = 1
-id = 1
-partition = 1
-rate = 100
-
-[[system]]
-name = \"s2\"
-port = 2
-id = 2
-partition = 1
-rate = 100
-
-[[system]]
-name = \"s3\"
-port = 3
-id = 3
-partition = 1
-rate = 100
-
-[[link]]
-vl = 1
-from = \"s1\"
-to = [\"s3\"]
-bag_ms = 1
-lmin = 64
-lmax = 64
-jitter_us = 500
-priority = \"high\"
-policing = \"frame\"
-latency_us = 17
-skew_us = 1000
-subs = 2
-
-[[link]]
-vl = 2
-from = \"s2\"
-to = [\"s3\"]
-bag_ms = 1
-lmin = 64
-lmax = 64
-jitter_us = 500
-priority = \"low\"
-policing = \"frame\"
-latency_us = 21
-skew_us = 1000
-subs = 1
-
-[[port]]
-system = \"s3\"
-link = 1
-udp = 1000
-kind = \"sampling\"
-depth = 1
-
-[[port]]
-system = \"s3\"
-link = 2
-udp = 2000
-kind = \"queuing\"
-depth = 4
-";
 
 /// A text made without memory of its own.
 #[derive(Drop)]
@@ -119,7 +53,7 @@ fn read(alloc: Global, text: &[u8]) -> Result<Tables, ConfigFault> {
 /// The base text with `new` in place of what stands from `at` on, as long as `old`.
 fn replaced(at: usize, old: &str, new: &str) -> Text {
     let mut text = Text::new();
-    let base = BASE.as_bytes();
+    let base = base().as_bytes();
     if at <= base.len() && old.len() <= base.len() - at {
         text.add(&base[..at]);
         text.add(new.as_bytes());
@@ -130,13 +64,13 @@ fn replaced(at: usize, old: &str, new: &str) -> Text {
 
 /// What the base text reads as with `new` for the first `old`.
 fn first(alloc: Global, old: &str, new: &str) -> Result<Option<ConfigFault>, Fail> {
-    let at = BASE.find(old).ok_or("absent")?;
+    let at = base().find(old).ok_or("absent")?;
     Ok(read(alloc, replaced(at, old, new).as_slice()).err())
 }
 
 /// What the base text reads as with `new` for the last `old`.
 fn last(alloc: Global, old: &str, new: &str) -> Result<Option<ConfigFault>, Fail> {
-    let at = BASE.rfind(old).ok_or("absent")?;
+    let at = base().rfind(old).ok_or("absent")?;
     Ok(read(alloc, replaced(at, old, new).as_slice()).err())
 }
 
@@ -146,7 +80,7 @@ fn at(part: Part, index: usize, key: u8) -> Place {
 
 #[test]
 fn base_tables(rt: HostRuntime) -> Result<(), Fail> {
-    let tables = read(rt.alloc(), BASE.as_bytes())?;
+    let tables = read(rt.alloc(), base().as_bytes())?;
     assert_eq!(rt; tables.profile(), 1);
     assert_eq!(rt; tables.buffer(), 252);
     assert_eq!(rt; tables.system_count(), 3);
@@ -163,7 +97,7 @@ fn base_tables(rt: HostRuntime) -> Result<(), Fail> {
 
 #[test]
 fn base_rows(rt: HostRuntime) -> Result<(), Fail> {
-    let tables = read(rt.alloc(), BASE.as_bytes())?;
+    let tables = read(rt.alloc(), base().as_bytes())?;
     assert!(rt; tables.system_count() == 3 && tables.link_count() == 2);
     let system = tables.system(SystemId(2));
     assert_eq!(rt; system.name.as_str(), "s3");
@@ -190,7 +124,7 @@ fn base_rows(rt: HostRuntime) -> Result<(), Fail> {
 
 #[test]
 fn base_ports(rt: HostRuntime) -> Result<(), Fail> {
-    let tables = read(rt.alloc(), BASE.as_bytes())?;
+    let tables = read(rt.alloc(), base().as_bytes())?;
     assert!(rt; tables.com_count() == 2);
     let com = tables.com(1);
     assert_eq!(rt;
@@ -219,7 +153,7 @@ fn tables_print(rt: HostRuntime) -> Result<(), Fail> {
 
 #[test]
 fn refused_readings_are_made_again(rt: HostRuntime) -> Result<(), Fail> {
-    let tables = read(rt.alloc(), BASE.as_bytes())?;
+    let tables = read(rt.alloc(), base().as_bytes())?;
     assert_eq!(rt;
         (
             tables.system_count(),

@@ -1,81 +1,23 @@
 //! Receptions with known answers, on real frames.
 
-use crate::{DropReason, Receiver, Reception};
-use afdx_config::{ConfigFault, SystemId, Tables, read_tables};
-use afdx_frame::{Address, Checked, IpFault, MacFault, Side, VlId, build, fcs};
+use crate::samples::{GREATEST_COUNT, HELLO, base_tables, hello, largest, read, sealed};
+use afdx_config::{SystemId, Tables};
+use afdx_frame::{Address, Checked, IpFault, MacFault, Side, VlId, build};
+use afdx_receive::{DropReason, Receiver, Reception};
 use std::alloc::{AllocError, Global};
 use std::process::Abort;
 use std::test::Fail;
-
-const SYSTEMS: &str = "profile = 1
-buffer = 252
-
-[[system]]
-name = \"s1\"
-port = 1
-id = 1
-partition = 1
-rate = 100
-
-[[system]]
-name = \"s2\"
-port = 2
-id = 2
-partition = 1
-rate = 100
-
-[[system]]
-name = \"s3\"
-port = 3
-id = 3
-partition = 1
-rate = 100
-";
-
-// A sampling port of link 1 and a queuing port of link 2, both of the third system.
-const PORTS: &str = "
-[[port]]
-system = \"s3\"
-link = 1
-udp = 1000
-kind = \"sampling\"
-depth = 1
-
-[[port]]
-system = \"s3\"
-link = 2
-udp = 2000
-kind = \"queuing\"
-depth = 4
-";
 
 const SECOND: SystemId = SystemId(1);
 
 const THIRD: SystemId = SystemId(2);
 
-// A frame of link 1 on side A without its check sequence: `hello` from UDP port 1000 to UDP port
-// 1000, number 0.
-const HELLO: [u8; 60] = [
-    3, 0, 0, 0, 0, 1, 2, 0, 0, 0, 1, 0x20, 8, 0, 0x45, 0, 0, 0x21, 0, 0, 0, 0, 1, 0x11, 0xcd, 0xea,
-    0x0a, 0, 1, 1, 0xe0, 0xe0, 0, 1, 3, 0xe8, 3, 0xe8, 0, 0x0d, 0, 0, 0x68, 0x65, 0x6c, 0x6c, 0x6f,
-    0, 0, 0, 0, 0, 0, 0, 0, 0, 0, 0, 0, 0,
-];
-
 const HIGH_OF_LINK: usize = 4;
 
 const LOW_OF_LINK: usize = 5;
 
-const NUMBER: usize = 59;
-
 // Of all growths one alone may be refused in these tests: a call that is refused memory is made
 // again.
-fn read(alloc: Global, text: &str) -> Result<Tables, ConfigFault> {
-    match read_tables(alloc, text.as_bytes()) {
-        Err(ConfigFault::Memory) => read_tables(alloc, text.as_bytes()),
-        answer => answer,
-    }
-}
-
 fn new_receiver(alloc: Global, tables: &Tables, system: SystemId) -> Result<Receiver, AllocError> {
     match Receiver::new(alloc, tables, system) {
         Err(_) => Receiver::new(alloc, tables, system),
@@ -83,60 +25,14 @@ fn new_receiver(alloc: Global, tables: &Tables, system: SystemId) -> Result<Rece
     }
 }
 
-fn push_link(text: &mut String, vl: u16, from: &str, to: &str) -> Result<(), AllocError> {
-    write!(
-        text,
-        "\n[[link]]\nvl = {vl}\nfrom = \"{from}\"\nto = [{to}]\n"
-    )?;
-    text.push_str("bag_ms = 1\nlmin = 64\nlmax = 64\njitter_us = 500\npriority = \"high\"\n")?;
-    text.push_str("policing = \"frame\"\nlatency_us = 17\nskew_us = 1000\nsubs = 2\n")
-}
-
-fn base_text(alloc: Global) -> Result<String, AllocError> {
-    let mut text = String::new(alloc);
-    text.push_str(SYSTEMS)?;
-    push_link(&mut text, 1, "s1", "\"s3\"")?;
-    push_link(&mut text, 2, "s2", "\"s3\"")?;
-    text.push_str(PORTS)?;
-    Ok(text)
-}
-
 fn base_receiver(alloc: Global, system: SystemId) -> Result<Receiver, Fail> {
-    let text = match base_text(alloc) {
-        Err(_) => base_text(alloc)?,
-        Ok(text) => text,
-    };
-    let tables = read(alloc, text.as_str())?;
+    let tables = base_tables(alloc)?;
     Ok(new_receiver(alloc, &tables, system)?)
-}
-
-// The frame with these bytes at these places, sealed.
-fn changed(changes: [(usize, u8); 3]) -> [u8; 64] {
-    let mut frame = HELLO;
-    for (place, byte) in changes {
-        if place < 60 {
-            frame[place] = byte;
-        }
-    }
-    let [s0, s1, s2, s3] = fcs(frame.as_slice()).to_le_bytes();
-    let mut bytes = [0; 64];
-    for place in 0..60 {
-        bytes[place] = frame[place];
-    }
-    bytes[60] = s0;
-    bytes[61] = s1;
-    bytes[62] = s2;
-    bytes[63] = s3;
-    bytes
-}
-
-fn numbered(number: u8) -> [u8; 64] {
-    changed([(NUMBER, number); 3])
 }
 
 fn of_link(vl: u16) -> [u8; 64] {
     let [high, low] = vl.to_be_bytes();
-    changed([(HIGH_OF_LINK, high), (LOW_OF_LINK, low), (LOW_OF_LINK, low)])
+    sealed(&HELLO, &[(HIGH_OF_LINK, high), (LOW_OF_LINK, low)])
 }
 
 // Whether it is the message `hello` of a link.
@@ -167,7 +63,7 @@ fn receive_three(
 ) -> Result<(), Fail> {
     let mut receiver = base_receiver(alloc, THIRD)?;
     for (time, number, wanted) in frames {
-        let bytes = numbered(number);
+        let bytes = hello(number);
         let answer = receiver.receive(time, Side::A, Checked::new(&bytes));
         assert!(rt; is_answer(answer, wanted));
     }
@@ -209,7 +105,7 @@ fn numbers(rt: HostRuntime) -> Result<(), Fail> {
 #[test]
 fn refused_new_is_made_again(rt: HostRuntime) -> Result<(), Fail> {
     let mut receiver = base_receiver(rt.alloc(), THIRD)?;
-    let bytes = numbered(0);
+    let bytes = hello(0);
     assert!(rt; is_answer(receiver.receive(0, Side::A, Checked::new(&bytes)), None));
     Ok(())
 }
@@ -230,7 +126,7 @@ fn first_copy_wins(rt: HostRuntime) -> Result<(), Fail> {
         (8002, Side::B, 3, late),
         (8003, Side::B, 4, None),
     ] {
-        let bytes = numbered(number);
+        let bytes = hello(number);
         assert!(rt; is_answer(receiver.receive(time, side, Checked::new(&bytes)), wanted));
     }
     Ok(())
@@ -262,11 +158,11 @@ fn wrong_datagrams(rt: HostRuntime) -> Result<(), Fail> {
         ([(37, 0xe9), (37, 0xe9), (37, 0xe9)], DropReason::NoPort),
     ] {
         let mut receiver = base_receiver(rt.alloc(), THIRD)?;
-        let bytes = changed(changes);
+        let bytes = sealed(&HELLO, changes.as_slice());
         let answer = receiver.receive(6720, Side::A, Checked::new(&bytes));
         assert!(rt; is_answer(answer, Some(why)));
         // It won all the same: its copy is redundant.
-        let copy = numbered(0);
+        let copy = hello(0);
         let answer = receiver.receive(6720, Side::B, Checked::new(&copy));
         assert!(rt; is_answer(answer, Some(DropReason::Redundant)));
     }
@@ -275,7 +171,7 @@ fn wrong_datagrams(rt: HostRuntime) -> Result<(), Fail> {
 
 #[test]
 fn not_its_frames(rt: HostRuntime) -> Result<(), Fail> {
-    let bytes = numbered(0);
+    let bytes = hello(0);
     let mut receiver = base_receiver(rt.alloc(), THIRD)?;
     for length in 0..64 {
         let answer = receiver.receive(0, Side::A, Checked::new(&bytes[..length]));
@@ -328,31 +224,9 @@ fn built_frames(rt: HostRuntime) -> Result<(), Fail> {
     Ok(())
 }
 
-const GREATEST_COUNT: u16 = 4096;
-
-// Each of the links has a port of the second system, and none of the third.
-fn largest_text(alloc: Global) -> Result<String, AllocError> {
-    let mut text = String::new(alloc);
-    text.push_str(SYSTEMS)?;
-    for vl in 0..GREATEST_COUNT {
-        push_link(&mut text, vl, "s1", "\"s2\", \"s3\"")?;
-    }
-    for vl in 0..GREATEST_COUNT {
-        write!(
-            text,
-            "\n[[port]]\nsystem = \"s2\"\nlink = {vl}\nudp = 1000\n"
-        )?;
-        text.push_str("kind = \"sampling\"\ndepth = 1\n")?;
-    }
-    Ok(text)
-}
-
 #[test]
 fn largest_tables(rt: HostRuntime) -> Result<(), Fail> {
-    let text = match largest_text(rt.alloc()) {
-        Err(_) => largest_text(rt.alloc())?,
-        Ok(text) => text,
-    };
+    let text = largest(rt.alloc())?;
     let tables = read(rt.alloc(), text.as_str())?;
     let mut second = new_receiver(rt.alloc(), &tables, SECOND)?;
     let mut third = new_receiver(rt.alloc(), &tables, THIRD)?;

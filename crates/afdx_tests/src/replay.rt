@@ -1,4 +1,4 @@
-//! The worked rows of policing by a run, and a run on weak devices.
+//! The worked rows of policing by a run.
 
 mod checks;
 mod end_to_end;
@@ -7,35 +7,16 @@ mod refusals;
 mod replays;
 mod sends;
 
-use crate::{CommandedRule, LineFault, RunFault, Summary, Watched, police, run_police};
+use crate::samples::spelled;
 use afdx_frame::{Policing, VlId};
 use afdx_police::LinkRule;
+use afdx_replay::{CommandedRule, LineFault, RunFault, Summary, Watched, police, run_police};
 use std::alloc::{AllocError, Global};
 use std::test::Fail;
 
-/// The frame of link 1 with the message `hello`, without its check sequence.
-const H1: &str =
-    "030000000001020000000120080045000021000000000111cdea0a000101e0e0000103e803e8000d000068656c6c6f00000000000000000000000000";
-
-/// The same on link 9.
-const H9: &str =
-    "030000000009020000000120080045000021000000000111cdea0a000101e0e0000103e803e8000d000068656c6c6f00000000000000000000000000";
-
 /// The rule of link 1 with a gap of 1 ms and a jitter of 500 us, policed by bytes.
-fn rule(lmax: u64) -> Option<LinkRule> {
+fn rule_up_to(lmax: u64) -> Option<LinkRule> {
     LinkRule::new(VlId(1), 1, 1, 64, lmax, 500, Policing::Byte)
-}
-
-/// A list with the digits of the frame of link 1 in the place of each `H1`.
-fn spelled(alloc: Global, list: &str) -> Result<String, AllocError> {
-    let mut text = String::new(alloc);
-    for (place, part) in list.split("H1").enumerate() {
-        if place > 0 {
-            text.push_str(H1)?;
-        }
-        text.push_str(part)?;
-    }
-    Ok(text)
 }
 
 /// The digits of so many zero bytes.
@@ -67,8 +48,8 @@ fn answer(alloc: Global, rule: &LinkRule, list: &[u8]) -> (Result<Summary, RunFa
     (result, output.into_inner())
 }
 
-/// The greatest length of a frame of the link, a list, its text, and its counts: lines, accepted and
-/// dropped.
+/// The greatest length of a frame of the link, a list, its text, and its counts: lines, accepted
+/// and dropped.
 const WORKED_LISTS: [(u64, &str, &str, [u64; 3]); 6] = [
     (
         64,
@@ -106,9 +87,9 @@ const WORKED_LISTS: [(u64, &str, &str, [u64; 3]); 6] = [
 #[test]
 fn worked_lists(rt: HostRuntime) -> Result<(), Fail> {
     for (lmax, list, text, [lines, accepted, dropped]) in WORKED_LISTS {
-        let rule = rule(lmax).ok_or("a rule")?;
-        let spelled = spelled(rt.alloc(), list)?;
-        let (result, written) = answer(rt.alloc(), &rule, spelled.as_bytes());
+        let rule = rule_up_to(lmax).ok_or("a rule")?;
+        let list = spelled(rt.alloc(), list)?;
+        let (result, written) = answer(rt.alloc(), &rule, list.as_bytes());
         assert_eq!(rt; result, Ok(counts(lines, accepted, dropped)), "{list}");
         assert!(rt; written.as_slice() == text.as_bytes(), "{list}");
     }
@@ -120,9 +101,14 @@ fn wrong_frames(alloc: Global) -> Result<String, AllocError> {
     let short = zeros(alloc, 63)?;
     let long = zeros(alloc, 1519)?;
     let nowhere = zeros(alloc, 60)?;
-    format!(in alloc;
-        "B 0 A 1 {H1}\nR 0 A 1 {short}\nR 0 A 1 {long}\nR 0 A 1 0300000000\nF 0 A 1 {nowhere}\nF 0 A 1 {H9}\nF 0 A 1 {H1}00\nR 0 A 1 -\nF 0 A 1 {H1}\n"
-    )
+    let mut text = spelled(alloc, "B 0 A 1 H1\n")?;
+    write!(
+        text,
+        "R 0 A 1 {short}\nR 0 A 1 {long}\nR 0 A 1 0300000000\nF 0 A 1 {nowhere}\n"
+    )?;
+    let rest = spelled(alloc, "F 0 A 1 H9\nF 0 A 1 H100\nR 0 A 1 -\nF 0 A 1 H1\n")?;
+    text.push_str(rest.as_str())?;
+    Ok(text)
 }
 
 /// Their verdicts.
@@ -140,7 +126,7 @@ V 9 A accept
 
 #[test]
 fn each_kind_of_wrong_frame(rt: HostRuntime) -> Result<(), Fail> {
-    let rule = rule(64).ok_or("a rule")?;
+    let rule = rule_up_to(64).ok_or("a rule")?;
     let list = wrong_frames(rt.alloc())?;
     let (result, written) = answer(rt.alloc(), &rule, list.as_bytes());
     assert_eq!(rt; result, Ok(counts(9, 1, 8)));
@@ -164,7 +150,7 @@ fn under_lmin_only_by_bytes(rt: HostRuntime) -> Result<(), Fail> {
 
 #[test]
 fn list_faults(rt: HostRuntime) -> Result<(), Fail> {
-    let rule = rule(64).ok_or("a rule")?;
+    let rule = rule_up_to(64).ok_or("a rule")?;
     let rows = [
         ("F 5 A", LineFault::BadLine),
         ("F 5 A 1 030", LineFault::BadHex),
@@ -198,7 +184,7 @@ fn list_faults(rt: HostRuntime) -> Result<(), Fail> {
 
 #[test]
 fn sizes_of_lines_and_lists(rt: HostRuntime) -> Result<(), Fail> {
-    let rule = rule(64).ok_or("a rule")?;
+    let rule = rule_up_to(64).ok_or("a rule")?;
     let mut remark = vec![in rt.alloc(); b'#'; 4_200]?;
     let (result, _) = answer(rt.alloc(), &rule, remark.as_slice());
     assert_eq!(rt; result, Ok(counts(1, 0, 0)));

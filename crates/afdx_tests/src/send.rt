@@ -1,85 +1,27 @@
-//! The worked rows. The calls of a run: before each submission, all emissions that end by then are taken.
+//! The worked rows. The calls of a run: before each submission, all emissions that end by then are
+//! taken. Frames of every length and numbers that go round are in tests/streams.py.
 ghost use Rattle.std.specs.Prelude.{◌≡◌, ℕ, ◌+◌, ◌≤◌, IfOk, IfSome, IfNone};
 ghost use Rattle.afdx_frame.specs.Times.{latest_listed};
 ghost use Rattle.afdx_send.specs.Sender.{IsQuiet, last_time, frames_held};
 
-use crate::{Emission, SendFault, Sender};
-use afdx_admit::admit;
-use afdx_config::{SystemId, read_tables};
+use crate::samples::{admitted, base};
+use afdx_config::SystemId;
 use afdx_frame::VlId;
+use afdx_send::{Emission, SendFault, Sender};
 use std::alloc::{AllocError, Global};
 use std::test::Fail;
 
 mod refused;
 
-/// Three systems and two links to the third, one high and one low.
-const BASE: &str = r#"profile = 1
-buffer = 252
-
-[[system]]
-name = "s1"
-port = 1
-id = 1
-partition = 1
-rate = 100
-
-[[system]]
-name = "s2"
-port = 2
-id = 2
-partition = 1
-rate = 100
-
-[[system]]
-name = "s3"
-port = 3
-id = 3
-partition = 1
-rate = 100
-
-[[link]]
-vl = 1
-from = "s1"
-to = ["s3"]
-bag_ms = 1
-lmin = 64
-lmax = 64
-jitter_us = 500
-priority = "high"
-policing = "frame"
-latency_us = 17
-skew_us = 1000
-subs = 2
-
-[[link]]
-vl = 2
-from = "s2"
-to = ["s3"]
-bag_ms = 1
-lmin = 64
-lmax = 64
-jitter_us = 500
-priority = "low"
-policing = "frame"
-latency_us = 21
-skew_us = 1000
-subs = 1
-"#;
-
-/// The sender of the system at this place, on the tables of this text.
-fn sender(alloc: Global, text: &str, system: u8) -> Result<Sender, Fail>
+/// The sender of the first system.
+fn first_sender(alloc: Global) -> Result<Sender, Fail>
     ensures clock { IfOk result (λ s. last_time s ≡ 0) }
 {
-    let Ok(tables) = read_tables(alloc, text.as_bytes()) else {
-        return Err("tables".into());
-    };
-    let Ok(tables) = admit(tables) else {
-        return Err("admission".into());
-    };
-    if usize::from(system) >= tables.tables().system_count() {
-        return Err("system".into());
+    let tables = admitted(alloc, base())?;
+    if tables.tables().system_count() == 0 {
+        return Err("a system".into());
     }
-    Ok(Sender::new(alloc, &tables, SystemId(system))?)
+    Ok(Sender::new(alloc, &tables, SystemId(0))?)
 }
 
 /// The next emission by then. Where memory is refused, the call is made again: the emission is left
@@ -88,7 +30,8 @@ fn emit(sender: &mut Sender, until: u64) -> Result<Option<Emission>, AllocError>
     requires clock { last_time sender.old ≤ until }
     ensures clock { last_time sender.new ≡ until }
     ensures quiet { IfOk result (λ e. IfNone e (IsQuiet sender.new until)) }
-    ensures held { IfOk result (λ e. IfSome e (λ _. frames_held sender.new + 1 ≡ frames_held sender.old)) }
+    ensures held { IfOk result (λ e.
+        IfSome e (λ _. frames_held sender.new + 1 ≡ frames_held sender.old)) }
 {
     match sender.emit(until) {
         Ok(emission) => Ok(emission),
@@ -150,7 +93,7 @@ fn byte_at(bytes: &[u8], index: usize) -> u8 {
 #[test]
 fn sub_vls_are_served_in_turn(rt: HostRuntime) -> Result<(), Fail> {
     let alloc = rt.alloc();
-    let mut sender = sender(alloc, BASE, 0)?;
+    let mut sender = first_sender(alloc)?;
     for (sub, byte) in [(1, 0x61), (1, 0x62), (2, 0x63), (2, 0x64)] {
         let (early, answer) = submit(alloc, &mut sender, 0, 1, sub, 1000, &[byte])?;
         assert!(rt; early.is_empty());
@@ -181,7 +124,7 @@ fn sub_vls_are_served_in_turn(rt: HostRuntime) -> Result<(), Fail> {
 #[test]
 fn wrong_messages_are_named(rt: HostRuntime) -> Result<(), Fail> {
     let alloc = rt.alloc();
-    let mut sender = sender(alloc, BASE, 0)?;
+    let mut sender = first_sender(alloc)?;
     let zeros = [0; 18];
     let refused: [(u16, u8, &[u8], SendFault); 6] = [
         (2, 1, &[0], SendFault::NotMyLink),
@@ -201,7 +144,8 @@ fn wrong_messages_are_named(rt: HostRuntime) -> Result<(), Fail> {
     }
     let (_, answer) = submit(alloc, &mut sender, 0, 1, 1, 1000, &[0x61])?;
     assert_eq!(rt; answer, Err(SendFault::QueueFull));
-    // A message that is released at the moment of a submission still counts; one ns later it doesn't.
+    // A message that is released at the moment of a submission still counts; one ns later it
+    // doesn't.
     let (_, answer) = submit(alloc, &mut sender, 1, 1, 1, 1000, &[0x61])?;
     assert_eq!(rt; answer, Ok(()));
     let (_, answer) = submit(alloc, &mut sender, 1_000_000, 1, 1, 1000, &[0x61])?;
@@ -209,67 +153,6 @@ fn wrong_messages_are_named(rt: HostRuntime) -> Result<(), Fail> {
     let emissions = drain(alloc, &mut sender, LATE)?;
     assert_eq!(rt; emissions.len(), 64);
     assert_eq!(rt; emissions.last().map(|e| e.time), Some(64_006_720));
-    Ok(())
-}
-
-/// The longest frame of a link of 1518 bytes carries 1471.
-#[test]
-fn a_frame_is_filled(rt: HostRuntime) -> Result<(), Fail> {
-    let alloc = rt.alloc();
-    let mut text = String::new(alloc);
-    for (index, line) in BASE.lines().enumerate() {
-        text.push_str(match line {
-            "buffer = 252" => "buffer = 4096",
-            "lmax = 64" if index < 40 => "lmax = 1518",
-            "latency_us = 17" | "latency_us = 21" => "latency_us = 1000",
-            _ => line,
-        })?;
-        text.push('\n')?;
-    }
-    let mut sender = sender(alloc, text.as_str(), 0)?;
-    let zeros = [0; 1472];
-    let (_, answer) = submit(alloc, &mut sender, 0, 1, 1, 1000, &zeros)?;
-    assert_eq!(rt; answer, Err(SendFault::TooLarge));
-    let (_, answer) = submit(alloc, &mut sender, 0, 1, 1, 1000, zeros.split_at(1471).0)?;
-    assert_eq!(rt; answer, Ok(()));
-    let emissions = drain(alloc, &mut sender, LATE)?;
-    assert_eq!(rt; emissions.len(), 1);
-    for emission in &emissions {
-        assert_eq!(rt; emission.time, 123_040);
-        assert_eq!(rt; emission.a.len(), 1518);
-        assert_eq!(rt; emission.b.len(), 1518);
-    }
-    Ok(())
-}
-
-#[test]
-fn numbers_go_round(rt: HostRuntime) -> Result<(), Fail> {
-    let alloc = rt.alloc();
-    let mut sender = sender(alloc, BASE, 1)?;
-    let mut emissions = Vec::new(alloc);
-    for k in 0..300_u64 {
-        let payload = [(k / 256) as u8, (k % 256) as u8];
-        let (early, answer) = submit(alloc, &mut sender, k * 1_000_000, 2, 1, 2000, &payload)?;
-        assert_eq!(rt; answer, Ok(()));
-        for emission in early {
-            emissions.push(emission)?;
-        }
-    }
-    for emission in drain(alloc, &mut sender, LATE)? {
-        emissions.push(emission)?;
-    }
-    assert_eq!(rt; emissions.len(), 300);
-    for (k, emission) in emissions.iter().enumerate() {
-        let number = if k == 0 { 0 } else { (k - 1) % 255 + 1 };
-        assert_eq!(rt; emission.time, k as u64 * 1_000_000 + 6720);
-        assert_eq!(rt; usize::from(byte_at(&emission.a, 59)), number);
-        assert_eq!(rt; usize::from(byte_at(&emission.b, 59)), number);
-        assert_eq!(rt; byte_at(&emission.a, 42), (k / 256) as u8);
-        assert_eq!(rt; byte_at(&emission.b, 43), (k % 256) as u8);
-    }
-    for (k, number) in [(255, 0xff), (256, 1), (257, 2), (299, 0x2c)] {
-        assert_eq!(rt; emissions.get(k).map(|e| byte_at(&e.b, 59)), Some(number));
-    }
     Ok(())
 }
 

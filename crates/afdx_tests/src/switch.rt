@@ -1,11 +1,13 @@
 //! The worked rows, on one switch. An arrival that is refused memory is made again.
 ghost use Rattle.std.specs.Prelude.{◌≡◌, ◌≤◌, IsTrue};
+ghost use Rattle.afdx_port.specs.Times.{latest_put};
 ghost use Rattle.afdx_switch.specs.Switching.{IsQuiet, last_time};
 
-use crate::{Switch, Verdict};
-use afdx_config::{Tables, read_tables};
+use crate::samples::{base, base_tables, changed, hello, read, world};
+use afdx_config::Tables;
 use afdx_frame::Checked;
 use afdx_police::Reason;
+use afdx_switch::{Switch, Verdict};
 use std::alloc::{AllocError, Global};
 use std::test::Fail;
 
@@ -13,104 +15,24 @@ mod largest;
 mod refused;
 mod verdicts;
 
-/// Three systems and two links to the third, one high and one low.
-const BASE: &str = r#"profile = 1
-buffer = 252
-
-[[system]]
-name = "s1"
-port = 1
-id = 1
-partition = 1
-rate = 100
-
-[[system]]
-name = "s2"
-port = 2
-id = 2
-partition = 1
-rate = 100
-
-[[system]]
-name = "s3"
-port = 3
-id = 3
-partition = 1
-rate = 100
-
-[[link]]
-vl = 1
-from = "s1"
-to = ["s3"]
-bag_ms = 1
-lmin = 64
-lmax = 64
-jitter_us = 500
-priority = "high"
-policing = "frame"
-latency_us = 17
-skew_us = 1000
-subs = 2
-
-[[link]]
-vl = 2
-from = "s2"
-to = ["s3"]
-bag_ms = 1
-lmin = 64
-lmax = 64
-jitter_us = 500
-priority = "low"
-policing = "frame"
-latency_us = 21
-skew_us = 1000
-subs = 1
-"#;
-
-/// The text with `new` in the place of the first `old`.
-fn changed(alloc: Global, text: &str, old: &str, new: &str) -> Result<String, AllocError> {
-    let mut result = String::new(alloc);
-    match text.split_once(old) {
-        Some((front, back)) => {
-            result.push_str(front)?;
-            result.push_str(new)?;
-            result.push_str(back)?;
-        }
-        None => result.push_str(text)?,
-    }
-    Ok(result)
+/// The base tables with this change.
+fn changed_tables(alloc: Global, old: &str, new: &str) -> Result<Tables, Fail> {
+    let text = changed(alloc, base(), old, new)?;
+    Ok(read(alloc, text.as_str())?)
 }
 
-/// The tables with these two changes.
-fn tables(alloc: Global, first: (&str, &str), second: (&str, &str)) -> Result<Tables, Fail> {
-    let text = changed(alloc, BASE, first.0, first.1)?;
-    let text = changed(alloc, text.as_str(), second.0, second.1)?;
-    match read_tables(alloc, text.as_bytes()) {
-        Ok(tables) => Ok(tables),
-        Err(_) => Err("tables".into()),
-    }
+/// The base tables with this change, and a low link of which a frame is late after 6 us.
+fn hasty_tables(alloc: Global, old: &str, new: &str) -> Result<Tables, Fail> {
+    let text = changed(alloc, base(), old, new)?;
+    let text = changed(alloc, text.as_str(), "latency_us = 21", "latency_us = 6")?;
+    Ok(read(alloc, text.as_str())?)
 }
 
-const SAME: (&str, &str) = ("", "");
-
-/// The frame of link 1 with the message `hello`.
-const HELLO: [u8; 64] = [
-    3, 0, 0, 0, 0, 1, 2, 0, 0, 0, 1, 32, 8, 0, 69, 0, 0, 33, 0, 0, 0, 0, 1, 17, 205, 234, 10, 0, 1,
-    1, 224, 224, 0, 1, 3, 232, 3, 232, 0, 13, 0, 0, 104, 101, 108, 108, 111, 0, 0, 0, 0, 0, 0, 0,
-    0, 0, 0, 0, 0, 0, 149, 23, 139, 81,
-];
-
-/// The frame of link 2 with the message `world`.
-const WORLD: [u8; 64] = [
-    3, 0, 0, 0, 0, 2, 2, 0, 0, 0, 2, 32, 8, 0, 69, 0, 0, 33, 0, 0, 0, 0, 1, 17, 204, 233, 10, 0, 2,
-    1, 224, 224, 0, 2, 7, 208, 7, 208, 0, 13, 0, 0, 119, 111, 114, 108, 100, 0, 0, 0, 0, 0, 0, 0,
-    0, 0, 0, 0, 0, 0, 128, 206, 102, 227,
-];
-
-/// A frame arrives. Where memory is refused, it arrives again: a refused arrival has changed nothing.
+/// A frame arrives. Where memory is refused, it arrives again: a refused arrival has changed
+/// nothing.
 /// None: memory was refused twice.
 fn arrive(switch: &mut Switch, time: u64, port: u8, tag: u64, bytes: &[u8]) -> Option<Verdict>
-    requires limit { time ≤ 1000032768000000 }
+    requires limit { time ≤ latest_put }
     requires clock { last_time switch.old ≤ time }
     requires quiet { IsQuiet switch.old time }
     ensures clock { last_time switch.new ≤ time }
@@ -123,7 +45,7 @@ fn arrive(switch: &mut Switch, time: u64, port: u8, tag: u64, bytes: &[u8]) -> O
 }
 
 fn arrive_again(switch: &mut Switch, time: u64, port: u8, tag: u64, bytes: &[u8]) -> Option<Verdict>
-    requires limit { time ≤ 1000032768000000 }
+    requires limit { time ≤ latest_put }
     requires clock { last_time switch.old ≤ time }
     requires quiet { IsQuiet switch.old time }
     ensures clock { last_time switch.new ≤ time }
@@ -171,10 +93,10 @@ fn left(switch: &mut Switch, until: u64) -> Option<(u64, u64, u8, bool)>
 
 #[test]
 fn a_high_frame_goes_before_a_low_one_of_its_moment(rt: HostRuntime) -> Result<(), Fail> {
-    let tables = tables(rt.alloc(), SAME, SAME)?;
+    let tables = base_tables(rt.alloc())?;
     let mut switch = Switch::new(rt.alloc(), &tables)?;
-    assert!(rt; is_forwarded(arrive(&mut switch, 0, 2, 1, &WORLD)));
-    assert!(rt; is_forwarded(arrive(&mut switch, 0, 1, 2, &HELLO)));
+    assert!(rt; is_forwarded(arrive(&mut switch, 0, 2, 1, &world(0))));
+    assert!(rt; is_forwarded(arrive(&mut switch, 0, 1, 2, &hello(0))));
     assert!(rt; is_still(&mut switch, 6719));
     assert_eq!(rt; left(&mut switch, 1000000), Some((2, 6720, 3, false)));
     assert_eq!(rt; left(&mut switch, 1000000), Some((1, 13440, 3, false)));
@@ -184,11 +106,11 @@ fn a_high_frame_goes_before_a_low_one_of_its_moment(rt: HostRuntime) -> Result<(
 
 #[test]
 fn a_frame_that_is_sent_goes_before_a_high_one(rt: HostRuntime) -> Result<(), Fail> {
-    let tables = tables(rt.alloc(), SAME, SAME)?;
+    let tables = base_tables(rt.alloc())?;
     let mut switch = Switch::new(rt.alloc(), &tables)?;
-    assert!(rt; is_forwarded(arrive(&mut switch, 0, 2, 1, &WORLD)));
+    assert!(rt; is_forwarded(arrive(&mut switch, 0, 2, 1, &world(0))));
     assert!(rt; is_still(&mut switch, 1));
-    assert!(rt; is_forwarded(arrive(&mut switch, 1, 1, 2, &HELLO)));
+    assert!(rt; is_forwarded(arrive(&mut switch, 1, 1, 2, &hello(0))));
     assert_eq!(rt; left(&mut switch, 1000000), Some((1, 6720, 3, false)));
     assert_eq!(rt; left(&mut switch, 1000000), Some((2, 13440, 3, false)));
     assert!(rt; is_still(&mut switch, 1000000));
@@ -197,13 +119,13 @@ fn a_frame_that_is_sent_goes_before_a_high_one(rt: HostRuntime) -> Result<(), Fa
 
 #[test]
 fn a_frame_at_another_port_is_dropped_and_not_charged(rt: HostRuntime) -> Result<(), Fail> {
-    let tables = tables(rt.alloc(), SAME, SAME)?;
+    let tables = base_tables(rt.alloc())?;
     let mut switch = Switch::new(rt.alloc(), &tables)?;
-    let wrong = why(arrive(&mut switch, 0, 2, 1, &HELLO));
+    let wrong = why(arrive(&mut switch, 0, 2, 1, &hello(0)));
     assert_eq!(rt; wrong, Some(Reason::WrongPort));
-    assert!(rt; is_forwarded(arrive(&mut switch, 0, 1, 2, &HELLO)));
+    assert!(rt; is_forwarded(arrive(&mut switch, 0, 1, 2, &hello(0))));
     let gone = switch.take(6720).ok_or("a departure")?;
-    assert!(rt; gone.frame().bytes == HELLO.as_slice());
+    assert!(rt; gone.frame().bytes == hello(0).as_slice());
     assert_eq!(rt; (gone.tag(), gone.time(), gone.port()), (2, 6720, 3));
     assert!(rt; is_still(&mut switch, 1000000));
     Ok(())
@@ -211,13 +133,11 @@ fn a_frame_at_another_port_is_dropped_and_not_charged(rt: HostRuntime) -> Result
 
 #[test]
 fn a_short_frame_of_a_link_that_is_policed_by_bytes(rt: HostRuntime) -> Result<(), Fail> {
-    let (old, new) = (
-        "to = [\"s3\"]\nbag_ms = 1\nlmin = 64\nlmax = 64\njitter_us = 500\npriority = \"low\"\npolicing = \"frame\"",
-        "to = [\"s3\"]\nbag_ms = 1\nlmin = 100\nlmax = 200\njitter_us = 500\npriority = \"low\"\npolicing = \"byte\"",
-    );
-    let tables = tables(rt.alloc(), (old, new), SAME)?;
+    let old = "lmin = 64\nlmax = 64\njitter_us = 500\npriority = \"low\"\npolicing = \"frame\"";
+    let new = "lmin = 100\nlmax = 200\njitter_us = 500\npriority = \"low\"\npolicing = \"byte\"";
+    let tables = changed_tables(rt.alloc(), old, new)?;
     let mut switch = Switch::new(rt.alloc(), &tables)?;
-    let short = why(arrive(&mut switch, 0, 2, 1, &WORLD));
+    let short = why(arrive(&mut switch, 0, 2, 1, &world(0)));
     assert_eq!(rt; short, Some(Reason::UnderLmin));
     assert!(rt; is_still(&mut switch, 1000000));
     Ok(())
@@ -235,13 +155,13 @@ fn is_lost_at_port_3(verdict: Option<Verdict>) -> bool {
 
 #[test]
 fn a_frame_is_lost_at_a_full_port_and_stays_charged(rt: HostRuntime) -> Result<(), Fail> {
-    let tables = tables(rt.alloc(), ("buffer = 252", "buffer = 64"), SAME)?;
+    let tables = changed_tables(rt.alloc(), "buffer = 252", "buffer = 64")?;
     let mut switch = Switch::new(rt.alloc(), &tables)?;
-    assert!(rt; is_forwarded(arrive(&mut switch, 0, 1, 1, &HELLO)));
-    let second = arrive(&mut switch, 0, 2, 2, &WORLD);
+    assert!(rt; is_forwarded(arrive(&mut switch, 0, 1, 1, &hello(0))));
+    let second = arrive(&mut switch, 0, 2, 2, &world(0));
     assert!(rt; is_lost_at_port_3(second));
     assert!(rt; is_still(&mut switch, 1));
-    let third = why(arrive(&mut switch, 1, 2, 3, &WORLD));
+    let third = why(arrive(&mut switch, 1, 2, 3, &world(0)));
     assert_eq!(rt; third, Some(Reason::OverRate));
     assert_eq!(rt; left(&mut switch, 1000000), Some((1, 6720, 3, false)));
     assert!(rt; is_still(&mut switch, 1000000));
@@ -265,61 +185,59 @@ fn is_over_rate(switch: &mut Switch, bytes: &[u8]) -> bool
 
 #[test]
 fn a_babbling_link_leaves_another_as_it_is(rt: HostRuntime) -> Result<(), Fail> {
-    let tables = tables(rt.alloc(), SAME, SAME)?;
+    let tables = base_tables(rt.alloc())?;
     let mut switch = Switch::new(rt.alloc(), &tables)?;
-    assert!(rt; is_forwarded(arrive(&mut switch, 0, 2, 1, &WORLD)));
-    assert!(rt; is_over_rate(&mut switch, &WORLD));
-    assert!(rt; is_forwarded(arrive(&mut switch, 0, 1, 1001, &HELLO)));
+    assert!(rt; is_forwarded(arrive(&mut switch, 0, 2, 1, &world(0))));
+    assert!(rt; is_over_rate(&mut switch, &world(0)));
+    assert!(rt; is_forwarded(arrive(&mut switch, 0, 1, 1001, &hello(0))));
     assert_eq!(rt; left(&mut switch, 1000000), Some((1001, 6720, 3, false)));
     assert_eq!(rt; left(&mut switch, 1000000), Some((1, 13440, 3, false)));
     assert!(rt; is_still(&mut switch, 1000000));
     Ok(())
 }
 
-/// What leaves after a frame of link 1 at 0 and one of link 2 at `time`, where link 2 has a latency of 6 us.
-fn second_left(
+/// What leaves in this profile after a frame of link 1 at 0 and one of link 2 at `time`, where link
+/// 2 has a latency of 6 us.
+fn both_left(
     alloc: Global,
-    profile: (&str, &str),
+    profile: &str,
     time: u64,
 ) -> Result<(Option<(u64, u64, u8, bool)>, Option<(u64, u64, u8, bool)>), Fail>
     requires { time ≤ 6719 }
 {
-    let tables = tables(alloc, profile, ("latency_us = 21", "latency_us = 6"))?;
+    let tables = hasty_tables(alloc, "profile = 1", profile)?;
     let mut switch = Switch::new(alloc, &tables)?;
-    let first = arrive(&mut switch, 0, 1, 1, &HELLO);
+    let first = arrive(&mut switch, 0, 1, 1, &hello(0));
     if !is_forwarded(first) || !is_still(&mut switch, time) {
         return Err("the first frame".into());
     }
-    let second = arrive(&mut switch, time, 2, 2, &WORLD);
+    let second = arrive(&mut switch, time, 2, 2, &world(0));
     if !is_forwarded(second) {
         return Err("the second frame".into());
     }
-    let first_left = left(&mut switch, 1000000);
-    let second_left = left(&mut switch, 1000000);
-    Ok((first_left, second_left))
+    let one = left(&mut switch, 1000000);
+    let other = left(&mut switch, 1000000);
+    Ok((one, other))
 }
 
 #[test]
 fn a_frame_that_waited_too_long_is_dropped(rt: HostRuntime) -> Result<(), Fail> {
-    let second = ("profile = 1", "profile = 2");
-    let first = ("profile = 1", "profile = 1");
     let hello_left = Some((1, 6720, 3, false));
-    let dropped = second_left(rt.alloc(), second, 719)?;
+    let dropped = both_left(rt.alloc(), "profile = 2", 719)?;
     assert_eq!(rt; dropped, (hello_left, Some((2, 6720, 3, true))));
-    let in_time = second_left(rt.alloc(), second, 720)?;
+    let in_time = both_left(rt.alloc(), "profile = 2", 720)?;
     assert_eq!(rt; in_time, (hello_left, Some((2, 13440, 3, false))));
-    let for_ever = second_left(rt.alloc(), first, 719)?;
+    let for_ever = both_left(rt.alloc(), "profile = 1", 719)?;
     assert_eq!(rt; for_ever, (hello_left, Some((2, 13440, 3, false))));
     Ok(())
 }
 
 #[test]
 fn a_drop_is_given_once_its_moment_is_past(rt: HostRuntime) -> Result<(), Fail> {
-    let second = ("profile = 1", "profile = 2");
-    let tables = tables(rt.alloc(), second, ("latency_us = 21", "latency_us = 6"))?;
+    let tables = hasty_tables(rt.alloc(), "profile = 1", "profile = 2")?;
     let mut switch = Switch::new(rt.alloc(), &tables)?;
-    assert!(rt; is_forwarded(arrive(&mut switch, 0, 1, 1, &HELLO)));
-    assert!(rt; is_forwarded(arrive(&mut switch, 0, 2, 2, &WORLD)));
+    assert!(rt; is_forwarded(arrive(&mut switch, 0, 1, 1, &hello(0))));
+    assert!(rt; is_forwarded(arrive(&mut switch, 0, 2, 2, &world(0))));
     assert_eq!(rt; left(&mut switch, 6720), Some((1, 6720, 3, false)));
     assert!(rt; is_still(&mut switch, 6720));
     assert_eq!(rt; left(&mut switch, 6721), Some((2, 6720, 3, true)));
@@ -330,9 +248,9 @@ fn a_drop_is_given_once_its_moment_is_past(rt: HostRuntime) -> Result<(), Fail> 
 #[test]
 fn departures_of_one_time_go_by_port(rt: HostRuntime) -> Result<(), Fail> {
     let (old, new) = ("to = [\"s3\"]", "to = [\"s3\", \"s2\"]");
-    let tables = tables(rt.alloc(), (old, new), SAME)?;
+    let tables = changed_tables(rt.alloc(), old, new)?;
     let mut switch = Switch::new(rt.alloc(), &tables)?;
-    assert!(rt; is_forwarded(arrive(&mut switch, 0, 1, 1, &HELLO)));
+    assert!(rt; is_forwarded(arrive(&mut switch, 0, 1, 1, &hello(0))));
     assert_eq!(rt; left(&mut switch, 1000000), Some((1, 6720, 2, false)));
     assert_eq!(rt; left(&mut switch, 1000000), Some((1, 6720, 3, false)));
     assert!(rt; is_still(&mut switch, 1000000));

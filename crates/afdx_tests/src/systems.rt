@@ -1,138 +1,16 @@
 //! The worked rows, from the frames that leave the switch on. They pass also where any one growth
 //! is refused.
 
-use crate::{Handover, Systems};
-use afdx_config::{ConfigFault, Tables, read_tables};
-use afdx_frame::{Checked, Side, fcs};
+use crate::samples::{HELLO, base_tables, hello, sealed, world};
+use afdx_config::Tables;
+use afdx_frame::{Checked, Side};
 use afdx_lists::Text;
+use afdx_systems::{Handover, Systems};
 use std::alloc::{AllocError, Global};
 use std::str;
 use std::test::Fail;
 
 mod lengths;
-
-/// Three systems and two links to the third. There the first link has a sampling port, the second a
-/// queuing port.
-const BASE: &str = r#"profile = 1
-buffer = 252
-
-[[system]]
-name = "s1"
-port = 1
-id = 1
-partition = 1
-rate = 100
-
-[[system]]
-name = "s2"
-port = 2
-id = 2
-partition = 1
-rate = 100
-
-[[system]]
-name = "s3"
-port = 3
-id = 3
-partition = 1
-rate = 100
-
-[[link]]
-vl = 1
-from = "s1"
-to = ["s3"]
-bag_ms = 1
-lmin = 64
-lmax = 64
-jitter_us = 500
-priority = "high"
-policing = "frame"
-latency_us = 17
-skew_us = 1000
-subs = 2
-
-[[link]]
-vl = 2
-from = "s2"
-to = ["s3"]
-bag_ms = 1
-lmin = 64
-lmax = 64
-jitter_us = 500
-priority = "low"
-policing = "frame"
-latency_us = 21
-skew_us = 1000
-subs = 1
-
-[[port]]
-system = "s3"
-link = 1
-udp = 1000
-kind = "sampling"
-depth = 1
-
-[[port]]
-system = "s3"
-link = 2
-udp = 2000
-kind = "queuing"
-depth = 4
-"#;
-
-/// A frame of link 1 on side A without its check sequence: `hello` from UDP port 1000 to UDP port
-/// 1000.
-const HELLO: [u8; 60] = [
-    3, 0, 0, 0, 0, 1, 2, 0, 0, 0, 1, 0x20, 8, 0, 0x45, 0, 0, 0x21, 0, 0, 0, 0, 1, 0x11, 0xcd, 0xea,
-    0x0a, 0, 1, 1, 0xe0, 0xe0, 0, 1, 3, 0xe8, 3, 0xe8, 0, 0x0d, 0, 0, 0x68, 0x65, 0x6c, 0x6c, 0x6f,
-    0, 0, 0, 0, 0, 0, 0, 0, 0, 0, 0, 0, 0,
-];
-
-/// A frame of link 2 on side A without its check sequence: `world` from UDP port 2000 to UDP port
-/// 2000.
-const WORLD: [u8; 60] = [
-    3, 0, 0, 0, 0, 2, 2, 0, 0, 0, 2, 0x20, 8, 0, 0x45, 0, 0, 0x21, 0, 0, 0, 0, 1, 0x11, 0xcc, 0xe9,
-    0x0a, 0, 2, 1, 0xe0, 0xe0, 0, 2, 7, 0xd0, 7, 0xd0, 0, 0x0d, 0, 0, 0x77, 0x6f, 0x72, 0x6c, 0x64,
-    0, 0, 0, 0, 0, 0, 0, 0, 0, 0, 0, 0, 0,
-];
-
-const NUMBER: usize = 59;
-
-/// The frame with these bytes at these places, sealed.
-fn changed(frame: [u8; 60], changes: [(usize, u8); 3]) -> [u8; 64] {
-    let mut frame = frame;
-    for (place, byte) in changes {
-        if place < 60 {
-            frame[place] = byte;
-        }
-    }
-    let [s0, s1, s2, s3] = fcs(frame.as_slice()).to_le_bytes();
-    let mut bytes = [0; 64];
-    for place in 0..60 {
-        bytes[place] = frame[place];
-    }
-    bytes[60] = s0;
-    bytes[61] = s1;
-    bytes[62] = s2;
-    bytes[63] = s3;
-    bytes
-}
-
-fn hello(number: u8) -> [u8; 64] {
-    changed(HELLO, [(NUMBER, number); 3])
-}
-
-fn world(number: u8) -> [u8; 64] {
-    changed(WORLD, [(NUMBER, number); 3])
-}
-
-// Of all growths one alone may be refused in these tests: what is refused memory is made again.
-fn base_tables(alloc: Global) -> Result<Tables, ConfigFault> {
-    match read_tables(alloc, BASE.as_bytes()) {
-        Err(ConfigFault::Memory) => read_tables(alloc, BASE.as_bytes()),
-        answer => answer,
-    }
-}
 
 /// A frame of the list: its side, its time and its bytes. Its line is its place in the test, from
 /// 1.
@@ -321,7 +199,7 @@ fn words_of_frames_that_won(rt: HostRuntime) -> Result<(), Fail> {
             "X 6720 s3 1 no-port\n",
         ),
     ] {
-        let frames = [on_a(6720, changed(HELLO, changes))];
+        let frames = [on_a(6720, sealed(&HELLO, changes.as_slice()))];
         let (text, delivered) = tell(rt.alloc(), &tables, 3, frames.as_slice())?;
         assert_eq!(rt; shown(&text), line);
         assert_eq!(rt; delivered, 0);
@@ -336,8 +214,8 @@ fn bytes_that_a_switch_drops(rt: HostRuntime) -> Result<(), Fail> {
     damaged[63] ^= 0xff;
     let frames = [
         on_a(1, damaged),
-        on_a(2, changed(HELLO, [(0, 2); 3])),
-        on_a(3, changed(HELLO, [(5, 9); 3])),
+        on_a(2, sealed(&HELLO, &[(0, 2)])),
+        on_a(3, sealed(&HELLO, &[(5, 9)])),
     ];
     let (text, delivered) = tell(rt.alloc(), &tables, 3, frames.as_slice())?;
     let told = "X 1 s3 1 bad-fcs\nX 2 s3 2 bad-address\nX 3 s3 3 not-subscribed\n";

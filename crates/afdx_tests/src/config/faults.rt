@@ -1,7 +1,8 @@
 //! Each fault of the one order of checks.
 
-use super::{BASE, Text, at, first, last, read};
-use crate::{ConfigFault, Part, SystemId};
+use super::{Text, at, first, last, read};
+use crate::samples::base;
+use afdx_config::{ConfigFault, Part, SystemId};
 use std::alloc::{AllocError, Global};
 use std::test::Fail;
 
@@ -131,7 +132,9 @@ fn rates_of_the_profiles(rt: HostRuntime) -> Result<(), Fail> {
     assert_eq!(rt; first(a, "rate = 100", "rate = 10")?, None);
     let mut text = Text::new();
     text.add(
-        b"profile = 2\nbuffer = 64\n[[system]]\nname = \"a\"\nport = 24\nid = 0\npartition = 255\nrate = 1000\n",
+        b"\
+            profile = 2\nbuffer = 64\n[[system]]\nname = \"a\"\nport = 24\nid = 0\n\
+            partition = 255\nrate = 1000\n",
     );
     let tables = read(a, text.as_slice())?;
     assert_eq!(rt; tables.profile(), 2);
@@ -143,21 +146,21 @@ fn rates_of_the_profiles(rt: HostRuntime) -> Result<(), Fail> {
 #[test]
 fn prefixes(rt: HostRuntime) -> Result<(), Fail> {
     let a = rt.alloc();
-    let base = BASE.as_bytes();
+    let whole = base().as_bytes();
     assert_eq!(rt;
         read(a, b"profile = 1\n").err(),
         Some(ConfigFault::Missing(at(Part::Top, 0, 2)))
     );
-    let end = BASE.find("lmin = 64").ok_or("absent")?;
-    if end <= base.len() && 10 <= base.len() - end {
+    let end = base().find("lmin = 64").ok_or("absent")?;
+    if end <= whole.len() && 10 <= whole.len() - end {
         assert_eq!(rt;
-            read(a, &base[..end + 10]).err(),
+            read(a, &whole[..end + 10]).err(),
             Some(ConfigFault::Missing(at(Part::Link, 1, 6)))
         );
     }
     let mut lawful: u64 = 0;
-    for end in 0..base.len() {
-        if read(a, &base[..end]).is_ok() {
+    for end in 0..whole.len() {
+        if read(a, &whole[..end]).is_ok() {
             lawful = lawful.saturating_add(1);
         }
     }

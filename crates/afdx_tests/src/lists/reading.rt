@@ -1,7 +1,7 @@
 //! Lines are taken one at a time, also from devices that move little and fail.
 
 use super::weak::{Feeds, WeakReader};
-use crate::{LineReader, RunFault, Watched};
+use afdx_lists::{LineReader, RunFault, Watched};
 use std::alloc::Global;
 use std::io::Read;
 use std::test::Fail;

@@ -1,7 +1,7 @@
 //! What a line says, and its faults.
 
-use crate::{Handed, Heading, LineError, LineFault, read_frame_line, read_submission_line};
 use afdx_frame::Side;
+use afdx_lists::{Handed, Heading, LineError, LineFault, read_frame_line, read_submission_line};
 use std::alloc::Global;
 use std::process::Abort;
 

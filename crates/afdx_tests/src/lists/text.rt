@@ -1,8 +1,10 @@
 //! Text that is made and written, and faults that are told.
 
 use super::weak::{Break, WeakWriter};
-use crate::fields::read_bytes;
-use crate::{Buffered, LineError, LineFault, RunFault, Text, Watched, tell_fault, write_text};
+use afdx_lists::{
+    Buffered, LineError, LineFault, RunFault, Text, Watched, read_frame_line, tell_fault,
+    write_text,
+};
 use std::alloc::Global;
 use std::process::Abort;
 use std::test::Fail;
@@ -157,11 +159,14 @@ fn digits_of_many_bytes(rt: HostRuntime) -> Result<(), Fail> {
         text.put_digits(bytes.as_slice())?;
         let digits = hex::encode(alloc, bytes.as_slice())?;
         assert_eq!(rt; text.as_bytes(), digits.as_bytes());
+        text.clear();
+        text.put(b"R 5 A 1 ")?;
+        text.put_digits(bytes.as_slice())?;
         let mut read = Vec::new(alloc);
-        assert_eq!(rt; read_bytes(text.as_bytes(), &mut read), Ok(()));
+        assert!(rt; read_frame_line(text.as_bytes(), 5, &mut read).is_ok());
         assert_eq!(rt; read.as_slice(), bytes.as_slice());
         text.put(b"g0")?;
-        assert_eq!(rt; read_bytes(text.as_bytes(), &mut read), bad_hex);
+        assert_eq!(rt; read_frame_line(text.as_bytes(), 5, &mut read), bad_hex);
     }
     Ok(())
 }

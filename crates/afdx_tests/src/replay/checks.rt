@@ -1,97 +1,11 @@
 //! The worked rows of the command `check`.
 
-use crate::{Watched, check};
-use std::alloc::{AllocError, Global};
+use crate::samples::{base, changed, largest};
+use afdx_replay::{Watched, check};
+use std::alloc::Global;
 use std::test::Fail;
 
-/// Three systems and two links to the third, one high and one low.
-pub(super) const BASE: &str = r#"profile = 1
-buffer = 252
-
-[[system]]
-name = "s1"
-port = 1
-id = 1
-partition = 1
-rate = 100
-
-[[system]]
-name = "s2"
-port = 2
-id = 2
-partition = 1
-rate = 100
-
-[[system]]
-name = "s3"
-port = 3
-id = 3
-partition = 1
-rate = 100
-
-[[link]]
-vl = 1
-from = "s1"
-to = ["s3"]
-bag_ms = 1
-lmin = 64
-lmax = 64
-jitter_us = 500
-priority = "high"
-policing = "frame"
-latency_us = 17
-skew_us = 1000
-subs = 2
-
-[[link]]
-vl = 2
-from = "s2"
-to = ["s3"]
-bag_ms = 1
-lmin = 64
-lmax = 64
-jitter_us = 500
-priority = "low"
-policing = "frame"
-latency_us = 21
-skew_us = 1000
-subs = 1
-
-[[port]]
-system = "s3"
-link = 1
-udp = 1000
-kind = "sampling"
-depth = 1
-
-[[port]]
-system = "s3"
-link = 2
-udp = 2000
-kind = "queuing"
-depth = 4
-"#;
-
 pub(super) const BASE_PORTS: &str = "P 1 0 0 0\nP 2 0 0 0\nP 3 16800 20297 252\n";
-
-/// The text with `new` in the place of the first `old`.
-pub(super) fn changed(
-    alloc: Global,
-    text: &str,
-    old: &str,
-    new: &str,
-) -> Result<String, AllocError> {
-    let mut result = String::new(alloc);
-    match text.split_once(old) {
-        Some((front, back)) => {
-            result.push_str(front)?;
-            result.push_str(new)?;
-            result.push_str(back)?;
-        }
-        None => result.push_str(text)?,
-    }
-    Ok(result)
-}
 
 /// The status, the output and the error output of `check`.
 pub(super) fn checked(alloc: Global, config: &[u8]) -> (u8, Vec<u8>, Vec<u8>) {
@@ -111,7 +25,7 @@ fn base_tables_and_one_change(rt: HostRuntime) -> Result<(), Fail> {
         ("skew_us = 1000", "skew_us = 16", 1, "no A7 1\n"),
     ];
     for (old, new, want, last) in rows {
-        let config = changed(rt.alloc(), BASE, old, new)?;
+        let config = changed(rt.alloc(), base(), old, new)?;
         let text = format!(in rt.alloc(); "{BASE_PORTS}{last}")?;
         let (status, output, errors) = checked(rt.alloc(), config.as_bytes());
         assert_eq!(rt; status, want, "{new}");
@@ -133,12 +47,12 @@ fn jitter_and_rate(rt: HostRuntime) -> Result<(), Fail> {
         ("jitter_us = 500", "jitter_us = 47", 0, "ok\n"),
     ];
     for (old, new, want, last) in rows {
-        let config = changed(rt.alloc(), BASE, old, new)?;
+        let config = changed(rt.alloc(), base(), old, new)?;
         let (status, output, _) = checked(rt.alloc(), config.as_bytes());
         assert_eq!(rt; status, want, "{new}");
         assert!(rt; ends(output.as_slice(), last), "{new}");
     }
-    let gigabit = changed(rt.alloc(), BASE, "profile = 1", "profile = 2")?;
+    let gigabit = changed(rt.alloc(), base(), "profile = 1", "profile = 2")?;
     let gigabit = changed(
         rt.alloc(),
         gigabit.as_str(),
@@ -166,7 +80,7 @@ fn jitter_and_rate(rt: HostRuntime) -> Result<(), Fail> {
 
 #[test]
 fn a_port_that_its_high_links_fill(rt: HostRuntime) -> Result<(), Fail> {
-    let (front, _) = BASE.split_once("[[link]]\nvl = 2").ok_or("link 2")?;
+    let (front, _) = base().split_once("[[link]]\nvl = 2").ok_or("link 2")?;
     let config = changed(
         rt.alloc(),
         front,
@@ -180,19 +94,23 @@ fn a_port_that_its_high_links_fill(rt: HostRuntime) -> Result<(), Fail> {
     Ok(())
 }
 
-/// The base systems and so many links from the first to the third, each of the longest frames and gap.
-fn long_links(alloc: Global, count: u8) -> Result<String, AllocError> {
+/// The base systems and so many links from the first to the third, each of the longest frames and
+/// gap.
+fn long_links(alloc: Global, count: u8) -> Result<String, Fail> {
     let mut text = String::new(alloc);
-    let (front, _) = match BASE.split_once("[[link]]") {
+    let (front, _) = match base().split_once("[[link]]") {
         Some(parts) => parts,
-        None => (BASE, ""),
+        None => (base(), ""),
     };
     let front = changed(alloc, front, "buffer = 252", "buffer = 65536")?;
     text.push_str(front.as_str())?;
     for vl in 0..count {
         write!(
             text,
-            "[[link]]\nvl = {vl}\nfrom = \"s1\"\nto = [\"s3\"]\nbag_ms = 128\nlmin = 64\nlmax = 1518\njitter_us = 500\npriority = \"high\"\npolicing = \"frame\"\nlatency_us = 100000\nskew_us = 100000\nsubs = 1\n"
+            "\
+                [[link]]\nvl = {vl}\nfrom = \"s1\"\nto = [\"s3\"]\nbag_ms = 128\nlmin = 64\n\
+                lmax = 1518\njitter_us = 500\npriority = \"high\"\npolicing = \"frame\"\n\
+                latency_us = 100000\nskew_us = 100000\nsubs = 1\n"
         )?;
     }
     Ok(text)
@@ -270,7 +188,7 @@ const FAULTS: [(&str, &str, &str); 16] = [
 #[test]
 fn faults_of_a_configuration(rt: HostRuntime) -> Result<(), Fail> {
     for (old, new, line) in FAULTS {
-        let config = changed(rt.alloc(), BASE, old, new)?;
+        let config = changed(rt.alloc(), base(), old, new)?;
         let (status, output, errors) = checked(rt.alloc(), config.as_bytes());
         assert_eq!(rt; status, 1, "{line}");
         assert!(rt; output.is_empty(), "{line}");
@@ -279,38 +197,9 @@ fn faults_of_a_configuration(rt: HostRuntime) -> Result<(), Fail> {
     Ok(())
 }
 
-/// The largest tables: 24 systems, 4,096 links from the first to all others, and 4,096 ports of the second.
-fn largest_tables(alloc: Global) -> Result<String, AllocError> {
-    let mut others = String::new(alloc);
-    let mut text = String::new(alloc);
-    text.push_str("profile = 1\nbuffer = 252\n")?;
-    for place in 1..=24_u8 {
-        if place > 1 {
-            write!(others, "\"s{place}\",")?;
-        }
-        write!(
-            text,
-            "[[system]]\nname = \"s{place}\"\nport = {place}\nid = {place}\npartition = 1\nrate = 100\n"
-        )?;
-    }
-    for vl in 0..4096_u16 {
-        write!(
-            text,
-            "[[link]]\nvl = {vl}\nfrom = \"s1\"\nto = [{others}]\nbag_ms = 1\nlmin = 64\nlmax = 64\njitter_us = 500\npriority = \"high\"\npolicing = \"frame\"\nlatency_us = 17\nskew_us = 1000\nsubs = 2\n"
-        )?;
-    }
-    for vl in 0..4096_u16 {
-        write!(
-            text,
-            "[[port]]\nsystem = \"s2\"\nlink = {vl}\nudp = 1000\nkind = \"sampling\"\ndepth = 1\n"
-        )?;
-    }
-    Ok(text)
-}
-
 #[test]
 fn the_largest_tables(rt: HostRuntime) -> Result<(), Fail> {
-    let config = largest_tables(rt.alloc())?;
+    let config = largest(rt.alloc())?;
     let (status, output, errors) = checked(rt.alloc(), config.as_bytes());
     assert_eq!(rt; status, 1);
     assert!(rt; output.starts_with(b"P 1 0 0 0\nP 2 41287680 - 516096\n"));

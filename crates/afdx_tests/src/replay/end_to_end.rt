@@ -1,37 +1,17 @@
 //! From two senders, through one merged list, to a receiver.
 
-use super::checks::BASE;
-use super::replays::both_spelled;
-use crate::{LineFault, RunFault, Summary, Watched, run, run_send};
-use afdx_admit::{Admitted, admit};
-use afdx_config::{SystemId, read_tables};
+use super::sends::sent;
+use crate::samples::{admitted, base, spelled};
+use afdx_admit::Admitted;
+use afdx_replay::{LineFault, RunFault, Summary, Watched, run};
 use std::alloc::Global;
 use std::test::Fail;
 
-/// The base tables.
-fn tables(alloc: Global) -> Result<Admitted, Fail> {
-    let Ok(tables) = read_tables(alloc, BASE.as_bytes()) else {
-        return Err("tables".into());
-    };
-    match admit(tables) {
-        Ok(tables) => Ok(tables),
-        Err(_) => Err("admission".into()),
-    }
-}
-
-/// What the system at this place writes for a list.
-fn sent(alloc: Global, tables: &Admitted, system: u8, list: &str) -> Result<String, Fail> {
-    if usize::from(system) >= tables.tables().system_count() {
-        return Err("system".into());
-    }
-    let mut input = Watched::new(list.as_bytes());
-    let mut output = Watched::new(Vec::new(alloc));
-    let Ok(_) = run_send(alloc, tables, SystemId(system), &mut input, &mut output) else {
-        return Err("sends".into());
-    };
-    match String::from_utf8(output.into_inner()) {
-        Ok(text) => Ok(text),
-        Err(_) => Err("text".into()),
+/// What the system at this place writes for a list without fault.
+fn sent_well(alloc: Global, tables: &Admitted, system: u8, list: &str) -> Result<String, Fail> {
+    match sent(alloc, tables, system, list)? {
+        (Ok(_), text) => Ok(text),
+        (Err(_), _) => Err("sends".into()),
     }
 }
 
@@ -76,14 +56,14 @@ fn merged(alloc: Global, lists: &[&str]) -> Result<String, Fail> {
 
 #[test]
 fn what_is_taken_is_told_once(rt: HostRuntime) -> Result<(), Fail> {
-    let tables = tables(rt.alloc())?;
+    let tables = admitted(rt.alloc(), base())?;
     // No port of s3 listens to 1001. The sub-VLs of link 1 take turns.
     let first = "0 1 1 1000 61\n0 1 1 1001 62\n0 1 2 1000 63\n0 1 2 1000 64\n0 1 3 1000 65\n";
     let second = "0 2 1 2000 68\n500000 2 1 2000 69\n";
-    let first = sent(rt.alloc(), &tables, 0, first)?;
-    let second = sent(rt.alloc(), &tables, 1, second)?;
+    let first = sent_well(rt.alloc(), &tables, 0, first)?;
+    let second = sent_well(rt.alloc(), &tables, 1, second)?;
     // Frames of link 1 that come at other ports are none of its sender's.
-    let strangers = both_spelled(
+    let strangers = spelled(
         rt.alloc(),
         "F 6720 A 24 H1\nR 6800 B 3 00\nF 2000000 B 24 H1\n",
     )?;
@@ -123,9 +103,9 @@ fn without_b(alloc: Global, text: &str, last: u64) -> Result<String, Fail> {
 
 #[test]
 fn one_network_is_enough(rt: HostRuntime) -> Result<(), Fail> {
-    let tables = tables(rt.alloc())?;
+    let tables = admitted(rt.alloc(), base())?;
     let list = "0 1 1 1000 61\n0 1 1 1001 62\n0 1 2 1000 63\n0 1 2 1000 64\n";
-    let text = sent(rt.alloc(), &tables, 0, list)?;
+    let text = sent_well(rt.alloc(), &tables, 0, list)?;
     let list = without_b(rt.alloc(), text.as_str(), 1_000_000)?;
     assert_eq!(rt; list.lines().count(), 5);
     let (result, text) = replayed(rt.alloc(), &tables, list.as_str())?;
@@ -142,8 +122,8 @@ fn one_network_is_enough(rt: HostRuntime) -> Result<(), Fail> {
 
 #[test]
 fn frames_after_the_last_time_are_no_list(rt: HostRuntime) -> Result<(), Fail> {
-    let tables = tables(rt.alloc())?;
-    let text = sent(rt.alloc(), &tables, 0, "1000000000000000 1 1 1000 61\n")?;
+    let tables = admitted(rt.alloc(), base())?;
+    let text = sent_well(rt.alloc(), &tables, 0, "1000000000000000 1 1 1000 61\n")?;
     assert!(rt; text.as_str().starts_with("R 1000000000006720 A 1 "));
     let (result, _) = replayed(rt.alloc(), &tables, text.as_str())?;
     assert_eq!(rt; result, Err(RunFault::Line(1, LineFault::TimeTooLarge)));

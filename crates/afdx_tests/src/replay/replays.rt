@@ -1,28 +1,9 @@
 //! The worked rows of replays.
 
-use super::checks::{BASE, changed};
-use super::{H1, spelled};
-use crate::{LineFault, RunFault, Summary, Watched, run_unadmitted};
-use afdx_config::read_tables;
+use crate::samples::{base, changed, read, spelled};
+use afdx_replay::{LineFault, RunFault, Summary, Watched, run_unadmitted};
 use std::alloc::{AllocError, Global};
 use std::test::Fail;
-
-/// The frame of link 2 with the message `world`, without its check sequence.
-const H2: &str =
-    "030000000002020000000220080045000021000000000111cce90a000201e0e0000207d007d0000d0000776f726c6400000000000000000000000000";
-
-/// A list with the digits of the frames of the links in the places of `H1` and `H2`.
-pub(super) fn both_spelled(alloc: Global, list: &str) -> Result<String, AllocError> {
-    let list = spelled(alloc, list)?;
-    let mut text = String::new(alloc);
-    for (place, part) in list.as_str().split("H2").enumerate() {
-        if place > 0 {
-            text.push_str(H2)?;
-        }
-        text.push_str(part)?;
-    }
-    Ok(text)
-}
 
 /// What a replay of a list answers and writes, in tables with these values.
 fn replayed(
@@ -32,14 +13,11 @@ fn replayed(
     latency: &str,
     list: &str,
 ) -> Result<(Result<Summary, RunFault>, Vec<u8>), Fail> {
-    let config = changed(alloc, BASE, "profile = 1", profile)?;
+    let config = changed(alloc, base(), "profile = 1", profile)?;
     let config = changed(alloc, config.as_str(), "buffer = 252", buffer)?;
     let config = changed(alloc, config.as_str(), "latency_us = 21", latency)?;
-    let tables = match read_tables(alloc, config.as_bytes()) {
-        Ok(tables) => tables,
-        Err(_) => return Err("tables".into()),
-    };
-    let list = both_spelled(alloc, list)?;
+    let tables = read(alloc, config.as_str())?;
+    let list = spelled(alloc, list)?;
     let mut input = Watched::new(list.as_bytes());
     let mut output = Watched::new(Vec::new(alloc));
     let result = run_unadmitted(alloc, &tables, &mut input, &mut output);
@@ -53,28 +31,36 @@ const WORKED_LISTS: [(&str, &str, &str, &str, &str); 7] = [
         "buffer = 252",
         "latency_us = 21",
         "F 0 A 2 H2\nF 0 A 1 H1\n",
-        "V 1 A accept\nV 2 A accept\nD 2 6720 A 3\nM 6720 s3 1 68656c6c6f\nD 1 13440 A 3\nM 13440 s3 2 776f726c64\n",
+        "\
+            V 1 A accept\nV 2 A accept\nD 2 6720 A 3\nM 6720 s3 1 68656c6c6f\n\
+            D 1 13440 A 3\nM 13440 s3 2 776f726c64\n",
     ),
     (
         "profile = 1",
         "buffer = 252",
         "latency_us = 21",
         "F 0 A 2 H2\nF 1 A 1 H1\n",
-        "V 1 A accept\nV 2 A accept\nD 1 6720 A 3\nM 6720 s3 2 776f726c64\nD 2 13440 A 3\nM 13440 s3 1 68656c6c6f\n",
+        "\
+            V 1 A accept\nV 2 A accept\nD 1 6720 A 3\nM 6720 s3 2 776f726c64\n\
+            D 2 13440 A 3\nM 13440 s3 1 68656c6c6f\n",
     ),
     (
         "profile = 1",
         "buffer = 252",
         "latency_us = 21",
         "F 0 A 1 H1\nF 0 B 1 H1\n",
-        "V 1 A accept\nV 2 B accept\nD 1 6720 A 3\nM 6720 s3 1 68656c6c6f\nD 2 6720 B 3\nX 6720 s3 2 redundant\n",
+        "\
+            V 1 A accept\nV 2 B accept\nD 1 6720 A 3\nM 6720 s3 1 68656c6c6f\nD 2 6720 B 3\n\
+            X 6720 s3 2 redundant\n",
     ),
     (
         "profile = 1",
         "buffer = 64",
         "latency_us = 21",
         "F 0 A 1 H1\nF 0 A 2 H2\nF 1 A 2 H2\n",
-        "V 1 A accept\nV 2 A accept\nL 2 A 3\nV 3 A drop over-rate\nD 1 6720 A 3\nM 6720 s3 1 68656c6c6f\n",
+        "\
+            V 1 A accept\nV 2 A accept\nL 2 A 3\nV 3 A drop over-rate\nD 1 6720 A 3\n\
+            M 6720 s3 1 68656c6c6f\n",
     ),
     (
         "profile = 2",
@@ -88,14 +74,18 @@ const WORKED_LISTS: [(&str, &str, &str, &str, &str); 7] = [
         "buffer = 252",
         "latency_us = 6",
         "F 0 A 1 H1\nF 720 A 2 H2\n",
-        "V 1 A accept\nV 2 A accept\nD 1 6720 A 3\nM 6720 s3 1 68656c6c6f\nD 2 13440 A 3\nM 13440 s3 2 776f726c64\n",
+        "\
+            V 1 A accept\nV 2 A accept\nD 1 6720 A 3\nM 6720 s3 1 68656c6c6f\n\
+            D 2 13440 A 3\nM 13440 s3 2 776f726c64\n",
     ),
     (
         "profile = 2",
         "buffer = 252",
         "latency_us = 6",
         "F 0 A 1 H1\nF 0 A 2 H2\nF 6720 B 1 H1\n",
-        "V 1 A accept\nV 2 A accept\nD 1 6720 A 3\nM 6720 s3 1 68656c6c6f\nV 3 B accept\nT 2 6720 A 3\nD 3 13440 B 3\nX 13440 s3 3 redundant\n",
+        "\
+            V 1 A accept\nV 2 A accept\nD 1 6720 A 3\nM 6720 s3 1 68656c6c6f\nV 3 B accept\n\
+            T 2 6720 A 3\nD 3 13440 B 3\nX 13440 s3 3 redundant\n",
     ),
 ];
 

@@ -1,30 +1,25 @@
 //! The worked rows of a run that sends.
 
-use super::checks::BASE;
-use crate::{RunFault, Summary, Watched, run_send};
-use afdx_admit::admit;
-use afdx_config::{SystemId, read_tables};
+use crate::samples::{admitted, base};
+use afdx_admit::Admitted;
+use afdx_config::SystemId;
+use afdx_replay::{RunFault, Summary, Watched, run_send};
 use std::alloc::{AllocError, Global};
 use std::test::Fail;
 
 /// What a run of the system at this place answers for a list, and what it writes.
-fn sent(
+pub(super) fn sent(
     alloc: Global,
+    tables: &Admitted,
     system: u8,
     list: &str,
 ) -> Result<(Result<Summary, RunFault>, String), Fail> {
-    let Ok(tables) = read_tables(alloc, BASE.as_bytes()) else {
-        return Err("tables".into());
-    };
-    let Ok(tables) = admit(tables) else {
-        return Err("admission".into());
-    };
     if usize::from(system) >= tables.tables().system_count() {
         return Err("system".into());
     }
     let mut input = Watched::new(list.as_bytes());
     let mut output = Watched::new(Vec::new(alloc));
-    let result = run_send(alloc, &tables, SystemId(system), &mut input, &mut output);
+    let result = run_send(alloc, tables, SystemId(system), &mut input, &mut output);
     match String::from_utf8(output.into_inner()) {
         Ok(text) => Ok((result, text)),
         Err(_) => Err("text".into()),
@@ -43,7 +38,8 @@ fn counts(lines: u64, accepted: u64, dropped: u64, departed: u64) -> Summary {
     }
 }
 
-/// The time, the side, the port, and the digits of the payload's first byte and of the sequence byte.
+/// The time, the side, the port, and the digits of the payload's first byte and of the sequence
+/// byte.
 fn parts(line: &str) -> (&str, &str, &str, &str, &str) {
     let mut fields = line.split(' ');
     let (_, time, side, port, digits) = (
@@ -64,8 +60,9 @@ fn parts(line: &str) -> (&str, &str, &str, &str, &str) {
 
 #[test]
 fn messages_are_sent_in_turn(rt: HostRuntime) -> Result<(), Fail> {
+    let tables = admitted(rt.alloc(), base())?;
     let list = "0 1 1 1000 61\n0 1 1 1000 62\n0 1 2 1000 63\n0 1 2 1000 64\n";
-    let (result, text) = sent(rt.alloc(), 0, list)?;
+    let (result, text) = sent(rt.alloc(), &tables, 0, list)?;
     assert_eq!(rt; result, Ok(counts(4, 4, 0, 4)));
     let wanted = [
         ("6720", "A", "1", "61", "00"),
@@ -86,18 +83,19 @@ fn messages_are_sent_in_turn(rt: HostRuntime) -> Result<(), Fail> {
 
 #[test]
 fn wrong_messages_are_written(rt: HostRuntime) -> Result<(), Fail> {
+    let tables = admitted(rt.alloc(), base())?;
     let zeros = "000000000000000000000000000000000000";
     let list = format!(in rt.alloc();
         "0 2 1 1000 00\n0 1 3 1000 00\n0 1 1 1000 -\n0 1 1 1000 {zeros}\n"
     )?;
-    let (result, text) = sent(rt.alloc(), 0, list.as_str())?;
+    let (result, text) = sent(rt.alloc(), &tables, 0, list.as_str())?;
     assert_eq!(rt; result, Ok(counts(4, 0, 4, 0)));
     assert_eq!(rt; text.as_str(), "# 1 S1\n# 2 S2\n# 3 S3\n# 4 S4\n");
     let mut list = String::new(rt.alloc());
     for _ in 0..65 {
         list.push_str("0 1 1 1000 61\n")?;
     }
-    let (result, text) = sent(rt.alloc(), 0, list.as_str())?;
+    let (result, text) = sent(rt.alloc(), &tables, 0, list.as_str())?;
     assert_eq!(rt; result, Ok(counts(65, 64, 1, 64)));
     assert_eq!(rt; text.lines().next(), Some("# 65 S5"));
     assert_eq!(rt; text.lines().count(), 129);

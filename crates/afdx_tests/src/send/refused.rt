@@ -2,20 +2,14 @@
 ghost use Rattle.std.specs.Prelude.{◌≡◌, ℕ, ◌≤◌, IfOk};
 ghost use Rattle.afdx_send.specs.Sender.{IsQuiet, last_time};
 
-use super::{BASE, byte_at, emit};
-use crate::{SendFault, Sender};
+use super::{byte_at, emit};
+use crate::samples::base_tables;
 use afdx_admit::admit;
-use afdx_config::{ConfigFault, SystemId, Tables, read_tables};
+use afdx_config::SystemId;
 use afdx_frame::VlId;
+use afdx_send::{SendFault, Sender};
 use std::alloc::{AllocError, Global};
 use std::test::Fail;
-
-fn base_tables(alloc: Global) -> Result<Tables, ConfigFault> {
-    match read_tables(alloc, BASE.as_bytes()) {
-        Err(ConfigFault::Memory) => read_tables(alloc, BASE.as_bytes()),
-        answer => answer,
-    }
-}
 
 /// The sender of the first system.
 fn base_sender(alloc: Global) -> Result<Sender, Fail>

@@ -2,19 +2,13 @@
 ghost use Rattle.std.specs.Prelude.{◌≡◌, ℕ, IfOk};
 ghost use Rattle.afdx_switch.specs.Switching.{IsQuiet, last_time};
 
-use super::{BASE, HELLO, arrive, is_forwarded, is_still, left};
-use crate::{Switch, Verdict};
-use afdx_config::{ConfigFault, Tables, read_tables};
+use super::{arrive, is_forwarded, is_still, left};
+use crate::samples::{base_tables, hello};
+use afdx_config::Tables;
 use afdx_police::Reason;
+use afdx_switch::{Switch, Verdict};
 use std::alloc::{AllocError, Global};
 use std::test::Fail;
-
-fn base_tables(alloc: Global) -> Result<Tables, ConfigFault> {
-    match read_tables(alloc, BASE.as_bytes()) {
-        Err(ConfigFault::Memory) => read_tables(alloc, BASE.as_bytes()),
-        answer => answer,
-    }
-}
 
 fn base_switch(alloc: Global, tables: &Tables) -> Result<Switch, AllocError>
     ensures quiet { (t : ℕ) → IfOk result (λ w. IsQuiet w t) }
@@ -41,14 +35,17 @@ fn forwarded(verdict: Option<Verdict>) -> Result<bool, AllocError> {
 fn a_refused_arrival_is_neither_charged_nor_forwarded(rt: HostRuntime) -> Result<(), Fail> {
     let tables = base_tables(rt.alloc())?;
     let mut switch = base_switch(rt.alloc(), &tables)?;
-    assert_eq!(rt; forwarded(arrive(&mut switch, 0, 1, 1, &HELLO)), Ok(true));
+    assert_eq!(rt;
+        forwarded(arrive(&mut switch, 0, 1, 1, &hello(0))),
+        Ok(true)
+    );
     assert_eq!(rt; left(&mut switch, 499999), Some((1, 6720, 3, false)));
     assert!(rt; is_still(&mut switch, 499999));
-    let early = answer(arrive(&mut switch, 499999, 1, 2, &HELLO));
+    let early = answer(arrive(&mut switch, 499999, 1, 2, &hello(0)));
     assert_eq!(rt; early, Ok(Verdict::Dropped(Reason::OverRate)));
     assert!(rt; is_still(&mut switch, 500000));
     assert_eq!(rt;
-        forwarded(arrive(&mut switch, 500000, 1, 3, &HELLO)),
+        forwarded(arrive(&mut switch, 500000, 1, 3, &hello(0))),
         Ok(true)
     );
     assert_eq!(rt; left(&mut switch, 1000000), Some((3, 506720, 3, false)));

@@ -2,9 +2,10 @@
 ghost use Rattle.std.specs.Prelude.{◌≤◌};
 ghost use Rattle.afdx_switch.specs.Switching.{IsQuiet, last_time};
 
-use super::{HELLO, SAME, arrive, is_forwarded, tables, why};
-use crate::Switch;
+use super::{arrive, is_forwarded, why};
+use crate::samples::{base_tables, hello};
 use afdx_police::Reason;
+use afdx_switch::Switch;
 use std::test::Fail;
 
 /// The frame of link 1, with a wrong check sequence.
@@ -48,7 +49,7 @@ fn are_dropped_for_it(switch: &mut Switch) -> bool
     let blank = why(arrive(switch, 0, 1, 4, &BLANK));
     let stranger = why(arrive(switch, 0, 1, 5, &STRANGER));
     let longer = why(arrive(switch, 0, 1, 6, &LONGER));
-    let elsewhere = why(arrive(switch, 0, 2, 7, &HELLO));
+    let elsewhere = why(arrive(switch, 0, 2, 7, &hello(0)));
     wrong == Some(Reason::BadFcs)
         && short == Some(Reason::TooShort)
         && long == Some(Reason::TooLong)
@@ -60,12 +61,12 @@ fn are_dropped_for_it(switch: &mut Switch) -> bool
 
 #[test]
 fn one_of_each_verdict(rt: HostRuntime) -> Result<(), Fail> {
-    let tables = tables(rt.alloc(), SAME, SAME)?;
+    let tables = base_tables(rt.alloc())?;
     let mut switch = Switch::new(rt.alloc(), &tables)?;
     assert!(rt; are_dropped_for_it(&mut switch));
     // None of these was charged.
-    assert!(rt; is_forwarded(arrive(&mut switch, 0, 1, 8, &HELLO)));
-    let again = why(arrive(&mut switch, 0, 1, 9, &HELLO));
+    assert!(rt; is_forwarded(arrive(&mut switch, 0, 1, 8, &hello(0))));
+    let again = why(arrive(&mut switch, 0, 1, 9, &hello(0)));
     assert_eq!(rt; again, Some(Reason::OverRate));
     Ok(())
 }

@@ -1,11 +1,11 @@
 //! Messages of all lengths.
 ghost use Rattle.std.specs.Prelude.{◌≤◌};
 
-use super::base_tables;
-use crate::{Handover, Systems};
+use crate::samples::base_tables;
 use afdx_config::Tables;
 use afdx_frame::{Address, Checked, Side, VlId, build};
 use afdx_lists::Text;
+use afdx_systems::{Handover, Systems};
 use std::alloc::{AllocError, Global};
 use std::test::Fail;
 

@@ -1,6 +1,6 @@
 use Rattle.std.proofs.Common.{◌≤◌}
 use Rattle.afdx_send.specs.Sender.{last_time, frames_held}
-use Rattle.afdx_send.proofs.tests.drain.Given as goal
+use Rattle.afdx_tests.proofs.send.drain.Given as goal
 
 abbrev pub invariant-loop-emissions : goal.invariant-loop-emissions
 invariant-loop-emissions l = last_time l.sender ≤ l.fn.until

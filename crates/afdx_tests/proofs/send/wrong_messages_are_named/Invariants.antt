@@ -1,6 +1,6 @@
 use Rattle.std.proofs.Common.{◌≡◌}
 use Rattle.afdx_send.specs.Sender.{last_time}
-use Rattle.afdx_send.proofs.tests.wrong_messages_are_named.Given as goal
+use Rattle.afdx_tests.proofs.send.wrong_messages_are_named.Given as goal
 
 abbrev pub invariant-loop-vl : goal.invariant-loop-vl
 invariant-loop-vl o l = last_time l.sender ≡ 0
