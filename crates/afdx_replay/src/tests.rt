@@ -1,4 +1,4 @@
-//! The worked rows of policing by a run, and what the other tests share.
+//! The worked rows of policing by a run, and a run on weak devices.
 
 mod checks;
 mod end_to_end;
