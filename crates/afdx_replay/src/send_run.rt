@@ -1,5 +1,5 @@
 //! A run that sends the messages of a list.
-ghost use Rattle.std.specs.Prelude.{◌≡◌, ◌<◌, ◌≤◌, ◌+◌, ◌^◌, ◌⊎◌, ◌++◌, ◌∷◌, ℕ, List, Option, Some, IfOk, IfErr, IfSome, OnOk, OnErr, length, slice_get, true, false};
+ghost use Rattle.std.specs.Prelude.{◌≡◌, ◌<◌, ◌≤◌, ◌+◌, ◌^◌, ◌⊎◌, ◌↔◌, ◌++◌, ◌∷◌, ℕ, List, Option, Some, IfOk, IfErr, IfSome, IsTrue, OnOk, OnErr, length, slice_get, true, false};
 ghost use Rattle.afdx_frame.specs.Times.{latest_listed};
 ghost use Rattle.afdx_lists.specs.Lines.{most_lines, most_reads};
 ghost use Rattle.afdx_config.specs.Rows.{SystemRow};
@@ -60,7 +60,7 @@ fn put_emission(text: &mut Text, port: u8, emission: &Emission) -> Result<(), Al
 
 /// Whether it isn't the message that was refused, but memory.
 fn is_memory(fault: SendFault) -> bool
-    ensures { result ≡ false → fault ≡ SendFault.Memory → ⊥ }
+    ensures { IsTrue result ↔ (fault ≡ SendFault.Memory) }
 {
     match fault {
         SendFault::Memory => true,

@@ -28,7 +28,7 @@ use Rattle.afdx_send.specs.Regulator.{next_time_of, sub_count, first_time}
 use Rattle.afdx_send.specs.Releases.{Submission, Release, has_release, IsUnreleased, AreReleases}
 use Rattle.afdx_send.specs.Releases.{count_without, earliest_after}
 use Rattle.afdx_send.specs.Sender.{SenderHistory, with_submission, submission, nexts_of, HoldsMore}
-use Rattle.afdx_send.specs.Sender.{HoldsSame, IsIdle, IsPlaceOf, IsRefused, IsTaken, StandsFor}
+use Rattle.afdx_send.specs.Sender.{HoldsSame, IsIdle, IsPlaceOf, IsRefused, LinkAdmits, StandsFor}
 use Rattle.afdx_send.specs.Sender.{AreUnreleased}
 use Rattle.afdx_send.proofs.LineLemmas.{Takes, line_takes}
 use Rattle.afdx_send.proofs.OwnLemmas.{own_set, own_before, all_stay, before_longer, eqb-same}
@@ -465,19 +465,18 @@ refuses w h st place vl (suc index) n line QueueFull idle p has r =
     )
 refuses w h st place vl sub n line Memory idle p has r = absurd r
 
--- what a line admits is taken
-pub taken : (w : Working) (h : SenderHistory) (st : StandsFor w h) (place vl sub : ℕ) (m : Submission)
+-- what a line admits its link admits
+pub admits : (w : Working) (h : SenderHistory) (st : StandsFor w h) (place vl sub n : ℕ)
     (line : Line) → IsIdle w → IsPlaceOf h.links vl (Some place) → slice_get w.lines.items place
-    ≡ Some line →
-    m.time ≡ w.clock → m.sub ≡ sub → LineAdmits line sub (length m.message.payload) → IsTaken h place vl m
-taken w h st place vl zero m line idle p has time is a = absurd (let b = a.is_sub.0 in omega arith)
-taken w h st place vl (suc index) m line idle p has time is a =
+    ≡ Some line → LineAdmits line sub n → LinkAdmits h w.clock place vl sub n
+admits w h st place vl zero n line idle p has a = absurd (let b = a.is_sub.0 in omega arith)
+admits w h st place vl (suc index) n line idle p has a =
     let ls = st.lines place line p.0 has p.1 in
     let subs = ls.is_line.subs in
     let long = ls.is_line.longest in
     let q = queue_at line index (let b = a.is_sub.1 in omega arith) in
     let u = unreleased w h st place index line p.0 q.0 idle ls q.1 in
-    let at : index + 1 ≡ m.sub = omega arith in
+    let at : index + 1 ≡ suc index = omega arith in
     record {
       row = p.0;
       link = (p.1, p.2);
@@ -485,8 +484,7 @@ taken w h st place vl (suc index) m line idle p has time is a =
       some = a.some;
       fits = (let b = a.fits in omega arith);
       count = length q.0;
-      unreleased = subst (λ (t : ℕ). AreUnreleased h t place m.sub (length q.0)) (sym time)
-          (subst (λ (z : ℕ). AreUnreleased h w.clock place z (length q.0)) at u);
+      unreleased = subst (λ (z : ℕ). AreUnreleased h w.clock place z (length q.0)) at u;
       room = a.room index q.0 (omega arith) q.1;
     }
 

@@ -238,6 +238,35 @@ no_more w h law st idle s n =
           (next_longer b (entries_of n.released) m.more h.emitted s order ours n.next))))
     ]
 
+-- what is ready left the port in the slot of the next emission
+pub record LeftNext (h : SenderHistory) (until : ℕ) (left : Left Frame) (given : List (Turn Frame)) :
+    Type 0 where
+  pub slot : Turn Frame
+  pub next : IsNextIn h slot
+  pub in_time : slot.end ≤ until
+  pub given_is : given ≡ slot ∷ h.emitted
+  pub left_is : left ≡ port.left_of slot
+
+pub left_next : (w : Working) (h : SenderHistory) (until : ℕ) (left : Left Frame)
+    → (st : StandsFor w (at h until)) → w.ready ≡ Some left →
+    ((p : Pending Frame) (hp : port.PortHistory Frame) → port.StandsFor facts p hp
+    → AreTurns hp.byte_ns hp.entries hp.taken) → LeftNext h until left st.given
+left_next w h until left st ready law =
+    let g : HasGiven (Some left) h.emitted st.given =
+    subst (λ (o : Option (Left Frame)). HasGiven o h.emitted st.given) ready st.has_given in
+    let are = law w.output (port_history h st.released st.given w.output.clock) st.output in
+    let are' : AreTurns (byte_ns h.system) (entries_of st.released) (g.0 ∷ h.emitted) =
+    subst (λ (z : List (Turn Frame)). AreTurns (byte_ns h.system) (entries_of st.released) z)
+    g.1 are in
+    let end : left.end ≡ g.0.end = ap (λ z. z.end) g.2 in
+    record {
+      slot = g.0;
+      next = record { released = st.released; are_releases = st.are_releases; next = are'.0 };
+      in_time = (let le = st.in_time left ready in let p = st.port_clock in omega arith);
+      given_is = g.1;
+      left_is = g.2;
+    }
+
 -- what is ready is the next emission
 pub emits : (w : Working) (h : SenderHistory) (until : ℕ) (left : Left Frame) (e : Emission)
     → StandsFor w (at h until) → w.ready ≡ Some left →
@@ -250,20 +279,15 @@ pub emits : (w : Working) (h : SenderHistory) (until : ℕ) (left : Left Frame) 
     left.item.message.payload →
     IsSending w.system_id w.partition left.end left.item (sending_of e) → Emits h until e (record w { ready = None })
 emits w h until left e st ready law time vl a b sending =
-    let g : HasGiven (Some left) h.emitted st.given =
-    subst (λ (o : Option (Left Frame)). HasGiven o h.emitted st.given) ready st.has_given in
-    let are = law w.output (port_history h st.released st.given w.output.clock) st.output in
-    let are' : AreTurns (byte_ns h.system) (entries_of st.released) (g.0 ∷ h.emitted) =
-    subst (λ (z : List (Turn Frame)). AreTurns (byte_ns h.system) (entries_of st.released) z)
-    g.1 are in
-    let item : left.item ≡ g.0.entry.item = ap (λ z. z.item) g.2 in
-    let end : left.end ≡ g.0.end = ap (λ z. z.end) g.2 in
+    let g = left_next w h until left st ready law in
+    let item : left.item ≡ g.slot.entry.item = ap (λ z. z.item) g.left_is in
+    let end : left.end ≡ g.slot.end = ap (λ z. z.end) g.left_is in
     let F : Side → ℕ → ℕ → Frame
     → List ℕ = λ side i q s. built_frame (address_with i q s) s.number side s.message.payload in
     record {
-      slot = g.0;
-      next = record { released = st.released; are_releases = st.are_releases; next = are'.0 };
-      in_time = (let le = st.in_time left ready in let p = st.port_clock in omega arith);
+      slot = g.slot;
+      next = g.next;
+      in_time = g.in_time;
       time = time ∙ end;
       vl = vl ∙ ap (λ z. z.vl) item;
       a = a ∙ ap (λ i. F A i w.partition left.item) st.system_id
@@ -272,10 +296,10 @@ emits w h until left e st ready law time vl a b sending =
       b = b ∙ ap (λ i. F B i w.partition left.item) st.system_id
           ∙ ap (λ q. F B h.system.id q left.item) st.partition
           ∙ ap (λ s. F B h.system.id h.system.partition s) item;
-      sending = subst (λ (i : ℕ). IsSending i h.system.partition g.0.end g.0.entry.item
+      sending = subst (λ (i : ℕ). IsSending i h.system.partition g.slot.end g.slot.entry.item
           (sending_of e)) st.system_id (subst
-          (λ (q : ℕ). IsSending w.system_id q g.0.end g.0.entry.item (sending_of e)) st.partition
-          (subst (λ (t : ℕ). IsSending w.system_id w.partition t g.0.entry.item (sending_of e)) end
+          (λ (q : ℕ). IsSending w.system_id q g.slot.end g.slot.entry.item (sending_of e)) st.partition
+          (subst (λ (t : ℕ). IsSending w.system_id w.partition t g.slot.entry.item (sending_of e)) end
           (subst (λ (s : Frame). IsSending w.system_id w.partition left.end s (sending_of e))
           item sending)));
       stands = record {
@@ -296,7 +320,7 @@ emits w h until left e st ready law time vl a b sending =
         agenda = st.agenda;
         agenda_count = st.agenda_count;
         given = st.given;
-        has_given = g.1;
+        has_given = g.given_is;
         in_time = λ l k. absurd (cc k);
         output = st.output;
         timely = st.timely;

@@ -14,7 +14,7 @@ use Rattle.afdx_send.specs.Emissions.{entries_of}
 use Rattle.afdx_send.specs.Frames.{Frame, facts}
 use Rattle.afdx_send.specs.Releases.{Submission}
 use Rattle.afdx_send.specs.Sender.{SenderHistory, at, with_submission, HasGiven, IsNextIn, IsQuiet}
-use Rattle.afdx_send.specs.Sender.{IsIdle, IsSenderSound, IsTaken, IsRefused, StandsFor, port_history}
+use Rattle.afdx_send.specs.Sender.{IsIdle, IsSenderSound, LinkAdmits, IsRefused, StandsFor, port_history}
 use Rattle.afdx_send.proofs.EmitLemmas.{QuietIsNext, no_more}
 
 -- where no emission is left, none is ready
@@ -44,9 +44,10 @@ pub sound_by : {A : Type 0} (r : Result A SendFault) (new : Working) (h : Sender
 sound_by (Ok x) new h P s ok err = (with_submission h ok.0 s, ok.2)
 sound_by (Err e) new h P s ok err = (h, err)
 
--- time doesn't matter for what is taken and refused
-pub taken_at : (h : SenderHistory) (t place vl : ℕ) (m : Submission) → IsTaken (at h t) place vl m → IsTaken h place vl m
-taken_at h t place vl m k =
+-- time doesn't matter for what is admitted and refused
+pub admits_at : (h : SenderHistory) (t u place vl sub n : ℕ) → LinkAdmits (at h t) u place vl sub n
+    → LinkAdmits h u place vl sub n
+admits_at h t u place vl sub n k =
     record {
       row = k.row;
       link = k.link;
@@ -65,7 +66,7 @@ refused_at h t u vl sub n NoSuchSub k = k
 refused_at h t u vl sub n Empty k = k
 refused_at h t u vl sub n TooLarge k = k
 refused_at h t u vl sub n QueueFull k = k
-refused_at h t u vl sub n Memory k = k
+refused_at h t u vl sub n Memory k = (k.0, admits_at h t u k.0 vl sub n k.1)
 
 pub map_err : {A E : Type 0} (r : Result A E) (P Q : E → Type 0) → ((e : E) → P e → Q e) → IfErr r P → IfErr r Q
 map_err (Ok x) P Q f h = search

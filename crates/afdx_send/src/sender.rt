@@ -71,7 +71,7 @@ impl Sender {
     ///
     /// `time`, in ns, isn't before the last time used and is at most 10^15, and no emission that
     /// ends at or before it is left to be taken. A refused message changes nothing but the last
-    /// time used.
+    /// time used. Memory is wanted only for a message that its link admits.
     pub fn submit(
         &mut self,
         time: u64,
@@ -104,7 +104,8 @@ impl Sender {
     /// emitted.
     ///
     /// What each link has emitted is a lawful stream of the beginning of its sent list.
-    /// The error says that memory was refused; then the emission is left to be taken again.
+    /// The error says that memory was refused for an emission that ends by then, and is left to be
+    /// taken again.
     pub fn emit(&mut self, until: u64) -> Result<Option<Emission>, AllocError>
         requires clock { last_time self.old ≤ until }
         ensures given { (h : SenderHistory) → StandsFor self.old h →
@@ -116,6 +117,8 @@ impl Sender {
             IfOk result (λ o. IfNone o (until < s.end)) }
         ensures all_done { (h : SenderHistory) → StandsFor self.old h → drain_end ≤ until →
             IfOk result (λ o. IfNone o (AreAllEmitted h)) }
+        ensures due { (h : SenderHistory) → StandsFor self.old h →
+            OnErr result ((s : Turn Frame) × IsNextIn h s × (s.end ≤ until)) }
         ensures again { (h : SenderHistory) → StandsFor self.old h →
             OnErr result (StandsFor self.new (at h until)) }
         ensures quiet { IfOk result (λ o. IfNone o (IsQuiet self.new until)) }

@@ -195,6 +195,8 @@ impl Working {
             IfOk result (λ o. IfNone o (until < s.end)) }
         ensures all_done { (h : SenderHistory) → StandsFor self.old h → drain_end ≤ until →
             IfOk result (λ o. IfNone o (AreAllEmitted h)) }
+        ensures due { (h : SenderHistory) → StandsFor self.old h →
+            OnErr result ((s : Turn Frame) × IsNextIn h s × (s.end ≤ until)) }
         ensures again { (h : SenderHistory) → StandsFor self.old h →
             OnErr result (StandsFor self.new (at h until)) }
         ensures quiet { IfOk result (λ o. IfNone o (IsQuiet self.new until)) }

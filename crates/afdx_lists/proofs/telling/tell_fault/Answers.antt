@@ -6,8 +6,8 @@ pub returns : goal.returns
 unfolding fault_line
 returns g c =
     let contents = g.W.Write.contents in
-    let words = Tells-more contents _ _ _ _ _ (rw c.as_bytes.ensures.value at c.tell.ensures.told)
-    (rw c.as_bytes-2.ensures.value at c.tell-2.ensures.told) c.tell-2.ensures.unasked in
-    let text = Tells-more contents _ _ _ _ _ words c.tell_number.ensures.told c.tell_number.ensures.unasked in
-    let line = Tells-more contents _ _ _ _ _ text c.tell-3.ensures.told c.tell-3.ensures.unasked in
+    let words = Tells-more contents _ _ _ _ _ (rw c.as_bytes.ensures.value at c.tell.ensures)
+    (rw c.as_bytes-2.ensures.value at c.tell-2.ensures) in
+    let text = Tells-more contents _ _ _ _ _ words c.tell_number.ensures in
+    let line = Tells-more contents _ _ _ _ _ text c.tell-3.ensures in
     rw c.parts-number.ensures at line

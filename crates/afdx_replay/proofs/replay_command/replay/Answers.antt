@@ -15,6 +15,7 @@ returns-in-Ok-admit-clause-replays g c = inl (
     status_is = c.end-in-Ok-admit.ensures.status;
     summary_is = c.end-in-Ok-admit.ensures.summary;
     told = c.end-in-Ok-admit.ensures.told;
+    silent = c.end-in-Ok-admit.ensures.silent;
     ended = c.run-answer.ensures.ended;
     read = c.run-answer.ensures.read;
     write = c.run-answer.ensures.write;

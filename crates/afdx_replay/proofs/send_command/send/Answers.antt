@@ -27,6 +27,7 @@ returns-in-Ok-admit-clause-sends g c =
         status_is = c.end.ensures.status;
         summary_is = c.end.ensures.summary;
         told = c.end.ensures.told;
+        silent = c.end.ensures.silent;
         ended = c.run_send-answer.ensures.ended;
         read = c.run_send-answer.ensures.read;
         write = c.run_send-answer.ensures.write;

@@ -15,4 +15,4 @@ returns-else-is_memory-clause-told c s before n stands counted =
     tells-refused s c.args.self.now.sender _ _ _ before
     (handed_at n c.args.handed.now c.args.payload.now) (last_time c.args.self.now.sender) _
     (c.in-Err.ensures.unchanged _ stands)
-    (c.is_memory.ensures c.if-is_memory.false) (c.in-Err.ensures.refused _ stands) counted refl
+    (λ is. cc (c.is_memory.ensures.1 is, c.if-is_memory.false)) (c.in-Err.ensures.refused _ stands) counted refl

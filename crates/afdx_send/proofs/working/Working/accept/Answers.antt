@@ -1,10 +1,10 @@
-use Rattle.std.proofs.Common.{arith, ap, ◌∙◌, subst, ◌≡◌, ◌+◌, ◌-◌, length, refl}
+use Rattle.std.proofs.Common.{arith, ap, ◌∙◌, subst, ◌≡◌, ◌+◌, ◌-◌, length}
 use Rattle.afdx_send.specs.declared.line.Line.{Line}
 use Rattle.afdx_send.specs.Lines.{CanTake}
 use Rattle.afdx_send.specs.Regulator.{submission_of}
 use Rattle.afdx_send.specs.Releases.{Submission}
 use Rattle.afdx_send.specs.Sender.{StandsFor, submission, with_submission}
-use Rattle.afdx_send.proofs.AddLemmas.{refuses, taken, place_below, submission_is, can_take}
+use Rattle.afdx_send.proofs.AddLemmas.{refuses, admits, place_below, submission_is, can_take}
 use Rattle.afdx_send.proofs.StandLemmas.{read_at, same_get}
 use Rattle.afdx_send.proofs.working.Working.accept.Goals as goal
 
@@ -24,6 +24,30 @@ returns-in-Err-clause-refused c = λ h st.
     refuses w h st c.in-Some.place c.args.vl.0 c.args.sub (length c.args.payload.now)
     c.index.result.now c.in-Err.fault c.requires.idle p has c.in-Err.ensures.err
 
+pub returns-in_default-from_slice-clause-refused :
+    goal.returns-in_default-from_slice-clause-refused
+returns-in_default-from_slice-clause-refused c = λ h st.
+    let w = c.args.self.now in
+    let p = c.in-Some.ensures h st in
+    let has = read_at w.lines.items c.in-Some.place c.index.result.now
+    (place_below w h c.args.vl.0 c.in-Some.place st p) c.index.ensures in (
+      c.in-Some.place,
+      admits w h st c.in-Some.place c.args.vl.0 c.args.sub (length c.args.payload.now)
+          c.index.result.now c.requires.idle p has c.in_default-check.ensures.ok,
+    )
+
+pub returns-in-Err-add-clause-refused :
+    goal.returns-in-Err-add-clause-refused
+returns-in-Err-add-clause-refused c = λ h st.
+    let w = c.args.self.now in
+    let p = c.in-Some.ensures h st in
+    let has = read_at w.lines.items c.in-Some.place c.index.result.now
+    (place_below w h c.args.vl.0 c.in-Some.place st p) c.index.ensures in (
+      c.in-Some.place,
+      admits w h st c.in-Some.place c.args.vl.0 c.args.sub (length c.args.payload.now)
+          c.index.result.now c.requires.idle p has c.in_default-check.ensures.ok,
+    )
+
 pub add-requires-clause-place : goal.add-requires-clause-place
 add-requires-clause-place c =
     let w = c.args.self.now in let h = c.requires.sound.0 in let st = c.requires.sound.1 in
@@ -35,15 +59,15 @@ add-requires-clause-queue c = λ line has.
     let has' = read_at w.lines.items c.in-Some.place c.index.result.now
     (place_below w h c.args.vl.0 c.in-Some.place st (c.in-Some.ensures h st)) c.index.ensures in
     let same = same_get w.lines.items c.in-Some.place c.index.result.now line has' has in
-    let admits = c.in_default-check.ensures.ok in
+    let lets = c.in_default-check.ensures.ok in
     let from : c.from.result ≡ c.args.sub = c.from.ensures in
-    let some = admits.is_sub.0 in
+    let some = lets.is_sub.0 in
     let at : c.from.result - 1 + 1 ≡ c.args.sub = omega arith in
     let n : length c.new-message.result.payload.items ≡ length c.args.payload.now =
     ap (λ v. length v.items) c.new-message.ensures.payload ∙ ap length c.in-Ok.ensures.items in
     subst (λ (z : Line). CanTake z (c.from.result - 1) c.new-message.result) same
     (can_take c.index.result.now (c.from.result - 1) c.args.sub c.new-message.result
-    (length c.args.payload.now) admits at n)
+    (length c.args.payload.now) lets at n)
 
 pub returns-in-Ok-add-clause-ok : goal.returns-in-Ok-add-clause-ok
 returns-in-Ok-add-clause-ok c = λ h st.
@@ -51,9 +75,9 @@ returns-in-Ok-add-clause-ok c = λ h st.
     let p = c.in-Some.ensures h st in
     let has = read_at w.lines.items c.in-Some.place c.index.result.now
     (place_below w h c.args.vl.0 c.in-Some.place st p) c.index.ensures in
-    let admits = c.in_default-check.ensures.ok in
+    let lets = c.in_default-check.ensures.ok in
     let from : c.from.result ≡ c.args.sub = c.from.ensures in
-    let some = admits.is_sub.0 in
+    let some = lets.is_sub.0 in
     let at : c.from.result - 1 + 1 ≡ c.args.sub = omega arith in
     let m : Submission = submission w.clock c.args.sub c.args.udp c.args.payload.now in
     let same : submission_of (c.from.result - 1 + 1) c.new-message.result ≡ m =
@@ -62,7 +86,7 @@ returns-in-Ok-add-clause-ok c = λ h st.
     c.new-message.ensures.time c.new-message.ensures.udp
     (ap (λ v. v.items) c.new-message.ensures.payload ∙ c.in-Ok.ensures.items) in (
       c.in-Some.place,
-      taken w h st c.in-Some.place c.args.vl.0 c.args.sub m c.index.result.now c.requires.idle p has refl refl admits,
+      admits w h st c.in-Some.place c.args.vl.0 c.args.sub (length c.args.payload.now) c.index.result.now c.requires.idle p has lets,
       subst (λ (z : Submission). StandsFor c.add.new.self (with_submission h c.in-Some.place z))
           same (c.in-Ok-add.ensures.ok h st),
     )

@@ -2,7 +2,7 @@ use Rattle.std.proofs.Common.{sym, ◌∙◌, subst, Option, ◌≡◌, ◌<◌,
 use Rattle.afdx_port.specs.declared.left.Left.{Left}
 use Rattle.afdx_send.specs.Frames.{Frame}
 use Rattle.afdx_send.specs.Sender.{at, with_emission, StandsFor, Emits}
-use Rattle.afdx_send.proofs.EmitLemmas.{emits, no_more}
+use Rattle.afdx_send.proofs.EmitLemmas.{emits, left_next, no_more}
 use Rattle.afdx_send.proofs.working.Working.emit.Goals as goal
 
 pub returns-in_default-clause-sound : goal.returns-in_default-clause-sound
@@ -71,3 +71,9 @@ returns-in-Err-clause-sound c =
 pub returns-in_default-clause-all_done : goal.returns-in_default-clause-all_done
 returns-in_default-clause-all_done c =
     λ h st late. c.prepare.ensures.done h st late (sym c.take.ensures.value ∙ c.in_default.is)
+
+pub returns-in-Err-clause-due : goal.returns-in-Err-clause-due
+returns-in-Err-clause-due c = λ h st.
+    let n = left_next c.prepare.new.self h c.args.until c.in-Some.left (c.prepare.ensures.stands h st)
+    (sym c.take.ensures.value ∙ c.in-Some.is) c.taken_are_on_schedule.ensures.turns in
+    (n.slot, n.next, n.in_time)

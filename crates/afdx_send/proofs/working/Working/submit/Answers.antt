@@ -1,6 +1,6 @@
 use Rattle.std.proofs.Common.{◌∙◌, subst, length, ℕ, OnOk}
 use Rattle.afdx_send.specs.Sender.{at, StandsFor, IsTaken, IsRefused, submission, with_submission}
-use Rattle.afdx_send.proofs.SubmitLemmas.{none_ready, sound_by, taken_at, refused_at, map_err}
+use Rattle.afdx_send.proofs.SubmitLemmas.{none_ready, sound_by, admits_at, refused_at, map_err}
 use Rattle.afdx_send.proofs.SubmitLemmas.{map_ok, still_quiet, map_on_err}
 use Rattle.afdx_send.proofs.working.Working.submit.Goals as goal
 
@@ -36,8 +36,7 @@ returns-clause-ok c = λ h st.
     map_ok c.accept.result _ _
     (λ k. (
       k.0,
-      taken_at h c.args.time k.0 c.args.vl.0
-          (submission c.args.time c.args.sub c.args.udp c.args.payload.now) k.1,
+      admits_at h c.args.time c.args.time k.0 c.args.vl.0 c.args.sub (length c.args.payload.now) k.1,
       k.2,
     )) ok
 
