@@ -17,7 +17,7 @@ use Rattle.afdx_lists.specs.Lines.{lines_of}
 use Rattle.afdx_lists.specs.declared.fault.RunFault.{RunFault}
 use Rattle.afdx_promises.specs.Sent.{sent_in}
 use Rattle.afdx_send.specs.Releases as send
-use Rattle.afdx_send.specs.Sender.{StandsFor, Emits, IsTaken, IsRefused, LinkAdmits, AreAllEmitted, no_calls}
+use Rattle.afdx_send.specs.Sender.{StandsFor, Emits, IsTaken, IsRefused, LinkTakes, AreAllEmitted, no_calls}
 use Rattle.afdx_send.specs.Sender.{at, with_submission, with_emission, sending_of, last_time}
 use Rattle.afdx_send.specs.declared.fault.SendFault.{SendFault}
 use Rattle.afdx_send.specs.declared.fault.SendFault.TheVariants.{NotMyLink, NoSuchSub, Empty}
@@ -141,10 +141,10 @@ calls-taken s w before x time place l distinct h e stands =
     place l distinct h e)) stands
 
 -- the time of the last call says nothing of what is admitted and what is refused
-pub admits-at : (s : Source) (before : List Event) (time later t place vl sub n : ℕ)
-    → LinkAdmits (calls_in s.row s.links before time) t place vl sub n
-    → LinkAdmits (calls_in s.row s.links before later) t place vl sub n
-admits-at s before time later t place vl sub n k =
+pub takes-at : (s : Source) (before : List Event) (time later t place vl sub n : ℕ)
+    → LinkTakes (calls_in s.row s.links before time) t place vl sub n
+    → LinkTakes (calls_in s.row s.links before later) t place vl sub n
+takes-at s before time later t place vl sub n k =
     record {
       row = k.row;
       link = k.link;
@@ -164,7 +164,7 @@ refused-at s before time later t vl sub n NoSuchSub h = h
 refused-at s before time later t vl sub n Empty h = h
 refused-at s before time later t vl sub n TooLarge h = h
 refused-at s before time later t vl sub n QueueFull h = h
-refused-at s before time later t vl sub n Memory h = (h.0, admits-at s before time later t h.0 vl sub n h.1)
+refused-at s before time later t vl sub n Memory h = (h.0, takes-at s before time later t h.0 vl sub n h.1)
 
 pub tells-taken : (s : Source) (w after : Working) (counts counts_after : Summary)
     (before : List Event) (x : Handed) (time place : ℕ)
@@ -177,7 +177,7 @@ tells-taken s w after counts counts_after before x time place st k stands counte
   stands = calls-taken s after before x time place k.row st.are_sent.distinct k.link.0 k.link.1 stands;
   answered = (
     place,
-    admits-at s before time x.submission.time x.submission.time place x.submission.vl
+    takes-at s before time x.submission.time x.submission.time place x.submission.vl
         x.submission.sub (length x.submission.payload) k,
   );
   counted = more ∙ ap one_taken counted ∙ sym (counts-more (Submitted x None) before);

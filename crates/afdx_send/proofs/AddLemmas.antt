@@ -28,7 +28,7 @@ use Rattle.afdx_send.specs.Regulator.{next_time_of, sub_count, first_time}
 use Rattle.afdx_send.specs.Releases.{Submission, Release, has_release, IsUnreleased, AreReleases}
 use Rattle.afdx_send.specs.Releases.{count_without, earliest_after}
 use Rattle.afdx_send.specs.Sender.{SenderHistory, with_submission, submission, nexts_of, HoldsMore}
-use Rattle.afdx_send.specs.Sender.{HoldsSame, IsIdle, IsPlaceOf, IsRefused, LinkAdmits, StandsFor}
+use Rattle.afdx_send.specs.Sender.{HoldsSame, IsIdle, IsPlaceOf, IsRefused, LinkTakes, StandsFor}
 use Rattle.afdx_send.specs.Sender.{AreUnreleased}
 use Rattle.afdx_send.proofs.LineLemmas.{Takes, line_takes}
 use Rattle.afdx_send.proofs.OwnLemmas.{own_set, own_before, all_stay, before_longer, eqb-same}
@@ -468,7 +468,7 @@ refuses w h st place vl sub n line Memory idle p has r = absurd r
 -- what a line admits its link admits
 pub admits : (w : Working) (h : SenderHistory) (st : StandsFor w h) (place vl sub n : ℕ)
     (line : Line) → IsIdle w → IsPlaceOf h.links vl (Some place) → slice_get w.lines.items place
-    ≡ Some line → LineAdmits line sub n → LinkAdmits h w.clock place vl sub n
+    ≡ Some line → LineAdmits line sub n → LinkTakes h w.clock place vl sub n
 admits w h st place vl zero n line idle p has a = absurd (let b = a.is_sub.0 in omega arith)
 admits w h st place vl (suc index) n line idle p has a =
     let ls = st.lines place line p.0 has p.1 in

@@ -14,7 +14,7 @@ use Rattle.afdx_send.specs.Emissions.{entries_of}
 use Rattle.afdx_send.specs.Frames.{Frame, facts}
 use Rattle.afdx_send.specs.Releases.{Submission}
 use Rattle.afdx_send.specs.Sender.{SenderHistory, at, with_submission, HasGiven, IsNextIn, IsQuiet}
-use Rattle.afdx_send.specs.Sender.{IsIdle, IsSenderSound, LinkAdmits, IsRefused, StandsFor, port_history}
+use Rattle.afdx_send.specs.Sender.{IsIdle, IsSenderSound, LinkTakes, IsRefused, StandsFor, port_history}
 use Rattle.afdx_send.proofs.EmitLemmas.{QuietIsNext, no_more}
 
 -- where no emission is left, none is ready
@@ -45,8 +45,8 @@ sound_by (Ok x) new h P s ok err = (with_submission h ok.0 s, ok.2)
 sound_by (Err e) new h P s ok err = (h, err)
 
 -- time doesn't matter for what is admitted and refused
-pub admits_at : (h : SenderHistory) (t u place vl sub n : ℕ) → LinkAdmits (at h t) u place vl sub n
-    → LinkAdmits h u place vl sub n
+pub admits_at : (h : SenderHistory) (t u place vl sub n : ℕ) → LinkTakes (at h t) u place vl sub n
+    → LinkTakes h u place vl sub n
 admits_at h t u place vl sub n k =
     record {
       row = k.row;

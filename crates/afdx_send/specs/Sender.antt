@@ -239,8 +239,8 @@ AreUnreleased h t place sub n = (released : List LinkRelease)
     × AreReleasedBefore h.links h.taken t released ×
     (count_without (own place released) sub 0 (own_submissions h.taken place) ≡ n)
 
--- the link at this place, with this identifier, admits a message of n bytes for its sub-VL s at t
-pub record LinkAdmits (h : SenderHistory) (t place vl s n : ℕ) : Type 0 where
+-- the link at this place, with this identifier, takes a message of n bytes for its sub-VL s at t
+pub record LinkTakes (h : SenderHistory) (t place vl s n : ℕ) : Type 0 where
   pub row : LinkRow
   pub link : HasLink h vl place row
   pub sub : IsSub row s
@@ -251,7 +251,7 @@ pub record LinkAdmits (h : SenderHistory) (t place vl s n : ℕ) : Type 0 where
   pub room : count < queue_limit
 
 -- why a message of n bytes isn't taken at t: the first of these that is true. Memory is wanted only
--- for a message that a link admits
+-- for a message that a link takes
 abbrev pub IsRefused : SenderHistory → ℕ → ℕ → ℕ → ℕ → SendFault → Type 0
 IsRefused h t vl sub n NotMyLink = (i : ℕ) (l : LinkRow) → slice_get h.links i ≡ Some l →
     l.vl ≡ vl → ⊥
@@ -263,8 +263,8 @@ IsRefused h t vl sub n TooLarge = (i : ℕ) × (l : LinkRow) × HasLink h vl i l
 IsRefused h t vl sub n QueueFull = (i : ℕ) × (l : LinkRow) × HasLink h vl i l × IsSub l sub
     × (1 ≤ n) × (n + frame_overhead ≤ l.lmax) ×
     ((count : ℕ) × AreUnreleased h t i sub count × (queue_limit ≤ count))
-IsRefused h t vl sub n Memory = (place : ℕ) × LinkAdmits h t place vl sub n
+IsRefused h t vl sub n Memory = (place : ℕ) × LinkTakes h t place vl sub n
 
--- a message is taken by the link at this place, which admits it
+-- a message is taken by the link at this place
 abbrev pub IsTaken : SenderHistory → ℕ → ℕ → Submission → Type 0
-IsTaken h place vl m = LinkAdmits h m.time place vl m.sub (length m.message.payload)
+IsTaken h place vl m = LinkTakes h m.time place vl m.sub (length m.message.payload)

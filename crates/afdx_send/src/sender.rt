@@ -71,7 +71,7 @@ impl Sender {
     ///
     /// `time`, in ns, isn't before the last time used and is at most 10^15, and no emission that
     /// ends at or before it is left to be taken. A refused message changes nothing but the last
-    /// time used. Memory is wanted only for a message that its link admits.
+    /// time used. Memory is wanted only for a message that its link takes.
     pub fn submit(
         &mut self,
         time: u64,
