@@ -25,7 +25,7 @@ use Rattle.afdx_config.specs.declared.rows.Kind.TheVariants.{Sampling, Queuing}
 use Rattle.afdx_config.specs.declared.read_links.Traffic.{Traffic}
 use Rattle.afdx_config.specs.declared.read_links.Treatment.{Treatment}
 use Rattle.afdx_config.specs.Rows.{SystemRow, LinkRow, PortRow, Rows, is_to}
-use Rattle.afdx_config.specs.Fault.{◌>>=◌, ◌>>◌, check}
+use Rattle.afdx_config.specs.Fault.{◌>>=◌, ◌>>◌, check, or_fault}
 use Rattle.afdx_config.specs.Keys.{place, whole, one_of, text, word, tables, texts}
 use Rattle.afdx_config.specs.Keys.{only_system_keys, only_link_keys, only_port_keys, only_top_keys}
 
@@ -41,15 +41,11 @@ system_at_port systems port = position (λ s. s.port == port) systems
 unfoldable pub has_id : List SystemRow → ℕ → Bool
 has_id systems id = list_any (λ s. s.id == id) systems
 
--- a text that has to name a system
-abbrev pub or_no_such : {A : Type 0} → Place → Option A → Result A ConfigFault
-or_no_such at None = Err (NoSuchSystem at)
-or_no_such at (Some x) = Ok x
-
+-- the system that a text names
 unfoldable pub named : Place → List ℕ → List SystemRow → Members → Result ℕ ConfigFault
 named at key systems t = do
   name ← text at key t
-  or_no_such at (system_named systems name)
+  or_fault (NoSuchSystem at) (system_named systems name)
 
 -- what each of a list stands for, where each stands for something
 abbrev pub all_of : {X A : Type 0} → (X → Option A) → List X → Option (List A)
@@ -70,7 +66,7 @@ unfoldable pub destinations : Place → List SystemRow → ℕ → Members → R
 destinations at systems from t = do
   names ← texts at (codes "to") t
   check (nat_le 1 (length names) && nat_le (length names) 24) (OutOfRange at)
-  to ← or_no_such at (all_of (system_named systems) names)
+  to ← or_fault (NoSuchSystem at) (all_of (system_named systems) names)
   check (are_apart from to) (Twice at)
   Ok to
 

@@ -1,7 +1,7 @@
 use Rattle.std.proofs.Common.{Some, sym, ap, ◌∙◌}
 use Rattle.std.specs.Option.{option_map_or}
 use Rattle.afdx_admit.specs.Lines.{loaded_output_to, low_bound_of}
-use Rattle.afdx_admit.proofs.Outputs.{loaded_output_at-some, loaded_output_at-none}
+use Rattle.afdx_admit.proofs.PortLemmas.{loaded_output_at-some, loaded_output_at-none}
 use Rattle.afdx_admit.proofs.bounds.low_bound.Goals as goal
 
 pub returns-in-Some : goal.returns-in-Some

@@ -1,10 +1,10 @@
 use Rattle.std.proofs.Common.{◌≡◌, [], length, slice_index, Some, None, sym, ap, subst, ◌∙◌, arith, true, false, nat_le}
 use Rattle.afdx_admit.specs.declared.fault.AdmitFault.TheVariants.{SenderJitter}
 use Rattle.afdx_admit.specs.Lines.{line, sender_lines, first_false, each_from, jitter_at}
-use Rattle.afdx_admit.proofs.FirstFalse.{so_far-start, so_far-next, so_far-found, so_far-end}
-use Rattle.afdx_admit.proofs.FirstFalse.{first_false-skip, first_false-stop, first_false-nil}
-use Rattle.afdx_admit.proofs.FirstFalse.{le-true}
-use Rattle.afdx_admit.proofs.FirstFalse.{le-false}
+use Rattle.afdx_admit.proofs.FirstFalseLemmas.{so_far-start, so_far-next, so_far-found, so_far-end}
+use Rattle.afdx_admit.proofs.FirstFalseLemmas.{first_false-skip, first_false-stop, first_false-nil}
+use Rattle.afdx_admit.proofs.FirstFalseLemmas.{le-true}
+use Rattle.afdx_admit.proofs.FirstFalseLemmas.{le-false}
 use Rattle.afdx_admit.proofs.lines.senders_fault.Goals as goal
 
 pub loop-i-init : goal.loop-i-init

@@ -2,7 +2,7 @@ use Rattle.std.proofs.Common.{◌≡◌, sym, ap, ◌∙◌, position, ◌==◌}
 use Rattle.std.specs.Map.{values_of}
 use Rattle.afdx_config.specs.Rows.{system_row}
 use Rattle.afdx_config.specs.Reading.{system_at_port}
-use Rattle.afdx_config.proofs.Entries.{position-values}
+use Rattle.afdx_config.proofs.EntryLemmas.{position-values}
 use Rattle.afdx_config.proofs.systems.Systems.at_port.Goals as goal
 
 pub returns-in-Some-clause-place : goal.returns-in-Some-clause-place

@@ -3,7 +3,7 @@ use Rattle.std.specs.Str.{bytes_eq}
 use Rattle.afdx_config.specs.Rows.{system_row}
 use Rattle.afdx_config.specs.Kept.{IsUnderItsName}
 use Rattle.afdx_config.specs.Reading.{system_named}
-use Rattle.afdx_config.proofs.Entries.{position-keys}
+use Rattle.afdx_config.proofs.EntryLemmas.{position-keys}
 use Rattle.afdx_config.proofs.systems.Systems.named.Goals as goal
 
 pub returns-in-Some-clause-place : goal.returns-in-Some-clause-place

@@ -6,7 +6,7 @@ use Rattle.std.proofs.lemmas.Bool.Decides.{nat_tests}
 use Rattle.std.proofs.lemmas.Slice.Eq.{bytes_eq-Decides}
 use Rattle.afdx_config.specs.Reading.{system_named, system_at_port, link_of}
 use Rattle.afdx_config.specs.Laws.{EachRowIsFound}
-use Rattle.afdx_config.proofs.Distinct.{found}
+use Rattle.afdx_config.proofs.DistinctLemmas.{found}
 
 same : (a b : ℕ) → a ≡ b → nat_eq a b ≡ true
 same a b h = grind (arith, nat_tests)

@@ -9,8 +9,8 @@ use Rattle.afdx_config.specs.Rows.{SystemRow, LinkRow, PortRow}
 use Rattle.afdx_config.specs.Reading.{system_named, system_at_port, has_id, link_of, has_port}
 use Rattle.afdx_config.specs.New.{IsNewSystem}
 use Rattle.afdx_config.specs.Lawful.{IsSystem, AreSystems, IsLink, AreLinks, IsPort, ArePorts, triple}
-use Rattle.afdx_config.proofs.EachRow.{all_push}
-use Rattle.afdx_config.proofs.Distinct.{distinct-nil, distinct-push, none_found}
+use Rattle.afdx_config.proofs.EachRowLemmas.{all_push}
+use Rattle.afdx_config.proofs.DistinctLemmas.{distinct-nil, distinct-push, none_found}
 
 nat_eq-same : (a b : ℕ) → a ≡ b → nat_eq a b ≡ true
 nat_eq-same a b h = grind (arith, nat_tests)

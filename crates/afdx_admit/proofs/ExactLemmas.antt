@@ -17,8 +17,8 @@ use Rattle.afdx_config.specs.Reading.{system_at_port}
 use Rattle.afdx_frame.specs.Flows.{Flow, is_class, of_class, burst, load, high_wait, low_wait}
 use Rattle.afdx_frame.specs.Flows.{high_load, IsPortAdmitted}
 use Rattle.afdx_config.specs.Admission.{IsAdmitted, byte_ns, links_from, flows_to, sender_jitter}
-use Rattle.afdx_config.proofs.EachRow.{all_at}
-use Rattle.afdx_config.proofs.LookUps.{each_row-found}
+use Rattle.afdx_config.proofs.EachRowLemmas.{all_at}
+use Rattle.afdx_config.proofs.LookUpLemmas.{each_row-found}
 use Rattle.afdx_admit.specs.declared.fault.AdmitFault.{AdmitFault}
 use Rattle.afdx_admit.specs.declared.fault.AdmitFault.TheVariants.{Overload, Buffer, HighLatency}
 use Rattle.afdx_admit.specs.declared.fault.AdmitFault.TheVariants.{LowLatency, SenderJitter}
@@ -27,10 +27,10 @@ use Rattle.afdx_admit.specs.Lines.{Line, line, first_false, each_from, lines, Lo
 use Rattle.afdx_admit.specs.Lines.{loaded_output_to, output_lines, port_lines}
 use Rattle.afdx_admit.specs.Lines.{sender_lines, link_lines}
 use Rattle.afdx_admit.specs.Lines.{lines_of_link, jitter_at, high_line, low_line, high_bound_of, buffer_need_of}
-use Rattle.afdx_admit.proofs.FirstFalse.{first_false-skip, first_false-nil, first_false-append, le-true, true-le}
+use Rattle.afdx_admit.proofs.FirstFalseLemmas.{first_false-skip, first_false-nil, first_false-append, le-true, true-le}
 use Rattle.afdx_admit.proofs.OutputLemmas.{late_line}
-use Rattle.afdx_admit.proofs.Outputs.{loaded_output_at-some, loaded_output_at-none, found_within}
-use Rattle.afdx_admit.proofs.Taken.{at_place}
+use Rattle.afdx_admit.proofs.PortLemmas.{loaded_output_at-some, loaded_output_at-none, found_within}
+use Rattle.afdx_admit.proofs.TakenLemmas.{at_place}
 
 -- ---- lists of lines
 
