@@ -1,12 +1,14 @@
 //! The reading of links.
 
 ghost use Rattle.std.specs.Prelude.{◌≡◌, ◌≤◌, ◌<◌, ◌∷◌, [], length, None, IfOk, codes, true};
-ghost use Rattle.std.specs.Prelude.{nat_eq};
+ghost use Rattle.std.specs.Prelude.{nat_eq, IsTrue, ◌*◌};
 ghost use Rattle.std.specs.List.{list_any, AllByRecursion};
 ghost use Rattle.toml.specs.View.{table_view};
 ghost use Rattle.afdx_frame.specs.declared.link.Priority.TheVariants.{High, Low};
 ghost use Rattle.afdx_frame.specs.declared.link.Policing.TheVariants.{Byte, Frame};
-ghost use Rattle.afdx_config.specs.Lawful.{IsLink, AreLinks, IsTraffic, IsTreatment, IsWithin};
+ghost use Rattle.afdx_frame.specs.Lengths.{least_frame, greatest_frame};
+ghost use Rattle.afdx_frame.specs.Regulation.{is_bag};
+ghost use Rattle.afdx_config.specs.Lawful.{IsLink, AreLinks, IsWithin};
 ghost use Rattle.afdx_config.specs.Rows.{link_row, system_places};
 ghost use Rattle.afdx_config.specs.Fault.{Gives, or_fault};
 ghost use Rattle.afdx_config.specs.Trees.{trees, lent_texts};
@@ -145,7 +147,10 @@ struct Treatment {
 
 #[tactic(auto, unfolding(crate::specs::Reading::traffic_at))]
 fn traffic_of(table: &Table, index: usize) -> Result<Traffic, ConfigFault>
-    ensures lawful { IfOk result IsTraffic }
+    ensures gap { IfOk result (λ x. IsTrue (is_bag x.bag_ms)) }
+    ensures least { IfOk result (λ x. IsWithin least_frame greatest_frame x.lmin) }
+    ensures greatest { IfOk result (λ x. IsWithin x.lmin greatest_frame x.lmax) }
+    ensures jitter { IfOk result (λ x. IsWithin 0 (1000 * x.bag_ms) x.jitter_us) }
     ensures value { Gives (λ x. x) result
         (spec.traffic_at (keys.place Part.Link index) (table_view table.now)) }
 {
@@ -170,7 +175,9 @@ fn traffic_of(table: &Table, index: usize) -> Result<Traffic, ConfigFault>
 
 #[tactic(auto, unfolding(crate::specs::Reading::treatment_at))]
 fn treatment_of(table: &Table, index: usize) -> Result<Treatment, ConfigFault>
-    ensures lawful { IfOk result IsTreatment }
+    ensures latency { IfOk result (λ x. IsWithin 1 100000 x.latency_us) }
+    ensures skew { IfOk result (λ x. IsWithin 1 100000 x.skew_us) }
+    ensures subs { IfOk result (λ x. IsWithin 1 4 x.subs) }
     ensures value { Gives (λ x. x) result
         (spec.treatment_at (keys.place Part.Link index) (table_view table.now)) }
 {
