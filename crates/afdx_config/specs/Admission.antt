@@ -3,7 +3,7 @@
 use Rattle.std.specs.Prelude.{◌≡◌, ℕ, ◌+◌, ◌*◌, ◌/◌, ◌≤◌, List, filter, map, nat_eq, slice_get}
 use Rattle.std.specs.Prelude.{Some}
 use Rattle.afdx_config.specs.Rows.{SystemRow, LinkRow, Rows, is_to}
-use Rattle.afdx_frame.specs.Flows.{Flow, one_of_each, IsPortAdmitted}
+use Rattle.afdx_frame.specs.Flows.{Flow, sending_time, IsPortAdmitted}
 use Rattle.afdx_config.specs.Flows.{flow_of_link, regulation_of_link}
 
 -- the ns of a byte on a system's line, whose rate is in Mbit/s
@@ -32,7 +32,7 @@ greatest_jitter = 500000
 -- the jitter at the output of a system that sends these links, in ns: its own, and one frame of
 -- each link
 abbrev pub sender_jitter : ℕ → List LinkRow → ℕ
-sender_jitter ns own = fixed_jitter + one_of_each regulation_of_link ns own
+sender_jitter ns own = fixed_jitter + sending_time regulation_of_link ns own
 
 pub record IsAdmitted (t : Rows) : Type 0 where
   -- no overload, buffer, and the latency of high and of low frames
