@@ -1,5 +1,5 @@
 -- A sender's own port (ARINC 664 Part 7, the end system's output).
-use Rattle.std.specs.Prelude.{◌≡◌, ℕ, ◌+◌, ◌*◌, ◌≤◌, All, Contains, List, [], ◌∷◌, ◌++◌}
+use Rattle.std.specs.Prelude.{◌≡◌, ℕ, ◌+◌, ◌≤◌, All, Contains, List, [], ◌∷◌, ◌++◌}
 use Rattle.afdx_frame.specs.declared.link.Priority.{Priority}
 use Rattle.afdx_frame.specs.Flows.{Flow, sending_time, IsPortAdmitted}
 use Rattle.afdx_config.specs.Admission.{fixed_jitter, greatest_jitter}
