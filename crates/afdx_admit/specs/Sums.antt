@@ -28,8 +28,8 @@ pub record AreSumsTo (t : Rows) (place : ℕ) (r : Sums) : Type 0 where
   pub sums : IsSums (loaded_output_to t place row) r
   pub some : 1 ≤ r.byte_ns
 
--- the most that one link may send at once, and in the time of a byte: frames of the greatest length,
--- and a jitter as long as the gap
+-- the most that one link may send at once, and in the time of a byte: frames of the greatest
+-- length, and a jitter as long as the gap
 abbrev pub greatest_burst : ℕ
 greatest_burst = 393728000000
 

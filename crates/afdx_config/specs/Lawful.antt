@@ -6,6 +6,7 @@ use Rattle.afdx_frame.specs.Lengths.{least_frame, greatest_frame, greatest_buffe
 use Rattle.afdx_frame.specs.Regulation.{is_bag}
 use Rattle.afdx_config.specs.Rows.{SystemRow, LinkRow, PortRow, Rows}
 use Rattle.afdx_config.specs.Reading.{is_name, are_apart, goes_to, deepest, rates}
+use Rattle.afdx_config.specs.Reading.{greatest_delay}
 
 abbrev pub IsWithin : ℕ → ℕ → ℕ → Type 0
 IsWithin low high n = (low ≤ n) × (n ≤ high)
@@ -35,8 +36,8 @@ pub record IsLink (systems : ℕ) (l : LinkRow) : Type 0 where
   pub lmin : IsWithin least_frame greatest_frame l.lmin
   pub lmax : IsWithin l.lmin greatest_frame l.lmax
   pub jitter_us : IsWithin 0 (1000 * l.bag_ms) l.jitter_us
-  pub latency_us : IsWithin 1 100000 l.latency_us
-  pub skew_us : IsWithin 1 100000 l.skew_us
+  pub latency_us : IsWithin 1 greatest_delay l.latency_us
+  pub skew_us : IsWithin 1 greatest_delay l.skew_us
   pub subs : IsWithin 1 4 l.subs
 
 pub record IsPort (systems : ℕ) (links : List LinkRow) (p : PortRow) : Type 0 where

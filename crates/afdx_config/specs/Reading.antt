@@ -106,6 +106,10 @@ system_at profile before t =
 unfoldable pub link_of : List LinkRow → ℕ → Option ℕ
 link_of links vl = position (λ l. nat_eq vl l.vl) links
 
+-- the greatest latency and the greatest skew of a link, in us
+abbrev pub greatest_delay : ℕ
+greatest_delay = 100000
+
 -- how much a link may send, and how its frames are treated
 unfoldable pub traffic_at : (ℕ → Place) → Members → Result Traffic ConfigFault
 traffic_at at t = do
@@ -119,8 +123,8 @@ unfoldable pub treatment_at : (ℕ → Place) → Members → Result Treatment C
 treatment_at at t = do
   priority ← word (at 8) (codes "priority") ((codes "high", High) ∷ (codes "low", Low) ∷ []) t
   policing ← word (at 9) (codes "policing") ((codes "byte", Byte) ∷ (codes "frame", Frame) ∷ []) t
-  latency_us ← whole (at 10) (codes "latency_us") 1 100000 t
-  skew_us ← whole (at 11) (codes "skew_us") 1 100000 t
+  latency_us ← whole (at 10) (codes "latency_us") 1 greatest_delay t
+  skew_us ← whole (at 11) (codes "skew_us") 1 greatest_delay t
   subs ← whole (at 12) (codes "subs") 1 4 t
   Ok (record {
     priority = priority;

@@ -135,6 +135,9 @@ struct Traffic {
     jitter_us: u64,
 }
 
+/// The greatest latency and the greatest skew of a link, in us.
+const GREATEST_DELAY: u64 = 100_000;
+
 /// How a link's frames are treated.
 #[derive(Clone, Copy)]
 struct Treatment {
@@ -175,22 +178,18 @@ fn traffic_of(table: &Table, index: usize) -> Result<Traffic, ConfigFault>
 
 #[tactic(auto, unfolding(crate::specs::Reading::treatment_at))]
 fn treatment_of(table: &Table, index: usize) -> Result<Treatment, ConfigFault>
-    ensures latency { IfOk result (λ x. IsWithin 1 100000 x.latency_us) }
-    ensures skew { IfOk result (λ x. IsWithin 1 100000 x.skew_us) }
+    ensures latency { IfOk result (λ x. IsWithin 1 spec.greatest_delay x.latency_us) }
+    ensures skew { IfOk result (λ x. IsWithin 1 spec.greatest_delay x.skew_us) }
     ensures subs { IfOk result (λ x. IsWithin 1 4 x.subs) }
     ensures value { Gives (λ x. x) result
         (spec.treatment_at (keys.place Part.Link index) (table_view table.now)) }
 {
     let priority = priority_at(table, place(Part::Link, index, 8))?;
     let policing = policing_at(table, place(Part::Link, index, 9))?;
-    let latency_us = whole(
-        table,
-        place(Part::Link, index, 10),
-        "latency_us",
-        1,
-        100_000,
-    )?;
-    let skew_us = whole(table, place(Part::Link, index, 11), "skew_us", 1, 100_000)?;
+    let at = place(Part::Link, index, 10);
+    let latency_us = whole(table, at, "latency_us", 1, GREATEST_DELAY)?;
+    let at = place(Part::Link, index, 11);
+    let skew_us = whole(table, at, "skew_us", 1, GREATEST_DELAY)?;
     let subs = whole(table, place(Part::Link, index, 12), "subs", 1, 4)?;
     Ok(Treatment {
         priority,
