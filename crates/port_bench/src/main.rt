@@ -9,7 +9,7 @@ use afdx_frame::{GREATEST_BUFFER, Priority};
 use afdx_port::{HasLength, Port};
 use std::alloc::AllocError;
 
-/// The ns of a byte, the bytes of the buffer and the ns of a frame's slot.
+/// The ns of a byte and of a frame's slot.
 const BYTE_NS: u64 = 80;
 
 const SLOT: u64 = 6_720;
