@@ -1,9 +1,9 @@
-pub mod Exact
-pub mod FirstFalse
+pub mod ExactLemmas
+pub mod FirstFalseLemmas
 pub mod LateLemmas
-pub mod LowBound
+pub mod LowBoundLemmas
 pub mod OutputLemmas
-pub mod Outputs
-pub mod Pushed
-pub mod Small
-pub mod Taken
+pub mod PortLemmas
+pub mod PushedLemmas
+pub mod SmallLemmas
+pub mod TakenLemmas

@@ -11,6 +11,7 @@ use Rattle.afdx_config.specs.Rows.{SystemRow, LinkRow, Rows}
 use Rattle.afdx_config.specs.Reading.{system_at_port}
 use Rattle.afdx_frame.specs.Flows.{Flow, of_class, burst, load, high_wait, low_wait, high_load}
 use Rattle.afdx_config.specs.Admission.{byte_ns, links_from, flows_to, sender_jitter}
+use Rattle.afdx_config.specs.Admission.{greatest_jitter}
 use Rattle.afdx_admit.specs.declared.fault.AdmitFault.{AdmitFault}
 use Rattle.afdx_admit.specs.declared.fault.AdmitFault.TheVariants.{Overload, Buffer, HighLatency}
 use Rattle.afdx_admit.specs.declared.fault.AdmitFault.TheVariants.{LowLatency, SenderJitter}
@@ -102,7 +103,7 @@ jitter_at t place =
 
 unfoldable pub sender_lines : Rows → ℕ → List Line
 sender_lines t place =
-    line (nat_le (jitter_at t place) 500000)
+    line (nat_le (jitter_at t place) greatest_jitter)
     (SenderJitter (record { 0 = place }) (jitter_at t place)) ∷ []
 
 abbrev pub lines_of_link : Rows → LinkRow → List Line

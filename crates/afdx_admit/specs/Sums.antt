@@ -2,7 +2,8 @@
 use Rattle.std.specs.Prelude.{◌≡◌, ℕ, ◌+◌, ◌*◌, ◌≤◌, ◌<◌, max, List, length, slice_index, slice_get}
 use Rattle.std.specs.Prelude.{Option, Some, if◌then◌else◌}
 use Rattle.afdx_frame.specs.declared.link.Priority.TheVariants.{High, Low}
-use Rattle.afdx_frame.specs.Regulation.{fill_rate, cap}
+use Rattle.afdx_frame.specs.Lengths.{greatest_frame}
+use Rattle.afdx_frame.specs.Regulation.{fill_rate, cap, wire_of}
 use Rattle.afdx_config.specs.Rows.{SystemRow, LinkRow, Rows}
 use Rattle.afdx_config.specs.Lawful.{IsLink}
 use Rattle.afdx_frame.specs.Flows.{Flow, is_class}
@@ -27,14 +28,22 @@ pub record AreSumsTo (t : Rows) (place : ℕ) (r : Sums) : Type 0 where
   pub sums : IsSums (loaded_output_to t place row) r
   pub some : 1 ≤ r.byte_ns
 
+-- the most that one link may send at once, and in the time of a byte: frames of the greatest
+-- length, and a jitter as long as the gap
+abbrev pub greatest_burst : ℕ
+greatest_burst = 393728000000
+
+abbrev pub greatest_load : ℕ
+greatest_load = 157491200
+
 -- how great the sums of so many links are at most
 pub record IsSmall (count : ℕ) (r : Sums) : Type 0 where
   pub byte_ns : r.byte_ns ≤ 800
-  pub burst : r.burst ≤ count * 393728000000
-  pub load : r.load ≤ count * 157491200
+  pub burst : r.burst ≤ count * greatest_burst
+  pub load : r.load ≤ count * greatest_load
   pub high_burst : r.high_burst ≤ r.burst
   pub high_load : r.high_load ≤ r.load
-  pub longest_low : r.longest_low ≤ 1538
+  pub longest_low : r.longest_low ≤ wire_of greatest_frame
 
 -- one flow more
 pub record Adds (f : Flow) (old new : Sums) : Type 0 where

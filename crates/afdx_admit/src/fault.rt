@@ -67,3 +67,5 @@ impl fmt::Display for AdmitText<'_> {
         }
     }
 }
+
+impl std::error::Error for AdmitText<'_> {}

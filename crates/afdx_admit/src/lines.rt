@@ -17,6 +17,12 @@ use crate::sums::{link_at, sums_to, wire_size};
 use afdx_config::{Link, SystemId, Tables};
 use afdx_frame::{BYTE_UNITS, Priority, VlId};
 
+/// The jitter that each system has of its own, in ns (ARINC 664 Part 7).
+const FIXED_JITTER: u64 = 40_000;
+
+/// The greatest jitter that a system may have, in ns (ARINC 664 Part 7).
+const GREATEST_JITTER: u64 = 500_000;
+
 fn is_class(class: Priority, priority: Priority) -> bool
     ensures { result ≡ is_class class priority }
 {
@@ -111,7 +117,7 @@ fn sender_jitter(tables: &Tables, id: SystemId) -> u64
 {
     let byte_ns = tables.byte_ns(id);
     let count = tables.link_count();
-    let mut sum = 40_000;
+    let mut sum = FIXED_JITTER;
     for i in 0..count {
         let link = link_at(tables, i);
         if link.from == id {
@@ -145,7 +151,7 @@ fn senders_fault(tables: &Tables, jitters: &[u64]) -> Option<AdmitFault>
     let count = tables.system_count();
     for i in 0..count {
         let jitter = jitters[i];
-        if jitter > 500_000 {
+        if jitter > GREATEST_JITTER {
             return Some(AdmitFault::SenderJitter(SystemId(i as u8), jitter));
         }
     }

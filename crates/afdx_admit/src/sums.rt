@@ -1,11 +1,13 @@
 //! What is summed over the links that go to one output port.
 
 ghost use Rattle.std.specs.Prelude.{◌≡◌, ◌*◌, ◌≤◌, ◌<◌, ◌∷◌, [], length, slice_get, Some};
-ghost use Rattle.afdx_frame.specs.Regulation.{cap, fill_rate};
+ghost use Rattle.afdx_frame.specs.Regulation.{cap, fill_rate, wire_of};
 ghost use Rattle.afdx_config.specs.Rows.{SystemRow, link_row};
+ghost use Rattle.afdx_frame.specs.Lengths.{greatest_frame};
 ghost use Rattle.afdx_config.specs.Flows.{flow_of_link, regulation_of_link};
 ghost use Rattle.afdx_config.specs.Admission.{byte_ns};
-ghost use Rattle.afdx_admit.specs.Sums.{CanSend, IsSums, IsSmall, AreSumsTo};
+ghost use Rattle.afdx_admit.specs.Sums.{CanSend, IsSums, IsSmall, AreSumsTo, greatest_burst};
+ghost use Rattle.afdx_admit.specs.Sums.{greatest_load};
 
 use afdx_config::{Link, SystemId, Tables};
 use afdx_frame::{BYTE_UNITS, Priority, WIRE_EXTRA};
@@ -119,7 +121,7 @@ impl Sums {
 pub(crate) fn wire_size(link: &Link) -> u64
     requires { CanSend (link_row link.now) }
     ensures size { result ≡ (regulation_of_link (link_row link.now)).smax }
-    ensures small { result ≤ 1538 }
+    ensures small { result ≤ wire_of greatest_frame }
 {
     link.lmax + WIRE_EXTRA
 }
@@ -128,7 +130,7 @@ pub(crate) fn wire_size(link: &Link) -> u64
 fn burst_of(link: &Link) -> u64
     requires { CanSend (link_row link.now) }
     ensures burst { result ≡ cap (regulation_of_link (link_row link.now)) }
-    ensures small { result ≤ 393728000000 }
+    ensures small { result ≤ greatest_burst }
 {
     wire_size(link) * (128 / link.bag_ms) * (1_000_000 * link.bag_ms + 1000 * link.jitter_us)
 }
@@ -138,7 +140,7 @@ fn load_of(byte_ns: u64, link: &Link) -> u64
     requires lawful { CanSend (link_row link.now) }
     requires slow { byte_ns ≤ 800 }
     ensures load { result ≡ fill_rate (regulation_of_link (link_row link.now)) * byte_ns }
-    ensures small { result ≤ 157491200 }
+    ensures small { result ≤ greatest_load }
 {
     wire_size(link) * (128 / link.bag_ms) * byte_ns
 }

@@ -15,7 +15,7 @@ use Rattle.afdx_config.specs.Flows.{flow_of_link}
 use Rattle.afdx_config.specs.Lawful.{IsLawful, IsOneOf, IsLink, IsSystem, AreDistinct}
 use Rattle.afdx_config.specs.Reading.{system_at_port}
 use Rattle.afdx_config.specs.Rows.{SystemRow, LinkRow, Rows, is_to}
-use Rattle.afdx_config.proofs.LookUps.{each_row-found}
+use Rattle.afdx_config.proofs.LookUpLemmas.{each_row-found}
 use Rattle.afdx_police.specs.Rule.{is_bag}
 use Rattle.afdx_port.specs.Held.{IsByteTime}
 use Rattle.afdx_bounds.specs.Outputs.{AreRows, flows_at}

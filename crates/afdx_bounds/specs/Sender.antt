@@ -1,7 +1,8 @@
 -- A sender's own port (ARINC 664 Part 7, the end system's output).
-use Rattle.std.specs.Prelude.{◌≡◌, ℕ, ◌+◌, ◌*◌, ◌≤◌, All, Contains, List, [], ◌∷◌, ◌++◌, sum_by}
+use Rattle.std.specs.Prelude.{◌≡◌, ℕ, ◌+◌, ◌≤◌, All, Contains, List, [], ◌∷◌, ◌++◌}
 use Rattle.afdx_frame.specs.declared.link.Priority.{Priority}
-use Rattle.afdx_frame.specs.Flows.{Flow, IsPortAdmitted}
+use Rattle.afdx_frame.specs.Flows.{Flow, sending_time, IsPortAdmitted}
+use Rattle.afdx_config.specs.Admission.{fixed_jitter, greatest_jitter}
 use Rattle.afdx_police.specs.Stream.{IsRegular}
 use Rattle.afdx_port.specs.Schedule.{Entry, Turn, AreTurns, IsSchedule, IsLost}
 use Rattle.afdx_port.specs.ScheduleOf.{AreInOrder}
@@ -9,7 +10,7 @@ use Rattle.afdx_bounds.specs.Policed.{AreFlows, charged_to, IsCharged, IsRegulat
 
 -- the time in which one frame of each link is sent, each of its link's greatest size, in ns
 abbrev pub one_of_each : ℕ → List Flow → ℕ
-one_of_each byte_ns flows = sum_by (λ f. f.link.smax * byte_ns) flows
+one_of_each byte_ns flows = sending_time (λ f. f.link) byte_ns flows
 
 -- a link as its sender's own port sees it: of the port's one class, released with no jitter, and in
 -- time if one frame of each link has been sent since its release
@@ -18,12 +19,12 @@ pub record IsSent (byte_ns : ℕ) (class : Priority) (flows : List Flow) (f : Fl
   pub regular : f.link.jitter_us ≡ 0
   pub waits : f.latency ≡ one_of_each byte_ns flows
 
--- these are the links of a sender, whose jitter, 40 us and the time of one frame of each, is at
--- most 500 us
+-- these are the links of a sender, whose jitter, its own and the time of one frame of each, is not
+-- more than it may be
 pub record IsSender (byte_ns : ℕ) (class : Priority) (flows : List Flow) : Type 0 where
   pub line : 8 ≤ byte_ns
   pub flows_are : AreFlows flows
-  pub jitter : 40000 + one_of_each byte_ns flows ≤ 500000
+  pub jitter : fixed_jitter + one_of_each byte_ns flows ≤ greatest_jitter
   pub each : All (λ f. IsSent byte_ns class flows f) flows
 
 -- such links are admitted at a port of 65,536 bytes

@@ -1,13 +1,14 @@
 -- The output ports of a switch, and a sender's own, as the tables have them.
 use Rattle.std.specs.Prelude.{◌≡◌, ℕ, ◌*◌, ◌==◌, Bool, false, if◌then◌else◌, Option, Some, None}
 use Rattle.std.specs.Prelude.{List, map}
-use Rattle.std.specs.Prelude.{slice_get, sum_by}
+use Rattle.std.specs.Prelude.{slice_get}
 use Rattle.std.specs.Option.{option_map_or}
 use Rattle.afdx_frame.specs.declared.link.Priority.{Priority}
 use Rattle.afdx_frame.specs.declared.link.Side.{Side}
-use Rattle.afdx_frame.specs.Flows.{Flow}
-use Rattle.afdx_frame.specs.Regulation.{regulation_with, wire_of}
+use Rattle.afdx_frame.specs.Flows.{Flow, sending_time}
+use Rattle.afdx_frame.specs.Regulation.{regulation_with}
 use Rattle.afdx_config.specs.Admission.{IsAdmitted, byte_ns, flows_to, links_from}
+use Rattle.afdx_config.specs.Flows.{regulation_of_link}
 use Rattle.afdx_config.specs.Lawful.{IsLawful}
 use Rattle.afdx_config.specs.Reading.{system_at_port}
 use Rattle.afdx_config.specs.Rows.{SystemRow, LinkRow, Rows, is_to}
@@ -88,7 +89,7 @@ sent_flow byte_ns class own l = record {
   vl = l.vl;
   link = regulation_with l.bag_ms 0 l.lmax;
   priority = class;
-  latency = sum_by (λ k. wire_of k.lmax * byte_ns) own;
+  latency = sending_time regulation_of_link byte_ns own;
 }
 
 abbrev pub sent_flows : Rows → Priority → ℕ → SystemRow → List Flow

@@ -1,6 +1,6 @@
-pub mod Distinct
-pub mod EachRow
-pub mod Entries
-pub mod Gathered
-pub mod Grown
-pub mod LookUps
+pub mod DistinctLemmas
+pub mod EachRowLemmas
+pub mod EntryLemmas
+pub mod GatheredLemmas
+pub mod GrownLemmas
+pub mod LookUpLemmas

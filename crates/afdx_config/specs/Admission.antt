@@ -2,9 +2,8 @@
 -- seven lines: four at each output port, one for each system, and two for each link.
 use Rattle.std.specs.Prelude.{◌≡◌, ℕ, ◌+◌, ◌*◌, ◌/◌, ◌≤◌, List, filter, map, nat_eq, slice_get}
 use Rattle.std.specs.Prelude.{Some}
-use Rattle.std.specs.List.{sum_by}
 use Rattle.afdx_config.specs.Rows.{SystemRow, LinkRow, Rows, is_to}
-use Rattle.afdx_frame.specs.Flows.{Flow, IsPortAdmitted}
+use Rattle.afdx_frame.specs.Flows.{Flow, sending_time, IsPortAdmitted}
 use Rattle.afdx_config.specs.Flows.{flow_of_link, regulation_of_link}
 
 -- the ns of a byte on a system's line, whose rate is in Mbit/s
@@ -22,18 +21,26 @@ links_from links system = filter (λ l. nat_eq l.from system) links
 abbrev pub flows_to : List LinkRow → ℕ → List Flow
 flows_to links system = map flow_of_link (links_to links system)
 
--- the jitter at the output of a system that sends these links, in ns: 40 us, and one frame of each
--- link
+-- the jitter that each system has of its own, and the greatest that one may have, in ns (ARINC 664
+-- Part 7: 40 us and 500 us)
+abbrev pub fixed_jitter : ℕ
+fixed_jitter = 40000
+
+abbrev pub greatest_jitter : ℕ
+greatest_jitter = 500000
+
+-- the jitter at the output of a system that sends these links, in ns: its own, and one frame of
+-- each link
 abbrev pub sender_jitter : ℕ → List LinkRow → ℕ
-sender_jitter byte_ns own = 40000 + sum_by (λ l. (regulation_of_link l).smax * byte_ns) own
+sender_jitter ns own = fixed_jitter + sending_time regulation_of_link ns own
 
 pub record IsAdmitted (t : Rows) : Type 0 where
   -- no overload, buffer, and the latency of high and of low frames
   pub ports : (i : ℕ) (s : SystemRow) → slice_get t.systems i ≡ Some s →
       IsPortAdmitted (byte_ns s) t.buffer (flows_to t.links i)
-  -- a system's jitter is at most 500 us
+  -- a system's jitter is not more than it may be
   pub senders : (i : ℕ) (s : SystemRow) → slice_get t.systems i ≡ Some s →
-      sender_jitter (byte_ns s) (links_from t.links i) ≤ 500000
+      sender_jitter (byte_ns s) (links_from t.links i) ≤ greatest_jitter
   -- a link's jitter allows for that of its sender
   pub jitters : (i : ℕ) (l : LinkRow) (s : SystemRow) → slice_get t.links i ≡ Some l →
       slice_get t.systems l.from ≡ Some s →

@@ -1,5 +1,6 @@
 -- What a reading answers: a value, or the first fault.
-use Rattle.std.specs.Prelude.{◌≡◌, ◌≢◌, Bool, Result, Ok, Err, if◌then◌else◌}
+use Rattle.std.specs.Prelude.{◌≡◌, ◌≢◌, Bool, Option, Some, None, Result, Ok, Err}
+use Rattle.std.specs.Prelude.{if◌then◌else◌}
 use Rattle.afdx_config.specs.declared.fault.ConfigFault.{ConfigFault}
 use Rattle.afdx_config.specs.declared.fault.ConfigFault.TheVariants.{Memory}
 
@@ -18,6 +19,11 @@ abbrev pub ◌>>◌ : {A B : Type 0} → Result A ConfigFault → Result B Confi
 -- one check: where it is false, this is the fault
 abbrev pub check : Bool → ConfigFault → Result (Unit {0}) ConfigFault
 check b fault = if b then Ok tt else Err fault
+
+-- what is there, or this fault
+abbrev pub or_fault : {A : Type 0} → ConfigFault → Option A → Result A ConfigFault
+or_fault fault None = Err fault
+or_fault fault (Some x) = Ok x
 
 -- the fault is what the reading answers, unless memory ran out
 abbrev pub Fails : {Y : Type 0} → ConfigFault → Result Y ConfigFault → Type 0

@@ -12,21 +12,11 @@ use Rattle.afdx_config.specs.declared.fault.Place.{Place}
 use Rattle.afdx_config.specs.declared.fault.ConfigFault.{ConfigFault}
 use Rattle.afdx_config.specs.declared.fault.ConfigFault.TheVariants.{Missing, WrongKind, UnknownKey}
 use Rattle.afdx_config.specs.declared.fault.ConfigFault.TheVariants.{OutOfRange}
-use Rattle.afdx_config.specs.Fault.{◌>>=◌, ◌>>◌, check}
+use Rattle.afdx_config.specs.Fault.{◌>>=◌, ◌>>◌, check, or_fault}
 
 -- where a check looks: the part, the table's place in it, and the key's number
 abbrev pub place : Part → ℕ → ℕ → Place
 place p i k = record { part = p; index = i; key = k }
-
--- what a key that has to be there holds
-abbrev pub required : Place → Option Data → Result Data ConfigFault
-required at None = Err (Missing at)
-required at (Some d) = Ok d
-
--- a value of a kind
-abbrev pub of_kind : {A : Type 0} → Place → Option A → Result A ConfigFault
-of_kind at None = Err (WrongKind at)
-of_kind at (Some x) = Ok x
 
 -- a whole number within a range
 abbrev pub in_range : Place → ℕ → ℕ → ℤ → Result ℕ ConfigFault
@@ -36,8 +26,8 @@ in_range at low high (negsuc n) = Err (OutOfRange at)
 -- a whole number of a key
 unfoldable pub whole : Place → List ℕ → ℕ → ℕ → Members → Result ℕ ConfigFault
 whole at key low high t = do
-  value ← required at (get_member key t)
-  number ← of_kind at (as_integer value)
+  value ← or_fault (Missing at) (get_member key t)
+  number ← or_fault (WrongKind at) (as_integer value)
   in_range at low high number
 
 -- one of some numbers
@@ -50,24 +40,20 @@ one_of at key numbers t = do
 -- a text of a key
 unfoldable pub text : Place → List ℕ → Members → Result (List ℕ) ConfigFault
 text at key t = do
-  value ← required at (get_member key t)
-  of_kind at (as_str value)
+  value ← or_fault (Missing at) (get_member key t)
+  or_fault (WrongKind at) (as_str value)
 
--- one of some words, for what each stands
+-- what a word stands for, among some words
 abbrev pub meaning : {A : Type 0} → List (List ℕ × A) → List ℕ → Option A
 meaning [] s = None
 meaning (w ∷ ws) s = if bytes_eq s w.0 then Some w.1 else meaning ws s
 
--- a word that stands for nothing is out of range
-abbrev pub or_out_of_range : {A : Type 0} → Place → Option A → Result A ConfigFault
-or_out_of_range at None = Err (OutOfRange at)
-or_out_of_range at (Some x) = Ok x
-
+-- one of some words, for what it stands
 unfoldable pub word : {A : Type 0} → Place → List ℕ → List (List ℕ × A) → Members →
     Result A ConfigFault
 word at key words t = do
   s ← text at key t
-  or_out_of_range at (meaning words s)
+  or_fault (OutOfRange at) (meaning words s)
 
 -- the items of an array, where each is of the kind
 abbrev pub all_as : {A : Type 0} → (Data → Option A) → Items → Option (List A)
@@ -78,8 +64,8 @@ all_as f (item d ds) = option_and_then (λ x. option_map (λ xs. x ∷ xs) (all_
 abbrev pub tables_or_none : Place → Option Data → Result (List Members) ConfigFault
 tables_or_none at None = Ok []
 tables_or_none at (Some d) = do
-  items ← of_kind at (as_array d)
-  of_kind at (all_as as_table items)
+  items ← or_fault (WrongKind at) (as_array d)
+  or_fault (WrongKind at) (all_as as_table items)
 
 -- at most so many tables
 unfoldable pub tables : Place → List ℕ → ℕ → Members → Result (List Members) ConfigFault
@@ -91,9 +77,9 @@ tables at key most t = do
 -- an array of texts
 unfoldable pub texts : Place → List ℕ → Members → Result (List (List ℕ)) ConfigFault
 texts at key t = do
-  value ← required at (get_member key t)
-  items ← of_kind at (as_array value)
-  of_kind at (all_as as_str items)
+  value ← or_fault (Missing at) (get_member key t)
+  items ← or_fault (WrongKind at) (as_array value)
+  or_fault (WrongKind at) (all_as as_str items)
 
 -- the table has no key but these
 unfoldable pub are_among : List (List ℕ) → Members → Bool

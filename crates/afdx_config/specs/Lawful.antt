@@ -4,10 +4,9 @@ use Rattle.std.specs.Prelude.{IsTrue, Some}
 use Rattle.std.specs.List.{list_any, AllByRecursion}
 use Rattle.afdx_frame.specs.Lengths.{least_frame, greatest_frame, greatest_buffer}
 use Rattle.afdx_frame.specs.Regulation.{is_bag}
-use Rattle.afdx_config.specs.declared.read_links.Traffic.{Traffic}
-use Rattle.afdx_config.specs.declared.read_links.Treatment.{Treatment}
 use Rattle.afdx_config.specs.Rows.{SystemRow, LinkRow, PortRow, Rows}
 use Rattle.afdx_config.specs.Reading.{is_name, are_apart, goes_to, deepest, rates}
+use Rattle.afdx_config.specs.Reading.{greatest_delay}
 
 abbrev pub IsWithin : ℕ → ℕ → ℕ → Type 0
 IsWithin low high n = (low ≤ n) × (n ≤ high)
@@ -27,19 +26,6 @@ pub record IsSystem (profile : ℕ) (s : SystemRow) : Type 0 where
   pub partition : IsWithin 0 255 s.partition
   pub rate : IsOneOf (rates profile) s.rate
 
--- how much a link may send
-pub record IsTraffic (x : Traffic) : Type 0 where
-  pub bag_ms : IsTrue (is_bag x.bag_ms)
-  pub lmin : IsWithin least_frame greatest_frame x.lmin
-  pub lmax : IsWithin x.lmin greatest_frame x.lmax
-  pub jitter_us : IsWithin 0 (1000 * x.bag_ms) x.jitter_us
-
--- how a link's frames are treated
-pub record IsTreatment (x : Treatment) : Type 0 where
-  pub latency_us : IsWithin 1 100000 x.latency_us
-  pub skew_us : IsWithin 1 100000 x.skew_us
-  pub subs : IsWithin 1 4 x.subs
-
 pub record IsLink (systems : ℕ) (l : LinkRow) : Type 0 where
   pub vl : IsWithin 0 65535 l.vl
   pub from : l.from < systems
@@ -50,8 +36,8 @@ pub record IsLink (systems : ℕ) (l : LinkRow) : Type 0 where
   pub lmin : IsWithin least_frame greatest_frame l.lmin
   pub lmax : IsWithin l.lmin greatest_frame l.lmax
   pub jitter_us : IsWithin 0 (1000 * l.bag_ms) l.jitter_us
-  pub latency_us : IsWithin 1 100000 l.latency_us
-  pub skew_us : IsWithin 1 100000 l.skew_us
+  pub latency_us : IsWithin 1 greatest_delay l.latency_us
+  pub skew_us : IsWithin 1 greatest_delay l.skew_us
   pub subs : IsWithin 1 4 l.subs
 
 pub record IsPort (systems : ℕ) (links : List LinkRow) (p : PortRow) : Type 0 where

@@ -25,7 +25,7 @@ use Rattle.afdx_config.specs.declared.rows.Kind.TheVariants.{Sampling, Queuing}
 use Rattle.afdx_config.specs.declared.read_links.Traffic.{Traffic}
 use Rattle.afdx_config.specs.declared.read_links.Treatment.{Treatment}
 use Rattle.afdx_config.specs.Rows.{SystemRow, LinkRow, PortRow, Rows, is_to}
-use Rattle.afdx_config.specs.Fault.{◌>>=◌, ◌>>◌, check}
+use Rattle.afdx_config.specs.Fault.{◌>>=◌, ◌>>◌, check, or_fault}
 use Rattle.afdx_config.specs.Keys.{place, whole, one_of, text, word, tables, texts}
 use Rattle.afdx_config.specs.Keys.{only_system_keys, only_link_keys, only_port_keys, only_top_keys}
 
@@ -41,15 +41,11 @@ system_at_port systems port = position (λ s. s.port == port) systems
 unfoldable pub has_id : List SystemRow → ℕ → Bool
 has_id systems id = list_any (λ s. s.id == id) systems
 
--- a text that has to name a system
-abbrev pub or_no_such : {A : Type 0} → Place → Option A → Result A ConfigFault
-or_no_such at None = Err (NoSuchSystem at)
-or_no_such at (Some x) = Ok x
-
+-- the system that a text names
 unfoldable pub named : Place → List ℕ → List SystemRow → Members → Result ℕ ConfigFault
 named at key systems t = do
   name ← text at key t
-  or_no_such at (system_named systems name)
+  or_fault (NoSuchSystem at) (system_named systems name)
 
 -- what each of a list stands for, where each stands for something
 abbrev pub all_of : {X A : Type 0} → (X → Option A) → List X → Option (List A)
@@ -70,7 +66,7 @@ unfoldable pub destinations : Place → List SystemRow → ℕ → Members → R
 destinations at systems from t = do
   names ← texts at (codes "to") t
   check (nat_le 1 (length names) && nat_le (length names) 24) (OutOfRange at)
-  to ← or_no_such at (all_of (system_named systems) names)
+  to ← or_fault (NoSuchSystem at) (all_of (system_named systems) names)
   check (are_apart from to) (Twice at)
   Ok to
 
@@ -110,6 +106,10 @@ system_at profile before t =
 unfoldable pub link_of : List LinkRow → ℕ → Option ℕ
 link_of links vl = position (λ l. nat_eq vl l.vl) links
 
+-- the greatest latency and the greatest skew of a link, in us
+abbrev pub greatest_delay : ℕ
+greatest_delay = 100000
+
 -- how much a link may send, and how its frames are treated
 unfoldable pub traffic_at : (ℕ → Place) → Members → Result Traffic ConfigFault
 traffic_at at t = do
@@ -123,8 +123,8 @@ unfoldable pub treatment_at : (ℕ → Place) → Members → Result Treatment C
 treatment_at at t = do
   priority ← word (at 8) (codes "priority") ((codes "high", High) ∷ (codes "low", Low) ∷ []) t
   policing ← word (at 9) (codes "policing") ((codes "byte", Byte) ∷ (codes "frame", Frame) ∷ []) t
-  latency_us ← whole (at 10) (codes "latency_us") 1 100000 t
-  skew_us ← whole (at 11) (codes "skew_us") 1 100000 t
+  latency_us ← whole (at 10) (codes "latency_us") 1 greatest_delay t
+  skew_us ← whole (at 11) (codes "skew_us") 1 greatest_delay t
   subs ← whole (at 12) (codes "subs") 1 4 t
   Ok (record {
     priority = priority;

@@ -9,7 +9,7 @@ ghost use Rattle.toml.specs.View.{view, table_view, items_view};
 ghost use Rattle.std.specs.List.{list_any, list_all};
 ghost use Rattle.std.specs.Str.{bytes_eq};
 ghost use Rattle.afdx_config.specs.Lawful.{IsWithin, IsOneOf};
-ghost use Rattle.afdx_config.specs.Fault.{Gives};
+ghost use Rattle.afdx_config.specs.Fault.{Gives, or_fault};
 ghost use Rattle.afdx_config.specs.Trees.{trees, lent_texts};
 ghost use Rattle.afdx_config.specs.Keys as spec;
 
@@ -30,30 +30,30 @@ fn member<'a>(table: &'a Table, key: &str) -> Option<&'a Value>
 }
 
 /// The value at a key that has to be there.
-fn required<'a>(table: &'a Table, place: Place, key: &str) -> Result<&'a Value, ConfigFault>
+fn required<'a>(table: &'a Table, at: Place, key: &str) -> Result<&'a Value, ConfigFault>
     ensures value { Gives (λ v. view v.now) result
-        (spec.required place (get_member key.now (table_view table.now))) }
+        (or_fault (ConfigFault.Missing at) (get_member key.now (table_view table.now))) }
     ensures fault { IfErr result (λ e. e ≢ ConfigFault.Memory) }
 {
     match member(table, key) {
         Some(value) => Ok(value),
-        None => Err(ConfigFault::Missing(place)),
+        None => Err(ConfigFault::Missing(at)),
     }
 }
 
-fn in_range(number: i64, place: Place, low: u64, high: u64) -> Result<u64, ConfigFault>
-    ensures value { Gives (λ n. n) result (spec.in_range place low high number) }
+fn in_range(number: i64, at: Place, low: u64, high: u64) -> Result<u64, ConfigFault>
+    ensures value { Gives (λ n. n) result (spec.in_range at low high number) }
     ensures within { IfOk result (IsWithin low high) }
     ensures fault { IfErr result (λ e. e ≢ ConfigFault.Memory) }
 {
     if number < 0 {
-        return Err(ConfigFault::OutOfRange(place));
+        return Err(ConfigFault::OutOfRange(at));
     }
     let number = number as u64;
     if low <= number && number <= high {
         Ok(number)
     } else {
-        Err(ConfigFault::OutOfRange(place))
+        Err(ConfigFault::OutOfRange(at))
     }
 }
 
@@ -61,96 +61,96 @@ fn in_range(number: i64, place: Place, low: u64, high: u64) -> Result<u64, Confi
 #[tactic(auto, unfolding(crate::specs::Keys::whole))]
 pub(crate) fn whole(
     table: &Table,
-    place: Place,
+    at: Place,
     key: &str,
     low: u64,
     high: u64,
 ) -> Result<u64, ConfigFault>
     ensures value { Gives (λ n. n) result
-        (spec.whole place key.now low high (table_view table.now)) }
+        (spec.whole at key.now low high (table_view table.now)) }
     ensures within { IfOk result (IsWithin low high) }
     ensures fault { IfErr result (λ e. e ≢ ConfigFault.Memory) }
 {
-    let value = required(table, place, key)?;
+    let value = required(table, at, key)?;
     let Some(number) = value.as_integer() else {
-        return Err(ConfigFault::WrongKind(place));
+        return Err(ConfigFault::WrongKind(at));
     };
-    in_range(number, place, low, high)
+    in_range(number, at, low, high)
 }
 
 /// One of some whole numbers.
 #[tactic(auto, unfolding(crate::specs::Keys::one_of))]
 pub(crate) fn one_of(
     table: &Table,
-    place: Place,
+    at: Place,
     key: &str,
     values: &[u64],
 ) -> Result<u64, ConfigFault>
     ensures value { Gives (λ n. n) result
-        (spec.one_of place key.now values.now (table_view table.now)) }
+        (spec.one_of at key.now values.now (table_view table.now)) }
     ensures among { IfOk result (IsOneOf values.now) }
 {
-    let number = whole(table, place, key, 0, u64::MAX)?;
+    let number = whole(table, at, key, 0, u64::MAX)?;
     if values.contains(&number) {
         Ok(number)
     } else {
-        Err(ConfigFault::OutOfRange(place))
+        Err(ConfigFault::OutOfRange(at))
     }
 }
 
 #[tactic(auto, unfolding(crate::specs::Keys::text))]
-pub(crate) fn text<'a>(table: &'a Table, place: Place, key: &str) -> Result<&'a str, ConfigFault>
-    ensures { Gives (λ s. s.now) result (spec.text place key.now (table_view table.now)) }
+pub(crate) fn text<'a>(table: &'a Table, at: Place, key: &str) -> Result<&'a str, ConfigFault>
+    ensures { Gives (λ s. s.now) result (spec.text at key.now (table_view table.now)) }
 {
-    let value = required(table, place, key)?;
+    let value = required(table, at, key)?;
     match value.as_str() {
-        Some(text) => Ok(text),
-        None => Err(ConfigFault::WrongKind(place)),
+        Some(word) => Ok(word),
+        None => Err(ConfigFault::WrongKind(at)),
     }
 }
 
 fn tables_in<'a>(
     alloc: Global,
     items: &'a [Value],
-    place: Place,
+    at: Place,
 ) -> Result<Vec<&'a Table>, ConfigFault>
     ensures { Gives (λ v. trees v.items) result
-        (spec.of_kind place (spec.all_as as_table (items_view items.now))) }
+        (or_fault (ConfigFault.WrongKind at) (spec.all_as as_table (items_view items.now))) }
 {
-    let mut tables = Vec::new(alloc);
+    let mut rows = Vec::new(alloc);
     for item in items {
         match item.as_table() {
-            Some(table) => tables.push(table)?,
-            None => return Err(ConfigFault::WrongKind(place)),
+            Some(table) => rows.push(table)?,
+            None => return Err(ConfigFault::WrongKind(at)),
         }
     }
-    Ok(tables)
+    Ok(rows)
 }
 
-fn array<'a>(value: &'a Value, place: Place) -> Result<&'a [Value], ConfigFault>
+fn array<'a>(value: &'a Value, at: Place) -> Result<&'a [Value], ConfigFault>
     ensures { Gives (λ items. items_view items.now) result
-        (spec.of_kind place (as_array (view value.now))) }
+        (or_fault (ConfigFault.WrongKind at) (as_array (view value.now))) }
 {
     match value.as_array() {
         Some(items) => Ok(items.as_slice()),
-        None => Err(ConfigFault::WrongKind(place)),
+        None => Err(ConfigFault::WrongKind(at)),
     }
 }
 
 fn tables_or_none<'a>(
     alloc: Global,
     table: &'a Table,
-    place: Place,
+    at: Place,
     key: &str,
 ) -> Result<Vec<&'a Table>, ConfigFault>
     ensures { Gives (λ v. trees v.items) result
-        (spec.tables_or_none place (get_member key.now (table_view table.now))) }
+        (spec.tables_or_none at (get_member key.now (table_view table.now))) }
 {
     match member(table, key) {
         None => Ok(Vec::new(alloc)),
         Some(value) => {
-            let items = array(value, place)?;
-            tables_in(alloc, items, place)
+            let items = array(value, at)?;
+            tables_in(alloc, items, at)
         }
     }
 }
@@ -160,38 +160,34 @@ fn tables_or_none<'a>(
 pub(crate) fn tables<'a>(
     alloc: Global,
     table: &'a Table,
-    place: Place,
+    at: Place,
     key: &str,
     most: usize,
 ) -> Result<Vec<&'a Table>, ConfigFault>
     ensures value { Gives (λ v. trees v.items) result
-        (spec.tables place key.now most (table_view table.now)) }
+        (spec.tables at key.now most (table_view table.now)) }
     ensures within { IfOk result (λ v. length v.items ≤ most) }
 {
-    let tables = tables_or_none(alloc, table, place, key)?;
-    if tables.len() <= most {
-        Ok(tables)
+    let rows = tables_or_none(alloc, table, at, key)?;
+    if rows.len() <= most {
+        Ok(rows)
     } else {
-        Err(ConfigFault::OutOfRange(place))
+        Err(ConfigFault::OutOfRange(at))
     }
 }
 
-fn texts_in<'a>(
-    alloc: Global,
-    items: &'a [Value],
-    place: Place,
-) -> Result<Vec<&'a str>, ConfigFault>
+fn texts_in<'a>(alloc: Global, items: &'a [Value], at: Place) -> Result<Vec<&'a str>, ConfigFault>
     ensures { Gives (λ v. lent_texts v.items) result
-        (spec.of_kind place (spec.all_as as_str (items_view items.now))) }
+        (or_fault (ConfigFault.WrongKind at) (spec.all_as as_str (items_view items.now))) }
 {
-    let mut texts = Vec::new(alloc);
+    let mut words = Vec::new(alloc);
     for item in items {
         match item.as_str() {
-            Some(text) => texts.push(text)?,
-            None => return Err(ConfigFault::WrongKind(place)),
+            Some(word) => words.push(word)?,
+            None => return Err(ConfigFault::WrongKind(at)),
         }
     }
-    Ok(texts)
+    Ok(words)
 }
 
 /// An array of texts.
@@ -199,27 +195,27 @@ fn texts_in<'a>(
 pub(crate) fn texts<'a>(
     alloc: Global,
     table: &'a Table,
-    place: Place,
+    at: Place,
     key: &str,
 ) -> Result<Vec<&'a str>, ConfigFault>
     ensures { Gives (λ v. lent_texts v.items) result
-        (spec.texts place key.now (table_view table.now)) }
+        (spec.texts at key.now (table_view table.now)) }
 {
-    let value = required(table, place, key)?;
-    let items = array(value, place)?;
-    texts_in(alloc, items, place)
+    let value = required(table, at, key)?;
+    let items = array(value, at)?;
+    texts_in(alloc, items, at)
 }
 
 /// Refuses a key that isn't known.
 #[tactic(auto, unfolding(crate::specs::Keys::only))]
-fn only(table: &Table, place: Place, known: &[&str]) -> Result<(), ConfigFault>
+fn only(table: &Table, at: Place, known: &[&str]) -> Result<(), ConfigFault>
     ensures { Gives (λ _. tt) result
-        (spec.only place (lent_texts known.now) (table_view table.now)) }
+        (spec.only at (lent_texts known.now) (table_view table.now)) }
 {
     if are_among(known, table) {
         Ok(())
     } else {
-        Err(ConfigFault::UnknownKey(place))
+        Err(ConfigFault::UnknownKey(at))
     }
 }
 
@@ -238,19 +234,19 @@ fn is_among(names: &[&str], name: &str) -> bool
 }
 
 #[tactic(auto, unfolding(crate::specs::Keys::only_system_keys))]
-pub(crate) fn only_system_keys(table: &Table, place: Place) -> Result<(), ConfigFault>
-    ensures { Gives (λ _. tt) result (spec.only_system_keys place (table_view table.now)) }
+pub(crate) fn only_system_keys(table: &Table, at: Place) -> Result<(), ConfigFault>
+    ensures { Gives (λ _. tt) result (spec.only_system_keys at (table_view table.now)) }
 {
-    only(table, place, &["name", "port", "id", "partition", "rate"])
+    only(table, at, &["name", "port", "id", "partition", "rate"])
 }
 
 #[tactic(auto, unfolding(crate::specs::Keys::only_link_keys))]
-pub(crate) fn only_link_keys(table: &Table, place: Place) -> Result<(), ConfigFault>
-    ensures { Gives (λ _. tt) result (spec.only_link_keys place (table_view table.now)) }
+pub(crate) fn only_link_keys(table: &Table, at: Place) -> Result<(), ConfigFault>
+    ensures { Gives (λ _. tt) result (spec.only_link_keys at (table_view table.now)) }
 {
     only(
         table,
-        place,
+        at,
         &[
             "vl",
             "from",
@@ -269,19 +265,15 @@ pub(crate) fn only_link_keys(table: &Table, place: Place) -> Result<(), ConfigFa
 }
 
 #[tactic(auto, unfolding(crate::specs::Keys::only_port_keys))]
-pub(crate) fn only_port_keys(table: &Table, place: Place) -> Result<(), ConfigFault>
-    ensures { Gives (λ _. tt) result (spec.only_port_keys place (table_view table.now)) }
+pub(crate) fn only_port_keys(table: &Table, at: Place) -> Result<(), ConfigFault>
+    ensures { Gives (λ _. tt) result (spec.only_port_keys at (table_view table.now)) }
 {
-    only(table, place, &["system", "link", "udp", "kind", "depth"])
+    only(table, at, &["system", "link", "udp", "kind", "depth"])
 }
 
 #[tactic(auto, unfolding(crate::specs::Keys::only_top_keys))]
-pub(crate) fn only_top_keys(table: &Table, place: Place) -> Result<(), ConfigFault>
-    ensures { Gives (λ _. tt) result (spec.only_top_keys place (table_view table.now)) }
+pub(crate) fn only_top_keys(table: &Table, at: Place) -> Result<(), ConfigFault>
+    ensures { Gives (λ _. tt) result (spec.only_top_keys at (table_view table.now)) }
 {
-    only(
-        table,
-        place,
-        &["profile", "buffer", "system", "link", "port"],
-    )
+    only(table, at, &["profile", "buffer", "system", "link", "port"])
 }

@@ -13,6 +13,7 @@ use crate::read_links::links_of;
 use crate::read_ports::coms_of;
 use crate::read_systems::systems_of;
 use crate::tables::Tables;
+use afdx_frame::{GREATEST_BUFFER, LEAST_FRAME};
 use std::alloc::Global;
 use toml::Table;
 
@@ -34,7 +35,13 @@ fn tables_of(alloc: Global, tree: &Table) -> Result<Tables, ConfigFault>
     ensures { Gives (λ t. t) result (spec.tables_at (table_view tree.now)) }
 {
     let profile = profile_of(tree)?;
-    let buffer = whole(tree, place(Part::Top, 0, 2), "buffer", 64, 4_194_304)?;
+    let buffer = whole(
+        tree,
+        place(Part::Top, 0, 2),
+        "buffer",
+        LEAST_FRAME as u64,
+        GREATEST_BUFFER,
+    )?;
     let systems = tables(alloc, tree, place(Part::Top, 0, 3), "system", 24)?;
     let links = tables(alloc, tree, place(Part::Top, 0, 4), "link", 4096)?;
     let ports = tables(alloc, tree, place(Part::Top, 0, 5), "port", 4096)?;

@@ -1,14 +1,16 @@
 //! The reading of links.
 
 ghost use Rattle.std.specs.Prelude.{◌≡◌, ◌≤◌, ◌<◌, ◌∷◌, [], length, None, IfOk, codes, true};
-ghost use Rattle.std.specs.Prelude.{nat_eq};
+ghost use Rattle.std.specs.Prelude.{nat_eq, IsTrue, ◌*◌};
 ghost use Rattle.std.specs.List.{list_any, AllByRecursion};
 ghost use Rattle.toml.specs.View.{table_view};
 ghost use Rattle.afdx_frame.specs.declared.link.Priority.TheVariants.{High, Low};
 ghost use Rattle.afdx_frame.specs.declared.link.Policing.TheVariants.{Byte, Frame};
-ghost use Rattle.afdx_config.specs.Lawful.{IsLink, AreLinks, IsTraffic, IsTreatment, IsWithin};
+ghost use Rattle.afdx_frame.specs.Lengths.{least_frame, greatest_frame};
+ghost use Rattle.afdx_frame.specs.Regulation.{is_bag};
+ghost use Rattle.afdx_config.specs.Lawful.{IsLink, AreLinks, IsWithin};
 ghost use Rattle.afdx_config.specs.Rows.{link_row, system_places};
-ghost use Rattle.afdx_config.specs.Fault.{Gives};
+ghost use Rattle.afdx_config.specs.Fault.{Gives, or_fault};
 ghost use Rattle.afdx_config.specs.Trees.{trees, lent_texts};
 ghost use Rattle.afdx_config.specs.Keys as keys;
 ghost use Rattle.afdx_config.specs.Reading as spec;
@@ -19,14 +21,14 @@ use crate::links::Links;
 use crate::read_systems::named;
 use crate::rows::{Link, SystemId};
 use crate::systems::Systems;
-use afdx_frame::{Policing, Priority, VlId};
+use afdx_frame::{GAPS_MS, GREATEST_FRAME, LEAST_FRAME, Policing, Priority, VlId};
 use std::alloc::Global;
 use toml::Table;
 
-#[tactic(auto, using(crate::proofs::EachRow::all_push))]
+#[tactic(auto, using(crate::proofs::EachRowLemmas::all_push))]
 fn all_named(
     alloc: Global,
-    place: Place,
+    at: Place,
     names: &[&str],
     systems: &Systems,
 ) -> Result<Vec<SystemId>, ConfigFault>
@@ -34,20 +36,20 @@ fn all_named(
         (λ v. AllByRecursion (λ i. i < length systems.now) (system_places v.items)) }
     ensures count { IfOk result (λ v. length v.items ≡ length names.now) }
     ensures value { Gives (λ v. system_places v.items) result
-        (spec.or_no_such place
+        (or_fault (ConfigFault.NoSuchSystem at)
         (spec.all_of (spec.system_named systems.now) (lent_texts names.now))) }
 {
     let mut ids = Vec::new(alloc);
     for name in names {
         match systems.named(name) {
             Some(id) => ids.push(id)?,
-            None => return Err(ConfigFault::NoSuchSystem(place)),
+            None => return Err(ConfigFault::NoSuchSystem(at)),
         }
     }
     Ok(ids)
 }
 
-#[tactic(auto, using(crate::proofs::Gathered::any_places))]
+#[tactic(auto, using(crate::proofs::GatheredLemmas::any_places))]
 fn is_among(id: SystemId, ids: &[SystemId]) -> bool
     ensures { result ≡ list_any (λ j. nat_eq j id.0) (system_places ids.now) }
 {
@@ -75,7 +77,7 @@ fn are_apart(from: SystemId, ids: &[SystemId]) -> bool
 fn destinations(
     alloc: Global,
     table: &Table,
-    place: Place,
+    at: Place,
     systems: &Systems,
     from: SystemId,
 ) -> Result<Vec<SystemId>, ConfigFault>
@@ -84,46 +86,43 @@ fn destinations(
     ensures count { IfOk result (λ v. IsWithin 1 24 (length v.items)) }
     ensures apart { IfOk result (λ v. spec.are_apart from.0 (system_places v.items) ≡ true) }
     ensures value { Gives (λ v. system_places v.items) result
-        (spec.destinations place systems.now from.0 (table_view table.now)) }
+        (spec.destinations at systems.now from.0 (table_view table.now)) }
 {
-    let names = texts(alloc, table, place, "to")?;
-    if names.len() < 1 || 24 < names.len() {
-        return Err(ConfigFault::OutOfRange(place));
+    let names = texts(alloc, table, at, "to")?;
+    if names.is_empty() || 24 < names.len() {
+        return Err(ConfigFault::OutOfRange(at));
     }
-    let ids = all_named(alloc, place, &names, systems)?;
+    let ids = all_named(alloc, at, &names, systems)?;
     if are_apart(from, &ids) {
         Ok(ids)
     } else {
-        Err(ConfigFault::Twice(place))
+        Err(ConfigFault::Twice(at))
     }
 }
 
 #[tactic(auto, unfolding(crate::specs::Keys::word))]
-fn priority_at(table: &Table, place: Place) -> Result<Priority, ConfigFault>
+fn priority_at(table: &Table, at: Place) -> Result<Priority, ConfigFault>
     ensures { Gives (λ p. p) result
-        (keys.word place (codes "priority") ((codes "high", High) ∷ (codes "low", Low) ∷ [])
+        (keys.word at (codes "priority") ((codes "high", High) ∷ (codes "low", Low) ∷ [])
         (table_view table.now)) }
 {
-    match text(table, place, "priority")? {
+    match text(table, at, "priority")? {
         "high" => Ok(Priority::High),
         "low" => Ok(Priority::Low),
-        _ => Err(ConfigFault::OutOfRange(place)),
+        _ => Err(ConfigFault::OutOfRange(at)),
     }
 }
 
 #[tactic(auto, unfolding(crate::specs::Keys::word))]
-fn policing_at(table: &Table, place: Place) -> Result<Policing, ConfigFault>
+fn policing_at(table: &Table, at: Place) -> Result<Policing, ConfigFault>
     ensures { Gives (λ p. p) result
-        (keys.word place (codes "policing") ((codes "byte", Byte) ∷ (codes "frame", Frame) ∷ [])
+        (keys.word at (codes "policing") ((codes "byte", Byte) ∷ (codes "frame", Frame) ∷ [])
         (table_view table.now)) }
 {
-    let word = text(table, place, "policing")?;
-    if word == "byte" {
-        Ok(Policing::Byte)
-    } else if word == "frame" {
-        Ok(Policing::Frame)
-    } else {
-        Err(ConfigFault::OutOfRange(place))
+    match text(table, at, "policing")? {
+        "byte" => Ok(Policing::Byte),
+        "frame" => Ok(Policing::Frame),
+        _ => Err(ConfigFault::OutOfRange(at)),
     }
 }
 
@@ -135,6 +134,9 @@ struct Traffic {
     lmax: u64,
     jitter_us: u64,
 }
+
+/// The greatest latency and the greatest skew of a link, in us.
+const GREATEST_DELAY: u64 = 100_000;
 
 /// How a link's frames are treated.
 #[derive(Clone, Copy)]
@@ -148,18 +150,17 @@ struct Treatment {
 
 #[tactic(auto, unfolding(crate::specs::Reading::traffic_at))]
 fn traffic_of(table: &Table, index: usize) -> Result<Traffic, ConfigFault>
-    ensures lawful { IfOk result IsTraffic }
+    ensures gap { IfOk result (λ x. IsTrue (is_bag x.bag_ms)) }
+    ensures least { IfOk result (λ x. IsWithin least_frame greatest_frame x.lmin) }
+    ensures greatest { IfOk result (λ x. IsWithin x.lmin greatest_frame x.lmax) }
+    ensures jitter { IfOk result (λ x. IsWithin 0 (1000 * x.bag_ms) x.jitter_us) }
     ensures value { Gives (λ x. x) result
         (spec.traffic_at (keys.place Part.Link index) (table_view table.now)) }
 {
-    let bag_ms = one_of(
-        table,
-        place(Part::Link, index, 4),
-        "bag_ms",
-        &[1, 2, 4, 8, 16, 32, 64, 128],
-    )?;
-    let lmin = whole(table, place(Part::Link, index, 5), "lmin", 64, 1518)?;
-    let lmax = whole(table, place(Part::Link, index, 6), "lmax", lmin, 1518)?;
+    let (least, greatest) = (LEAST_FRAME as u64, GREATEST_FRAME as u64);
+    let bag_ms = one_of(table, place(Part::Link, index, 4), "bag_ms", &GAPS_MS)?;
+    let lmin = whole(table, place(Part::Link, index, 5), "lmin", least, greatest)?;
+    let lmax = whole(table, place(Part::Link, index, 6), "lmax", lmin, greatest)?;
     let jitter_us = whole(
         table,
         place(Part::Link, index, 7),
@@ -177,20 +178,18 @@ fn traffic_of(table: &Table, index: usize) -> Result<Traffic, ConfigFault>
 
 #[tactic(auto, unfolding(crate::specs::Reading::treatment_at))]
 fn treatment_of(table: &Table, index: usize) -> Result<Treatment, ConfigFault>
-    ensures lawful { IfOk result IsTreatment }
+    ensures latency { IfOk result (λ x. IsWithin 1 spec.greatest_delay x.latency_us) }
+    ensures skew { IfOk result (λ x. IsWithin 1 spec.greatest_delay x.skew_us) }
+    ensures subs { IfOk result (λ x. IsWithin 1 4 x.subs) }
     ensures value { Gives (λ x. x) result
         (spec.treatment_at (keys.place Part.Link index) (table_view table.now)) }
 {
     let priority = priority_at(table, place(Part::Link, index, 8))?;
     let policing = policing_at(table, place(Part::Link, index, 9))?;
-    let latency_us = whole(
-        table,
-        place(Part::Link, index, 10),
-        "latency_us",
-        1,
-        100_000,
-    )?;
-    let skew_us = whole(table, place(Part::Link, index, 11), "skew_us", 1, 100_000)?;
+    let at = place(Part::Link, index, 10);
+    let latency_us = whole(table, at, "latency_us", 1, GREATEST_DELAY)?;
+    let at = place(Part::Link, index, 11);
+    let skew_us = whole(table, at, "skew_us", 1, GREATEST_DELAY)?;
     let subs = whole(table, place(Part::Link, index, 12), "subs", 1, 4)?;
     Ok(Treatment {
         priority,

@@ -92,16 +92,16 @@ fn deepest(kind: Kind) -> u64
 }
 
 #[tactic(auto, unfolding(crate::specs::Keys::word))]
-fn kind_at(table: &Table, place: Place) -> Result<Kind, ConfigFault>
+fn kind_at(table: &Table, at: Place) -> Result<Kind, ConfigFault>
     ensures { Gives (λ k. k) result
-        (keys.word place (codes "kind")
+        (keys.word at (codes "kind")
         ((codes "sampling", Kind.Sampling) ∷ (codes "queuing", Kind.Queuing) ∷ [])
         (table_view table.now)) }
 {
-    match text(table, place, "kind")? {
+    match text(table, at, "kind")? {
         "sampling" => Ok(Kind::Sampling),
         "queuing" => Ok(Kind::Queuing),
-        _ => Err(ConfigFault::OutOfRange(place)),
+        _ => Err(ConfigFault::OutOfRange(at)),
     }
 }
 

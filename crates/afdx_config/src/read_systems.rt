@@ -22,18 +22,18 @@ use toml::Table;
 #[tactic(auto, unfolding(crate::specs::Reading::named))]
 pub(crate) fn named(
     table: &Table,
-    place: Place,
+    at: Place,
     key: &str,
     systems: &Systems,
 ) -> Result<SystemId, ConfigFault>
     ensures known { IfOk result (λ i. i.0 < length systems.now) }
     ensures value { Gives (λ i. i.0) result
-        (spec.named place key.now systems.now (table_view table.now)) }
+        (spec.named at key.now systems.now (table_view table.now)) }
 {
-    let name = text(table, place, key)?;
+    let name = text(table, at, key)?;
     match systems.named(name) {
         Some(id) => Ok(id),
-        None => Err(ConfigFault::NoSuchSystem(place)),
+        None => Err(ConfigFault::NoSuchSystem(at)),
     }
 }
 
@@ -52,18 +52,18 @@ fn is_alphanumeric(text: &str) -> bool
 }
 
 #[tactic(auto, unfolding(crate::specs::Reading::new_name))]
-fn new_name<'a>(table: &'a Table, place: Place, before: &Systems) -> Result<&'a str, ConfigFault>
+fn new_name<'a>(table: &'a Table, at: Place, before: &Systems) -> Result<&'a str, ConfigFault>
     ensures value { Gives (λ s. s.now) result
-        (spec.new_name place before.now (table_view table.now)) }
+        (spec.new_name at before.now (table_view table.now)) }
     ensures fresh { IfOk result (λ s. spec.system_named before.now s.now ≡ None) }
     ensures lawful { IfOk result (λ s. spec.is_name s.now ≡ true) }
 {
-    let name = text(table, place, "name")?;
+    let name = text(table, at, "name")?;
     if !is_name(name) {
-        return Err(ConfigFault::OutOfRange(place));
+        return Err(ConfigFault::OutOfRange(at));
     }
     if before.named(name).is_some() {
-        return Err(ConfigFault::Twice(place));
+        return Err(ConfigFault::Twice(at));
     }
     Ok(name)
 }

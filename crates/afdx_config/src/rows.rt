@@ -46,7 +46,7 @@ impl Link {
     ghost use Rattle.afdx_config.specs.Rows.{link_row, is_to};
 
     /// Whether the link goes to the system.
-    #[tactic(auto, using(crate::proofs::Gathered::any_places))]
+    #[tactic(auto, using(crate::proofs::GatheredLemmas::any_places))]
     pub fn goes_to(&self, system: SystemId) -> bool
         ensures { result ≡ is_to system.0 (link_row self.now) }
     {

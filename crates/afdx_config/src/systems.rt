@@ -52,10 +52,8 @@ impl Systems {
         ensures place { option_map (λ i. i.0) result ≡ system_named self.now name.now }
         ensures known { IfSome result (λ i. i.0 < length self.now) }
     {
-        match self.by_name.get_index_of(name) {
-            Some(index) => Some(SystemId(index as u8)),
-            None => None,
-        }
+        let index = self.by_name.get_index_of(name)?;
+        Some(SystemId(index as u8))
     }
 
     pub(crate) fn at(&self, id: SystemId) -> &System
@@ -69,10 +67,8 @@ impl Systems {
         ensures place { option_map (λ i. i.0) result ≡ system_at_port self.now port }
         ensures known { IfSome result (λ i. i.0 < length self.now) }
     {
-        match place_of_port(&self.by_name, port) {
-            Some(index) => Some(SystemId(index as u8)),
-            None => None,
-        }
+        let index = place_of_port(&self.by_name, port)?;
+        Some(SystemId(index as u8))
     }
 
     pub(crate) fn has_id(&self, id: u16) -> bool

@@ -11,7 +11,7 @@ use Rattle.afdx_frame.specs.Datagrams.{ip_header, udp_header}
 use Rattle.afdx_frame.specs.Grammar.{Read, Built, Buildable, network, source_of, built_headers}
 use Rattle.afdx_frame.specs.Grammar.{checksum_of, built_length, built_body, built_frame}
 use Rattle.afdx_frame.specs.Reading.{BuiltIsComputed}
-use Rattle.afdx_frame.proofs.OnlyOne.{only_one}
+use Rattle.afdx_frame.proofs.OnlyOneLemmas.{only_one}
 use Rattle.afdx_frame.proofs.SealingLemmas.{sequence_computed}
 use Rattle.afdx_frame.proofs.FrameLemmas.{ip_bytes, built_is_frame, built_is_read, length-built}
 use Rattle.afdx_frame.proofs.ReadingLemmas.{reading_is_computed}

@@ -17,11 +17,11 @@ use Rattle.afdx_frame.specs.Sealing.{is_sealed, AreBytes}
 use Rattle.afdx_frame.specs.Layout.{IsTo, IsFrame, FrameFault, link_named_by, unsealed}
 use Rattle.afdx_frame.specs.Parts.{FrameParts, type_of_frame, body_of_frame, number_of_frame}
 use Rattle.afdx_frame.specs.Parts.{frame_with, frame_of, IsFrameOf, AreAtPlaces, FrameIsComputed}
-use Rattle.afdx_frame.proofs.Registers.{AreBytes-drop}
+use Rattle.afdx_frame.proofs.RegisterLemmas.{AreBytes-drop}
 use Rattle.afdx_frame.proofs.SealingLemmas.{is_sealed-decides, AreBytes-take}
 use Rattle.afdx_frame.proofs.LayoutLemmas.{is_frame}
 use Rattle.afdx_frame.proofs.LinkLemmas.{link_is_computed}
-use Rattle.afdx_frame.proofs.SoundLemmas.{frames_are_sound}
+use Rattle.afdx_frame.proofs.SoundLemmas.{frames_are_sound, frame_is_to}
 
 -- ---- the parts at their places
 
@@ -81,20 +81,9 @@ kind-at_place bytes body vl kind number f =
     ap type_of_frame (cells bytes body vl kind number f) in
     omega (arith, at, f.kind_fits)
 
-is_to : (bytes body : List ℕ) (vl kind number : ℕ) → IsFrame bytes vl kind body number → IsTo bytes vl
-unfolding front
-is_to bytes body vl kind number f =
-    record {
-      rest = drop 6 bytes;
-      parts = cells bytes body vl kind number f
-          ∙ ap (λ (l : List ℕ). 3 ∷ 0 ∷ 0 ∷ 0 ∷ vl / 256 % 256 ∷ vl % 256 ∷ drop 6 l)
-          (sym (cells bytes body vl kind number f));
-      fits = f.vl_fits;
-    }
-
 pub at_places : (bytes : List ℕ) (p : FrameParts) → IsFrameOf bytes p → AreAtPlaces bytes p
 at_places bytes p f = record {
-  link = link_is_computed.only_one bytes p.link.0 (is_to bytes p.body p.link.0 p.kind p.number f);
+  link = link_is_computed.only_one bytes p.link.0 (frame_is_to bytes p.body p.link.0 p.kind p.number f);
   kind = kind-at_place bytes p.body p.link.0 p.kind p.number f;
   body = body-at_place bytes p.body p.link.0 p.kind p.number f;
   number = number-at_place bytes p.body p.link.0 p.kind p.number f;

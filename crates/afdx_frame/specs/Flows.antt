@@ -7,6 +7,11 @@ use Rattle.afdx_frame.specs.declared.link.Priority.{Priority}
 use Rattle.afdx_frame.specs.declared.link.Priority.TheVariants.{High, Low}
 use Rattle.afdx_frame.specs.Regulation.{Regulation, byte_units, fill_rate, cap}
 
+-- the time in which one frame of each of these is sent, each of its link's greatest size, in ns, on
+-- a line with so many ns to a byte
+abbrev pub sending_time : {X : Type 0} → (X → Regulation) → ℕ → List X → ℕ
+sending_time regulation byte_ns xs = sum_by (λ x. (regulation x).smax * byte_ns) xs
+
 -- a link that sends to the port: its identifier, how it is regulated, its class, and its latency in
 -- ns
 pub record Flow : Type 0 where

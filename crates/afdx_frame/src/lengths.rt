@@ -10,6 +10,9 @@ pub const GREATEST_FRAME: usize = 1518;
 /// sequence number and the check sequence.
 pub const FRAME_OVERHEAD: usize = 47;
 
+/// The greatest buffer of an output port: the bytes of the frames that wait there.
+pub const GREATEST_BUFFER: u64 = 4_194_304;
+
 /// The bytes that a frame takes on the wire besides its own (IEEE 802.3): 7 of preamble,
 /// 1 start delimiter, 12 of gap.
 pub const WIRE_EXTRA: u64 = 20;

@@ -1,4 +1,7 @@
-//! The times of lists, in ns.
+//! The gaps of links, in ms, and the times of lists, in ns.
+
+/// The bandwidth allocation gaps, in ms (ARINC 664 Part 7).
+pub const GAPS_MS: [u64; 8] = [1, 2, 4, 8, 16, 32, 64, 128];
 
 /// The latest time that a line of a list may have.
 pub const LATEST_LISTED: u64 = 1_000_000_000_000_000;

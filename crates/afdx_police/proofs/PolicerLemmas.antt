@@ -7,8 +7,8 @@ use Rattle.std.proofs.lemmas.Bool.{leb-true, le-leb, lt-leb, cond-true, cond-fal
 use Rattle.std.proofs.lemmas.Bool.Decides.{leb_tells}
 use Rattle.std.proofs.lemmas.List.Elements.{All-cons, All-nil}
 use Rattle.afdx_frame.specs.Regulation.{Regulation, bag, jitter, byte_units, fill_rate, cap}
-use Rattle.afdx_police.specs.Account.{overdrawn, missing}
-use Rattle.afdx_police.specs.Policer.{Offer, charged_offer, accepted_offers, Account, StandsFor}
+use Rattle.afdx_police.specs.Account.{Account, overdrawn, missing}
+use Rattle.afdx_police.specs.Policer.{Offer, charged_offer, accepted_offers, StandsFor}
 use Rattle.afdx_police.specs.Rule.{Rule, IsRule, is_bag, regulation_of}
 use Rattle.afdx_police.specs.Window.{Charged, fits, accepted_of}
 use Rattle.afdx_police.proofs.AccountLemmas.{fits-room, is_bag-divides, missing-later, missing-accept}

@@ -14,7 +14,8 @@ use Rattle.afdx_police.specs.Charge.{charge_by}
 use Rattle.afdx_police.specs.Laws.{FaultChangesNothing, VerdictDecides}
 use Rattle.afdx_police.specs.LinkAccounts.{IsOfferedAs, StandsForOwn}
 use Rattle.afdx_police.specs.Offers.{offer_of, offers_of}
-use Rattle.afdx_police.specs.Policer.{Account, Offer, StandsFor, accepted_offers, is_accepted}
+use Rattle.afdx_police.specs.Account.{Account}
+use Rattle.afdx_police.specs.Policer.{Offer, StandsFor, accepted_offers, is_accepted}
 use Rattle.afdx_police.specs.Rule.{Rule, regulation_of}
 use Rattle.afdx_police.specs.Shape.{fault_of}
 use Rattle.afdx_police.specs.Verdicts.{accepted_own, charged_by, reason_after}

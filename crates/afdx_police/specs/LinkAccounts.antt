@@ -5,7 +5,8 @@ use Rattle.afdx_frame.specs.declared.link.Policing.TheVariants.{Byte, Frame}
 use Rattle.afdx_police.specs.Arrival.{Arrival}
 use Rattle.afdx_police.specs.Charge.{charge_by}
 use Rattle.afdx_police.specs.Offers.{offer_of, offers_of}
-use Rattle.afdx_police.specs.Policer.{Account, Offer, StandsFor}
+use Rattle.afdx_police.specs.Account.{Account}
+use Rattle.afdx_police.specs.Policer.{Offer, StandsFor}
 use Rattle.afdx_police.specs.Rule.{Rule}
 use Rattle.afdx_police.specs.Shape.{fault_of}
 use Rattle.afdx_police.specs.declared.account.LinkAccount.{LinkAccount}

@@ -1,8 +1,8 @@
 -- What a policer's account is after a list of offers, the newest first.
 use Rattle.std.specs.Prelude.{◌≡◌, ℕ, ◌+◌, ◌≤◌, All, Bool, List, map}
 use Rattle.afdx_frame.specs.Regulation.{Regulation, cap, wire_of}
-use Rattle.afdx_police.specs.Account.{missing}
-use Rattle.afdx_police.specs.Rule.{Rule, regulation_of}
+use Rattle.afdx_police.specs.Account.{Account, missing}
+use Rattle.afdx_police.specs.Rule.{regulation_of}
 use Rattle.afdx_police.specs.Window.{Charged, fits, accepted_of}
 
 -- a frame that is offered: when it comes, and its length
@@ -23,12 +23,6 @@ accepted_offers charge_of link offers = accepted_of link (map (charged_offer cha
 abbrev pub is_accepted : (ℕ → ℕ → ℕ) → Regulation → List Offer → Offer → Bool
 is_accepted charge_of link offers offer =
     fits link (accepted_offers charge_of link offers) (charged_offer charge_of link offer)
-
--- an account: its link's rule, its level in units, and the time of that level
-pub record Account : Type 0 where
-  pub rule : Rule
-  pub level : ℕ
-  pub time : ℕ
 
 -- the account is the one that these offers leave
 pub record StandsFor (charge_of : ℕ → ℕ → ℕ) (account : Account)

@@ -1,6 +1,8 @@
 //! What a frame is charged to its link's account.
 
 ghost use Rattle.std.specs.Prelude.{◌≡◌, ℕ, ◌≤◌};
+ghost use Rattle.afdx_frame.specs.Lengths.{least_frame};
+ghost use Rattle.afdx_frame.specs.Regulation.{wire_of};
 
 /// A kind of charge (ARINC 664 Part 7: byte-based or frame-based policing).
 pub trait Charge: Drop {
@@ -14,7 +16,7 @@ pub trait Charge: Drop {
         ensures { result ≡ charge_of smax wire };
 
     /// The charge is at least the frame, and at most the link's greatest one.
-    ghost bounded: { (smax wire : ℕ) → 84 ≤ wire → wire ≤ smax →
+    ghost bounded: { (smax wire : ℕ) → wire_of least_frame ≤ wire → wire ≤ smax →
         (wire ≤ charge_of smax wire) × (charge_of smax wire ≤ smax) };
 }
 

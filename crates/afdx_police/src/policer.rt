@@ -23,7 +23,7 @@ pub struct Policer<C> {
 impl<C> Model for Policer<C> {
     ghost use Rattle.std.specs.Prelude.{◌≤◌};
     ghost use Rattle.afdx_frame.specs.Regulation.{cap};
-    ghost use Rattle.afdx_police.specs.Policer.{Account};
+    ghost use Rattle.afdx_police.specs.Account.{Account};
     ghost use Rattle.afdx_police.specs.Rule.{regulation_of};
     ghost use Rattle.afdx_police.specs.RuleOf.{rule_of};
 

@@ -3,7 +3,7 @@
 ghost use Rattle.std.specs.Prelude.{◌≡◌, ◌↔◌, IsSome, IfSome};
 ghost use Rattle.afdx_police.specs.Rule.{IsRule, rule_with};
 
-use afdx_frame::{GREATEST_FRAME, LEAST_FRAME, Policing, VlId, WIRE_EXTRA};
+use afdx_frame::{GAPS_MS, GREATEST_FRAME, LEAST_FRAME, Policing, VlId, WIRE_EXTRA};
 
 /// How one virtual link is filtered and policed at a switch (ARINC 664 Part 7).
 ///
@@ -44,7 +44,7 @@ impl LinkRule {
         ensures given { IfSome result (λ r.
             rule_of r ≡ rule_with vl.0 port bag_ms lmin lmax jitter_us policing) }
     {
-        let is_bag = matches!(bag_ms, 1 | 2 | 4 | 8 | 16 | 32 | 64 | 128);
+        let is_bag = GAPS_MS.contains(&bag_ms);
         if port >= 1
             && port <= 24
             && is_bag

@@ -1,17 +1,14 @@
 -- Frames of one class have their turns in the order in which they came.
 use Rattle.std.proofs.Common.{◌≡◌, ◌≢◌, ℕ, ◌+◌, ◌<◌, ◌≤◌, Bool, true, false, if◌then◌else◌, List}
-use Rattle.std.proofs.Common.{[], ◌∷◌, ◌++◌, length, filter, Some, ◌⊎◌, inl, inr, refl, sym, ap}
+use Rattle.std.proofs.Common.{[], ◌∷◌, ◌++◌, length, filter, Some, inl, inr, refl, sym, ap}
 use Rattle.std.proofs.Common.{subst, arith, ◌∙◌, suc, zero}
 use Rattle.std.specs.List.{slice_get}
 use Rattle.std.proofs.lemmas.List.{append-nil, append_assoc}
 use Rattle.std.proofs.lemmas.List.Elements.{filter-append}
+use Rattle.std.proofs.lemmas.Bool.{cases_Bool}
 use Rattle.afdx_port.specs.Schedule.{Entry, Turn, has_turn, AreTurns, IsSchedule}
 use Rattle.afdx_port.specs.Classes.{entries_in, without_turn, AreOfOneClass, GoInOrder}
 use Rattle.afdx_port.proofs.TurnLemmas.{eqb-same, eqb-other}
-
-bool_cases : (b : Bool) → (b ≡ true) ⊎ (b ≡ false)
-bool_cases true = inl refl
-bool_cases false = inr refl
 
 module _ {X : Type 0} where
   -- a turn of an earlier place takes nothing out
@@ -45,11 +42,11 @@ module _ {X : Type 0} where
       (λ j f g none passes own. let le =
       first (suc j) f g (subst (λ (p : ℕ). has_turn turns p ≡ false) (omega arith) none) passes
       own in omega arith) in
-      elim (bool_cases (has_turn turns place)) [
+      elim (cases_Bool (has_turn turns place)) [
         | inl has ↦ rw (eqb-other s.place place other, has) rest
-        | inr none ↦ elim (bool_cases (test d)) [
+        | inr none ↦ elim (cases_Bool (test d)) [
           | inr fails ↦ rw (eqb-other s.place place other, none, fails) rest
-          | inl passes ↦ elim (bool_cases (test e)) [
+          | inl passes ↦ elim (cases_Bool (test e)) [
             | inl own ↦ absurd (let le =
                 first 0 d refl (subst (λ (p : ℕ). has_turn turns p ≡ false) (omega arith) none)
                 passes own in omega arith)

@@ -1,10 +1,10 @@
 -- Every list of entries has a schedule, which a recursion gives.
-use Rattle.std.proofs.Common.{◌-◌, option_map, Bool, true, false, ◌≡◌, ℕ, ◌+◌, ◌<◌, ◌≤◌, max}
-use Rattle.std.proofs.Common.{nat_lt, List, [], ◌∷◌, length, map, Option, Some, None, ◌⊎◌, inl, inr}
+use Rattle.std.proofs.Common.{◌-◌, option_map, true, false, ◌≡◌, ℕ, ◌+◌, ◌<◌, ◌≤◌, max}
+use Rattle.std.proofs.Common.{nat_lt, List, [], ◌∷◌, length, map, Option, Some, None, inl, inr}
 use Rattle.std.proofs.Common.{refl, sym, ap, subst, arith, ◌∙◌, suc, zero}
 use Rattle.std.specs.List.{slice_get}
 use Rattle.std.proofs.lemmas.Option.{slice_get_within, slice_get-map}
-use Rattle.std.proofs.lemmas.Bool.{cases_lt}
+use Rattle.std.proofs.lemmas.Bool.{cases_Bool, cases_lt}
 use Rattle.afdx_frame.specs.declared.link.Priority.{Priority}
 use Rattle.afdx_frame.specs.declared.link.Priority.TheVariants.{High, Low}
 use Rattle.afdx_port.specs.Schedule.{Entry, Turn, has_turn, end_of, IsWithoutTurn, IsNext, AreTurns}
@@ -22,10 +22,6 @@ class_high High c le h = refl
 class_high Low High le h = absurd (omega arith)
 class_high Low Low le h = h
 
-bool_cases : (b : Bool) → (b ≡ true) ⊎ (b ≡ false)
-bool_cases true = inl refl
-bool_cases false = inr refl
-
 -- the first candidate goes before the second
 record Le {X : Type 0} (free p : ℕ) (e : Entry X) (q : ℕ) (d : Entry X) : Type 0 where
   ranks : rank free e ≤ rank free d
@@ -42,23 +38,13 @@ record IsLeast {X : Type 0} (free : ℕ) (turns : List (Turn X)) (place : ℕ) (
       → Le free p e (place + j) d
 
 module _ {X : Type 0} where
-  le_trans : (free p q r : ℕ) (a b c : Entry X) → Le free p a q b → Le free q b r c → Le free p a r c
-  le_trans free p q r a b c x y =
-      let ab = x.ranks in
-      let bc = y.ranks in
-      record {
-        ranks = omega arith;
-        order = λ k. let pq = x.order (omega arith) in let qr =
-            y.order (omega arith) in omega arith;
-      }
-
   -- none is left exactly if each has a turn
   none_left : (free : ℕ) (turns : List (Turn X)) (place : ℕ) (es : List (Entry X))
       → first_without free turns place es ≡ None → (i : ℕ) → i < length es
       → has_turn turns (place + i) ≡ true
   none_left free turns place [] h i lt = absurd (omega arith)
   none_left free turns place (e ∷ es) h i lt =
-      elim (bool_cases (has_turn turns place)) [
+      elim (cases_Bool (has_turn turns place)) [
         | inl has ↦ at_place i lt has (none_left free turns (place + 1) es (rw has at h))
         | inr has ↦ absurd (some_first (place, e) (first_without free turns (place + 1) es) (rw has at h))
       ]
@@ -66,7 +52,7 @@ module _ {X : Type 0} where
       some_first : (p : ℕ × Entry X) (o : Option (ℕ × Entry X)) → first_of free p o ≡ None → ⊥
       some_first p None k = cc k
       some_first p (Some q) k =
-          elim (bool_cases (nat_lt (rank free q.1) (rank free p.1)))
+          elim (cases_Bool (nat_lt (rank free q.1) (rank free p.1)))
           [ inl b ↦ (let m = rw b at k in cc m) | inr b ↦ (let m = rw b at k in cc m) ]
 
       at_place : (k : ℕ) → k < length (e ∷ es) → has_turn turns place ≡ true
@@ -127,7 +113,7 @@ module _ {X : Type 0} where
       (f : Entry X) → first_without free turns place es ≡ Some (p, f) → IsLeast free turns place es p f
   first_is_least free turns place [] p f h = absurd (cc h)
   first_is_least free turns place (e ∷ es) p f h =
-      elim (bool_cases (has_turn turns place)) [
+      elim (cases_Bool (has_turn turns place)) [
         | inl has ↦ least_skips free turns place e es p f
             (first_is_least free turns (place + 1) es p f (rw has at h)) (λ w. absurd (cc (has, w)))
         | inr has ↦ by_rest (first_without free turns (place + 1) es) refl
@@ -240,7 +226,7 @@ module _ {X : Type 0} where
       → (i : ℕ) → i < length es → has_turn turns (place + i) ≡ true
   unfolding count one
   count_all turns place [] h i lt = absurd (omega arith)
-  count_all turns place (e ∷ es) h zero lt = elim (bool_cases (has_turn turns place)) [
+  count_all turns place (e ∷ es) h zero lt = elim (cases_Bool (has_turn turns place)) [
     | inl has ↦ subst (λ (n : ℕ). has_turn turns n ≡ true) (omega arith) has
     | inr has ↦ absurd (let k = rw has at h in omega arith)
   ]

@@ -20,20 +20,7 @@ use Rattle.afdx_port.specs.Keys.{key_of, IsLeastIn, AreRanked}
 use Rattle.afdx_port.specs.Serving.{IsServing}
 use Rattle.afdx_port.proofs.FirstLemmas.{limit-step}
 
--- one number alone
-pub least-one : (numbers : List ℕ) (from n : ℕ) → slice_get numbers from ≡ Some n → IsLeastIn numbers from (from + 1) n
-least-one numbers from n at = record {
-  place = from;
-  low = omega arith;
-  high = omega arith;
-  own = at;
-  lowest = λ i k low high is.
-      (let same : i ≡ from = omega (arith, low, high) in let at_from : slice_get numbers from
-      ≡ Some k = subst (λ z. slice_get numbers z ≡ Some k) same is in let e : n ≡ k = cc in
-      omega (arith, e));
-}
-
--- one more number
+-- one number more
 pub least-next : (numbers : List ℕ) (from to least n m : ℕ) → IsLeastIn numbers from to least
     → slice_get numbers to ≡ Some n → m ≡ min least n → IsLeastIn numbers from (to + 1) m
 least-next numbers from to least n m h at is = elim (cases_lt n least) [

@@ -8,7 +8,7 @@ use Rattle.afdx_config.specs.Lawful.{IsLawful}
 use Rattle.afdx_config.specs.Reading.{system_at_port}
 use Rattle.afdx_config.specs.Rows.{SystemRow, Rows}
 use Rattle.afdx_config.specs.SentList as sent
-use Rattle.afdx_config.proofs.LookUps.{each_row-found}
+use Rattle.afdx_config.proofs.LookUpLemmas.{each_row-found}
 use Rattle.afdx_police.specs.Arrival.{names}
 use Rattle.afdx_receive.specs.Answers.{Answer, Message, Dropped, answer_to}
 use Rattle.afdx_receive.specs.Arrivals.{Arrived}

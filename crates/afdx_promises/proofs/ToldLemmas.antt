@@ -5,7 +5,7 @@ use Rattle.afdx_frame.specs.Reading.{BuiltIsComputed}
 use Rattle.afdx_config.specs.Lawful.{IsSystem}
 use Rattle.afdx_config.specs.Reading.{has_port}
 use Rattle.afdx_config.specs.Rows.{Rows}
-use Rattle.afdx_config.proofs.EachRow.{all_at}
+use Rattle.afdx_config.proofs.EachRowLemmas.{all_at}
 use Rattle.afdx_police.specs.Arrival.{Arrival}
 use Rattle.afdx_receive.specs.Arrivals.{frames_of}
 use Rattle.afdx_switch.specs.Admitted.{IsAdmittedRun}

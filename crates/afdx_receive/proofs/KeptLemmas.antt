@@ -169,12 +169,6 @@ module _ (kept : Kept) (is : IsKept kept) (vl place : ℕ)
   abbrev pub with_memory : Kept
   with_memory = record kept { memories = slice_set kept.memories place moved }
 
-  pub memory_kept : IsKept with_memory
-  memory_kept = record {
-    within = λ q p e. subst (λ n. p < n) (sym (length-set kept.memories place moved)) (is.within q p e);
-    own = is.own;
-  }
-
   pub memory_updates : (q : ℕ) → memory_at with_memory q ≡ cond (nat_eq vl q) (Some moved) (memory_at kept q)
   unfolding memory_at
   memory_updates q = at (nat_eq vl q) refl

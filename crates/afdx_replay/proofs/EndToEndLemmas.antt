@@ -18,7 +18,7 @@ use Rattle.afdx_config.specs.Numbers.{next_number, after_steps}
 use Rattle.afdx_config.specs.Reading.{has_port}
 use Rattle.afdx_config.specs.Rows.{SystemRow, LinkRow, Rows, is_to}
 use Rattle.afdx_config.specs.SentList.{Message}
-use Rattle.afdx_config.proofs.EachRow.{all_at}
+use Rattle.afdx_config.proofs.EachRowLemmas.{all_at}
 use Rattle.afdx_lists.specs.FrameLines as frame
 use Rattle.afdx_lists.specs.FrameLines.{line_says}
 use Rattle.afdx_lists.specs.Lines.{lines_of, most_lines}

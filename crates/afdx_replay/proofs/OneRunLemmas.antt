@@ -8,7 +8,7 @@ use Rattle.std.proofs.lemmas.List.{length-append}
 use Rattle.afdx_config.specs.Admission.{byte_ns, links_from}
 use Rattle.afdx_config.specs.Lawful.{AreDistinct}
 use Rattle.afdx_config.specs.Rows.{SystemRow, LinkRow}
-use Rattle.afdx_config.proofs.EachRow.{all_at}
+use Rattle.afdx_config.proofs.EachRowLemmas.{all_at}
 use Rattle.afdx_lists.specs.SubmissionLines as list
 use Rattle.afdx_port.specs.Schedule.{Turn, end_of}
 use Rattle.afdx_send.specs.Complete.{IsFor}

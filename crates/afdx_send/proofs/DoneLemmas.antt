@@ -3,7 +3,7 @@ use Rattle.std.proofs.Common.{◌≡◌, ℕ, ◌<◌, ◌≤◌, Bool, true, fa
 use Rattle.std.proofs.Common.{None, option_map, IfNone, refl, ap, subst, arith, ◌∙◌}
 use Rattle.std.specs.List.{slice_get}
 use Rattle.std.proofs.lemmas.Option.{slice_get_within, slice_get-map}
-use Rattle.afdx_admit.proofs.Taken.{at_place}
+use Rattle.afdx_admit.proofs.TakenLemmas.{at_place}
 use Rattle.afdx_config.specs.Admission.{byte_ns}
 use Rattle.afdx_config.specs.Rows.{LinkRow}
 use Rattle.afdx_port.specs.Schedule.{Turn, IsSchedule}

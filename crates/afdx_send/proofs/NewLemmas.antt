@@ -13,8 +13,8 @@ use Rattle.afdx_config.specs.Admission.{byte_ns, links_from, sender_jitter, IsAd
 use Rattle.afdx_config.specs.Lawful.{IsLink, IsLawful, AreDistinct}
 use Rattle.afdx_config.specs.Numbers.{after_steps}
 use Rattle.afdx_config.specs.Rows.{SystemRow, LinkRow, Rows}
-use Rattle.afdx_admit.proofs.Taken.{at_place}
-use Rattle.afdx_config.proofs.EachRow.{all_at}
+use Rattle.afdx_admit.proofs.TakenLemmas.{at_place}
+use Rattle.afdx_config.proofs.EachRowLemmas.{all_at}
 use Rattle.afdx_port.specs.Schedule as slots
 use Rattle.afdx_port.specs.declared.left.Left.{Left}
 use Rattle.afdx_bounds.specs.Sender.{one_of_each}

@@ -9,7 +9,7 @@ use Rattle.std.proofs.lemmas.List.Sums.{sum_by-set}
 use Rattle.std.specs.Vec.{with_item}
 use Rattle.std.proofs.lemmas.Option.{get_or_from_slice_get, slice_get_within, slice_get-map, slice_get-get_or}
 use Rattle.std.proofs.lemmas.Bool.{cases_eq}
-use Rattle.afdx_admit.proofs.Small.{is_gap}
+use Rattle.afdx_admit.proofs.SmallLemmas.{is_gap}
 use Rattle.afdx_frame.specs.declared.link.Priority.TheVariants.{Low}
 use Rattle.afdx_frame.specs.Regulation.{bag}
 use Rattle.afdx_config.specs.Flows.{regulation_of_link}

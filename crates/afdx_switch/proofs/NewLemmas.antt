@@ -13,7 +13,7 @@ use Rattle.afdx_frame.specs.declared.link.Side.{Side}
 use Rattle.afdx_config.specs.Lawful.{IsLawful}
 use Rattle.afdx_config.specs.Reading.{link_of}
 use Rattle.afdx_config.specs.Rows.{SystemRow, LinkRow, Rows}
-use Rattle.afdx_config.proofs.LookUps.{each_row-found}
+use Rattle.afdx_config.proofs.LookUpLemmas.{each_row-found}
 use Rattle.afdx_police.specs.Rule.{rule_with}
 use Rattle.afdx_bounds.specs.Outputs.{Row, offers_at}
 use Rattle.afdx_port.specs.History as queue

@@ -2,7 +2,7 @@
 //!
 //! Each reading that lacks memory is made again, so the tests pass where any one growth is refused.
 
-use afdx_admit::{AdmitFault, AdmitText, admit, bounds_of, buffer_need, high_bound, low_bound};
+use afdx_admit::{AdmitFault, AdmitText, admit, bounds_of};
 use afdx_config::{ConfigFault, SystemId, Tables, read_tables};
 use afdx_frame::VlId;
 use std::alloc::Global;
@@ -174,11 +174,10 @@ fn answer(alloc: Global, tables: Tables) -> Result<String, Fail> {
 
 /// The high and the low bound, and the bytes needed.
 fn bounds(tables: &Tables, port: u8) -> (u64, Option<u64>, u64) {
-    (
-        high_bound(tables, port),
-        low_bound(tables, port),
-        buffer_need(tables, port),
-    )
+    match bounds_of(tables, port) {
+        Some(found) => (found.high, found.low, found.buffer),
+        None => (0, Some(0), 0),
+    }
 }
 
 #[test]

@@ -5,14 +5,12 @@
 ghost use Rattle.std.specs.Prelude.{◌≡◌, ◌≤◌, ◌*◌, None};
 ghost use Rattle.afdx_port.specs.Held.{last_time};
 
-use afdx_frame::Priority;
+use afdx_frame::{GREATEST_BUFFER, Priority};
 use afdx_port::{HasLength, Port};
 use std::alloc::AllocError;
 
-/// The ns of a byte, the bytes of the buffer and the ns of a frame's slot.
+/// The ns of a byte and of a frame's slot.
 const BYTE_NS: u64 = 80;
-
-const BUFFER: u64 = 4_194_304;
 
 const SLOT: u64 = 6_720;
 
@@ -81,7 +79,7 @@ fn main(rt: HostRuntime) -> Result<(), AllocError> {
         [_, word, ..] => word.as_str(),
         _ => "",
     };
-    let mut port: Port<Short> = Port::new(rt.alloc(), BYTE_NS, BUFFER)?;
+    let mut port: Port<Short> = Port::new(rt.alloc(), BYTE_NS, GREATEST_BUFFER)?;
     let left = match word.parse::<u32>() {
         Ok(pairs) => count_pairs(&mut port, pairs.min(10_000_000)),
         Err(_) => count_filled(&mut port),

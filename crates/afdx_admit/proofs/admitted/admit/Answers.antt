@@ -1,5 +1,5 @@
 use Rattle.std.proofs.Common.{sym, refl}
-use Rattle.afdx_admit.proofs.Exact.{admitted_from, from_admitted}
+use Rattle.afdx_admit.proofs.ExactLemmas.{admitted_from, from_admitted}
 use Rattle.afdx_admit.proofs.admitted.admit.Goals as goal
 
 pub invariant_of-result : goal.invariant_of-result

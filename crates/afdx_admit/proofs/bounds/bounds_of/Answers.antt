@@ -1,7 +1,7 @@
 use Rattle.std.proofs.Common.{sym, ap, ◌∙◌, Some}
 use Rattle.std.specs.Option.{option_map_or}
 use Rattle.afdx_admit.specs.Lines.{loaded_output_to, high_bound_of, low_bound_of, buffer_need_of}
-use Rattle.afdx_admit.proofs.Outputs.{loaded_output_at-some}
+use Rattle.afdx_admit.proofs.PortLemmas.{loaded_output_at-some}
 use Rattle.afdx_admit.proofs.bounds.bounds_of.Goals as goal
 
 pub returns-in-Some-clause-bounds : goal.returns-in-Some-clause-bounds

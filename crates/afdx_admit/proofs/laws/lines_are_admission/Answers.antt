@@ -1,4 +1,4 @@
-use Rattle.afdx_admit.proofs.Exact.{admitted_from, from_admitted}
+use Rattle.afdx_admit.proofs.ExactLemmas.{admitted_from, from_admitted}
 use Rattle.afdx_admit.proofs.laws.lines_are_admission.Goals as goal
 
 pub returns : goal.returns

@@ -7,8 +7,8 @@ use Rattle.afdx_config.specs.Rows.{LinkRow, SystemRow, link_row}
 use Rattle.afdx_config.specs.Flows.{regulation_of_link}
 use Rattle.afdx_config.specs.Admission.{byte_ns, links_from, sender_jitter}
 use Rattle.afdx_admit.specs.Lines.{jitter_at}
-use Rattle.afdx_admit.proofs.Small.{frame_small}
-use Rattle.afdx_admit.proofs.Taken.{with_row, without_row, at_place}
+use Rattle.afdx_admit.proofs.SmallLemmas.{frame_small}
+use Rattle.afdx_admit.proofs.TakenLemmas.{with_row, without_row, at_place}
 use Rattle.afdx_admit.proofs.lines.sender_jitter.Goals as goal
 use Rattle.afdx_admit.proofs.lines.sender_jitter.Goals.{then-eq, else-eq}
 

@@ -1,28 +1,29 @@
 use Rattle.std.proofs.Common.{◌≡◌, [], length, slice_index, Some, None, sym, ap, subst, ◌∙◌, arith, true, false, nat_le}
 use Rattle.afdx_admit.specs.declared.fault.AdmitFault.TheVariants.{SenderJitter}
+use Rattle.afdx_config.specs.Admission.{greatest_jitter}
 use Rattle.afdx_admit.specs.Lines.{line, sender_lines, first_false, each_from, jitter_at}
-use Rattle.afdx_admit.proofs.FirstFalse.{so_far-start, so_far-next, so_far-found, so_far-end}
-use Rattle.afdx_admit.proofs.FirstFalse.{first_false-skip, first_false-stop, first_false-nil}
-use Rattle.afdx_admit.proofs.FirstFalse.{le-true}
-use Rattle.afdx_admit.proofs.FirstFalse.{le-false}
+use Rattle.afdx_admit.proofs.FirstFalseLemmas.{so_far-start, so_far-next, so_far-found, so_far-end}
+use Rattle.afdx_admit.proofs.FirstFalseLemmas.{first_false-skip, first_false-stop, first_false-nil}
+use Rattle.afdx_admit.proofs.FirstFalseLemmas.{le-true}
+use Rattle.afdx_admit.proofs.FirstFalseLemmas.{le-false}
 use Rattle.afdx_admit.proofs.lines.senders_fault.Goals as goal
 
 pub loop-i-init : goal.loop-i-init
 loop-i-init c = so_far-start (sender_lines c.args.tables.now) 0 (length c.args.tables.now.systems)
     (length c.args.tables.now.systems) (omega arith)
 
-pub returns-then-jitter-gt500000-clause-fault : goal.returns-then-jitter-gt500000-clause-fault
+pub returns-then-jitter-gt-GREATEST_JITTER-clause-fault : goal.returns-then-jitter-gt-GREATEST_JITTER-clause-fault
 unfolding sender_lines
-returns-then-jitter-gt500000-clause-fault c =
+returns-then-jitter-gt-GREATEST_JITTER-clause-fault c =
     let t = c.args.tables.now in
     let i = c.loop-i.i in
     let jitter = slice_index c.args.jitters.now i in
     let same : jitter ≡ jitter_at t i = c.requires.each i (omega arith) in
-    let over : nat_le (jitter_at t i) 500000 ≡ false =
-    subst (λ n. nat_le n 500000 ≡ false) same (le-false jitter 500000 (omega arith)) in
+    let over : nat_le (jitter_at t i) greatest_jitter ≡ false =
+    subst (λ n. nat_le n greatest_jitter ≡ false) same (le-false jitter greatest_jitter (omega arith)) in
     let found : first_false (sender_lines t i)
     ≡ Some (SenderJitter (record { 0 = i }) (jitter_at t i)) =
-    first_false-stop (line (nat_le (jitter_at t i) 500000)
+    first_false-stop (line (nat_le (jitter_at t i) greatest_jitter)
     (SenderJitter (record { 0 = i }) (jitter_at t i))) [] over in
     ap (λ n. Some (SenderJitter (record { 0 = i }) n)) same
     ∙ sym (so_far-found (sender_lines t) i (length t.systems)
@@ -36,9 +37,9 @@ loop-i-preserved c =
     let i = c.loop-i.i in
     let jitter = slice_index c.args.jitters.now i in
     let same : jitter ≡ jitter_at t i = c.requires.each i (omega arith) in
-    let within : nat_le (jitter_at t i) 500000 ≡ true =
-    subst (λ n. nat_le n 500000 ≡ true) same (le-true jitter 500000 (omega arith)) in
-    let none : first_false (sender_lines t i) ≡ None = first_false-skip (line (nat_le (jitter_at t i) 500000)
+    let within : nat_le (jitter_at t i) greatest_jitter ≡ true =
+    subst (λ n. nat_le n greatest_jitter ≡ true) same (le-true jitter greatest_jitter (omega arith)) in
+    let none : first_false (sender_lines t i) ≡ None = first_false-skip (line (nat_le (jitter_at t i) greatest_jitter)
     (SenderJitter (record { 0 = i }) (jitter_at t i))) [] within ∙ first_false-nil in
     so_far-next (sender_lines t) i (length t.systems)
     (first_false (each_from (sender_lines t) 0 (length t.systems))) c.loop-i.invariant none

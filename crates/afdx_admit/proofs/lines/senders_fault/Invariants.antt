@@ -1,6 +1,6 @@
 use Rattle.std.proofs.Common.{length}
 use Rattle.afdx_admit.specs.Lines.{first_false, each_from, sender_lines}
-use Rattle.afdx_admit.proofs.FirstFalse.{IsSoFar}
+use Rattle.afdx_admit.proofs.FirstFalseLemmas.{IsSoFar}
 use Rattle.afdx_admit.proofs.lines.senders_fault.Given as goal
 
 abbrev pub invariant-loop-i : goal.invariant-loop-i

@@ -7,9 +7,9 @@ use Rattle.afdx_config.specs.Admission.{flows_to, byte_ns}
 use Rattle.afdx_admit.specs.declared.sums.Sums.{Sums}
 use Rattle.afdx_admit.specs.Lines.{LoadedOutput}
 use Rattle.afdx_admit.specs.Sums.{IsSums, IsSmall}
-use Rattle.afdx_admit.proofs.Pushed.{sums_push, small_push}
-use Rattle.afdx_admit.proofs.Small.{cap_small, load_small, smax_small}
-use Rattle.afdx_admit.proofs.Taken.{with_flow_to, without_flow_to, at_place}
+use Rattle.afdx_admit.proofs.PushedLemmas.{sums_push, small_push}
+use Rattle.afdx_admit.proofs.SmallLemmas.{cap_small, load_small, smax_small}
+use Rattle.afdx_admit.proofs.TakenLemmas.{with_flow_to, without_flow_to, at_place}
 use Rattle.afdx_admit.proofs.sums.sums_to.Goals as goal
 use Rattle.afdx_admit.proofs.sums.sums_to.Goals.{then-goes_to, else-goes_to}
 

@@ -2,7 +2,7 @@ use Rattle.std.proofs.Common.{◌≡◌, true, false, sym, ◌∙◌}
 use Rattle.afdx_config.specs.Trees.{lent_texts}
 use Rattle.toml.specs.View.{table_view}
 use Rattle.afdx_config.specs.Keys.{only, are_among}
-use Rattle.afdx_config.proofs.Gathered.{are_among-keys}
+use Rattle.afdx_config.proofs.GatheredLemmas.{are_among-keys}
 use Rattle.afdx_config.proofs.keys.only.Goals as goal
 
 pub returns-then-are_among : goal.returns-then-are_among

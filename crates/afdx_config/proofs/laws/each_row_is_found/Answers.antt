@@ -1,4 +1,4 @@
-use Rattle.afdx_config.proofs.LookUps.{each_row-found}
+use Rattle.afdx_config.proofs.LookUpLemmas.{each_row-found}
 use Rattle.afdx_config.proofs.laws.each_row_is_found.Goals as goal
 
 pub returns : goal.returns

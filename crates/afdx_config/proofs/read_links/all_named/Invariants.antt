@@ -3,7 +3,7 @@ use Rattle.std.specs.List.{AllByRecursion}
 use Rattle.afdx_config.specs.Rows.{system_places}
 use Rattle.afdx_config.specs.Trees.{lent_texts}
 use Rattle.afdx_config.specs.Reading.{all_of, system_named}
-use Rattle.afdx_config.proofs.Gathered.{with_front}
+use Rattle.afdx_config.proofs.GatheredLemmas.{with_front}
 use Rattle.afdx_config.proofs.read_links.all_named.Given as goal
 
 abbrev pub invariant-loop-name : goal.invariant-loop-name

@@ -1,5 +1,5 @@
 use Rattle.std.proofs.Common.{sym, ◌∙◌}
-use Rattle.afdx_config.proofs.Gathered.{any_places}
+use Rattle.afdx_config.proofs.GatheredLemmas.{any_places}
 use Rattle.afdx_config.proofs.read_links.is_among.Goals as goal
 
 pub returns : goal.returns

@@ -1,7 +1,7 @@
 use Rattle.std.proofs.Common.{length, refl, arith}
 use Rattle.std.proofs.lemmas.Grind.{common_steps}
 use Rattle.afdx_config.specs.Rows.{link_row}
-use Rattle.afdx_config.proofs.Grown.{no_links, links_push}
+use Rattle.afdx_config.proofs.GrownLemmas.{no_links, links_push}
 use Rattle.afdx_config.proofs.read_links.links_of.Goals as goal
 
 pub loop-table-init : goal.loop-table-init

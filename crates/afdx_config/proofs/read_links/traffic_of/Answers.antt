@@ -1,5 +1,5 @@
 use Rattle.std.proofs.Common.{◌≤◌, [], ◌∷◌, arith}
-use Rattle.afdx_config.proofs.Gathered.{at_most}
+use Rattle.afdx_config.proofs.GatheredLemmas.{at_most}
 use Rattle.afdx_config.proofs.read_links.traffic_of.Goals as goal
 
 pub overflow_mul-bag_ms : goal.overflow_mul-bag_ms

@@ -3,8 +3,8 @@ use Rattle.std.proofs.lemmas.List.{length-map}
 use Rattle.std.proofs.lemmas.Grind.{common_steps}
 use Rattle.afdx_config.specs.Rows.{port_row, port_rows}
 use Rattle.afdx_config.specs.Reading.{has_port}
-use Rattle.afdx_config.proofs.Gathered.{port_rows-push}
-use Rattle.afdx_config.proofs.Grown.{no_ports, ports_push}
+use Rattle.afdx_config.proofs.GatheredLemmas.{port_rows-push}
+use Rattle.afdx_config.proofs.GrownLemmas.{no_ports, ports_push}
 use Rattle.afdx_config.proofs.read_ports.coms_of.Goals as goal
 
 pub loop-table-init : goal.loop-table-init

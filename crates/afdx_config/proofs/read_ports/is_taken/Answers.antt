@@ -1,6 +1,6 @@
 use Rattle.std.proofs.Common.{sym, ◌∙◌, nat_eq, ◌&&◌}
 use Rattle.afdx_config.specs.Reading.{has_port}
-use Rattle.afdx_config.proofs.Gathered.{any_ports}
+use Rattle.afdx_config.proofs.GatheredLemmas.{any_ports}
 use Rattle.afdx_config.proofs.read_ports.is_taken.Goals as goal
 
 pub returns : goal.returns

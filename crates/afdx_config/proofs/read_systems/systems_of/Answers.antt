@@ -1,7 +1,7 @@
 use Rattle.std.proofs.Common.{refl, arith}
 use Rattle.std.proofs.lemmas.Grind.{common_steps}
 use Rattle.afdx_config.specs.Rows.{system_row}
-use Rattle.afdx_config.proofs.Grown.{no_systems, systems_push}
+use Rattle.afdx_config.proofs.GrownLemmas.{no_systems, systems_push}
 use Rattle.afdx_config.proofs.read_systems.systems_of.Goals as goal
 
 pub loop-table-init : goal.loop-table-init

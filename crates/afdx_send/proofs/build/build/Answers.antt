@@ -1,5 +1,5 @@
 use Rattle.std.proofs.Common.{ℕ, sym, arith, refl, ap, ◌∙◌, subst, ◌≡◌, slice_get, Some, None, replicate}
-use Rattle.afdx_admit.proofs.Taken.{at_place}
+use Rattle.afdx_admit.proofs.TakenLemmas.{at_place}
 use Rattle.afdx_config.specs.Admission.{links_from}
 use Rattle.afdx_config.specs.Lawful.{IsLawful}
 use Rattle.afdx_config.specs.Rows.{SystemRow, Rows, system_row}

@@ -2,7 +2,7 @@ use Rattle.std.proofs.Common.{arith, ap, sym, ◌∙◌, subst, ◌≡◌, ◌�
 use Rattle.std.proofs.lemmas.List.{take_all}
 use Rattle.afdx_config.specs.Admission.{links_from}
 use Rattle.afdx_config.specs.Rows.{LinkRow, link_row}
-use Rattle.afdx_admit.proofs.Taken.{with_row, without_row}
+use Rattle.afdx_admit.proofs.TakenLemmas.{with_row, without_row}
 use Rattle.afdx_send.specs.declared.line.Line.{Line}
 use Rattle.afdx_send.specs.New.{AreNewLines}
 use Rattle.afdx_send.proofs.NewLemmas.{lines_push, filter_short}

@@ -1,6 +1,6 @@
 use Rattle.std.proofs.Common.{slice_get, sym, ap, ◌∙◌}
 use Rattle.afdx_config.specs.Rows.{link_row}
-use Rattle.afdx_config.proofs.Entries.{slice_get-rows}
+use Rattle.afdx_config.proofs.EntryLemmas.{slice_get-rows}
 use Rattle.afdx_config.proofs.links.Links.at.Goals as goal
 
 pub returns : goal.returns

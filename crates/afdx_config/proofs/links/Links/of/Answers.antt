@@ -2,7 +2,7 @@ use Rattle.std.proofs.Common.{ap, ◌∙◌, nat_eq}
 use Rattle.afdx_config.specs.Rows.{link_row}
 use Rattle.afdx_config.specs.Kept.{IsUnderItsIdentifier}
 use Rattle.afdx_config.specs.Reading.{link_of}
-use Rattle.afdx_config.proofs.Entries.{position-keys}
+use Rattle.afdx_config.proofs.EntryLemmas.{position-keys}
 use Rattle.afdx_config.proofs.links.Links.of.Goals as goal
 
 pub returns-clause-place : goal.returns-clause-place

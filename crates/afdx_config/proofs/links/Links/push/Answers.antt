@@ -2,8 +2,8 @@ use Rattle.std.proofs.Common.{◌≡◌, ◌++◌, ◌∷◌, [], length, ap, �
 use Rattle.afdx_config.specs.Rows.{link_row}
 use Rattle.afdx_config.specs.Kept.{IsUnderItsIdentifier, link_rows}
 use Rattle.afdx_config.specs.Reading.{link_of}
-use Rattle.afdx_config.proofs.EachRow.{all_push}
-use Rattle.afdx_config.proofs.Entries.{insert_entry-fresh, rows_of-push, length-rows}
+use Rattle.afdx_config.proofs.EachRowLemmas.{all_push}
+use Rattle.afdx_config.proofs.EntryLemmas.{insert_entry-fresh, rows_of-push, length-rows}
 use Rattle.afdx_config.proofs.links.Links.push.Goals as goal
 
 pub invariant_of-self-2 : goal.invariant_of-self-2

@@ -1,6 +1,6 @@
 use Rattle.std.proofs.Common.{slice_get, sym, ap, ◌∙◌}
 use Rattle.afdx_config.specs.Rows.{system_row}
-use Rattle.afdx_config.proofs.Entries.{slice_get-rows}
+use Rattle.afdx_config.proofs.EntryLemmas.{slice_get-rows}
 use Rattle.afdx_config.proofs.systems.Systems.at.Goals as goal
 
 pub returns : goal.returns

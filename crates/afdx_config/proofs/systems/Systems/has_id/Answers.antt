@@ -3,7 +3,7 @@ use Rattle.std.specs.List.{list_any}
 use Rattle.std.specs.Map.{values_of}
 use Rattle.afdx_config.specs.Rows.{system_row}
 use Rattle.afdx_config.specs.Reading.{has_id}
-use Rattle.afdx_config.proofs.Entries.{list_any-rows}
+use Rattle.afdx_config.proofs.EntryLemmas.{list_any-rows}
 use Rattle.afdx_config.proofs.systems.Systems.has_id.Goals as goal
 
 pub returns : goal.returns

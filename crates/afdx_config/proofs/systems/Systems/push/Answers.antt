@@ -4,8 +4,8 @@ use Rattle.std.specs.Str.{bytes_eq}
 use Rattle.afdx_config.specs.Rows.{system_row}
 use Rattle.afdx_config.specs.Kept.{IsUnderItsName, system_rows}
 use Rattle.afdx_config.specs.Reading.{system_named}
-use Rattle.afdx_config.proofs.EachRow.{all_push}
-use Rattle.afdx_config.proofs.Entries.{insert_entry-fresh, rows_of-push, length-rows}
+use Rattle.afdx_config.proofs.EachRowLemmas.{all_push}
+use Rattle.afdx_config.proofs.EntryLemmas.{insert_entry-fresh, rows_of-push, length-rows}
 use Rattle.afdx_config.proofs.systems.Systems.push.Goals as goal
 
 pub invariant_of-self-2 : goal.invariant_of-self-2

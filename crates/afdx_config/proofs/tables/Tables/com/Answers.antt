@@ -3,7 +3,7 @@ use Rattle.std.proofs.lemmas.List.{length-map}
 use Rattle.std.proofs.lemmas.Option.{slice_get-map, slice_get_read}
 use Rattle.afdx_config.specs.Rows.{port_row}
 use Rattle.afdx_config.specs.Lawful.{IsPort, IsLawful}
-use Rattle.afdx_config.proofs.EachRow.{all_at}
+use Rattle.afdx_config.proofs.EachRowLemmas.{all_at}
 use Rattle.afdx_config.proofs.tables.Tables.com.Goals as goal
 
 pub returns-clause-lawful_row : goal.returns-clause-lawful_row

@@ -3,7 +3,7 @@ use Rattle.std.proofs.Math.Nat.{mul-le-mul_right}
 use Rattle.afdx_frame.specs.Regulation.{Regulation, bag, jitter, cap, fill_rate}
 use Rattle.afdx_police.specs.Rule.{regulation_of}
 use Rattle.afdx_police.specs.RuleOf.{rule_of}
-use Rattle.afdx_police.specs.Policer.{Account}
+use Rattle.afdx_police.specs.Account.{Account}
 use Rattle.afdx_police.proofs.PolicerLemmas.{cap-le, StandsFor-filled}
 use Rattle.afdx_police.proofs.policer.Policer.level_at.Goals as goal
 

@@ -1,15 +1,11 @@
 -- Look-ups in lawful tables.
-use Rattle.std.proofs.Common.{◌≡◌, ℕ, ◌==◌, true, nat_eq, refl, sym, arith}
+use Rattle.std.proofs.Common.{◌==◌, nat_eq, refl, sym}
 use Rattle.std.specs.Str.{bytes_eq}
-use Rattle.std.proofs.lemmas.Bool.{eqb-true}
-use Rattle.std.proofs.lemmas.Bool.Decides.{nat_tests}
+use Rattle.std.proofs.lemmas.Bool.{eqb-true, eq-eqb}
 use Rattle.std.proofs.lemmas.Slice.Eq.{bytes_eq-Decides}
 use Rattle.afdx_config.specs.Reading.{system_named, system_at_port, link_of}
 use Rattle.afdx_config.specs.Laws.{EachRowIsFound}
-use Rattle.afdx_config.proofs.Distinct.{found}
-
-same : (a b : ℕ) → a ≡ b → nat_eq a b ≡ true
-same a b h = grind (arith, nat_tests)
+use Rattle.afdx_config.proofs.DistinctLemmas.{found}
 
 pub each_row-found : EachRowIsFound
 unfolding system_named system_at_port link_of
@@ -18,7 +14,7 @@ each_row-found t lawful = record {
       lawful.systems.names at ((bytes_eq-Decides s.name s.name).1 refl)
       (λ b h. sym ((bytes_eq-Decides s.name b.name).0 h));
   by_port = λ i s at. found (λ r. r.port) (λ r. r.port == s.port) t.systems i s lawful.systems.ports
-      at (same s.port s.port refl) (λ b h. eqb-true b.port s.port h);
+      at (eq-eqb s.port s.port refl) (λ b h. eqb-true b.port s.port h);
   by_vl = λ i l at. found (λ r. r.vl) (λ r. nat_eq l.vl r.vl) t.links i l lawful.links.identifiers
-      at (same l.vl l.vl refl) (λ b h. sym (eqb-true l.vl b.vl h));
+      at (eq-eqb l.vl l.vl refl) (λ b h. sym (eqb-true l.vl b.vl h));
 }

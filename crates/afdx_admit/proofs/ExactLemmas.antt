@@ -16,9 +16,10 @@ use Rattle.afdx_config.specs.Lawful.{IsLawful, IsSystem, IsLink}
 use Rattle.afdx_config.specs.Reading.{system_at_port}
 use Rattle.afdx_frame.specs.Flows.{Flow, is_class, of_class, burst, load, high_wait, low_wait}
 use Rattle.afdx_frame.specs.Flows.{high_load, IsPortAdmitted}
+use Rattle.afdx_config.specs.Admission.{greatest_jitter}
 use Rattle.afdx_config.specs.Admission.{IsAdmitted, byte_ns, links_from, flows_to, sender_jitter}
-use Rattle.afdx_config.proofs.EachRow.{all_at}
-use Rattle.afdx_config.proofs.LookUps.{each_row-found}
+use Rattle.afdx_config.proofs.EachRowLemmas.{all_at}
+use Rattle.afdx_config.proofs.LookUpLemmas.{each_row-found}
 use Rattle.afdx_admit.specs.declared.fault.AdmitFault.{AdmitFault}
 use Rattle.afdx_admit.specs.declared.fault.AdmitFault.TheVariants.{Overload, Buffer, HighLatency}
 use Rattle.afdx_admit.specs.declared.fault.AdmitFault.TheVariants.{LowLatency, SenderJitter}
@@ -27,10 +28,10 @@ use Rattle.afdx_admit.specs.Lines.{Line, line, first_false, each_from, lines, Lo
 use Rattle.afdx_admit.specs.Lines.{loaded_output_to, output_lines, port_lines}
 use Rattle.afdx_admit.specs.Lines.{sender_lines, link_lines}
 use Rattle.afdx_admit.specs.Lines.{lines_of_link, jitter_at, high_line, low_line, high_bound_of, buffer_need_of}
-use Rattle.afdx_admit.proofs.FirstFalse.{first_false-skip, first_false-nil, first_false-append, le-true, true-le}
+use Rattle.afdx_admit.proofs.FirstFalseLemmas.{first_false-skip, first_false-nil, first_false-append, le-true, true-le}
 use Rattle.afdx_admit.proofs.OutputLemmas.{late_line}
-use Rattle.afdx_admit.proofs.Outputs.{loaded_output_at-some, loaded_output_at-none, found_within}
-use Rattle.afdx_admit.proofs.Taken.{at_place}
+use Rattle.afdx_admit.proofs.PortLemmas.{loaded_output_at-some, loaded_output_at-none, found_within}
+use Rattle.afdx_admit.proofs.TakenLemmas.{at_place}
 
 -- ---- lists of lines
 
@@ -231,16 +232,16 @@ module _ (t : Rows) (lawful : IsLawful t) where
       (le-true (jitter_at t l.from) (1000 * l.jitter_us) jitter)
       (holds_cons skew_line [] (le-true l.latency_us l.skew_us skew) first_false-nil)
 
-  sender_holds : (i : ℕ) → first_false (sender_lines t i) ≡ None → jitter_at t i ≤ 500000
+  sender_holds : (i : ℕ) → first_false (sender_lines t i) ≡ None → jitter_at t i ≤ greatest_jitter
   unfolding sender_lines
-  sender_holds i h = true-le (jitter_at t i) 500000 (cons_holds
-      (line (nat_le (jitter_at t i) 500000) (SenderJitter (record { 0 = i }) (jitter_at t i))) [] h).one
+  sender_holds i h = true-le (jitter_at t i) greatest_jitter (cons_holds
+      (line (nat_le (jitter_at t i) greatest_jitter) (SenderJitter (record { 0 = i }) (jitter_at t i))) [] h).one
 
-  holds_sender : (i : ℕ) → jitter_at t i ≤ 500000 → first_false (sender_lines t i) ≡ None
+  holds_sender : (i : ℕ) → jitter_at t i ≤ greatest_jitter → first_false (sender_lines t i) ≡ None
   unfolding sender_lines
   holds_sender i h = holds_cons
-      (line (nat_le (jitter_at t i) 500000) (SenderJitter (record { 0 = i }) (jitter_at t i))) []
-      (le-true (jitter_at t i) 500000 h) first_false-nil
+      (line (nat_le (jitter_at t i) greatest_jitter) (SenderJitter (record { 0 = i }) (jitter_at t i))) []
+      (le-true (jitter_at t i) greatest_jitter h) first_false-nil
 
   pub admitted_from : first_false (lines t) ≡ None → IsAdmitted t
   unfolding lines
@@ -255,7 +256,7 @@ module _ (t : Rows) (lawful : IsLawful t) where
             port_admitted i s at (each_holds (port_lines t) 1 24 front.0 s.port row.port.0 (omega (arith, row.port.1)));
         senders = λ i s at.
             let within = slice_get_within t.systems i s at in
-            subst (λ n. n ≤ 500000) (jitter_is i s at) (sender_holds i
+            subst (λ n. n ≤ greatest_jitter) (jitter_is i s at) (sender_holds i
             (each_holds (sender_lines t) 0 (length t.systems) back.0 i (omega arith) (omega (arith, within))));
         jitters = λ i l s at from.
             let within = slice_get_within t.links i l at in
@@ -277,7 +278,7 @@ module _ (t : Rows) (lawful : IsLawful t) where
       (holds_append (each_from (sender_lines t) 0 (length t.systems)) (each_from (link_lines t) 0 (length t.links))
       (holds_each (sender_lines t) 0 (length t.systems) (λ k low high.
       let s = at_place t.systems k (omega (arith, high)) in
-      holds_sender k (subst (λ n. n ≤ 500000) (sym (jitter_is k s.0 s.1)) (admitted.senders k s.0 s.1))))
+      holds_sender k (subst (λ n. n ≤ greatest_jitter) (sym (jitter_is k s.0 s.1)) (admitted.senders k s.0 s.1))))
       (holds_each (link_lines t) 0 (length t.links) (λ k low high.
       let l = at_place t.links k (omega (arith, high)) in
       let row = all_at (IsLink (length t.systems)) t.links k l.0 lawful.links.each l.1 in

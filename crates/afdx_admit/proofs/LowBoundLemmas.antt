@@ -5,11 +5,11 @@ use Rattle.std.specs.Int.{div_ceil}
 use Rattle.afdx_frame.specs.Regulation.{byte_units}
 use Rattle.afdx_config.specs.Lawful.{IsSystem}
 use Rattle.afdx_frame.specs.Flows.{low_wait, high_load}
-use Rattle.afdx_config.proofs.EachRow.{all_at}
+use Rattle.afdx_config.proofs.EachRowLemmas.{all_at}
 use Rattle.afdx_admit.specs.Lines.{loaded_output_to, low_bound_of}
 use Rattle.afdx_admit.specs.Laws.{LowBoundIsANumber}
 use Rattle.afdx_admit.proofs.OutputLemmas.{left_some_at, rates_some}
-use Rattle.afdx_admit.proofs.Small.{is_rate}
+use Rattle.afdx_admit.proofs.SmallLemmas.{is_rate}
 
 pub low_bound-number : LowBoundIsANumber
 unfolding low_bound_of

@@ -3,17 +3,13 @@ use Rattle.std.proofs.lemmas.Bool.{eq-eqb}
 use Rattle.std.proofs.Common.{◌≡◌, ℕ, ◌<◌, Bool, true, false, ◌&&◌, ◌==◌, List, [], ◌∷◌, ◌++◌}
 use Rattle.std.proofs.Common.{length, None, nat_eq, refl, sym, ap, arith, length-append}
 use Rattle.std.specs.Str.{bytes_eq}
-use Rattle.std.proofs.lemmas.Bool.Decides.{nat_tests}
 use Rattle.std.proofs.lemmas.Slice.Eq.{bytes_eq-Decides}
 use Rattle.afdx_config.specs.Rows.{SystemRow, LinkRow, PortRow}
 use Rattle.afdx_config.specs.Reading.{system_named, system_at_port, has_id, link_of, has_port}
 use Rattle.afdx_config.specs.New.{IsNewSystem}
 use Rattle.afdx_config.specs.Lawful.{IsSystem, AreSystems, IsLink, AreLinks, IsPort, ArePorts, triple}
-use Rattle.afdx_config.proofs.EachRow.{all_push}
-use Rattle.afdx_config.proofs.Distinct.{distinct-nil, distinct-push, none_found}
-
-nat_eq-same : (a b : ℕ) → a ≡ b → nat_eq a b ≡ true
-nat_eq-same a b h = grind (arith, nat_tests)
+use Rattle.afdx_config.proofs.EachRowLemmas.{all_push}
+use Rattle.afdx_config.proofs.DistinctLemmas.{distinct-nil, distinct-push, none_found}
 
 bytes_eq-same : (xs ys : List ℕ) → xs ≡ ys → bytes_eq ys xs ≡ true
 bytes_eq-same xs ys h = (bytes_eq-Decides ys xs).1 (sym h)
@@ -53,7 +49,7 @@ links_push systems rows new old room lawful fresh = record {
   count = omega (arith, length-append rows (new ∷ []));
   each = all_push (IsLink systems) rows new old.each lawful;
   identifiers = distinct-push (λ l. l.vl) (λ l. nat_eq new.vl l.vl) rows new old.identifiers
-      (none_found (λ l. nat_eq new.vl l.vl) rows fresh) (λ a e. nat_eq-same new.vl a.vl (sym e));
+      (none_found (λ l. nat_eq new.vl l.vl) rows fresh) (λ a e. eq-eqb new.vl a.vl (sym e));
 }
 
 pub no_ports : (systems : ℕ) (links : List LinkRow) → ArePorts systems links []
@@ -76,6 +72,6 @@ ports_push systems links rows new old room lawful fresh = record {
       (λ p. (nat_eq p.system new.system && nat_eq p.link new.link) && nat_eq p.udp new.udp) rows new
       old.triples fresh
       (λ a e. all_three (nat_eq a.system new.system) (nat_eq a.link new.link) (nat_eq a.udp new.udp)
-      (nat_eq-same _ _ (ap (λ t. t.0) e)) (nat_eq-same _ _ (ap (λ t. t.1) e))
-      (nat_eq-same _ _ (ap (λ t. t.2) e)));
+      (eq-eqb _ _ (ap (λ t. t.0) e)) (eq-eqb _ _ (ap (λ t. t.1) e))
+      (eq-eqb _ _ (ap (λ t. t.2) e)));
 }
