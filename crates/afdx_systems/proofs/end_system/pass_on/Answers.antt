@@ -1,5 +1,6 @@
 use Rattle.std.proofs.Common.{◌∙◌, arith}
 use Rattle.afdx_systems.proofs.PassLemmas.{put_at, sampled, taken, given_back, taken_message, none_left, line_of_same}
+use Rattle.afdx_systems.proofs.PassLemmas.{sample_passed, queue_passed, on_ok}
 use Rattle.afdx_systems.proofs.end_system.pass_on.Goals as goal
 
 pub returns-in-Some-clause-read : goal.returns-in-Some-clause-read
@@ -64,6 +65,26 @@ returns-in-None-clause-found c =
 
 pub returns-in-None-clause-line : goal.returns-in-None-clause-line
 returns-in-None-clause-line c =
+    let put = put_at c.args.ports.now c.args.place c.args.time c.args.message.now c.put.new.self
+    c.requires c.in-Ok.ensures.ok in
+    λ all. absurd (none_left _ _ _ _ _ put all c.in_default.ensures.sample c.in-None.ensures.first)
+
+pub returns-in-Some-clause-passed : goal.returns-in-Some-clause-passed
+returns-in-Some-clause-passed c =
+    let put = put_at c.args.ports.now c.args.place c.args.time c.args.message.now c.put.new.self
+    c.requires c.in-Ok.ensures.ok in
+    λ _. on_ok c.put_message.result (sample_passed _ _ _ _ _ put
+    (record { time = c.in-Some.field-0-0; bytes = c.in-Some.read.now }) c.in-Some.ensures.sample)
+
+pub returns-in-Some-take_queued-clause-passed : goal.returns-in-Some-take_queued-clause-passed
+returns-in-Some-take_queued-clause-passed c =
+    let put = put_at c.args.ports.now c.args.place c.args.time c.args.message.now c.put.new.self
+    c.requires c.in-Ok.ensures.ok in
+    λ all. on_ok c.put_message-told.result (queue_passed _ _ _ _ _ put c.take_queued.new.self c.give_back.new.self _
+    c.in-Some-take_queued.ensures.rest c.give_back.ensures.spare all)
+
+pub returns-in-None-clause-passed : goal.returns-in-None-clause-passed
+returns-in-None-clause-passed c =
     let put = put_at c.args.ports.now c.args.place c.args.time c.args.message.now c.put.new.self
     c.requires c.in-Ok.ensures.ok in
     λ all. absurd (none_left _ _ _ _ _ put all c.in_default.ensures.sample c.in-None.ensures.first)
