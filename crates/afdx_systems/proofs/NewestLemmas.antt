@@ -1,11 +1,11 @@
 -- Ports hold the newest messages that were delivered to them.
-use Rattle.std.proofs.Common.{◌≡◌, ℕ, ◌<◌, Bool, true, false, cond, ◌&&◌, nat_eq, Option, Some, None, List, [], ◌∷◌}
-use Rattle.std.proofs.Common.{refl, sym, ap, ◌∙◌, subst, ◌⊎◌, inl, inr, map, length, get_or}
+use Rattle.std.proofs.Common.{◌≡◌, ℕ, Bool, true, false, cond, ◌&&◌, nat_eq, Option, Some, None, List, [], ◌∷◌}
+use Rattle.std.proofs.Common.{refl, sym, ap, ◌∙◌, subst, ◌⊎◌, inl, inr, map}
 use Rattle.std.specs.Prelude.{position, slice_get, filter}
 use Rattle.std.specs.List.{AllByRecursion}
 use Rattle.std.proofs.lemmas.Bool.{cases_eq, and_parts, eqb-true}
 use Rattle.std.proofs.lemmas.List.Quantifiers.{position-Some}
-use Rattle.std.proofs.lemmas.Option.{get_or_from_slice_get, slice_get-get_or}
+use Rattle.std.proofs.lemmas.Option.{get_or_from_slice_get}
 use Rattle.afdx_config.specs.Rows.{Rows, PortRow}
 use Rattle.afdx_config.specs.declared.rows.Kind.{Kind}
 use Rattle.afdx_config.specs.declared.rows.Kind.TheVariants as kind
@@ -14,7 +14,7 @@ use Rattle.afdx_receive.specs.Arrivals.{Arrived}
 use Rattle.afdx_receive.specs.Answers.{Answer, Message, Dropped, answer_to}
 use Rattle.afdx_receive.specs.declared.reception.DropReason.{DropReason}
 use Rattle.afdx_comport.specs.Messages.{TimedMessage}
-use Rattle.afdx_comport.specs.Held.{with_message, IsRead}
+use Rattle.afdx_comport.specs.Held.{IsRead}
 use Rattle.afdx_comport.specs.Ports.{empty_of, port_at_first, ports_at_first, is_for}
 use Rattle.afdx_comport.specs.Calls.{Put, Take, GiveBack, held_after}
 use Rattle.afdx_comport.specs.declared.held.Held.{Held}

@@ -104,9 +104,11 @@ passed : (ports after : List ComPort) (place room : ℕ) (m : TimedMessage) (por
     → ((j : ℕ) → (j ≡ place → ⊥) → slice_get after j ≡ slice_get ports j) → IsPassedOn ports place m after
 passed ports after place room m port here now same =
     record {
-      here = λ other is. let one : Some port ≡ Some other = sym here ∙ is in let it : port ≡ other = cc in
-          (room, subst (λ (p : ComPort). slice_get after place
-          ≡ Some (record p { held = held_after p.held (GiveBack room ∷ Take ∷ Put m ∷ []) })) it now);
+      here = λ other is. let one : Some port ≡ Some other = sym here ∙ is in let it : port ≡ other = cc in (
+        room,
+        subst (λ (p : ComPort). slice_get after place
+            ≡ Some (record p { held = held_after p.held (GiveBack room ∷ Take ∷ Put m ∷ []) })) it now,
+      );
       others = same;
     }
 
