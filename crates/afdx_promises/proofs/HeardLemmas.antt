@@ -108,9 +108,6 @@ module _ (t : Rows) (system : ℕ) (s : SystemRow) (vl : ℕ) (lawful : IsLawful
           let port_is : r.0.port ≡ s.port = ap (λ (o : Option SystemRow). row_port o) both in
           absurd (let here : (port == s.port) ≡ true = eq-eqb port s.port (sym r.2 ∙ port_is) in cc (here, apart))
 
-  abbrev past_at : List Event → List Arrived
-  past_at events = brought_by s.port events
-
   brought-more : (d : Departure) (before : List Event) → d.port ≡ s.port → d.turn.too_old ≡ false
       → brought_by s.port (Left d ∷ before) ≡ brought d.side d.turn ∷ brought_by s.port before
   unfolding brought_by
