@@ -11,7 +11,6 @@ use Rattle.afdx_config.specs.SentList as sent
 use Rattle.afdx_config.proofs.LookUps.{each_row-found}
 use Rattle.afdx_police.specs.Arrival.{names}
 use Rattle.afdx_receive.specs.Answers.{Answer, Message, Dropped, answer_to}
-use Rattle.afdx_receive.specs.Arrivals.{Arrived}
 use Rattle.afdx_receive.specs.Delivery.{with_answer}
 use Rattle.afdx_receive.proofs.LinkLemmas.{IsOfLink, answer-link}
 use Rattle.afdx_switch.proofs.AdmittedLemmas.{system-at}

@@ -23,7 +23,7 @@ use Rattle.afdx_network.specs.Order.{events_of, events_so_far}
 use Rattle.afdx_promises.specs.Lines.{Line, Verdict, Received, Judged, Leaving, IsIn, judged_in, arrivals_judged, verdicts_on, accepted_in, left_in, frames_at, came_at, answers_told, messages_told, told_by}
 use Rattle.afdx_promises.specs.NetworkPromises.{IsStreamOf}
 use Rattle.afdx_promises.specs.Receptions.{ComeInOrder, answers_by_rules}
-use Rattle.afdx_promises.specs.Streams.{at_own_port, AreFirstFrames, IsFed}
+use Rattle.afdx_promises.specs.Streams.{at_own_port, AreFirstOf, IsFed}
 use Rattle.afdx_promises.specs.WindowRule.{AreByWindowRule}
 
 -- ---- each virtual link's verdicts are the window rule's answer on that link's own arrivals alone
@@ -155,7 +155,7 @@ EachIsToldOnceSoFar t arrivals lines =
     (messages : List sent.Message) (stream : List Sending) →
     slice_get t.systems system ≡ Some s → slice_get t.links place ≡ Some l → is_to system l ≡ true →
     IsStreamOf t l messages stream →
-    ((side : Side) → AreFirstFrames side stream (at_own_port t l side arrivals)) →
+    ((side : Side) → AreFirstOf side stream (at_own_port t l side arrivals)) →
     reverse (messages_told system l.vl lines)
     ≡ filter (λ m. has_port t.ports system l.vl m.udp) (take (most_come t l arrivals) messages)
 

@@ -20,13 +20,13 @@ pub record IsFrameAt (side : Side) (stream : List Sending) (place : ℕ) (x : Ar
   pub bytes : x.bytes ≡ copy_on side sending
 
 -- the arrivals are the first frames of a stream, in order and with none left out
-abbrev pub AreFirstFrames : Side → List Sending → List Arrival → Type 0
-AreFirstFrames side stream [] = Unit {0}
-AreFirstFrames side stream (x ∷ past) = IsFrameAt side stream (length past) x
-    × AreFirstFrames side stream past
+abbrev pub AreFirstOf : Side → List Sending → List Arrival → Type 0
+AreFirstOf side stream [] = Unit {0}
+AreFirstOf side stream (x ∷ past) = IsFrameAt side stream (length past) x
+    × AreFirstOf side stream past
 
 -- on a side all that names the link and comes at its sender's port is this stream, whole
 pub record IsFed (t : Rows) (l : LinkRow) (stream : List Sending) (side : Side)
     (arrivals : List Arrival) : Type 0 where
-  pub frames : AreFirstFrames side stream (at_own_port t l side arrivals)
+  pub frames : AreFirstOf side stream (at_own_port t l side arrivals)
   pub whole : length (at_own_port t l side arrivals) ≡ length stream
