@@ -171,7 +171,8 @@ pub fn admitted_tables_keep_all<T>()
 }
 
 /// Examples: a pair of links is admitted with 252 bytes, 17 us and 21 us, and with no byte and no
-/// whole microsecond less, and a sender with three links of the longest frames at 100 Mbit/s and not with four.
+/// whole microsecond less, and a sender with three links of the longest frames at 100 Mbit/s and
+/// not with four.
 pub fn examples_are_admitted()
     ensures pair { PairIsAdmitted }
     ensures served { PairIsServed }

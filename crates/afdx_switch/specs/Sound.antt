@@ -25,8 +25,8 @@ pub record IsPortSound (time : ℕ) (p : Pending HeldFrame) : Type 0 where
   pub calls : queue.PortHistory HeldFrame
   pub stands : queue.StandsFor facts p calls
 
--- all lines and ports are so at the switch's time, each identifier leads to a line that is kept, and
--- the port that is served first is the one whose turn goes first
+-- all lines and ports are so at the switch's time, each identifier leads to a line that is kept,
+-- and the port that is served first is the one whose turn goes first
 pub record IsSwitchSound (w : Working) : Type 0 where
   pub lines : All (IsLineSound w.clock) w.lines.items
   pub place_count : vec_len w.places ≡ 65536
