@@ -5,7 +5,7 @@ use Rattle.afdx_systems.proofs.end_system.pass_on.Goals as goal
 
 pub returns-in-Some-clause-read : goal.returns-in-Some-clause-read
 returns-in-Some-clause-read c =
-    let put = put_at c.args.ports.now c.args.place _ c.args.message.now c.put.new.self
+    let put = put_at c.args.ports.now c.args.place _ _ c.put.new.self
     c.requires c.in-Ok.ensures.ok in
     let m = sampled _ _ _ _ _ put
     (record { time = c.in-Some.field-0-0; bytes = c.in-Some.read.now }) c.in-Some.ensures.sample in
@@ -13,7 +13,7 @@ returns-in-Some-clause-read c =
 
 pub returns-in-Some-clause-found : goal.returns-in-Some-clause-found
 returns-in-Some-clause-found c =
-    let put = put_at c.args.ports.now c.args.place _ c.args.message.now c.put.new.self
+    let put = put_at c.args.ports.now c.args.place _ _ c.put.new.self
     c.requires c.in-Ok.ensures.ok in
     let m = sampled _ _ _ _ _ put
     (record { time = c.in-Some.field-0-0; bytes = c.in-Some.read.now }) c.in-Some.ensures.sample in
@@ -29,7 +29,7 @@ returns-in-Some-clause-line c =
 
 pub returns-in-Some-take_queued-clause-read : goal.returns-in-Some-take_queued-clause-read
 returns-in-Some-take_queued-clause-read c =
-    let put = put_at c.args.ports.now c.args.place _ c.args.message.now c.put.new.self
+    let put = put_at c.args.ports.now c.args.place _ _ c.put.new.self
     c.requires c.in-Ok.ensures.ok in
     (given_back _ _ _ c.args.place _
     (omega (arith, c.requires, c.put.ensures.count, c.take_queued.ensures.count)) c.give_back.ensures.spare
@@ -37,7 +37,7 @@ returns-in-Some-take_queued-clause-read c =
 
 pub returns-in-Some-take_queued-clause-found : goal.returns-in-Some-take_queued-clause-found
 returns-in-Some-take_queued-clause-found c =
-    let put = put_at c.args.ports.now c.args.place _ c.args.message.now c.put.new.self
+    let put = put_at c.args.ports.now c.args.place _ _ c.put.new.self
     c.requires c.in-Ok.ensures.ok in
     (given_back _ _ _ c.args.place _
     (omega (arith, c.requires, c.put.ensures.count, c.take_queued.ensures.count)) c.give_back.ensures.spare
@@ -53,13 +53,13 @@ returns-in-Some-take_queued-clause-line c =
 
 pub returns-in-None-clause-read : goal.returns-in-None-clause-read
 returns-in-None-clause-read c =
-    let put = put_at c.args.ports.now c.args.place _ c.args.message.now c.put.new.self
+    let put = put_at c.args.ports.now c.args.place _ _ c.put.new.self
     c.requires c.in-Ok.ensures.ok in
     (taken _ _ _ _ _ put c.take_queued.new.self c.in-None.ensures.rest).read
 
 pub returns-in-None-clause-found : goal.returns-in-None-clause-found
 returns-in-None-clause-found c =
-    let put = put_at c.args.ports.now c.args.place _ c.args.message.now c.put.new.self
+    let put = put_at c.args.ports.now c.args.place _ _ c.put.new.self
     c.requires c.in-Ok.ensures.ok in
     (taken _ _ _ _ _ put c.take_queued.new.self c.in-None.ensures.rest).found
 
