@@ -1,4 +1,4 @@
--- Examples of links that are admitted, and of their bounds, which are met exactly.
+-- Examples of links that are admitted, with no byte and no whole microsecond to spare.
 use Rattle.std.specs.Prelude.{ℕ, ◌==◌, List, [], ◌∷◌, Some}
 use Rattle.afdx_frame.specs.declared.link.Policing.TheVariants.{Byte}
 use Rattle.afdx_frame.specs.declared.link.Priority.{Priority}
@@ -30,7 +30,8 @@ second latency = record {
 abbrev pub pair : ℕ → ℕ → List Flow
 pair high_ns low_ns = first high_ns ∷ second low_ns ∷ []
 
--- at 100 Mbit/s the pair is admitted with 252 bytes, 17 us and 21 us, and with no less of any
+-- at 100 Mbit/s the pair is admitted with 252 bytes, 17 us and 21 us, and with no byte and no whole
+-- microsecond less
 pub record PairIsAdmitted : Type 0 where
   pub flows_are : AreFlows (pair 17000 21000)
   pub admitted : IsPortAdmitted 80 252 (pair 17000 21000)

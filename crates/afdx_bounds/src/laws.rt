@@ -34,7 +34,8 @@ pub fn waiting_is_bounded<T>()
     ensures { WaitingIsBounded T }
 {}
 
-/// And each turn is over when the bursts before its frame could have been sent.
+/// Where what comes of each class keeps a burst and a rate, and the line carries both rates, each
+/// turn is over when the bursts before its frame could have been sent.
 pub fn turns_end_soon<T>()
     ensures high { HighIsBounded T }
     ensures low { LowIsBounded T }
@@ -133,8 +134,8 @@ pub fn arrivals_are_kept<T>()
     arrivals_are_offers()
 }
 
-/// And each of them has its turn within its link's latency: a slot, if the link's frames may wait
-/// as long as that.
+/// At an admitted output port, over all that arrives at the switches, each accepted frame has its
+/// turn within its link's latency: a slot, if the link's frames may wait as long as that.
 pub fn arrivals_are_in_time<T>()
     ensures within { ArrivalsAreInTime T }
     ensures not_old { ArrivalsAreNotOld T }
@@ -169,8 +170,9 @@ pub fn admitted_tables_keep_all<T>()
     arrivals_are_offers()
 }
 
-/// Examples: a pair of links is admitted with 252 bytes, 17 us and 21 us and with no less of any,
-/// and a sender with three links of the longest frames at 100 Mbit/s and not with four.
+/// Examples: a pair of links is admitted with 252 bytes, 17 us and 21 us, and with no byte and no
+/// whole microsecond less, and a sender with three links of the longest frames at 100 Mbit/s and
+/// not with four.
 pub fn examples_are_admitted()
     ensures pair { PairIsAdmitted }
     ensures served { PairIsServed }

@@ -10,6 +10,7 @@ use Rattle.afdx_port.specs.Schedule.{Turn}
 use Rattle.afdx_port.proofs.TurnLemmas.{eqb-same}
 use Rattle.afdx_switch.specs.HeldFrames.{HeldFrame}
 use Rattle.afdx_switch.specs.Switching.{PortTurn, taken_at}
+use Rattle.afdx_switch.proofs.ArrivalLemmas.{same-side}
 use Rattle.afdx_network.specs.Events.{Event, Came, Left, Admission, Departure, departure_with}
 use Rattle.afdx_network.specs.Events.{admissions, turns_at, departures_of, departures_below}
 use Rattle.afdx_network.specs.Events.{departures, all_events, arrivals_in, turns_on}
@@ -109,10 +110,6 @@ is-either t arrivals e h =
           departure) [ inl a ↦ inr (A, a) | inr b ↦ inr (B, b) ]
     ]
 
-pub side-self : (side : Side) → is_side side side ≡ true
-side-self A = refl
-side-self B = refl
-
 pub sides : (a b : Side) → (a ≡ b) ⊎ ((is_side a b ≡ false) × (a ≡ b → ⊥))
 sides A A = inl refl
 sides A B = inr (refl, λ same. cc)
@@ -135,7 +132,7 @@ unfolding taken_at
 taken-same x before =
     ap (λ b. taken_at x.port
     (if b then record { port = x.port; turn = x.turn } ∷ turns_on x.side before else turns_on
-    x.side before)) (side-self x.side)
+    x.side before)) (same-side x.side)
     ∙ ap (λ b. if b then x.turn ∷ taken_at x.port (turns_on x.side before) else taken_at x.port
     (turns_on x.side before)) (eqb-same x.port x.port refl)
 
@@ -157,7 +154,7 @@ taken-other side port x before other = elim (sides side x.side) [
   | inl same ↦
       ap (λ b. taken_at port (if b then record { port = x.port; turn = x.turn }
       ∷ turns_on side before else turns_on side before))
-      (subst (λ s. is_side side s ≡ true) same (side-self side))
+      (subst (λ s. is_side side s ≡ true) same (same-side side))
       ∙ skips x.port port x.turn (turns_on side before) (λ k. other same k)
 ]
 

@@ -10,9 +10,6 @@ use Rattle.afdx_network.specs.Order.{key, is_below, is_before, IsAmong, AreThose
 nat_lt_self : (n : ℕ) → nat_lt n n ≡ false
 nat_lt_self n = grind (arith, common_steps)
 
-nat_lt_back : (m n : ℕ) → nat_lt m n ≡ true → nat_lt n m ≡ false
-nat_lt_back m n h = grind (arith, common_steps, h)
-
 pub below_self : (ns : List ℕ) → is_below ns ns ≡ false
 below_self [] = refl
 below_self (n ∷ ns) = rw (nat_lt_self n) (below_self ns)

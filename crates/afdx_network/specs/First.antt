@@ -24,6 +24,7 @@ pub record AreLater (until : ℕ) (a b : Option Due) : Type 0 where
   pub on_a : IfSome a (λ due. IsAfter until due)
   pub on_b : IfSome b (λ due. IsAfter until due)
 
+-- the side whose turn goes first, if it is given by then
 abbrev pub IsFirstSide : ℕ → Option Due → Option Due → Option Side → Type 0
 IsFirstSide until a b None = AreLater until a b
 IsFirstSide until a b (Some A) = IsAFirst until a b
@@ -40,6 +41,7 @@ GoesSecond None b = Unit {0}
 GoesSecond (Some a) None = ⊥
 GoesSecond (Some a) (Some b) = order_of b < order_of a
 
+-- whether the turn of A goes first
 abbrev pub IsOrder : Option Due → Option Due → (is_a : Bool) → Type 0
 IsOrder a b true = GoesFirst a b
 IsOrder a b false = GoesSecond a b

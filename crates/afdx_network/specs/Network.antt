@@ -28,11 +28,12 @@ Follows t before (Came c) = c ≡ admission_after t (arrivals_in before) c.arriv
 Follows t before (Left d) =
     (1 ≤ d.port) × (d.port ≤ 24) × (d.place ≡ length (taken_at d.port (turns_on d.side before)))
 
+-- each event follows those before it
 abbrev pub EachFollows : Rows → List Event → Type 0
 EachFollows t [] = Unit {0}
 EachFollows t (e ∷ before) = Follows t before e × EachFollows t before
 
--- what a verdict says of an arrival
+-- why an arrival with this verdict was dropped, if it was
 abbrev pub reason_in : Verdict → Option Reason
 reason_in (Dropped reason) = Some reason
 reason_in (Accepted lost) = None
@@ -41,10 +42,12 @@ reason_in (Accepted lost) = None
 unfoldable pub ports_in : PortSet → List ℕ
 ports_in set = filter (holds set) numbers
 
+-- the ports where an arrival with this verdict was lost
 abbrev pub lost_in : Verdict → List ℕ
 lost_in (Dropped reason) = []
 lost_in (Accepted lost) = ports_in lost
 
+-- a verdict says what became of an arrival
 pub record Tells (verdict : Verdict) (c : Admission) : Type 0 where
   pub reason : reason_in verdict ≡ c.reason
   pub lost : lost_in verdict ≡ c.lost

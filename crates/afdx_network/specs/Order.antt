@@ -7,6 +7,7 @@ use Rattle.afdx_config.specs.Rows.{Rows}
 use Rattle.afdx_police.specs.Arrival.{Arrival}
 use Rattle.afdx_network.specs.Events.{Event, Came, Left, all_events, arrivals_in}
 
+-- side A goes first
 abbrev pub side_number : Side → ℕ
 side_number A = 0
 side_number B = 1
@@ -31,6 +32,7 @@ is_below (m ∷ ms) [] = false
 is_below (m ∷ ms) (n ∷ ns) =
     if nat_lt m n then true else if nat_lt n m then false else is_below ms ns
 
+-- in the one order
 abbrev pub is_before : Event → Event → Bool
 is_before d e = is_below (key d) (key e)
 

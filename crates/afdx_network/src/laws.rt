@@ -7,7 +7,8 @@ pub fn one_order()
     ensures only { OneOrder }
 {}
 
-/// So do those up to the last arrival.
+/// The events of some arrivals up to the last of them stand in one order too: it is a part of that
+/// of all events.
 pub fn one_order_so_far()
     ensures is { EventsSoFarAreInOrder }
     ensures only { OneOrderSoFar }

@@ -32,11 +32,12 @@ fn is_a_first(a: Option<Due>, b: Option<Due>) -> bool
 fn first_side(a: Option<Due>, b: Option<Due>, until: u64) -> Option<Side>
     ensures { IsFirstSide until a b result }
 {
-    if is_a_first(a, b) {
-        if a?.is_by(until) { Some(Side::A) } else { None }
+    let (due, side) = if is_a_first(a, b) {
+        (a?, Side::A)
     } else {
-        if b?.is_by(until) { Some(Side::B) } else { None }
-    }
+        (b?, Side::B)
+    };
+    if due.is_by(until) { Some(side) } else { None }
 }
 
 /// The switches of both sides.

@@ -42,7 +42,7 @@ use Rattle.afdx_promises.specs.Examples.{sender, receiver, link, tables, heard, 
 use Rattle.afdx_promises.specs.Examples.{second_on, stream, arrivals, PremisesAreMet, link_with}
 use Rattle.afdx_promises.specs.Examples.{tables_with, one, AdmissionIsNeeded, TimesAreNeeded}
 use Rattle.afdx_promises.specs.NetworkPromises.{IsStreamOf, PortsKeepPromises}
-use Rattle.afdx_promises.specs.Streams.{at_own_port, AreSendings, IsFed, IsSending}
+use Rattle.afdx_promises.specs.Streams.{at_own_port, AreFirstOf, IsFed, IsFrameAt}
 use Rattle.afdx_promises.proofs.ToldLemmas.{told-once}
 use Rattle.afdx_promises.proofs.OnceLemmas.{messages-once}
 use Rattle.afdx_promises.proofs.ReceiverLemmas.{names-frame}
@@ -341,7 +341,7 @@ unfolding rule_of port_of
 at-b computed = rw (first-named computed B, second-named computed B) refl
 
 sendings : (side : Side) (m n : ℕ)
-    → AreSendings side stream (arrival_with m 1000000 side 1 (second_on side)
+    → AreFirstOf side stream (arrival_with m 1000000 side 1 (second_on side)
     ∷ arrival_with n 0 side 1 (first_on side) ∷ [])
 sendings A m n = (
   record {
@@ -381,12 +381,12 @@ sendings B m n = (
 is-fed : BuiltIsComputed → (side : Side) → IsFed tables link stream side arrivals
 is-fed computed A = record {
   frames =
-      subst (AreSendings A stream) (sym (at-a computed)) (sendings A 4 1);
+      subst (AreFirstOf A stream) (sym (at-a computed)) (sendings A 4 1);
   whole = ap length (at-a computed);
 }
 is-fed computed B = record {
   frames =
-      subst (AreSendings B stream) (sym (at-b computed)) (sendings B 5 2);
+      subst (AreFirstOf B stream) (sym (at-b computed)) (sendings B 5 2);
   whole = ap length (at-b computed);
 }
 
@@ -467,8 +467,8 @@ is-broken computed keeps =
     let none : frames_left 1 turns ≡ [] =
     ap (map passing_in) (slots-are-all 1 turns (λ k d lt own_turn. (soon k d lt own_turn).0)
     ∙ never-in-time 1 (entries_at t A 2 one) turns (omega arith) are soon) in
-    let at_port : AreSendings A stream (at_port (rule_of t l) (own 1 A one)) =
-    subst (AreSendings A stream) (sym (one-a computed)) (first-sending, tt) in
+    let at_port : AreFirstOf A stream (at_port (rule_of t l) (own 1 A one)) =
+    subst (AreFirstOf A stream) (sym (one-a computed)) (first-sending, tt) in
     let accepted : accepted_on t l A one ≡ one =
     (accepted-stream t stream_is.sender l (heard ∷ unheard ∷ []) stream stream_is.sendable
     stream_is.lawful computed A (own 1 A one) at_port).arrivals ∙ one-a computed in
@@ -479,7 +479,7 @@ is-broken computed keeps =
     let both : [] ≡ map passing (reverse one) = sym none ∙ all in
     cc both
   where
-    first-sending : IsSending A stream 0 (arrival_with 1 0 A 1 (first_on A))
+    first-sending : IsFrameAt A stream 0 (arrival_with 1 0 A 1 (first_on A))
     first-sending = record {
       sending = record { time = 0; a = first_on A; b = first_on B };
       at_place = refl;

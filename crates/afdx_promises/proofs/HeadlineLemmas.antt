@@ -23,13 +23,14 @@ use Rattle.afdx_switch.specs.Tables.{rule_of, goes_to}
 use Rattle.afdx_switch.specs.Verdicts.{reason_of}
 use Rattle.afdx_network.specs.Events.{Event, Came, Left, Departure, departures, admissions, all_events, turns_at}
 use Rattle.afdx_network.specs.Order.{IsAmong, events_of, events_so_far}
-use Rattle.afdx_network.proofs.EventLemmas.{turn-of, at-port-of, is-either, side-self}
+use Rattle.afdx_switch.proofs.ArrivalLemmas.{same-side}
+use Rattle.afdx_network.proofs.EventLemmas.{turn-of, at-port-of, is-either}
 use Rattle.afdx_network.proofs.OrderedLemmas.{are-events, are-so-far}
 use Rattle.afdx_promises.specs.Lines.{Line, Verdict, Departed, Received, Judged, Leaving, IsIn}
 use Rattle.afdx_promises.specs.Lines.{judged_in, arrivals_judged, verdicts_on, accepted_in, left_in}
 use Rattle.afdx_promises.specs.Lines.{is_leaving, frames_at, leaving, told_by}
 use Rattle.afdx_promises.specs.Promises.{AreVerdicts, frames_due, AreFrames, AreFirstFrames}
-use Rattle.afdx_promises.specs.Promises.{IsInTime, AreInTime, AreAlone, told, told_so_far}
+use Rattle.afdx_promises.specs.Promises.{LeavesInTime, AllLeaveInTime, AreAlone, told, told_so_far}
 use Rattle.afdx_promises.specs.WindowRule.{AreByWindowRule}
 use Rattle.afdx_promises.proofs.EventLemmas.{is_at, turns_in, at-port-are, turns-back, so-far-is}
 use Rattle.afdx_promises.proofs.EventLemmas.{turns-more, no-left, as-promised}
@@ -260,7 +261,7 @@ module _ (t : Rows) (arrivals : List Arrival) (events : List Event) (run : IsAdm
       subst (IsIn (leaving d)) (sym (told-left t events))
       (map-in leaving d (departures_in events) (in-departures d events h)) in
       let is : is_leaving soon.link.vl d.side d.port (leaving d) ≡ true =
-      rw (side-self d.side, eq-eqb d.port d.port refl) soon.named in
+      rw (same-side d.side, eq-eqb d.port d.port refl) soon.named in
       let there : IsIn (passing_in d.turn.entry) (frames_at soon.link.vl d.side d.port (told_by t events)) =
       map-in (λ (x : Leaving). x.frame) (leaving d)
       (filter (is_leaving soon.link.vl d.side d.port) (left_in (told_by t events)))
@@ -290,13 +291,13 @@ module _ (t : Rows) (arrivals : List Arrival) (events : List Event) (run : IsAdm
       subst (IsFrameOn l.vl) (sym (ap (λ (p : Passing). p.bytes) is.accepted.frame))
       (subst (λ vl. IsFrameOn vl is.accepted.arrival.bytes) (vl-is t l) frame)
 
-  pub lines-in-time : AreInTime t (told_by t events)
+  pub lines-in-time : AllLeaveInTime t (told_by t events)
   lines-in-time d h =
       let e = in-map leaving d (departures_in events) (subst (IsIn d) (told-left t events) h) in
       let among = left-among e.0 events e.1 in
       let is = line-of e.0 among in
       let time : e.0.turn.entry.time ≡ is.accepted.arrival.time = ap (λ (p : Passing). p.time) is.accepted.frame in
-      subst (IsInTime t (told_by t events)) (sym e.2) (record {
+      subst (LeavesInTime t (told_by t events)) (sym e.2) (record {
         arrival = is.accepted.arrival;
         accepted = is.accepted.verdict;
         frame = is.accepted.frame;

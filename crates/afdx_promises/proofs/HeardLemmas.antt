@@ -11,7 +11,6 @@ use Rattle.afdx_config.specs.SentList as sent
 use Rattle.afdx_config.proofs.LookUpLemmas.{each_row-found}
 use Rattle.afdx_police.specs.Arrival.{names}
 use Rattle.afdx_receive.specs.Answers.{Answer, Message, Dropped, answer_to}
-use Rattle.afdx_receive.specs.Arrivals.{Arrived}
 use Rattle.afdx_receive.specs.Delivery.{with_answer}
 use Rattle.afdx_receive.proofs.LinkLemmas.{IsOfLink, answer-link}
 use Rattle.afdx_switch.proofs.AdmittedLemmas.{system-at}
@@ -107,9 +106,6 @@ module _ (t : Rows) (system : ℕ) (s : SystemRow) (vl : ℕ) (lawful : IsLawful
           let both : Some r.0 ≡ Some s = sym r.1 ∙ ap (slice_get t.systems) (eqb-true k system same) ∙ stands_at in
           let port_is : r.0.port ≡ s.port = ap (λ (o : Option SystemRow). row_port o) both in
           absurd (let here : (port == s.port) ≡ true = eq-eqb port s.port (sym r.2 ∙ port_is) in cc (here, apart))
-
-  abbrev past_at : List Event → List Arrived
-  past_at events = brought_by s.port events
 
   brought-more : (d : Departure) (before : List Event) → d.port ≡ s.port → d.turn.too_old ≡ false
       → brought_by s.port (Left d ∷ before) ≡ brought d.side d.turn ∷ brought_by s.port before

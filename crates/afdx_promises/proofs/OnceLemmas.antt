@@ -33,7 +33,7 @@ use Rattle.afdx_switch.proofs.ListLemmas.{bool_cases}
 use Rattle.afdx_network.specs.Events.{turns_at}
 use Rattle.afdx_network.specs.Order.{side_number}
 use Rattle.afdx_promises.specs.Receptions.{brought, order_of, ComeInOrder, AreReceptions, answers_on, messages_in}
-use Rattle.afdx_promises.specs.Streams.{at_own_port, AreSendings}
+use Rattle.afdx_promises.specs.Streams.{at_own_port, AreFirstOf}
 use Rattle.afdx_promises.specs.NetworkPromises.{IsStreamOf, MessagesComeSoFar, MessagesComeOnce}
 use Rattle.afdx_promises.proofs.ListLemmas.{all-imply, all-filter}
 use Rattle.afdx_promises.proofs.PortLemmas.{its-turns, in-time, left-back, entries_back}
@@ -73,7 +73,7 @@ EndsInTime vl latency ss =
 
 module _ (vl latency : ℕ) (side : Side) (stream : List Sending)
     (frames : (k : ℕ) (y : Sending) → slice_get stream k ≡ Some y → IsFrameOn vl (copy_on side y)) where
-  copies-by-slots : (ss : List (Turn HeldFrame)) (xs : List Arrival) → AreSendings side stream xs
+  copies-by-slots : (ss : List (Turn HeldFrame)) (xs : List Arrival) → AreFirstOf side stream xs
       → EndsInTime vl latency ss → frames_among vl (entries_back ss) ≡ map passing xs →
       Copies latency stream (length xs) (frames_of vl (map (brought side) ss))
   unfolding frames_of
@@ -84,8 +84,8 @@ module _ (vl latency : ℕ) (side : Side) (stream : List Sending)
       (λ ys each equal. copies-by-slots ss ys each ends.1 equal)
     where
       by : (is_of vl s.entry ≡ true) ⊎ (is_of vl s.entry ≡ false) → (xs : List Arrival)
-          → AreSendings side stream xs → frames_among vl (entries_back (s ∷ ss)) ≡ map passing xs →
-          ((ys : List Arrival) → AreSendings side stream ys → frames_among vl (entries_back ss)
+          → AreFirstOf side stream xs → frames_among vl (entries_back (s ∷ ss)) ≡ map passing xs →
+          ((ys : List Arrival) → AreFirstOf side stream ys → frames_among vl (entries_back ss)
           ≡ map passing ys → Copies latency stream (length ys)
           (frames_of vl (map (brought side) ss))) →
           Copies latency stream (length xs) (frames_of vl (map (brought side) (s ∷ ss)))
@@ -250,7 +250,7 @@ module _ (computed : BuiltIsComputed) (t : Rows) (arrivals : List Arrival) (syst
     (run : IsAdmittedRun t arrivals) (stands : slice_get t.systems system ≡ Some s)
     (at : slice_get t.links place ≡ Some l) (goes : is_to system l ≡ true)
     (is : IsStreamOf t l messages stream)
-    (sent : (side : Side) → AreSendings side stream (at_own_port t l side arrivals))
+    (sent : (side : Side) → AreFirstOf side stream (at_own_port t l side arrivals))
     (are : AreReceptions t s.port arrivals came) where
   copies-on : (side : Side)
       → Copies (1000 * l.latency_us) stream (length (at_own_port t l side arrivals))

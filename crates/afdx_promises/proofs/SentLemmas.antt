@@ -22,7 +22,7 @@ use Rattle.afdx_promises.specs.Sent.{arrivals_at, SentIsFed, StreamIsOfSendings}
 use Rattle.afdx_promises.specs.Sent.{ReleasedAreToldOnce, IsMergedSoFar, ReleasedAreToldSoFar}
 use Rattle.afdx_promises.specs.Sent.{OneSideIsEnough}
 use Rattle.afdx_promises.specs.Promises.{most_come}
-use Rattle.afdx_promises.specs.Streams.{at_own_port, AreSendings, IsFed}
+use Rattle.afdx_promises.specs.Streams.{at_own_port, AreFirstOf, IsFed}
 use Rattle.afdx_promises.proofs.ReceiverLemmas.{names-frame}
 
 -- ---- frames
@@ -86,7 +86,7 @@ get-last [] y = refl
 get-last (x ∷ xs) y = get-last xs y
 
 more-sendings : (side : Side) (stream more : List Sending) (xs : List Arrival)
-    → AreSendings side stream xs → AreSendings side (stream ++ more) xs
+    → AreFirstOf side stream xs → AreFirstOf side (stream ++ more) xs
 more-sendings side stream more [] are = tt
 more-sendings side stream more (x ∷ past) are = (
   record {
@@ -103,7 +103,7 @@ long-more [] y = refl
 long-more (x ∷ xs) y = ap (λ n. suc n) (long-more xs y)
 
 pub record IsStream (side : Side) (stream : List Sending) (xs : List Arrival) : Type 0 where
-  pub frames : AreSendings side stream xs
+  pub frames : AreFirstOf side stream xs
   pub whole : length xs ≡ length stream
 
 sent-are : BuiltIsComputed
@@ -176,7 +176,7 @@ side-is-fed computed t arrivals s l emitted side at all sent =
     let same = same-arrivals t arrivals s l side at in
     let are = sent-are computed s side l.vl emitted (arrivals_at side s.port arrivals) all sent in
     record {
-      frames = subst (AreSendings side (stream_of s l.vl emitted)) (sym same) are.frames;
+      frames = subst (AreFirstOf side (stream_of s l.vl emitted)) (sym same) are.frames;
       whole = ap length same ∙ are.whole;
     }
 
@@ -218,7 +218,7 @@ sent-so-far : BuiltIsComputed
     (emitted : List (Turn Frame)) → slice_get t.systems l.from ≡ Some s
     → AllByRecursion (IsBuildable s) emitted →
     IsMergedSoFar s emitted arrivals → (side : Side)
-    → AreSendings side (stream_of s l.vl emitted) (at_own_port t l side arrivals)
+    → AreFirstOf side (stream_of s l.vl emitted) (at_own_port t l side arrivals)
 sent-so-far computed t arrivals s l emitted at all merged side =
     let k = merged side in
     let build = all-earlier (IsBuildable s) k.0 k.1
@@ -229,9 +229,9 @@ sent-so-far computed t arrivals s l emitted at all merged side =
     (filter (λ (x : Arrival). names l.vl x.bytes) (arrivals_at side s.port arrivals)) are.frames in
     let whole : stream_of s l.vl k.1 ++ more.0 ≡ stream_of s l.vl emitted = sym more.1
     ∙ ap (stream_of s l.vl) (sym k.2) in
-    subst (AreSendings side (stream_of s l.vl emitted)) (sym (same-arrivals t arrivals s l side at))
+    subst (AreFirstOf side (stream_of s l.vl emitted)) (sym (same-arrivals t arrivals s l side at))
     (subst (λ (z : List Sending).
-    AreSendings side z (filter (λ (x : Arrival). names l.vl x.bytes)
+    AreFirstOf side z (filter (λ (x : Arrival). names l.vl x.bytes)
     (arrivals_at side s.port arrivals))) whole longer)
 
 pub released-so-far : BuiltIsComputed → ReleasedAreToldSoFar

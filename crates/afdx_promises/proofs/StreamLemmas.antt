@@ -30,7 +30,7 @@ use Rattle.afdx_switch.specs.Regular.{at_port, AreSound}
 use Rattle.afdx_switch.proofs.RegularLemmas.{AreAccepted, accepted-at, regular-reason}
 use Rattle.afdx_switch.specs.Tables.{rule_of}
 use Rattle.afdx_promises.specs.NetworkPromises.{StreamIsRegular, StreamIsAccepted}
-use Rattle.afdx_promises.specs.Streams.{AreSendings}
+use Rattle.afdx_promises.specs.Streams.{AreFirstOf}
 use Rattle.afdx_promises.proofs.ReceiverLemmas.{IsFrameOn, frame-sound, names-frame}
 
 -- ---- frames of a stream
@@ -105,7 +105,7 @@ regulated-as t l = refl
 module _ (t : Rows) (s : SystemRow) (l : LinkRow) (messages : List Message) (stream : List Sending)
     (sendable : AreSendable s l messages) (lawful : IsLawfulStream s l messages stream)
     (computed : BuiltIsComputed) (side : Side) where
-  sendings-sound : (xs : List Arrival) → AreSendings side stream xs
+  sendings-sound : (xs : List Arrival) → AreFirstOf side stream xs
       → AllByRecursion (λ x. (rule_of t l).port ≡ x.port) xs → AreSound (rule_of t l) xs
   sendings-sound [] are here = tt
   sendings-sound (x ∷ past) are here =
@@ -120,7 +120,7 @@ module _ (t : Rows) (s : SystemRow) (l : LinkRow) (messages : List Message) (str
   GapBefore xs next = (k r : ℕ) → suc k ≡ length xs → slice_get lawful.moments k ≡ Some r
       → r + bag (regulation_of_link l) ≤ next
 
-  sendings-regular : (xs : List Arrival) (next : ℕ) → AreSendings side stream xs
+  sendings-regular : (xs : List Arrival) (next : ℕ) → AreFirstOf side stream xs
       → AreSound (rule_of t l) xs → GapBefore xs next
       → IsRegular (regulation_of_link l) (map (charged_by (rule_of t l)) xs) next
   sendings-regular [] next are sound gap = tt
@@ -147,11 +147,11 @@ module _ (t : Rows) (s : SystemRow) (l : LinkRow) (messages : List Message) (str
       more k n e = omega (arith, e)
 
   -- so are those at the link's port, whatever else comes
-  pub stream-at : (xs : List Arrival) → AreSendings side stream (at_port (rule_of t l) xs)
+  pub stream-at : (xs : List Arrival) → AreFirstOf side stream (at_port (rule_of t l) xs)
       → AreSound (rule_of t l) (at_port (rule_of t l) xs)
   stream-at xs are = sendings-sound (at_port (rule_of t l) xs) are (at-ports (rule_of t l) xs)
 
-  pub stream-regular : (xs : List Arrival) → AreSendings side stream xs → AreSound (rule_of t l) xs
+  pub stream-regular : (xs : List Arrival) → AreFirstOf side stream xs → AreSound (rule_of t l) xs
       → (next : ℕ) × IsRegular (regulation_of (rule_of t l)) (map (charged_by (rule_of t l)) xs) next
   stream-regular xs are sound = (
     get_or lawful.moments (length xs - 1) 0 + bag (regulation_of_link l),
@@ -168,7 +168,7 @@ module _ (t : Rows) (s : SystemRow) (l : LinkRow) (messages : List Message) (str
       before : (k n : ℕ) → suc k ≡ n → n - 1 ≡ k
       before k n e = omega (arith, e)
 
-  pub accepted-stream : (xs : List Arrival) → AreSendings side stream (at_port (rule_of t l) xs)
+  pub accepted-stream : (xs : List Arrival) → AreFirstOf side stream (at_port (rule_of t l) xs)
       → AreAccepted (rule_of t l) xs
   accepted-stream xs are =
       let sound = stream-at xs are in

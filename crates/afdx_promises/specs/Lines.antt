@@ -24,6 +24,7 @@ pub record Leaving : Type 0 where
   pub port : ℕ
   pub time : ℕ
 
+-- a line of the text, by its kind
 pub data Line : Type 0 where
   -- `V n side ..`: the verdict on the frame of line n
   Verdict : Judged → Line
@@ -107,6 +108,7 @@ messages_told system vl (Received d k answer ∷ before) =
 
 -- ---- the lines of events
 
+-- the frame that left by a departure
 abbrev pub leaving : Departure → Leaving
 leaving d =
     record { frame = passing_in d.turn.entry; side = d.side; port = d.port; time = d.turn.end }

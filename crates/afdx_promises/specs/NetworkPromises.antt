@@ -26,7 +26,7 @@ use Rattle.afdx_network.specs.Events.{Event, Came, Left, Admission, Departure, a
 use Rattle.afdx_promises.specs.Ports.{AreItsTurns}
 use Rattle.afdx_network.specs.Order.{IsAmong, AreEvents, AreEventsSoFar}
 use Rattle.afdx_promises.specs.Receptions.{AreReceptions, receptions_at, brought_by, answers_on, answers_by_rules, messages_in}
-use Rattle.afdx_promises.specs.Streams.{at_own_port, AreSendings, IsFed}
+use Rattle.afdx_promises.specs.Streams.{at_own_port, AreFirstOf, IsFed}
 
 -- an arrival after others is judged alone: a frame of a link by its shape and by the window rule
 -- over its link's own arrivals on its side; one that names no link by its shape; and where it is
@@ -116,8 +116,7 @@ LinksAreApart = (t : Rows) (arrivals others : List Arrival) (side : Side) (place
     ≡ Some l →
     own l.vl side arrivals ≡ own l.vl side others → IsApart t arrivals others side l
 
--- a link's lawful stream at its sender's port is accepted, whatever else comes, also under this
--- link's name at other ports
+-- a lawful stream of a link, with these messages
 pub record IsStreamOf (t : Rows) (l : LinkRow) (messages : List Message)
     (stream : List Sending) : Type 0 where
   pub sender : SystemRow
@@ -125,18 +124,20 @@ pub record IsStreamOf (t : Rows) (l : LinkRow) (messages : List Message)
   pub sendable : AreSendable sender l messages
   pub lawful : IsLawfulStream sender l messages stream
 
+-- where it comes to its sender's port, the link's own arrivals there keep the link's gap
 abbrev pub StreamIsRegular : Type 0
 StreamIsRegular = (t : Rows) (arrivals : List Arrival) (side : Side) (l : LinkRow)
     (messages : List Message) (stream : List Sending) →
-    IsStreamOf t l messages stream → AreSendings side stream (at_own_port t l side arrivals) →
+    IsStreamOf t l messages stream → AreFirstOf side stream (at_own_port t l side arrivals) →
     IsRegularAt (rule_of t l) (own l.vl side arrivals)
 
+-- and it is accepted, whatever else comes, also under this link's name at other ports
 abbrev pub StreamIsAccepted : Type 0
 StreamIsAccepted = (t : Rows) (past : List Arrival) (x : Arrival) (place : ℕ) (l : LinkRow)
     (messages : List Message) (stream : List Sending) → IsLawful t → slice_get t.links place
     ≡ Some l →
     IsStreamOf t l messages stream → names l.vl x.bytes ≡ true → (rule_of t l).port ≡ x.port →
-    AreSendings x.side stream (at_own_port t l x.side (x ∷ past)) →
+    AreFirstOf x.side stream (at_own_port t l x.side (x ∷ past)) →
     reason_of t past x ≡ None
 
 -- End to end, also where a network fails in the middle: where the arrivals on each side are the
@@ -148,7 +149,7 @@ MessagesComeSoFar = (t : Rows) (arrivals : List Arrival) (system place : ℕ) (s
     IsAdmittedRun t arrivals → slice_get t.systems system ≡ Some s → slice_get t.links place
     ≡ Some l → is_to system l ≡ true →
     IsStreamOf t l messages stream → ((side : Side) →
-    AreSendings side stream (at_own_port t l side arrivals)) →
+    AreFirstOf side stream (at_own_port t l side arrivals)) →
     AreReceptions t s.port arrivals came →
     reverse (messages_in (answers_on t system l.vl came))
     ≡ filter (λ m. has_port t.ports system l.vl m.udp)

@@ -23,7 +23,7 @@ use Rattle.afdx_network.specs.Order.{events_of, events_so_far}
 use Rattle.afdx_promises.specs.Lines.{Line, Verdict, Received, Judged, Leaving, IsIn, judged_in, arrivals_judged, verdicts_on, accepted_in, left_in, frames_at, came_at, answers_told, messages_told, told_by}
 use Rattle.afdx_promises.specs.NetworkPromises.{IsStreamOf}
 use Rattle.afdx_promises.specs.Receptions.{ComeInOrder, answers_by_rules}
-use Rattle.afdx_promises.specs.Streams.{at_own_port, AreSendings, IsFed}
+use Rattle.afdx_promises.specs.Streams.{at_own_port, AreFirstOf, IsFed}
 use Rattle.afdx_promises.specs.WindowRule.{AreByWindowRule}
 
 -- ---- each virtual link's verdicts are the window rule's answer on that link's own arrivals alone
@@ -55,7 +55,7 @@ AreFrames t lines = (side : Side) (port place : ℕ) (l : LinkRow) → 1 ≤ por
 -- ---- every accepted frame leaves each of its ports within the link's configured latency
 
 -- a D line: it is of an accepted frame, of a link that goes to that port, and in time
-pub record IsInTime (t : Rows) (lines : List Line) (d : Leaving) : Type 0 where
+pub record LeavesInTime (t : Rows) (lines : List Line) (d : Leaving) : Type 0 where
   pub arrival : Arrival
   pub accepted : IsIn (Verdict (record { arrival = arrival; reason = None })) lines
   pub frame : d.frame ≡ passing arrival
@@ -67,8 +67,8 @@ pub record IsInTime (t : Rows) (lines : List Line) (d : Leaving) : Type 0 where
   pub goes : goes_to t link d.port ≡ true
   pub within : d.time ≤ arrival.time + 1000 * link.latency_us
 
-abbrev pub AreInTime : Rows → List Line → Type 0
-AreInTime t lines = (d : Leaving) → IsIn d (left_in lines) → IsInTime t lines d
+abbrev pub AllLeaveInTime : Rows → List Line → Type 0
+AllLeaveInTime t lines = (d : Leaving) → IsIn d (left_in lines) → LeavesInTime t lines d
 
 -- ---- and what a receiver delivers on a link is the integrity and redundancy rules' answer on
 -- that link's arrivals there alone
@@ -112,7 +112,7 @@ AreAlone t arrivals lines =
 pub record KeepsPromises (t : Rows) (arrivals : List Arrival) (lines : List Line) : Type 0 where
   pub verdicts : AreVerdicts t arrivals lines
   pub frames : AreFrames t lines
-  pub latency : AreInTime t lines
+  pub latency : AllLeaveInTime t lines
   pub receptions : AreReceived t lines
   pub isolation : AreAlone t arrivals lines
 
@@ -127,7 +127,7 @@ pub record KeepsPromisesSoFar (t : Rows) (arrivals : List Arrival) (lines : List
     Type 0 where
   pub verdicts : AreVerdicts t arrivals lines
   pub frames : AreFirstFrames t lines
-  pub latency : AreInTime t lines
+  pub latency : AllLeaveInTime t lines
   pub receptions : AreReceived t lines
 
 -- ---- exactly once
@@ -155,7 +155,7 @@ EachIsToldOnceSoFar t arrivals lines =
     (messages : List sent.Message) (stream : List Sending) →
     slice_get t.systems system ≡ Some s → slice_get t.links place ≡ Some l → is_to system l ≡ true →
     IsStreamOf t l messages stream →
-    ((side : Side) → AreSendings side stream (at_own_port t l side arrivals)) →
+    ((side : Side) → AreFirstOf side stream (at_own_port t l side arrivals)) →
     reverse (messages_told system l.vl lines)
     ≡ filter (λ m. has_port t.ports system l.vl m.udp) (take (most_come t l arrivals) messages)
 

@@ -13,20 +13,20 @@ abbrev pub at_own_port : Rows → LinkRow → Side → List Arrival → List Arr
 at_own_port t l side arrivals = filter (λ x. (rule_of t l).port == x.port) (own l.vl side arrivals)
 
 -- an arrival is the frame that was sent at a place of a stream, when it was sent
-pub record IsSending (side : Side) (stream : List Sending) (place : ℕ) (x : Arrival) : Type 0 where
+pub record IsFrameAt (side : Side) (stream : List Sending) (place : ℕ) (x : Arrival) : Type 0 where
   pub sending : Sending
   pub at_place : slice_get stream place ≡ Some sending
   pub time : x.time ≡ sending.time
   pub bytes : x.bytes ≡ copy_on side sending
 
 -- the arrivals are the first frames of a stream, in order and with none left out
-abbrev pub AreSendings : Side → List Sending → List Arrival → Type 0
-AreSendings side stream [] = Unit {0}
-AreSendings side stream (x ∷ past) = IsSending side stream (length past) x
-    × AreSendings side stream past
+abbrev pub AreFirstOf : Side → List Sending → List Arrival → Type 0
+AreFirstOf side stream [] = Unit {0}
+AreFirstOf side stream (x ∷ past) = IsFrameAt side stream (length past) x
+    × AreFirstOf side stream past
 
 -- on a side all that names the link and comes at its sender's port is this stream, whole
 pub record IsFed (t : Rows) (l : LinkRow) (stream : List Sending) (side : Side)
     (arrivals : List Arrival) : Type 0 where
-  pub frames : AreSendings side stream (at_own_port t l side arrivals)
+  pub frames : AreFirstOf side stream (at_own_port t l side arrivals)
   pub whole : length (at_own_port t l side arrivals) ≡ length stream

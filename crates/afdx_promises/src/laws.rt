@@ -31,8 +31,8 @@ pub fn messages_are_told_once()
     built_is_computed()
 }
 
-/// So do the ports of the switches: their turns are the schedule of their entries, of which none is
-/// lost.
+/// The ports of the switches keep the promises: their turns are the schedule of their entries, of
+/// which none is lost.
 ///
 /// Where a port has given only some of its turns, the frames of a link that left it are the first
 /// of those.
@@ -41,10 +41,10 @@ pub fn ports_are_as_promised()
     ensures so_far { LeftSoFarAreFirst }
 {}
 
-/// So are all events in their one order: each verdict, no loss, each departure in time, and what
-/// comes to each receiver.
+/// All events in their one order keep the promises: each verdict, no loss, each departure in time,
+/// and what comes to each receiver.
 ///
-/// And so are those up to the last arrival: what has left a port of a link's frames are the first
+/// And so do those up to the last arrival: what has left a port of a link's frames are the first
 /// of its accepted ones.
 pub fn events_are_as_promised()
     ensures all { EventsAreAsPromised }

@@ -54,7 +54,7 @@ use Rattle.afdx_switch.specs.Tables.{row_named, carried, entries_at}
 use Rattle.afdx_switch.specs.Verdicts.{reason_on, reason_of, is_share_lost, is_lost_at, IsVerdict}
 use Rattle.afdx_switch.specs.declared.verdict.Verdict.{Verdict}
 use Rattle.afdx_switch.specs.declared.verdict.Verdict.TheVariants.{Dropped, Accepted}
-use Rattle.afdx_switch.proofs.ArrivalLemmas.{unknown-fault, own-named, own-other}
+use Rattle.afdx_switch.proofs.ArrivalLemmas.{unknown-fault, own-named, own-other, own-apart}
 use Rattle.afdx_switch.proofs.LawLemmas.{entries-grow, entry-from, taken-turns}
 use Rattle.afdx_switch.proofs.ListLemmas.{bool_cases, find-found, find-one}
 use Rattle.afdx_switch.proofs.NewLemmas.{row-is}
@@ -181,7 +181,7 @@ pub loses-nothing : (t : Rows) (past : List Arrival) (x : Arrival) → IsAdmitte
 loses-nothing t past x run (Dropped reason) is = tt
 loses-nothing t past x run (Accepted lost) is = λ port. elim (bool_cases (holds lost port)) [
   | inr kept ↦ kept
-  | inl held ↦ (let within = is.2 port held in is.1 port within.0 within.1 ∙ accepted-kept t past x port run)
+  | inl held ↦ (let within = lost.in_range port held in is.1 port within.0 within.1 ∙ accepted-kept t past x port run)
 ]
 
 -- ---- the link that bytes name
@@ -225,10 +225,6 @@ link-reason t past x place l lawful at named =
     ∙ ap (λ vl. reason_after (rule_of t l) (own vl x.side past) x) (vl-is t l)
 
 -- ---- what one more arrival adds to the accepted ones
-
-own-apart : (vl : ℕ) (side : Side) (x : Arrival) (past : List Arrival) → is_side side x.side ≡ false
-    → own vl side (x ∷ past) ≡ own vl side past
-own-apart vl side x past other = rw other refl
 
 accepted-more : (t : Rows) (l : LinkRow) (x : Arrival) (past : List Arrival)
     → names l.vl x.bytes ≡ true → reason_after (rule_of t l) (own l.vl x.side past) x ≡ None →

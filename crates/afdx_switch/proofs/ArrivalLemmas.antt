@@ -47,6 +47,10 @@ pub own-named : (vl : ℕ) (x : Arrival) (past : List Arrival) → names vl x.by
     → own vl x.side (x ∷ past) ≡ x ∷ own vl x.side past
 own-named vl x past named = rw (same-side x.side, named) refl
 
+pub own-apart : (vl : ℕ) (side : Side) (x : Arrival) (past : List Arrival)
+    → is_side side x.side ≡ false → own vl side (x ∷ past) ≡ own vl side past
+own-apart vl side x past other = rw other refl
+
 first_of_four : (a b c d : Bool) (rest : List (Bool × Reason)) (r : Reason) → (s : Reason)
     × (option_map (λ (f : Bool × Reason). f.1)
     (find (λ f. f.0) ((a, TooShort) ∷ (b, TooLong) ∷ (c, BadFcs) ∷ (d, BadAddress) ∷ (true, r)

@@ -41,7 +41,6 @@ pub record Forwarded (time : ℕ) (priority : Priority) (places : List ℕ) (sha
   pub offered : (c : HeldFrame) (j i : ℕ) (o n : Pending HeldFrame) → AreShares c shares0 → j < k
       → slice_get places j ≡ Some i → slice_get ports0 i ≡ Some o → slice_get ports i ≡ Some n →
       IsOffered time priority (Some c) o n (holds lost (i + 1))
-  pub numbers : (p : ℕ) → holds lost p ≡ true → (1 ≤ p) × (p ≤ 24)
 
 -- a port that is offered nothing stays as it is
 not-offered : (time : ℕ) (priority : Priority) (o : Pending HeldFrame) → held.last_time o ≤ time
@@ -68,23 +67,6 @@ pub record Adds (place : ℕ) (lost new_lost : PortSet) (is_lost : Bool) : Type 
 
 module _ (time : ℕ) (priority : Priority) (places : List ℕ) (are : ArePlaces places)
     (shares0 : List HeldFrame) (ports0 : List (Pending HeldFrame)) where
-  pub none-forwarded : (lost : PortSet) → length ports0 ≡ 24 → length shares0 ≡ length places
-      → All (λ (p : Pending HeldFrame). held.last_time p ≤ time) ports0 →
-      All (λ (p : Pending HeldFrame). held.IsQuiet facts p time) ports0
-      → ((p : ℕ) → holds lost p ≡ false)
-      → Forwarded time priority places shares0 ports0 0 shares0 ports0 lost
-  none-forwarded lost port_count share_count clocks quiet none = record {
-    port_count = port_count;
-    clocks = clocks;
-    quiet = quiet;
-    left = omega (arith, share_count);
-    same = λ c all. all;
-    rest = λ i later. refl;
-    free = λ i later. none (i + 1);
-    offered = λ c j i o n all below. absurd (omega (arith, below));
-    numbers = λ p held. absurd (let not_held = none p in cc);
-  }
-
   module _ (k place : ℕ) (shares rest_shares : List HeldFrame) (ports : List (Pending HeldFrame))
       (lost : PortSet) (inv : Forwarded time priority places shares0 ports0 k shares ports lost)
       (here : slice_get places k ≡ Some place) where
@@ -116,11 +98,6 @@ module _ (time : ℕ) (priority : Priority) (places : List ℕ) (are : ArePlaces
       kept : (i : ℕ) → i ≢ place → holds new_lost (i + 1) ≡ holds lost (i + 1)
       kept i other = elim (adds.others (i + 1))
           [ inl same ↦ absurd (other (omega (arith, same))) | inr as_before ↦ as_before ]
-
-      number : (p : ℕ) → holds new_lost p ≡ true → (p ≡ place + 1)
-          ⊎ (holds new_lost p ≡ holds lost p) → (1 ≤ p) × (p ≤ 24)
-      number p held (inl same) = (omega (arith, same), omega (arith, same, are.within k place here))
-      number p held (inr as_before) = inv.numbers p (sym as_before ∙ held)
 
       share-is : (c : HeldFrame) → AreShares c shares0 → share ≡ c
       share-is c all = all-at (λ s. s ≡ c) shares (length rest_shares) share (inv.same c all)
@@ -173,7 +150,6 @@ module _ (time : ℕ) (priority : Priority) (places : List ℕ) (are : ArePlaces
         rest = λ i later. slice_get-set_there ports place i n (later-other i later) ∙ inv.rest i (later-before i later);
         free = λ i later. kept i (later-other i later) ∙ inv.free i (later-before i later);
         offered = λ c j i o2 n2 all past at_j is_o2 is_n2. at c j i o2 n2 all past at_j is_o2 is_n2 (cases_eq i place);
-        numbers = λ p held. number p held (adds.others p);
       }
 
   -- in the end each port at a place was offered its share, and each other nothing

@@ -32,7 +32,7 @@ use Rattle.afdx_switch.specs.Switching.{calls_at, taken_at}
 use Rattle.afdx_switch.proofs.ListLemmas.{find-none, find-found}
 use Rattle.afdx_switch.proofs.NamedLemmas.{unnamed, no-row, row-at}
 use Rattle.afdx_switch.proofs.ArrivalLemmas.{sends-named, row-named, dropped-sent, accepted-sent}
-use Rattle.afdx_switch.proofs.ArrivalLemmas.{entries-with, entries-kept}
+use Rattle.afdx_switch.proofs.ArrivalLemmas.{entries-with, entries-kept, own-apart}
 use Rattle.afdx_switch.proofs.StandsLemmas.{found-at}
 use Rattle.afdx_switch.proofs.NewLemmas.{place-of, pushed}
 
@@ -223,10 +223,6 @@ links-in-order t side w h port vl lawful st low high =
     go_in_order (byte_ns_at t port) (is_of vl) (entries_at t side port h.arrivals)
     (taken_at port h.taken) (one-class t side port vl h.arrivals lawful)
     (taken-turns t side w h port st low high)
-
-own-apart : (vl : ℕ) (side : Side) (x : Arrival) (past : List Arrival) → is_side side x.side ≡ false
-    → own vl side (x ∷ past) ≡ own vl side past
-own-apart vl side x past other = rw other refl
 
 pub other-side-apart : OtherSideIsApart
 other-side-apart t side w h x st other = record {

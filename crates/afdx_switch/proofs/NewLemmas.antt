@@ -38,9 +38,6 @@ module _ {X : Type 0} where
   pushed (x ∷ xs) y (suc i) z is =
       elim (pushed xs y i z is) [ inl before ↦ inl before | inr last ↦ inr (ap suc last.0, last.1) ]
 
-  pub gathered-none : (P : ℕ → X → Type 0) → Gathered P 0 []
-  gathered-none P = record { counted = refl; each = λ i x is. absurd cc }
-
   pub gathered-push : (P : ℕ → X → Type 0) (count : ℕ) (xs : List X) (y : X) → Gathered P count xs
       → P count y → Gathered P (count + 1) (xs ++ y ∷ [])
   gathered-push P count xs y all new = record {

@@ -33,9 +33,11 @@ pub record Passing : Type 0 where
   pub time : ℕ
   pub bytes : List ℕ
 
+-- the frame of an arrival
 abbrev pub passing : Arrival → Passing
 passing x = record { tag = x.tag; time = x.time; bytes = x.bytes }
 
+-- the frame of a port's entry
 abbrev pub passing_in : Entry HeldFrame → Passing
 passing_in e = record { tag = e.item.tag; time = e.time; bytes = e.item.bytes }
 

@@ -66,10 +66,11 @@ LinksGoInOrder = (t : Rows) (side : Side) (w : Working) (h : SwitchHistory) (por
     StandsFor t side w h → 1 ≤ port → port ≤ 24 →
     GoInOrder (is_of vl) (entries_at t side port h.arrivals) (taken_at port h.taken)
 
--- an arrival on the other side changes nothing
+-- the calls with one more arrival, at no later time
 abbrev pub with_other : SwitchHistory → Arrival → SwitchHistory
 with_other h x = record { arrivals = x ∷ h.arrivals; taken = h.taken; time = h.time }
 
+-- an arrival on the other side changes nothing
 abbrev pub OtherSideIsApart : Type 0
 OtherSideIsApart = (t : Rows) (side : Side) (w : Working) (h : SwitchHistory) (x : Arrival) →
     StandsFor t side w h → is_side side x.side ≡ false → StandsFor t side w (with_other h x)

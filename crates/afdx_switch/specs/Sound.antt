@@ -12,17 +12,21 @@ use Rattle.afdx_switch.specs.Lines.{ArePlaces}
 use Rattle.afdx_switch.specs.declared.line.Line.{Line}
 use Rattle.afdx_switch.specs.declared.working.Working.{Working}
 
--- what is true of every switch, whatever the calls
+-- its account was not used after this time, its frames may not wait too long, and it goes to ports
+-- of the switch, each once
 pub record IsLineSound (time : ℕ) (line : Line) : Type 0 where
   pub in_time : accounts.last_time line.account ≤ time
   pub wait : IfSome line.longest_wait (λ wait. wait ≤ greatest_wait)
   pub goes : ArePlaces line.goes.items
 
+-- a port that was not used after this time, and that some calls leave so
 pub record IsPortSound (time : ℕ) (p : Pending HeldFrame) : Type 0 where
   pub in_time : held.last_time p ≤ time
   pub calls : queue.PortHistory HeldFrame
   pub stands : queue.StandsFor facts p calls
 
+-- all lines and ports are so at the switch's time, each identifier leads to a line that is kept,
+-- and the port that is served first is the one whose turn goes first
 pub record IsSwitchSound (w : Working) : Type 0 where
   pub lines : All (IsLineSound w.clock) w.lines.items
   pub place_count : vec_len w.places ≡ 65536

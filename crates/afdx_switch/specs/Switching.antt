@@ -31,15 +31,19 @@ pub record SwitchHistory : Type 0 where
   pub taken : List PortTurn
   pub time : ℕ
 
+-- of a new switch
 abbrev pub no_calls : SwitchHistory
 no_calls = record { arrivals = []; taken = []; time = 0 }
 
+-- with the newest arrival, at its time
 abbrev pub with_arrival : SwitchHistory → Arrival → SwitchHistory
 with_arrival h x = record { arrivals = x ∷ h.arrivals; taken = h.taken; time = x.time }
 
+-- with the newest turn, which was taken by this time
 abbrev pub with_take : SwitchHistory → PortTurn → ℕ → SwitchHistory
 with_take h gone until = record { arrivals = h.arrivals; taken = gone ∷ h.taken; time = until }
 
+-- with no more than a later time
 abbrev pub at : SwitchHistory → ℕ → SwitchHistory
 at h time = record { arrivals = h.arrivals; taken = h.taken; time = time }
 
@@ -106,6 +110,7 @@ pub record StandsFor (t : Rows) (side : Side) (w : Working) (h : SwitchHistory) 
 abbrev pub IsQuiet : Working → ℕ → Type 0
 IsQuiet w t = All (λ p. held.IsQuiet facts p t) w.ports.items
 
+-- the last time that was used
 abbrev pub last_time : Working → ℕ
 last_time w = w.clock
 

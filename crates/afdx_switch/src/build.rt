@@ -136,7 +136,7 @@ fn new_lines(alloc: Global, tables: &Tables) -> Result<Vec<Line>, AllocError>
 }
 
 /// The place of the link of this identifier, if there is one.
-fn place(tables: &Tables, vl: u16) -> Option<u16>
+fn place_of(tables: &Tables, vl: u16) -> Option<u16>
     requires { length tables.now.links ≤ 4096 }
     ensures place { result ≡ link_of tables.now.links vl }
     ensures known { IfSome result (λ i. i < length tables.now.links) }
@@ -155,7 +155,7 @@ fn new_places(alloc: Global, tables: &Tables) -> Result<Vec<Option<u16>>, AllocE
 {
     let mut places = Vec::new(alloc);
     for vl in 0..65536_u32 {
-        places.push(place(tables, vl as u16))?;
+        places.push(place_of(tables, vl as u16))?;
     }
     Ok(places)
 }
@@ -174,7 +174,7 @@ fn new_ports(alloc: Global, tables: &Tables) -> Result<Vec<Port<Frame>>, AllocEr
     Ok(ports)
 }
 
-/// Full accounts and idle ports.
+/// What a switch of the tables works with at time 0: full accounts and idle ports.
 pub(crate) fn build(alloc: Global, tables: &Tables) -> Result<Working, AllocError>
     ensures lawful { OnOk result (IsLawful tables.now) }
     ensures sound { IfOk result (λ w. IsSwitchSound w) }

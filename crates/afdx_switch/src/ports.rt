@@ -1,5 +1,5 @@
 //! Sets of output ports.
-ghost use Rattle.std.specs.Prelude.{◌≡◌, ◌↔◌, ℕ, ◌<◌, ◌⊎◌, false, true, IsTrue};
+ghost use Rattle.std.specs.Prelude.{◌≡◌, ◌↔◌, ℕ, ◌≤◌, ◌⊎◌, false, true, IsTrue, slice_index_or};
 ghost use Rattle.std.specs.List.{list_any};
 ghost use Rattle.std.specs.Prelude.{◌==◌};
 
@@ -8,6 +8,7 @@ ghost use Rattle.std.specs.Prelude.{◌==◌};
 pub struct PortSet {
     /// By number; there is no port 0.
     ports: [bool; 25],
+    ghost in_range: { (p : ℕ) → slice_index_or ports p false ≡ true → (1 ≤ p) × (p ≤ 24) },
 }
 
 impl PortSet {
@@ -20,7 +21,8 @@ impl PortSet {
     }
 
     pub(crate) fn add(&mut self, port: u8)
-        requires { port < 25 }
+        requires first_port { 1 ≤ port }
+        requires last_port { port ≤ 24 }
         ensures added { holds self.new port ≡ true }
         ensures others { (p : ℕ) → (p ≡ port) ⊎ (holds self.new p ≡ holds self.old p) }
     {

@@ -145,8 +145,8 @@ impl Switch {
             names l.vl frame.entry.bytes.now ≡ true →
             (rule_of t l).port ≡ port →
             let arrival = arrival_with tag time side port frame.entry.bytes.now in
-            let own = own l.vl side (arrival ∷ h.arrivals) in
-            IsRegularAt (rule_of t l) own → IfOk result IsAccepted }
+            let arrivals = own l.vl side (arrival ∷ h.arrivals) in
+            IsRegularAt (rule_of t l) arrivals → IfOk result IsAccepted }
         ensures judged { (t : Rows) (side : Side) (h : SwitchHistory) →
             StandsFor t side self.old h →
             let arrival = arrival_with tag time side port frame.entry.bytes.now in

@@ -81,7 +81,6 @@ fn forward(
         AreShares c shares.old.items →
         slice_get ports.old i ≡ Some o → slice_get ports.new i ≡ Some n →
         IsOffered time priority (share_of c (is_among i places.now)) o n (holds result (i + 1)) }
-    ensures numbers { (p : ℕ) → holds result p ≡ true → (1 ≤ p) × (p ≤ 24) }
     ensures others { AreKept places.now ports.old ports.new }
 {
     let mut lost = PortSet::new();

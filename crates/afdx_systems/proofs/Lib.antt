@@ -1,4 +1,5 @@
 mod PassLemmas
+mod NewestLemmas
 mod EndLemmas
 mod SystemsLemmas
 mod LawLemmas

@@ -1,6 +1,6 @@
 -- A message that is put to a port of which all was read, and read there at once.
-use Rattle.std.proofs.Common.{◌≡◌, OnOk, Result, ℕ, ◌<◌, ◌≤◌, List, ◌++◌, length, Some, None, sym}
-use Rattle.std.proofs.Common.{ap, ◌∙◌, subst, arith, inl, inr}
+use Rattle.std.proofs.Common.{◌≡◌, OnOk, Result, Ok, Err, ℕ, ◌<◌, ◌≤◌, List, ◌++◌, length, Some, None, sym}
+use Rattle.std.proofs.Common.{ap, ◌∙◌, subst, arith, inl, inr, refl, [], ◌∷◌, cond}
 use Rattle.std.specs.Prelude.{position, slice_get, slice_set}
 use Rattle.std.proofs.lemmas.Bool.{cases_eq}
 use Rattle.std.proofs.lemmas.List.{get_or-set_same, get_or-set_other, length-set}
@@ -11,13 +11,14 @@ use Rattle.afdx_comport.specs.Ports.{is_for}
 use Rattle.afdx_comport.specs.declared.held.Held.{Held}
 use Rattle.afdx_comport.specs.declared.held.Held.TheVariants.{Sampling, Queuing}
 use Rattle.afdx_comport.specs.declared.com_ports.ComPort.{ComPort}
+use Rattle.afdx_comport.specs.Calls.{Put, Take, GiveBack, held_after}
 use Rattle.afdx_comport.proofs.HeldLemmas.{put_and_read}
 use Rattle.afdx_comport.proofs.PlaceLemmas.{stays}
-use Rattle.afdx_systems.specs.ReadPorts.{AreRead}
+use Rattle.afdx_systems.specs.ReadPorts.{AreRead, IsPassedOn}
 use Rattle.afdx_systems.specs.Receptions.{message_line}
 
 -- there is a port at each place within
-port_at : (ports : List ComPort) (place : ℕ) → place < length ports → (port : ComPort)
+pub port_at : (ports : List ComPort) (place : ℕ) → place < length ports → (port : ComPort)
     × (slice_get ports place ≡ Some port)
 port_at ports place within =
     elim (slice_get_cases ports place).1 [
@@ -91,10 +92,40 @@ put_at ports place time message after within puts =
     let port = port_at ports place within in
     record { within = within; port = port.0; here = port.1; now = puts port.0 port.1 }
 
--- what stays of the ports
-pub record IsPassedOn (ports after : List ComPort) : Type 0 where
+-- what stays true of the ports
+pub record StaysRead (ports after : List ComPort) : Type 0 where
   pub read : AreRead ports → AreRead after
   pub found : (link udp : ℕ) → position (is_for link udp) after ≡ position (is_for link udp) ports
+
+-- a port of a list that was passed on
+passed : (ports after : List ComPort) (place room : ℕ) (m : TimedMessage) (port : ComPort)
+    → slice_get ports place ≡ Some port → slice_get after place
+    ≡ Some (record port { held = held_after port.held (GiveBack room ∷ Take ∷ Put m ∷ []) })
+    → ((j : ℕ) → (j ≡ place → ⊥) → slice_get after j ≡ slice_get ports j) → IsPassedOn ports place m after
+passed ports after place room m port here now same =
+    record {
+      here = λ other is. let one : Some port ≡ Some other = sym here ∙ is in let it : port ≡ other = cc in (
+        room,
+        subst (λ (p : ComPort). slice_get after place
+            ≡ Some (record p { held = held_after p.held (GiveBack room ∷ Take ∷ Put m ∷ []) })) it now,
+      );
+      others = same;
+    }
+
+sample_calls : (held : Held) (time : ℕ) (bytes : List ℕ) (m : TimedMessage)
+    → Some m ≡ sample_of (with_message time bytes held) → with_message time bytes held
+    ≡ held_after held (GiveBack 0 ∷ Take ∷ Put (record { time = time; bytes = bytes }) ∷ [])
+unfolding held_after
+sample_calls (Sampling sample) time bytes m is = refl
+sample_calls (Queuing line) time bytes m is = absurd cc
+
+queue_calls : (held : Held) (time : ℕ) (bytes : List ℕ) (room : ℕ) → IsRead held
+    → with_spare room (without_first (with_message time bytes held))
+    ≡ held_after held (GiveBack room ∷ Take ∷ Put (record { time = time; bytes = bytes }) ∷ [])
+unfolding held_after
+queue_calls held time bytes room all =
+    ap (λ b. with_spare room (without_first (cond b held (with_message time bytes held))))
+    (sym (put_and_read held time bytes all).room)
 
 module _ (ports : List ComPort) (place time : ℕ) (message : List ℕ) (after : List ComPort)
     (put : HasPut ports place time message after) where
@@ -121,7 +152,7 @@ module _ (ports : List ComPort) (place time : ℕ) (message : List ℕ) (after :
   -- a sample was read
   pub sampled : (m : TimedMessage)
       → ((p : ComPort) → slice_get after place ≡ Some p → Some m ≡ sample_of p.held)
-      → IsPassedOn ports after × (m.bytes ≡ message)
+      → StaysRead ports after × (m.bytes ≡ message)
   unfolding port_then held_then
   sampled m reads =
       let told = sample_read put.port.held time message m (reads port_then here_then) in (
@@ -133,33 +164,35 @@ module _ (ports : List ComPort) (place time : ℕ) (message : List ℕ) (after :
         told.0,
       )
 
-  -- the oldest was taken, if there was one
+  without : ComPort
+  unfolding port_then held_then
+  without = record port_then { held = without_first held_then }
+
+  -- the ports of which the oldest was taken, if there was one
+  module _ (rest : List ComPort) (leaves : (p : ComPort) → slice_get after place ≡ Some p
+      → rest ≡ slice_set after place (record p { held = without_first p.held })) where
+    now_taken : rest ≡ slice_set after place without
+    unfolding port_then held_then without
+    now_taken = leaves port_then here_then
+
+    here_taken : slice_get rest place ≡ Some without
+    here_taken = ap (λ (xs : List ComPort). slice_get xs place) now_taken
+        ∙ slice_get-set_here after place without (slice_get_within after place port_then here_then)
+
+    there_taken : (j : ℕ) → (j ≡ place → ⊥) → slice_get rest j ≡ slice_get ports j
+    there_taken j other = ap (λ (xs : List ComPort). slice_get xs j) now_taken
+        ∙ slice_get-set_there after place j without other ∙ there_then j other
+
   pub taken : (rest : List ComPort)
       → ((p : ComPort) → slice_get after place ≡ Some p
-      → rest ≡ slice_set after place (record p { held = without_first p.held })) → IsPassedOn ports rest
-  unfolding port_then held_then
+      → rest ≡ slice_set after place (record p { held = without_first p.held })) → StaysRead ports rest
+  unfolding port_then held_then without
   taken rest leaves = record {
-    read = λ all. read_but_at ports rest place without all here
-        (put_and_read put.port.held time message (all place put.port put.here)).all there;
-    found = λ link udp. ap (position (is_for link udp)) now
+    read = λ all. read_but_at ports rest place without all (here_taken rest leaves)
+        (put_and_read put.port.held time message (all place put.port put.here)).all (there_taken rest leaves);
+    found = λ link udp. ap (position (is_for link udp)) (now_taken rest leaves)
         ∙ stays after place link udp port_then (without_first held_then) here_then ∙ found_then link udp;
   }
-    where
-      without : ComPort
-      without = record port_then { held = without_first held_then }
-
-      now : rest ≡ slice_set after place without
-      now = leaves port_then here_then
-
-      within : place < length after
-      within = slice_get_within after place port_then here_then
-
-      here : slice_get rest place ≡ Some without
-      here = ap (λ (xs : List ComPort). slice_get xs place) now ∙ slice_get-set_here after place without within
-
-      there : (j : ℕ) → (j ≡ place → ⊥) → slice_get rest j ≡ slice_get ports j
-      there j other = ap (λ (xs : List ComPort). slice_get xs j) now
-          ∙ slice_get-set_there after place j without other ∙ there_then j other
 
   -- it is what was put
   pub taken_message : AreRead ports → (m : List ℕ)
@@ -167,6 +200,39 @@ module _ (ports : List ComPort) (place time : ℕ) (message : List ℕ) (after :
   unfolding port_then held_then
   taken_message all m reads = first_read put.port.held time message m (all place put.port put.here)
       (reads port_then here_then)
+
+  -- the calls of its port were these: of a sample
+  pub sample_passed : (m : TimedMessage)
+      → ((p : ComPort) → slice_get after place ≡ Some p → Some m ≡ sample_of p.held)
+      → IsPassedOn ports place (record { time = time; bytes = message }) after
+  unfolding port_then held_then
+  sample_passed m reads =
+      passed ports after place 0 (record { time = time; bytes = message }) put.port put.here
+      (here_then ∙ ap (λ (h : Held). Some (record put.port { held = h }))
+      (sample_calls put.port.held time message m (reads port_then here_then))) there_then
+
+  -- and of a queue
+  pub queue_passed : (rest given : List ComPort) (room : ℕ)
+      → ((p : ComPort) → slice_get after place ≡ Some p
+      → rest ≡ slice_set after place (record p { held = without_first p.held }))
+      → ((p : ComPort) → slice_get rest place ≡ Some p
+      → given ≡ slice_set rest place (record p { held = with_spare room p.held }))
+      → AreRead ports → IsPassedOn ports place (record { time = time; bytes = message }) given
+  unfolding port_then held_then without
+  queue_passed rest given room leaves gives all =
+      passed ports given place room (record { time = time; bytes = message }) put.port put.here
+      (ap (λ (xs : List ComPort). slice_get xs place) now
+      ∙ slice_get-set_here rest place back (slice_get_within rest place without (here_taken rest leaves))
+      ∙ ap (λ (h : Held). Some (record put.port { held = h }))
+      (queue_calls put.port.held time message room (all place put.port put.here)))
+      (λ j other. ap (λ (xs : List ComPort). slice_get xs j) now
+      ∙ slice_get-set_there rest place j back other ∙ there_taken rest leaves j other)
+    where
+      back : ComPort
+      back = record without { held = with_spare room (without_first held_then) }
+
+      now : given ≡ slice_set rest place back
+      now = gives without (here_taken rest leaves)
 
   -- one of the two is read
   pub none_left : AreRead ports
@@ -185,7 +251,7 @@ still_read (Queuing line) room all = all
 pub given_back : (ports rest after : List ComPort) (place room : ℕ) → place < length rest →
     ((p : ComPort) → slice_get rest place ≡ Some p
     → after ≡ slice_set rest place (record p { held = with_spare room p.held })) →
-    IsPassedOn ports rest → IsPassedOn ports after
+    StaysRead ports rest → StaysRead ports after
 given_back ports rest after place room within gives passed =
     let port = port_at rest place within in
     let given : ComPort = record port.0 { held = with_spare room port.0.held } in
@@ -206,3 +272,7 @@ pub line_of_same : {E : Type 0} (r : Result (Unit {0}) E) (text : List ℕ) (old
     OnOk r (text ≡ old ++ message_line time name vl other) → OnOk r (text ≡ old ++ message_line time name vl message)
 line_of_same r text old time name vl message other same line =
     subst (λ (m : List ℕ). OnOk r (text ≡ old ++ message_line time name vl m)) same line
+
+pub on_ok : {A E P : Type 0} (r : Result A E) → P → OnOk r P
+on_ok (Ok value) is = is
+on_ok (Err fault) is = tt

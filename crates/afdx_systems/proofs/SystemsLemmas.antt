@@ -16,7 +16,7 @@ use Rattle.afdx_systems.specs.declared.end_system.EndSystem.{EndSystem}
 use Rattle.afdx_systems.specs.declared.systems.Systems.{Systems}
 use Rattle.afdx_systems.specs.Handovers.{HandedOver, arrival_of, came_to}
 use Rattle.afdx_systems.specs.Receptions.{line_at, is_delivered_at, reception_line, is_delivered}
-use Rattle.afdx_systems.specs.StandsFor.{IsAfter, IsAt, StandsFor, system_in}
+use Rattle.afdx_systems.specs.StandsFor.{IsAfter, IsAt, StandsFor, HasNewest, HaveNewest, system_in}
 use Rattle.afdx_systems.proofs.PassLemmas.{slice_get-set_here, slice_get-set_there}
 
 -- ---- new systems
@@ -27,6 +27,8 @@ pub record HasBuilt (rows : Rows) (count : ℕ) (systems : List (Option EndSyste
   pub lawful : 0 < count → IsLawful rows
   pub each : (port : ℕ) (at : Option EndSystem) → slice_get systems port ≡ Some at
       → IsAt rows [] (system_at_port rows.systems port) at
+  pub newest : (port : ℕ) (at : Option EndSystem) → slice_get systems port ≡ Some at
+      → HasNewest rows [] (system_at_port rows.systems port) at
 
 none_from : (n port : ℕ) (systems : List SystemRow) (profile : ℕ)
     → AllByRecursion (IsSystem profile) systems → 24 < port
@@ -61,6 +63,24 @@ built rows at_ports count all has = record { each = λ port. at port (slice_get_
       none_beyond rows port (has.lawful (omega arith))
           (omega (arith, past.0, has.long, all)),
     ) tt
+
+-- where no system is, no port has anything to hold
+none_newest : (rows : Rows) (past : List Arrived) (place : Option ℕ) → HasNewest rows past place None
+none_newest rows past None = tt
+none_newest rows past (Some system) = tt
+
+pub built_newest : (rows : Rows) (at_ports : Vec (Option EndSystem) Global) (count : ℕ)
+    → HasBuilt rows count at_ports.items → HaveNewest rows (record { at_ports = at_ports }) []
+unfolding came_to
+built_newest rows at_ports count has = record { each = λ port. at port (slice_get_cases at_ports.items port).1 }
+  where
+    at : (port : ℕ) → ((e : Option EndSystem) × (port < length at_ports.items)
+        × (slice_get at_ports.items port ≡ Some e) × (get_or at_ports.items port e ≡ e))
+        ⊎ ((length at_ports.items ≤ port) × (slice_get at_ports.items port ≡ None)) →
+        HasNewest rows [] (system_at_port rows.systems port)
+        (option_and_then (λ (e : Option EndSystem). e) (slice_get at_ports.items port))
+    at port (inl found) = rw found.2 (has.newest port found.0 found.2)
+    at port (inr past) = rw past.1 (none_newest rows [] (system_at_port rows.systems port))
 
 -- ---- a frame at a port
 
@@ -124,6 +144,29 @@ module _ (rows : Rows) (systems : Systems) (before : List HandedOver) (d : Hande
       (ap (λ (n : ℕ). system_in systems n) (sym are.port) ∙ ap (option_and_then (λ (e : Option EndSystem). e)) are.here)
       (are.stands.each d.port)
 
+  -- its ports hold the newest
+  pub newest_is : HaveNewest rows systems before
+      → HasNewest rows (came_to d.port before) (system_at_port rows.systems d.port) at
+  newest_is have =
+      subst (λ (o : Option EndSystem). HasNewest rows (came_to d.port before) (system_at_port rows.systems d.port) o)
+      (ap (λ (n : ℕ). system_in systems n) (sym are.port) ∙ ap (option_and_then (λ (e : Option EndSystem). e)) are.here)
+      (have.each d.port)
+
+  module _ (new : Systems) (now : Option EndSystem)
+      (set : new.at_ports.items ≡ slice_set systems.at_ports.items place now) where
+    in_place : system_in new d.port ≡ now
+    in_place = ap (λ (n : ℕ). system_in new n) (sym are.port)
+        ∙ ap (λ (es : List (Option EndSystem)). option_and_then (λ (e : Option EndSystem). e)
+        (slice_get es place)) set ∙ ap (option_and_then (λ (e : Option EndSystem). e))
+        (slice_get-set_here systems.at_ports.items place now
+        (slice_get_within systems.at_ports.items place at are.here))
+
+    elsewhere : (port : ℕ) → (port ≡ d.port → ⊥) → system_in new port ≡ system_in systems port
+    elsewhere port other = ap (λ (es : List (Option EndSystem)).
+        option_and_then (λ (e : Option EndSystem). e) (slice_get es port)) set
+        ∙ ap (option_and_then (λ (e : Option EndSystem). e))
+        (slice_get-set_there systems.at_ports.items place port now (λ e. other (e ∙ are.port)))
+
   -- they go on after it
   pub stand_after : (new : Systems) (now : Option EndSystem)
       → new.at_ports.items ≡ slice_set systems.at_ports.items place now →
@@ -131,25 +174,23 @@ module _ (rows : Rows) (systems : Systems) (before : List HandedOver) (d : Hande
       → StandsFor rows new (d ∷ before)
   stand_after new now set is = record { each = λ port. one port (cases_eq port d.port) }
     where
-      within : place < length systems.at_ports.items
-      within = slice_get_within systems.at_ports.items place at are.here
-
-      here : system_in new d.port ≡ now
-      here = ap (λ (n : ℕ). system_in new n) (sym are.port)
-          ∙ ap (λ (es : List (Option EndSystem)). option_and_then (λ (e : Option EndSystem). e)
-          (slice_get es place)) set ∙ ap (option_and_then (λ (e : Option EndSystem). e))
-          (slice_get-set_here systems.at_ports.items place now within)
-
-      there : (port : ℕ) → (port ≡ d.port → ⊥) → system_in new port ≡ system_in systems port
-      there port other = ap (λ (es : List (Option EndSystem)).
-          option_and_then (λ (e : Option EndSystem). e) (slice_get es port)) set
-          ∙ ap (option_and_then (λ (e : Option EndSystem). e))
-          (slice_get-set_there systems.at_ports.items place port now (λ e. other (e ∙ are.port)))
-
       one : (port : ℕ) → (port ≡ d.port) ⊎ (port ≡ d.port → ⊥)
           → IsAt rows (came_to port (d ∷ before)) (system_at_port rows.systems port) (system_in new port)
-      one port (inl e) = rw (e, here, came_here d before d.port refl) is
-      one port (inr other) = rw (there port other, came_there d before port other) (are.stands.each port)
+      one port (inl e) = rw (e, in_place new now set, came_here d before d.port refl) is
+      one port (inr other) = rw (elsewhere new now set port other, came_there d before port other)
+          (are.stands.each port)
+
+  -- and hold the newest
+  pub newest_after : (new : Systems) (now : Option EndSystem)
+      → new.at_ports.items ≡ slice_set systems.at_ports.items place now → HaveNewest rows systems before →
+      HasNewest rows (arrival_of d ∷ came_to d.port before) (system_at_port rows.systems d.port) now
+      → HaveNewest rows new (d ∷ before)
+  newest_after new now set have is = record { each = λ port. one port (cases_eq port d.port) }
+    where
+      one : (port : ℕ) → (port ≡ d.port) ⊎ (port ≡ d.port → ⊥)
+          → HasNewest rows (came_to port (d ∷ before)) (system_at_port rows.systems port) (system_in new port)
+      one port (inl e) = rw (e, in_place new now set, came_here d before d.port refl) is
+      one port (inr other) = rw (elsewhere new now set port other, came_there d before port other) (have.each port)
 
 -- a frame at a port beyond those that are kept
 module _ (rows : Rows) (systems : Systems) (before : List HandedOver) (d : HandedOver) (place : ℕ)
@@ -182,6 +223,14 @@ module _ (rows : Rows) (systems : Systems) (before : List HandedOver) (d : Hande
           (none_stays rows (came_to d.port before) (came_to d.port (d ∷ before))
           (system_at_port rows.systems d.port) no_system)
       one q (inr other) = rw (came_there d before q other) (stands.each q)
+
+  pub newest_still : HaveNewest rows systems before → HaveNewest rows systems (d ∷ before)
+  newest_still have = record { each = λ q. one q (cases_eq q d.port) }
+    where
+      one : (q : ℕ) → (q ≡ d.port) ⊎ (q ≡ d.port → ⊥)
+          → HasNewest rows (came_to q (d ∷ before)) (system_at_port rows.systems q) (system_in systems q)
+      one q (inl e) = rw (e, none_in) (none_newest rows (came_to d.port (d ∷ before)) (system_at_port rows.systems d.port))
+      one q (inr other) = rw (came_there d before q other) (have.each q)
 
 -- the line and the answer, as the definitions have them
 pub line_is : {E : Type 0} (rows : Rows) (before : List HandedOver) (d : HandedOver)

@@ -1,5 +1,4 @@
 pub mod Handovers
-pub mod Words
 pub mod Receptions
 pub mod ReadPorts
 pub mod StandsFor

@@ -1,8 +1,14 @@
 -- The communication ports of a system that reads each message at once.
-use Rattle.std.specs.Prelude.{◌≡◌, ℕ, Some, List, is_some, position, slice_get}
+use Rattle.std.specs.Prelude.{◌≡◌, ℕ, ◌&&◌, nat_eq, Option, Some, None, List, [], ◌∷◌, is_some, position, slice_get, if◌then◌else◌}
 use Rattle.afdx_config.specs.Rows.{Rows}
 use Rattle.afdx_config.specs.Reading.{has_port}
+use Rattle.afdx_receive.specs.Arrivals.{Arrived}
+use Rattle.afdx_receive.specs.Answers.{Answer, Message, Dropped, answer_to}
+use Rattle.afdx_comport.specs.Messages.{TimedMessage}
 use Rattle.afdx_comport.specs.declared.com_ports.ComPort.{ComPort}
+use Rattle.afdx_comport.specs.declared.held.Held.{Held}
+use Rattle.afdx_comport.specs.declared.held.Held.TheVariants.{Sampling, Queuing}
+use Rattle.afdx_comport.specs.Calls.{Put, Take, GiveBack, held_after}
 use Rattle.afdx_comport.specs.Held.{IsRead}
 use Rattle.afdx_comport.specs.Ports.{is_for}
 
@@ -14,3 +20,39 @@ AreRead ports = (place : ℕ) (port : ComPort) → slice_get ports place ≡ Som
 abbrev pub AreFound : Rows → ℕ → List ComPort → Type 0
 AreFound rows system ports =
     (vl udp : ℕ) → is_some (position (is_for vl udp) ports) ≡ has_port rows.ports system vl udp
+
+-- a message was put to the port at this place and taken out again, where it is a queue, and its
+-- memory given back; every other port stayed as it was
+pub record IsPassedOn (ports : List ComPort) (place : ℕ) (message : TimedMessage)
+    (after : List ComPort) : Type 0 where
+  pub here : (port : ComPort) → slice_get ports place ≡ Some port →
+      (room : ℕ) × (slice_get after place ≡ Some (record port {
+        held = held_after port.held (GiveBack room ∷ Take ∷ Put message ∷ []);
+      }))
+  pub others : (other : ℕ) → (other ≡ place → ⊥) → slice_get after other ≡ slice_get ports other
+
+-- the message that an answer delivers to a UDP port of a link, else the one before
+abbrev pub newer : ℕ → ℕ → ℕ → Answer → Option TimedMessage → Option TimedMessage
+newer vl udp time (Message link to payload) before =
+    if nat_eq link vl && nat_eq to udp
+    then Some (record { time = time; bytes = payload })
+    else before
+newer vl udp time (Dropped why) before = before
+
+-- of what arrived at a system, the newest message that was delivered to a UDP port of a link, and
+-- when it came
+unfoldable pub newest_to : Rows → ℕ → ℕ → ℕ → List Arrived → Option TimedMessage
+newest_to rows system vl udp [] = None
+newest_to rows system vl udp (x ∷ past) =
+    newer vl udp x.time (answer_to rows system past x) (newest_to rows system vl udp past)
+
+-- a sampling port holds this message; a queuing port holds none
+abbrev pub HoldsNewest : Option TimedMessage → Held → Type 0
+HoldsNewest newest (Sampling sample) = sample ≡ newest
+HoldsNewest newest (Queuing line) = line.messages ≡ []
+
+-- each port that is found holds the newest message that was delivered to it
+abbrev pub HoldNewest : Rows → ℕ → List Arrived → List ComPort → Type 0
+HoldNewest rows system past ports = (vl udp place : ℕ) (port : ComPort) →
+    position (is_for vl udp) ports ≡ Some place → slice_get ports place ≡ Some port →
+    HoldsNewest (newest_to rows system vl udp past) port.held

@@ -9,14 +9,16 @@ use Rattle.afdx_config.specs.Rows.{Rows}
 use Rattle.afdx_config.specs.Reading.{system_at_port}
 use Rattle.afdx_receive.specs.Arrivals.{Arrived}
 use Rattle.afdx_receive.specs.Answers.{Answer, Message, Dropped, answer_to}
+use Rattle.afdx_receive.specs.Words.{drop_word}
 use Rattle.afdx_systems.specs.Handovers.{HandedOver, arrival_of, came_to}
-use Rattle.afdx_systems.specs.Words.{drop_word}
 
+-- the `M` line of a message of a link that a system read at this time
 abbrev pub message_line : ℕ → List ℕ → ℕ → List ℕ → List ℕ
 message_line time name vl message =
     codes "M " ++ decimal time ++ codes " " ++ name ++ codes " " ++ decimal vl ++ codes " "
     ++ encode_lower message ++ codes "\n"
 
+-- the `X` line of the frame of a line of the list that a system dropped
 abbrev pub drop_line : ℕ → List ℕ → ℕ → List ℕ → List ℕ
 drop_line time name line word =
     codes "X " ++ decimal time ++ codes " " ++ name ++ codes " " ++ decimal line ++ codes " "
@@ -27,6 +29,7 @@ abbrev pub answer_line : ℕ → ℕ → List ℕ → Answer → List ℕ
 answer_line time line name (Message vl udp payload) = message_line time name vl payload
 answer_line time line name (Dropped why) = drop_line time name line (drop_word why)
 
+-- the answer is a message
 abbrev pub is_message : Answer → Bool
 is_message (Message vl udp payload) = true
 is_message (Dropped why) = false

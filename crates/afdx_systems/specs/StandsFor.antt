@@ -7,7 +7,7 @@ use Rattle.afdx_receive.specs.StandsFor as receiver
 use Rattle.afdx_systems.specs.declared.end_system.EndSystem.{EndSystem}
 use Rattle.afdx_systems.specs.declared.systems.Systems.{Systems}
 use Rattle.afdx_systems.specs.Handovers.{HandedOver, came_to}
-use Rattle.afdx_systems.specs.ReadPorts.{AreRead, AreFound}
+use Rattle.afdx_systems.specs.ReadPorts.{AreRead, AreFound, HoldNewest}
 use Rattle.afdx_systems.specs.Receptions.{name_of}
 
 -- the system at this place of the tables, after what arrived at it
@@ -32,3 +32,13 @@ system_in systems port = option_and_then (λ system. system) (slice_get systems.
 pub record StandsFor (rows : Rows) (systems : Systems) (all : List HandedOver) : Type 0 where
   pub each : (port : ℕ) →
       IsAt rows (came_to port all) (system_at_port rows.systems port) (system_in systems port)
+
+-- the ports of the system at a port of the switch hold the newest of its messages
+abbrev pub HasNewest : Rows → List Arrived → Option ℕ → Option EndSystem → Type 0
+HasNewest rows past (Some system) (Some e) = HoldNewest rows system past e.ports
+HasNewest rows past place at = Unit {0}
+
+-- so do those of each system
+pub record HaveNewest (rows : Rows) (systems : Systems) (all : List HandedOver) : Type 0 where
+  pub each : (port : ℕ) →
+      HasNewest rows (came_to port all) (system_at_port rows.systems port) (system_in systems port)

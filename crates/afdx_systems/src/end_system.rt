@@ -5,7 +5,7 @@ ghost use Rattle.afdx_receive.specs.Arrivals.{Arrived};
 ghost use Rattle.afdx_comport.specs.Ports.{is_for};
 ghost use Rattle.afdx_lists.specs.Texts.{text_bytes};
 ghost use Rattle.afdx_systems.specs.Handovers.{handed_over, arrival_of};
-ghost use Rattle.afdx_systems.specs.ReadPorts.{AreRead};
+ghost use Rattle.afdx_systems.specs.ReadPorts.{AreRead, IsPassedOn, HoldNewest};
 ghost use Rattle.afdx_systems.specs.Receptions.{message_line, line_at, is_delivered_at};
 
 use crate::handover::Handover;
@@ -39,6 +39,9 @@ fn pass_on(
     ensures read { AreRead ports.old → AreRead ports.new }
     ensures found { (link udp : ℕ) →
         position (is_for link udp) ports.new ≡ position (is_for link udp) ports.old }
+    ensures passed { AreRead ports.old →
+        OnOk result (IsPassedOn ports.old place (record { time = time; bytes = message.now })
+        ports.new) }
     ensures line { AreRead ports.old →
         OnOk result (text_bytes text.new
         ≡ text_bytes text.old ++ message_line time name.now vl message.now) }
@@ -71,7 +74,8 @@ impl EndSystem {
         system: SystemId,
     ) -> Result<EndSystem, AllocError>
         requires { system.0 < length tables.now.systems }
-        ensures { IfOk result (λ e. IsAfter tables.now system.0 e []) }
+        ensures stands { IfOk result (λ e. IsAfter tables.now system.0 e []) }
+        ensures newest { IfOk result (λ e. HoldNewest tables.now system.0 [] e.ports) }
     {
         let name = tables.system(system).name.clone()?;
         let receiver = Receiver::new(alloc, tables, system)?;
@@ -101,6 +105,10 @@ impl EndSystem {
             IsAfter rows system self.old past →
             IfOk result (λ yes.
             yes ≡ is_delivered_at rows past (handed_over handover.entry) (Some system)) }
+        ensures newest { (rows : Rows) (system : ℕ) (past : List Arrived) →
+            IsAfter rows system self.old past → HoldNewest rows system past self.old.ports →
+            OnOk result (HoldNewest rows system
+            (arrival_of (handed_over handover.entry) ∷ past) self.new.ports) }
     {
         let Handover {
             side,

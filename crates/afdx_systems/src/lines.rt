@@ -1,8 +1,8 @@
 //! The lines that tell what a system made of a frame.
 ghost use Rattle.std.specs.Prelude.{◌≡◌, ◌++◌, OnOk};
+ghost use Rattle.afdx_receive.specs.Words.{drop_word};
 ghost use Rattle.afdx_lists.specs.Texts.{text_bytes};
 ghost use Rattle.afdx_systems.specs.Receptions.{message_line, drop_line};
-ghost use Rattle.afdx_systems.specs.Words.{drop_word};
 
 use afdx_lists::Text;
 use afdx_receive::DropReason;

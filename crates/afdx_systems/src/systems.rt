@@ -8,7 +8,7 @@ ghost use Rattle.afdx_lists.specs.Texts.{text_bytes};
 ghost use Rattle.afdx_systems.specs.Handovers.{HandedOver, handed_over, arrival_of};
 ghost use Rattle.afdx_systems.specs.Receptions.{line_at, is_delivered_at};
 ghost use Rattle.afdx_systems.specs.Receptions.{reception_line, is_delivered};
-ghost use Rattle.afdx_systems.specs.StandsFor.{IsAt};
+ghost use Rattle.afdx_systems.specs.StandsFor.{IsAt, HasNewest};
 
 use crate::end_system::EndSystem;
 use crate::handover::Handover;
@@ -27,6 +27,8 @@ pub struct Systems {
 /// The system at a port of the switch, if there is one, at which nothing arrived.
 fn system_at(alloc: Global, tables: &Tables, port: u8) -> Result<Option<EndSystem>, AllocError>
     ensures built { IfOk result (IsAt tables.now [] (system_at_port tables.now.systems port)) }
+    ensures newest { IfOk result
+        (HasNewest tables.now [] (system_at_port tables.now.systems port)) }
     ensures lawful { IsLawful tables.now }
 {
     match tables.system_at(port) {
@@ -51,6 +53,10 @@ fn receive_at(
     ensures delivered { (rows : Rows) (past : List Arrived) (place : Option ℕ) →
         IsAt rows past place at.old →
         IfOk result (λ yes. yes ≡ is_delivered_at rows past (handed_over handover.entry) place) }
+    ensures newest { (rows : Rows) (past : List Arrived) (place : Option ℕ) →
+        IsAt rows past place at.old → HasNewest rows past place at.old →
+        OnOk result
+        (HasNewest rows (arrival_of (handed_over handover.entry) ∷ past) place at.new) }
 {
     match at {
         Some(system) => system.receive(handover, text),
@@ -59,12 +65,13 @@ fn receive_at(
 }
 
 impl Systems {
-    ghost use Rattle.afdx_systems.specs.StandsFor.{StandsFor};
+    ghost use Rattle.afdx_systems.specs.StandsFor.{StandsFor, HaveNewest};
 
     /// The systems of the tables, at which nothing arrived. Room is taken for all that receivers
     /// and queues will keep, but for the messages. The error is want of memory alone.
     pub fn new(alloc: Global, tables: &Tables) -> Result<Systems, AllocError>
         ensures stands { IfOk result (λ systems. StandsFor tables.now systems []) }
+        ensures newest { IfOk result (λ systems. HaveNewest tables.now systems []) }
     {
         let mut at_ports = Vec::with_capacity(alloc, usize::from(LAST_PORT) + 1)?;
         for port in 0..=LAST_PORT {
@@ -80,8 +87,9 @@ impl Systems {
     ///
     /// The answer comes from the frames of the same link that were handed over at the same port
     /// before, and from nothing else. The error is want of memory: what then stands in the text is
-    /// open, until it is cleared. The only memory that it takes is that of the message and of the
-    /// text.
+    /// open, until it is cleared, and whether the port has the message. The frame counts as handed
+    /// over all the same: don't hand it over again. The only memory that it takes is that of the
+    /// message and of the text.
     pub fn receive(&mut self, handover: Handover<'_>, text: &mut Text) -> Result<bool, AllocError>
         ensures line { (rows : Rows) (before : List HandedOver) →
             StandsFor rows self.old before →
@@ -93,6 +101,9 @@ impl Systems {
         ensures stands { (rows : Rows) (before : List HandedOver) →
             StandsFor rows self.old before →
             StandsFor rows self.new (handed_over handover.entry ∷ before) }
+        ensures newest { (rows : Rows) (before : List HandedOver) →
+            StandsFor rows self.old before → HaveNewest rows self.old before →
+            OnOk result (HaveNewest rows self.new (handed_over handover.entry ∷ before)) }
     {
         let place = usize::from(handover.port);
         if place < self.at_ports.len() {

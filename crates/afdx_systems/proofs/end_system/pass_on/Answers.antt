@@ -1,10 +1,11 @@
 use Rattle.std.proofs.Common.{◌∙◌, arith}
 use Rattle.afdx_systems.proofs.PassLemmas.{put_at, sampled, taken, given_back, taken_message, none_left, line_of_same}
+use Rattle.afdx_systems.proofs.PassLemmas.{sample_passed, queue_passed, on_ok}
 use Rattle.afdx_systems.proofs.end_system.pass_on.Goals as goal
 
 pub returns-in-Some-clause-read : goal.returns-in-Some-clause-read
 returns-in-Some-clause-read c =
-    let put = put_at c.args.ports.now c.args.place c.args.time c.args.message.now c.put.new.self
+    let put = put_at c.args.ports.now c.args.place _ _ c.put.new.self
     c.requires c.in-Ok.ensures.ok in
     let m = sampled _ _ _ _ _ put
     (record { time = c.in-Some.field-0-0; bytes = c.in-Some.read.now }) c.in-Some.ensures.sample in
@@ -12,7 +13,7 @@ returns-in-Some-clause-read c =
 
 pub returns-in-Some-clause-found : goal.returns-in-Some-clause-found
 returns-in-Some-clause-found c =
-    let put = put_at c.args.ports.now c.args.place c.args.time c.args.message.now c.put.new.self
+    let put = put_at c.args.ports.now c.args.place _ _ c.put.new.self
     c.requires c.in-Ok.ensures.ok in
     let m = sampled _ _ _ _ _ put
     (record { time = c.in-Some.field-0-0; bytes = c.in-Some.read.now }) c.in-Some.ensures.sample in
@@ -20,7 +21,7 @@ returns-in-Some-clause-found c =
 
 pub returns-in-Some-clause-line : goal.returns-in-Some-clause-line
 returns-in-Some-clause-line c =
-    let put = put_at c.args.ports.now c.args.place c.args.time c.args.message.now c.put.new.self
+    let put = put_at c.args.ports.now c.args.place _ c.args.message.now c.put.new.self
     c.requires c.in-Ok.ensures.ok in
     let m = sampled _ _ _ _ _ put
     (record { time = c.in-Some.field-0-0; bytes = c.in-Some.read.now }) c.in-Some.ensures.sample in
@@ -28,7 +29,7 @@ returns-in-Some-clause-line c =
 
 pub returns-in-Some-take_queued-clause-read : goal.returns-in-Some-take_queued-clause-read
 returns-in-Some-take_queued-clause-read c =
-    let put = put_at c.args.ports.now c.args.place c.args.time c.args.message.now c.put.new.self
+    let put = put_at c.args.ports.now c.args.place _ _ c.put.new.self
     c.requires c.in-Ok.ensures.ok in
     (given_back _ _ _ c.args.place _
     (omega (arith, c.requires, c.put.ensures.count, c.take_queued.ensures.count)) c.give_back.ensures.spare
@@ -36,7 +37,7 @@ returns-in-Some-take_queued-clause-read c =
 
 pub returns-in-Some-take_queued-clause-found : goal.returns-in-Some-take_queued-clause-found
 returns-in-Some-take_queued-clause-found c =
-    let put = put_at c.args.ports.now c.args.place c.args.time c.args.message.now c.put.new.self
+    let put = put_at c.args.ports.now c.args.place _ _ c.put.new.self
     c.requires c.in-Ok.ensures.ok in
     (given_back _ _ _ c.args.place _
     (omega (arith, c.requires, c.put.ensures.count, c.take_queued.ensures.count)) c.give_back.ensures.spare
@@ -44,7 +45,7 @@ returns-in-Some-take_queued-clause-found c =
 
 pub returns-in-Some-take_queued-clause-line : goal.returns-in-Some-take_queued-clause-line
 returns-in-Some-take_queued-clause-line c =
-    let put = put_at c.args.ports.now c.args.place c.args.time c.args.message.now c.put.new.self
+    let put = put_at c.args.ports.now c.args.place _ c.args.message.now c.put.new.self
     c.requires c.in-Ok.ensures.ok in
     λ all. line_of_same _ _ _ _ _ _ _ _
     (c.as_slice.ensures.value ∙ taken_message _ _ _ _ _ put all c.in-Some-take_queued.read.items
@@ -52,18 +53,38 @@ returns-in-Some-take_queued-clause-line c =
 
 pub returns-in-None-clause-read : goal.returns-in-None-clause-read
 returns-in-None-clause-read c =
-    let put = put_at c.args.ports.now c.args.place c.args.time c.args.message.now c.put.new.self
+    let put = put_at c.args.ports.now c.args.place _ _ c.put.new.self
     c.requires c.in-Ok.ensures.ok in
     (taken _ _ _ _ _ put c.take_queued.new.self c.in-None.ensures.rest).read
 
 pub returns-in-None-clause-found : goal.returns-in-None-clause-found
 returns-in-None-clause-found c =
-    let put = put_at c.args.ports.now c.args.place c.args.time c.args.message.now c.put.new.self
+    let put = put_at c.args.ports.now c.args.place _ _ c.put.new.self
     c.requires c.in-Ok.ensures.ok in
     (taken _ _ _ _ _ put c.take_queued.new.self c.in-None.ensures.rest).found
 
 pub returns-in-None-clause-line : goal.returns-in-None-clause-line
 returns-in-None-clause-line c =
+    let put = put_at c.args.ports.now c.args.place _ c.args.message.now c.put.new.self
+    c.requires c.in-Ok.ensures.ok in
+    λ all. absurd (none_left _ _ _ _ _ put all c.in_default.ensures.sample c.in-None.ensures.first)
+
+pub returns-in-Some-clause-passed : goal.returns-in-Some-clause-passed
+returns-in-Some-clause-passed c =
+    let put = put_at c.args.ports.now c.args.place c.args.time c.args.message.now c.put.new.self
+    c.requires c.in-Ok.ensures.ok in
+    λ _. on_ok c.put_message.result (sample_passed _ _ _ _ _ put
+    (record { time = c.in-Some.field-0-0; bytes = c.in-Some.read.now }) c.in-Some.ensures.sample)
+
+pub returns-in-Some-take_queued-clause-passed : goal.returns-in-Some-take_queued-clause-passed
+returns-in-Some-take_queued-clause-passed c =
+    let put = put_at c.args.ports.now c.args.place c.args.time c.args.message.now c.put.new.self
+    c.requires c.in-Ok.ensures.ok in
+    λ all. on_ok c.put_message-told.result (queue_passed _ _ _ _ _ put c.take_queued.new.self c.give_back.new.self _
+    c.in-Some-take_queued.ensures.rest c.give_back.ensures.spare all)
+
+pub returns-in-None-clause-passed : goal.returns-in-None-clause-passed
+returns-in-None-clause-passed c =
     let put = put_at c.args.ports.now c.args.place c.args.time c.args.message.now c.put.new.self
     c.requires c.in-Ok.ensures.ok in
     λ all. absurd (none_left _ _ _ _ _ put all c.in_default.ensures.sample c.in-None.ensures.first)

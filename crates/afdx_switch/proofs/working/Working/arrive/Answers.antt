@@ -177,7 +177,6 @@ returns-clause-verdict c t side h st =
           accepted c.in_default-judge-2.ensures.shortest longest small
           c.forward-lost.new.ports c.forward-lost.result old_count c.forward-lost.ensures.count
           offered,
-      c.forward-lost.ensures.numbers,
     )
 
 pub returns-clause-stands : goal.returns-clause-stands

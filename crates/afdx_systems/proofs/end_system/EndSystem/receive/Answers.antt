@@ -1,4 +1,7 @@
-use Rattle.std.proofs.Common.{◌∙◌, ap, is_some}
+use Rattle.std.proofs.Common.{◌∙◌, ap, is_some, sym}
+use Rattle.afdx_systems.specs.Handovers.{handed_over, arrival_of}
+use Rattle.afdx_systems.proofs.PassLemmas.{port_at}
+use Rattle.afdx_systems.proofs.NewestLemmas.{newest_dropped, newest_unfound, newest_passed}
 use Rattle.afdx_systems.proofs.end_system.EndSystem.receive.Goals as goal
 
 pub returns-in_err-put_drop-in-Dropped-clause-stands : goal.returns-in_err-put_drop-in-Dropped-clause-stands
@@ -43,3 +46,22 @@ returns-in_ok-pass_on-in-Message-clause-stands c = λ rows system past is. recor
   read = c.pass_on.ensures.read is.read;
   found = λ vl udp. ap is_some (c.pass_on.ensures.found vl udp) ∙ is.found vl udp;
 }
+
+pub returns-in_ok-put_drop-in-Dropped-clause-newest : goal.returns-in_ok-put_drop-in-Dropped-clause-newest
+returns-in_ok-put_drop-in-Dropped-clause-newest c = λ rows system past is hold.
+    newest_dropped rows system past (arrival_of (handed_over c.args.handover)) c.in-Dropped.why c.args.self.now.ports
+    (c.in-Dropped.ensures.received rows system past is.receives).computed hold
+
+pub returns-in_default-clause-newest : goal.returns-in_default-clause-newest
+returns-in_default-clause-newest c = λ rows system past is hold.
+    newest_unfound rows system past (arrival_of (handed_over c.args.handover)) c.in-Message.vl.0 c.in-Message.udp
+    c.in-Message.bytes.now c.args.self.now.ports (c.in-Message.ensures.received rows system past is.receives).computed
+    c.in_default.ensures.place hold
+
+pub returns-in_ok-pass_on-in-Message-clause-newest : goal.returns-in_ok-pass_on-in-Message-clause-newest
+returns-in_ok-pass_on-in-Message-clause-newest c = λ rows system past is hold.
+    let port = port_at c.args.self.now.ports c.in-Some.place c.in-Some.ensures.known in
+    newest_passed rows system past (arrival_of (handed_over c.args.handover)) c.in-Message.vl.0 c.in-Message.udp
+    c.in-Some.place c.in-Message.bytes.now c.args.self.now.ports c.pass_on.new.ports port.0
+    (c.in-Message.ensures.received rows system past is.receives).computed (sym c.in-Some.ensures.place) port.1
+    c.pass_on.ensures.found (c.in_ok-pass_on-in-Message.ensures.passed is.read) is.read hold

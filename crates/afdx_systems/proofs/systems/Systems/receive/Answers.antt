@@ -2,7 +2,8 @@ use Rattle.std.proofs.Common.{sym, refl, append-nil, arith}
 use Rattle.afdx_config.specs.Reading.{system_at_port}
 use Rattle.afdx_systems.specs.Handovers.{handed_over, came_to}
 use Rattle.afdx_systems.proofs.SystemsLemmas.{before_at, is_at, stand_after, no_line, not_delivered}
-use Rattle.afdx_systems.proofs.SystemsLemmas.{stand_still, line_is, delivered_is}
+use Rattle.afdx_systems.proofs.SystemsLemmas.{stand_still, line_is, delivered_is, newest_is, newest_after, newest_still}
+use Rattle.std.proofs.lemmas.Result.{on_ok_weaker}
 use Rattle.afdx_systems.proofs.systems.Systems.receive.Goals as goal
 
 pub returns-then-place-len-clause-line : goal.returns-then-place-len-clause-line
@@ -47,3 +48,17 @@ pub returns-else-place-len-clause-stands : goal.returns-else-place-len-clause-st
 returns-else-place-len-clause-stands c =
     λ rows before stands. stand_still rows c.args.self.now before (handed_over c.args.handover)
     c.from-place.result stands c.from-place.ensures (omega arith)
+
+pub returns-then-place-len-clause-newest : goal.returns-then-place-len-clause-newest
+returns-then-place-len-clause-newest c = λ rows before stands have.
+    let d = handed_over c.args.handover in
+    let are = before_at rows c.args.self.now before d c.from-place.result c.index_mut.result.now
+    stands c.from-place.ensures (omega arith) c.index_mut.ensures.value in
+    on_ok_weaker c.receive_at.result (newest_after _ _ _ _ _ _ are _ c.receive_at.new.at refl have)
+    (c.receive_at.ensures.newest rows (came_to d.port before)
+    (system_at_port rows.systems d.port) (is_at _ _ _ _ _ _ are) (newest_is _ _ _ _ _ _ are have))
+
+pub returns-else-place-len-clause-newest : goal.returns-else-place-len-clause-newest
+returns-else-place-len-clause-newest c =
+    λ rows before stands have. newest_still rows c.args.self.now before (handed_over c.args.handover)
+    c.from-place.result stands c.from-place.ensures (omega arith) have
