@@ -3,7 +3,7 @@
 
     tests/house.py
 
-- Each name that README, docs/PROMISES.md and docs/ARCHITECTURE.md set in code occurs in the sources.
+- Each name that README, PROMISES, ARCHITECTURE and DEVELOPING set in code occurs in the sources.
 - Each crate has its row in README and in docs/ARCHITECTURE.md, which names each of its files of
   definitions.
 - Each must-fail edit finds the text that it changes, once.
@@ -18,7 +18,7 @@ import sys
 
 TOP = pathlib.Path(__file__).resolve().parent.parent
 CRATES = TOP / "crates"
-DOCUMENTS = ["README.md", "docs/PROMISES.md", "docs/ARCHITECTURE.md"]
+DOCUMENTS = ["README.md", "docs/PROMISES.md", "docs/ARCHITECTURE.md", "docs/DEVELOPING.md"]
 COLUMNS = 100
 PROOF_COLUMNS = 140
 NUMBERS = CRATES / "afdx_frame/src/tables.rt"
@@ -45,7 +45,7 @@ def crate_names() -> list[str]:
 def known_words() -> set[str]:
     """All words of the sources, and the names of files and folders."""
     words: set[str] = set()
-    for path in sources("crates/**/*.rt", "crates/**/*.antt", "tests/*", "bench/*", "tools/*", "bin/*", "examples/*.toml"):
+    for path in sources("crates/**/*.rt", "crates/**/*.antt", "crates/*/must-fail/*", "tests/*", "bench/*", "tools/*", "bin/*", "examples/*.toml"):
         if path.is_file():
             words.update(re.findall(r"\w+", text_of(path)))
             words.update(re.findall(r"\w+", str(path.relative_to(TOP))))
