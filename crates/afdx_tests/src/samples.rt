@@ -163,14 +163,20 @@ pub(crate) fn largest(alloc: Global) -> Result<String, AllocError> {
     Ok(text)
 }
 
-/// The frame with these bytes at these places, sealed.
-pub(crate) fn sealed(frame: &[u8; 60], changes: &[(usize, u8)]) -> [u8; 64] {
+/// The frame with these bytes at these places.
+fn with_bytes(frame: &[u8; 60], changes: &[(usize, u8)]) -> [u8; 60] {
     let mut frame = *frame;
     for (place, byte) in changes {
         if *place < 60 {
             frame[*place] = *byte;
         }
     }
+    frame
+}
+
+/// The frame with these bytes at these places, sealed.
+pub(crate) fn sealed(frame: &[u8; 60], changes: &[(usize, u8)]) -> [u8; 64] {
+    let frame = with_bytes(frame, changes);
     let [s0, s1, s2, s3] = fcs(frame.as_slice()).to_le_bytes();
     let mut bytes = [0; 64];
     for place in 0..60 {
@@ -195,8 +201,8 @@ pub(crate) fn world(number: u8) -> [u8; 64] {
 
 /// The digits of the frame with these bytes at these places, without its check sequence.
 fn digits(alloc: Global, frame: &[u8; 60], changes: &[(usize, u8)]) -> Result<String, AllocError> {
-    let bytes = sealed(frame, changes);
-    hex::encode(alloc, &bytes[..60])
+    let bytes = with_bytes(frame, changes);
+    hex::encode(alloc, bytes.as_slice())
 }
 
 /// The text with `new` in the place of each `old`.
