@@ -1,0 +1,276 @@
+#!/usr/bin/env python3
+"""Tries the wrong bodies of crates/*/must-fail: the prover must refuse the very function changed.
+
+    tests/must_fail.py [--jobs N] [--built CRATES] [CRATE | CRATE/EDIT]..
+
+Stands on the libraries that are built in CRATES/*/out, where CRATES is crates/ unless it is given.
+A function is proved from the contracts of what it calls, whatever stands in their bodies: so edits
+of several functions are tried in one run of the prover, which checks those functions and what they
+call, and nothing else. Each of them must be refused for its own body: one that is refused for what
+it calls is tried again without that. (`rt must-fail` checks the whole crate with each edit, and
+takes a refusal anywhere.) An edit of what is no function, as a constant, is tried alone, and says
+which function must be refused in a line of its own: `refused: MODULE::FUNCTION`.
+
+Prints a line for each edit, then `N passed, M failed`; ends with status 1 if one failed.
+"""
+import argparse
+import concurrent.futures
+import os
+import pathlib
+import re
+import shutil
+import subprocess
+import sys
+import tempfile
+from dataclasses import dataclass
+
+TOP = pathlib.Path(__file__).resolve().parent.parent
+CRATES = TOP / "crates"
+KIT = pathlib.Path(shutil.which("rt") or "rt").resolve().parent.parent
+PARTS = ["src", "specs", "proofs"]
+# what a proof says that names what the edit took away: that tells nothing of the contract
+VANISHED = r"(\./)?proofs/.*(has no field|is not in scope|has no `|was not admitted)"
+
+
+class BadEdit(Exception):
+    """The edit shows nothing, and why."""
+
+
+@dataclass
+class Edit:
+    """An edit: what it changes in which file, and which functions the prover must refuse."""
+
+    name: str
+    changes: list[tuple[str, str, str]]
+    functions: list[str]
+    is_alone: bool
+
+
+def libraries() -> dict[str, list[str]]:
+    """Each crate with the libraries that it names."""
+    lines = (TOP / "crates.txt").read_text(encoding="utf-8").splitlines()
+    rows = [line.split(":") for line in lines if ":" in line and not line.startswith("#")]
+    return {name.split()[0]: named.split() for name, named in rows}
+
+
+def below(crate: str, named: dict[str, list[str]]) -> set[str]:
+    """The repository's crates that this one stands on."""
+    own = {it for it in named[crate] if it in named}
+    return own.union(*(below(it, named) for it in own))
+
+
+@dataclass
+class Prover:
+    """The prover over one crate: where the libraries are built, and the work of its runs before."""
+
+    crate: str
+    built: pathlib.Path
+    kept: pathlib.Path
+
+    def rlib(self, name: str) -> pathlib.Path:
+        return self.built / name / "out/rlib" / f"{name}.rlib"
+
+    def command(self, functions: list[str]) -> list[str]:
+        """Its words for these functions of the crate alone."""
+        named = libraries()
+        words = [str(KIT / "bin/rattle"), "check", "--crate-name", self.crate, "src/lib.rt"]
+        for name in ["std", *named[self.crate]]:
+            path = self.rlib(name) if name in named else KIT / f"rlibs/{name}.rlib"
+            words += ["--extern", f"{name}={path}"]
+        folders = [self.rlib(it).parent for it in sorted(below(self.crate, named))]
+        for folder in [KIT / "rlibs", *folders]:
+            words += ["-L", f"dependency={folder}"]
+        words += ["--antt-project", str(KIT / "rattle/logic/antt-project.json")]
+        words += ["--logic-built", str(KIT / "logic_built")]
+        words += ["--jobs", "1", "--incremental", str(self.kept)]
+        return words + [word for it in functions for word in ("--only", it)]
+
+    def says(self, functions: list[str], texts: dict[str, str]) -> str:
+        """What it says of these functions, with these texts in place of the crate's own."""
+        with tempfile.TemporaryDirectory(prefix="must-fail-") as name:
+            room = pathlib.Path(name)
+            for part in PARTS:
+                if (CRATES / self.crate / part).is_dir():
+                    shutil.copytree(CRATES / self.crate / part, room / part)
+            for path, text in texts.items():
+                (room / path).write_text(text, encoding="utf-8")
+            ran = subprocess.run(
+                self.command(functions), cwd=room, stdin=subprocess.DEVNULL,
+                stdout=subprocess.PIPE, stderr=subprocess.STDOUT, errors="replace", check=False,
+            )
+            return ran.stdout
+
+
+def path_of(file: str, text: str, at: int) -> str | None:
+    """The function that this place of a source file lies in, as the prover names it."""
+    function = block = None
+    for line in text[:at].splitlines():
+        if found := re.match(r"impl(?:<.*?>)? (?:(?:\w+::)*(\w+)(?:<.*?>)? for )?(\w+)", line):
+            block = found[2] + (found[1] or "")
+        elif found := re.match(r"( *)(?:pub(?:\(\w+\))? )?(?:const )?fn (\w+)", line):
+            function = (block if found[1] else None, found[2])
+        elif line == "}":
+            function = block = None
+        elif line == "    }" and block:
+            function = None
+    if function is None:
+        return None
+    module = file.removeprefix("src/").removesuffix(".rt").split("/")
+    return "::".join(it for it in [*module, *function] if it and it != "lib")
+
+
+def read_edit(crate: str, path: pathlib.Path) -> Edit:
+    """Reads the edit. Raises BadEdit where a text doesn't stand once, or no function is named."""
+    file = whole = old = ""
+    changes: list[tuple[str, str, str]] = []
+    named: list[str] = []
+    changed: list[str] = []
+    for line in path.read_text(encoding="utf-8").splitlines():
+        word, _, value = line.partition(": ")
+        if word == "file":
+            file = value.strip()
+            whole = (CRATES / crate / file).read_text(encoding="utf-8")
+        elif word == "refused":
+            named.append(value.strip())
+        elif word == "old":
+            old = value
+        elif word.rstrip(":") == "new":
+            changes.append((file, old, value))
+            inside = path_of(file, whole, whole.find(old) + len(old))
+            changed += [inside] if inside and inside not in changed else []
+    if not named and not changed:
+        raise BadEdit("it changes no function, and names none")
+    return Edit(f"{crate}/{path.stem}", changes, named or changed, is_alone=bool(named))
+
+
+def apply(crate: str, edit: Edit, texts: dict[str, str]) -> dict[str, str]:
+    """The texts with the edit. Raises BadEdit where what it changes doesn't stand there once."""
+    texts = dict(texts)
+    for file, old, new in edit.changes:
+        text = texts.get(file) or (CRATES / crate / file).read_text(encoding="utf-8")
+        if text.count(old) != 1:
+            raise BadEdit(f"its text stands {text.count(old)} times: {old.strip()}")
+        texts[file] = text.replace(old, new)
+    return texts
+
+
+def together(crate: str, edits: list[Edit]) -> tuple[list[Edit], dict[str, str]]:
+    """The first of the edits and those that can be tried with it, and the texts with all."""
+    chosen, texts = edits[:1], apply(crate, edits[0], {})
+    for edit in [] if edits[0].is_alone else edits[1:]:
+        functions = {name for it in chosen for name in it.functions}
+        if not edit.is_alone and functions.isdisjoint(edit.functions):
+            try:
+                texts = apply(crate, edit, texts)
+                chosen.append(edit)
+            except BadEdit:
+                pass  # its text is changed by another: it is tried in a later run
+    return chosen, texts
+
+
+def answers(said: str, crate: str) -> dict[str, str]:
+    """What the prover said of each function. Raises BadEdit where it said nothing."""
+    lines = said.splitlines()
+    if not lines or not re.match(r"only=\d+ proved=\d+", lines[-1]):
+        told = next((it for it in lines if "error" in it), lines[-1] if lines else "nothing")
+        raise BadEdit(f"it did not reach the prover: {told[:160]}")
+    found = (re.match(rf"fn {crate}::(\S+): (.*)", it) for it in lines)
+    return {it[1].replace("fn::", ""): it[2] for it in found if it}
+
+
+def refusal(edit: Edit, said: str, answered: dict[str, str], is_alone: bool) -> str | None:
+    """Why the prover refused a function of the edit; None where that may be for another edit.
+
+    Raises BadEdit where it was not refused, or only for a name that a proof looked for in vain.
+    """
+    of_it = {it: answered.get(it, "not looked at") for it in edit.functions}
+    refused = {it: why for it, why in of_it.items() if why not in ("proved", "not looked at")}
+    if not refused:
+        raise BadEdit(f"NOT REFUSED: {of_it}")
+    own = {it: why for it, why in refused.items() if "it calls" not in why}
+    if not own:
+        return None
+    folders = "|".join(re.escape(it.replace("::", "/")) for it in own)
+    place = r"\S+" if is_alone else rf"(\./)?proofs/({folders})/\S+"
+    told = [it for it in said.splitlines() if re.match(rf"{place}:\d+:\d+: error", it)]
+    if told and all(re.match(VANISHED, it) for it in told):
+        if is_alone:
+            raise BadEdit(f"refused only since a proof names what it took away: {told[0][:160]}")
+        return None
+    return next(f"{it}: {why[:100]}" for it, why in own.items())
+
+
+def try_together(prover: Prover, edits: list[Edit]) -> tuple[list[Edit], list]:
+    """Tries the first of the edits and all that go with it: the results, and what is left."""
+    chosen, texts = together(prover.crate, edits)
+    is_alone = len(chosen) == 1
+    functions = sorted({it for edit in chosen for it in edit.functions})
+    said = prover.says(functions, texts)
+    left, results = [it for it in edits if it not in chosen], []
+    for edit in chosen:
+        try:
+            why = refusal(edit, said, answers(said, prover.crate), is_alone)
+            if why or is_alone:
+                results.append((bool(why), f"{edit.name}: {why or 'refused for what it calls'}"))
+            else:
+                left.append(edit)
+        except BadEdit as fault:
+            if is_alone:
+                results.append((False, f"{edit.name}: {fault}"))
+            else:
+                edit.is_alone = True
+                left.append(edit)
+    if not results:
+        for edit in chosen:
+            edit.is_alone = True
+    return left, results
+
+
+def try_crate(crate: str, paths: list[pathlib.Path], built: pathlib.Path) -> list:
+    """Tries a crate's edits, over what its runs before proved."""
+    left, results = [], []
+    for path in paths:
+        try:
+            edit = read_edit(crate, path)
+            apply(crate, edit, {})
+            left.append(edit)
+        except (BadEdit, OSError) as fault:
+            results.append((False, f"{crate}/{path.stem}: {fault}"))
+    with tempfile.TemporaryDirectory(prefix="must-fail-kept-") as kept:
+        prover = Prover(crate, built, pathlib.Path(kept))
+        while left:
+            left, more = try_together(prover, left)
+            results += more
+    return results
+
+
+def chosen_edits(words: list[str]) -> dict[str, list[pathlib.Path]]:
+    """The edits of each crate that the words name, of all where there are none; most first."""
+    edits: dict[str, list[pathlib.Path]] = {}
+    for path in sorted(CRATES.glob("*/must-fail/*.edit")):
+        crate = path.parent.parent.name
+        if not words or crate in words or f"{crate}/{path.stem}" in words:
+            edits.setdefault(crate, []).append(path)
+    return dict(sorted(edits.items(), key=lambda it: -len(it[1])))
+
+
+def main() -> int:
+    parser = argparse.ArgumentParser(description=(__doc__ or "").splitlines()[0])
+    parser.add_argument("--jobs", type=int, default=len(os.sched_getaffinity(0)))
+    parser.add_argument("--built", type=pathlib.Path, default=CRATES, metavar="CRATES")
+    parser.add_argument("names", nargs="*", metavar="CRATE | CRATE/EDIT")
+    words = parser.parse_args()
+    passed = failed = 0
+    with concurrent.futures.ThreadPoolExecutor(words.jobs) as pool:
+        chosen = chosen_edits(words.names).items()
+        tasks = [pool.submit(try_crate, *it, words.built.resolve()) for it in chosen]
+        for task in concurrent.futures.as_completed(tasks):
+            for is_well, text in task.result():
+                print(text, flush=True)
+                passed, failed = passed + is_well, failed + (not is_well)
+    print(f"{passed} passed, {failed} failed")
+    return 1 if failed or not passed else 0
+
+
+if __name__ == "__main__":
+    sys.exit(main())
