@@ -136,11 +136,13 @@ def read_edit(crate: str, path: pathlib.Path) -> Edit:
             old = value
         elif word.rstrip(":") == "new":
             changes.append((file, old, value))
-            inside = path_of(file, whole, whole.find(old) + len(old))
+            inside = path_of(file, whole, whole.find(old) + len(old)) if old in whole else None
             changed += [inside] if inside and inside not in changed else []
-    if not named and not changed:
+    edit = Edit(f"{crate}/{path.stem}", changes, named or changed, is_alone=bool(named))
+    apply(crate, edit, {})
+    if not edit.functions:
         raise BadEdit("it changes no function, and names none")
-    return Edit(f"{crate}/{path.stem}", changes, named or changed, is_alone=bool(named))
+    return edit
 
 
 def apply(crate: str, edit: Edit, texts: dict[str, str]) -> dict[str, str]:
@@ -211,7 +213,7 @@ def try_together(prover: Prover, edits: list[Edit]) -> tuple[list[Edit], list]:
         try:
             why = refusal(edit, said, answers(said, prover.crate), is_alone)
             if why or is_alone:
-                results.append((bool(why), f"{edit.name}: {why or 'refused for what it calls'}"))
+                results.append((bool(why), f"{edit.name}: refused: {why or 'for what it calls'}"))
             else:
                 left.append(edit)
         except BadEdit as fault:
@@ -231,9 +233,7 @@ def try_crate(crate: str, paths: list[pathlib.Path], built: pathlib.Path) -> lis
     left, results = [], []
     for path in paths:
         try:
-            edit = read_edit(crate, path)
-            apply(crate, edit, {})
-            left.append(edit)
+            left.append(read_edit(crate, path))
         except (BadEdit, OSError) as fault:
             results.append((False, f"{crate}/{path.stem}: {fault}"))
     with tempfile.TemporaryDirectory(prefix="must-fail-kept-") as kept:
