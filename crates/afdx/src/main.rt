@@ -8,6 +8,7 @@ mod words;
 use crate::devices::{Heard, Traced};
 use crate::explaining::{Cause, explain, is_asked, line_of, print_meaning};
 use afdx_explain::meaning_of;
+use afdx_replay::status::{DONE, NO_DEVICE_OR_MEMORY, WRONG_WORDS};
 use afdx_replay::{
     Buffered, CommandedRule, Ended, Policing, Watched, check, finish, police, replay, send,
 };
@@ -18,12 +19,6 @@ use std::fs::File;
 use std::io;
 use std::io::{Read, Write};
 use std::process::ExitCode;
-
-const DONE: u8 = 0;
-
-const WRONG_WORDS: u8 = 2;
-
-const NO_DEVICE_OR_MEMORY: u8 = 4;
 
 const OUTPUT_BUFFER: usize = 65_536;
 

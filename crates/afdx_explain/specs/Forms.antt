@@ -5,9 +5,13 @@ use Rattle.std.specs.List.{slice_split, list_any}
 use Rattle.std.specs.Str.{bytes_eq}
 use Rattle.afdx_lists.specs.Fields.{all_digits, between_spaces}
 
+-- `|`
+abbrev pub bar : ℕ
+bar = 124
+
 -- the words that stand between bars
 abbrev pub between_bars : List ℕ → List (List ℕ)
-between_bars text = slice_split (λ byte. byte == 124) text
+between_bars text = slice_split (λ byte. byte == bar) text
 
 -- the parts of what is left of a text after such a byte
 abbrev pub parts_after : ℕ → Option (Bor (List ℕ)) → List (List ℕ)

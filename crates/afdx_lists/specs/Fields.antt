@@ -7,12 +7,13 @@ use Rattle.std.specs.Str.{bytes_eq}
 use Rattle.std.specs.Char.{is_ascii_digit}
 use Rattle.hex.specs.Hex.{decode_of}
 use Rattle.afdx_frame.specs.Times.{latest_listed}
+use Rattle.afdx_lists.specs.Letters.{space, number_sign, hyphen, zero_digit}
 use Rattle.afdx_lists.specs.declared.fault.LineFault.{LineFault}
 use Rattle.afdx_lists.specs.declared.fault.LineFault.TheVariants.{TimeTooLarge, TimeBack}
 
 -- the fields of a text, which stand between spaces
 abbrev pub between_spaces : List ℕ → List (List ℕ)
-between_spaces text = slice_split (λ byte. byte == 32) text
+between_spaces text = slice_split (λ byte. byte == space) text
 
 -- the fields of what is left of a text after a space
 abbrev pub fields_after : Option (Bor (List ℕ)) → List (List ℕ)
@@ -22,7 +23,7 @@ fields_after (Some rest) = between_spaces rest.now
 -- what digits write after a number
 abbrev pub number_after : ℕ → List ℕ → ℕ
 number_after n [] = n
-number_after n (digit ∷ digits) = number_after (n * 10 + (digit - 48)) digits
+number_after n (digit ∷ digits) = number_after (n * 10 + (digit - zero_digit)) digits
 
 -- each byte is a decimal digit
 abbrev pub all_digits : List ℕ → Bool
@@ -42,7 +43,7 @@ ok_of (Err error) = None
 
 -- the bytes that a field of hexadecimal digits writes, or `-` for none
 unfoldable pub bytes_of_digits : List ℕ → Option (List ℕ)
-bytes_of_digits digits = if bytes_eq digits (45 ∷ []) then Some [] else ok_of (decode_of digits)
+bytes_of_digits digits = if bytes_eq digits (hyphen ∷ []) then Some [] else ok_of (decode_of digits)
 
 -- as much of a number as 64 bits hold
 abbrev pub cut : ℕ → ℕ
@@ -61,12 +62,12 @@ SplitsNumber text number rest = (field : List ℕ) × (number ≡ cut_number (nu
 -- a space stands among these bytes
 unfoldable pub holds_space : List ℕ → Bool
 holds_space [] = false
-holds_space (byte ∷ bytes) = byte == 32 || holds_space bytes
+holds_space (byte ∷ bytes) = byte == space || holds_space bytes
 
 -- nothing, or a remark
 abbrev pub is_skipped : List ℕ → Bool
 is_skipped [] = true
-is_skipped (byte ∷ bytes) = byte == 35
+is_skipped (byte ∷ bytes) = byte == number_sign
 
 -- the first false check of a time, after a line of the latest time
 abbrev pub time_fault : ℕ → ℕ → Option LineFault

@@ -4,6 +4,7 @@ use Rattle.std.specs.Prelude.{if◌then◌else◌}
 use Rattle.afdx_frame.specs.Sealing.{sealed, sealed_wrongly}
 use Rattle.afdx_frame.specs.declared.link.Side.{Side}
 use Rattle.afdx_frame.specs.declared.link.Side.TheVariants.{A, B}
+use Rattle.afdx_lists.specs.Letters.{letter_A, letter_B, letter_F, letter_R}
 use Rattle.afdx_lists.specs.Fields.{between_spaces, number_of, cut, time_fault, fault_or}
 use Rattle.afdx_lists.specs.Forms.{Form, from_five, five_of, said_by}
 use Rattle.afdx_lists.specs.declared.frame_line.Kind.{Kind}
@@ -23,15 +24,16 @@ pub record ListedFrame : Type 0 where
 -- `F`, `B` or `R`
 abbrev pub kind_of : List ℕ → Option Kind
 kind_of (letter ∷ []) =
-    if letter == 70 then Some Good
-    else if letter == 66 then Some Bad
-    else if letter == 82 then Some Raw
+    if letter == letter_F then Some Good
+    else if letter == letter_B then Some Bad
+    else if letter == letter_R then Some Raw
     else None
 kind_of _ = None
 
 -- `A` or `B`
 abbrev pub side_of : List ℕ → Option Side
-side_of (letter ∷ []) = if letter == 65 then Some A else if letter == 66 then Some B else None
+side_of (letter ∷ []) =
+    if letter == letter_A then Some A else if letter == letter_B then Some B else None
 side_of _ = None
 
 -- the five fields of a frame line

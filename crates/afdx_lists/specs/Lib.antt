@@ -1,6 +1,7 @@
 pub mod Calls
 pub mod Watching
 pub mod Faults
+pub mod Letters
 pub mod Lines
 pub mod Fields
 pub mod Forms

@@ -3,6 +3,7 @@ use Rattle.std.specs.Prelude.{ℕ, ◌==◌, ◌≡◌, ◌<◌, ◌≤◌, ◌+
 use Rattle.std.specs.Prelude.{take, drop, Option, Some, None, ⊤, IfSome, slice_range}
 use Rattle.std.specs.List.{slice_split, All}
 use Rattle.std.specs.Io.KnownBytes.{Consumes, prepend_known, IsAtEnd}
+use Rattle.afdx_lists.specs.Letters.{line_feed}
 use Rattle.afdx_lists.specs.declared.fault.RunFault.{RunFault}
 use Rattle.afdx_lists.specs.declared.fault.RunFault.TheVariants.{TooManyLines, LineTooLong, Read}
 use Rattle.afdx_lists.specs.declared.line_reader.LineReader.{LineReader}
@@ -23,7 +24,7 @@ but_last (part ∷ next ∷ parts) = part ∷ but_last (next ∷ parts)
 
 -- the parts between line feeds
 abbrev pub between_feeds : List ℕ → List (List ℕ)
-between_feeds bytes = slice_split (λ byte. byte == 10) bytes
+between_feeds bytes = slice_split (λ byte. byte == line_feed) bytes
 
 -- the lines of a list: each ends at a line feed, and a last one without it counts if it has a byte
 unfoldable pub lines_of : List ℕ → List (List ℕ)
@@ -56,12 +57,12 @@ most_reads = reads_of_line * most_lines + 1
 
 -- no byte is a line feed
 abbrev pub HasNoFeed : List ℕ → Type 0
-HasNoFeed bytes = All (λ byte. (byte == 10) ≡ false) bytes
+HasNoFeed bytes = All (λ byte. (byte == line_feed) ≡ false) bytes
 
 -- the first line feed of these bytes stands after n others
 pub record IsFirstFeed (bytes : List ℕ) (n : ℕ) : Type 0 where
   pub no_feed : HasNoFeed (take n bytes)
-  pub parts : bytes ≡ take n bytes ++ 10 ∷ drop (n + 1) bytes
+  pub parts : bytes ≡ take n bytes ++ line_feed ∷ drop (n + 1) bytes
   pub within : n + 1 ≤ length bytes
 
 -- what was read and not yet taken

@@ -10,15 +10,12 @@ ghost use Rattle.afdx_replay.specs.CheckText.{IsUnchecked};
 ghost use Rattle.afdx_lists.specs.Watching.{has_failed};
 
 use crate::refusing::{refuse_config, want_memory};
+use crate::status::{DONE, REFUSED};
 use afdx_admit::{PortBounds, admit, bounds_of};
 use afdx_config::{Tables, read_tables};
 use afdx_lists::{Watched, tell_fault, write_text};
 use std::alloc::{AllocError, Global};
 use std::io::Write;
-
-const ADMITTED: u8 = 0;
-
-const REFUSED: u8 = 1;
 
 /// Adds the line of an output port's bounds.
 fn put_bounds(text: &mut String, port: u8, bounds: &PortBounds) -> Result<(), AllocError>
@@ -121,7 +118,7 @@ pub fn check<O: Write, E: Write>(
         return want_memory(errors);
     };
     match write_text(output, text.as_str().as_bytes()) {
-        Ok(()) if is_admitted => ADMITTED,
+        Ok(()) if is_admitted => DONE,
         Ok(()) => REFUSED,
         Err(fault) => {
             tell_fault(errors, &fault);

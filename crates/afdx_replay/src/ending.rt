@@ -8,11 +8,10 @@ ghost use Rattle.afdx_lists.specs.Telling.{Tells};
 ghost use Rattle.afdx_lists.specs.Watching.{device_of, has_failed};
 ghost use Rattle.afdx_replay.specs.Commands.{line_of_answer, status_of_answer};
 
+use crate::status::DONE;
 use crate::summary::Summary;
 use afdx_lists::{Buffered, RunFault, Watched, tell_fault};
 use std::io::Write;
-
-const DONE: u8 = 0;
 
 /// How a command over a list ended: its exit status and, where that is 0, what the run counted.
 #[derive(Clone, Copy, Debug, PartialEq, Eq)]

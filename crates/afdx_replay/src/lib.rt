@@ -13,6 +13,7 @@ mod replay_lines;
 mod replay_run;
 mod send_command;
 mod send_run;
+pub mod status;
 mod summary;
 mod verdict;
 

@@ -5,15 +5,12 @@ ghost use Rattle.afdx_lists.specs.Telling.{Tells};
 ghost use Rattle.afdx_replay.specs.Refusals.{admit_line, config_line, Refuses, WantsMemory};
 ghost use Rattle.afdx_replay.specs.SendCommand.{no_system_line};
 
+use crate::status::{REFUSED, WRONG_WORDS};
 use afdx_admit::AdmitFault;
 use afdx_config::{ConfigFault, Tables};
 use afdx_lists::{RunFault, Watched, tell, tell_fault};
 use std::alloc::Global;
 use std::io::Write;
-
-const REFUSED: u8 = 1;
-
-const WRONG_WORDS: u8 = 2;
 
 /// Tells that memory was refused, and gives the exit status.
 pub fn want_memory<E: Write>(errors: &mut Watched<E>) -> u8

@@ -22,8 +22,8 @@ use afdx_send::{Emission, SendFault, Sender};
 use std::alloc::{AllocError, Global};
 use std::io::{Read, Write};
 
-/// By then each message of a list has been emitted, in ns.
-const LAST: u64 = 1_200_000_000_000_000;
+/// By then each message of a list has been emitted: the end of the drain, in ns.
+const DRAIN_END: u64 = 1_200_000_000_000_000;
 
 /// Adds the line of a frame on one network.
 fn put_sent(
@@ -268,7 +268,7 @@ pub fn run_send<R: Read, W: Write>(
         latest = handed.time;
         sending.tell_submission(n, &handed, payload.as_slice(), output)?;
     }
-    sending.tell_emissions(LAST, output)?;
+    sending.tell_emissions(DRAIN_END, output)?;
     let mut summary = sending.counts;
     summary.lines = reader.lines();
     Ok(summary)
