@@ -8,8 +8,9 @@ A function is proved from the contracts of what it calls, whatever stands in the
 of several functions are tried in one run of the prover, which checks those functions and what they
 call, and nothing else. Each of them must be refused for its own body: one that is refused for what
 it calls is tried again without that. (`rt must-fail` checks the whole crate with each edit, and
-takes a refusal anywhere.) An edit of what is no function, as a constant, is tried alone, and says
-which function must be refused in a line of its own: `refused: MODULE::FUNCTION`.
+takes a refusal anywhere.) An edit of what is no function, as a constant, or of a method whose name
+can't be read off the file, is tried alone, and says which function must be refused in a line of its
+own: `refused: MODULE::FUNCTION`.
 
 Prints a line for each edit, then `N passed, M failed`; ends with status 1 if one failed.
 """
