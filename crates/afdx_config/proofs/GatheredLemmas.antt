@@ -1,13 +1,13 @@
 -- Items that are read one after the other, as a loop does.
 use Rattle.std.proofs.Common.{◌≡◌, ℕ, ◌≤◌, arith, Bool, true, false, List, [], ◌∷◌, ◌++◌, Option}
-use Rattle.std.proofs.Common.{Some, None, refl, sym, ap, ◌∙◌, append_assoc, ◌&&◌, ◌||◌}
+use Rattle.std.proofs.Common.{refl, ap, ◌&&◌, ◌||◌}
 use Rattle.std.proofs.Common.{string_bytes, String, Global, nat_eq}
-use Rattle.std.specs.Option.{option_map, option_and_then}
+use Rattle.std.specs.Option.{option_map}
 use Rattle.std.specs.List.{list_all, list_any}
 use Rattle.std.specs.Map.{keys_of}
 use Rattle.std.specs.Borrow.{Bor}
 use Rattle.std.specs.Str.{bytes_eq}
-use Rattle.toml.specs.Data.{Data, Items, item}
+use Rattle.toml.specs.Data.{Items}
 use Rattle.toml.specs.View.{members_view}
 use Rattle.toml.specs.declared.value.Value.{Value}
 use Rattle.afdx_config.specs.declared.rows.SystemId.{SystemId}
@@ -16,27 +16,11 @@ use Rattle.afdx_config.specs.Rows.{system_places, PortRow, port_row, port_rows}
 use Rattle.std.specs.List.{AllByRecursion}
 use Rattle.std.proofs.lemmas.Bool.{eqb-true}
 use Rattle.afdx_config.specs.Trees.{lent_texts}
-use Rattle.afdx_config.specs.Keys.{all_as, are_among}
+use Rattle.afdx_config.specs.Keys.{are_among}
 
 -- what was read before, and what is still read
 abbrev pub with_front : {A : Type 0} → List A → Option (List A) → Option (List A)
 with_front front rest = option_map (λ xs. front ++ xs) rest
-
-regroup : {A : Type 0} (front : List A) (x : A) (rest : Option (List A))
-    → with_front front (option_map (λ xs. x ∷ xs) rest) ≡ with_front (front ++ x ∷ []) rest
-regroup front x None = refl
-regroup front x (Some xs) = ap Some (simp append_assoc)
-
-module _ {A : Type 0} (f : Data → Option A) (front : List A) (d : Data) (ds : Items) (total : Option (List A)) where
-  pub goes_on : (x : A) → f d ≡ Some x → with_front front (all_as f (item d ds)) ≡ total
-      → with_front (front ++ x ∷ []) (all_as f ds) ≡ total
-  goes_on x h so_far = sym (regroup front x (all_as f ds))
-      ∙ ap (λ o. with_front front (option_and_then (λ y. option_map (λ ys. y ∷ ys) (all_as f ds))
-      o)) (sym h) ∙ so_far
-
-  pub stops : f d ≡ None → with_front front (all_as f (item d ds)) ≡ total → total ≡ None
-  stops h so_far = sym so_far
-      ∙ ap (λ o. with_front front (option_and_then (λ y. option_map (λ ys. y ∷ ys) (all_as f ds)) o)) h
 
 pub are_among-keys : (known : List (Bor (List ℕ))) (es : List (String Global × Value))
     → are_among (lent_texts known) (members_view es)

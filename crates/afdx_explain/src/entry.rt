@@ -1,4 +1,5 @@
 //! An entry of a table: the forms of a line, and what such a line means.
+
 ghost use Rattle.std.specs.Prelude.{◌≡◌, map};
 ghost use Rattle.std.specs.Option.{option_copied};
 ghost use Rattle.std.specs.List.{list_any};

@@ -1,4 +1,5 @@
 //! What a line means.
+
 ghost use Rattle.std.specs.Prelude.{◌≡◌};
 ghost use Rattle.std.specs.Option.{option_copied};
 ghost use Rattle.afdx_explain.specs.Explained.{kind_of, meaning_of};

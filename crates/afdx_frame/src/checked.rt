@@ -1,4 +1,5 @@
 //! Bytes whose check sequence has been looked at.
+
 ghost use Rattle.std.specs.Prelude.{◌≡◌};
 ghost use Rattle.afdx_frame.specs.Sealing.{AreBytes, is_sealed};
 

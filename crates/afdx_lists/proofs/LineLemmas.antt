@@ -10,9 +10,6 @@ use Rattle.std.proofs.lemmas.List.Elements.{All-append, All-head, All-tail}
 use Rattle.std.proofs.lemmas.Grind.{common_steps}
 use Rattle.afdx_lists.specs.Lines.{lines_of, but_empty_last, HasNoFeed, IsFirstFeed}
 
-is_feed : ℕ → Bool
-is_feed byte = eqb byte 10
-
 -- a split has a first part
 abbrev pub HasFirst : List (List ℕ) → Type 0
 HasFirst parts = (first : List ℕ) × (more : List (List ℕ)) × (parts ≡ first ∷ more)

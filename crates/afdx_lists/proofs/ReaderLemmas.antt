@@ -7,9 +7,6 @@ use Rattle.std.proofs.lemmas.Grind.{common_steps}
 use Rattle.afdx_lists.specs.declared.line_reader.LineReader.{LineReader}
 use Rattle.afdx_lists.specs.Lines.{unread, most_lines}
 
-pub nothing_between : (xs : List ℕ) → slice_range xs 0 0 ≡ []
-nothing_between xs = grind (arith, common_steps)
-
 -- the first n of what stands between two places
 pub front_between : (xs : List ℕ) (start end n : ℕ) → n ≤ end - start
     → slice_range xs start (start + n) ≡ take n (slice_range xs start end)

@@ -2,15 +2,11 @@
 use Rattle.std.proofs.Common.{◌≡◌, ℕ, ◌<◌, List, [], ◌∷◌, ◌++◌, length, ap, sym, ◌∙◌, arith, Option}
 use Rattle.std.proofs.Common.{Some, None, IfSome, append_assoc}
 use Rattle.std.specs.Io.KnownBytes.{prepend_known, IsAtEnd}
-use Rattle.std.proofs.KnownBytes.{Consumes-nil, Consumes-trans}
+use Rattle.std.proofs.KnownBytes.{Consumes-trans}
 use Rattle.std.proofs.lemmas.List.{append-nil}
 use Rattle.std.proofs.lemmas.Grind.{common_steps}
 use Rattle.afdx_lists.specs.Lines.{lines_of, HasNoFeed, TakesLine, TakesBytes, longest_line}
 use Rattle.afdx_lists.proofs.LineLemmas.{lines_of_feed, lines_of_last, lines_of_nothing, lines_of_some, lines_of_front}
-
--- nothing was taken yet
-pub TakesBytes-nil : (known : Option (List ℕ)) (unread : List ℕ) → TakesBytes known known unread unread []
-TakesBytes-nil known unread = record { given = []; consumed = Consumes-nil known; parts = append-nil unread }
 
 -- the input gave more
 pub TakesBytes-then : (a b c : Option (List ℕ)) (u v w : List ℕ) → TakesBytes a b u v []

@@ -1,12 +1,10 @@
 -- Whole lines of what was read, and how calls of the line reader compose.
-use Rattle.std.proofs.Common.{IfSome, None, ◌≡◌, ℕ, zero, suc, ◌+◌, ◌-◌, ◌<◌, ◌≤◌, Bool, true}
+use Rattle.std.proofs.Common.{◌≡◌, ℕ, zero, suc, ◌+◌, ◌-◌, ◌<◌, ◌≤◌, Bool, true}
 use Rattle.std.proofs.Common.{false, List, [], ◌∷◌, ◌++◌, length, take, refl, ap, ◌∙◌, arith, eqb}
-use Rattle.std.proofs.Common.{cond, Option, Some, append_assoc, ◌⊎◌, inl, inr, length-append}
+use Rattle.std.proofs.Common.{cond, Option, append_assoc, ◌⊎◌, inl, inr, length-append}
 use Rattle.std.specs.List.{count_by, slice_split}
 use Rattle.std.specs.Io.KnownBytes.{Consumes}
 use Rattle.std.proofs.KnownBytes.{Consumes-nil, Consumes-trans}
-use Rattle.std.proofs.lemmas.List.{length-take}
-use Rattle.std.proofs.lemmas.Grind.{common_steps}
 use Rattle.std.proofs.lemmas.List.Splits.{length-slice_split, slice_split_at, slice_split_none}
 use Rattle.std.proofs.lemmas.List.Elements.{All-append}
 use Rattle.std.proofs.lemmas.Bool.{eqb-true}
@@ -20,14 +18,6 @@ pub record HasTaken (old new : Option (List ℕ)) (unread : List ℕ) (n : ℕ) 
   pub read : List ℕ
   pub consumed : Consumes old new read
   pub counted : length (whole_lines_of read) ≡ n + length (whole_lines_of unread)
-
--- of a list whose rest is unread, the first n lines are the whole lines of what was read
-pub record AreWhole (bytes rest : List ℕ) (n : ℕ) : Type 0 where
-  pub read : List ℕ
-  pub parts : bytes ≡ read ++ rest
-  pub counted : n ≡ length (whole_lines_of read)
-  pub first : take n (lines_of bytes) ≡ whole_lines_of read
-  pub within : n ≤ length (lines_of bytes)
 
 but_last-cons : (part : List ℕ) (parts : List (List ℕ)) → HasFirst parts → but_last (part ∷ parts)
     ≡ part ∷ but_last parts
@@ -173,29 +163,3 @@ HasTaken-stop a b c u v n none h takes =
       consumed = Consumes-trans a b c h.read given h.consumed takes.consumed;
       counted = omega (arith, h.counted, rest, whole_lines_of-append h.read given, whole_lines_of-append u given);
     }
-
--- so they are the first lines of the list, where it is known
-pub GaveWhole-lines : (bytes rest : List ℕ) (n : ℕ) → GaveWhole (Some bytes) (Some rest) n → AreWhole bytes rest n
-GaveWhole-lines bytes rest n h =
-    let first : take n (lines_of bytes) ≡ whole_lines_of h.read =
-    rw (h.counted, h.consumed) (whole_lines_are_first h.read rest) in
-    record {
-      read = h.read;
-      parts = h.consumed;
-      counted = h.counted;
-      first = first;
-      within = grind (arith, common_steps, ap length first, h.counted, length-take n (lines_of bytes));
-    }
-
--- the same, from what `next_line` ensures at a failed read
-pub HasTaken-fail : (before : Bool) (a b c : Option (List ℕ)) (u v : List ℕ) (n : ℕ)
-    → (before ≡ false → HasTaken a b u n) → (before ≡ false) × HasNoFeed v × TakesBytes b c u v []
-    → GaveWhole a c n
-HasTaken-fail before a b c u v n h stopped = HasTaken-stop a b c u v n stopped.1 (h stopped.0) stopped.2
-
--- the same, wherever the bytes are known
-pub GaveWhole-known : (a c : Option (List ℕ)) (n : ℕ) → GaveWhole a c n
-    → IfSome a (λ bytes. IfSome c (λ rest. AreWhole bytes rest n))
-GaveWhole-known None c n h = tt
-GaveWhole-known (Some bytes) None n h = tt
-GaveWhole-known (Some bytes) (Some rest) n h = GaveWhole-lines bytes rest n h

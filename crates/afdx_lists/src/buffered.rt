@@ -1,4 +1,5 @@
 //! A writer that gathers what it is given, and doesn't ask its device again once that has failed.
+
 ghost use Rattle.std.specs.Prelude.{◌≡◌, ◌≤◌, ◌<◌, ◌+◌, ◌-◌, ◌++◌, [], length, take, drop, vec_len, vec_capacity, is_err, IfOk, OnOk, OnErr, false, true};
 ghost use Rattle.std.specs.Io.{WritesAtMost};
 ghost use Rattle.std.specs.Io.KnownBytes.{Appends, Keeps, WriteAppends};

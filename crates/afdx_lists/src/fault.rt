@@ -1,4 +1,5 @@
 //! Why a line says nothing, and why a run ended before the end of its list.
+
 ghost use Rattle.std.specs.Prelude.{◌≡◌, ◌++◌, Some};
 
 use std::alloc::AllocError;

@@ -1,4 +1,5 @@
 //! The fields of a line: text between spaces, numbers, and bytes in hexadecimal digits.
+
 ghost use Rattle.hex.specs.Hex.{hex_digit_value, decode_pairs, decode_sized};
 ghost use Rattle.std.specs.Prelude.{◌≤◌, nat_le, length, true, IfSome, MatchResult, Err, ◌*◌, Ok, if◌then◌else◌, ◌≡◌, ◌∷◌, ◌⊎◌, ◌^◌, ◌-◌, min, Some, None, OnOk, IfErr, option_map};
 ghost use Rattle.std.specs.Prelude.{false};

@@ -1,4 +1,5 @@
 //! One line of a frame list.
+
 ghost use Rattle.std.specs.Prelude.{◌≡◌, ◌⊎◌, ◌^◌, ◌≤◌, None, Ok, Err, IfOk, IfSome, IfErr, OnOk, option_map};
 ghost use Rattle.afdx_frame.specs.Sealing.{is_sealed, sealed_wrongly};
 ghost use Rattle.afdx_lists.specs.Faults.{IsErrorOf};

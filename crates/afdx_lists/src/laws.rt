@@ -1,4 +1,5 @@
 //! Laws over the definitions.
+
 ghost use Rattle.afdx_lists.specs.Lines.{WholeLinesAreFirst};
 
 /// The whole lines of a beginning of some bytes are the first of all their lines.

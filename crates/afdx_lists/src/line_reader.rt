@@ -1,4 +1,5 @@
 //! Lines of a reader, one at a time.
+
 ghost use Rattle.std.specs.Prelude.{◌≤◌, ◌<◌, ◌≡◌, ◌≢◌, ◌+◌, ◌-◌, ◌++◌, ◌∷◌, [], Ok, Err, true};
 ghost use Rattle.std.specs.Prelude.{false, vec_len, length, take, drop, IfOk, OnOk, OnErr, IfErr};
 ghost use Rattle.std.specs.Prelude.{IfSome, IfNone};

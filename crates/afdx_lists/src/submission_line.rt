@@ -1,4 +1,5 @@
 //! One line of a submission list.
+
 ghost use Rattle.std.specs.Prelude.{◌≡◌, ◌⊎◌, ◌^◌, ◌-◌, ◌<◌, ◌≤◌, min, None, Ok, Err, IfOk, IfSome, IfErr, option_map};
 ghost use Rattle.afdx_lists.specs.Faults.{IsErrorOf};
 ghost use Rattle.afdx_frame.specs.Times.{latest_listed};

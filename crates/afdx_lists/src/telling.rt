@@ -1,4 +1,5 @@
 //! Faults are told, each in one line, without memory.
+
 ghost use Rattle.std.specs.Prelude.{◌≡◌, false, true};
 ghost use Rattle.afdx_lists.specs.Faults.{fault_line, number_text};
 ghost use Rattle.afdx_lists.specs.Telling.{Tells};

@@ -1,4 +1,5 @@
 //! Text that is put together piece by piece.
+
 ghost use Rattle.std.specs.Prelude.{◌≡◌, ◌≤◌, ◌<◌, ◌+◌, ◌-◌, ◌*◌, ◌++◌, [], OnOk, length, take, drop, vec_len, slice_index, decimal};
 ghost use Rattle.std.specs.Prelude.{◌/◌, ◌%◌, map};
 ghost use Rattle.hex.specs.Hex.{encode_lower, lower_digits};

@@ -1,4 +1,5 @@
 //! Text is handed to a writer.
+
 ghost use Rattle.std.specs.Prelude.{◌≡◌, OnOk, OnErr, IfErr, false};
 ghost use Rattle.std.specs.Io.KnownBytes.{Appends};
 ghost use Rattle.afdx_lists.specs.Calls.{AppendsFront, is_failed_write};

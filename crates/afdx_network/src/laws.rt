@@ -1,4 +1,5 @@
 //! What is true of events, and of each network that stands for events.
+
 ghost use Rattle.afdx_network.specs.Laws.{OneOrder, OneOrderSoFar, EventsAreInOrder, EventsSoFarAreInOrder, EventsAreFirst, EventsBegin, EventsAreSoFar};
 
 /// All events of some arrivals stand in one order, which is computed.

@@ -1,4 +1,5 @@
 //! The switches of both sides as one.
+
 ghost use Rattle.std.specs.Prelude.{◌≡◌, ℕ, ◌+◌, ◌≤◌, ◌∷◌, [], List, Option, IfSome, IfNone, IfOk, OnOk, OnErr, MatchOption, None};
 ghost use Rattle.afdx_port.specs.Times.{drain_end, latest_put};
 ghost use Rattle.afdx_network.specs.First.{IsFirstSide, IsOrder};

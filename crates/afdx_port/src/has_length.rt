@@ -1,4 +1,5 @@
 //! What a port has to know of a frame.
+
 ghost use Rattle.std.specs.Prelude.{◌≡◌};
 
 /// What a port can send: a frame of 64 to 1518 bytes with its check sequence (IEEE 802.3, 4.4.2).

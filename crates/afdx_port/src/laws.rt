@@ -1,4 +1,5 @@
 //! What is true of schedules, and of ports that stand for calls, over definitions alone.
+
 ghost use Rattle.std.specs.Prelude.{◌≡◌, ℕ, ◌+◌, ◌<◌, ◌↔◌, ◌++◌, Bool, List, filter, Some, None};
 ghost use Rattle.afdx_port.specs.Schedule.{Entry, Turn, IsNext, AreTurns, IsSchedule};
 ghost use Rattle.afdx_port.specs.ScheduleOf.{AreInOrder, schedule_of};

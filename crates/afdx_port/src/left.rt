@@ -1,4 +1,5 @@
 //! What leaves a port, and when.
+
 ghost use Rattle.std.specs.Prelude.{◌<◌, ◌↔◌, IsTrue};
 ghost use Rattle.afdx_port.specs.Times.{drain_end};
 

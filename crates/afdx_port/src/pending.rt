@@ -1,4 +1,5 @@
 //! What a port still has to do: its two queues, and the frame that is being sent.
+
 ghost use Rattle.std.specs.Prelude.{◌≡◌, ℕ, ◌+◌, ◌-◌, ◌*◌, ◌/◌, ◌<◌, ◌≤◌, ◌^◌, ◌⊎◌, ◌↔◌, [], ◌∷◌};
 ghost use Rattle.std.specs.Prelude.{◌++◌, List, Some, None, IfOk, IfErr, OnOk, OnErr, IsErr};
 ghost use Rattle.std.specs.Prelude.{IfSome, OnSome, IfNone, MatchOption, MatchResult};

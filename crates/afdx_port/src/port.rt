@@ -1,4 +1,5 @@
 //! An output port.
+
 ghost use Rattle.std.specs.Prelude.{◌≡◌, ℕ, ◌+◌, ◌<◌, ◌≤◌, ◌↔◌, ◌++◌, List, Some, None, IfOk};
 ghost use Rattle.std.specs.Prelude.{IfErr, OnOk, OnErr, IsErr, IsTrue, IfSome, IfNone, MatchOption};
 ghost use Rattle.std.specs.Prelude.{MatchResult};

@@ -1,4 +1,5 @@
 //! Several ports that are served together.
+
 ghost use Rattle.std.specs.Prelude.{◌≡◌, IfSome, IfNone, length};
 ghost use Rattle.afdx_port.specs.Ports.{AreQuiet, AreServed, IsFirstDue};
 

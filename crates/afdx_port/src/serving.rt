@@ -1,4 +1,5 @@
 //! Which of 24 ports is served first.
+
 ghost use Rattle.std.specs.Prelude.{◌≡◌, ℕ, ◌<◌, ◌≤◌, List, length, slice_set};
 ghost use Rattle.afdx_port.specs.Keys.{key_of, AreRanked, IsLeastIn};
 

@@ -16,7 +16,7 @@ use Rattle.afdx_switch.specs.Admitted.{passing_in, slots, frames_among}
 use Rattle.afdx_switch.specs.HeldFrames.{HeldFrame}
 use Rattle.afdx_switch.specs.Laws.{is_of}
 use Rattle.afdx_switch.specs.Verdicts.{reason_of}
-use Rattle.afdx_network.specs.Events.{Event, Came, Left, Admission, Departure, admission_after}
+use Rattle.afdx_network.specs.Events.{Event, Came, Left, Departure, admission_after}
 use Rattle.afdx_network.specs.Events.{admissions, departures, turns_at}
 use Rattle.afdx_network.specs.Order.{key, is_below, IsAmong, AreInOrder, AreEvents, AreEventsSoFar, is_told_by}
 use Rattle.afdx_network.proofs.EventLemmas.{turn-of, at-port-of, is-admission, is-either}
@@ -83,9 +83,6 @@ module _ {X Y : Type 0} where
 abbrev is_came : Event → Bool
 is_came (Came c) = true
 is_came (Left d) = false
-
-judged : Admission → Judged
-judged c = record { arrival = c.arrival; reason = c.reason }
 
 judged_by : List Event → List Judged
 judged_by [] = []

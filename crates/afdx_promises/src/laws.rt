@@ -1,4 +1,5 @@
 //! What a network whose tables are admitted promises, whatever arrives at its switches.
+
 ghost use Rattle.afdx_promises.specs.Examples.{PremisesAreMet, AdmissionIsNeeded, TimesAreNeeded};
 ghost use Rattle.afdx_promises.specs.NetworkPromises.{PortsAreAsPromised, LeftSoFarAreFirst, ReceptionsAreOne, ReceptionsExist, EventsBringReceptions, LinksAreApart, StreamIsRegular, StreamIsAccepted, MessagesComeSoFar, MessagesComeOnce, EventsAreAsPromised, EventsSoFarAreAsPromised};
 ghost use Rattle.afdx_promises.specs.Sent.{SentIsFed, StreamIsOfSendings, ReleasedAreToldOnce};

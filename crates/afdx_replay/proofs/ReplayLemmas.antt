@@ -1,7 +1,7 @@
 -- What a replay has told, one event more, and what it answers then.
 use Rattle.std.proofs.Common.{◌≡◌, ℕ, ◌+◌, ◌≤◌, List, [], ◌∷◌, ◌++◌, length, refl, ap, sym, ◌∙◌}
 use Rattle.std.proofs.Common.{subst, Option, Some, None, Bool, true, false, arith, append_assoc}
-use Rattle.std.proofs.Common.{if◌then◌else◌, Result, Ok, Err, OnOk, OnErr}
+use Rattle.std.proofs.Common.{if◌then◌else◌, Result, Ok, Err, OnErr}
 use Rattle.std.specs.Prelude.{IfSome}
 use Rattle.std.specs.Io.KnownBytes.{Appends}
 use Rattle.std.proofs.KnownBytes.{Appends-trans, Appends-nil}
@@ -345,11 +345,6 @@ room-less counts held more n le h =
       messages = h.messages;
     }
 
--- a value of a call that may fail
-pub on-ok : {V E : Type 0} (r : Result V E) (P Q : Type 0) → (P → Q) → OnOk r P → OnOk r Q
-on-ok (Ok v) P Q f p = f p
-on-ok (Err e) P Q f p = tt
-
 pub on-err : {V E : Type 0} (r : Result V E) (P : Type 0) → P → OnErr r P
 on-err (Ok v) P p = tt
 on-err (Err e) P p = p
@@ -374,7 +369,3 @@ stops-start t (Some bytes) output = (
     );
   },
 )
-
-pub if-some : {X : Type 0} (o : Option X) (P : X → Type 0) → ((x : X) → P x) → IfSome o P
-if-some None P f = tt
-if-some (Some x) P f = f x

@@ -53,10 +53,6 @@ pub counts-more : (e : Event) (before : List Event) → send_counts (e ∷ befor
 unfolding send_counts
 counts-more e before = refl
 
-append_nothing : (xs : List ℕ) → xs ++ [] ≡ xs
-append_nothing [] = refl
-append_nothing (x ∷ xs) = ap (λ (ys : List ℕ). x ∷ ys) (append_nothing xs)
-
 -- one more is counted
 abbrev pub one_emitted : Summary → Summary
 one_emitted c = record c { departed = c.departed + 1 }

@@ -1,4 +1,5 @@
 //! A run of an admitted network: a replay that keeps the promises.
+
 ghost use Rattle.std.specs.Prelude.{◌≡◌, ℕ, ◌+◌, ◌≤◌, OnOk, IfSome, true, false};
 ghost use Rattle.afdx_lists.specs.Lines.{most_reads};
 ghost use Rattle.afdx_lists.specs.Calls.{is_failed_read, is_failed_write};

@@ -1,4 +1,5 @@
 //! The command `check`.
+
 ghost use Rattle.std.specs.Prelude.{◌≡◌, ◌⊎◌, ◌++◌, OnOk, IfOk, true, false, string_bytes};
 ghost use Rattle.afdx_config.specs.Admission.{IsAdmitted};
 ghost use Rattle.afdx_admit.specs.Bounds.{IsBounds};

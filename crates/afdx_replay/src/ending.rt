@@ -1,4 +1,5 @@
 //! How a command ends that ran over a list.
+
 ghost use Rattle.std.specs.Prelude.{◌≡◌, ◌==◌, ◌&&◌, ◌⊎◌, ◌↔◌, if◌then◌else◌, [], IsSome, OnOk, false, true};
 ghost use Rattle.std.specs.Result.{result_ok};
 ghost use Rattle.std.specs.Io.KnownBytes.{Keeps};

@@ -1,4 +1,5 @@
 //! What is true of the definitions of a replay.
+
 ghost use Rattle.afdx_replay.specs.EndToEnd.{TakenIsToldOnce, WrittenIsSent, RunsTellTakenOnce};
 ghost use Rattle.afdx_replay.specs.EndToEnd.{TextsAreLists};
 ghost use Rattle.afdx_replay.specs.Merged.{MergedAreToldOnce};

@@ -1,4 +1,5 @@
 //! How a command refuses a configuration or its tables.
+
 ghost use Rattle.std.specs.Prelude.{◌≡◌};
 ghost use Rattle.afdx_admit.specs.Known.{IsKnown};
 ghost use Rattle.afdx_lists.specs.Telling.{Tells};

@@ -1,4 +1,5 @@
 //! The lines of the events of a replay.
+
 ghost use Rattle.std.specs.Prelude.{◌≡◌, ℕ, ◌++◌, ◌≤◌, [], if◌then◌else◌, OnOk, IfOk, length};
 ghost use Rattle.afdx_lists.specs.Texts.{text_bytes};
 ghost use Rattle.afdx_network.specs.Network.{reason_in, ports_in, lost_in};

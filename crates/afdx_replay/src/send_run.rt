@@ -1,4 +1,5 @@
 //! A run that sends the messages of a list.
+
 ghost use Rattle.std.specs.Prelude.{◌≡◌, ◌<◌, ◌≤◌, ◌+◌, ◌^◌, ◌⊎◌, ◌↔◌, ◌++◌, ◌∷◌, ℕ, List, Option, Some, IfOk, IfErr, IfSome, IsTrue, OnOk, OnErr, length, slice_get, true, false};
 ghost use Rattle.afdx_frame.specs.Times.{latest_listed};
 ghost use Rattle.afdx_lists.specs.Lines.{most_lines, most_reads};

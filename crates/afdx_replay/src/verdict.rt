@@ -1,4 +1,5 @@
 //! The words of a verdict, and its line.
+
 ghost use Rattle.std.specs.Prelude.{◌≡◌, ◌++◌, OnOk};
 ghost use Rattle.afdx_lists.specs.Texts.{text_bytes};
 ghost use Rattle.afdx_replay.specs.PoliceText.{side_text, verdict_text, verdict_line};

@@ -201,11 +201,6 @@ root_is count nodes t (Some x) root =
           let at : y.0.place ≡ i = t.leaves i y.0 y.1 in omega arith);
     }
 
-pub none_times : (nodes : List (Option Next)) → IsTournament 0 nodes → (t : ℕ) → NoneBefore (times_of 0 nodes) t
-none_times nodes t u i v h =
-    absurd (let y = leaf_at 0 nodes t i v h in let size = t.size in let within : 0 + i
-    < length nodes = slice_get_within nodes (0 + i) (Some y.0) y.1 in omega arith)
-
 -- while a leaf's way to the root is played again: each node is a winner but the one at `node`
 pub record IsPlayedTo (count : ℕ) (leaves : List (Option Next)) (nodes : List (Option Next)) (node : ℕ) : Type 0 where
   pub size : length nodes ≡ 2 * count

@@ -38,7 +38,6 @@ use Rattle.afdx_send.specs.Releases.{Submission}
 use Rattle.afdx_send.specs.Sender.{HasGiven, no_calls, AreSent, flows_of, IsQuiet, IsPlaceOf}
 use Rattle.afdx_send.specs.Sender.{StandsFor, nexts_of, messages_held, frames_held, ready_count}
 use Rattle.afdx_send.specs.Sender.{port_history}
-use Rattle.afdx_send.proofs.AgendaLemmas.{get_replicate}
 use Rattle.afdx_send.proofs.ReleaseLemmas.{get_either, get_set_same, get_set_other, length_set}
 
 -- the queues of a new regulator are empty
@@ -94,9 +93,6 @@ lines_push links lines l line a new = record {
     length_push [] x = refl
     length_push (y ∷ ys) x = (let r = length_push ys x in omega arith)
 
-pub no_lines : AreNewLines [] []
-no_lines = record { count = refl; each = λ i l line h k. absurd (cc h) }
-
 pub filter_short : {Y : Type 0} (p : Y → Bool) (xs : List Y) → length (filter p xs) ≤ length xs
 filter_short p [] = omega arith
 filter_short p (x ∷ xs) = by (p x) (filter_short p xs)
@@ -114,20 +110,6 @@ IsPlaceTo n lines vl (Some place) = (line : Line) × (slice_get lines place ≡ 
 pub record ArePlaces (n : ℕ) (lines : List Line) (places : List (Option ℕ)) : Type 0 where
   pub count : length places ≡ 65536
   pub each : (vl : ℕ) (place : Option ℕ) → slice_get places vl ≡ Some place → IsPlaceTo n lines vl place
-
-pub no_places : (lines : List Line) (places : List (Option ℕ)) → places ≡ replicate 65536 None
-    → ArePlaces 0 lines places
-no_places lines places e = record {
-  count = ap length e ∙ length_replicate {Y = Option ℕ} 65536 None;
-  each = λ vl place h. subst (λ (z : Option ℕ). IsPlaceTo 0 lines vl z)
-      (sym (get_replicate 65536 vl None place
-      (subst (λ (z : List (Option ℕ)). slice_get z vl ≡ Some place) e h)))
-      (λ i line lt k g. absurd (omega arith));
-}
-  where
-    length_replicate : {Y : Type 0} (n : ℕ) (y : Y) → length (replicate n y) ≡ n
-    length_replicate zero y = refl
-    length_replicate (suc n) y = ap (λ k. suc k) (length_replicate n y)
 
 pub place_set : (n : ℕ) (lines : List Line) (places : List (Option ℕ)) (line : Line)
     → ArePlaces n lines places → slice_get lines n ≡ Some line

@@ -28,12 +28,6 @@ pub turn_of : (subs served step index : ℕ) → step < subs → served ≤ subs
 turn_of subs served step index a b (inl e) c = rw (nat_lt-true served (index + 1) (omega arith)) (omega arith)
 turn_of subs served step index a b (inr e) c = rw (nat_lt-false served (index + 1) (omega arith)) (omega arith)
 
-pub turn_least : (subs served index : ℕ) → served ≤ subs → 0 < turn subs served (index + 1)
-turn_least subs served index a = elim (cases_lt served (index + 1)) [
-  | inl lt ↦ rw (nat_lt-true served (index + 1) lt) (omega arith)
-  | inr ge ↦ rw (nat_lt-false served (index + 1) ge) (omega arith)
-]
-
 pub turn_most : (subs served index : ℕ) → served ≤ subs → index < subs → turn subs served (index + 1) ≤ subs
 turn_most subs served index a b = elim (cases_lt served (index + 1)) [
   | inl lt ↦ rw (nat_lt-true served (index + 1) lt) (omega arith)
@@ -227,11 +221,6 @@ pub empty_queues : {Q : Type 0} (f : Q → List Queued) (qs : List Q)
 empty_queues f [] all i ms h = absurd (cc h)
 empty_queues f (q ∷ qs) all zero ms h = let e : f q ≡ ms = cc h in sym e ∙ all.0
 empty_queues f (q ∷ qs) all (suc i) ms h = empty_queues f qs all.1 i ms h
-
-pub all_push : {Q : Type 0} (P : Q → Type 0) (qs : List Q) (q : Q) → AllByRecursion P qs → P q
-    → AllByRecursion P (qs ++ q ∷ [])
-all_push P [] q all p = (p, tt)
-all_push P (x ∷ xs) q all p = (all.0, all_push P xs q all.1 p)
 
 pub later_than : (earliest : ℕ) (o : Option ℕ) (t : ℕ) → option_map (λ u. max u earliest) o ≡ Some t → earliest ≤ t
 later_than earliest None t e = absurd (cc e)

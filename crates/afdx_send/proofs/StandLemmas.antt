@@ -44,9 +44,6 @@ pub read_at : {Y : Type 0} (xs : List Y) (i : ℕ) (x : Y) → i < length xs →
     → slice_get xs i ≡ Some x
 read_at xs i x lt e = slice_get-get_or xs i x lt ∙ ap (λ z. Some z) (sym e)
 
-next_of_line : Line → Option ℕ
-next_of_line l = next_time_of l.regulator
-
 -- the last time used moves on
 pub later : (w : Working) (h : SenderHistory) (t : ℕ) → h.time ≤ t → StandsFor w h
     → StandsFor (record w { clock = t }) (at h t)

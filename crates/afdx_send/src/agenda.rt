@@ -1,4 +1,5 @@
 //! The soonest of several releases, found by a tournament.
+
 ghost use Rattle.std.specs.Prelude.{◌≡◌, ℕ, ◌+◌, ◌*◌, ◌<◌, ◌≤◌, ◌↔◌, IsTrue, false, List, Option, Some, None, IfOk, MatchOption, option_map, length, replicate, slice_set, vec_len};
 ghost use Rattle.afdx_send.specs.Agenda.{IsAhead, IsSooner, IsPlayed, IsSoonest, NoneBefore, nexts, next_with};
 

@@ -1,4 +1,5 @@
 //! A sender of the tables, before anything came.
+
 ghost use Rattle.std.specs.Prelude.{◌≡◌, ℕ, ◌≤◌, ◌<◌, ◌+◌, Option, Some, None, IfOk, length, slice_get, vec_len, filter, nat_eq};
 ghost use Rattle.afdx_config.specs.Admission.{links_from};
 ghost use Rattle.afdx_config.specs.Lawful.{IsLink};

@@ -1,4 +1,5 @@
 //! What is true of each sender that stands for calls, over definitions alone.
+
 ghost use Rattle.afdx_send.specs.Laws.{EmissionsAreInTime, EmissionsAreLawful, FirstReleasesAgree};
 ghost use Rattle.afdx_send.specs.Complete.{AllIsSent, EmissionsAreOfTaken};
 

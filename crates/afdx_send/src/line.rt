@@ -1,4 +1,5 @@
 //! What a sender keeps of a link: its row, its number, its regulator.
+
 ghost use Rattle.std.specs.Prelude.{◌≡◌, ℕ, ◌+◌, ◌^◌, ◌<◌, ◌≤◌, List, Some, OnOk, IfErr, sum_by, length};
 ghost use Rattle.afdx_frame.specs.Lengths.{least_frame, greatest_frame};
 ghost use Rattle.afdx_config.specs.Numbers.{next_number};

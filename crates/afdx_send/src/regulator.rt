@@ -1,4 +1,5 @@
 //! The regulator of one link: its sub-VLs' queues and the gap between releases.
+
 ghost use Rattle.std.specs.Prelude.{◌≡◌, ℕ, ◌+◌, ◌*◌, ◌<◌, ◌≤◌, List, Some, None, IfSome, IfNone, IfOk, OnOk, OnErr, IsTrue, ◌↔◌, ◌^◌, [], MatchOption, max, sum_by, length};
 ghost use Rattle.afdx_frame.specs.Lengths.{greatest_payload};
 

@@ -1,4 +1,5 @@
 //! A released message, as the output port holds it.
+
 ghost use Rattle.std.specs.Prelude.{◌≡◌, ◌≤◌, length, IfOk};
 ghost use Rattle.afdx_frame.specs.Lengths.{least_frame, greatest_frame, greatest_payload};
 

@@ -1,4 +1,5 @@
 //! A sending end system, as its callers see it.
+
 ghost use Rattle.std.specs.Prelude.{◌≡◌, ℕ, ◌+◌, ◌<◌, ◌≤◌, IfOk, IfErr, OnOk, OnErr, IfSome};
 ghost use Rattle.std.specs.Prelude.{IfNone, MatchOption, length, slice_get, Some};
 ghost use Rattle.afdx_frame.specs.Times.{latest_listed};

@@ -1,4 +1,5 @@
 //! What a sender does with its links and its output port.
+
 ghost use Rattle.std.specs.Prelude.{◌≡◌, ℕ, ◌+◌, ◌^◌, ◌<◌, ◌≤◌, ◌↔◌, Option, Some, None, IfSome};
 ghost use Rattle.std.specs.Prelude.{IfNone, IfOk, IfErr, OnOk, OnErr, MatchOption, length};
 ghost use Rattle.std.specs.Prelude.{slice_get, sum_by, vec_len};

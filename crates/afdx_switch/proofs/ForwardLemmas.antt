@@ -83,9 +83,6 @@ module _ (time : ℕ) (priority : Priority) (places : List ℕ) (are : ArePlaces
     later-other : (i : ℕ) → IsLater places (k + 1) i → i ≢ place
     later-other i later same = later k (omega arith) (subst (λ z. slice_get places k ≡ Some z) (sym same) here)
 
-    earlier-other : (i j : ℕ) → j < k → slice_get places j ≡ Some i → i ≢ place
-    earlier-other i j below at same = new-here j below (subst (λ z. slice_get places j ≡ Some z) same at)
-
     module _ (o n : Pending HeldFrame) (share : HeldFrame) (is_lost : Bool) (new_lost : PortSet)
         (at_o : slice_get ports place ≡ Some o) (popped : shares ≡ rest_shares ++ share ∷ [])
         (one : IsOffered time priority (Some share) o n is_lost) (adds : Adds place lost new_lost is_lost) where

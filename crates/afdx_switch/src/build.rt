@@ -1,4 +1,5 @@
 //! A switch of the tables, before anything came.
+
 ghost use Rattle.std.specs.Prelude.{◌≡◌, ℕ, ◌≤◌, ◌<◌, ◌+◌, Option, Some, IfOk, OnOk, IfSome, length, slice_get, vec_len};
 ghost use Rattle.afdx_config.specs.Lawful.{IsLawful};
 ghost use Rattle.afdx_config.specs.Reading.{link_of};

@@ -1,4 +1,5 @@
 //! The shares of a frame's one copy.
+
 ghost use Rattle.std.specs.Prelude.{◌≡◌, ◌≤◌, length, IfOk, IfSome};
 ghost use Rattle.afdx_frame.specs.Lengths.{least_frame, greatest_frame};
 ghost use Rattle.afdx_port.specs.Times.{greatest_wait};

@@ -1,4 +1,5 @@
 //! What a switch keeps of a link.
+
 use afdx_frame::Priority;
 use afdx_police::LinkAccount;
 use arrayvec::ArrayVec;

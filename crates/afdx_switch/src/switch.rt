@@ -1,4 +1,5 @@
 //! One switch, as its callers see it.
+
 ghost use Rattle.std.specs.Prelude.{◌≡◌, ◌↔◌, ℕ, ◌≤◌, ◌+◌, IfOk, OnOk, OnErr, IfSome, IfNone, MatchOption, ◌∷◌, Some, slice_get, true, None};
 ghost use Rattle.afdx_port.specs.Times.{drain_end, latest_put};
 

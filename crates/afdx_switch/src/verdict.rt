@@ -1,4 +1,5 @@
 //! What a switch makes of an arrival.
+
 use crate::ports::PortSet;
 use afdx_police::Reason;
 

@@ -1,4 +1,5 @@
 //! The lines that tell what a system made of a frame.
+
 ghost use Rattle.std.specs.Prelude.{◌≡◌, ◌++◌, OnOk};
 ghost use Rattle.afdx_receive.specs.Words.{drop_word};
 ghost use Rattle.afdx_lists.specs.Texts.{text_bytes};

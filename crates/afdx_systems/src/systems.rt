@@ -1,4 +1,5 @@
 //! The end systems of a network, by their ports of the switch.
+
 ghost use Rattle.std.specs.Prelude.{◌≡◌, ℕ, ◌++◌, ◌∷◌, [], IfOk, OnOk, List, Option};
 ghost use Rattle.afdx_config.specs.Rows.{Rows};
 ghost use Rattle.afdx_config.specs.Lawful.{IsLawful};

@@ -1,5 +1,6 @@
 //! The worked rows, at a frame that waits for ever and at one that doesn't. They pass also where
 //! any one growth is refused.
+
 ghost use Rattle.std.specs.Prelude.{◌≡◌, ℕ, ◌≤◌, Some, None, IfOk, IsTrue};
 ghost use Rattle.std.proofs.Common.{arith};
 ghost use Rattle.afdx_frame.specs.Lengths.{least_frame, greatest_frame, greatest_buffer};

@@ -1,5 +1,6 @@
 //! The worked rows. The calls of a run: before each submission, all emissions that end by then are
 //! taken. Frames of every length and numbers that go round are in tests/streams.py.
+
 ghost use Rattle.std.specs.Prelude.{◌≡◌, ℕ, ◌+◌, ◌≤◌, IfOk, IfSome, IfNone};
 ghost use Rattle.afdx_frame.specs.Times.{latest_listed};
 ghost use Rattle.afdx_send.specs.Sender.{IsQuiet, last_time, frames_held};

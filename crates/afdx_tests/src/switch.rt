@@ -1,4 +1,5 @@
 //! The worked rows, on one switch. An arrival that is refused memory is made again.
+
 ghost use Rattle.std.specs.Prelude.{◌≡◌, ◌≤◌, IsTrue};
 ghost use Rattle.afdx_port.specs.Times.{latest_put};
 ghost use Rattle.afdx_switch.specs.Switching.{IsQuiet, last_time};

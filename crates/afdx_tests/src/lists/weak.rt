@@ -1,4 +1,5 @@
 //! Devices that move little at a time and fail.
+
 ghost use Rattle.std.specs.Prelude.{◌<◌};
 
 use std::io;

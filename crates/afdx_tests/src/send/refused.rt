@@ -1,4 +1,5 @@
 //! A sender that wants memory: each call that is refused it is made again, and gives its answer.
+
 ghost use Rattle.std.specs.Prelude.{◌≡◌, ℕ, ◌≤◌, IfOk};
 ghost use Rattle.afdx_send.specs.Sender.{IsQuiet, last_time};
 

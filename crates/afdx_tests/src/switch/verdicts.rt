@@ -1,4 +1,5 @@
 //! The verdicts of a switch: one of each reason to drop a frame, in the order of the checks.
+
 ghost use Rattle.std.specs.Prelude.{◌≤◌};
 ghost use Rattle.afdx_switch.specs.Switching.{IsQuiet, last_time};
 

@@ -1,4 +1,5 @@
 //! Messages of all lengths.
+
 ghost use Rattle.std.specs.Prelude.{◌≤◌};
 
 use crate::samples::base_tables;
