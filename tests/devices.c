@@ -5,11 +5,12 @@
  *
  * Loaded before the C library, it looks at the calls of read on standard input, or on the file that
  * DEVICE_LIST names once it is opened, and at those of write on standard output. Each moves at most
- * DEVICE_MOST bytes; where that is absent or 0, as many as it would. DEVICE_READ and DEVICE_WRITE are K:HOW,
- * for the K-th such call from 1 on: `fails` makes this call and all later ones fail with EIO, `none` makes
- * them move no byte, `once` makes this one fail and lets the later ones go through, and `interrupted` makes
- * this one fail with EINTR. DEVICE_LOG names a file that gets a line for each of these calls: `r` or `w`,
- * how many bytes were asked for, and what was answered, -1 where it failed. For one thread.
+ * DEVICE_MOST bytes; where that is absent or 0, as many as it would. DEVICE_READ and DEVICE_WRITE
+ * are K:HOW, for the K-th such call from 1 on: `fails` makes this call and all later ones fail with
+ * EIO, `none` makes them move no byte, `once` makes this one fail and lets the later ones go
+ * through, and `interrupted` makes this one fail with EINTR. DEVICE_LOG names a file that gets a
+ * line for each of these calls: `r` or `w`, how many bytes were asked for, and what was answered,
+ * -1 where it failed. For one thread.
  */
 #define _GNU_SOURCE
 #include <dlfcn.h>

@@ -71,7 +71,8 @@ text_case() { # NAME STATUS STREAM WORDS_TO_FIND WORD.. : the text is on that st
 
 zeros() { head -c "$1" /dev/zero | tr '\0' 0; }
 
-# The frame of link 1 without its check sequence, but for the last byte, which is the sequence number.
+# The frame of link 1 without its check sequence, but for the last byte, which is the sequence
+# number.
 head1=030000000001020000000120080045000021000000000111cdea0a000101e0e00001
 head1+=03e803e8000d000068656c6c6f000000000000000000000000
 frame=${head1}00

@@ -2,19 +2,20 @@
 # Refuses requests for memory, and looks at what the program, or a test, makes of it.
 #
 #     tests/refused_growths.sh PROGRAM             the built program, as crates/afdx/out/afdx
-#     tests/refused_growths.sh --tests RUNNER..    a built test runner, crates/afdx_tests/out/afdx_tests_tests
+#     tests/refused_growths.sh --tests RUNNER..    built test runners, as afdx_tests_tests
 #
-# PROGRAM polices examples/one_link.list on standard input, checks examples/base.toml, explains a line, replays a frame
-# and its copy in examples/base.toml, replays examples/gigabit.list, and sends five messages, of which one
-# is refused, where it has the command send. Each of these is run with the first request refused, then the
-# second, and so on, until a run meets no refusal; and again with all requests refused from the first on,
-# from the second on, and so on. Each run must write a beginning of what the undisturbed run writes, and
-# end either with the line `memory` and status 4, or as the undisturbed run does.
+# PROGRAM polices examples/one_link.list on standard input, checks examples/base.toml, explains a
+# line, replays a frame and its copy in examples/base.toml, replays examples/gigabit.list, and sends
+# five messages, of which one is refused, where it has the command send. Each of these is run with
+# the first request refused, then the second, and so on, until a run meets no refusal; and again
+# with all requests refused from the first on, from the second on, and so on. Each run must write a
+# beginning of what the undisturbed run writes, and end either with the line `memory` and status 4,
+# or as the undisturbed run does.
 #
-# Of each RUNNER the tests whose names contain `refused` are run, with one request refused at a time, and
-# with all refused from one on. Such a test makes a call again where it answered want of memory, and asserts
-# what holds then: it must pass where one request was refused. Where all later ones are refused too it may
-# fail, but only by want of memory: the failure has to name it.
+# Of each RUNNER the tests whose names contain `refused` are run, with one request refused at a
+# time, and with all refused from one on. Such a test makes a call again where it answered want of
+# memory, and asserts what holds then: it must pass where one request was refused. Where all later
+# ones are refused too it may fail, but only by want of memory: the failure has to name it.
 #
 # The requests are refused by tests/refuse.c, which `cc` compiles. Prints `ok NAME` or `FAILED NAME`
 # for each case (a program's whole row of runs, or one test's), then `N passed, M failed`. Ends with
@@ -51,9 +52,9 @@ cc -shared -fPIC -O1 -o "$work/refuse.so" "$top/tests/refuse.c" -ldl
 # shellcheck source=tests/telling.sh
 source "$top/tests/telling.sh"
 
-# Runs WORD.. with request number N refused (HOW is REFUSE_AT), or all from that one on (REFUSE_FROM).
-# Leaves what it wrote in `out` and, without the shim's own line, in `err`, its status in `status`, and
-# in `met` whether a request was refused.
+# Runs WORD.. with request number N refused (HOW is REFUSE_AT), or all from that one on
+# (REFUSE_FROM). Leaves what it wrote in `out` and, without the shim's own line, in `err`, its
+# status in `status`, and in `met` whether a request was refused.
 launch() { # HOW N WORD..
     local how=$1 n=$2
     shift 2

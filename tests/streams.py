@@ -244,7 +244,7 @@ def late_in_the_switch(program: Program) -> None:
     same_text("the replay", b"".join(wanted), replayed(program, tables, merged(lines + busy)))
 
 
-# ---- long lists, the largest tables ---------------------------------------------------------------
+# ---- long lists, the largest tables --------------------------------------------------------------
 
 
 def long_police(program: Program, count: int) -> None:

@@ -3,9 +3,9 @@
 #
 #     tests/tools.sh [PROGRAM]
 #
-# PROGRAM is the built program, crates/afdx/out/afdx where it isn't given. Prints `ok NAME`,
-# `FAILED NAME` or `skipped NAME: why` for each case and, at the end, `N passed, M failed, K skipped`.
-# A case is skipped only where a package or a command of the program isn't there. Ends with status 1
+# PROGRAM is the built program, crates/afdx/out/afdx where it isn't given. Prints `ok NAME`, `FAILED
+# NAME` or `skipped NAME: why` for each case and, at the end, `N passed, M failed, K skipped`. A
+# case is skipped only where a package or a command of the program isn't there. Ends with status 1
 # if a case failed.
 set -uo pipefail
 export LC_ALL=C TZ=UTC

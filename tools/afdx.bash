@@ -1,5 +1,5 @@
-# Completes the words of `afdx` and of its tools in bash. `bin/install` puts it where bash looks for it;
-# elsewhere:  source tools/afdx.bash
+# Completes the words of `afdx` and of its tools in bash. `bin/install` puts it where bash looks for
+# it; elsewhere:  source tools/afdx.bash
 
 _afdx_files() { # EXTENSION.. : folders, and the files with one of these extensions
     local cur=${COMP_WORDS[COMP_CWORD]} end

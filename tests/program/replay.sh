@@ -1,7 +1,8 @@
 # Cases of `replay`; tests/program.sh reads this file.
 #
-# Lists and outputs are written with ` / ` between lines. In a list H1 is the frame of link 1 with the
-# message `hello`, H2 that of link 2 with `world`, both with number 0; H1(05) is H1 with number 5.
+# Lists and outputs are written with ` / ` between lines. In a list H1 is the frame of link 1 with
+# the message `hello`, H2 that of link 2 with `world`, both with number 0; H1(05) is H1 with number
+# 5.
 
 head2=030000000002020000000220080045000021000000000111cce90a000201e0e00002
 head2+=07d007d0000d0000776f726c64000000000000000000000000
@@ -194,7 +195,8 @@ free_replay_of 'a frame below Lmin' 'F 0 A 2 H2' "V 1 A accept / D 1 6720 A 3 / 
 tables '/^vl = 2/,/^policing/{s/^lmin = 64/lmin = 100/; s/^lmax = 64/lmax = 200/; s/"frame"/"byte"/}'
 free_replay_of 'a frame below Lmin, policed by bytes' 'F 0 A 2 H2' 'V 1 A drop under-lmin'
 
-# The largest tables: 24 systems, 4,096 links from the first to all others, 4,096 ports of the second.
+# The largest tables: 24 systems, 4,096 links from the first to all others, 4,096 ports of the
+# second.
 awk 'BEGIN {
     print "profile = 1\nbuffer = 252"
     for (p = 1; p <= 24; p++) printf "[[system]]\nname = \"s%d\"\nport = %d\nid = %d\npartition = 1\nrate = 100\n", p, p, p
