@@ -1,0 +1,7 @@
+//! Tests of the systems of a run, and of whole runs over text.
+#![tactic(auto)]
+
+#[cfg(test)]
+mod replay;
+#[cfg(test)]
+mod systems;

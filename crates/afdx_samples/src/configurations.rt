@@ -1,0 +1,159 @@
+//! Configurations, and the tables that are read from them.
+
+use afdx_admit::{Admitted, admit};
+use afdx_config::{ConfigFault, Tables, read_tables};
+use arrayvec::ArrayString;
+use std::alloc::{AllocError, Global};
+use std::test::Fail;
+
+/// The greatest number of links, and of communication ports.
+pub const GREATEST_COUNT: u16 = 4096;
+
+/// A high link from the first system to the third and a low one from the second, with a port there
+/// for each.
+pub fn base() -> &'static str {
+    r#"profile = 1
+buffer = 252
+
+[[system]]
+name = "s1"
+port = 1
+id = 1
+partition = 1
+rate = 100
+
+[[system]]
+name = "s2"
+port = 2
+id = 2
+partition = 1
+rate = 100
+
+[[system]]
+name = "s3"
+port = 3
+id = 3
+partition = 1
+rate = 100
+
+[[link]]
+vl = 1
+from = "s1"
+to = ["s3"]
+bag_ms = 1
+lmin = 64
+lmax = 64
+jitter_us = 500
+priority = "high"
+policing = "frame"
+latency_us = 17
+skew_us = 1000
+subs = 2
+
+[[link]]
+vl = 2
+from = "s2"
+to = ["s3"]
+bag_ms = 1
+lmin = 64
+lmax = 64
+jitter_us = 500
+priority = "low"
+policing = "frame"
+latency_us = 21
+skew_us = 1000
+subs = 1
+
+[[port]]
+system = "s3"
+link = 1
+udp = 1000
+kind = "sampling"
+depth = 1
+
+[[port]]
+system = "s3"
+link = 2
+udp = 2000
+kind = "queuing"
+depth = 4
+"#
+}
+
+/// The tables of a text. Of all growths one alone may be refused: they are then read again.
+pub fn read(alloc: Global, text: &str) -> Result<Tables, ConfigFault> {
+    match read_tables(alloc, text.as_bytes()) {
+        Err(ConfigFault::Memory) => read_tables(alloc, text.as_bytes()),
+        answer => answer,
+    }
+}
+
+/// The tables of the text `base`.
+pub fn base_tables(alloc: Global) -> Result<Tables, ConfigFault> {
+    read(alloc, base())
+}
+
+/// A text of up to 2,048 bytes, made without memory of its own.
+pub type ShortText = ArrayString<2048>;
+
+/// The three pieces one after the other. Fails where they have more than 2,048 bytes.
+fn joined(front: &str, middle: &str, back: &str) -> Result<ShortText, Fail> {
+    let mut text = ShortText::from(front)?;
+    text.try_push_str(middle)?;
+    text.try_push_str(back)?;
+    Ok(text)
+}
+
+/// The text with `new` in the place of the first `old`.
+pub fn changed(text: &str, old: &str, new: &str) -> Result<ShortText, Fail> {
+    let (front, back) = text.split_once(old).ok_or("nothing to change")?;
+    joined(front, new, back)
+}
+
+fn push_system(text: &mut String, place: u8) -> Result<(), AllocError> {
+    write!(text, "[[system]]\nname = \"s{place}\"\nport = {place}\n")?;
+    write!(text, "id = {place}\npartition = 1\nrate = 100\n")
+}
+
+fn push_link(text: &mut String, vl: u16, others: &str) -> Result<(), AllocError> {
+    write!(
+        text,
+        "[[link]]\nvl = {vl}\nfrom = \"s1\"\nto = [{others}]\n"
+    )?;
+    text.push_str("bag_ms = 1\nlmin = 64\nlmax = 64\njitter_us = 500\npriority = \"high\"\n")?;
+    text.push_str("policing = \"frame\"\nlatency_us = 17\nskew_us = 1000\nsubs = 2\n")
+}
+
+fn push_port(text: &mut String, vl: u16) -> Result<(), AllocError> {
+    write!(text, "[[port]]\nsystem = \"s2\"\nlink = {vl}\nudp = 1000\n")?;
+    text.push_str("kind = \"sampling\"\ndepth = 1\n")
+}
+
+/// The largest tables: 24 systems, 4,096 links from the first to all others, and for each of them a
+/// port of the second.
+pub fn largest(alloc: Global) -> Result<String, AllocError> {
+    let mut others = String::new(alloc);
+    let mut text = String::new(alloc);
+    text.push_str("profile = 1\nbuffer = 252\n")?;
+    for place in 1..=24_u8 {
+        if place > 1 {
+            write!(others, "\"s{place}\",")?;
+        }
+        push_system(&mut text, place)?;
+    }
+    for vl in 0..GREATEST_COUNT {
+        push_link(&mut text, vl, others.as_str())?;
+    }
+    for vl in 0..GREATEST_COUNT {
+        push_port(&mut text, vl)?;
+    }
+    Ok(text)
+}
+
+/// The tables of a text, admitted.
+pub fn admitted(alloc: Global, text: &str) -> Result<Admitted, Fail> {
+    match admit(read(alloc, text)?) {
+        Ok(tables) => Ok(tables),
+        Err(_) => Err("admission".into()),
+    }
+}

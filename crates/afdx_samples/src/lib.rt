@@ -1,0 +1,12 @@
+//! Configurations and frames that the tests of several crates use.
+//!
+//! A long text is what a function answers, so that a proof doesn't carry its letters.
+#![tactic(auto)]
+
+mod configurations;
+mod frames;
+
+pub use configurations::{
+    GREATEST_COUNT, ShortText, admitted, base, base_tables, changed, largest, read,
+};
+pub use frames::{HELLO, NUMBER, WORLD, hello, longer_hello, sealed, spelled, world};
