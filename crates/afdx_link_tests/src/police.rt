@@ -3,6 +3,7 @@
 ghost use Rattle.std.specs.Prelude.{◌≤◌};
 ghost use Rattle.afdx_police.specs.LinkAccounts.{last_time};
 
+use crate::frame::wrongly_sealed;
 use afdx_frame::{Checked, Policing, VlId};
 use afdx_police::{
     ByteCharge, Charge, FrameCharge, LinkAccount, LinkRule, Policer, Reason, judge, laws,
@@ -11,12 +12,8 @@ use afdx_samples::{HELLO, hello, longer_hello, sealed, world};
 use std::process::Abort;
 use std::test::Fail;
 
-/// The frame `hello` with a wrong check sequence.
-fn wrongly_sealed() -> [u8; 64] {
-    let mut frame = hello(0);
-    frame[63] = !frame[63];
-    frame
-}
+/// The port at which a frame comes, its bytes, and the verdict on it.
+type Arrival<'a> = (u8, &'a [u8], Option<Reason>);
 
 fn rule_of_link_1(lmax: u64) -> Option<LinkRule> {
     LinkRule::new(VlId(1), 1, 1, 64, lmax, 500, Policing::Byte)
@@ -39,14 +36,24 @@ fn rules_in_range(rt: HostRuntime) {
     assert!(rt; !new(1, 256, 64, 64, 500));
 }
 
+/// The link, the port and the policing of a rule, and the greatest length and the jitter of the
+/// rule of its account.
+fn given(rule: &LinkRule) -> (VlId, u8, Policing, u64, u64) {
+    let account = LinkAccount::new(rule);
+    let kept = account.rule();
+    (
+        rule.vl,
+        rule.port,
+        rule.policing(),
+        kept.lmax,
+        kept.jitter_us,
+    )
+}
+
 #[test]
 fn rules_as_given(rt: HostRuntime) -> Result<(), Fail> {
     let rule = LinkRule::new(VlId(7), 3, 8, 70, 90, 20, Policing::Frame).ok_or("range")?;
-    assert_eq!(rt; rule.vl, VlId(7));
-    assert_eq!(rt; rule.port, 3);
-    assert_eq!(rt; rule.policing(), Policing::Frame);
-    assert_eq!(rt; LinkAccount::new(&rule).rule().lmax, 90);
-    assert_eq!(rt; LinkAccount::new(&rule).rule().jitter_us, 20);
+    assert_eq!(rt; given(&rule), (VlId(7), 3, Policing::Frame, 90, 20));
     Ok(())
 }
 
@@ -119,25 +126,43 @@ fn charges(rt: HostRuntime) {
     assert_eq!(rt; FrameCharge::charge(1538, 84), 1538);
 }
 
+/// The verdict on a frame by a rule alone.
+fn verdict(rule: &LinkRule, port: u8, frame: &[u8]) -> Option<Reason> {
+    judge(Some(rule), port, Checked::new(frame))
+}
+
+/// The place of the first of the arrivals that is judged otherwise.
+fn wrongly_judged(rule: &LinkRule, arrivals: &[Arrival<'_>]) -> Option<usize> {
+    for (place, (port, frame, wanted)) in arrivals.iter().enumerate() {
+        if verdict(rule, *port, frame) != *wanted {
+            return Some(place);
+        }
+    }
+    None
+}
+
 #[test]
 fn order_of_faults(rt: HostRuntime) -> Result<(), Fail> {
     let rule = rule_of_link_1(64).ok_or("range")?;
-    let judged = |port: u8, frame: &[u8]| judge(Some(&rule), port, Checked::new(frame));
-    assert_eq!(rt; judged(2, &[0; 63]), Some(Reason::TooShort));
-    assert_eq!(rt; judged(2, &[0; 1519]), Some(Reason::TooLong));
-    assert_eq!(rt; judged(2, &[1; 64]), Some(Reason::BadFcs));
-    let nameless = sealed(&HELLO, &[(0, 2)]);
-    assert_eq!(rt; judged(2, &nameless), Some(Reason::BadAddress));
-    assert_eq!(rt; judged(2, &world(0)), Some(Reason::UnknownLink));
-    assert_eq!(rt;
-        judge(None, 1, Checked::new(&hello(0))),
-        Some(Reason::UnknownLink)
-    );
-    assert_eq!(rt; judged(2, &hello(0)), Some(Reason::WrongPort));
-    assert_eq!(rt; judged(1, &hello(0)), None);
-    assert_eq!(rt; judged(2, &longer_hello()), Some(Reason::WrongPort));
-    assert_eq!(rt; judged(1, &longer_hello()), Some(Reason::OverLmax));
+    let arrivals: [Arrival<'_>; 9] = [
+        (2, &[0; 63], Some(Reason::TooShort)),
+        (2, &[0; 1519], Some(Reason::TooLong)),
+        (2, &[1; 64], Some(Reason::BadFcs)),
+        (2, &sealed(&HELLO, &[(0, 2)]), Some(Reason::BadAddress)),
+        (2, &world(0), Some(Reason::UnknownLink)),
+        (2, &hello(0), Some(Reason::WrongPort)),
+        (1, &hello(0), None),
+        (2, &longer_hello(), Some(Reason::WrongPort)),
+        (1, &longer_hello(), Some(Reason::OverLmax)),
+    ];
+    assert_eq!(rt; wrongly_judged(&rule, &arrivals), None);
     Ok(())
+}
+
+#[test]
+fn no_rule_has_no_link(rt: HostRuntime) {
+    let verdict = judge(None, 1, Checked::new(&hello(0)));
+    assert_eq!(rt; verdict, Some(Reason::UnknownLink));
 }
 
 /// The rule of link 2, whose frames have 100 to 200 bytes, with this policing.
@@ -149,13 +174,15 @@ fn rule_of_link_2(policing: Policing) -> Option<LinkRule> {
 fn least_length_by_policing(rt: HostRuntime) -> Result<(), Fail> {
     let by_byte = rule_of_link_2(Policing::Byte).ok_or("range")?;
     let by_frame = rule_of_link_2(Policing::Frame).ok_or("range")?;
-    let judged = |rule: &LinkRule| judge(Some(rule), 2, Checked::new(&world(0)));
-    assert_eq!(rt; judged(&by_byte), Some(Reason::UnderLmin));
-    assert_eq!(rt; judged(&by_frame), None);
+    let verdicts = (
+        verdict(&by_byte, 2, &world(0)),
+        verdict(&by_frame, 2, &world(0)),
+    );
+    assert_eq!(rt; verdicts, (Some(Reason::UnderLmin), None));
     Ok(())
 }
 
-// The verdict on an arrival at time 0.
+/// The verdict on an arrival at time 0.
 fn at_start(account: &mut LinkAccount, port: u8, frame: &[u8]) -> Option<Reason>
     requires { last_time account.old ≤ 0 }
     ensures { last_time account.new ≤ 0 }
@@ -163,43 +190,45 @@ fn at_start(account: &mut LinkAccount, port: u8, frame: &[u8]) -> Option<Reason>
     account.police(0, port, Checked::new(frame))
 }
 
-#[test]
-fn one_of_each_fault_of_bytes(rt: HostRuntime) -> Result<(), Fail> {
-    let rule = rule_of_link_1(64).ok_or("range")?;
-    let mut account = LinkAccount::new(&rule);
-    let wrong = at_start(&mut account, 1, &wrongly_sealed());
-    assert_eq!(rt; wrong, Some(Reason::BadFcs));
-    assert_eq!(rt; at_start(&mut account, 1, &[0; 63]), Some(Reason::TooShort));
-    assert_eq!(rt;
-        at_start(&mut account, 1, &[0; 1519]),
-        Some(Reason::TooLong)
-    );
-    assert_eq!(rt;
-        at_start(&mut account, 1, &HELLO[..5]),
-        Some(Reason::TooShort)
-    );
-    assert_eq!(rt; at_start(&mut account, 1, &[]), Some(Reason::TooShort));
-    Ok(())
+/// The place of the first of the arrivals at time 0 on which the verdict of a new account is
+/// another one.
+fn wrongly_policed(rule: &LinkRule, arrivals: &[Arrival<'_>]) -> Option<usize> {
+    let mut account = LinkAccount::new(rule);
+    for (place, (port, frame, wanted)) in arrivals.iter().enumerate() {
+        if at_start(&mut account, *port, frame) != *wanted {
+            return Some(place);
+        }
+    }
+    None
 }
 
 #[test]
+fn one_of_each_fault_of_bytes(rt: HostRuntime) -> Result<(), Fail> {
+    let rule = rule_of_link_1(64).ok_or("range")?;
+    let arrivals: [Arrival<'_>; 5] = [
+        (1, &wrongly_sealed(), Some(Reason::BadFcs)),
+        (1, &[0; 63], Some(Reason::TooShort)),
+        (1, &[0; 1519], Some(Reason::TooLong)),
+        (1, &HELLO[..5], Some(Reason::TooShort)),
+        (1, &[], Some(Reason::TooShort)),
+    ];
+    assert_eq!(rt; wrongly_policed(&rule, &arrivals), None);
+    Ok(())
+}
+
+// None of those before the fifth arrival was charged.
+#[test]
 fn one_of_each_fault_of_a_link(rt: HostRuntime) -> Result<(), Fail> {
     let rule = rule_of_link_1(64).ok_or("range")?;
-    let mut account = LinkAccount::new(&rule);
-    let blank = at_start(&mut account, 1, &sealed(&[0; 60], &[]));
-    assert_eq!(rt; blank, Some(Reason::BadAddress));
-    let stranger = at_start(&mut account, 1, &sealed(&HELLO, &[(5, 9)]));
-    assert_eq!(rt; stranger, Some(Reason::UnknownLink));
-    let longer = at_start(&mut account, 1, &longer_hello());
-    assert_eq!(rt; longer, Some(Reason::OverLmax));
-    let elsewhere = at_start(&mut account, 2, &hello(0));
-    assert_eq!(rt; elsewhere, Some(Reason::WrongPort));
-    // None of these was charged.
-    assert_eq!(rt; at_start(&mut account, 1, &hello(0)), None);
-    assert_eq!(rt;
-        at_start(&mut account, 1, &hello(0)),
-        Some(Reason::OverRate)
-    );
+    let arrivals: [Arrival<'_>; 6] = [
+        (1, &sealed(&[0; 60], &[]), Some(Reason::BadAddress)),
+        (1, &sealed(&HELLO, &[(5, 9)]), Some(Reason::UnknownLink)),
+        (1, &longer_hello(), Some(Reason::OverLmax)),
+        (2, &hello(0), Some(Reason::WrongPort)),
+        (1, &hello(0), None),
+        (1, &hello(0), Some(Reason::OverRate)),
+    ];
+    assert_eq!(rt; wrongly_policed(&rule, &arrivals), None);
     Ok(())
 }
 

@@ -129,8 +129,8 @@ fn push_port(text: &mut String, vl: u16) -> Result<(), AllocError> {
     text.push_str("kind = \"sampling\"\ndepth = 1\n")
 }
 
-/// The largest tables: 24 systems, 4,096 links from the first to all others, and for each of them a
-/// port of the second.
+/// The text of the largest tables: 24 systems, 4,096 links from the first to all others, and for
+/// each of them a port of the second.
 pub fn largest(alloc: Global) -> Result<String, AllocError> {
     let mut others = String::new(alloc);
     let mut text = String::new(alloc);
@@ -148,6 +148,12 @@ pub fn largest(alloc: Global) -> Result<String, AllocError> {
         push_port(&mut text, vl)?;
     }
     Ok(text)
+}
+
+/// The largest tables.
+pub fn largest_tables(alloc: Global) -> Result<Tables, Fail> {
+    let text = largest(alloc)?;
+    Ok(read(alloc, text.as_str())?)
 }
 
 /// The tables of a text, admitted.

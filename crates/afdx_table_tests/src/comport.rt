@@ -3,7 +3,7 @@
 use afdx_comport::{ComPorts, PutFault};
 use afdx_config::{SystemId, Tables};
 use afdx_frame::VlId;
-use afdx_samples::{GREATEST_COUNT, base_tables, largest, read};
+use afdx_samples::{GREATEST_COUNT, base_tables, largest_tables};
 use std::alloc::{AllocError, Global};
 use std::process::Abort;
 use std::test::Fail;
@@ -23,109 +23,128 @@ fn base_ports(alloc: Global) -> Result<ComPorts, Fail> {
     Ok(new_ports(alloc, &tables, SystemId(2))?)
 }
 
-// The message of one byte comes to the port of a link.
-fn put(
-    rt: &impl Abort,
-    ports: &mut ComPorts,
-    link: u16,
-    udp: u16,
-    time: u64,
-    byte: u8,
-) -> Result<(), PutFault> {
-    let port = ports.find(VlId(link), udp).expect(rt, "a port");
+/// What is done at the third system's ports, a sampling port of link 1 and a queue of link 2, and
+/// what must become of it. A message has one byte.
+#[derive(Clone, Copy, Debug, Drop)]
+enum Step {
+    /// A message comes at this time to the sampling port.
+    Sample(u64, u8),
+    /// The sampling port has the message of this time.
+    Shows(u64, u8),
+    /// The sampling port has no message yet.
+    ShowsNone,
+    /// A message comes to the queue.
+    Queue(u8),
+    /// A message comes to the queue, which is full.
+    IsFull(u8),
+    /// The oldest message is taken out of the queue.
+    Takes(u8),
+    /// The queue is empty.
+    IsEmpty,
+}
+
+/// The message of the sampling port, and when it came. The port is no queue.
+fn sample(rt: &impl Abort, ports: &mut ComPorts) -> Option<(u64, u8)> {
+    let port = ports.find(VlId(1), 1000).expect(rt, "the sampling port");
+    assert!(rt; ports.take_queued(port).is_none());
+    let (time, bytes) = ports.read_sample(port)?;
+    let [byte] = bytes else { return None };
+    Some((time, *byte))
+}
+
+/// A message comes to the sampling port. Where memory is refused it has the one before, and the
+/// call is made again.
+fn put_sample(rt: &impl Abort, ports: &mut ComPorts, time: u64, byte: u8) -> Result<(), PutFault> {
+    let before = sample(rt, ports);
+    let port = ports.find(VlId(1), 1000).expect(rt, "the sampling port");
     match ports.put(port, time, &[byte]) {
-        Err(PutFault::Memory) => ports.put(port, time, &[byte]),
+        Err(PutFault::Memory) => {
+            assert_eq!(rt; sample(rt, ports), before);
+            let port = ports.find(VlId(1), 1000).expect(rt, "the sampling port");
+            ports.put(port, time, &[byte])
+        }
         answer => answer,
     }
 }
 
-fn is_sample(rt: &impl Abort, ports: &ComPorts, time: u64, byte: u8) -> bool {
-    let port = ports.find(VlId(1), 1000).expect(rt, "a port");
-    match ports.read_sample(port) {
-        Some((at, bytes)) => at == time && bytes == [byte].as_slice(),
-        None => false,
+/// A message comes to the queue. Where memory is refused, the call is made again.
+fn put_queued(rt: &impl Abort, ports: &mut ComPorts, byte: u8) -> Result<(), PutFault> {
+    let port = ports.find(VlId(2), 2000).expect(rt, "the queue");
+    match ports.put(port, 0, &[byte]) {
+        Err(PutFault::Memory) => ports.put(port, 0, &[byte]),
+        answer => answer,
     }
 }
 
-fn takes(rt: &impl Abort, ports: &mut ComPorts, byte: u8) -> bool {
-    let port = ports.find(VlId(2), 2000).expect(rt, "a port");
-    match ports.take_queued(port) {
-        Some(bytes) => bytes.as_slice() == [byte].as_slice(),
-        None => false,
+/// The oldest message, taken out of the queue. It is no sampling port.
+fn take(rt: &impl Abort, ports: &mut ComPorts) -> Option<u8> {
+    let port = ports.find(VlId(2), 2000).expect(rt, "the queue");
+    assert!(rt; ports.read_sample(port).is_none());
+    let bytes = ports.take_queued(port)?;
+    let [byte] = bytes.as_slice() else {
+        return None
+    };
+    Some(*byte)
+}
+
+/// Whether what is done has become what it must.
+fn is_done(rt: &impl Abort, ports: &mut ComPorts, step: Step) -> bool {
+    match step {
+        Step::Sample(time, byte) => put_sample(rt, ports, time, byte) == Ok(()),
+        Step::Shows(time, byte) => sample(rt, ports) == Some((time, byte)),
+        Step::ShowsNone => sample(rt, ports).is_none(),
+        Step::Queue(byte) => put_queued(rt, ports, byte) == Ok(()),
+        Step::IsFull(byte) => put_queued(rt, ports, byte) == Err(PutFault::Full),
+        Step::Takes(byte) => take(rt, ports) == Some(byte),
+        Step::IsEmpty => take(rt, ports).is_none(),
+    }
+}
+
+/// Does one step after another at the ports, and asserts what becomes of it.
+fn play(rt: &impl Abort, ports: &mut ComPorts, steps: &[Step]) {
+    for step in steps {
+        assert!(rt; is_done(rt, ports, *step), "{step:?}");
     }
 }
 
 #[test]
 fn first_in_is_first_out_through_refused_puts(rt: HostRuntime) -> Result<(), Fail> {
-    let mut ports = base_ports(rt.alloc())?;
-    for byte in 1..5 {
-        assert_eq!(rt; put(&rt, &mut ports, 2, 2000, 0, byte), Ok(()));
-    }
-    let port = ports.find(VlId(2), 2000).ok_or("a port")?;
-    assert_eq!(rt; ports.put(port, 0, &[5]), Err(PutFault::Full));
-    assert!(rt; takes(&rt, &mut ports, 1));
-    assert_eq!(rt; put(&rt, &mut ports, 2, 2000, 0, 6), Ok(()));
-    for byte in [2, 3, 4, 6] {
-        assert!(rt; takes(&rt, &mut ports, byte));
-    }
-    let port = ports.find(VlId(2), 2000).ok_or("a port")?;
-    assert!(rt; ports.read_sample(port).is_none());
-    assert!(rt; ports.take_queued(port).is_none());
-    Ok(())
-}
-
-#[test]
-fn refused_put_leaves_the_queue(rt: HostRuntime) -> Result<(), Fail> {
-    let mut ports = base_ports(rt.alloc())?;
-    for byte in [1, 2] {
-        assert_eq!(rt; put(&rt, &mut ports, 2, 2000, 0, byte), Ok(()));
-    }
-    for byte in [1, 2] {
-        assert!(rt; takes(&rt, &mut ports, byte));
-    }
-    let port = ports.find(VlId(2), 2000).ok_or("a port")?;
-    assert!(rt; ports.take_queued(port).is_none());
+    let steps = [
+        Step::IsEmpty,
+        Step::Queue(1),
+        Step::Queue(2),
+        Step::Queue(3),
+        Step::Queue(4),
+        Step::IsFull(5),
+        Step::Takes(1),
+        Step::Queue(6),
+        Step::Takes(2),
+        Step::Takes(3),
+        Step::Takes(4),
+        Step::Takes(6),
+        Step::IsEmpty,
+    ];
+    play(&rt, &mut base_ports(rt.alloc())?, steps.as_slice());
     Ok(())
 }
 
 #[test]
 fn refused_put_leaves_the_sample(rt: HostRuntime) -> Result<(), Fail> {
-    let mut ports = base_ports(rt.alloc())?;
-    let port = ports.find(VlId(1), 1000).ok_or("a port")?;
-    assert!(rt; ports.read_sample(port).is_none());
-    assert_eq!(rt; put(&rt, &mut ports, 1, 1000, 5, 1), Ok(()));
-    let port = ports.find(VlId(1), 1000).ok_or("a port")?;
-    match ports.put(port, 6, &[2]) {
-        Err(PutFault::Memory) => {
-            assert!(rt; is_sample(&rt, &ports, 5, 1));
-            assert_eq!(rt; put(&rt, &mut ports, 1, 1000, 6, 2), Ok(()));
-        }
-        answer => assert_eq!(rt; answer, Ok(())),
-    }
-    assert!(rt; is_sample(&rt, &ports, 6, 2));
-    assert!(rt; is_sample(&rt, &ports, 6, 2));
-    let port = ports.find(VlId(1), 1000).ok_or("a port")?;
-    assert!(rt; ports.take_queued(port).is_none());
+    let steps = [
+        Step::ShowsNone,
+        Step::Sample(5, 1),
+        Step::Shows(5, 1),
+        Step::Sample(6, 2),
+        Step::Shows(6, 2),
+        Step::Shows(6, 2),
+    ];
+    play(&rt, &mut base_ports(rt.alloc())?, steps.as_slice());
     Ok(())
 }
 
-#[test]
-fn put_and_read_at_once(rt: HostRuntime) -> Result<(), Fail> {
-    let mut ports = base_ports(rt.alloc())?;
-    let port = ports.find(VlId(2), 2000).ok_or("a port")?;
-    if ports.put(port, 5, &[1]) == Err(PutFault::Memory) {
-        assert_eq!(rt; ports.put(port, 5, &[1]), Ok(()));
-    }
-    assert!(rt; ports.read_sample(port).is_none());
-    let bytes = ports.take_queued(port).ok_or("a message")?;
-    assert_eq!(rt; bytes.as_slice(), [1].as_slice());
-    assert!(rt; ports.take_queued(port).is_none());
-    Ok(())
-}
-
-// The message is put to the queue of link 2, taken out of it and given back.
+/// Whether the message is put to the queue of link 2, taken out of it and given back.
 fn passes(rt: &impl Abort, ports: &mut ComPorts, message: &[u8]) -> bool {
-    let port = ports.find(VlId(2), 2000).expect(rt, "a port");
+    let port = ports.find(VlId(2), 2000).expect(rt, "the queue");
     if ports.put(port, 0, message) == Err(PutFault::Memory) {
         assert_eq!(rt; ports.put(port, 0, message), Ok(()));
     }
@@ -142,36 +161,59 @@ fn passes(rt: &impl Abort, ports: &mut ComPorts, message: &[u8]) -> bool {
 #[test]
 fn given_back_room_holds_the_next_message(rt: HostRuntime) -> Result<(), Fail> {
     let mut ports = base_ports(rt.alloc())?;
-    assert!(rt; passes(&rt, &mut ports, [1, 2].as_slice()));
-    assert!(rt; passes(&rt, &mut ports, [3, 4, 5].as_slice()));
-    assert!(rt; passes(&rt, &mut ports, [6].as_slice()));
-    assert!(rt; passes(&rt, &mut ports, [7, 8, 9].as_slice()));
+    for message in [b"ab".as_slice(), b"cde", b"f", b"ghi"] {
+        assert!(rt; passes(&rt, &mut ports, message));
+    }
     Ok(())
+}
+
+/// Whether no port takes messages to this UDP port on this link.
+fn has_none(ports: &ComPorts, link: u16, udp: u16) -> bool {
+    ports.find(VlId(link), udp).is_none()
 }
 
 #[test]
 fn each_port_by_itself(rt: HostRuntime) -> Result<(), Fail> {
     let mut ports = base_ports(rt.alloc())?;
-    assert!(rt; ports.find(VlId(1), 2000).is_none());
-    assert!(rt; ports.find(VlId(2), 1000).is_none());
-    assert!(rt; ports.find(VlId(3), 1000).is_none());
-    assert_eq!(rt; put(&rt, &mut ports, 1, 1000, 5, 1), Ok(()));
-    assert_eq!(rt; put(&rt, &mut ports, 2, 2000, 6, 2), Ok(()));
-    assert!(rt; is_sample(&rt, &ports, 5, 1));
-    assert!(rt; takes(&rt, &mut ports, 2));
-    assert!(rt; is_sample(&rt, &ports, 5, 1));
+    let none = (
+        has_none(&ports, 1, 2000),
+        has_none(&ports, 2, 1000),
+        has_none(&ports, 3, 1000),
+    );
+    assert_eq!(rt; none, (true, true, true));
+    let steps = [
+        Step::Sample(5, 1),
+        Step::Queue(2),
+        Step::Shows(5, 1),
+        Step::Takes(2),
+        Step::Shows(5, 1),
+    ];
+    play(&rt, &mut ports, steps.as_slice());
     Ok(())
 }
 
-#[test]
-fn largest_tables(rt: HostRuntime) -> Result<(), Fail> {
-    let text = largest(rt.alloc())?;
-    let tables = read(rt.alloc(), text.as_str())?;
-    let ports = new_ports(rt.alloc(), &tables, SystemId(1))?;
+/// How many links have their port at the place of their number.
+fn links_in_order(ports: &ComPorts) -> usize {
+    let mut links: usize = 0;
     for vl in 0..GREATEST_COUNT {
-        assert_eq!(rt; ports.find(VlId(vl), 1000), Some(usize::from(vl)));
+        if ports.find(VlId(vl), 1000) == Some(usize::from(vl)) {
+            links = links.saturating_add(1);
+        }
     }
-    assert_eq!(rt; ports.find(VlId(GREATEST_COUNT), 1000), None);
+    links
+}
+
+/// The second system's ports in the largest tables.
+fn largest_ports(alloc: Global) -> Result<ComPorts, Fail> {
+    let tables = largest_tables(alloc)?;
+    Ok(new_ports(alloc, &tables, SystemId(1))?)
+}
+
+#[test]
+fn the_largest_tables(rt: HostRuntime) -> Result<(), Fail> {
+    let ports = largest_ports(rt.alloc())?;
+    assert_eq!(rt; links_in_order(&ports), usize::from(GREATEST_COUNT));
+    assert!(rt; has_none(&ports, GREATEST_COUNT, 1000));
     Ok(())
 }
 

@@ -18,12 +18,6 @@ fn read(alloc: Global, text: &[u8]) -> Result<Tables, ConfigFault> {
     }
 }
 
-/// The fault of the base text with `new` in the place of the first `old`.
-fn fault_with(alloc: Global, old: &str, new: &str) -> Result<Option<ConfigFault>, Fail> {
-    let text = changed(base(), old, new)?;
-    Ok(read(alloc, text.as_bytes()).err())
-}
-
 fn at(part: Part, index: usize, key: u8) -> Place {
     Place { part, index, key }
 }
@@ -101,7 +95,8 @@ fn tables_print(rt: HostRuntime) -> Result<(), Fail> {
 fn refused_readings_are_made_again(rt: HostRuntime) -> Result<(), Fail> {
     let tables = read(rt.alloc(), base().as_bytes())?;
     are_counted(&rt, &tables);
-    let fault = fault_with(rt.alloc(), "depth = 4", "depth = 65")?;
+    let text = changed(base(), "depth = 4", "depth = 65")?;
+    let fault = read(rt.alloc(), text.as_bytes()).err();
     assert_eq!(rt; fault, Some(ConfigFault::OutOfRange(at(Part::Port, 2, 5))));
     Ok(())
 }

@@ -3,7 +3,7 @@
 use afdx_config::{SystemId, Tables};
 use afdx_frame::{Address, Checked, IpFault, MacFault, Side, VlId, build};
 use afdx_receive::{DropReason, Receiver, Reception};
-use afdx_samples::{GREATEST_COUNT, HELLO, base_tables, hello, largest, read, sealed};
+use afdx_samples::{GREATEST_COUNT, HELLO, base_tables, hello, largest_tables, sealed};
 use std::alloc::{AllocError, Global};
 use std::process::Abort;
 use std::test::Fail;
@@ -54,59 +54,62 @@ fn is_answer(reception: Reception<'_>, wanted: Option<DropReason>) -> bool {
     }
 }
 
-// Three frames that come to a new receiver of the third system by side A: when, the number and the
-// answer.
+/// Whether a frame that comes at this time by this network is answered so.
+fn answers(
+    receiver: &mut Receiver,
+    time: u64,
+    side: Side,
+    bytes: &[u8],
+    wanted: Option<DropReason>,
+) -> bool {
+    is_answer(receiver.receive(time, side, Checked::new(bytes)), wanted)
+}
+
+/// A frame `hello`: when and by which network it comes, its number, and why it is dropped, if it
+/// is.
+type Hello = (u64, Side, u8, Option<DropReason>);
+
+/// Asserts that the frames are answered so.
+fn receive_all(rt: &impl Abort, receiver: &mut Receiver, frames: &[Hello]) {
+    for (time, side, number, wanted) in frames {
+        assert!(rt; answers(receiver, *time, *side, &hello(*number), *wanted));
+    }
+}
+
+/// Asserts that three frames that come to a new receiver by one network are answered so.
 fn receive_three(
     rt: &impl Abort,
     alloc: Global,
     frames: [(u64, u8, Option<DropReason>); 3],
 ) -> Result<(), Fail> {
     let mut receiver = base_receiver(alloc, THIRD)?;
-    for (time, number, wanted) in frames {
-        let bytes = hello(number);
-        let answer = receiver.receive(time, Side::A, Checked::new(&bytes));
-        assert!(rt; is_answer(answer, wanted));
-    }
+    let [first, second, third] = frames;
+    let of_side = |frame: (u64, u8, Option<DropReason>)| (frame.0, Side::A, frame.1, frame.2);
+    let frames = [of_side(first), of_side(second), of_side(third)];
+    receive_all(rt, &mut receiver, frames.as_slice());
     Ok(())
 }
 
 #[test]
 fn numbers(rt: HostRuntime) -> Result<(), Fail> {
-    let alloc = rt.alloc();
     let gap = Some(DropReason::Sequence);
     let late = Some(DropReason::Redundant);
-    receive_three(
-        &rt,
-        alloc,
+    for frames in [
         [(0, 5, None), (1_000_000, 8, gap), (2_000_000, 9, None)],
-    )?;
-    receive_three(
-        &rt,
-        alloc,
         [(0, 254, None), (1_000_000, 255, None), (2_000_000, 1, None)],
-    )?;
-    receive_three(
-        &rt,
-        alloc,
         [(0, 4, None), (1_000_000, 4, gap), (1_000_001, 5, None)],
-    )?;
-    receive_three(
-        &rt,
-        alloc,
         [(0, 3, None), (1_000_000, 0, late), (1_000_000, 1, late)],
-    )?;
-    receive_three(
-        &rt,
-        alloc,
         [(0, 3, None), (1_000_001, 0, None), (1_000_001, 1, None)],
-    )
+    ] {
+        receive_three(&rt, rt.alloc(), frames)?;
+    }
+    Ok(())
 }
 
 #[test]
 fn refused_new_is_made_again(rt: HostRuntime) -> Result<(), Fail> {
     let mut receiver = base_receiver(rt.alloc(), THIRD)?;
-    let bytes = hello(0);
-    assert!(rt; is_answer(receiver.receive(0, Side::A, Checked::new(&bytes)), None));
+    assert!(rt; answers(&mut receiver, 0, Side::A, &hello(0), None));
     Ok(())
 }
 
@@ -115,7 +118,7 @@ fn first_copy_wins(rt: HostRuntime) -> Result<(), Fail> {
     let mut receiver = base_receiver(rt.alloc(), THIRD)?;
     // The network is not that of the source address.
     let late = Some(DropReason::Redundant);
-    for (time, side, number, wanted) in [
+    let frames = [
         (6720, Side::A, 0, None),
         (6720, Side::B, 0, late),
         (7000, Side::B, 1, None),
@@ -125,69 +128,74 @@ fn first_copy_wins(rt: HostRuntime) -> Result<(), Fail> {
         (8001, Side::B, 2, late),
         (8002, Side::B, 3, late),
         (8003, Side::B, 4, None),
-    ] {
-        let bytes = hello(number);
-        assert!(rt; is_answer(receiver.receive(time, side, Checked::new(&bytes)), wanted));
-    }
+    ];
+    receive_all(&rt, &mut receiver, frames.as_slice());
+    Ok(())
+}
+
+/// Asserts that a frame with wrong bytes is dropped for this, and wins all the same: its copy is
+/// redundant.
+fn win_and_are_dropped(
+    rt: &impl Abort,
+    alloc: Global,
+    changes: &[(usize, u8)],
+    why: DropReason,
+) -> Result<(), Fail> {
+    let mut receiver = base_receiver(alloc, THIRD)?;
+    let wrong = sealed(&HELLO, changes);
+    let first = answers(&mut receiver, 6720, Side::A, &wrong, Some(why));
+    let late = Some(DropReason::Redundant);
+    let copy = answers(&mut receiver, 6720, Side::B, &hello(0), late);
+    assert_eq!(rt; (first, copy), (true, true));
     Ok(())
 }
 
 #[test]
 fn wrong_datagrams(rt: HostRuntime) -> Result<(), Fail> {
+    let wrong_type = [(13, 0x06)];
+    let wrong_sum = [(25, 0xeb)];
+    let a_part = [(20, 0x20), (24, 0xad)];
+    let no_udp = [(23, 0x01), (25, 0xfa)];
+    let wrong_length = [(39, 0x0c)];
+    let other_port = [(37, 0xe9)];
     for (changes, why) in [
+        (wrong_type.as_slice(), DropReason::Ip(IpFault::NotIpv4)),
+        (wrong_sum.as_slice(), DropReason::Ip(IpFault::BadIpHeader)),
+        (a_part.as_slice(), DropReason::Ip(IpFault::Fragment)),
+        (no_udp.as_slice(), DropReason::Ip(IpFault::NotUdp)),
         (
-            [(13, 0x06), (13, 0x06), (13, 0x06)],
-            DropReason::Ip(IpFault::NotIpv4),
-        ),
-        (
-            [(25, 0xeb), (25, 0xeb), (25, 0xeb)],
-            DropReason::Ip(IpFault::BadIpHeader),
-        ),
-        (
-            [(20, 0x20), (24, 0xad), (25, 0xea)],
-            DropReason::Ip(IpFault::Fragment),
-        ),
-        (
-            [(23, 0x01), (24, 0xcd), (25, 0xfa)],
-            DropReason::Ip(IpFault::NotUdp),
-        ),
-        (
-            [(39, 0x0c), (39, 0x0c), (39, 0x0c)],
+            wrong_length.as_slice(),
             DropReason::Ip(IpFault::BadUdpLength),
         ),
-        ([(37, 0xe9), (37, 0xe9), (37, 0xe9)], DropReason::NoPort),
+        (other_port.as_slice(), DropReason::NoPort),
     ] {
-        let mut receiver = base_receiver(rt.alloc(), THIRD)?;
-        let bytes = sealed(&HELLO, changes.as_slice());
-        let answer = receiver.receive(6720, Side::A, Checked::new(&bytes));
-        assert!(rt; is_answer(answer, Some(why)));
-        // It won all the same: its copy is redundant.
-        let copy = hello(0);
-        let answer = receiver.receive(6720, Side::B, Checked::new(&copy));
-        assert!(rt; is_answer(answer, Some(DropReason::Redundant)));
+        win_and_are_dropped(&rt, rt.alloc(), changes, why)?;
     }
     Ok(())
 }
 
+/// Asserts that frames which aren't this receiver's are dropped, and that `hello` is received then.
+fn drop_what_is_not_theirs(rt: &impl Abort, receiver: &mut Receiver) {
+    let short = Some(DropReason::Mac(MacFault::TooShort));
+    for length in 0..64 {
+        assert!(rt; answers(receiver, 0, Side::A, &hello(0)[..length], short));
+    }
+    let stranger = Some(DropReason::NotSubscribed);
+    assert!(rt; answers(receiver, 0, Side::A, &of_link(9), stranger));
+    let mut damaged = hello(0);
+    damaged[63] ^= 0xff;
+    let wrong = Some(DropReason::Mac(MacFault::BadFcs));
+    assert!(rt; answers(receiver, 0, Side::A, &damaged, wrong));
+    assert!(rt; answers(receiver, 0, Side::A, &hello(0), None));
+}
+
 #[test]
 fn not_its_frames(rt: HostRuntime) -> Result<(), Fail> {
-    let bytes = hello(0);
-    let mut receiver = base_receiver(rt.alloc(), THIRD)?;
-    for length in 0..64 {
-        let answer = receiver.receive(0, Side::A, Checked::new(&bytes[..length]));
-        assert!(rt; is_answer(answer, Some(DropReason::Mac(MacFault::TooShort))));
-    }
-    let of_another = of_link(9);
-    let answer = receiver.receive(0, Side::A, Checked::new(&of_another));
-    assert!(rt; is_answer(answer, Some(DropReason::NotSubscribed)));
-    let mut damaged = bytes;
-    damaged[63] ^= 0xff;
-    let answer = receiver.receive(0, Side::A, Checked::new(&damaged));
-    assert!(rt; is_answer(answer, Some(DropReason::Mac(MacFault::BadFcs))));
-    assert!(rt; is_answer(receiver.receive(0, Side::A, Checked::new(&bytes)), None));
+    let mut third = base_receiver(rt.alloc(), THIRD)?;
+    drop_what_is_not_theirs(&rt, &mut third);
     let mut second = base_receiver(rt.alloc(), SECOND)?;
-    let answer = second.receive(0, Side::A, Checked::new(&bytes));
-    assert!(rt; is_answer(answer, Some(DropReason::NotSubscribed)));
+    let stranger = Some(DropReason::NotSubscribed);
+    assert!(rt; answers(&mut second, 0, Side::A, &hello(0), stranger));
     Ok(())
 }
 
@@ -206,36 +214,59 @@ fn build_world(alloc: Global, side: Side) -> Result<Vec<u8>, AllocError> {
     }
 }
 
-#[test]
-fn built_frames(rt: HostRuntime) -> Result<(), Fail> {
-    let mut receiver = base_receiver(rt.alloc(), THIRD)?;
-    let first = build_world(rt.alloc(), Side::B)?;
-    match receiver.receive(6720, Side::B, Checked::new(first.as_slice())) {
-        Reception::Message { vl, udp, bytes } => {
-            assert_eq!(rt; (vl, udp), (VlId(2), 2000));
-            assert_eq!(rt; bytes, b"world".as_slice());
-        }
-        Reception::Dropped(why) => panic!(rt; "{why:?}"),
+/// Whether it is the message `world` of link 2.
+fn is_world(reception: Reception<'_>) -> bool {
+    match reception {
+        Reception::Message { vl, udp, bytes } => vl == VlId(2)
+            && udp == 2000
+            && bytes == b"world".as_slice(),
+        Reception::Dropped(_) => false,
     }
-    let copy = build_world(rt.alloc(), Side::A)?;
-    let late = Some(DropReason::Redundant);
-    let answer = receiver.receive(6721, Side::A, Checked::new(copy.as_slice()));
-    assert!(rt; is_answer(answer, late));
-    Ok(())
 }
 
 #[test]
-fn largest_tables(rt: HostRuntime) -> Result<(), Fail> {
-    let text = largest(rt.alloc())?;
-    let tables = read(rt.alloc(), text.as_str())?;
-    let mut second = new_receiver(rt.alloc(), &tables, SECOND)?;
-    let mut third = new_receiver(rt.alloc(), &tables, THIRD)?;
+fn built_frames(rt: HostRuntime) -> Result<(), Fail> {
+    let first = build_world(rt.alloc(), Side::B)?;
+    let copy = build_world(rt.alloc(), Side::A)?;
+    let mut receiver = base_receiver(rt.alloc(), THIRD)?;
+    let is_received = is_world(receiver.receive(6720, Side::B, Checked::new(first.as_slice())));
+    let late = Some(DropReason::Redundant);
+    let is_late = answers(&mut receiver, 6721, Side::A, copy.as_slice(), late);
+    assert_eq!(rt; (is_received, is_late), (true, true));
+    Ok(())
+}
+
+/// The second and the third system's receivers in the largest tables.
+fn largest_receivers(alloc: Global) -> Result<(Receiver, Receiver), Fail> {
+    let tables = largest_tables(alloc)?;
+    let second = new_receiver(alloc, &tables, SECOND)?;
+    let third = new_receiver(alloc, &tables, THIRD)?;
+    Ok((second, third))
+}
+
+/// Whether the message of this link is the second system's, and the third has no port for it.
+fn has_one_port(second: &mut Receiver, third: &mut Receiver, vl: u16) -> bool {
+    let bytes = of_link(vl);
+    let is_there = is_hello(second.receive(6720, Side::A, Checked::new(&bytes)), vl);
+    is_there && answers(third, 6720, Side::A, &bytes, Some(DropReason::NoPort))
+}
+
+/// How many links have one port.
+fn links_with_one_port(second: &mut Receiver, third: &mut Receiver) -> usize {
+    let mut links: usize = 0;
     for vl in 0..GREATEST_COUNT {
-        let bytes = of_link(vl);
-        assert!(rt; is_hello(second.receive(6720, Side::A, Checked::new(&bytes)), vl));
-        let answer = third.receive(6720, Side::A, Checked::new(&bytes));
-        assert!(rt; is_answer(answer, Some(DropReason::NoPort)));
+        if has_one_port(second, third, vl) {
+            links = links.saturating_add(1);
+        }
     }
+    links
+}
+
+#[test]
+fn the_largest_tables(rt: HostRuntime) -> Result<(), Fail> {
+    let (mut second, mut third) = largest_receivers(rt.alloc())?;
+    let links = links_with_one_port(&mut second, &mut third);
+    assert_eq!(rt; links, usize::from(GREATEST_COUNT));
     Ok(())
 }
 

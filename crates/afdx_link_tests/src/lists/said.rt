@@ -3,7 +3,6 @@
 use afdx_frame::Side;
 use afdx_lists::{Handed, Heading, LineError, LineFault, read_frame_line, read_submission_line};
 use std::alloc::Global;
-use std::process::Abort;
 
 /// What a line says after a frame at time 5, and the bytes of its frame.
 fn said(alloc: Global, line: &str) -> (Result<Option<Heading>, LineError>, Vec<u8>) {
@@ -12,20 +11,29 @@ fn said(alloc: Global, line: &str) -> (Result<Option<Heading>, LineError>, Vec<u
     (said, frame)
 }
 
-#[test]
-fn lines_that_say_nothing(rt: HostRuntime) {
-    for line in ["", "\r", "#", "# F 6 A 1 00", "#\r"] {
-        let (said, _) = said(rt.alloc(), line);
-        assert_eq!(rt; said, Ok(None));
+/// The first of the lines of which something else is said.
+fn otherwise_said<'a>(
+    alloc: Global,
+    lines: &[&'a str],
+    wanted: Result<Option<Heading>, LineError>,
+) -> Option<&'a str> {
+    for line in lines {
+        if said(alloc, line).0 != wanted {
+            return Some(line);
+        }
     }
+    None
 }
 
-/// Asserts that each of these lines has this fault.
-fn have_fault(rt: &impl Abort, alloc: Global, lines: &[&str], wanted: LineFault) {
-    for line in lines {
-        let (said, _) = said(alloc, line);
-        assert_eq!(rt; said, Err(LineError::Fault(wanted)), "{line}");
-    }
+#[test]
+fn lines_that_say_nothing(rt: HostRuntime) {
+    let lines = ["", "\r", "#", "# F 6 A 1 00", "#\r"];
+    assert_eq!(rt; otherwise_said(rt.alloc(), &lines, Ok(None)), None);
+}
+
+/// The first of the lines that hasn't this fault.
+fn has_not_fault<'a>(alloc: Global, lines: &[&'a str], fault: LineFault) -> Option<&'a str> {
+    otherwise_said(alloc, lines, Err(LineError::Fault(fault)))
 }
 
 #[test]
@@ -53,7 +61,7 @@ fn lines_that_are_bad(rt: HostRuntime) {
         "\r\r",
         "F 6 A 1 0 0",
     ];
-    have_fault(&rt, rt.alloc(), &lines, LineFault::BadLine);
+    assert_eq!(rt; has_not_fault(rt.alloc(), &lines, LineFault::BadLine), None);
 }
 
 #[test]
@@ -64,93 +72,87 @@ fn lines_with_another_fault(rt: HostRuntime) {
         "F 18446744073709551616 A 1 00",
         "F 999999999999999999999999999999 A 0 0",
     ];
-    have_fault(&rt, alloc, &large, LineFault::TimeTooLarge);
     let back = ["F 4 A 1 00", "F 0 B 25 0"];
-    have_fault(&rt, alloc, &back, LineFault::TimeBack);
     let port = ["F 6 A 0 00", "F 6 A 25 00", "R 6 A 18446744073709551617 0"];
-    have_fault(&rt, alloc, &port, LineFault::BadPort);
     let hex = ["F 6 A 1 030", "F 6 A 1 0g", "R 6 A 1 --", "R 6 A 1 00\r\r"];
-    have_fault(&rt, alloc, &hex, LineFault::BadHex);
+    let others = [
+        has_not_fault(alloc, &large, LineFault::TimeTooLarge),
+        has_not_fault(alloc, &back, LineFault::TimeBack),
+        has_not_fault(alloc, &port, LineFault::BadPort),
+        has_not_fault(alloc, &hex, LineFault::BadHex),
+    ];
+    assert_eq!(rt; others, [None, None, None, None]);
 }
 
-/// Asserts that a line says a frame at port 24 with this heading and these bytes.
-fn says_frame(
-    rt: &impl Abort,
-    alloc: Global,
-    line: &str,
-    time: u64,
-    side: Side,
-    is_sealed: bool,
-    bytes: &[u8],
-) {
-    let (said, frame) = said(alloc, line);
-    let heading = Heading {
+/// A line that says a frame at port 24: the line, what it says, and the bytes of the frame.
+type Said<'a> = (&'a str, Heading, &'a [u8]);
+
+/// What a line with a frame at port 24 says.
+fn heading(time: u64, side: Side, is_sealed: bool) -> Heading {
+    Heading {
         time,
         side,
         port: 24,
         is_sealed,
-    };
-    assert_eq!(rt; said, Ok(Some(heading)), "{line}");
-    assert_eq!(rt; frame.as_slice(), bytes, "{line}");
+    }
+}
+
+/// Whether a line says a frame with this heading and these bytes.
+fn says_frame(alloc: Global, line: &str, heading: Heading, bytes: &[u8]) -> bool {
+    let (said, frame) = said(alloc, line);
+    (said, frame.as_slice()) == (Ok(Some(heading)), bytes)
+}
+
+/// The first of the lines that doesn't say its frame.
+fn says_another<'a>(alloc: Global, lines: &[Said<'a>]) -> Option<&'a str> {
+    for (line, heading, bytes) in lines {
+        if !says_frame(alloc, line, *heading, bytes) {
+            return Some(line);
+        }
+    }
+    None
 }
 
 #[test]
 fn sealed_lines_that_say_a_frame(rt: HostRuntime) {
-    let alloc = rt.alloc();
-    let good = b"123456789\x26\x39\xf4\xcb";
-    let bad = b"123456789\xd9\xc6\x0b\x34";
-    says_frame(
-        &rt,
-        alloc,
-        "F 6 A 24 313233343536373839",
-        6,
-        Side::A,
-        true,
-        good,
-    );
-    says_frame(
-        &rt,
-        alloc,
-        "B 6 B 24 313233343536373839",
-        6,
-        Side::B,
-        false,
-        bad,
-    );
+    let good = b"123456789\x26\x39\xf4\xcb".as_slice();
+    let bad = b"123456789\xd9\xc6\x0b\x34".as_slice();
+    let lines = [
+        (
+            "F 6 A 24 313233343536373839",
+            heading(6, Side::A, true),
+            good,
+        ),
+        (
+            "B 6 B 24 313233343536373839",
+            heading(6, Side::B, false),
+            bad,
+        ),
+    ];
+    assert_eq!(rt; says_another(rt.alloc(), &lines), None);
 }
 
 #[test]
 fn raw_lines_that_say_a_frame(rt: HostRuntime) {
-    let alloc = rt.alloc();
-    let good = b"123456789\x26\x39\xf4\xcb";
-    says_frame(
-        &rt,
-        alloc,
-        "R 6 B 24 3132333435363738392639f4cb\r",
-        6,
-        Side::B,
-        true,
-        good,
-    );
-    says_frame(
-        &rt,
-        alloc,
-        "R 6 B 24 3132333435363738392639F4Cc",
-        6,
-        Side::B,
-        false,
-        b"123456789\x26\x39\xf4\xcc",
-    );
-    says_frame(&rt, alloc, "R 5 A 24 -", 5, Side::A, false, b"");
-    says_frame(
-        &rt,
-        alloc,
-        "R 0001000000000000000 A 000000000000000000000024 aBcD",
-        1_000_000_000_000_000,
-        Side::A,
-        false,
-        b"\xab\xcd",
-    );
+    let lines = [
+        (
+            "R 6 B 24 3132333435363738392639f4cb\r",
+            heading(6, Side::B, true),
+            b"123456789\x26\x39\xf4\xcb".as_slice(),
+        ),
+        (
+            "R 6 B 24 3132333435363738392639F4Cc",
+            heading(6, Side::B, false),
+            b"123456789\x26\x39\xf4\xcc",
+        ),
+        ("R 5 A 24 -", heading(5, Side::A, false), b""),
+        (
+            "R 0001000000000000000 A 000000000000000000000024 aBcD",
+            heading(1_000_000_000_000_000, Side::A, false),
+            b"\xab\xcd",
+        ),
+    ];
+    assert_eq!(rt; says_another(rt.alloc(), &lines), None);
 }
 
 #[test]
@@ -169,43 +171,61 @@ fn handed(alloc: Global, line: &str) -> (Result<Option<Handed>, LineError>, Vec<
     (said, payload)
 }
 
+/// Whether a submission line says what is wanted, and with these bytes.
+fn hands(alloc: Global, line: &str, wanted: Handed, bytes: &[u8]) -> bool {
+    let (said, payload) = handed(alloc, line);
+    (said, payload.as_slice()) == (Ok(Some(wanted)), bytes)
+}
+
+/// The first of the submission lines of which something else is said.
+fn otherwise_handed<'a>(
+    alloc: Global,
+    lines: &[(&'a str, Result<Option<Handed>, LineError>)],
+) -> Option<&'a str> {
+    for (line, wanted) in lines {
+        if handed(alloc, line).0 != *wanted {
+            return Some(line);
+        }
+    }
+    None
+}
+
 #[test]
-fn submission_lines(rt: HostRuntime) {
-    let alloc = rt.alloc();
-    let (said, payload) = handed(alloc, "006 65535 255 0 0aFF\r");
+fn a_submission_line(rt: HostRuntime) {
     let wanted = Handed {
         time: 6,
         vl: 65535,
         sub: 255,
         udp: 0,
     };
-    assert_eq!(rt; said, Ok(Some(wanted)));
-    assert_eq!(rt; payload.as_slice(), [0x0a, 0xff].as_slice());
-    for (line, fault) in [
-        ("6 1 1 1000", LineFault::BadLine),
-        ("6 1 1 1000 00 00", LineFault::BadLine),
-        ("6 65536 1 1000 00", LineFault::BadLine),
-        ("6 1 256 1000 00", LineFault::BadLine),
-        ("6 1 1 18446744073709551617 00", LineFault::BadLine),
-        ("4 1 x 1000 0", LineFault::BadLine),
-        ("1000000000000001 1 1 1000 0", LineFault::TimeTooLarge),
-        ("4 1 1 1000 0", LineFault::TimeBack),
-        ("6 1 1 1000 0", LineFault::BadHex),
-    ] {
-        let (said, _) = handed(alloc, line);
-        assert_eq!(rt; said, Err(LineError::Fault(fault)), "{line}");
-    }
-    for line in ["", "# 6 1 1 1000 00"] {
-        let (said, _) = handed(alloc, line);
-        assert_eq!(rt; said, Ok(None));
-    }
+    let line = "006 65535 255 0 0aFF\r";
+    assert!(rt; hands(rt.alloc(), line, wanted, &[0x0a, 0xff]));
+}
+
+#[test]
+fn submission_lines_that_say_nothing(rt: HostRuntime) {
+    let bad_line = Err(LineError::Fault(LineFault::BadLine));
+    let too_large = Err(LineError::Fault(LineFault::TimeTooLarge));
+    let lines = [
+        ("6 1 1 1000", bad_line),
+        ("6 1 1 1000 00 00", bad_line),
+        ("6 65536 1 1000 00", bad_line),
+        ("6 1 256 1000 00", bad_line),
+        ("6 1 1 18446744073709551617 00", bad_line),
+        ("4 1 x 1000 0", bad_line),
+        ("1000000000000001 1 1 1000 0", too_large),
+        ("4 1 1 1000 0", Err(LineError::Fault(LineFault::TimeBack))),
+        ("6 1 1 1000 0", Err(LineError::Fault(LineFault::BadHex))),
+        ("", Ok(None)),
+        ("# 6 1 1 1000 00", Ok(None)),
+    ];
+    assert_eq!(rt; otherwise_handed(rt.alloc(), &lines), None);
 }
 
 #[test]
 fn a_space_among_digits_whose_memory_is_refused(rt: HostRuntime) {
-    let alloc = rt.alloc();
-    let (said, _) = said(alloc, "F 6 A 1 00 00");
-    assert_eq!(rt; said, Err(LineError::Fault(LineFault::BadLine)));
-    let (handed, _) = handed(alloc, "6 1 1 1000 00 00");
-    assert_eq!(rt; handed, Err(LineError::Fault(LineFault::BadLine)));
+    let bad_line = LineError::Fault(LineFault::BadLine);
+    let said = said(rt.alloc(), "F 6 A 1 00 00").0;
+    let handed = handed(rt.alloc(), "6 1 1 1000 00 00").0;
+    assert_eq!(rt; (said, handed), (Err(bad_line), Err(bad_line)));
 }

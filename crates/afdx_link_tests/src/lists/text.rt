@@ -5,12 +5,37 @@ use afdx_lists::{
     Buffered, LineError, LineFault, RunFault, Text, Watched, read_frame_line, tell_fault,
     write_text,
 };
-use std::alloc::Global;
-use std::process::Abort;
+use std::alloc::{AllocError, Global};
 use std::test::Fail;
 
+/// Whether so much of a text is written to a device that breaks after so many calls, it is told
+/// whether this is all, and the device is called at most once more.
+fn is_written(
+    alloc: Global,
+    text: &[u8],
+    most: usize,
+    calls: u64,
+    at_end: Break,
+    length: usize,
+) -> bool {
+    let mut output = Watched::new(WeakWriter {
+        written: Vec::new(alloc),
+        most,
+        calls,
+        at_end,
+    });
+    let is_ok = write_text(&mut output, text).is_ok();
+    let failed = output.failed();
+    let keeps_to_calls = output.calls() <= calls.saturating_add(1);
+    let written = output.into_inner().written;
+    let is_front = text.starts_with(written.as_slice());
+    let is_whole = length == text.len();
+    (is_ok, failed, keeps_to_calls, is_front, written.len())
+        == (is_whole, !is_whole, true, true, length)
+}
+
 #[test]
-fn text_is_written_once(rt: HostRuntime) -> Result<(), Fail> {
+fn text_is_written_once(rt: HostRuntime) {
     let text = b"V 1 A accept\n";
     for at_end in [Break::Fails, Break::TakesNone] {
         for (most, calls, length) in [
@@ -20,22 +45,14 @@ fn text_is_written_once(rt: HostRuntime) -> Result<(), Fail> {
             (1, 12, 12),
             (16, 0, 0),
         ] {
-            let mut output = Watched::new(WeakWriter {
-                written: Vec::new(rt.alloc()),
-                most,
-                calls,
-                at_end,
-            });
-            let answer = write_text(&mut output, text);
-            assert_eq!(rt; answer.is_ok(), length == 13);
-            assert_eq!(rt; output.failed(), length != 13);
-            assert!(rt; output.calls() <= calls.saturating_add(1));
-            let written = output.into_inner().written;
-            assert!(rt; text.starts_with(written.as_slice()));
-            assert_eq!(rt; written.len(), length);
+            assert!(rt; is_written(rt.alloc(), text, most, calls, at_end, length));
         }
     }
-    Ok(())
+}
+
+/// Writes a text to a device that gathers it, and hands it over. False: a call failed.
+fn hand_over(output: &mut Watched<Buffered<WeakWriter>>, text: &[u8]) -> bool {
+    !output.failed() && write_text(output, text).is_ok() && output.hand_over().is_ok()
 }
 
 #[test]
@@ -47,21 +64,32 @@ fn gathered_text_is_handed_over(rt: HostRuntime) -> Result<(), Fail> {
         at_end: Break::Fails,
     };
     let mut output = Watched::new(Buffered::new(rt.alloc(), 16, device)?);
-    assert!(rt; write_text(&mut output, b"V 1\n").is_ok());
-    assert!(rt; output.hand_over().is_ok());
+    let is_handed_over = hand_over(&mut output, b"V 1\n");
     let written = output.into_inner().into_device().written;
-    assert!(rt; written.as_slice() == b"V 1\n".as_slice());
+    assert_eq!(rt;
+        (is_handed_over, written.as_slice()),
+        (true, b"V 1\n".as_slice())
+    );
     Ok(())
 }
 
-/// The line of a fault and its status. It is told as it prints.
-fn line_of(rt: &impl Abort, alloc: Global, fault: RunFault) -> Result<String, Fail> {
-    let status = fault.status();
+/// What is told of a fault.
+fn told(alloc: Global, fault: &RunFault) -> Vec<u8> {
     let mut errors = Watched::new(Vec::new(alloc));
-    tell_fault(&mut errors, &fault);
+    tell_fault(&mut errors, fault);
+    errors.into_inner()
+}
+
+/// Whether a fault is told as it prints.
+fn is_told_as_it_prints(alloc: Global, fault: &RunFault) -> Result<bool, Fail> {
     let line = format!(in alloc; "{fault}\n")?;
-    assert!(rt; errors.into_inner().as_slice() == line.as_bytes());
-    Ok(format!(in alloc; "{fault} {status}")?)
+    Ok(told(alloc, fault).as_slice() == line.as_bytes())
+}
+
+/// Whether this is how a fault prints, and behind it its status.
+fn is_line_of(alloc: Global, fault: &RunFault, wanted: &str) -> Result<bool, Fail> {
+    let line = format!(in alloc; "{fault} {}", fault.status())?;
+    Ok(line.as_str() == wanted)
 }
 
 /// The fault of a run whose line `n` has this one.
@@ -86,87 +114,178 @@ fn faults_are_told(rt: HostRuntime) -> Result<(), Fail> {
         (RunFault::Read, "device Read 4"),
         (RunFault::Write, "device Write 4"),
     ] {
-        assert_eq!(rt; line_of(&rt, rt.alloc(), fault)?.as_str(), wanted);
+        let is_told = is_told_as_it_prints(rt.alloc(), &fault)?;
+        assert!(rt;
+            is_told && is_line_of(rt.alloc(), &fault, wanted)?,
+            "{wanted}"
+        );
+    }
+    Ok(())
+}
+
+/// A piece of a text.
+#[derive(Clone, Copy, Drop)]
+enum Piece<'a> {
+    Bytes(&'a [u8]),
+    Number(u64),
+    Small(u8),
+    Time(u64),
+    LineNumber(u64),
+    Digits(&'a [u8]),
+}
+
+/// Puts a piece to a text.
+fn put(text: &mut Text, piece: &Piece<'_>) -> Result<(), AllocError> {
+    match piece {
+        Piece::Bytes(bytes) => text.put(bytes),
+        Piece::Number(number) => text.put_number(*number),
+        Piece::Small(number) => text.put_small(*number),
+        Piece::Time(time) => text.put_time(*time),
+        Piece::LineNumber(line) => text.put_line_number(*line),
+        Piece::Digits(bytes) => text.put_digits(bytes),
+    }
+}
+
+/// Puts pieces to a text.
+fn put_all(text: &mut Text, pieces: &[Piece<'_>]) -> Result<(), AllocError> {
+    for piece in pieces {
+        put(text, piece)?;
     }
     Ok(())
 }
 
 #[test]
-fn a_text_grows_by_pieces(rt: HostRuntime) -> Result<(), Fail> {
+fn a_text_grows_by_pieces(rt: HostRuntime) -> Result<(), AllocError> {
     let mut text = Text::new(rt.alloc());
     assert_eq!(rt; text.as_bytes(), b"".as_slice());
+    let pieces = [
+        Piece::Bytes(b"D "),
+        Piece::Number(0),
+        Piece::Bytes(b" "),
+        Piece::Number(u64::MAX),
+        Piece::Bytes(b" "),
+        Piece::Digits(&[0, 0x9a, 0xff]),
+        Piece::Digits(&[]),
+        Piece::Bytes(b"\n"),
+    ];
     for _ in 0..3u32 {
         text.clear();
-        text.put(b"D ")?;
-        text.put_number(0)?;
-        text.put(b" ")?;
-        text.put_number(u64::MAX)?;
-        text.put(b" ")?;
-        text.put_digits(&[0, 0x9a, 0xff])?;
-        text.put_digits(&[])?;
-        text.put(b"\n")?;
+        put_all(&mut text, &pieces)?;
         assert_eq!(rt;
             text.as_bytes(),
             b"D 0 18446744073709551615 009aff\n".as_slice()
         );
     }
-    // Longer than the first room.
-    text.clear();
+    Ok(())
+}
+
+/// Puts a thousand numbers of ten digits each to a text.
+fn put_thousand(text: &mut Text) -> Result<(), AllocError> {
     for n in 0..1000u64 {
-        text.put_number(1_000_000_000 + n)?;
+        put(text, &Piece::Number(1_000_000_000 + n))?;
     }
-    assert_eq!(rt; text.as_bytes().len(), 10_000usize);
-    assert_eq!(rt; &text.as_bytes()[9_990..], b"1000000999".as_slice());
     Ok(())
 }
 
 #[test]
-fn numbers_that_come_again(rt: HostRuntime) -> Result<(), Fail> {
+fn a_text_grows_past_its_first_room(rt: HostRuntime) -> Result<(), AllocError> {
+    let mut text = Text::new(rt.alloc());
+    put(&mut text, &Piece::Bytes(b"D "))?;
+    text.clear();
+    put_thousand(&mut text)?;
+    let bytes = text.as_bytes();
+    let is_at_end = bytes.ends_with(b"1000000999");
+    assert_eq!(rt; (bytes.len(), is_at_end), (10_000, true));
+    Ok(())
+}
+
+/// Puts times, each with the number of a line.
+fn put_times(text: &mut Text) -> Result<(), AllocError> {
+    for time in [0, 7, 7, 1_000_000_000_000_000, 7] {
+        let pieces = [
+            Piece::Time(time),
+            Piece::Bytes(b" "),
+            Piece::LineNumber(time / 7),
+            Piece::Bytes(b" "),
+        ];
+        put_all(text, &pieces)?;
+    }
+    Ok(())
+}
+
+/// Puts small numbers.
+fn put_small_numbers(text: &mut Text) -> Result<(), AllocError> {
+    for number in [0, 9, 10, 24, 99, 100, 255] {
+        put_all(text, &[Piece::Small(number), Piece::Bytes(b" ")])?;
+    }
+    Ok(())
+}
+
+#[test]
+fn numbers_that_come_again(rt: HostRuntime) -> Result<(), AllocError> {
     let mut text = Text::new(rt.alloc());
     for _ in 0..2u32 {
         text.clear();
-        for time in [0, 7, 7, 1_000_000_000_000_000, 7] {
-            text.put_time(time)?;
-            text.put(b" ")?;
-            text.put_line_number(time / 7)?;
-            text.put(b" ")?;
-        }
+        put_times(&mut text)?;
         assert_eq!(rt;
             text.as_bytes(),
             b"0 0 7 1 7 1 1000000000000000 142857142857142 7 1 ".as_slice()
         );
     }
     text.clear();
-    for port in [0, 9, 10, 24, 99, 100, 255] {
-        text.put_small(port)?;
-        text.put(b" ")?;
-    }
+    put_small_numbers(&mut text)?;
     assert_eq!(rt; text.as_bytes(), b"0 9 10 24 99 100 255 ".as_slice());
     Ok(())
 }
 
+/// A hundred bytes.
+fn hundred_bytes() -> [u8; 100] {
+    let mut bytes = [0; 100];
+    for n in 0..100_usize {
+        bytes[n] = (n * 37 % 256) as u8;
+    }
+    bytes
+}
+
+/// Whether the digits of bytes are put as another encoder has them.
+fn are_digits(alloc: Global, text: &mut Text, bytes: &[u8]) -> Result<bool, Fail> {
+    text.clear();
+    text.put_digits(bytes)?;
+    let digits = hex::encode(alloc, bytes)?;
+    Ok(text.as_bytes() == digits.as_bytes())
+}
+
+/// Whether a line with the digits of bytes is read as these bytes, and with a wrong digit behind
+/// them it is bad.
+fn are_read(alloc: Global, text: &mut Text, bytes: &[u8]) -> Result<bool, AllocError> {
+    let mut read = Vec::new(alloc);
+    let is_read = are_read_to(&mut read, text, bytes)?;
+    Ok(is_read && is_bad_behind(&mut read, text)?)
+}
+
+/// Whether a line with the digits of bytes is read as these bytes.
+fn are_read_to(read: &mut Vec<u8>, text: &mut Text, bytes: &[u8]) -> Result<bool, AllocError> {
+    text.clear();
+    put_all(text, &[Piece::Bytes(b"R 5 A 1 "), Piece::Digits(bytes)])?;
+    let is_ok = read_frame_line(text.as_bytes(), 5, read).is_ok();
+    Ok((is_ok, read.as_slice()) == (true, bytes))
+}
+
+/// Whether the line with a wrong digit behind it is bad.
+fn is_bad_behind(read: &mut Vec<u8>, text: &mut Text) -> Result<bool, AllocError> {
+    put(text, &Piece::Bytes(b"g0"))?;
+    let answer = read_frame_line(text.as_bytes(), 5, read);
+    Ok(answer == Err(LineError::Fault(LineFault::BadHex)))
+}
+
 #[test]
 fn digits_of_many_bytes(rt: HostRuntime) -> Result<(), Fail> {
-    let alloc = rt.alloc();
-    let bad_hex = Err(LineError::Fault(LineFault::BadHex));
-    let mut text = Text::new(alloc);
+    let bytes = hundred_bytes();
+    let mut text = Text::new(rt.alloc());
     for size in [1usize, 31, 32, 33, 63, 64, 65, 100] {
-        let mut bytes = Vec::new(alloc);
-        for n in 0..size {
-            bytes.push((n * 37 % 256) as u8)?;
-        }
-        text.clear();
-        text.put_digits(bytes.as_slice())?;
-        let digits = hex::encode(alloc, bytes.as_slice())?;
-        assert_eq!(rt; text.as_bytes(), digits.as_bytes());
-        text.clear();
-        text.put(b"R 5 A 1 ")?;
-        text.put_digits(bytes.as_slice())?;
-        let mut read = Vec::new(alloc);
-        assert!(rt; read_frame_line(text.as_bytes(), 5, &mut read).is_ok());
-        assert_eq!(rt; read.as_slice(), bytes.as_slice());
-        text.put(b"g0")?;
-        assert_eq!(rt; read_frame_line(text.as_bytes(), 5, &mut read), bad_hex);
+        let some = &bytes[..size];
+        let are_put = are_digits(rt.alloc(), &mut text, some)?;
+        assert!(rt; are_put && are_read(rt.alloc(), &mut text, some)?, "{size}");
     }
     Ok(())
 }

@@ -1,26 +1,32 @@
 //! Each fault of the one order of checks.
 
-use super::{at, fault_with, read};
-use afdx_config::{ConfigFault, Part, SystemId};
-use afdx_samples::base;
+use super::{at, read};
+use afdx_config::{ConfigFault, Part, SystemId, Tables};
+use afdx_samples::{base, changed};
 use std::alloc::{AllocError, Global};
 use std::test::Fail;
 
 /// A piece of the base text, what takes its place, and the fault of the text then, if any.
 type Change = (&'static str, &'static str, &'static str);
 
-/// The fault, as it prints, of the base text with `new` in the place of the first `old`.
-fn told(alloc: Global, old: &str, new: &str) -> Result<String, Fail> {
-    match fault_with(alloc, old, new)? {
+/// A fault as it prints; nothing, where there is none.
+fn written(alloc: Global, fault: Option<ConfigFault>) -> Result<String, Fail> {
+    match fault {
         Some(fault) => Ok(format!(in alloc; "{fault}")?),
         None => Ok(String::new(alloc)),
     }
 }
 
+/// The fault, as it prints, of a text.
+fn told(alloc: Global, text: &[u8]) -> Result<String, Fail> {
+    written(alloc, read(alloc, text).err())
+}
+
 /// What takes a piece's place in the first of the changes that isn't told as it should be.
 fn wrongly_told(alloc: Global, changes: &[Change]) -> Result<Option<&'static str>, Fail> {
     for (old, new, fault) in changes {
-        if told(alloc, old, new)?.as_str() != *fault {
+        let text = changed(base(), old, new)?;
+        if told(alloc, text.as_bytes())?.as_str() != *fault {
             return Ok(Some(new));
         }
     }
@@ -98,66 +104,91 @@ fn what_stood_earlier(rt: HostRuntime) -> Result<(), Fail> {
     Ok(())
 }
 
+/// The profile, how many systems there are, and the one at port 24.
+fn profile_and_systems(tables: &Tables) -> (u64, usize, Option<SystemId>) {
+    let count = tables.system_count();
+    (tables.profile(), count, tables.system_at(24))
+}
+
 #[test]
 fn rates_of_the_profiles(rt: HostRuntime) -> Result<(), Fail> {
-    let a = rt.alloc();
     let changes = [
         ("rate = 100", "rate = 1000", "OutOfRange system 1 key 5"),
         ("rate = 100", "rate = 10", ""),
     ];
-    assert_eq!(rt; wrongly_told(a, changes.as_slice())?, None);
-    let tables = read(
-        a,
-        b"\
-            profile = 2\nbuffer = 64\n[[system]]\nname = \"a\"\nport = 24\nid = 0\n\
-            partition = 255\nrate = 1000\n",
-    )?;
-    assert_eq!(rt; tables.profile(), 2);
-    assert_eq!(rt; tables.system_count(), 1);
-    assert_eq!(rt; tables.system_at(24), Some(SystemId(0)));
+    assert_eq!(rt; wrongly_told(rt.alloc(), changes.as_slice())?, None);
     Ok(())
 }
 
 #[test]
-fn prefixes(rt: HostRuntime) -> Result<(), Fail> {
-    let a = rt.alloc();
-    let whole = base().as_bytes();
-    assert_eq!(rt;
-        read(a, b"profile = 1\n").err(),
-        Some(ConfigFault::Missing(at(Part::Top, 0, 2)))
-    );
-    let end = base().find("lmin = 64").ok_or("absent")?;
-    if end <= whole.len() && 10 <= whole.len() - end {
-        assert_eq!(rt;
-            read(a, &whole[..end + 10]).err(),
-            Some(ConfigFault::Missing(at(Part::Link, 1, 6)))
-        );
-    }
+fn a_gigabit(rt: HostRuntime) -> Result<(), Fail> {
+    let text = b"\
+        profile = 2\nbuffer = 64\n[[system]]\nname = \"a\"\nport = 24\nid = 0\n\
+        partition = 255\nrate = 1000\n";
+    let tables = read(rt.alloc(), text)?;
+    assert_eq!(rt; profile_and_systems(&tables), (2, 1, Some(SystemId(0))));
+    Ok(())
+}
+
+/// How many of the text's beginnings, itself left out, are lawful.
+fn lawful_beginnings(alloc: Global, text: &[u8]) -> u64 {
     let mut lawful: u64 = 0;
-    for end in 0..whole.len() {
-        if read(a, &whole[..end]).is_ok() {
+    for end in 0..text.len() {
+        if read(alloc, &text[..end]).is_ok() {
             lawful = lawful.saturating_add(1);
         }
     }
-    // A cut between two tables leaves lawful tables, with no, one or two line feeds after the last
-    // value: one of 7 places, and the last with no line feed alone. So does one within a rate of
-    // 100, behind 10.
-    assert_eq!(rt; lawful, 3 * 7 + 1 + 3);
-    Ok(())
+    lawful
 }
 
 #[test]
-fn no_array_of_tables(rt: HostRuntime) {
-    let a = rt.alloc();
-    let fault = read(a, b"profile = 1\nlink = 5\nbuffer = 252\n").err();
-    assert_eq!(rt; fault, Some(ConfigFault::WrongKind(at(Part::Top, 0, 4))));
-    let fault = read(a, b"profile = 1\nlink = [5]\nbuffer = 252\n").err();
-    assert_eq!(rt; fault, Some(ConfigFault::WrongKind(at(Part::Top, 0, 4))));
-    assert!(rt; read(a, b"profile = 1\nlink = []\nbuffer = 252\n").is_ok());
+fn beginnings(rt: HostRuntime) -> Result<(), Fail> {
+    let (front, _) = base().split_once("\nlmax = 64").ok_or("absent")?;
+    let cut = told(rt.alloc(), front.as_bytes())?;
+    assert_eq!(rt; cut.as_str(), "Missing link 1 key 6");
+    // A cut between two tables leaves lawful tables, with no, one or two line feeds after the last
+    // value: one of 7 places, and the last with no line feed alone. So does one within a rate of
+    // 100, behind 10.
     assert_eq!(rt;
-        read(a, b"profile = 1\nbuffer = 252\nname = \"\xff\"\n").err(),
-        Some(ConfigFault::NotToml)
+        lawful_beginnings(rt.alloc(), base().as_bytes()),
+        3 * 7 + 1 + 3
     );
+    Ok(())
+}
+
+/// The first of the texts that isn't told as it should be.
+fn wrongly_told_text(
+    alloc: Global,
+    texts: &[(&'static [u8], &'static str)],
+) -> Result<Option<&'static [u8]>, Fail> {
+    for (text, fault) in texts {
+        if told(alloc, text)?.as_str() != *fault {
+            return Ok(Some(text));
+        }
+    }
+    Ok(None)
+}
+
+#[test]
+fn whole_texts(rt: HostRuntime) -> Result<(), Fail> {
+    let texts = [
+        (b"profile = 1\n".as_slice(), "Missing top 0 key 2"),
+        (
+            b"profile = 1\nlink = 5\nbuffer = 252\n".as_slice(),
+            "WrongKind top 0 key 4",
+        ),
+        (
+            b"profile = 1\nlink = [5]\nbuffer = 252\n".as_slice(),
+            "WrongKind top 0 key 4",
+        ),
+        (b"profile = 1\nlink = []\nbuffer = 252\n".as_slice(), ""),
+        (
+            b"profile = 1\nbuffer = 252\nname = \"\xff\"\n".as_slice(),
+            "NotToml",
+        ),
+    ];
+    assert_eq!(rt; wrongly_told_text(rt.alloc(), texts.as_slice())?, None);
+    Ok(())
 }
 
 fn many(alloc: Global, unit: &str, count: usize) -> Result<Vec<u8>, AllocError> {
@@ -169,33 +200,49 @@ fn many(alloc: Global, unit: &str, count: usize) -> Result<Vec<u8>, AllocError> 
     Ok(text)
 }
 
-fn read_many(alloc: Global, unit: &str, count: usize) -> Result<Option<ConfigFault>, Fail> {
-    let text = match many(alloc, unit, count) {
-        Ok(text) => text,
-        Err(_) => many(alloc, unit, count)?,
-    };
-    Ok(read(alloc, text.as_slice()).err())
+/// The first of these numbers of tables that isn't told as it should be.
+fn wrongly_told_many(
+    alloc: Global,
+    tables: &[(&'static str, usize, &'static str)],
+) -> Result<Option<usize>, Fail> {
+    for (unit, count, fault) in tables {
+        let text = many(alloc, unit, *count)?;
+        if told(alloc, text.as_slice())?.as_str() != *fault {
+            return Ok(Some(*count));
+        }
+    }
+    Ok(None)
 }
 
 #[test]
 fn too_many_tables(rt: HostRuntime) -> Result<(), Fail> {
-    let a = rt.alloc();
-    let missing = ConfigFault::Missing(at(Part::System, 1, 1));
-    assert_eq!(rt; read_many(a, "[[system]]\n", 24)?, Some(missing));
-    let over = ConfigFault::OutOfRange(at(Part::Top, 0, 3));
-    assert_eq!(rt; read_many(a, "[[system]]\n", 25)?, Some(over));
-    let missing = ConfigFault::Missing(at(Part::Link, 1, 1));
-    assert_eq!(rt; read_many(a, "[[link]]\n", 4096)?, Some(missing));
-    let over = ConfigFault::OutOfRange(at(Part::Top, 0, 4));
-    assert_eq!(rt; read_many(a, "[[link]]\n", 4097)?, Some(over));
+    let tables = [
+        ("[[system]]\n", 24, "Missing system 1 key 1"),
+        ("[[system]]\n", 25, "OutOfRange top 0 key 3"),
+        ("[[link]]\n", 4096, "Missing link 1 key 1"),
+        ("[[link]]\n", 4097, "OutOfRange top 0 key 4"),
+    ];
+    assert_eq!(rt; wrongly_told_many(rt.alloc(), tables.as_slice())?, None);
     Ok(())
+}
+
+/// The text of the first fault that isn't written so.
+fn wrongly_written(
+    alloc: Global,
+    faults: &[(ConfigFault, &'static str)],
+) -> Result<Option<&'static str>, Fail> {
+    for (fault, text) in faults {
+        if written(alloc, Some(*fault))?.as_str() != *text {
+            return Ok(Some(text));
+        }
+    }
+    Ok(None)
 }
 
 #[test]
 fn texts_of_faults(rt: HostRuntime) -> Result<(), Fail> {
-    let a = rt.alloc();
     let place = at(Part::Link, 12, 3);
-    for (fault, text) in [
+    let faults = [
         (ConfigFault::NotToml, "NotToml"),
         (ConfigFault::BadProfile, "BadProfile"),
         (
@@ -216,12 +263,7 @@ fn texts_of_faults(rt: HostRuntime) -> Result<(), Fail> {
             ConfigFault::NoSuchSystem(place),
             "NoSuchSystem link 12 key 3",
         ),
-    ] {
-        let written = match format!(in a; "{fault}") {
-            Ok(written) => written,
-            Err(_) => format!(in a; "{fault}")?,
-        };
-        assert_eq!(rt; written.as_str(), text);
-    }
+    ];
+    assert_eq!(rt; wrongly_written(rt.alloc(), faults.as_slice())?, None);
     Ok(())
 }
