@@ -5,3 +5,5 @@
 mod replay;
 #[cfg(test)]
 mod systems;
+#[cfg(test)]
+mod texts;

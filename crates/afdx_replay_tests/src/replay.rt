@@ -7,25 +7,29 @@ mod refusals;
 mod replays;
 mod sends;
 
+use crate::texts::short_text;
 use afdx_frame::{Policing, VlId};
 use afdx_police::LinkRule;
 use afdx_replay::{CommandedRule, LineFault, RunFault, Summary, Watched, police, run_police};
-use afdx_samples::spelled;
+use afdx_samples::{ShortText, spelled};
 use std::alloc::{AllocError, Global};
 use std::test::Fail;
 
+/// What a run answers, and what it writes.
+type Answer = (Result<Summary, RunFault>, ShortText);
+
 /// The rule of link 1 with a gap of 1 ms and a jitter of 500 us, policed by bytes.
-fn rule_up_to(lmax: u64) -> Option<LinkRule> {
-    LinkRule::new(VlId(1), 1, 1, 64, lmax, 500, Policing::Byte)
+fn rule_up_to(lmax: u64) -> Result<LinkRule, Fail> {
+    let rule = LinkRule::new(VlId(1), 1, 1, 64, lmax, 500, Policing::Byte);
+    Ok(rule.ok_or("a rule")?)
 }
 
-/// The digits of so many zero bytes.
-fn zeros(alloc: Global, count: usize) -> Result<String, AllocError> {
-    let mut text = String::new(alloc);
+/// Adds the digits of so many zero bytes.
+fn push_zeros(text: &mut String, count: usize) -> Result<(), AllocError> {
     for _ in 0..count {
         text.push_str("00")?;
     }
-    Ok(text)
+    Ok(())
 }
 
 fn counts(lines: u64, accepted: u64, dropped: u64) -> Summary {
@@ -41,16 +45,24 @@ fn counts(lines: u64, accepted: u64, dropped: u64) -> Summary {
 }
 
 /// What a run answers for a list, and what it writes.
-fn answer(alloc: Global, rule: &LinkRule, list: &[u8]) -> (Result<Summary, RunFault>, Vec<u8>) {
+fn answer(alloc: Global, rule: &LinkRule, list: &[u8]) -> Result<Answer, Fail> {
     let mut input = Watched::new(list);
     let mut output = Watched::new(Vec::new(alloc));
     let result = run_police(alloc, rule, &mut input, &mut output);
-    (result, output.into_inner())
+    Ok((result, short_text(output.into_inner().as_slice())?))
+}
+
+/// The same for a list with marks of frames.
+fn policed(alloc: Global, rule: &LinkRule, list: &str) -> Result<Answer, Fail> {
+    let list = spelled(alloc, list)?;
+    answer(alloc, rule, list.as_bytes())
 }
 
 /// The greatest length of a frame of the link, a list, its text, and its counts: lines, accepted
 /// and dropped.
-const WORKED_LISTS: [(u64, &str, &str, [u64; 3]); 6] = [
+type Worked = (u64, &'static str, &'static str, [u64; 3]);
+
+const WORKED_LISTS: [Worked; 6] = [
     (
         64,
         "F 0 A 1 H1\nF 499999 A 1 H1\nF 500000 A 1 H1\nF 1499999 A 1 H1\nF 1500000 A 1 H1\n",
@@ -84,29 +96,42 @@ const WORKED_LISTS: [(u64, &str, &str, [u64; 3]); 6] = [
     ),
 ];
 
+/// Whether the list is answered as it should be, and its text written.
+fn is_policed(alloc: Global, row: &Worked) -> Result<bool, Fail> {
+    let (lmax, list, text, [lines, accepted, dropped]) = *row;
+    let rule = rule_up_to(lmax)?;
+    let (result, written) = policed(alloc, &rule, list)?;
+    Ok(written.as_str() == text && result == Ok(counts(lines, accepted, dropped)))
+}
+
+/// The first of the lists that isn't policed as it should be.
+fn wrongly_policed(alloc: Global, rows: &[Worked]) -> Result<Option<&'static str>, Fail> {
+    for row in rows {
+        if !is_policed(alloc, row)? {
+            return Ok(Some(row.1));
+        }
+    }
+    Ok(None)
+}
+
 #[test]
 fn worked_lists(rt: HostRuntime) -> Result<(), Fail> {
-    for (lmax, list, text, [lines, accepted, dropped]) in WORKED_LISTS {
-        let rule = rule_up_to(lmax).ok_or("a rule")?;
-        let list = spelled(rt.alloc(), list)?;
-        let (result, written) = answer(rt.alloc(), &rule, list.as_bytes());
-        assert_eq!(rt; result, Ok(counts(lines, accepted, dropped)), "{list}");
-        assert!(rt; written.as_slice() == text.as_bytes(), "{list}");
-    }
+    assert_eq!(rt; wrongly_policed(rt.alloc(), WORKED_LISTS.as_slice())?, None);
     Ok(())
 }
 
 /// A frame of each wrong kind, and a right one.
 fn wrong_frames(alloc: Global) -> Result<String, AllocError> {
-    let short = zeros(alloc, 63)?;
-    let long = zeros(alloc, 1519)?;
-    let nowhere = zeros(alloc, 60)?;
     let mut text = spelled(alloc, "B 0 A 1 H1\n")?;
-    write!(
-        text,
-        "R 0 A 1 {short}\nR 0 A 1 {long}\nR 0 A 1 0300000000\nF 0 A 1 {nowhere}\n"
-    )?;
-    let rest = spelled(alloc, "F 0 A 1 H9\nF 0 A 1 H100\nR 0 A 1 -\nF 0 A 1 H1\n")?;
+    for (line, count) in [
+        ("R 0 A 1 ", 63),
+        ("\nR 0 A 1 ", 1519),
+        ("\nR 0 A 1 0300000000\nF 0 A 1 ", 60),
+    ] {
+        text.push_str(line)?;
+        push_zeros(&mut text, count)?;
+    }
+    let rest = spelled(alloc, "\nF 0 A 1 H9\nF 0 A 1 H100\nR 0 A 1 -\nF 0 A 1 H1\n")?;
     text.push_str(rest.as_str())?;
     Ok(text)
 }
@@ -124,33 +149,65 @@ V 8 A drop too-short
 V 9 A accept
 ";
 
+/// What a run answers for them.
+fn policed_wrong_frames(alloc: Global) -> Result<Answer, Fail> {
+    let rule = rule_up_to(64)?;
+    let list = wrong_frames(alloc)?;
+    answer(alloc, &rule, list.as_bytes())
+}
+
 #[test]
 fn each_kind_of_wrong_frame(rt: HostRuntime) -> Result<(), Fail> {
-    let rule = rule_up_to(64).ok_or("a rule")?;
-    let list = wrong_frames(rt.alloc())?;
-    let (result, written) = answer(rt.alloc(), &rule, list.as_bytes());
-    assert_eq!(rt; result, Ok(counts(9, 1, 8)));
-    assert!(rt; written.as_slice() == WRONG_FRAMES.as_bytes());
+    let (result, written) = policed_wrong_frames(rt.alloc())?;
+    assert_eq!(rt;
+        (result, written.as_str()),
+        (Ok(counts(9, 1, 8)), WRONG_FRAMES)
+    );
     Ok(())
+}
+
+/// What is written for `hello` on a link with frames of 100 to 200 bytes.
+fn policed_by(alloc: Global, policing: Policing) -> Result<ShortText, Fail> {
+    let rule = LinkRule::new(VlId(1), 1, 1, 100, 200, 500, policing).ok_or("a rule")?;
+    let (_, written) = policed(alloc, &rule, "F 0 A 1 H1")?;
+    Ok(written)
 }
 
 #[test]
 fn under_lmin_only_by_bytes(rt: HostRuntime) -> Result<(), Fail> {
-    for (policing, text) in [
-        (Policing::Byte, "V 1 A drop under-lmin\n"),
-        (Policing::Frame, "V 1 A accept\n"),
-    ] {
-        let rule = LinkRule::new(VlId(1), 1, 1, 100, 200, 500, policing).ok_or("a rule")?;
-        let list = spelled(rt.alloc(), "F 0 A 1 H1")?;
-        let (_, written) = answer(rt.alloc(), &rule, list.as_bytes());
-        assert!(rt; written.as_slice() == text.as_bytes());
-    }
+    let by_bytes = policed_by(rt.alloc(), Policing::Byte)?;
+    let by_frames = policed_by(rt.alloc(), Policing::Frame)?;
+    assert_eq!(rt;
+        (by_bytes.as_str(), by_frames.as_str()),
+        ("V 1 A drop under-lmin\n", "V 1 A accept\n")
+    );
     Ok(())
+}
+
+/// Whether the line has this fault behind a frame at 5 ns, which is accepted.
+fn is_refused(alloc: Global, line: &str, fault: LineFault) -> Result<bool, Fail> {
+    let rule = rule_up_to(64)?;
+    let mut list = ShortText::from("F 5 A 1 H1\n")?;
+    list.try_push_str(line)?;
+    let (result, written) = policed(alloc, &rule, list.as_str())?;
+    Ok(written.as_str() == "V 1 A accept\n" && result == Err(RunFault::Line(2, fault)))
+}
+
+/// The first of the lines that hasn't its fault.
+fn wrongly_refused(
+    alloc: Global,
+    rows: &[(&'static str, LineFault)],
+) -> Result<Option<&'static str>, Fail> {
+    for (line, fault) in rows {
+        if !is_refused(alloc, line, *fault)? {
+            return Ok(Some(line));
+        }
+    }
+    Ok(None)
 }
 
 #[test]
 fn list_faults(rt: HostRuntime) -> Result<(), Fail> {
-    let rule = rule_up_to(64).ok_or("a rule")?;
     let rows = [
         ("F 5 A", LineFault::BadLine),
         ("F 5 A 1 030", LineFault::BadHex),
@@ -168,35 +225,41 @@ fn list_faults(rt: HostRuntime) -> Result<(), Fail> {
         ("F +5 A 1 00", LineFault::BadLine),
         ("F 5 A 1 ", LineFault::BadLine),
     ];
-    for (line, want) in rows {
-        let first = spelled(rt.alloc(), "F 5 A 1 H1\n")?;
-        let line = spelled(rt.alloc(), line)?;
-        let list = format!(in rt.alloc(); "{first}{line}")?;
-        let (result, written) = answer(rt.alloc(), &rule, list.as_bytes());
-        assert_eq!(rt; result, Err(RunFault::Line(2, want)), "{line}");
-        assert!(rt;
-            written.as_slice() == b"V 1 A accept\n".as_slice(),
-            "{line}"
-        );
-    }
+    assert_eq!(rt; wrongly_refused(rt.alloc(), rows.as_slice())?, None);
     Ok(())
+}
+
+/// A byte, how often it stands in a list, and what a run answers for the list.
+type Repeated = (u8, usize, Result<Summary, RunFault>);
+
+/// Whether this is what a run answers for the list.
+fn is_answered(alloc: Global, row: &Repeated) -> Result<bool, Fail> {
+    let (byte, count, want) = row;
+    let rule = rule_up_to(64)?;
+    let list = vec![in alloc; *byte; *count]?;
+    let (result, _) = answer(alloc, &rule, list.as_slice())?;
+    Ok(result == *want)
+}
+
+/// The length of the first of the lists that isn't answered as it should be.
+fn wrongly_answered(alloc: Global, rows: &[Repeated]) -> Result<Option<usize>, Fail> {
+    for row in rows {
+        if !is_answered(alloc, row)? {
+            return Ok(Some(row.1));
+        }
+    }
+    Ok(None)
 }
 
 #[test]
 fn sizes_of_lines_and_lists(rt: HostRuntime) -> Result<(), Fail> {
-    let rule = rule_up_to(64).ok_or("a rule")?;
-    let mut remark = vec![in rt.alloc(); b'#'; 4_200]?;
-    let (result, _) = answer(rt.alloc(), &rule, remark.as_slice());
-    assert_eq!(rt; result, Ok(counts(1, 0, 0)));
-    remark.push(b'#')?;
-    let (result, _) = answer(rt.alloc(), &rule, remark.as_slice());
-    assert_eq!(rt; result, Err(RunFault::LineTooLong(1)));
-    let mut feeds = vec![in rt.alloc(); b'\n'; 1_000_000]?;
-    let (result, _) = answer(rt.alloc(), &rule, feeds.as_slice());
-    assert_eq!(rt; result, Ok(counts(1_000_000, 0, 0)));
-    feeds.push(b'\n')?;
-    let (result, _) = answer(rt.alloc(), &rule, feeds.as_slice());
-    assert_eq!(rt; result, Err(RunFault::TooManyLines));
+    let rows = [
+        (b'#', 4_200, Ok(counts(1, 0, 0))),
+        (b'#', 4_201, Err(RunFault::LineTooLong(1))),
+        (b'\n', 1_000_000, Ok(counts(1_000_000, 0, 0))),
+        (b'\n', 1_000_001, Err(RunFault::TooManyLines)),
+    ];
+    assert_eq!(rt; wrongly_answered(rt.alloc(), rows.as_slice())?, None);
     Ok(())
 }
 
@@ -213,6 +276,43 @@ fn commanded(vl: u64, bag_ms: u64) -> CommandedRule {
     }
 }
 
+/// A status, whether there are counts, and both outputs.
+type Commanded = (u8, bool, ShortText, ShortText);
+
+/// What the command answers and writes for a list.
+fn police_with(alloc: Global, rule: &CommandedRule, list: &[u8]) -> Result<Commanded, Fail> {
+    let mut input = Watched::new(list);
+    let mut output = Watched::new(Vec::new(alloc));
+    let mut errors = Watched::new(Vec::new(alloc));
+    let ended = police(alloc, rule, &mut input, &mut output, &mut errors);
+    let text = short_text(output.into_inner().as_slice())?;
+    let line = short_text(errors.into_inner().as_slice())?;
+    Ok((ended.status, ended.summary.is_some(), text, line))
+}
+
+/// A gap in milliseconds, a list, the status, the output and the error output.
+type Command = (u64, &'static str, u8, &'static str, &'static str);
+
+/// Whether the command ends so.
+fn is_ended(alloc: Global, row: &Command) -> Result<bool, Fail> {
+    let (bag, list, want, text, line) = *row;
+    let list = spelled(alloc, list)?;
+    let ended = police_with(alloc, &commanded(1, bag), list.as_bytes())?;
+    let (status, has_counts, output, errors) = ended;
+    let wanted = (want, want == 0, text, line);
+    Ok((status, has_counts, output.as_str(), errors.as_str()) == wanted)
+}
+
+/// The list of the first of the commands that doesn't end as it should.
+fn wrongly_ended(alloc: Global, rows: &[Command]) -> Result<Option<&'static str>, Fail> {
+    for row in rows {
+        if !is_ended(alloc, row)? {
+            return Ok(Some(row.1));
+        }
+    }
+    Ok(None)
+}
+
 #[test]
 fn the_command(rt: HostRuntime) -> Result<(), Fail> {
     let rows = [
@@ -226,22 +326,6 @@ fn the_command(rt: HostRuntime) -> Result<(), Fail> {
             "list BadLine 2\n",
         ),
     ];
-    for (bag, list, want, text, line) in rows {
-        let list = spelled(rt.alloc(), list)?;
-        let mut input = Watched::new(list.as_bytes());
-        let mut output = Watched::new(Vec::new(rt.alloc()));
-        let mut errors = Watched::new(Vec::new(rt.alloc()));
-        let ended = police(
-            rt.alloc(),
-            &commanded(1, bag),
-            &mut input,
-            &mut output,
-            &mut errors,
-        );
-        assert_eq!(rt; ended.status, want);
-        assert_eq!(rt; ended.summary.is_some(), want == 0);
-        assert!(rt; output.into_inner().as_slice() == text.as_bytes());
-        assert!(rt; errors.into_inner().as_slice() == line.as_bytes());
-    }
+    assert_eq!(rt; wrongly_ended(rt.alloc(), rows.as_slice())?, None);
     Ok(())
 }

@@ -1,109 +1,123 @@
 //! The worked rows of the command `check`.
 
+use crate::texts::short_text;
 use afdx_replay::{Watched, check};
-use afdx_samples::{base, changed, largest};
+use afdx_samples::{ShortText, base, changed, largest};
 use std::alloc::Global;
+use std::fmt::Write;
 use std::test::Fail;
 
 pub(super) const BASE_PORTS: &str = "P 1 0 0 0\nP 2 0 0 0\nP 3 16800 20297 252\n";
 
 /// The status, the output and the error output of `check`.
-pub(super) fn checked(alloc: Global, config: &[u8]) -> (u8, Vec<u8>, Vec<u8>) {
+pub(super) fn checked(alloc: Global, config: &[u8]) -> Result<(u8, ShortText, ShortText), Fail> {
     let mut output = Watched::new(Vec::new(alloc));
     let mut errors = Watched::new(Vec::new(alloc));
     let status = check(alloc, config, &mut output, &mut errors);
-    (status, output.into_inner(), errors.into_inner())
+    let text = short_text(output.into_inner().as_slice())?;
+    let line = short_text(errors.into_inner().as_slice())?;
+    Ok((status, text, line))
+}
+
+/// A piece of the base text, what takes its place, the status, and what is written behind the lines
+/// of the ports.
+type Change = (&'static str, &'static str, u8, &'static str);
+
+/// Whether the lines of the base text's ports are written, and behind them these.
+fn is_behind_ports(output: &str, last: &str) -> bool {
+    output.strip_prefix(BASE_PORTS) == Some(last)
+}
+
+/// Whether the change is told so.
+fn is_told(alloc: Global, change: &Change) -> Result<bool, Fail> {
+    let (old, new, want, last) = *change;
+    let config = changed(base(), old, new)?;
+    let (status, output, errors) = checked(alloc, config.as_bytes())?;
+    let is_written = is_behind_ports(output.as_str(), last);
+    Ok(is_written && status == want && errors.is_empty())
+}
+
+/// What takes a piece's place in the first of the changes that isn't told as it should be.
+fn wrongly_told(alloc: Global, changes: &[Change]) -> Result<Option<&'static str>, Fail> {
+    for change in changes {
+        if !is_told(alloc, change)? {
+            return Ok(Some(change.1));
+        }
+    }
+    Ok(None)
 }
 
 #[test]
 fn base_tables_and_one_change(rt: HostRuntime) -> Result<(), Fail> {
-    let rows = [
+    let changes = [
         ("", "", 0, "ok\n"),
         ("latency_us = 17", "latency_us = 16", 1, "no A3 3 1 16800\n"),
         ("latency_us = 21", "latency_us = 20", 1, "no A4 3 2 20297\n"),
         ("buffer = 252", "buffer = 251", 1, "no A2 3 252\n"),
         ("skew_us = 1000", "skew_us = 16", 1, "no A7 1\n"),
     ];
-    for (old, new, want, last) in rows {
-        let config = changed(base(), old, new)?;
-        let text = format!(in rt.alloc(); "{BASE_PORTS}{last}")?;
-        let (status, output, errors) = checked(rt.alloc(), config.as_bytes());
-        assert_eq!(rt; status, want, "{new}");
-        assert!(rt; output.as_slice() == text.as_bytes(), "{new}");
-        assert!(rt; errors.is_empty(), "{new}");
-    }
+    assert_eq!(rt; wrongly_told(rt.alloc(), changes.as_slice())?, None);
     Ok(())
 }
 
-/// Whether the output ends with these lines.
-fn ends(output: &[u8], last: &str) -> bool {
-    output.ends_with(last.as_bytes())
+/// The status of `check`, and whether its output ends with these lines.
+fn ends(alloc: Global, config: &str, last: &str) -> Result<(u8, bool), Fail> {
+    let (status, output, _) = checked(alloc, config.as_bytes())?;
+    Ok((status, output.as_str().ends_with(last)))
 }
 
 #[test]
-fn jitter_and_rate(rt: HostRuntime) -> Result<(), Fail> {
-    let rows = [
-        ("jitter_us = 500", "jitter_us = 46", 1, "no A6 1 46720\n"),
-        ("jitter_us = 500", "jitter_us = 47", 0, "ok\n"),
-    ];
-    for (old, new, want, last) in rows {
-        let config = changed(base(), old, new)?;
-        let (status, output, _) = checked(rt.alloc(), config.as_bytes());
-        assert_eq!(rt; status, want, "{new}");
-        assert!(rt; ends(output.as_slice(), last), "{new}");
+fn jitter(rt: HostRuntime) -> Result<(), Fail> {
+    let small = changed(base(), "jitter_us = 500", "jitter_us = 46")?;
+    let small = ends(rt.alloc(), small.as_str(), "no A6 1 46720\n")?;
+    let enough = changed(base(), "jitter_us = 500", "jitter_us = 47")?;
+    let enough = ends(rt.alloc(), enough.as_str(), "ok\n")?;
+    assert_eq!(rt; (small, enough), ((1, true), (0, true)));
+    Ok(())
+}
+
+/// The base text with ten times the rate everywhere.
+fn gigabit() -> Result<ShortText, Fail> {
+    let mut text = changed(base(), "profile = 1", "profile = 2")?;
+    for _ in 0..3_u8 {
+        text = changed(text.as_str(), "rate = 100\n", "rate = 1000\n")?;
     }
-    let gigabit = changed(base(), "profile = 1", "profile = 2")?;
-    let gigabit = changed(
-        rt.alloc(),
-        gigabit.as_str(),
-        "rate = 100\n",
-        "rate = 1000\n",
-    )?;
-    let gigabit = changed(
-        rt.alloc(),
-        gigabit.as_str(),
-        "rate = 100\n",
-        "rate = 1000\n",
-    )?;
-    let gigabit = changed(
-        rt.alloc(),
-        gigabit.as_str(),
-        "rate = 100\n",
-        "rate = 1000\n",
-    )?;
-    let (status, output, _) = checked(rt.alloc(), gigabit.as_bytes());
-    assert_eq!(rt; status, 0);
+    Ok(text)
+}
+
+#[test]
+fn rates_of_a_gigabit(rt: HostRuntime) -> Result<(), Fail> {
+    let config = gigabit()?;
+    let (status, output, _) = checked(rt.alloc(), config.as_bytes())?;
     let text = "P 1 0 0 0\nP 2 0 0 0\nP 3 1680 2018 252\nok\n";
-    assert!(rt; output.as_slice() == text.as_bytes());
+    assert_eq!(rt; (status, output.as_str()), (0, text));
     Ok(())
 }
 
-#[test]
-fn a_port_that_its_high_links_fill(rt: HostRuntime) -> Result<(), Fail> {
+/// The base text without its second link, with long frames to a port of low rate.
+fn filled_port() -> Result<ShortText, Fail> {
     let (front, _) = base().split_once("[[link]]\nvl = 2").ok_or("link 2")?;
     let config = changed(
-        rt.alloc(),
         front,
         "id = 3\npartition = 1\nrate = 100",
         "id = 3\npartition = 1\nrate = 10",
     )?;
-    let config = changed(rt.alloc(), config.as_str(), "lmax = 64", "lmax = 1518")?;
-    let (status, output, _) = checked(rt.alloc(), config.as_bytes());
-    assert_eq!(rt; status, 1);
-    assert!(rt; ends(output.as_slice(), "P 3 1845600 - 2307\nno A1 3\n"));
+    changed(config.as_str(), "lmax = 64", "lmax = 1518")
+}
+
+#[test]
+fn a_port_that_its_high_links_fill(rt: HostRuntime) -> Result<(), Fail> {
+    let config = filled_port()?;
+    let answer = ends(rt.alloc(), config.as_str(), "P 3 1845600 - 2307\nno A1 3\n")?;
+    assert_eq!(rt; answer, (1, true));
     Ok(())
 }
 
 /// The base systems and so many links from the first to the third, each of the longest frames and
 /// gap.
-fn long_links(alloc: Global, count: u8) -> Result<String, Fail> {
-    let mut text = String::new(alloc);
-    let (front, _) = match base().split_once("[[link]]") {
-        Some(parts) => parts,
-        None => (base(), ""),
-    };
-    let front = changed(alloc, front, "buffer = 252", "buffer = 65536")?;
-    text.push_str(front.as_str())?;
+fn long_links(count: u8) -> Result<ShortText, Fail> {
+    let (front, _) = base().split_once("[[link]]").ok_or("a link")?;
+    let mut text = changed(front, "buffer = 252", "buffer = 65536")?;
     for vl in 0..count {
         write!(
             text,
@@ -118,19 +132,18 @@ fn long_links(alloc: Global, count: u8) -> Result<String, Fail> {
 
 #[test]
 fn the_jitter_of_a_sender(rt: HostRuntime) -> Result<(), Fail> {
-    let four = long_links(rt.alloc(), 4)?;
-    let (status, output, _) = checked(rt.alloc(), four.as_bytes());
-    assert_eq!(rt; status, 1);
-    assert!(rt; ends(output.as_slice(), "\nno A5 s1 532160\n"));
-    let three = long_links(rt.alloc(), 3)?;
-    let (status, output, _) = checked(rt.alloc(), three.as_bytes());
-    assert_eq!(rt; status, 0);
-    assert!(rt; ends(output.as_slice(), "\nP 3 370562 371634 4633\nok\n"));
+    let four = long_links(4)?;
+    let four = ends(rt.alloc(), four.as_str(), "\nno A5 s1 532160\n")?;
+    let three = long_links(3)?;
+    let three = ends(rt.alloc(), three.as_str(), "\nP 3 370562 371634 4633\nok\n")?;
+    assert_eq!(rt; (four, three), ((1, true), (0, true)));
     Ok(())
 }
 
-/// A text of the configuration, another in its place, and the line of the fault.
-const FAULTS: [(&str, &str, &str); 16] = [
+/// A piece of the base text, what takes its place, and the line of the fault.
+type Faulty = (&'static str, &'static str, &'static str);
+
+const FAULTS: [Faulty; 16] = [
     ("profile = 1", "=\nprofile = 1", "config NotToml\n"),
     ("profile = 1", "profile = 3", "config BadProfile\n"),
     ("buffer = 252", "", "config Missing top 0 key 2\n"),
@@ -185,25 +198,43 @@ const FAULTS: [(&str, &str, &str); 16] = [
     ),
 ];
 
+/// Whether the fault is told so, and nothing else.
+fn is_refused(alloc: Global, faulty: &Faulty) -> Result<bool, Fail> {
+    let (old, new, line) = *faulty;
+    let config = changed(base(), old, new)?;
+    let (status, output, errors) = checked(alloc, config.as_bytes())?;
+    Ok(status == 1 && output.is_empty() && errors.as_str() == line)
+}
+
+/// The line of the first of the faults that isn't told as it should be.
+fn wrongly_refused(alloc: Global, faults: &[Faulty]) -> Result<Option<&'static str>, Fail> {
+    for faulty in faults {
+        if !is_refused(alloc, faulty)? {
+            return Ok(Some(faulty.2));
+        }
+    }
+    Ok(None)
+}
+
 #[test]
 fn faults_of_a_configuration(rt: HostRuntime) -> Result<(), Fail> {
-    for (old, new, line) in FAULTS {
-        let config = changed(base(), old, new)?;
-        let (status, output, errors) = checked(rt.alloc(), config.as_bytes());
-        assert_eq!(rt; status, 1, "{line}");
-        assert!(rt; output.is_empty(), "{line}");
-        assert!(rt; errors.as_slice() == line.as_bytes(), "{line}");
-    }
+    assert_eq!(rt; wrongly_refused(rt.alloc(), FAULTS.as_slice())?, None);
     Ok(())
+}
+
+/// What `check` answers for the largest tables.
+fn checked_largest(alloc: Global) -> Result<(u8, ShortText, ShortText), Fail> {
+    let config = largest(alloc)?;
+    checked(alloc, config.as_bytes())
 }
 
 #[test]
 fn the_largest_tables(rt: HostRuntime) -> Result<(), Fail> {
-    let config = largest(rt.alloc())?;
-    let (status, output, errors) = checked(rt.alloc(), config.as_bytes());
-    assert_eq!(rt; status, 1);
-    assert!(rt; output.starts_with(b"P 1 0 0 0\nP 2 41287680 - 516096\n"));
-    assert!(rt; ends(output.as_slice(), "\nP 24 41287680 - 516096\nno A1 2\n"));
-    assert!(rt; errors.is_empty());
+    let (status, output, errors) = checked_largest(rt.alloc())?;
+    let first = "P 1 0 0 0\nP 2 41287680 - 516096\n";
+    let last = "\nP 24 41287680 - 516096\nno A1 2\n";
+    assert!(rt; output.as_str().starts_with(first));
+    assert!(rt; output.as_str().ends_with(last));
+    assert_eq!(rt; (status, errors.as_str()), (1, ""));
     Ok(())
 }

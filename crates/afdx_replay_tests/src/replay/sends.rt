@@ -1,29 +1,47 @@
 //! The worked rows of a run that sends.
 
+ghost use Rattle.std.specs.Prelude.{◌<◌, length};
+
+use super::Answer;
+use crate::texts::{push_line, short_text, shown};
 use afdx_admit::Admitted;
 use afdx_config::SystemId;
 use afdx_replay::{RunFault, Summary, Watched, run_send};
-use afdx_samples::{admitted, base};
-use std::alloc::{AllocError, Global};
+use afdx_samples::{ShortText, admitted, base};
+use std::alloc::Global;
 use std::test::Fail;
 
-/// What a run of the system at this place answers for a list, and what it writes.
-pub(super) fn sent(
-    alloc: Global,
-    tables: &Admitted,
-    system: u8,
-    list: &str,
-) -> Result<(Result<Summary, RunFault>, String), Fail> {
-    if usize::from(system) >= tables.tables().system_count() {
-        return Err("system".into());
-    }
+/// What a run of the system at this place answers for a list, and the bytes that it writes.
+type Sent = (Result<Summary, RunFault>, Vec<u8>);
+
+fn sent_from(alloc: Global, tables: &Admitted, system: SystemId, list: &str) -> Sent
+    requires { system.0 < length tables.now.systems }
+{
     let mut input = Watched::new(list.as_bytes());
     let mut output = Watched::new(Vec::new(alloc));
-    let result = run_send(alloc, tables, SystemId(system), &mut input, &mut output);
-    match String::from_utf8(output.into_inner()) {
-        Ok(text) => Ok((result, text)),
-        Err(_) => Err("text".into()),
+    let result = run_send(alloc, tables, system, &mut input, &mut output);
+    (result, output.into_inner())
+}
+
+/// Fails where no system has this place.
+fn sent_in(alloc: Global, tables: &Admitted, system: u8, list: &str) -> Result<Sent, Fail> {
+    if usize::from(system) < tables.tables().system_count() {
+        Ok(sent_from(alloc, tables, SystemId(system), list))
+    } else {
+        Err("system".into())
     }
+}
+
+/// The same in the base tables.
+pub(super) fn sent(alloc: Global, system: u8, list: &str) -> Result<Sent, Fail> {
+    let tables = admitted(alloc, base())?;
+    sent_in(alloc, &tables, system, list)
+}
+
+/// What a run of the first system answers and writes for a short list.
+fn sent_shortly(alloc: Global, list: &str) -> Result<Answer, Fail> {
+    let (result, written) = sent(alloc, 0, list)?;
+    Ok((result, short_text(written.as_slice())?))
 }
 
 fn counts(lines: u64, accepted: u64, dropped: u64, departed: u64) -> Summary {
@@ -38,70 +56,84 @@ fn counts(lines: u64, accepted: u64, dropped: u64, departed: u64) -> Summary {
     }
 }
 
-/// The time, the side, the port, and the digits of the payload's first byte and of the sequence
+/// The beginning of a frame's line, and the digits of its payload's first byte and of its sequence
 /// byte.
-fn parts(line: &str) -> (&str, &str, &str, &str, &str) {
-    let mut fields = line.split(' ');
-    let (_, time, side, port, digits) = (
-        fields.next().unwrap_or(""),
-        fields.next().unwrap_or(""),
-        fields.next().unwrap_or(""),
-        fields.next().unwrap_or(""),
-        fields.next().unwrap_or(""),
-    );
-    (
-        time,
-        side,
-        port,
-        digits.get(84..86).unwrap_or(""),
-        digits.get(118..120).unwrap_or(""),
-    )
+type Row = (&'static str, &'static str, &'static str);
+
+/// Whether the line tells of the frame of this row.
+fn is_line_of(line: &str, row: &Row) -> bool {
+    let (front, payload, number) = *row;
+    let digits = line.strip_prefix(front).unwrap_or("");
+    digits.get(84..86) == Some(payload) && digits.get(118..120) == Some(number)
+}
+
+/// How many lines tell of the frames of their rows.
+fn right_lines(text: &str, rows: &[Row]) -> usize {
+    let mut lines = text.lines();
+    let mut count = 0usize;
+    for row in rows {
+        let line = lines.next().unwrap_or("");
+        count = count.saturating_add(usize::from(is_line_of(line, row)));
+    }
+    count
 }
 
 #[test]
 fn messages_are_sent_in_turn(rt: HostRuntime) -> Result<(), Fail> {
-    let tables = admitted(rt.alloc(), base())?;
     let list = "0 1 1 1000 61\n0 1 1 1000 62\n0 1 2 1000 63\n0 1 2 1000 64\n";
-    let (result, text) = sent(rt.alloc(), &tables, 0, list)?;
-    assert_eq!(rt; result, Ok(counts(4, 4, 0, 4)));
+    let (result, text) = sent_shortly(rt.alloc(), list)?;
     let wanted = [
-        ("6720", "A", "1", "61", "00"),
-        ("6720", "B", "1", "61", "00"),
-        ("1006720", "A", "1", "63", "01"),
-        ("1006720", "B", "1", "63", "01"),
-        ("2006720", "A", "1", "62", "02"),
-        ("2006720", "B", "1", "62", "02"),
-        ("3006720", "A", "1", "64", "03"),
-        ("3006720", "B", "1", "64", "03"),
+        ("R 6720 A 1 ", "61", "00"),
+        ("R 6720 B 1 ", "61", "00"),
+        ("R 1006720 A 1 ", "63", "01"),
+        ("R 1006720 B 1 ", "63", "01"),
+        ("R 2006720 A 1 ", "62", "02"),
+        ("R 2006720 B 1 ", "62", "02"),
+        ("R 3006720 A 1 ", "64", "03"),
+        ("R 3006720 B 1 ", "64", "03"),
     ];
-    assert_eq!(rt; text.lines().count(), wanted.len());
-    for (line, row) in text.lines().zip(wanted) {
-        assert_eq!(rt; parts(line), row);
-    }
+    let right = right_lines(text.as_str(), wanted.as_slice());
+    let all = text.as_str().lines().count();
+    assert_eq!(rt; (result, right, all), (Ok(counts(4, 4, 0, 4)), 8, 8));
     Ok(())
 }
 
 #[test]
 fn wrong_messages_are_written(rt: HostRuntime) -> Result<(), Fail> {
-    let tables = admitted(rt.alloc(), base())?;
-    let zeros = "000000000000000000000000000000000000";
-    let list = format!(in rt.alloc();
-        "0 2 1 1000 00\n0 1 3 1000 00\n0 1 1 1000 -\n0 1 1 1000 {zeros}\n"
-    )?;
-    let (result, text) = sent(rt.alloc(), &tables, 0, list.as_str())?;
-    assert_eq!(rt; result, Ok(counts(4, 0, 4, 0)));
-    assert_eq!(rt; text.as_str(), "# 1 S1\n# 2 S2\n# 3 S3\n# 4 S4\n");
-    let mut list = String::new(rt.alloc());
-    for _ in 0..65 {
-        list.push_str("0 1 1 1000 61\n")?;
+    let list = "0 2 1 1000 00\n0 1 3 1000 00\n0 1 1 1000 -\n\
+        0 1 1 1000 000000000000000000000000000000000000\n";
+    let (result, text) = sent_shortly(rt.alloc(), list)?;
+    let told = "# 1 S1\n# 2 S2\n# 3 S3\n# 4 S4\n";
+    assert_eq!(rt; (result, text.as_str()), (Ok(counts(4, 0, 4, 0)), told));
+    Ok(())
+}
+
+/// Adds so many messages to one sub-VL at one time.
+fn push_messages(list: &mut ShortText, count: u8) -> Result<(), Fail> {
+    for _ in 0..count {
+        push_line(list, "0 1 1 1000 61")?;
     }
-    let (result, text) = sent(rt.alloc(), &tables, 0, list.as_str())?;
-    assert_eq!(rt; result, Ok(counts(65, 64, 1, 64)));
-    assert_eq!(rt; text.lines().next(), Some("# 65 S5"));
-    assert_eq!(rt; text.lines().count(), 129);
-    assert_eq!(rt;
-        text.lines().last().map(|line| parts(line).0),
-        Some("63006720")
-    );
+    Ok(())
+}
+
+/// Whether the text has so many lines, the first one, and this beginning of the last one.
+fn has_ends(text: &str, count: usize, first: &str, last: &str) -> bool {
+    let is_last = text.lines().last().unwrap_or("").starts_with(last);
+    is_last && text.lines().next() == Some(first) && text.lines().count() == count
+}
+
+/// What a run of the first system answers for 65 messages, and whether it writes the frames of 64.
+fn sent_too_many(alloc: Global) -> Result<(Result<Summary, RunFault>, bool), Fail> {
+    let mut list = ShortText::new();
+    push_messages(&mut list, 65)?;
+    let (result, written) = sent(alloc, 0, list.as_str())?;
+    let is_written = has_ends(shown(written.as_slice()), 129, "# 65 S5", "R 63006720 ");
+    Ok((result, is_written))
+}
+
+#[test]
+fn a_full_queue_takes_no_message(rt: HostRuntime) -> Result<(), Fail> {
+    let answer = sent_too_many(rt.alloc())?;
+    assert_eq!(rt; answer, (Ok(counts(65, 64, 1, 64)), true));
     Ok(())
 }

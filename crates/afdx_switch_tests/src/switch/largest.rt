@@ -1,17 +1,19 @@
 //! The largest tables: 24 systems, and 4,096 links from the first to all others.
 
-use super::{arrive, is_forwarded};
-use afdx_samples::{hello, largest, read};
-use afdx_switch::Switch;
+use super::steps::Fate::Forwarded;
+use super::steps::Step::{Comes, Leaves};
+use super::steps::wrong_step;
+use afdx_samples::{hello, largest};
 use std::test::Fail;
 
 #[test]
 fn a_switch_of_the_largest_tables(rt: HostRuntime) -> Result<(), Fail> {
     let text = largest(rt.alloc())?;
-    let tables = read(rt.alloc(), text.as_str())?;
-    let mut switch = Switch::new(rt.alloc(), &tables)?;
-    assert!(rt; is_forwarded(arrive(&mut switch, 0, 1, 1, &hello(0))));
-    let gone = switch.take(6720).ok_or("a departure")?;
-    assert_eq!(rt; (gone.tag(), gone.port()), (1, 2));
+    let frame = hello(0);
+    let steps = [
+        (0, Comes(1, 1, &frame, Forwarded)),
+        (6720, Leaves(1, 6720, 2)),
+    ];
+    assert_eq!(rt; wrong_step(rt.alloc(), text.as_str(), &steps)?, None);
     Ok(())
 }
