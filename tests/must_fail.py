@@ -6,11 +6,11 @@
 Stands on the libraries that are built in CRATES/*/out, where CRATES is crates/ unless it is given.
 A function is proved from the contracts of what it calls, whatever stands in their bodies: so edits
 of several functions are tried in one run of the prover, which checks those functions and what they
-call, and nothing else. Each of them must be refused for its own body: one that is refused for what
-it calls is tried again without that. (`rt must-fail` checks the whole crate with each edit, and
-takes a refusal anywhere.) An edit of what is no function, as a constant, or of a method whose name
-can't be read off the file, is tried alone, and says which function must be refused in a line of its
-own: `refused: MODULE::FUNCTION`.
+call, and nothing else. Each of them must be refused for its own body, by an error in its own proof
+or an open goal of its own: one that is refused only for what it calls is tried again without that.
+(`rt must-fail` checks the whole crate with each edit, and takes a refusal anywhere.) An edit of
+what is no function, as a constant, or of a method whose name can't be read off the file, is tried
+alone, and says which function must be refused in a line of its own: `refused: MODULE::FUNCTION`.
 
 Prints a line for each edit, then `N passed, M failed`; ends with status 1 if one failed.
 """
@@ -31,6 +31,7 @@ KIT = pathlib.Path(shutil.which("rt") or "rt").resolve().parent.parent
 PARTS = ["src", "specs", "proofs"]
 # what a proof says that names what the edit took away: that tells nothing of the contract
 VANISHED = r"(\./)?proofs/.*(has no field|is not in scope|has no `|was not admitted)"
+OPEN = "`search` did not prove"
 
 
 class BadEdit(Exception):
@@ -181,6 +182,20 @@ def answers(said: str, crate: str) -> dict[str, str]:
     return {it[1].replace("fn::", ""): it[2] for it in found if it}
 
 
+def own_reason(said: str, function: str, why: str) -> str | None:
+    """Why this function, of which the prover says `why`, is refused for its own body, if it is.
+
+    It is, where its own proof has an error, or a goal of it is open, whatever it calls. An error
+    for a name that isn't there tells nothing of the body.
+    """
+    place = rf"(\./)?proofs/{re.escape(function.replace('::', '/'))}/\S+"
+    told = [it for it in said.splitlines() if re.match(rf"{place}:\d+:\d+: error", it)]
+    if told:
+        own = (it.split(": error: ", 1)[-1] for it in told if not re.match(VANISHED, it))
+        return next(own, None)
+    return why if OPEN in why or "it calls" not in why else None
+
+
 def refusal(edit: Edit, said: str, answered: dict[str, str], is_alone: bool) -> str | None:
     """Why the prover refused a function of the edit; None where that may be for another edit.
 
@@ -190,17 +205,12 @@ def refusal(edit: Edit, said: str, answered: dict[str, str], is_alone: bool) -> 
     refused = {it: why for it, why in of_it.items() if why not in ("proved", "not looked at")}
     if not refused:
         raise BadEdit(f"NOT REFUSED: {of_it}")
-    own = {it: why for it, why in refused.items() if "it calls" not in why}
-    if not own:
-        return None
-    folders = "|".join(re.escape(it.replace("::", "/")) for it in own)
-    place = r"\S+" if is_alone else rf"(\./)?proofs/({folders})/\S+"
-    told = [it for it in said.splitlines() if re.match(rf"{place}:\d+:\d+: error", it)]
-    if told and all(re.match(VANISHED, it) for it in told):
-        if is_alone:
+    if is_alone:
+        told = [it for it in said.splitlines() if re.match(r"\S+:\d+:\d+: error", it)]
+        if told and all(re.match(VANISHED, it) for it in told):
             raise BadEdit(f"refused only since a proof names what it took away: {told[0][:160]}")
-        return None
-    return next(f"{it}: {why[:100]}" for it, why in own.items())
+    own = ((it, own_reason(said, it, why)) for it, why in refused.items())
+    return next((f"{it}: {reason[:100]}" for it, reason in own if reason), None)
 
 
 def try_together(prover: Prover, edits: list[Edit]) -> tuple[list[Edit], list]:
