@@ -8,7 +8,8 @@
   definitions.
 - Each must-fail edit finds the text that it changes, once.
 - Each source file says at its head what it is; lines of definitions, of contracts and of code have
-  at most 100 columns, those of proofs at most 140; imports may be wider.
+  at most 100 columns, those of proofs at most 140; imports may be wider, and the tables of numbers
+  in afdx_frame/src/tables.rt.
 
 Prints a line for each fault, then `N passed, M failed`; ends with status 1 if there is one.
 """

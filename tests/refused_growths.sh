@@ -12,9 +12,10 @@
 # beginning of what the undisturbed run writes, and end either with the line `memory` and status 4,
 # or as the undisturbed run does.
 #
-# Of each RUNNER the tests whose names contain `refused` are run, with one request refused at a
-# time, and with all refused from one on. Such a test makes a call again where it answered want of
-# memory, and asserts what holds then: it must pass where one request was refused. Where all later
+# Of each RUNNER the tests whose names, with their modules', contain `refused` are run, with one
+# request refused at a time, and with all refused from one on. Such a test makes a call again where
+# it answered want of memory, and asserts what holds then, or asserts an answer that needs none: it
+# must pass where one request was refused. Where all later
 # ones are refused too it may fail, but only by want of memory: the failure has to name it.
 #
 # The requests are refused by tests/refuse.c, which `cc` compiles. Prints `ok NAME` or `FAILED NAME`

@@ -262,8 +262,8 @@ const EXPLAIN_AFTER: &str = "\
 TEXT is a line that the program printed, as it was printed: a fault on standard
 error, the line of --summary, a line of 'check', 'replay', 'police' or 'send'. Or it
 is a word of such a line: 'accept', why a frame was dropped, a line of admission,
-why a message was refused. With a text that is none of these the line is 'words
-UnknownText' and the status 2.
+why a message was refused, or one of the letters D, L, M, P, R and T. With a text
+that is none of these the line is 'words UnknownText' and the status 2.
 
 Examples:
   afdx explain 'config Missing link 1 key 7'

@@ -13,7 +13,7 @@ use crate::lines::LINES;
 /// What a line of the program means, or None where it is none that the program writes.
 ///
 /// The line stands without its line feed. A word alone is one that stands in a line: why a frame
-/// was dropped, a line of admission, why a message was refused.
+/// was dropped, a line of admission, why a message was refused; or its letter, as `D`.
 #[tactic(auto, unfolding(crate::specs::Explained::meaning_of))]
 pub fn meaning_of(line: &str) -> Option<&'static str>
     ensures { option_copied result ≡ meaning_of line.now }

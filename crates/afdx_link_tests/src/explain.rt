@@ -1,4 +1,4 @@
-//! Tests.
+//! Lines that are explained, and lines that aren't.
 
 use afdx_explain::{kind_of, meaning_of};
 

@@ -1,5 +1,5 @@
-//! The worked rows, of frames that wait for ever and of some that don't. They pass also where any
-//! one growth is refused.
+//! Steps with known answers, on one port: of frames that wait for ever, and of some that don't. All
+//! but the last pass also where any one growth is refused.
 
 ghost use Rattle.std.specs.Prelude.{◌≡◌, ◌≤◌, IfOk, IfSome};
 ghost use Rattle.std.proofs.Props.{props};

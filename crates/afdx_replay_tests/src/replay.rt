@@ -1,4 +1,4 @@
-//! The worked rows of policing by a run.
+//! Runs over text: policing, by a run and by the command, here, the others in modules.
 
 mod checks;
 mod end_to_end;
@@ -120,7 +120,7 @@ fn worked_lists(rt: HostRuntime) -> Result<(), Fail> {
     Ok(())
 }
 
-/// A frame of each wrong kind, and a right one.
+/// A frame of each kind that is wrong by its bytes or its link's name and length, and a right one.
 fn wrong_frames(alloc: Global) -> Result<String, AllocError> {
     let mut text = spelled(alloc, "B 0 A 1 H1\n")?;
     for (line, count) in [

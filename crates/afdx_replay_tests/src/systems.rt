@@ -1,5 +1,5 @@
-//! The worked rows, from the frames that leave the switch on. They pass also where any one growth
-//! is refused.
+//! Frames that leave a switch, and what the systems tell of them. The tests pass also where any one
+//! growth is refused.
 
 use crate::texts::short_text;
 use afdx_config::Tables;

@@ -4,7 +4,7 @@ use afdx_samples::ShortText;
 use std::str;
 use std::test::Fail;
 
-/// The text of these bytes.
+/// The text of these bytes, or `no text` where they are none.
 pub fn shown(bytes: &[u8]) -> &str {
     str::from_utf8(bytes).unwrap_or("no text")
 }

@@ -104,7 +104,8 @@ fn joined(front: &str, middle: &str, back: &str) -> Result<ShortText, Fail> {
     Ok(text)
 }
 
-/// The text with `new` in the place of the first `old`.
+/// The text with `new` in the place of the first `old`. Fails where there is none, or the new text
+/// has more than 2,048 bytes.
 pub fn changed(text: &str, old: &str, new: &str) -> Result<ShortText, Fail> {
     let (front, back) = text.split_once(old).ok_or("nothing to change")?;
     joined(front, new, back)
@@ -156,7 +157,7 @@ pub fn largest_tables(alloc: Global) -> Result<Tables, Fail> {
     Ok(read(alloc, text.as_str())?)
 }
 
-/// The tables of a text, admitted.
+/// The tables of a text, admitted. Fails where they can't be read, or aren't admitted.
 pub fn admitted(alloc: Global, text: &str) -> Result<Admitted, Fail> {
     match admit(read(alloc, text)?) {
         Ok(tables) => Ok(tables),

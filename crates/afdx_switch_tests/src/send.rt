@@ -1,4 +1,5 @@
-//! The worked rows. Frames of every length and numbers that go round are in tests/streams.py.
+//! Steps with known answers, on one sender. Frames of every length and numbers that go round are in
+//! tests/streams.py.
 
 use afdx_send::SendFault;
 use std::test::Fail;

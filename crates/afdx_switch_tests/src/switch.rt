@@ -1,4 +1,4 @@
-//! The worked rows, on one switch.
+//! Steps with known answers, on one switch.
 
 use afdx_police::Reason;
 use afdx_samples::{base, changed, hello, world};

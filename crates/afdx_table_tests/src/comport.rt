@@ -8,8 +8,8 @@ use std::alloc::{AllocError, Global};
 use std::process::Abort;
 use std::test::Fail;
 
-// Of all growths one alone may be refused in these tests: a call that is refused memory is made
-// again.
+/// Of all growths one alone may be refused in these tests, but for those of the largest tables: a
+/// call that is refused memory is made again.
 fn new_ports(alloc: Global, tables: &Tables, system: SystemId) -> Result<ComPorts, AllocError> {
     match ComPorts::new(alloc, tables, system) {
         Err(_) => ComPorts::new(alloc, tables, system),

@@ -1,6 +1,7 @@
 //! Tables with known answers, and each fault of the one order of checks.
 //!
-//! Each reading that lacks memory is made again, so the tests pass where any one growth is refused.
+//! Each reading that lacks memory is made again, so the tests of this file, not those of `faults`,
+//! pass where any one growth is refused.
 
 use afdx_config::{ConfigFault, Kind, Part, Place, SystemId, Tables, read_tables};
 use afdx_frame::{Policing, Priority, VlId};

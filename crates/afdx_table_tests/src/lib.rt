@@ -1,4 +1,4 @@
-//! Tests of configurations and admission, and of what a receiver makes of the tables.
+//! Tests of configurations, admission, bounds, receivers and communication ports.
 #![tactic(auto)]
 
 #[cfg(test)]

@@ -16,8 +16,8 @@ const HIGH_OF_LINK: usize = 4;
 
 const LOW_OF_LINK: usize = 5;
 
-// Of all growths one alone may be refused in these tests: a call that is refused memory is made
-// again.
+/// Of all growths one alone may be refused in these tests, but for those of the largest tables: a
+/// call that is refused memory is made again.
 fn new_receiver(alloc: Global, tables: &Tables, system: SystemId) -> Result<Receiver, AllocError> {
     match Receiver::new(alloc, tables, system) {
         Err(_) => Receiver::new(alloc, tables, system),

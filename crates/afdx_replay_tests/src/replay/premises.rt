@@ -1,4 +1,5 @@
-//! Each premise of the promises is needed: what a replay tells where one of them is missing.
+//! What a replay tells without admission, without a lawful stream, and without a port: these
+//! premises of the promises are needed.
 
 use super::replays::replayed;
 use afdx_samples::{ShortText, base, changed};

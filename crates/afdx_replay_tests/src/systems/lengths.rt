@@ -1,4 +1,4 @@
-//! Messages of all lengths.
+//! Messages of some lengths, the least and the greatest among them; all are in tests/streams.py.
 
 use super::receive;
 use afdx_config::Tables;
@@ -90,7 +90,7 @@ fn wrongly_printed(alloc: Global) -> Result<Option<usize>, Fail> {
 }
 
 #[test]
-fn messages_of_all_lengths(rt: HostRuntime) -> Result<(), Fail> {
+fn messages_of_some_lengths(rt: HostRuntime) -> Result<(), Fail> {
     assert_eq!(rt; wrongly_printed(rt.alloc())?, None);
     Ok(())
 }

@@ -1,4 +1,5 @@
-//! The verdicts of a switch: one of each reason to drop a frame, in the order of the checks.
+//! The verdicts of a switch: one of each reason to drop a frame but `under-lmin`, in the order of
+//! the checks.
 
 use super::steps::Fate::{Dropped, Forwarded};
 use super::steps::Step::Comes;
@@ -22,13 +23,13 @@ fn one_of_each_verdict(rt: HostRuntime) -> Result<(), Fail> {
     let stranger = sealed(&HELLO, &[(5, 9)]);
     let longer = longer_hello();
     let steps = [
-        (0, Comes(1, 1, &broken, Dropped(Reason::BadFcs))),
-        (0, Comes(1, 2, &[0; 63], Dropped(Reason::TooShort))),
-        (0, Comes(1, 3, &[0; 1519], Dropped(Reason::TooLong))),
+        (0, Comes(1, 1, &[0; 63], Dropped(Reason::TooShort))),
+        (0, Comes(1, 2, &[0; 1519], Dropped(Reason::TooLong))),
+        (0, Comes(1, 3, &broken, Dropped(Reason::BadFcs))),
         (0, Comes(1, 4, &nameless, Dropped(Reason::BadAddress))),
         (0, Comes(1, 5, &stranger, Dropped(Reason::UnknownLink))),
-        (0, Comes(1, 6, &longer, Dropped(Reason::OverLmax))),
-        (0, Comes(2, 7, &frame, Dropped(Reason::WrongPort))),
+        (0, Comes(2, 6, &frame, Dropped(Reason::WrongPort))),
+        (0, Comes(1, 7, &longer, Dropped(Reason::OverLmax))),
         // None of these was charged.
         (0, Comes(1, 8, &frame, Forwarded)),
         (0, Comes(1, 9, &frame, Dropped(Reason::OverRate))),

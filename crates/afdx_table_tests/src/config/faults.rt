@@ -146,9 +146,9 @@ fn beginnings(rt: HostRuntime) -> Result<(), Fail> {
     let (front, _) = base().split_once("\nlmax = 64").ok_or("absent")?;
     let cut = told(rt.alloc(), front.as_bytes())?;
     assert_eq!(rt; cut.as_str(), "Missing link 1 key 6");
-    // A cut between two tables leaves lawful tables, with no, one or two line feeds after the last
-    // value: one of 7 places, and the last with no line feed alone. So does one within a rate of
-    // 100, behind 10.
+    // A cut behind one of the first seven tables, the top among them, leaves lawful tables with no,
+    // one or two line feeds after the last value; behind the eighth only with none. So does one
+    // behind the 10 of a rate of 100, three times.
     assert_eq!(rt;
         lawful_beginnings(rt.alloc(), base().as_bytes()),
         3 * 7 + 1 + 3
