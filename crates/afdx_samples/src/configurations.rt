@@ -111,6 +111,15 @@ pub fn changed(text: &str, old: &str, new: &str) -> Result<ShortText, Fail> {
     joined(front, new, back)
 }
 
+/// The base text in profile 2, with lines of a gigabit.
+pub fn gigabit() -> Result<ShortText, Fail> {
+    let mut text = changed(base(), "profile = 1", "profile = 2")?;
+    for _ in 0..3_u8 {
+        text = changed(text.as_str(), "rate = 100\n", "rate = 1000\n")?;
+    }
+    Ok(text)
+}
+
 fn push_system(text: &mut String, place: u8) -> Result<(), AllocError> {
     write!(text, "[[system]]\nname = \"s{place}\"\nport = {place}\n")?;
     write!(text, "id = {place}\npartition = 1\nrate = 100\n")

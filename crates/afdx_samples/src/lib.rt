@@ -7,6 +7,7 @@ mod configurations;
 mod frames;
 
 pub use configurations::{
-    GREATEST_COUNT, ShortText, admitted, base, base_tables, changed, largest, largest_tables, read,
+    GREATEST_COUNT, ShortText, admitted, base, base_tables, changed, gigabit, largest,
+    largest_tables, read,
 };
 pub use frames::{HELLO, NUMBER, WORLD, hello, longer_hello, sealed, spelled, world};

@@ -5,7 +5,7 @@
 use afdx_admit::{AdmitFault, AdmitText, admit, bounds_of};
 use afdx_config::{SystemId, Tables};
 use afdx_frame::VlId;
-use afdx_samples::{ShortText, base, changed, read};
+use afdx_samples::{ShortText, base, changed, gigabit, read};
 use std::alloc::Global;
 use std::fmt::{self, Write};
 use std::test::Fail;
@@ -42,14 +42,6 @@ fn network(last_rate: u64, count: u16, bag_ms: u64, delay_us: u64) -> Result<Sho
         push_link(&mut text, vl, bag_ms, delay_us)?;
     }
     Ok(text)
-}
-
-/// The base network with lines of a gigabit.
-fn gigabit() -> Result<ShortText, Fail> {
-    let first = changed(base(), "rate = 100\n", "rate = 1000\n")?;
-    let second = changed(first.as_str(), "rate = 100\n", "rate = 1000\n")?;
-    let third = changed(second.as_str(), "rate = 100\n", "rate = 1000\n")?;
-    changed(third.as_str(), "profile = 1", "profile = 2")
 }
 
 fn written(alloc: Global, text: AdmitText) -> Result<String, Fail> {

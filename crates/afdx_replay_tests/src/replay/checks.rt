@@ -2,7 +2,7 @@
 
 use crate::texts::short_text;
 use afdx_replay::{Watched, check};
-use afdx_samples::{ShortText, base, changed, largest};
+use afdx_samples::{ShortText, base, changed, gigabit, largest};
 use std::alloc::Global;
 use std::fmt::Write;
 use std::test::Fail;
@@ -74,15 +74,6 @@ fn jitter(rt: HostRuntime) -> Result<(), Fail> {
     let enough = ends(rt.alloc(), enough.as_str(), "ok\n")?;
     assert_eq!(rt; (small, enough), ((1, true), (0, true)));
     Ok(())
-}
-
-/// The base text with ten times the rate everywhere.
-fn gigabit() -> Result<ShortText, Fail> {
-    let mut text = changed(base(), "profile = 1", "profile = 2")?;
-    for _ in 0..3_u8 {
-        text = changed(text.as_str(), "rate = 100\n", "rate = 1000\n")?;
-    }
-    Ok(text)
 }
 
 #[test]
