@@ -182,13 +182,16 @@ def answers(said: str, crate: str) -> dict[str, str]:
     return {it[1].replace("fn::", ""): it[2] for it in found if it}
 
 
-def own_reason(said: str, function: str, why: str) -> str | None:
+def own_reason(said: str, function: str, why: str, is_alone: bool) -> str | None:
     """Why this function, of which the prover says `why`, is refused for its own body, if it is.
 
     It is, where its own proof has an error, or a goal of it is open, whatever it calls. An error
-    for a name that isn't there tells nothing of the body.
+    for a name that isn't there tells nothing of the body. Where the edit was tried alone, and the
+    function calls nothing that is refused, an error of a lemma that its proof cites tells as much.
     """
     place = rf"(\./)?proofs/{re.escape(function.replace('::', '/'))}/\S+"
+    if is_alone and "it calls" not in why:
+        place = r"\S+"
     told = [it for it in said.splitlines() if re.match(rf"{place}:\d+:\d+: error", it)]
     if told:
         own = (it.split(": error: ", 1)[-1] for it in told if not re.match(VANISHED, it))
@@ -199,18 +202,17 @@ def own_reason(said: str, function: str, why: str) -> str | None:
 def refusal(edit: Edit, said: str, answered: dict[str, str], is_alone: bool) -> str | None:
     """Why the prover refused a function of the edit; None where that may be for another edit.
 
-    Raises BadEdit where it was not refused, or only for a name that a proof looked for in vain.
+    Raises BadEdit where it was not refused, or, alone, for nothing that its own body says.
     """
     of_it = {it: answered.get(it, "not looked at") for it in edit.functions}
     refused = {it: why for it, why in of_it.items() if why not in ("proved", "not looked at")}
     if not refused:
         raise BadEdit(f"NOT REFUSED: {of_it}")
-    if is_alone:
-        told = [it for it in said.splitlines() if re.match(r"\S+:\d+:\d+: error", it)]
-        if told and all(re.match(VANISHED, it) for it in told):
-            raise BadEdit(f"refused only since a proof names what it took away: {told[0][:160]}")
-    own = ((it, own_reason(said, it, why)) for it, why in refused.items())
-    return next((f"{it}: {reason[:100]}" for it, reason in own if reason), None)
+    own = ((it, own_reason(said, it, why, is_alone)) for it, why in refused.items())
+    reason = next((f"{it}: {reason[:100]}" for it, reason in own if reason), None)
+    if is_alone and reason is None:
+        raise BadEdit(f"refused only for what it calls, or for names that it took away: {refused}")
+    return reason
 
 
 def try_together(prover: Prover, edits: list[Edit]) -> tuple[list[Edit], list]:
@@ -223,8 +225,8 @@ def try_together(prover: Prover, edits: list[Edit]) -> tuple[list[Edit], list]:
     for edit in chosen:
         try:
             why = refusal(edit, said, answers(said, prover.crate), is_alone)
-            if why or is_alone:
-                results.append((bool(why), f"{edit.name}: refused: {why or 'for what it calls'}"))
+            if why:
+                results.append((True, f"{edit.name}: refused: {why}"))
             else:
                 left.append(edit)
         except BadEdit as fault:
