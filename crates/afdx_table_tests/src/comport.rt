@@ -87,23 +87,31 @@ fn take(rt: &impl Abort, ports: &mut ComPorts) -> Option<u8> {
     Some(*byte)
 }
 
-/// Whether what is done has become what it must.
-fn is_done(rt: &impl Abort, ports: &mut ComPorts, step: Step) -> bool {
+/// Whether the answer is this one. Fails where memory was refused again.
+fn is_answer(answer: Result<(), PutFault>, wanted: Result<(), PutFault>) -> Result<bool, PutFault> {
+    match answer {
+        Err(PutFault::Memory) => Err(PutFault::Memory),
+        answer => Ok(answer == wanted),
+    }
+}
+
+/// Whether what is done has become what it must. Fails where memory was refused again.
+fn is_done(rt: &impl Abort, ports: &mut ComPorts, step: Step) -> Result<bool, PutFault> {
     match step {
-        Step::Sample(time, byte) => put_sample(rt, ports, time, byte) == Ok(()),
-        Step::Shows(time, byte) => sample(rt, ports) == Some((time, byte)),
-        Step::ShowsNone => sample(rt, ports).is_none(),
-        Step::Queue(byte) => put_queued(rt, ports, byte) == Ok(()),
-        Step::IsFull(byte) => put_queued(rt, ports, byte) == Err(PutFault::Full),
-        Step::Takes(byte) => take(rt, ports) == Some(byte),
-        Step::IsEmpty => take(rt, ports).is_none(),
+        Step::Sample(time, byte) => is_answer(put_sample(rt, ports, time, byte), Ok(())),
+        Step::Shows(time, byte) => Ok(sample(rt, ports) == Some((time, byte))),
+        Step::ShowsNone => Ok(sample(rt, ports).is_none()),
+        Step::Queue(byte) => is_answer(put_queued(rt, ports, byte), Ok(())),
+        Step::IsFull(byte) => is_answer(put_queued(rt, ports, byte), Err(PutFault::Full)),
+        Step::Takes(byte) => Ok(take(rt, ports) == Some(byte)),
+        Step::IsEmpty => Ok(take(rt, ports).is_none()),
     }
 }
 
 /// Does one step after another at the ports, and asserts what becomes of it.
 fn play(rt: &impl Abort, ports: &mut ComPorts, steps: &[Step]) {
     for step in steps {
-        assert!(rt; is_done(rt, ports, *step), "{step:?}");
+        assert_eq!(rt; is_done(rt, ports, *step), Ok(true), "{step:?}");
     }
 }
 

@@ -76,7 +76,8 @@ fn submit(sender: &mut Sender, time: u64, vl: u16, sub: u8, payload: &[u8]) -> R
     }
 }
 
-/// Whether the sender rests, and a message that is submitted then has this answer.
+/// Whether the sender rests, and a message that is submitted then has this answer. Fails where
+/// memory is refused again.
 fn answers(
     sender: &mut Sender,
     time: u64,
@@ -91,7 +92,10 @@ fn answers(
     if time > LATEST || !rests(sender, time)? {
         return Ok(false);
     }
-    Ok(submit(sender, time, vl, sub, payload) == answer)
+    match submit(sender, time, vl, sub, payload) {
+        Err(SendFault::Memory) => Err(AllocError),
+        found => Ok(found == answer),
+    }
 }
 
 /// Whether a message is taken that often.
