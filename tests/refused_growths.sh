@@ -15,8 +15,8 @@
 # Of each RUNNER the tests whose names, with their modules', contain `refused` are run, with one
 # request refused at a time, and with all refused from one on. Such a test makes a call again where
 # it answered want of memory, and asserts what holds then, or asserts an answer that needs none: it
-# must pass where one request was refused. Where all later
-# ones are refused too it may fail, but only by want of memory: the failure has to name it.
+# must pass where one request was refused. Where all later ones are refused too it may fail, but
+# only by want of memory: the failure has to name it.
 #
 # The requests are refused by tests/refuse.c, which `cc` compiles. Prints `ok NAME` or `FAILED NAME`
 # for each case (a program's whole row of runs, or one test's), then `N passed, M failed`. Ends with

@@ -16,7 +16,7 @@ pub const HELLO: [u8; 60] = [
 
 /// A frame of link 2 on side A without its check sequence: `world` from UDP port 2000 to UDP port
 /// 2000, number 0.
-pub const WORLD: [u8; 60] = [
+const WORLD: [u8; 60] = [
     3, 0, 0, 0, 0, 2, 2, 0, 0, 0, 2, 0x20, 8, 0, 0x45, 0, 0, 0x21, 0, 0, 0, 0, 1, 0x11, 0xcc, 0xe9,
     0x0a, 0, 2, 1, 0xe0, 0xe0, 0, 2, 7, 0xd0, 7, 0xd0, 0, 0x0d, 0, 0, 0x77, 0x6f, 0x72, 0x6c, 0x64,
     0, 0, 0, 0, 0, 0, 0, 0, 0, 0, 0, 0, 0,

@@ -10,4 +10,4 @@ pub use configurations::{
     GREATEST_COUNT, ShortText, admitted, base, base_tables, changed, gigabit, largest,
     largest_tables, read,
 };
-pub use frames::{HELLO, NUMBER, WORLD, hello, longer_hello, sealed, spelled, world};
+pub use frames::{HELLO, NUMBER, hello, longer_hello, sealed, spelled, world};
