@@ -5,8 +5,8 @@
 
 PROGRAM is the built program, crates/afdx/out/afdx where it isn't given. For S seconds (20 where it
 isn't given) it tries one case after the other: `check` and `replay` of a configuration and a list,
-`police` of the list, and `send` where the program has it. tests/fuzzing/made.py makes the cases,
-tests/fuzzing/checks.py holds what must be so of any output. Beside that
+`police` of the list, and `send`. tests/fuzzing/made.py makes the cases, tests/fuzzing/checks.py
+holds what must be so of any output. Beside that
 
 - each command is run twice, once with the list on standard input, and must answer the same;
 - where a list has a fault, the output is a beginning of that of the lines before it alone;
@@ -179,7 +179,7 @@ def try_send(runs, case):
         checks.check_delivered(case.tables, sent, out)
 
 
-def try_case(runs, seed, number, stored, sends):
+def try_case(runs, seed, number, stored):
     chance = random.Random(f"{seed}/{number}")
     case = made.random_case(chance, *stored)
     runs.write("config", case.config)
@@ -187,7 +187,7 @@ def try_case(runs, seed, number, stored, sends):
     checked = try_check(runs, case)
     try_replay(runs, case, checked)
     try_police(runs, case, chance)
-    if sends and case.messages:
+    if case.messages:
         try_send(runs, case)
 
 
@@ -217,10 +217,9 @@ def main():
     number = given.first
     with tempfile.TemporaryDirectory(prefix="afdx-fuzz-") as folder:
         runs = Runs(os.path.abspath(given.program), folder)
-        sends = runs.run(["send", "--help"])[0] == 0
         while time.monotonic() < end:
             try:
-                try_case(runs, given.seed, number, stored, sends)
+                try_case(runs, given.seed, number, stored)
             except Wrong as wrong:
                 print(f"WRONG: {wrong}\nseed {given.seed}, case {number}, kept in {keep(runs, given.keep)}")
                 sys.exit(1)

@@ -61,6 +61,14 @@ def below(crate: str, named: dict[str, list[str]]) -> set[str]:
     return own.union(*(below(it, named) for it in own))
 
 
+def put_answers(proofs: pathlib.Path, function: str) -> None:
+    """Puts an empty file of answers where there is none: the prover then doesn't seek some to offer."""
+    if re.fullmatch(r"\w+(::\w+)*", function):
+        folder = proofs.joinpath(*function.split("::"))
+        folder.mkdir(parents=True, exist_ok=True)
+        (folder / "Answers.antt").touch()
+
+
 @dataclass
 class Prover:
     """The prover over one crate: where the libraries are built, and the work of its runs before."""
@@ -96,6 +104,8 @@ class Prover:
                     shutil.copytree(CRATES / self.crate / part, room / part)
             for path, text in texts.items():
                 (room / path).write_text(text, encoding="utf-8")
+            for function in functions:
+                put_answers(room / "proofs", function)
             ran = subprocess.run(
                 self.command(functions), cwd=room, stdin=subprocess.DEVNULL,
                 stdout=subprocess.PIPE, stderr=subprocess.STDOUT, errors="replace", check=False,

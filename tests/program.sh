@@ -90,8 +90,7 @@ full_case() { # NAME STATUS ERR WORD..
     )"
 }
 
-for part in police check replay words explain; do source "$top/tests/program/$part.sh"; done
-if "$program" send --help >/dev/null 2>&1; then source "$top/tests/program/send.sh"; fi
+for part in police check replay words explain send; do source "$top/tests/program/$part.sh"; done
 
 echo "$passed passed, $failed failed"
 [[ $failed -eq 0 ]]

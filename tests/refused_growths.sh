@@ -6,11 +6,10 @@
 #
 # PROGRAM polices examples/one_link.list on standard input, checks examples/base.toml, explains a
 # line, replays a frame and its copy in examples/base.toml, replays examples/gigabit.list, and sends
-# five messages, of which one is refused, where it has the command send. Each of these is run with
-# the first request refused, then the second, and so on, until a run meets no refusal; and again
-# with all requests refused from the first on, from the second on, and so on. Each run must write a
-# beginning of what the undisturbed run writes, and end either with the line `memory` and status 4,
-# or as the undisturbed run does.
+# five messages, of which one is refused. Each of these is run with the first request refused, then
+# the second, and so on, until a run meets no refusal; and again with all requests refused from the
+# first on, from the second on, and so on. Each run must write a beginning of what the undisturbed
+# run writes, and end either with the line `memory` and status 4, or as the undisturbed run does.
 #
 # Of each RUNNER the tests whose names, with their modules', contain `refused` are run, with one
 # request refused at a time, and with all refused from one on. Such a test makes a call again where
@@ -147,11 +146,9 @@ if [[ $tests == no ]]; then
     refuse_program 'replay a frame and its copy' "$1" replay "$top/examples/base.toml" -
     input=$top/examples/gigabit.list
     refuse_program 'replay gigabit.list' "$1" replay --no-admission "$top/examples/gigabit.toml" -
-    if "$1" send --help >/dev/null 2>&1; then
-        input=$work/messages.list
-        printf '0 1 %d 1000 61\n' 1 1 2 2 3 >"$input"
-        refuse_program 'send five messages' "$1" send "$top/examples/base.toml" s1 -
-    fi
+    input=$work/messages.list
+    printf '0 1 %d 1000 61\n' 1 1 2 2 3 >"$input"
+    refuse_program 'send five messages' "$1" send "$top/examples/base.toml" s1 -
 else
     input=/dev/null
     for runner in "$@"; do

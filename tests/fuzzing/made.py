@@ -228,7 +228,7 @@ class Case:
 
 
 def stored():
-    """The examples' configurations and lists, and the rules that they are policed by."""
+    """The examples' configurations and lists."""
     configs = {name: read(name) for name in ("base.toml", "network.toml", "refused.toml", "gigabit.toml")}
     lists = {name: read(name) for name in ("bench.list", "gigabit.list", "babbling.list", "one_link.list")}
     return configs, lists

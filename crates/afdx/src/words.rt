@@ -50,28 +50,44 @@ Examples:
 const CONFIG_HELP: &str = "The path of a configuration (TOML), at most 4,194,304 bytes; \
 /dev/stdin for standard input";
 
+const LIST_HELP: &str = "The path of a frame list, or - for standard input";
+
+/// An option without a value.
+fn flag<'a>(alloc: Global, name: &'a str, help: &'a str) -> Arg<'a> {
+    Arg::new(alloc, name)
+        .long(name)
+        .help(help)
+        .action(ArgAction::SetTrue)
+}
+
+/// A word that has to be there.
+fn word<'a>(alloc: Global, name: &'a str, help: &'a str) -> Arg<'a> {
+    Arg::new(alloc, name).help(help).required(true)
+}
+
+/// A number, in decimal digits.
+fn number<'a>(alloc: Global, name: &'a str, help: &'a str) -> Arg<'a> {
+    Arg::new(alloc, name)
+        .help(help)
+        .value_parser(value_parser!(u64))
+}
+
 /// The option by which each line is seen at once.
 fn line_buffered<'a>(alloc: Global) -> Arg<'a> {
-    Arg::new(alloc, "line-buffered")
-        .long("line-buffered")
-        .help("Hands the text of each line over at once, and not in large pieces")
-        .action(ArgAction::SetTrue)
+    let help = "Hands the text of each line over at once, and not in large pieces";
+    flag(alloc, "line-buffered", help)
 }
 
 /// The option by which a fault is explained.
 fn explain_option<'a>(alloc: Global) -> Arg<'a> {
-    Arg::new(alloc, "explain")
-        .long("explain")
-        .help("Explains the fault on standard error, behind its one line")
-        .action(ArgAction::SetTrue)
+    let help = "Explains the fault on standard error, behind its one line";
+    flag(alloc, "explain", help)
 }
 
 /// The option by which the counts of a run are printed.
 fn summary_option<'a>(alloc: Global) -> Arg<'a> {
-    Arg::new(alloc, "summary")
-        .long("summary")
-        .help("Prints the counts of the run on standard error, once it is done")
-        .action(ArgAction::SetTrue)
+    let help = "Prints the counts of the run on standard error, once it is done";
+    flag(alloc, "summary", help)
 }
 
 const CHECK_ABOUT: &str = "Says whether a network is sure to keep its latencies";
@@ -103,7 +119,7 @@ Example:
   afdx check examples/network.toml";
 
 fn check_command<'a>(alloc: Global) -> Result<Command<'a>, AllocError> {
-    let config = Arg::new(alloc, "CONFIG").help(CONFIG_HELP).required(true);
+    let config = word(alloc, "CONFIG", CONFIG_HELP);
     Command::new(alloc, "check")
         .about(CHECK_ABOUT)
         .after_help(CHECK_AFTER)
@@ -138,14 +154,10 @@ Example:
   afdx replay examples/network.toml examples/bench.list";
 
 fn replay_command<'a>(alloc: Global) -> Result<Command<'a>, AllocError> {
-    let freely = Arg::new(alloc, "no-admission")
-        .long("no-admission")
-        .help("Replays also in tables that are not admitted")
-        .action(ArgAction::SetTrue);
-    let config = Arg::new(alloc, "CONFIG").help(CONFIG_HELP).required(true);
-    let list = Arg::new(alloc, "LIST")
-        .help("The path of a frame list, or - for standard input")
-        .required(true);
+    let help = "Replays also in tables that are not admitted";
+    let freely = flag(alloc, "no-admission", help);
+    let config = word(alloc, "CONFIG", CONFIG_HELP);
+    let list = word(alloc, "LIST", LIST_HELP);
     Command::new(alloc, "replay")
         .about(REPLAY_ABOUT)
         .after_help(REPLAY_AFTER)
@@ -185,14 +197,12 @@ A closed pipe, as with '| head', is the fault 'device Write', status 4.
 Example:
   afdx send examples/network.toml fcc1 examples/messages.list";
 
+const SUBMISSIONS_HELP: &str = "The path of a submission list, or - for standard input";
+
 fn send_command<'a>(alloc: Global) -> Result<Command<'a>, AllocError> {
-    let config = Arg::new(alloc, "CONFIG").help(CONFIG_HELP).required(true);
-    let system = Arg::new(alloc, "SYSTEM")
-        .help("The name of the system that sends")
-        .required(true);
-    let list = Arg::new(alloc, "SUBMISSIONS")
-        .help("The path of a submission list, or - for standard input")
-        .required(true);
+    let config = word(alloc, "CONFIG", CONFIG_HELP);
+    let system = word(alloc, "SYSTEM", "The name of the system that sends");
+    let list = word(alloc, "SUBMISSIONS", SUBMISSIONS_HELP);
     Command::new(alloc, "send")
         .about(SEND_ABOUT)
         .after_help(SEND_AFTER)
@@ -204,42 +214,33 @@ fn send_command<'a>(alloc: Global) -> Result<Command<'a>, AllocError> {
         .arg(list)
 }
 
+const BAG_HELP: &str = "The bandwidth allocation gap in ms: 1, 2, 4, 8, 16, 32, 64 or 128";
+
+const LMAX_HELP: &str = "The greatest length of a frame in bytes, 64 to 1518";
+
 const LMIN_HELP: &str = "The least length of a frame in bytes, 64 to LMAX";
 
 /// An option with a number.
 fn number_option<'a>(alloc: Global, name: &'a str, usual: &'a str, help: &'a str) -> Arg<'a> {
-    Arg::new(alloc, name)
+    number(alloc, name, help)
         .long(name)
         .value_name("N")
-        .help(help)
         .default_value(usual)
-        .value_parser(value_parser!(u64))
 }
 
 const KINDS_OF_POLICING: &[&str] = &["byte", "frame"];
 
 fn police_command<'a>(alloc: Global) -> Result<Command<'a>, AllocError> {
-    let bag = Arg::new(alloc, "BAG_MS")
-        .help("The bandwidth allocation gap in ms: 1, 2, 4, 8, 16, 32, 64 or 128")
-        .required(true)
-        .value_parser(value_parser!(u64));
-    let lmax = Arg::new(alloc, "LMAX")
-        .help("The greatest length of a frame in bytes, 64 to 1518")
-        .required(true)
-        .value_parser(value_parser!(u64));
-    let jitter = Arg::new(alloc, "JITTER_US")
-        .help("The jitter in us, at most the gap")
-        .required(true)
-        .value_parser(value_parser!(u64));
+    let bag = number(alloc, "BAG_MS", BAG_HELP);
+    let lmax = number(alloc, "LMAX", LMAX_HELP);
+    let jitter = number(alloc, "JITTER_US", "The jitter in us, at most the gap");
     let policing = Arg::new(alloc, "policing")
         .long("policing")
         .value_name("KIND")
         .help("By bytes a frame is charged by its length, by frames as the longest")
         .default_value("byte")
         .value_parser(KINDS_OF_POLICING);
-    let list = Arg::new(alloc, "LIST")
-        .help("The path of a frame list, or - for standard input")
-        .required(true);
+    let list = word(alloc, "LIST", LIST_HELP);
     Command::new(alloc, "police")
         .about(POLICE_ABOUT)
         .after_help(POLICE_AFTER)
@@ -250,9 +251,9 @@ fn police_command<'a>(alloc: Global) -> Result<Command<'a>, AllocError> {
         .arg(explain_option(alloc))?
         .arg(line_buffered(alloc))?
         .arg(summary_option(alloc))?
-        .arg(bag)?
-        .arg(lmax)?
-        .arg(jitter)?
+        .arg(bag.required(true))?
+        .arg(lmax.required(true))?
+        .arg(jitter.required(true))?
         .arg(list)
 }
 
@@ -271,10 +272,7 @@ Examples:
   afdx explain over-rate";
 
 fn explain_command<'a>(alloc: Global) -> Result<Command<'a>, AllocError> {
-    let text = Arg::new(alloc, "TEXT")
-        .help("A line, in quotes or not, or a word of one")
-        .required(true)
-        .num_args(1..);
+    let text = word(alloc, "TEXT", "A line, in quotes or not, or a word of one").num_args(1..);
     Command::new(alloc, "explain")
         .about(EXPLAIN_ABOUT)
         .after_help(EXPLAIN_AFTER)

@@ -10,6 +10,7 @@ use Rattle.afdx_frame.specs.Regulation.{byte_units}
 use Rattle.afdx_config.specs.Rows.{SystemRow, LinkRow, Rows}
 use Rattle.afdx_config.specs.Reading.{system_at_port}
 use Rattle.afdx_frame.specs.Flows.{Flow, of_class, burst, load, high_wait, low_wait, high_load}
+use Rattle.afdx_frame.specs.Ports.{last_port}
 use Rattle.afdx_config.specs.Admission.{byte_ns, links_from, flows_to, sender_jitter}
 use Rattle.afdx_config.specs.Admission.{greatest_jitter}
 use Rattle.afdx_admit.specs.declared.fault.AdmitFault.{AdmitFault}
@@ -126,6 +127,6 @@ each_from lines_of from (suc count) = lines_of from ++ each_from lines_of (from 
 -- ports ascending, then systems and then links in file order
 unfoldable pub lines : Rows → List Line
 lines t =
-    each_from (port_lines t) 1 24
+    each_from (port_lines t) 1 last_port
     ++ (each_from (sender_lines t) 0 (length t.systems)
     ++ each_from (link_lines t) 0 (length t.links))

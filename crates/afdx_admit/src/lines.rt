@@ -6,6 +6,7 @@ ghost use Rattle.afdx_config.specs.Rows.{link_row};
 ghost use Rattle.afdx_config.specs.Lawful.{IsLawful};
 ghost use Rattle.afdx_frame.specs.Flows.{is_class, of_class};
 ghost use Rattle.afdx_frame.specs.Regulation.{byte_units};
+ghost use Rattle.afdx_frame.specs.Ports.{last_port};
 ghost use Rattle.afdx_config.specs.Admission.{flows_to};
 ghost use Rattle.afdx_admit.specs.Lines as spec;
 ghost use Rattle.afdx_admit.specs.Late as late;
@@ -15,7 +16,7 @@ ghost use Rattle.afdx_admit.specs.Known.{IsKnown};
 use crate::fault::AdmitFault;
 use crate::sums::{link_at, sums_to, wire_size};
 use afdx_config::{Link, SystemId, Tables};
-use afdx_frame::{BYTE_UNITS, Priority, VlId};
+use afdx_frame::{BYTE_UNITS, LAST_PORT, Priority, VlId};
 
 /// The jitter that each system has of its own, in ns (ARINC 664 Part 7).
 const FIXED_JITTER: u64 = 40_000;
@@ -99,10 +100,11 @@ fn port_fault(tables: &Tables, port: u8) -> Option<AdmitFault>
 
 /// The first false line of all ports.
 fn ports_fault(tables: &Tables) -> Option<AdmitFault>
-    ensures fault { result ≡ spec.first_false (spec.each_from (spec.port_lines tables.now) 1 24) }
+    ensures fault { result
+        ≡ spec.first_false (spec.each_from (spec.port_lines tables.now) 1 last_port) }
     ensures known { IfSome result (IsKnown tables.now) }
 {
-    for port in 1..25_u8 {
+    for port in 1..=LAST_PORT {
         if let Some(fault) = port_fault(tables, port) {
             return Some(fault);
         }

@@ -4,6 +4,7 @@ use Rattle.std.specs.Prelude.{IsTrue, Some}
 use Rattle.std.specs.List.{list_any, AllByRecursion}
 use Rattle.afdx_frame.specs.Lengths.{least_frame, greatest_frame, greatest_buffer}
 use Rattle.afdx_frame.specs.Regulation.{is_bag}
+use Rattle.afdx_frame.specs.Ports.{last_port}
 use Rattle.afdx_config.specs.Rows.{SystemRow, LinkRow, PortRow, Rows}
 use Rattle.afdx_config.specs.Reading.{is_name, are_apart, goes_to, deepest, rates}
 use Rattle.afdx_config.specs.Reading.{greatest_delay}
@@ -21,7 +22,7 @@ AreDistinct {R} f rows =
 
 pub record IsSystem (profile : ℕ) (s : SystemRow) : Type 0 where
   pub name : is_name s.name ≡ true
-  pub port : IsWithin 1 24 s.port
+  pub port : IsWithin 1 last_port s.port
   pub id : IsWithin 0 65535 s.id
   pub partition : IsWithin 0 255 s.partition
   pub rate : IsOneOf (rates profile) s.rate

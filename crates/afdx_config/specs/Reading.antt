@@ -14,6 +14,7 @@ use Rattle.afdx_frame.specs.declared.link.Policing.TheVariants.{Byte, Frame}
 use Rattle.toml.specs.Parse.{parse_document}
 use Rattle.toml.specs.Data.{Members}
 use Rattle.afdx_frame.specs.Regulation.{gaps}
+use Rattle.afdx_frame.specs.Ports.{last_port}
 use Rattle.afdx_config.specs.declared.fault.Part.TheVariants as part
 use Rattle.afdx_config.specs.declared.fault.Place.{Place}
 use Rattle.afdx_config.specs.declared.fault.ConfigFault.{ConfigFault}
@@ -93,7 +94,7 @@ unfoldable pub system_at : ℕ → List SystemRow → Members → Result SystemR
 system_at profile before t =
     let at : ℕ → Place = place part.System (length before + 1) in do
       name ← new_name (at 1) before t
-      port ← whole (at 2) (codes "port") 1 24 t
+      port ← whole (at 2) (codes "port") 1 last_port t
       check (not (is_some (system_at_port before port))) (Twice (at 2))
       id ← whole (at 3) (codes "id") 0 65535 t
       check (not (has_id before id)) (Twice (at 3))

@@ -15,6 +15,7 @@ use crate::fault::{ConfigFault, Part, Place};
 use crate::keys::{one_of, only_system_keys, place, text, whole};
 use crate::rows::{System, SystemId};
 use crate::systems::Systems;
+use afdx_frame::LAST_PORT;
 use std::alloc::Global;
 use toml::Table;
 
@@ -95,7 +96,7 @@ fn system_of(
     let index = before.len() + 1;
     let name = new_name(table, place(Part::System, index, 1), before)?;
     let at = place(Part::System, index, 2);
-    let port = whole(table, at, "port", 1, 24)? as u8;
+    let port = whole(table, at, "port", 1, u64::from(LAST_PORT))? as u8;
     if before.at_port(port).is_some() {
         return Err(ConfigFault::Twice(at));
     }

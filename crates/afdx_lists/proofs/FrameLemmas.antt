@@ -12,7 +12,7 @@ use Rattle.afdx_lists.specs.Forms.{from_five, five_of, if_five}
 use Rattle.afdx_lists.specs.FrameLines.{kind_of, side_of, frame_fields_with, frame_fields_from, cut_frame}
 use Rattle.afdx_lists.specs.FrameLines.{ListedFrame, frame_form, port_fault, numbers_fault, line_says}
 use Rattle.afdx_frame.specs.Times.{latest_listed}
-use Rattle.afdx_lists.specs.FrameLines.{last_port}
+use Rattle.afdx_frame.specs.Ports.{last_port}
 use Rattle.afdx_lists.proofs.FieldLemmas.{time_fault-cut, time_fault-none}
 use Rattle.afdx_lists.proofs.FormLemmas.{IsCut, five_fields, says_nothing, says-from, says-alone}
 

@@ -4,6 +4,7 @@ use Rattle.std.specs.Prelude.{if◌then◌else◌}
 use Rattle.afdx_frame.specs.Sealing.{sealed, sealed_wrongly}
 use Rattle.afdx_frame.specs.declared.link.Side.{Side}
 use Rattle.afdx_frame.specs.declared.link.Side.TheVariants.{A, B}
+use Rattle.afdx_frame.specs.Ports.{last_port}
 use Rattle.afdx_lists.specs.Letters.{letter_A, letter_B, letter_F, letter_R}
 use Rattle.afdx_lists.specs.Fields.{between_spaces, number_of, cut, time_fault, fault_or}
 use Rattle.afdx_lists.specs.Forms.{Form, from_five, five_of, said_by}
@@ -72,10 +73,6 @@ frame_said fields bytes = record {
   port = fields.port;
   bytes = frame_bytes fields.kind bytes;
 }
-
--- the greatest number of a port; the first one is 1
-abbrev pub last_port : ℕ
-last_port = 24
 
 -- the fault of a port that is not one of 1 to 24
 abbrev pub port_fault : ℕ → Option LineFault

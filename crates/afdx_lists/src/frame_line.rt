@@ -8,17 +8,15 @@ ghost use Rattle.afdx_lists.specs.Forms.{from_five, if_five};
 ghost use Rattle.afdx_lists.specs.FrameLines.{kind_of, side_of, frame_fields, frame_bytes};
 ghost use Rattle.afdx_lists.specs.FrameLines.{listed_frame, line_says, cut_frame, frame_fields_of};
 ghost use Rattle.afdx_lists.specs.FrameLines.{frame_fields_with, frame_form, numbers_fault};
-ghost use Rattle.afdx_lists.specs.FrameLines.{port_fault, last_port};
+ghost use Rattle.afdx_lists.specs.FrameLines.{port_fault};
+ghost use Rattle.afdx_frame.specs.Ports.{last_port};
 
 use crate::fault::{LineError, LineFault};
 use crate::fields::{
     fault_of_time, first_error, read_bytes, says_nothing, split_field, split_number, trim_line,
 };
-use afdx_frame::{Side, fcs, is_sealed, seal};
+use afdx_frame::{LAST_PORT, Side, fcs, is_sealed, seal};
 use std::alloc::AllocError;
-
-/// The greatest number of a port of a switch; the first one is 1.
-pub const LAST_PORT: u8 = 24;
 
 /// When and where a frame comes in at a switch.
 #[derive(Clone, Copy, Debug, PartialEq, Eq)]

@@ -15,7 +15,7 @@ mod writing;
 
 pub use buffered::Buffered;
 pub use fault::{LineError, LineFault, RunFault};
-pub use frame_line::{Heading, LAST_PORT, read_frame_line};
+pub use frame_line::{Heading, read_frame_line};
 pub use line_reader::LineReader;
 pub use submission_line::{Handed, read_submission_line};
 pub use telling::{tell, tell_fault};

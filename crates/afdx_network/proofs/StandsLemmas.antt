@@ -241,7 +241,7 @@ module _ (t : Rows) (n : Network) (events : List Event) (st : StandsFor t n even
       → IsDue t side h d → order_of (due_at gone.turn) ≤ order_of d
   gone-least side h gone d next due =
       let is : order_of d ≡ order_of (due_at due.gone.turn) = ap (λ z. order_of z) due.is in
-      elim (next.first due.gone.port due.gone.turn due.next.first_port due.next.last_port
+      elim (next.first due.gone.port due.gone.turn due.next.port_first due.next.port_last
       due.next.next) [ inl lt ↦ omega (arith, is, lt) | inr same ↦ omega (arith, is, same.0) ]
 
   -- a switch's next turn goes before those of its other ports
@@ -320,7 +320,7 @@ module _ (t : Rows) (n : Network) (events : List Event) (st : StandsFor t n even
         departure = departure_after events A g.gone.port g.gone.turn;
         in_time = g.in_time;
         hands = record { side = refl; port = g.hands.port; left = g.hands.left };
-        stands = stands-left-a a until g.gone.port g.gone.turn g.next.first_port g.next.last_port
+        stands = stands-left-a a until g.gone.port g.gone.turn g.next.port_first g.next.port_last
             g.next.next (first-a (switch.last_time n.a) g.gone.port g.gone.turn g.next others)
             g.in_time clock g.stands;
       }
@@ -345,7 +345,7 @@ module _ (t : Rows) (n : Network) (events : List Event) (st : StandsFor t n even
         departure = departure_after events B g.gone.port g.gone.turn;
         in_time = g.in_time;
         hands = record { side = refl; port = g.hands.port; left = g.hands.left };
-        stands = stands-left-b b until g.gone.port g.gone.turn g.next.first_port g.next.last_port
+        stands = stands-left-b b until g.gone.port g.gone.turn g.next.port_first g.next.port_last
             g.next.next (first-b (switch.last_time n.b) g.gone.port g.gone.turn g.next others)
             g.in_time clock g.stands;
       }

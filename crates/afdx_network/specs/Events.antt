@@ -3,6 +3,7 @@
 use Rattle.std.specs.Prelude.{ℕ, zero, suc, Option, List, [], ◌∷◌, ◌++◌, length, if◌then◌else◌}
 use Rattle.afdx_frame.specs.declared.link.Side.{Side}
 use Rattle.afdx_frame.specs.declared.link.Side.TheVariants.{A, B}
+use Rattle.afdx_frame.specs.Ports.{last_port}
 use Rattle.afdx_config.specs.Rows.{Rows}
 use Rattle.afdx_police.specs.Arrival.{Arrival, is_side}
 use Rattle.afdx_police.specs.declared.shape.Reason.{Reason}
@@ -69,7 +70,7 @@ departures_below t side arrivals (suc count) =
     ++ departures_below t side arrivals count
 
 unfoldable pub departures : Rows → Side → List Arrival → List Event
-departures t side arrivals = departures_below t side arrivals 24
+departures t side arrivals = departures_below t side arrivals last_port
 
 -- all events of these arrivals, in no order
 unfoldable pub all_events : Rows → List Arrival → List Event

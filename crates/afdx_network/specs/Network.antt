@@ -2,6 +2,7 @@
 use Rattle.std.specs.Prelude.{ℕ, ◌≡◌, ◌+◌, ◌≤◌, true, Option, Some, None, List, [], ◌∷◌, length, filter}
 use Rattle.afdx_frame.specs.declared.link.Side.{Side}
 use Rattle.afdx_frame.specs.declared.link.Side.TheVariants.{A, B}
+use Rattle.afdx_frame.specs.Ports.{last_port}
 use Rattle.afdx_config.specs.Lawful.{IsLawful}
 use Rattle.afdx_config.specs.Rows.{Rows}
 use Rattle.afdx_police.specs.declared.shape.Reason.{Reason}
@@ -26,7 +27,8 @@ use Rattle.afdx_network.specs.declared.network.Network.{Network}
 abbrev pub Follows : Rows → List Event → Event → Type 0
 Follows t before (Came c) = c ≡ admission_after t (arrivals_in before) c.arrival
 Follows t before (Left d) =
-    (1 ≤ d.port) × (d.port ≤ 24) × (d.place ≡ length (taken_at d.port (turns_on d.side before)))
+    (1 ≤ d.port) × (d.port ≤ last_port)
+    × (d.place ≡ length (taken_at d.port (turns_on d.side before)))
 
 -- each event follows those before it
 abbrev pub EachFollows : Rows → List Event → Type 0
@@ -86,7 +88,7 @@ pub record StandsFor (t : Rows) (n : Network) (events : List Event) : Type 0 whe
   pub past : (time : ℕ) → IsUntil n time → (e : Event) → IsAmong e events →
       is_below (key e) (time ∷ 1 ∷ length (arrivals_in events) ∷ []) ≡ true
   -- and before the next turn of each port
-  pub next : (side : Side) (port : ℕ) (s : Turn HeldFrame) → 1 ≤ port → port ≤ 24 →
+  pub next : (side : Side) (port : ℕ) (s : Turn HeldFrame) → 1 ≤ port → port ≤ last_port →
       IsNextOn t events side port s → (e : Event) → IsAmong e events →
       is_before e (Left (departure_after events side port s)) ≡ true
 

@@ -4,6 +4,7 @@ use Rattle.afdx_frame.specs.Lengths.{least_frame, greatest_frame}
 pub use Rattle.afdx_frame.specs.Regulation.{is_bag}
 use Rattle.afdx_frame.specs.Regulation.{Regulation, regulation_with}
 use Rattle.afdx_frame.specs.declared.link.Policing.{Policing}
+use Rattle.afdx_frame.specs.Ports.{last_port}
 
 -- the link, the one port where its frames come in, its gap in ms, its frames' least and greatest
 -- length in bytes, its jitter in us
@@ -32,7 +33,7 @@ rule_with vl port bag_ms lmin lmax jitter_us policing =
 -- each value is in its range
 pub record IsRule (rule : Rule) : Type 0 where
   pub port_first : 1 ≤ rule.port
-  pub port_last : rule.port ≤ 24
+  pub port_last : rule.port ≤ last_port
   pub bag : IsTrue (is_bag rule.bag_ms)
   pub shortest : least_frame ≤ rule.lmin
   pub ordered : rule.lmin ≤ rule.lmax

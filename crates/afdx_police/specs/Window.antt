@@ -27,10 +27,11 @@ keeps_windows link (first ∷ before) taken last =
 abbrev pub fits : Regulation → List Charged → Charged → Bool
 fits link accepted last = keeps_window link last.time 0 last && keeps_windows link accepted 0 last
 
--- those that are accepted of all that came
+-- the accepted ones, with the next frame if it fits
 abbrev pub with_next : Regulation → List Charged → Charged → List Charged
 with_next link accepted x = if fits link accepted x then x ∷ accepted else accepted
 
+-- those that are accepted of all that came
 unfoldable pub accepted_of : Regulation → List Charged → List Charged
 accepted_of link [] = []
 accepted_of link (x ∷ past) = with_next link (accepted_of link past) x

@@ -3,7 +3,7 @@
 ghost use Rattle.std.specs.Prelude.{◌≡◌, ◌↔◌, IsSome, IfSome};
 ghost use Rattle.afdx_police.specs.Rule.{IsRule, rule_with};
 
-use afdx_frame::{GAPS_MS, GREATEST_FRAME, LEAST_FRAME, Policing, VlId, WIRE_EXTRA};
+use afdx_frame::{GAPS_MS, GREATEST_FRAME, LAST_PORT, LEAST_FRAME, Policing, VlId, WIRE_EXTRA};
 
 /// How one virtual link is filtered and policed at a switch (ARINC 664 Part 7).
 ///
@@ -46,7 +46,7 @@ impl LinkRule {
     {
         let is_bag = GAPS_MS.contains(&bag_ms);
         if port >= 1
-            && port <= 24
+            && port <= LAST_PORT
             && is_bag
             && lmin >= LEAST_FRAME as u64
             && lmin <= lmax

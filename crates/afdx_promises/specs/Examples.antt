@@ -111,9 +111,9 @@ pub record AdmissionIsNeeded : Type 0 where
   pub timed : AreTimed one
   pub broken : PortsKeepPromises (tables_with 1) one → ⊥
 
--- Where times go back, a port has no schedule: here a frame that came at 1 ms stands before one
--- that came at 0, of the same class. The first turn would come at 0, and be that of the frame that
--- hasn't come.
+-- Where times go back, a port may have no schedule: here a frame that came at 1 ms stands before
+-- one that came at 0, of the same class. The first turn would come at 0, and be that of the frame
+-- that hasn't come.
 abbrev pub TimesAreNeeded : Type 0
 TimesAreNeeded = (first second : Entry HeldFrame) (turns : List (Turn HeldFrame)) →
     first.time ≡ 1000000 → second.time ≡ 0 → first.priority ≡ second.priority →

@@ -4,6 +4,7 @@ use Rattle.std.specs.Prelude.{◌≡◌, ℕ, ◌*◌, ◌≤◌, true, false, i
 use Rattle.afdx_frame.specs.declared.link.Side.{Side}
 use Rattle.afdx_frame.specs.declared.link.Side.TheVariants.{A, B}
 use Rattle.afdx_frame.specs.Sides.{is_side}
+use Rattle.afdx_frame.specs.Ports.{last_port}
 use Rattle.afdx_config.specs.LawfulStream.{Sending, IsLawfulStream}
 use Rattle.afdx_config.specs.Lawful.{IsLawful}
 use Rattle.afdx_config.specs.Reading.{has_port}
@@ -98,7 +99,7 @@ ReceptionsExist = (t : Rows) (port : ℕ) (arrivals : List Arrival) → IsAdmitt
 -- in the one order of all events, what they bring to a port is that list
 abbrev pub EventsBringReceptions : Type 0
 EventsBringReceptions = (t : Rows) (arrivals : List Arrival) (events : List Event) (port : ℕ) →
-    IsLawful t → AreTimed arrivals → 1 ≤ port → port ≤ 24 → AreEvents t arrivals events →
+    IsLawful t → AreTimed arrivals → 1 ≤ port → port ≤ last_port → AreEvents t arrivals events →
     AreReceptions t port arrivals (brought_by port events)
 
 -- alone: with two lists in which a link has equal own arrivals on a side, it has equal verdicts and
@@ -186,10 +187,10 @@ pub record EventsKeepPromises (t : Rows) (arrivals : List Arrival)
   pub departures : (d : Departure) → IsAmong (Left d) events → IsInTime t d.turn
   -- those of a port are its schedule, by which exactly the accepted frames of each link that goes
   -- there leave it
-  pub turns : (side : Side) (port : ℕ) → 1 ≤ port → port ≤ 24 →
+  pub turns : (side : Side) (port : ℕ) → 1 ≤ port → port ≤ last_port →
       taken_at port (turns_on side events) ≡ turns_at t side port arrivals
   -- and they bring it what its system receives
-  pub receptions : (port : ℕ) → 1 ≤ port → port ≤ 24 →
+  pub receptions : (port : ℕ) → 1 ≤ port → port ≤ last_port →
       AreReceptions t port arrivals (brought_by port events)
 
 abbrev pub EventsAreAsPromised : Type 0
@@ -202,7 +203,7 @@ pub record EventsSoFarKeepPromises (t : Rows) (arrivals : List Arrival)
     (events : List Event) : Type 0 where
   pub admissions : (c : Admission) → IsAmong (Came c) events → IsAsPromised t arrivals c
   pub departures : (d : Departure) → IsAmong (Left d) events → IsInTime t d.turn
-  pub frames : (side : Side) (port place : ℕ) (l : LinkRow) → 1 ≤ port → port ≤ 24 →
+  pub frames : (side : Side) (port place : ℕ) (l : LinkRow) → 1 ≤ port → port ≤ last_port →
       slice_get t.links place ≡ Some l →
       (rest : List Passing) × ((if goes_to t l port then accepted_frames t l side arrivals else [])
       ≡ frames_left l.vl (taken_at port (turns_on side events)) ++ rest)

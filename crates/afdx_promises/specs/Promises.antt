@@ -9,6 +9,7 @@
 use Rattle.std.specs.Prelude.{◌≡◌, ℕ, ◌+◌, ◌*◌, ◌≤◌, true, false, if◌then◌else◌, Some, None, max, List, [], ◌++◌, filter, length, map, reverse, slice_get, take}
 use Rattle.afdx_frame.specs.declared.link.Side.{Side}
 use Rattle.afdx_frame.specs.declared.link.Side.TheVariants.{A, B}
+use Rattle.afdx_frame.specs.Ports.{last_port}
 use Rattle.afdx_config.specs.LawfulStream.{Sending}
 use Rattle.afdx_config.specs.Reading.{has_port, system_at_port}
 use Rattle.afdx_config.specs.Rows.{SystemRow, LinkRow, Rows, is_to}
@@ -48,7 +49,7 @@ frames_due t l side port lines =
     if goes_to t l port then map passing (accepted_in (verdicts_on l.vl side lines)) else []
 
 abbrev pub AreFrames : Rows → List Line → Type 0
-AreFrames t lines = (side : Side) (port place : ℕ) (l : LinkRow) → 1 ≤ port → port ≤ 24 →
+AreFrames t lines = (side : Side) (port place : ℕ) (l : LinkRow) → 1 ≤ port → port ≤ last_port →
     slice_get t.links place ≡ Some l →
     frames_at l.vl side port lines ≡ frames_due t l side port lines
 
@@ -96,7 +97,7 @@ pub record AreReceived (t : Rows) (lines : List Line) : Type 0 where
 -- two texts tell the same of a link on a side: equal verdicts, and equal frames at each port
 pub record TellSame (l : LinkRow) (side : Side) (lines others : List Line) : Type 0 where
   pub verdicts : verdicts_on l.vl side lines ≡ verdicts_on l.vl side others
-  pub frames : (port : ℕ) → 1 ≤ port → port ≤ 24 →
+  pub frames : (port : ℕ) → 1 ≤ port → port ≤ last_port →
       frames_at l.vl side port lines ≡ frames_at l.vl side port others
 
 -- as any other list in which the link has equal own arrivals on that side, whatever else it holds
@@ -118,8 +119,8 @@ pub record KeepsPromises (t : Rows) (arrivals : List Arrival) (lines : List Line
 
 -- of the lines up to the last arrival: what has left a port is a beginning of the promised frames
 abbrev pub AreFirstFrames : Rows → List Line → Type 0
-AreFirstFrames t lines = (side : Side) (port place : ℕ) (l : LinkRow) → 1 ≤ port → port ≤ 24 →
-    slice_get t.links place ≡ Some l →
+AreFirstFrames t lines = (side : Side) (port place : ℕ) (l : LinkRow) → 1 ≤ port →
+    port ≤ last_port → slice_get t.links place ≡ Some l →
     (later : List Passing)
     × (frames_due t l side port lines ≡ later ++ frames_at l.vl side port lines)
 

@@ -88,8 +88,8 @@ pub fn messages_come_once()
 }
 
 /// All of these premises can be met: by tables of two systems and a link, and its stream of two
-/// frames on both sides. With tables that are not admitted the promises are false, and where times
-/// go back a port has no schedule.
+/// frames on both sides. With a latency of 1 us, in tables that are not admitted, the promises of
+/// the ports are false; two entries of one class, the first of which came later, have no schedule.
 pub fn premises_are_met()
     ensures met { PremisesAreMet }
     ensures needed { AdmissionIsNeeded }

@@ -3,6 +3,7 @@
 use Rattle.std.specs.Prelude.{ℕ, zero, suc, ◌≡◌, true, List, [], ◌++◌, Option, Some, None, is_some, codes, if◌then◌else◌}
 use Rattle.std.specs.Fmt.{decimal}
 use Rattle.std.specs.Io.KnownBytes.{Appends}
+use Rattle.afdx_frame.specs.Ports.{last_port}
 use Rattle.afdx_config.specs.Rows.{Rows}
 use Rattle.afdx_config.specs.Reading.{system_at_port, Spells}
 use Rattle.afdx_config.specs.Admission.{IsAdmitted}
@@ -45,7 +46,7 @@ answer_line t None = codes "ok\n"
 answer_line t (Some fault) = codes "no " ++ fault_text (name_of t fault) fault ++ codes "\n"
 
 abbrev pub check_text : Rows → List ℕ
-check_text t = used_port_lines t 24 ++ answer_line t (first_false (lines t))
+check_text t = used_port_lines t last_port ++ answer_line t (first_false (lines t))
 
 -- the text of the tables that these bytes spell is written
 pub record WritesCheck (config : List ℕ) (old new : Option (List ℕ)) (t : Rows) : Type 0 where

@@ -10,7 +10,7 @@ use Rattle.afdx_config.specs.Lawful.{IsLawful}
 use Rattle.afdx_config.specs.Rows.{SystemRow, Rows}
 use Rattle.afdx_police.specs.Arrival.{Arrival, arrival_with}
 use Rattle.afdx_lists.specs.Lines.{lines_of}
-use Rattle.afdx_lists.specs.FrameLines.{last_port}
+use Rattle.afdx_frame.specs.Ports.{last_port}
 use Rattle.afdx_replay.specs.Listed.{AreSound, arrivals_of}
 use Rattle.afdx_replay.specs.SendEvents.{Handed, Event, AreEventsOf, AreDone}
 use Rattle.afdx_replay.specs.SendText.{sent_line}

@@ -1,6 +1,7 @@
 //! The command `check`.
 
 ghost use Rattle.std.specs.Prelude.{◌≡◌, ◌⊎◌, ◌++◌, OnOk, IfOk, true, false, string_bytes};
+ghost use Rattle.afdx_frame.specs.Ports.{last_port};
 ghost use Rattle.afdx_config.specs.Admission.{IsAdmitted};
 ghost use Rattle.afdx_admit.specs.Bounds.{IsBounds};
 ghost use Rattle.afdx_admit.specs.Lines.{first_false, lines};
@@ -14,6 +15,7 @@ use crate::refusing::{refuse_config, want_memory};
 use crate::status::{DONE, REFUSED};
 use afdx_admit::{PortBounds, admit, bounds_of};
 use afdx_config::{Tables, read_tables};
+use afdx_frame::LAST_PORT;
 use afdx_lists::{Watched, tell_fault, write_text};
 use std::alloc::{AllocError, Global};
 use std::io::Write;
@@ -45,9 +47,9 @@ fn put_port(text: &mut String, tables: &Tables, port: u8) -> Result<(), AllocErr
 /// Adds the lines of the ports that have a system.
 fn put_ports(text: &mut String, tables: &Tables) -> Result<(), AllocError>
     ensures { OnOk result
-        (string_bytes text.new ≡ string_bytes text.old ++ used_port_lines tables.now 24) }
+        (string_bytes text.new ≡ string_bytes text.old ++ used_port_lines tables.now last_port) }
 {
-    for count in 0..24_u8 {
+    for count in 0..LAST_PORT {
         let port = count + 1;
         put_port(text, tables, port)?;
     }

@@ -28,4 +28,4 @@ pub use replay_command::replay;
 pub use replay_run::run_unadmitted;
 pub use send_command::send;
 pub use send_run::run_send;
-pub use summary::Summary;
+pub use summary::{NO_COUNTS, Summary};

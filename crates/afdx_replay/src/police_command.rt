@@ -12,8 +12,8 @@ ghost use Rattle.afdx_lists.specs.Watching.{calls_of, device_of, has_ended, has_
 use crate::ending::{Ended, end};
 use crate::police_run::run_police;
 use crate::status::WRONG_WORDS;
-use afdx_frame::{Policing, VlId};
-use afdx_lists::{LAST_PORT, Watched, tell};
+use afdx_frame::{LAST_PORT, Policing, VlId};
+use afdx_lists::{Watched, tell};
 use afdx_police::LinkRule;
 use std::alloc::Global;
 use std::io::{Read, Write};

@@ -12,7 +12,7 @@ ghost use Rattle.afdx_lists.specs.Watching.{calls_of, device_of, has_ended, has_
 ghost use Rattle.afdx_replay.specs.Listed.{arrival_at};
 ghost use Rattle.afdx_replay.specs.Policed.{Answers};
 
-use crate::summary::Summary;
+use crate::summary::{NO_COUNTS, Summary};
 use crate::verdict::put_verdict;
 use afdx_frame::{Checked, Side};
 use afdx_lists::{Heading, LineReader, RunFault, Text, Watched, read_frame_line, write_text};
@@ -125,9 +125,6 @@ pub fn run_police<R: Read, W: Write>(
         lines: reader.lines(),
         accepted,
         dropped,
-        lost: 0,
-        departed: 0,
-        too_old: 0,
-        delivered: 0,
+        ..NO_COUNTS
     })
 }

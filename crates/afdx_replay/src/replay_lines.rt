@@ -8,7 +8,7 @@ ghost use Rattle.afdx_replay.specs.PoliceText.{verdict_line};
 ghost use Rattle.afdx_replay.specs.ReplayText.{loss_line, loss_lines, departure_line};
 
 use crate::verdict::{put_verdict, side_letter};
-use afdx_frame::Side;
+use afdx_frame::{LAST_PORT, Side};
 use afdx_lists::Text;
 use afdx_network::Departed;
 use afdx_police::Reason;
@@ -53,7 +53,7 @@ fn add_each_loss(text: &mut Text, n: u64, side: Side, lost: &PortSet) -> Result<
     ensures few { IfOk result (λ count. count ≤ 24) }
 {
     let mut count = 0u64;
-    for place in 0..24_u8 {
+    for place in 0..LAST_PORT {
         let port = place + 1;
         let more = add_loss(text, n, side, port, lost.holds(port))?;
         count += more;

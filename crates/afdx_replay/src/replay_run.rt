@@ -20,7 +20,7 @@ ghost use Rattle.afdx_replay.specs.Replayed.{IsOutputFault};
 ghost use Rattle.afdx_replay.specs.ReplayText.{replay_counts, frames_left, with_admission};
 
 use crate::replay_lines::{put_admission, put_departure, reason_of};
-use crate::summary::Summary;
+use crate::summary::{NO_COUNTS, Summary};
 use afdx_config::Tables;
 use afdx_frame::Checked;
 use afdx_lists::{Heading, LineReader, RunFault, Text, Watched, read_frame_line, write_text};
@@ -197,15 +197,7 @@ pub fn run_unadmitted<R: Read, W: Write>(
         network,
         systems,
         text: Text::new(alloc),
-        counts: Summary {
-            lines: 0,
-            accepted: 0,
-            dropped: 0,
-            lost: 0,
-            departed: 0,
-            too_old: 0,
-            delivered: 0,
-        },
+        counts: NO_COUNTS,
     };
     let mut frame = Vec::new(alloc);
     let mut latest = 0u64;

@@ -13,7 +13,7 @@ ghost use Rattle.afdx_replay.specs.SendText.{sent_line, emission_lines, refusal_
 ghost use Rattle.afdx_replay.specs.Sent.{Source, source_at, WritesSome, Answers};
 ghost use Rattle.afdx_replay.specs.SendProgress.{handed_at, HasTold, AreTold, ToldUntil, TellsSubmission, HasRoom};
 
-use crate::summary::Summary;
+use crate::summary::{NO_COUNTS, Summary};
 use crate::verdict::side_letter;
 use afdx_admit::Admitted;
 use afdx_config::SystemId;
@@ -247,15 +247,7 @@ pub fn run_send<R: Read, W: Write>(
         sender,
         port: tables.tables().system(system).port,
         text: Text::new(alloc),
-        counts: Summary {
-            lines: 0,
-            accepted: 0,
-            dropped: 0,
-            lost: 0,
-            departed: 0,
-            too_old: 0,
-            delivered: 0,
-        },
+        counts: NO_COUNTS,
     };
     let mut payload = Vec::new(alloc);
     let mut latest = 0u64;

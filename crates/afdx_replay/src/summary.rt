@@ -7,19 +7,31 @@ use std::fmt;
 pub struct Summary {
     /// The lines that were read, those that were skipped among them.
     pub lines: u64,
-    /// The frames that were accepted.
+    /// The frames that were accepted; in a run of a sender the messages that were taken.
     pub accepted: u64,
-    /// The frames that were dropped at a switch, for any reason.
+    /// The frames that were dropped at a switch, for any reason; in a run of a sender the messages
+    /// that were refused.
     pub dropped: u64,
     /// The copies of accepted frames that were lost to a full buffer.
     pub lost: u64,
-    /// The copies that left a port.
+    /// The copies that left a port; in a run of a sender the frames that left, one for both sides.
     pub departed: u64,
     /// The copies that were dropped at their turn, as they had waited too long.
     pub too_old: u64,
     /// The messages that were delivered.
     pub delivered: u64,
 }
+
+/// The counts of a run that has read nothing.
+pub const NO_COUNTS: Summary = Summary {
+    lines: 0,
+    accepted: 0,
+    dropped: 0,
+    lost: 0,
+    departed: 0,
+    too_old: 0,
+    delivered: 0,
+};
 
 /// The counts in one line: `summary lines 6 accepted 4 ..`, in the order of the fields.
 impl fmt::Display for Summary {

@@ -10,7 +10,9 @@ mod sends;
 use crate::texts::short_text;
 use afdx_frame::{Policing, VlId};
 use afdx_police::LinkRule;
-use afdx_replay::{CommandedRule, LineFault, RunFault, Summary, Watched, police, run_police};
+use afdx_replay::{
+    CommandedRule, LineFault, NO_COUNTS, RunFault, Summary, Watched, police, run_police,
+};
 use afdx_samples::{ShortText, spelled};
 use std::alloc::{AllocError, Global};
 use std::test::Fail;
@@ -37,10 +39,7 @@ fn counts(lines: u64, accepted: u64, dropped: u64) -> Summary {
         lines,
         accepted,
         dropped,
-        lost: 0,
-        departed: 0,
-        too_old: 0,
-        delivered: 0,
+        ..NO_COUNTS
     }
 }
 

@@ -2,6 +2,7 @@
 
 use afdx_admit::{Admitted, admit};
 use afdx_config::{ConfigFault, Tables, read_tables};
+use afdx_frame::LAST_PORT;
 use arrayvec::ArrayString;
 use std::alloc::{AllocError, Global};
 use std::test::Fail;
@@ -145,7 +146,7 @@ pub fn largest(alloc: Global) -> Result<String, AllocError> {
     let mut others = String::new(alloc);
     let mut text = String::new(alloc);
     text.push_str("profile = 1\nbuffer = 252\n")?;
-    for place in 1..=24_u8 {
+    for place in 1..=LAST_PORT {
         if place > 1 {
             write!(others, "\"s{place}\",")?;
         }

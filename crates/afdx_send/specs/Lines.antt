@@ -55,10 +55,11 @@ pub record LineReleases (line : Line) (l : LinkRow) (ss : List Submission) (rs :
   pub message : f.message ≡ r.submission.message
   pub stands : LineStands new l ss (r ∷ rs)
 
--- why a message of n bytes isn't taken for a sub-VL: the first of these that is true
+-- the link has this sub-VL
 abbrev pub IsSubOf : Line → ℕ → Type 0
 IsSubOf line sub = (1 ≤ sub) × (sub ≤ sub_count line.regulator)
 
+-- why a message of n bytes isn't taken for a sub-VL: the first of these that is true
 abbrev pub LineRefuses : Line → ℕ → ℕ → SendFault → Type 0
 LineRefuses line sub n NotMyLink = ⊥
 LineRefuses line sub n NoSuchSub = (sub ≡ 0) ⊎ (sub_count line.regulator < sub)

@@ -1,4 +1,4 @@
-//! What a sender keeps of a link: its row, its number, its regulator.
+//! What a sender keeps of a link: its lengths, the next number, its regulator.
 
 ghost use Rattle.std.specs.Prelude.{◌≡◌, ℕ, ◌+◌, ◌^◌, ◌<◌, ◌≤◌, List, Some, OnOk, IfErr, sum_by, length};
 ghost use Rattle.afdx_frame.specs.Lengths.{least_frame, greatest_frame};

@@ -509,7 +509,7 @@ given-in-time t side h until d new run g =
     turn-in-time t h.arrivals side g.gone.port g.gone.turn (taken_at g.gone.port h.taken) run
     (subst (λ ts. AreTurns (byte_ns_at t g.gone.port) (entries_at t side g.gone.port h.arrivals) ts)
     (taken-first g.gone h.taken)
-    (taken-turns t side new (with_take h g.gone until) g.gone.port g.stands g.next.first_port g.next.last_port))
+    (taken-turns t side new (with_take h g.gone until) g.gone.port g.stands g.next.port_first g.next.port_last))
 
 pub each-in-time : (o : Option Departure) (t : Rows) (side : Side) (h : SwitchHistory) (until : ℕ)
     (new : Working) → IsAdmittedRun t h.arrivals

@@ -210,8 +210,8 @@ module _ (t : Rows) (side : Side) (w : Working) (h : SwitchHistory) (st : Stands
 
     pub next-of : IsNextOf t side h (record { port = place + 1; turn = turn })
     next-of = record {
-      first_port = omega arith;
-      last_port = omega (arith, first.below, count);
+      port_first = omega arith;
+      port_last = omega (arith, first.below, count);
       next = next;
       first = before;
     }

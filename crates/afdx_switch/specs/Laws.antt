@@ -1,6 +1,7 @@
 -- What is true of the definitions, and of each switch that stands for calls.
 use Rattle.std.specs.Prelude.{◌≡◌, ℕ, ◌≤◌, Bool, true, false, IfSome, Some, None, List, [], ◌∷◌, ◌++◌, filter}
 use Rattle.afdx_frame.specs.declared.link.Side.{Side}
+use Rattle.afdx_frame.specs.Ports.{last_port}
 use Rattle.afdx_config.specs.Lawful.{IsLawful}
 use Rattle.afdx_config.specs.Rows.{Rows}
 use Rattle.afdx_police.specs.Arrival.{Arrival, is_side, names, own}
@@ -55,7 +56,7 @@ is_of vl e = names vl e.item.bytes
 -- those before it
 abbrev pub TakenAreTurns : Type 0
 TakenAreTurns = (t : Rows) (side : Side) (w : Working) (h : SwitchHistory) (port : ℕ) →
-    StandsFor t side w h → 1 ≤ port → port ≤ 24 →
+    StandsFor t side w h → 1 ≤ port → port ≤ last_port →
     AreTurns (byte_ns_at t port) (entries_at t side port h.arrivals) (taken_at port h.taken)
 
 -- the frames of a link leave a port, or are dropped there as too old, in the order in which they
@@ -63,7 +64,7 @@ TakenAreTurns = (t : Rows) (side : Side) (w : Working) (h : SwitchHistory) (port
 abbrev pub LinksGoInOrder : Type 0
 LinksGoInOrder = (t : Rows) (side : Side) (w : Working) (h : SwitchHistory) (port vl : ℕ) →
     IsLawful t →
-    StandsFor t side w h → 1 ≤ port → port ≤ 24 →
+    StandsFor t side w h → 1 ≤ port → port ≤ last_port →
     GoInOrder (is_of vl) (entries_at t side port h.arrivals) (taken_at port h.taken)
 
 -- the calls with one more arrival, at no later time

@@ -3,6 +3,7 @@
 use Rattle.std.specs.Prelude.{◌≡◌, ℕ, ◌≤◌, ◌&&◌, Bool, false, not, is_none, if◌then◌else◌, List, [], ◌∷◌, ◌++◌, filter, map, Some, slice_get}
 use Rattle.std.specs.Option.{option_map_or}
 use Rattle.afdx_frame.specs.declared.link.Side.{Side}
+use Rattle.afdx_frame.specs.Ports.{last_port}
 use Rattle.afdx_config.specs.Lawful.{IsLawful}
 use Rattle.afdx_config.specs.Rows.{Rows}
 use Rattle.afdx_police.specs.Arrival.{Arrival, is_side, names}
@@ -44,7 +45,7 @@ frames_of vl turns = map (λ e. e.item) (filter (is_of vl) (entries_in turns))
 abbrev pub FramesAreOwn : Type 0
 FramesAreOwn = (t : Rows) (side : Side) (w : Working) (h : SwitchHistory) (port vl : ℕ) →
     IsLawful t →
-    StandsFor t side w h → 1 ≤ port → port ≤ 24 →
+    StandsFor t side w h → 1 ≤ port → port ≤ last_port →
     (waiting : List HeldFrame) ×
     (entered t side port vl h.arrivals ≡ frames_of vl (taken_at port h.taken) ++ waiting)
 

@@ -2,6 +2,7 @@
 -- all that came and was taken.
 use Rattle.std.specs.Prelude.{All, ◌≡◌, ℕ, ◌+◌, ◌<◌, ◌≤◌, ◌⊎◌, ◌==◌, if◌then◌else◌, Option, Some, List, [], ◌∷◌, length, slice_get, vec_len, sum_by}
 use Rattle.afdx_frame.specs.declared.link.Side.{Side}
+use Rattle.afdx_frame.specs.Ports.{last_port}
 use Rattle.afdx_config.specs.Rows.{Rows}
 use Rattle.afdx_police.specs.Arrival.{Arrival}
 use Rattle.afdx_port.specs.Due.{IsBy, order_of}
@@ -77,11 +78,11 @@ GoesBefore gone port s =
 
 -- the next turn of the switch: by time, at one time slots before drops, then by port
 pub record IsNextOf (t : Rows) (side : Side) (h : SwitchHistory) (gone : PortTurn) : Type 0 where
-  pub first_port : 1 ≤ gone.port
-  pub last_port : gone.port ≤ 24
+  pub port_first : 1 ≤ gone.port
+  pub port_last : gone.port ≤ last_port
   pub next : IsNextAt t side h gone.port gone.turn
-  pub first : (port : ℕ) (s : Turn HeldFrame) → 1 ≤ port → port ≤ 24 → IsNextAt t side h port s →
-      GoesBefore gone port s
+  pub first : (port : ℕ) (s : Turn HeldFrame) → 1 ≤ port → port ≤ last_port →
+      IsNextAt t side h port s → GoesBefore gone port s
 
 -- the next turn of the switch is due so
 pub record IsDue (t : Rows) (side : Side) (h : SwitchHistory) (due : Due) : Type 0 where

@@ -1,6 +1,7 @@
 -- What one switch decides of an arrival, after these earlier ones. A list of arrivals has the
 -- newest first.
 use Rattle.std.specs.Prelude.{◌≡◌, ℕ, ◌≤◌, Bool, false, Option, Some, None, List, [], ◌∷◌, filter, find}
+use Rattle.afdx_frame.specs.Ports.{last_port}
 use Rattle.afdx_config.specs.Rows.{Rows}
 use Rattle.afdx_police.specs.Arrival.{Arrival}
 use Rattle.afdx_police.specs.Shape.{fault_of}
@@ -54,4 +55,4 @@ abbrev pub IsVerdict : Rows → List Arrival → Arrival → Verdict → Type 0
 IsVerdict t past x (Dropped reason) = reason_of t past x ≡ Some reason
 IsVerdict t past x (Accepted lost) =
     (reason_of t past x ≡ None)
-    × ((port : ℕ) → 1 ≤ port → port ≤ 24 → holds lost port ≡ is_lost_at t past x port)
+    × ((port : ℕ) → 1 ≤ port → port ≤ last_port → holds lost port ≡ is_lost_at t past x port)

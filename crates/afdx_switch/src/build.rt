@@ -22,7 +22,7 @@ use crate::frame::Frame;
 use crate::line::Line;
 use crate::working::Working;
 use afdx_config::{Link, Tables};
-use afdx_frame::{LEAST_FRAME, VlId};
+use afdx_frame::{LAST_PORT, LEAST_FRAME, VlId};
 use afdx_police::{LinkAccount, LinkRule};
 use afdx_port::{Port, Serving};
 use arrayvec::ArrayVec;
@@ -87,7 +87,7 @@ fn ports_of(tables: &Tables, link: usize) -> ArrayVec<u8, 24>
         place < 24 → is_among place result.items ≡ goes_to tables.now l (place + 1) }
 {
     let mut places = ArrayVec::new();
-    for place in 0..24_u8 {
+    for place in 0..LAST_PORT {
         if goes(tables, link, place + 1) {
             places.push(place);
         }
@@ -168,7 +168,7 @@ fn new_ports(alloc: Global, tables: &Tables) -> Result<Vec<Port<Frame>>, AllocEr
         IsNewPort tables.now i p) }
 {
     let mut ports = Vec::new(alloc);
-    for place in 0..24_u8 {
+    for place in 0..LAST_PORT {
         let port = place + 1;
         ports.push(Port::new(alloc, byte_ns(tables, port), buffer(tables, port))?)?;
     }

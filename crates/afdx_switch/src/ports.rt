@@ -3,13 +3,14 @@
 ghost use Rattle.std.specs.Prelude.{◌≡◌, ◌↔◌, ℕ, ◌≤◌, ◌⊎◌, false, true, IsTrue, slice_index_or};
 ghost use Rattle.std.specs.List.{list_any};
 ghost use Rattle.std.specs.Prelude.{◌==◌};
+ghost use Rattle.afdx_frame.specs.Ports.{last_port};
 
 /// A set of the ports 1 to 24 of a switch.
 #[derive(Clone, Copy, Debug, PartialEq, Eq)]
 pub struct PortSet {
     /// By number; there is no port 0.
     ports: [bool; 25],
-    ghost in_range: { (p : ℕ) → slice_index_or ports p false ≡ true → (1 ≤ p) × (p ≤ 24) },
+    ghost in_range: { (p : ℕ) → slice_index_or ports p false ≡ true → (1 ≤ p) × (p ≤ last_port) },
 }
 
 impl PortSet {
@@ -23,7 +24,7 @@ impl PortSet {
 
     pub(crate) fn add(&mut self, port: u8)
         requires first_port { 1 ≤ port }
-        requires last_port { port ≤ 24 }
+        requires last { port ≤ last_port }
         ensures added { holds self.new port ≡ true }
         ensures others { (p : ℕ) → (p ≡ port) ⊎ (holds self.new p ≡ holds self.old p) }
     {

@@ -87,6 +87,7 @@ impl Switch {
     ghost use Rattle.afdx_config.specs.Lawful.{IsLawful};
     ghost use Rattle.afdx_config.specs.Rows.{LinkRow, Rows};
     ghost use Rattle.afdx_frame.specs.declared.link.Side.{Side};
+    ghost use Rattle.afdx_frame.specs.Ports.{last_port};
     ghost use Rattle.afdx_police.specs.Arrival.{arrival_with, names, own};
     ghost use Rattle.afdx_port.specs.Due.{given_at, IsAfter};
     ghost use Rattle.afdx_port.specs.History.{due_at};
@@ -170,7 +171,7 @@ impl Switch {
         ensures comes { (t : Rows) (side : Side) (h : SwitchHistory) → StandsFor t side self.now h →
             IfSome result (λ due. IsDue t side h due) }
         ensures all_done { (t : Rows) (side : Side) (h : SwitchHistory) (port : ℕ) →
-            StandsFor t side self.now h → 1 ≤ port → port ≤ 24 →
+            StandsFor t side self.now h → 1 ≤ port → port ≤ last_port →
             IfNone result (IsDone t side h port) }
         ensures quiet { (time : ℕ) → IsQuiet self.now time ↔
             IfSome result (λ due. IsAfter time due) }
@@ -192,18 +193,18 @@ impl Switch {
             IfNone result (StandsFor t side self.new (at h until)) }
         ensures no_more { (t : Rows) (side : Side) (h : SwitchHistory) (port : ℕ) (s : Turn
             HeldFrame) →
-            StandsFor t side self.old h → 1 ≤ port → port ≤ 24 → IsNextAt t side h port s →
+            StandsFor t side self.old h → 1 ≤ port → port ≤ last_port → IsNextAt t side h port s →
             IfNone result (IsAfter until (due_at s)) }
         ensures in_time { (t : Rows) (side : Side) (h : SwitchHistory) →
             IsAdmittedRun t h.arrivals →
             IfSome result (λ d. (g : Gives t side h until d self.new) → IsInTime t g.gone.turn) }
         ensures left { (t : Rows) (side : Side) (h : SwitchHistory) (port place : ℕ) (l : LinkRow) →
-            StandsFor t side self.old h → IsAdmittedRun t h.arrivals → 1 ≤ port → port ≤ 24 →
+            StandsFor t side self.old h → IsAdmittedRun t h.arrivals → 1 ≤ port → port ≤ last_port →
             slice_get t.links place ≡ Some l →
             let entries = entries_at t side port h.arrivals in
             IfNone result (HaveLeft l until entries (taken_at port h.taken)) }
         ensures all_done { (t : Rows) (side : Side) (h : SwitchHistory) (port : ℕ) →
-            StandsFor t side self.old h → drain_end ≤ until → 1 ≤ port → port ≤ 24 →
+            StandsFor t side self.old h → drain_end ≤ until → 1 ≤ port → port ≤ last_port →
             IfNone result (IsDone t side h port) }
         ensures gives { IfNone result (IsQuiet self.old until) }
         ensures quiet { IfNone result (IsQuiet self.new until) }

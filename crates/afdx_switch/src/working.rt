@@ -112,6 +112,7 @@ impl Working {
     ghost use Rattle.afdx_config.specs.Rows.{Rows};
     ghost use Rattle.afdx_frame.specs.declared.link.Side.{Side};
     ghost use Rattle.afdx_frame.specs.Layout.{link_named_by};
+    ghost use Rattle.afdx_frame.specs.Ports.{last_port};
     ghost use Rattle.afdx_police.specs.Arrival.{arrival_with};
     ghost use Rattle.afdx_port.specs.Due.{given_at, IsAfter};
     ghost use Rattle.afdx_port.specs.Schedule.{Turn};
@@ -200,7 +201,7 @@ impl Working {
         ensures comes { (t : Rows) (side : Side) (h : SwitchHistory) → StandsFor t side self.now h →
             IfSome result (λ due. IsDue t side h due) }
         ensures all_done { (t : Rows) (side : Side) (h : SwitchHistory) (port : ℕ) →
-            StandsFor t side self.now h → 1 ≤ port → port ≤ 24 →
+            StandsFor t side self.now h → 1 ≤ port → port ≤ last_port →
             IfNone result (IsDone t side h port) }
         ensures quiet { (time : ℕ) → IsQuiet self.now time ↔
             IfSome result (λ due. IsAfter time due) }
@@ -221,10 +222,10 @@ impl Working {
             IfNone result (StandsFor t side self.new (at h until)) }
         ensures no_more { (t : Rows) (side : Side) (h : SwitchHistory) (port : ℕ) (s : Turn
             HeldFrame) →
-            StandsFor t side self.old h → 1 ≤ port → port ≤ 24 → IsNextAt t side h port s →
+            StandsFor t side self.old h → 1 ≤ port → port ≤ last_port → IsNextAt t side h port s →
             IfNone result (IsAfter until (queue.due_at s)) }
         ensures all_done { (t : Rows) (side : Side) (h : SwitchHistory) (port : ℕ) →
-            StandsFor t side self.old h → drain_end ≤ until → 1 ≤ port → port ≤ 24 →
+            StandsFor t side self.old h → drain_end ≤ until → 1 ≤ port → port ≤ last_port →
             IfNone result (IsDone t side h port) }
         ensures gives { IfNone result (IsQuiet self.old until) }
         ensures quiet { IfNone result (IsQuiet self.new until) }

@@ -14,7 +14,8 @@ ghost use Rattle.afdx_systems.specs.StandsFor.{IsAt, HasNewest};
 use crate::end_system::EndSystem;
 use crate::handover::Handover;
 use afdx_config::Tables;
-use afdx_lists::{LAST_PORT, Text};
+use afdx_frame::LAST_PORT;
+use afdx_lists::Text;
 use std::alloc::{AllocError, Global};
 
 /// The end systems of a network. A contract speaks of them as what they stand for: a list of all

@@ -44,18 +44,17 @@ fn network(last_rate: u64, count: u16, bag_ms: u64, delay_us: u64) -> Result<Sho
     Ok(text)
 }
 
-fn written(alloc: Global, text: AdmitText) -> Result<String, Fail> {
-    match format!(in alloc; "{text}") {
-        Ok(written) => Ok(written),
-        Err(_) => Ok(format!(in alloc; "{text}")?),
-    }
+fn written(text: AdmitText) -> Result<ShortText, Fail> {
+    let mut line = ShortText::new();
+    write!(line, "{text}")?;
+    Ok(line)
 }
 
 /// The text of the first false line of the tables of a text, or an empty one.
-fn answer(alloc: Global, text: &str) -> Result<String, Fail> {
+fn answer(alloc: Global, text: &str) -> Result<ShortText, Fail> {
     match admit(read(alloc, text)?) {
-        Ok(_) => Ok(String::new(alloc)),
-        Err((tables, fault)) => written(alloc, fault.text(&tables)),
+        Ok(_) => Ok(ShortText::new()),
+        Err((tables, fault)) => written(fault.text(&tables)),
     }
 }
 

@@ -5,8 +5,9 @@
 
 use afdx_config::{ConfigFault, Kind, Part, Place, SystemId, Tables, read_tables};
 use afdx_frame::{Policing, Priority, VlId};
-use afdx_samples::{base, changed};
+use afdx_samples::{ShortText, base, changed};
 use std::alloc::Global;
+use std::fmt::Write;
 use std::process::Abort;
 use std::test::Fail;
 
@@ -76,14 +77,17 @@ fn base_tables(rt: HostRuntime) -> Result<(), Fail> {
     Ok(())
 }
 
+/// The tables as they print for who debugs.
+fn printed(tables: &Tables) -> Result<ShortText, Fail> {
+    let mut text = ShortText::new();
+    write!(text, "{tables:?}")?;
+    Ok(text)
+}
+
 #[test]
 fn tables_print(rt: HostRuntime) -> Result<(), Fail> {
-    let a = rt.alloc();
-    let tables = read(a, b"profile = 2\nbuffer = 64\n")?;
-    let text = match format!(in a; "{tables:?}") {
-        Ok(text) => text,
-        Err(_) => format!(in a; "{tables:?}")?,
-    };
+    let tables = read(rt.alloc(), b"profile = 2\nbuffer = 64\n")?;
+    let text = printed(&tables)?;
     assert!(rt;
         text.as_str()
             .starts_with("Tables { profile: 2, buffer: 64, "),
@@ -92,12 +96,17 @@ fn tables_print(rt: HostRuntime) -> Result<(), Fail> {
     Ok(())
 }
 
+/// The fault of a text, if it has one.
+fn fault_of(alloc: Global, text: &[u8]) -> Option<ConfigFault> {
+    read(alloc, text).err()
+}
+
 #[test]
 fn refused_readings_are_made_again(rt: HostRuntime) -> Result<(), Fail> {
     let tables = read(rt.alloc(), base().as_bytes())?;
     are_counted(&rt, &tables);
     let text = changed(base(), "depth = 4", "depth = 65")?;
-    let fault = read(rt.alloc(), text.as_bytes()).err();
+    let fault = fault_of(rt.alloc(), text.as_bytes());
     assert_eq!(rt; fault, Some(ConfigFault::OutOfRange(at(Part::Port, 2, 5))));
     Ok(())
 }

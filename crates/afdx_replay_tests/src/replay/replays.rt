@@ -3,7 +3,7 @@
 use super::Answer;
 use crate::texts::short_text;
 use afdx_config::Tables;
-use afdx_replay::{LineFault, RunFault, Summary, Watched, run_unadmitted};
+use afdx_replay::{LineFault, NO_COUNTS, RunFault, Summary, Watched, run_unadmitted};
 use afdx_samples::{ShortText, base, changed, read, spelled};
 use std::alloc::Global;
 use std::test::Fail;
@@ -145,8 +145,8 @@ fn counts_of_a_replay(rt: HostRuntime) -> Result<(), Fail> {
         dropped: 1,
         lost: 2,
         departed: 2,
-        too_old: 0,
         delivered: 2,
+        ..NO_COUNTS
     };
     assert_eq!(rt; result, Ok(want));
     Ok(())

@@ -6,7 +6,7 @@ use super::Answer;
 use crate::texts::{push_line, short_text, shown};
 use afdx_admit::Admitted;
 use afdx_config::SystemId;
-use afdx_replay::{RunFault, Summary, Watched, run_send};
+use afdx_replay::{NO_COUNTS, RunFault, Summary, Watched, run_send};
 use afdx_samples::{ShortText, admitted, base};
 use std::alloc::Global;
 use std::test::Fail;
@@ -49,10 +49,8 @@ fn counts(lines: u64, accepted: u64, dropped: u64, departed: u64) -> Summary {
         lines,
         accepted,
         dropped,
-        lost: 0,
         departed,
-        too_old: 0,
-        delivered: 0,
+        ..NO_COUNTS
     }
 }
 

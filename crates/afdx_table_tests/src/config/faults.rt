@@ -1,25 +1,27 @@
 //! Each fault of the one order of checks.
 
-use super::{at, read};
+use super::{at, fault_of, read};
 use afdx_config::{ConfigFault, Part, SystemId, Tables};
-use afdx_samples::{base, changed};
+use afdx_samples::{ShortText, base, changed};
 use std::alloc::{AllocError, Global};
+use std::fmt::Write;
 use std::test::Fail;
 
 /// A piece of the base text, what takes its place, and the fault of the text then, if any.
 type Change = (&'static str, &'static str, &'static str);
 
 /// A fault as it prints; nothing, where there is none.
-fn written(alloc: Global, fault: Option<ConfigFault>) -> Result<String, Fail> {
-    match fault {
-        Some(fault) => Ok(format!(in alloc; "{fault}")?),
-        None => Ok(String::new(alloc)),
+fn written(fault: Option<ConfigFault>) -> Result<ShortText, Fail> {
+    let mut text = ShortText::new();
+    if let Some(fault) = fault {
+        write!(text, "{fault}")?;
     }
+    Ok(text)
 }
 
 /// The fault, as it prints, of a text.
-fn told(alloc: Global, text: &[u8]) -> Result<String, Fail> {
-    written(alloc, read(alloc, text).err())
+fn told(alloc: Global, text: &[u8]) -> Result<ShortText, Fail> {
+    written(fault_of(alloc, text))
 }
 
 /// What takes a piece's place in the first of the changes that isn't told as it should be.
@@ -227,12 +229,9 @@ fn too_many_tables(rt: HostRuntime) -> Result<(), Fail> {
 }
 
 /// The text of the first fault that isn't written so.
-fn wrongly_written(
-    alloc: Global,
-    faults: &[(ConfigFault, &'static str)],
-) -> Result<Option<&'static str>, Fail> {
+fn wrongly_written(faults: &[(ConfigFault, &'static str)]) -> Result<Option<&'static str>, Fail> {
     for (fault, text) in faults {
-        if written(alloc, Some(*fault))?.as_str() != *text {
+        if written(Some(*fault))?.as_str() != *text {
             return Ok(Some(text));
         }
     }
@@ -264,6 +263,6 @@ fn texts_of_faults(rt: HostRuntime) -> Result<(), Fail> {
             "NoSuchSystem link 12 key 3",
         ),
     ];
-    assert_eq!(rt; wrongly_written(rt.alloc(), faults.as_slice())?, None);
+    assert_eq!(rt; wrongly_written(faults.as_slice())?, None);
     Ok(())
 }
