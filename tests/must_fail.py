@@ -62,9 +62,12 @@ def below(crate: str, named: dict[str, list[str]]) -> set[str]:
 
 
 def put_answers(proofs: pathlib.Path, function: str) -> None:
-    """Puts an empty file of answers where there is none: the prover then doesn't seek some to offer."""
-    if re.fullmatch(r"\w+(::\w+)*", function):
-        folder = proofs.joinpath(*function.split("::"))
+    """Puts an empty file of answers where there is none: the prover then doesn't seek some to offer.
+
+    Not beside the one proof of functions that call one another, and for names that are plain alone.
+    """
+    folder = proofs.joinpath(*function.split("::"))
+    if re.fullmatch(r"\w+(::\w+)*", function) and not any(folder.parent.glob("+*")):
         folder.mkdir(parents=True, exist_ok=True)
         (folder / "Answers.antt").touch()
 
