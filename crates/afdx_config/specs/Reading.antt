@@ -192,8 +192,8 @@ port_at systems links before t =
       Ok (record { system = system; link = link; udp = udp; kind = kind; depth = depth })
 
 -- the rows of some tables, each read after those before it
-abbrev pub each : {R : Type 0} → (List R → Members → Result R ConfigFault) → List R → List Members →
-    Result (List R) ConfigFault
+abbrev pub each : {R : Type 0} → (List R → Members → Result R ConfigFault) → List R →
+    List Members → Result (List R) ConfigFault
 each row_at before [] = Ok before
 each row_at before (t ∷ ts) = do
   row ← row_at before t

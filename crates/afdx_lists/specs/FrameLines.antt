@@ -51,7 +51,8 @@ frame_fields_with kind time side port digits =
     record { kind = kind; time = time; side = side; port = port; digits = digits }
 
 -- the fields that these texts write
-abbrev pub frame_fields_from : List ℕ → List ℕ → List ℕ → List ℕ → List ℕ → Option FrameFields
+abbrev pub frame_fields_from : List ℕ → List ℕ → List ℕ → List ℕ → List ℕ →
+    Option FrameFields
 frame_fields_from kind time side port digits = from_five frame_fields_with
     (kind_of kind) (number_of time) (side_of side) (number_of port) digits
 

@@ -139,7 +139,8 @@ abbrev pub EachIsToldOnce : Rows → List Arrival → List Line → Type 0
 EachIsToldOnce t arrivals lines =
     (system place : ℕ) (s : SystemRow) (l : LinkRow)
     (messages : List sent.Message) (stream : List Sending) →
-    slice_get t.systems system ≡ Some s → slice_get t.links place ≡ Some l → is_to system l ≡ true →
+    slice_get t.systems system ≡ Some s → slice_get t.links place ≡ Some l →
+    is_to system l ≡ true →
     IsStreamOf t l messages stream → ((side : Side) → IsFed t l stream side arrivals) →
     reverse (messages_told system l.vl lines)
     ≡ filter (λ m. has_port t.ports system l.vl m.udp) messages
@@ -154,7 +155,8 @@ abbrev pub EachIsToldOnceSoFar : Rows → List Arrival → List Line → Type 0
 EachIsToldOnceSoFar t arrivals lines =
     (system place : ℕ) (s : SystemRow) (l : LinkRow)
     (messages : List sent.Message) (stream : List Sending) →
-    slice_get t.systems system ≡ Some s → slice_get t.links place ≡ Some l → is_to system l ≡ true →
+    slice_get t.systems system ≡ Some s → slice_get t.links place ≡ Some l →
+    is_to system l ≡ true →
     IsStreamOf t l messages stream →
     ((side : Side) → AreFirstOf side stream (at_own_port t l side arrivals)) →
     reverse (messages_told system l.vl lines)

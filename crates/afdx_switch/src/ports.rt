@@ -10,7 +10,8 @@ ghost use Rattle.afdx_frame.specs.Ports.{last_port};
 pub struct PortSet {
     /// By number; there is no port 0.
     ports: [bool; 25],
-    ghost in_range: { (p : ℕ) → slice_index_or ports p false ≡ true → (1 ≤ p) × (p ≤ last_port) },
+    ghost in_range: { (p : ℕ) → slice_index_or ports p false ≡ true →
+        (1 ≤ p) × (p ≤ last_port) },
 }
 
 impl PortSet {

@@ -97,7 +97,9 @@ impl Switch {
     ghost use Rattle.afdx_switch.specs.Tables.{rule_of, entries_at};
     ghost use Rattle.afdx_switch.specs.Regular.{IsRegularAt, IsAccepted};
     ghost use Rattle.afdx_switch.specs.Verdicts.{IsVerdict, shape_fault};
-    ghost use Rattle.afdx_switch.specs.Switching.{SwitchHistory, StandsFor, IsQuiet, IsNextAt, IsDue, IsDone, Gives, no_calls, with_arrival, at, taken_at, frames_held, last_time};
+    ghost use Rattle.afdx_switch.specs.Switching.{SwitchHistory, StandsFor, IsQuiet, IsNextAt};
+    ghost use Rattle.afdx_switch.specs.Switching.{IsDue, IsDone, Gives, no_calls, with_arrival};
+    ghost use Rattle.afdx_switch.specs.Switching.{at, taken_at, frames_held, last_time};
 
     /// A switch of these tables at time 0, with full accounts and idle ports.
     /// The error says that memory was refused.
@@ -199,8 +201,8 @@ impl Switch {
             IsAdmittedRun t h.arrivals →
             IfSome result (λ d. (g : Gives t side h until d self.new) → IsInTime t g.gone.turn) }
         ensures left { (t : Rows) (side : Side) (h : SwitchHistory) (port place : ℕ) (l : LinkRow) →
-            StandsFor t side self.old h → IsAdmittedRun t h.arrivals → 1 ≤ port → port ≤ last_port →
-            slice_get t.links place ≡ Some l →
+            StandsFor t side self.old h → IsAdmittedRun t h.arrivals →
+            1 ≤ port → port ≤ last_port → slice_get t.links place ≡ Some l →
             let entries = entries_at t side port h.arrivals in
             IfNone result (HaveLeft l until entries (taken_at port h.taken)) }
         ensures all_done { (t : Rows) (side : Side) (h : SwitchHistory) (port : ℕ) →

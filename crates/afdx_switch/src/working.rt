@@ -118,7 +118,9 @@ impl Working {
     ghost use Rattle.afdx_port.specs.Schedule.{Turn};
     ghost use Rattle.afdx_switch.specs.Verdicts.{IsVerdict, shape_fault};
     ghost use Rattle.afdx_switch.specs.Tables.{rows_of};
-    ghost use Rattle.afdx_switch.specs.Switching.{SwitchHistory, StandsFor, IsQuiet, IsNextAt, IsDue, IsDone, Gives, with_arrival, at, frames_held, last_time};
+    ghost use Rattle.afdx_switch.specs.Switching.{SwitchHistory, StandsFor, IsQuiet, IsNextAt};
+    ghost use Rattle.afdx_switch.specs.Switching.{IsDue, IsDone, Gives, with_arrival, at};
+    ghost use Rattle.afdx_switch.specs.Switching.{frames_held, last_time};
     ghost use Rattle.afdx_switch.specs.Sound.{IsSwitchSound};
     ghost use Rattle.afdx_switch.specs.Lines.{IsNamed};
 
