@@ -119,12 +119,13 @@ Example:
   afdx check examples/network.toml";
 
 fn check_command<'a>(alloc: Global) -> Result<Command<'a>, AllocError> {
-    let config = word(alloc, "CONFIG", CONFIG_HELP);
     Command::new(alloc, "check")
         .about(CHECK_ABOUT)
         .after_help(CHECK_AFTER)
-        .arg(explain_option(alloc))?
-        .arg(config)
+        .args(vec![in alloc;
+            explain_option(alloc),
+            word(alloc, "CONFIG", CONFIG_HELP),
+        ]?)
 }
 
 const REPLAY_ABOUT: &str = "Replays a list of frames through both switches to the systems";
@@ -153,20 +154,20 @@ A closed pipe, as with '| head', is the fault 'device Write', status 4.
 Example:
   afdx replay examples/network.toml examples/bench.list";
 
+const FREELY_HELP: &str = "Replays also in tables that are not admitted";
+
 fn replay_command<'a>(alloc: Global) -> Result<Command<'a>, AllocError> {
-    let help = "Replays also in tables that are not admitted";
-    let freely = flag(alloc, "no-admission", help);
-    let config = word(alloc, "CONFIG", CONFIG_HELP);
-    let list = word(alloc, "LIST", LIST_HELP);
     Command::new(alloc, "replay")
         .about(REPLAY_ABOUT)
         .after_help(REPLAY_AFTER)
-        .arg(freely)?
-        .arg(explain_option(alloc))?
-        .arg(line_buffered(alloc))?
-        .arg(summary_option(alloc))?
-        .arg(config)?
-        .arg(list)
+        .args(vec![in alloc;
+            flag(alloc, "no-admission", FREELY_HELP),
+            explain_option(alloc),
+            line_buffered(alloc),
+            summary_option(alloc),
+            word(alloc, "CONFIG", CONFIG_HELP),
+            word(alloc, "LIST", LIST_HELP),
+        ]?)
 }
 
 const SEND_ABOUT: &str = "Sends the messages of a list from one system, as a list for replay";
@@ -199,19 +200,20 @@ Example:
 
 const SUBMISSIONS_HELP: &str = "The path of a submission list, or - for standard input";
 
+const SYSTEM_HELP: &str = "The name of the system that sends";
+
 fn send_command<'a>(alloc: Global) -> Result<Command<'a>, AllocError> {
-    let config = word(alloc, "CONFIG", CONFIG_HELP);
-    let system = word(alloc, "SYSTEM", "The name of the system that sends");
-    let list = word(alloc, "SUBMISSIONS", SUBMISSIONS_HELP);
     Command::new(alloc, "send")
         .about(SEND_ABOUT)
         .after_help(SEND_AFTER)
-        .arg(explain_option(alloc))?
-        .arg(line_buffered(alloc))?
-        .arg(summary_option(alloc))?
-        .arg(config)?
-        .arg(system)?
-        .arg(list)
+        .args(vec![in alloc;
+            explain_option(alloc),
+            line_buffered(alloc),
+            summary_option(alloc),
+            word(alloc, "CONFIG", CONFIG_HELP),
+            word(alloc, "SYSTEM", SYSTEM_HELP),
+            word(alloc, "SUBMISSIONS", SUBMISSIONS_HELP),
+        ]?)
 }
 
 const BAG_HELP: &str = "The bandwidth allocation gap in ms: 1, 2, 4, 8, 16, 32, 64 or 128";
@@ -219,6 +221,17 @@ const BAG_HELP: &str = "The bandwidth allocation gap in ms: 1, 2, 4, 8, 16, 32, 
 const LMAX_HELP: &str = "The greatest length of a frame in bytes, 64 to 1518";
 
 const LMIN_HELP: &str = "The least length of a frame in bytes, 64 to LMAX";
+
+const JITTER_HELP: &str = "The jitter in us, at most the gap";
+
+const VL_HELP: &str = "The link's identifier, 0 to 65535";
+
+const PORT_HELP: &str = "The input port of its frames, 1 to 24";
+
+const POLICING_HELP: &str =
+    "By bytes a frame is charged by its length, by frames as the longest";
+
+const KINDS_OF_POLICING: &[&str] = &["byte", "frame"];
 
 /// An option with a number.
 fn number_option<'a>(alloc: Global, name: &'a str, usual: &'a str, help: &'a str) -> Arg<'a> {
@@ -228,33 +241,38 @@ fn number_option<'a>(alloc: Global, name: &'a str, usual: &'a str, help: &'a str
         .default_value(usual)
 }
 
-const KINDS_OF_POLICING: &[&str] = &["byte", "frame"];
+/// A number that has to be there.
+fn number_word<'a>(alloc: Global, name: &'a str, help: &'a str) -> Arg<'a> {
+    number(alloc, name, help).required(true)
+}
 
-fn police_command<'a>(alloc: Global) -> Result<Command<'a>, AllocError> {
-    let bag = number(alloc, "BAG_MS", BAG_HELP);
-    let lmax = number(alloc, "LMAX", LMAX_HELP);
-    let jitter = number(alloc, "JITTER_US", "The jitter in us, at most the gap");
-    let policing = Arg::new(alloc, "policing")
+/// The option that says how a frame is charged.
+fn policing_option<'a>(alloc: Global) -> Arg<'a> {
+    Arg::new(alloc, "policing")
         .long("policing")
         .value_name("KIND")
-        .help("By bytes a frame is charged by its length, by frames as the longest")
+        .help(POLICING_HELP)
         .default_value("byte")
-        .value_parser(KINDS_OF_POLICING);
-    let list = word(alloc, "LIST", LIST_HELP);
+        .value_parser(KINDS_OF_POLICING)
+}
+
+fn police_command<'a>(alloc: Global) -> Result<Command<'a>, AllocError> {
     Command::new(alloc, "police")
         .about(POLICE_ABOUT)
         .after_help(POLICE_AFTER)
-        .arg(number_option(alloc, "vl", "1", "The link's identifier, 0 to 65535"))?
-        .arg(number_option(alloc, "port", "1", "The input port of its frames, 1 to 24"))?
-        .arg(number_option(alloc, "lmin", "64", LMIN_HELP))?
-        .arg(policing)?
-        .arg(explain_option(alloc))?
-        .arg(line_buffered(alloc))?
-        .arg(summary_option(alloc))?
-        .arg(bag.required(true))?
-        .arg(lmax.required(true))?
-        .arg(jitter.required(true))?
-        .arg(list)
+        .args(vec![in alloc;
+            number_option(alloc, "vl", "1", VL_HELP),
+            number_option(alloc, "port", "1", PORT_HELP),
+            number_option(alloc, "lmin", "64", LMIN_HELP),
+            policing_option(alloc),
+            explain_option(alloc),
+            line_buffered(alloc),
+            summary_option(alloc),
+            number_word(alloc, "BAG_MS", BAG_HELP),
+            number_word(alloc, "LMAX", LMAX_HELP),
+            number_word(alloc, "JITTER_US", JITTER_HELP),
+            word(alloc, "LIST", LIST_HELP),
+        ]?)
 }
 
 const EXPLAIN_ABOUT: &str = "Says in plain words what a line of the program means";
@@ -279,17 +297,25 @@ fn explain_command<'a>(alloc: Global) -> Result<Command<'a>, AllocError> {
         .arg(text)
 }
 
+/// With a command more, where memory was there to make it.
+fn with_command<'a>(
+    program: Command<'a>,
+    made: Result<Command<'a>, AllocError>,
+) -> Result<Command<'a>, AllocError> {
+    program.subcommand(made?)
+}
+
 /// The words that the program takes.
 pub fn afdx_command<'a>(alloc: Global) -> Result<Command<'a>, AllocError> {
-    Command::new(alloc, "afdx")
+    let program = Command::new(alloc, "afdx")
         .version(VERSION)
         .about(ABOUT)
         .after_help(AFTER)
         .subcommand_required(true)
-        .arg_required_else_help(true)
-        .subcommand(check_command(alloc)?)?
-        .subcommand(explain_command(alloc)?)?
-        .subcommand(police_command(alloc)?)?
-        .subcommand(replay_command(alloc)?)?
-        .subcommand(send_command(alloc)?)
+        .arg_required_else_help(true);
+    let program = with_command(program, check_command(alloc))?;
+    let program = with_command(program, explain_command(alloc))?;
+    let program = with_command(program, police_command(alloc))?;
+    let program = with_command(program, replay_command(alloc))?;
+    with_command(program, send_command(alloc))
 }
