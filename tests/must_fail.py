@@ -9,8 +9,9 @@ of several functions are tried in one run of the prover, which checks those func
 call, and nothing else. Each of them must be refused for its own body, by an error in its own proof
 or an open goal of its own: one that is refused only for what it calls is tried again without that.
 (`rt must-fail` checks the whole crate with each edit, and takes a refusal anywhere.) An edit of
-what is no function, as a constant, or of a method whose name can't be read off the file, is tried
-alone, and says which function must be refused in a line of its own: `refused: MODULE::FUNCTION`.
+what is no function, as a constant, is tried alone. It says which function must be refused in a line
+of its own, `refused: MODULE::FUNCTION`, as does one of a method whose name can't be read off the
+file.
 
 Prints a line for each edit, then `N passed, M failed`; ends with status 1 if one failed.
 """
@@ -140,6 +141,7 @@ def read_edit(crate: str, path: pathlib.Path) -> Edit:
     changes: list[tuple[str, str, str]] = []
     named: list[str] = []
     changed: list[str] = []
+    is_inside = True
     for line in path.read_text(encoding="utf-8").splitlines():
         word, _, value = line.partition(": ")
         if word == "file":
@@ -153,7 +155,9 @@ def read_edit(crate: str, path: pathlib.Path) -> Edit:
             changes.append((file, old, value))
             inside = path_of(file, whole, whole.find(old) + len(old)) if old in whole else None
             changed += [inside] if inside and inside not in changed else []
-    edit = Edit(f"{crate}/{path.stem}", changes, named or changed, is_alone=bool(named))
+            is_inside = is_inside and inside is not None
+    is_alone = bool(named) and not is_inside
+    edit = Edit(f"{crate}/{path.stem}", changes, named or changed, is_alone)
     apply(crate, edit, {})
     if not edit.functions:
         raise BadEdit("it changes no function, and names none")

@@ -122,10 +122,7 @@ fn check_command<'a>(alloc: Global) -> Result<Command<'a>, AllocError> {
     Command::new(alloc, "check")
         .about(CHECK_ABOUT)
         .after_help(CHECK_AFTER)
-        .args(vec![in alloc;
-            explain_option(alloc),
-            word(alloc, "CONFIG", CONFIG_HELP),
-        ]?)
+        .args(vec![in alloc; explain_option(alloc), word(alloc, "CONFIG", CONFIG_HELP)]?)
 }
 
 const REPLAY_ABOUT: &str = "Replays a list of frames through both switches to the systems";
@@ -228,8 +225,7 @@ const VL_HELP: &str = "The link's identifier, 0 to 65535";
 
 const PORT_HELP: &str = "The input port of its frames, 1 to 24";
 
-const POLICING_HELP: &str =
-    "By bytes a frame is charged by its length, by frames as the longest";
+const POLICING_HELP: &str = "By bytes a frame is charged by its length, by frames as the longest";
 
 const KINDS_OF_POLICING: &[&str] = &["byte", "frame"];
 

@@ -226,10 +226,18 @@ tables_at t = do
     ports = ports;
   })
 
+-- the text is a TOML document, and spells this tree
+abbrev pub IsTreeOf : List ℕ → Members → Type 0
+IsTreeOf text tree = IsUtf8 text × (parse_document text ≡ Some tree)
+
+-- the text is no TOML document
+abbrev pub HasNoTree : List ℕ → Type 0
+HasNoTree text = IsUtf8 text → parse_document text ≡ None
+
 -- what is wrong with a text: it is no TOML, or its tree has this first fault
 abbrev pub IsFaultOf : List ℕ → ConfigFault → Type 0
 IsFaultOf text e =
-    ((e ≡ NotToml) × (IsUtf8 text → parse_document text ≡ None))
+    ((e ≡ NotToml) × HasNoTree text)
     ⊎ (IsUtf8 text
     × ((tree : Members) × (parse_document text ≡ Some tree) × (tables_at tree ≡ Err e)))
 

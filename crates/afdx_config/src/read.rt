@@ -52,6 +52,19 @@ fn tables_of(alloc: Global, tree: &Table) -> Result<Tables, ConfigFault>
     Ok(Tables::new(profile, buffer, systems, links, coms))
 }
 
+/// The tree that the text spells. It is `NotToml` where it spells none.
+fn tree_of(alloc: Global, text: &[u8]) -> Result<Table, ConfigFault>
+    ensures tree { IfOk result (λ tree. spec.IsTreeOf text.now (table_view tree)) }
+    ensures fault { IfErr result (λ e. e ≢ ConfigFault.Memory →
+        (e ≡ ConfigFault.NotToml) × spec.HasNoTree text.now) }
+{
+    match toml::table_from_slice(alloc, text) {
+        Ok(tree) => Ok(tree),
+        Err(e) if e.is_memory() => Err(ConfigFault::Memory),
+        Err(_) => Err(ConfigFault::NotToml),
+    }
+}
+
 /// The tables that the text spells, or the first check that fails. The bytes may be any.
 ///
 /// Memory is answered where a growth was refused, which may be at any point of the order of the
@@ -61,10 +74,6 @@ pub fn read_tables(alloc: Global, text: &[u8]) -> Result<Tables, ConfigFault>
     ensures lawful { IfOk result IsLawful }
     ensures fault { IfErr result (λ e. e ≢ ConfigFault.Memory → spec.IsFaultOf text.now e) }
 {
-    let tree = match toml::table_from_slice(alloc, text) {
-        Ok(tree) => tree,
-        Err(e) if e.is_memory() => return Err(ConfigFault::Memory),
-        Err(_) => return Err(ConfigFault::NotToml),
-    };
+    let tree = tree_of(alloc, text)?;
     tables_of(alloc, &tree)
 }

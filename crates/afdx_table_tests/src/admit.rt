@@ -2,7 +2,7 @@
 //!
 //! Each reading that lacks memory is made again, so the tests pass where any one growth is refused.
 
-use afdx_admit::{AdmitFault, AdmitText, admit, bounds_of};
+use afdx_admit::{AdmitFault, AdmitText, Admitted, admit, bounds_of};
 use afdx_config::{SystemId, Tables};
 use afdx_frame::VlId;
 use afdx_samples::{ShortText, base, changed, gigabit, read};
@@ -64,12 +64,18 @@ fn is_answered(alloc: Global, text: &str, wanted: &str) -> Result<bool, Fail> {
     Ok(answer.as_str() == wanted)
 }
 
-/// The first false line of the tables of a text, and how many links come back, admitted or not.
-fn judged(alloc: Global, text: &str) -> Result<(Option<AdmitFault>, usize), Fail> {
-    match admit(read(alloc, text)?) {
-        Ok(admitted) => Ok((None, admitted.tables().link_count())),
-        Err((tables, fault)) => Ok((Some(fault), tables.link_count())),
+/// The first false line, and how many links come back, admitted or not.
+fn told(answer: &Result<Admitted, (Tables, AdmitFault)>) -> (Option<AdmitFault>, usize) {
+    match answer {
+        Ok(admitted) => (None, admitted.tables().link_count()),
+        Err((tables, fault)) => (Some(*fault), tables.link_count()),
     }
+}
+
+/// What is told of the tables of a text.
+fn judged(alloc: Global, text: &str) -> Result<(Option<AdmitFault>, usize), Fail> {
+    let answer = admit(read(alloc, text)?);
+    Ok(told(&answer))
 }
 
 /// The high and the low bound, and the bytes needed.
@@ -90,13 +96,18 @@ fn others_are_idle(tables: &Tables) -> bool {
     bounds_of(tables, 1).is_some() && bounds_of(tables, 4).is_none()
 }
 
-/// The bounds of port 3, which alone has traffic, in the tables of a text.
-fn bounds_of_text(alloc: Global, text: &str) -> Result<(u64, Option<u64>, u64), Fail> {
-    let tables = read(alloc, text)?;
-    if !others_are_idle(&tables) {
+/// The bounds of port 3, which alone has traffic.
+fn third_bounds(tables: &Tables) -> Result<(u64, Option<u64>, u64), Fail> {
+    if !others_are_idle(tables) {
         return Err("another port has traffic".into());
     }
-    Ok(bounds(&tables, 3))
+    Ok(bounds(tables, 3))
+}
+
+/// The bounds of port 3 in the tables of a text.
+fn bounds_of_text(alloc: Global, text: &str) -> Result<(u64, Option<u64>, u64), Fail> {
+    let tables = read(alloc, text)?;
+    third_bounds(&tables)
 }
 
 #[test]
