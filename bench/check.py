@@ -4,8 +4,9 @@
     bench/check.py [PROGRAM] [--times T]
 
 PROGRAM is the built program, crates/afdx/out/afdx where it isn't given. The tables have 24 systems,
-4,096 virtual links from the first system to all others, and 4,096 communication ports. Such a network
-isn't admitted, so `check` ends with status 1. The best of T times (3 where it isn't given) is printed.
+4,096 virtual links from the first system to all others, and 4,096 communication ports. Such a
+network isn't admitted, so `check` ends with status 1. The best of T times (3 where it isn't given)
+is printed.
 
 Needs Linux and Python 3, no packages. It is a measurement and no test.
 """
@@ -25,15 +26,21 @@ def tables():
     """The text of the largest tables."""
     parts = ["profile = 1\nbuffer = 252\n"]
     for place in range(1, SYSTEMS + 1):
-        parts.append(f'[[system]]\nname = "s{place}"\nport = {place}\nid = {place}\npartition = 1\nrate = 100\n')
+        parts.append(
+            f'[[system]]\nname = "s{place}"\nport = {place}\nid = {place}\n'
+            "partition = 1\nrate = 100\n"
+        )
     others = ", ".join(f'"s{place}"' for place in range(2, SYSTEMS + 1))
     for vl in range(LINKS):
         parts.append(
             f'[[link]]\nvl = {vl}\nfrom = "s1"\nto = [{others}]\nbag_ms = 1\nlmin = 64\nlmax = 64\n'
-            'jitter_us = 500\npriority = "high"\npolicing = "frame"\nlatency_us = 17\nskew_us = 1000\nsubs = 2\n'
+            'jitter_us = 500\npriority = "high"\npolicing = "frame"\nlatency_us = 17\n'
+            "skew_us = 1000\nsubs = 2\n"
         )
     for vl in range(LINKS):
-        parts.append(f'[[port]]\nsystem = "s2"\nlink = {vl}\nudp = 1000\nkind = "sampling"\ndepth = 1\n')
+        parts.append(
+            f'[[port]]\nsystem = "s2"\nlink = {vl}\nudp = 1000\nkind = "sampling"\ndepth = 1\n'
+        )
     return "".join(parts)
 
 
@@ -55,7 +62,10 @@ def main():
             ]
     seconds = min(run[0] for run in runs)
     memory = max(run[1] for run in runs)
-    print(f"check of {len(text):,} bytes, {LINKS:,} links   {seconds:.3f} s   {memory / 1024:.1f} MiB peak")
+    print(
+        f"check of {len(text):,} bytes, {LINKS:,} links   "
+        f"{seconds:.3f} s   {memory / 1024:.1f} MiB peak"
+    )
 
 
 if __name__ == "__main__":

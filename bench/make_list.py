@@ -4,10 +4,11 @@
     bench/make_list.py PATH [N] [--both-sides] [--length L] [--raw]
 
 Writes N lines (1,000,000 where it isn't given, which is the most a list may have) to PATH. Each is
-a frame of link 1 at input port 1. The first comes at 0, each next one 1 ms later. Without --length all
-are one and the same frame of 64 bytes. With it they have L bytes, 64 to 1518, their messages are random
-bytes, and each is another; with --raw they are R lines, which have their check sequence in the list.
-With --both-sides the lines alternate between side A and B. `-` as PATH is standard output.
+a frame of link 1 at input port 1. The first comes at 0, each next one 1 ms later. Without --length
+all are one and the same frame of 64 bytes. With it they have L bytes, 64 to 1518, their messages
+are random bytes, and each is another; with --raw they are R lines, which have their check sequence
+in the list. With --both-sides the lines alternate between side A and B. `-` as PATH is standard
+output.
 """
 import argparse
 import contextlib
@@ -57,9 +58,15 @@ def main():
         description=__doc__, formatter_class=argparse.RawDescriptionHelpFormatter
     )
     words.add_argument("path", metavar="PATH", help="where to write the list; - is standard output")
-    words.add_argument("count", metavar="N", nargs="?", type=int, default=MOST_LINES, help="how many lines")
-    words.add_argument("--both-sides", action="store_true", help="alternate between side A and side B")
-    words.add_argument("--length", metavar="L", type=int, help="the length of the frames, each of them another")
+    words.add_argument(
+        "count", metavar="N", nargs="?", type=int, default=MOST_LINES, help="how many lines"
+    )
+    words.add_argument(
+        "--both-sides", action="store_true", help="alternate between side A and side B"
+    )
+    words.add_argument(
+        "--length", metavar="L", type=int, help="the length of the frames, each of them another"
+    )
     words.add_argument("--raw", action="store_true", help="R lines in place of F lines")
     given = words.parse_args()
     if not 0 <= given.count <= MOST_LINES:

@@ -3,18 +3,21 @@
 
     bench/make_network.py KIND CONFIG LIST [N] [--links C]
 
-Writes a configuration to CONFIG, and to LIST a list of N lines (1,000,000 where it isn't given, which is
-the most a list may have), F lines on both sides. KIND is one of
+Writes a configuration to CONFIG, and to LIST a list of N lines (1,000,000 where it isn't given,
+which is the most a list may have), F lines on both sides. KIND is one of
 
-    aircraft    24 systems at 100 Mbit/s with C links (400) to 1 to 6 systems each, profile 1; admitted
-    gigabit     24 systems at 1000 Mbit/s with C links (4,096) to 1 to 6 systems each, profile 2; admitted
-    lost        C links (64) to one system at 10 Mbit/s, which they overload, profile 1: frames are lost
+    aircraft    24 systems at 100 Mbit/s with C links (400) to 1 to 6 systems each, profile 1;
+                admitted
+    gigabit     24 systems at 1000 Mbit/s with C links (4,096) to 1 to 6 systems each, profile 2;
+                admitted
+    lost        C links (64) to one system at 10 Mbit/s, which they overload, profile 1: frames
+                are lost
     old         the same in profile 2: frames are dropped as too old
 
-Of the links 57 % have frames of up to 150 bytes, 21 % up to 300, 12 % up to 600, 6 % up to 900 and 4 %
-more. BAGs are 2 to 128 ms, four fifths of them 16 and more. Each link sends a frame each BAG, at most
-10 us late, with a message of random bytes; side B has its copy 5 us later. The same words give the same
-files.
+Of the links 57 % have frames of up to 150 bytes, 21 % up to 300, 12 % up to 600, 6 % up to 900 and
+4 % more. BAGs are 2 to 128 ms, four fifths of them 16 and more. Each link sends a frame each BAG,
+at most 10 us late, with a message of random bytes; side B has its copy 5 us later. The same words
+give the same files.
 """
 import argparse
 import heapq
@@ -44,7 +47,9 @@ class Link:
 
 def longest(chance):
     """Lmax by the mix."""
-    ends = chance.choices([(64, 150), (151, 300), (301, 600), (601, 900), (901, 1518)], [57, 21, 12, 6, 4])[0]
+    ends = chance.choices(
+        [(64, 150), (151, 300), (301, 600), (601, 900), (901, 1518)], [57, 21, 12, 6, 4]
+    )[0]
     return chance.randint(*ends)
 
 
@@ -73,18 +78,26 @@ def write_config(path, kind, links):
     latency = 5000 if kind == "old" else 100000
     parts = [f"profile = {profile}\nbuffer = {buffer}\n"]
     for place in range(1, SYSTEMS + 1):
-        rate = 1000 if kind == "gigabit" else 10 if kind in ("lost", "old") and place == SYSTEMS else 100
-        parts.append(f'[[system]]\nname = "s{place}"\nport = {place}\nid = {place}\npartition = 1\nrate = {rate}\n')
+        is_overloaded = kind in ("lost", "old") and place == SYSTEMS
+        rate = 1000 if kind == "gigabit" else 10 if is_overloaded else 100
+        parts.append(
+            f'[[system]]\nname = "s{place}"\nport = {place}\nid = {place}\n'
+            f"partition = 1\nrate = {rate}\n"
+        )
     for link in links:
         to = ", ".join(f'"s{place}"' for place in link.to)
         parts.append(
-            f'[[link]]\nvl = {link.vl}\nfrom = "s{link.sender}"\nto = [{to}]\nbag_ms = {link.bag_ms}\nlmin = 64\n'
-            f'lmax = {link.lmax}\njitter_us = 500\npriority = "{"low" if link.vl % 3 else "high"}"\npolicing = "byte"\n'
+            f'[[link]]\nvl = {link.vl}\nfrom = "s{link.sender}"\nto = [{to}]\n'
+            f"bag_ms = {link.bag_ms}\nlmin = 64\nlmax = {link.lmax}\njitter_us = 500\n"
+            f'priority = "{"low" if link.vl % 3 else "high"}"\npolicing = "byte"\n'
             f"latency_us = {latency}\nskew_us = 100000\nsubs = 1\n"
         )
     places = [(place, link.vl) for link in links for place in link.to]
     for place, vl in places[:4096]:
-        parts.append(f'[[port]]\nsystem = "s{place}"\nlink = {vl}\nudp = 1000\nkind = "sampling"\ndepth = 1\n')
+        parts.append(
+            f'[[port]]\nsystem = "s{place}"\nlink = {vl}\nudp = 1000\n'
+            'kind = "sampling"\ndepth = 1\n'
+        )
     with open(path, "w", encoding="ascii") as config:
         config.write("".join(parts))
 
@@ -94,7 +107,8 @@ def next_frames(link, chance):
     length = chance.randint(max(64, link.lmax // 2), link.lmax)
     if length not in link.heads:
         link.heads[length] = tuple(
-            frame_of(link.sender, 1, link.vl, bytes(length - 47), 0, side, 1000, length)[:42] for side in "AB"
+            frame_of(link.sender, 1, link.vl, bytes(length - 47), 0, side, 1000, length)[:42]
+            for side in "AB"
         )
     tail = chance.randbytes(length - 47) + bytes([link.number])
     link.number = link.number % 255 + 1
@@ -131,11 +145,15 @@ def write_network(kind, config, listing, count=MOST_LINES, links=None):
 
 
 def main():
-    words = argparse.ArgumentParser(description=__doc__, formatter_class=argparse.RawDescriptionHelpFormatter)
+    words = argparse.ArgumentParser(
+        description=__doc__, formatter_class=argparse.RawDescriptionHelpFormatter
+    )
     words.add_argument("kind", metavar="KIND", choices=KINDS)
     words.add_argument("config", metavar="CONFIG")
     words.add_argument("list", metavar="LIST")
-    words.add_argument("count", metavar="N", nargs="?", type=int, default=MOST_LINES, help="how many lines")
+    words.add_argument(
+        "count", metavar="N", nargs="?", type=int, default=MOST_LINES, help="how many lines"
+    )
     words.add_argument("--links", metavar="C", type=int, help="how many links, 1 to 4096")
     given = words.parse_args()
     if not 0 <= given.count <= MOST_LINES:

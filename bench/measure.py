@@ -1,4 +1,7 @@
-"""Measures one run of a program: its time, its memory and its instructions. For the scripts beside it."""
+"""Measures one run of a program: its time, its memory and its instructions.
+
+For the scripts beside it.
+"""
 import os
 import re
 import shutil

@@ -5,18 +5,19 @@
 
 PROGRAM is the built program, crates/afdx/out/afdx where it isn't given. The lists have N lines
 (1,000,000 where it isn't given), but at most about 500 MB, and are made in a temporary folder by
-bench/make_list.py, bench/make_network.py and bench/make_messages.py. Each list is run T times (3 where it isn't given) from a
-file into /dev/null. One table in Markdown is printed:
+bench/make_list.py, bench/make_network.py and bench/make_messages.py. Each list is run T times (3
+where it isn't given) from a file into /dev/null. One table in Markdown is printed:
 
     seconds        user and system seconds together, the least of the runs
     peak memory    the greatest of the runs
-    instructions   for each line, by valgrind's callgrind, the run of 4,000 lines less that of 2,000;
-                   `-` where valgrind isn't installed
+    instructions   for each line, by valgrind's callgrind, the run of 4,000 lines less that of
+                   2,000; `-` where valgrind isn't installed
 
 MB are 1,000,000 bytes of the list. With --baseline the hand-written C program
-bench/handwritten/police_baseline.c is compiled by `cc -O2`, must print the same as `police`, and stands in
-the table beside it. With --only the rows whose name has TEXT in it are measured. With --scaling another
-table is printed: how time and memory grow with the lines of a list and with the links of a network.
+bench/handwritten/police_baseline.c is compiled by `cc -O2`, must print the same as `police`, and
+stands in the table beside it. With --only the rows whose name has TEXT in it are measured. With
+--scaling another table is printed: how time and memory grow with the lines of a list and with the
+links of a network.
 
 Needs Linux and Python 3, no packages; with /usr/bin/time the figure for memory is the program's
 alone. It is a measurement and no test: it fails only where a run fails or the two programs differ.
@@ -52,7 +53,24 @@ REPLAY = [
     ("replay, an overloaded port, frames too old, profile 2", "old", False),
 ]
 SEND = "send, 20 links of one system"
-HEAD = ["run", "lines", "MB", "seconds", "lines a second", "MB a second", "peak memory", "instructions a line"]
+HEAD = [
+    "run",
+    "lines",
+    "MB",
+    "seconds",
+    "lines a second",
+    "MB a second",
+    "peak memory",
+    "instructions a line",
+]
+GROWTH_HEAD = [
+    "links",
+    "lines",
+    "seconds",
+    "of these before the first line",
+    "us a line",
+    "peak memory",
+]
 
 
 class Bench:
@@ -65,11 +83,17 @@ class Bench:
     def best(self, words):
         """The least seconds and the greatest memory of some runs."""
         with open(os.devnull, "w", encoding="ascii") as nothing:
-            runs = [timed(words, subprocess.DEVNULL, nothing, self.path("note")) for _ in range(self.times)]
+            runs = [
+                timed(words, subprocess.DEVNULL, nothing, self.path("note"))
+                for _ in range(self.times)
+            ]
         return min(seconds for seconds, _ in runs), max(memory for _, memory in runs)
 
     def a_line(self, make, words):
-        """Instructions for each line: a longer list less a shorter one. `make` writes a list of so many lines."""
+        """Instructions for each line: a longer list less a shorter one.
+
+        `make` writes a list of so many lines.
+        """
         counts = []
         for count in (FEW, 2 * FEW):
             make(self.path("few.list"), count)
@@ -151,15 +175,22 @@ def head(cells):
     print("|" + "---|" * len(cells))
 
 
-def main():
+def read_words():
+    """The words of the command line, where they are right."""
     words = argparse.ArgumentParser(
         description=__doc__, formatter_class=argparse.RawDescriptionHelpFormatter
     )
-    words.add_argument("program", metavar="PROGRAM", nargs="?", default=PROGRAM, help="the built program")
+    words.add_argument(
+        "program", metavar="PROGRAM", nargs="?", default=PROGRAM, help="the built program"
+    )
     words.add_argument("--lines", metavar="N", type=int, default=MOST_LINES, help="lines of a list")
     words.add_argument("--times", metavar="T", type=int, default=3, help="runs of each kind")
-    words.add_argument("--only", metavar="TEXT", default="", help="measure the rows with TEXT in their names")
-    words.add_argument("--baseline", action="store_true", help="measure the hand-written C program too")
+    words.add_argument(
+        "--only", metavar="TEXT", default="", help="measure the rows with TEXT in their names"
+    )
+    words.add_argument(
+        "--baseline", action="store_true", help="measure the hand-written C program too"
+    )
     words.add_argument("--scaling", action="store_true", help="print the table of growth")
     given = words.parse_args()
     if not 1 <= given.lines <= MOST_LINES:
@@ -167,12 +198,18 @@ def main():
     if given.times < 1:
         words.error("T is at least 1")
     if not os.access(given.program, os.X_OK):
-        words.error(f"there is no program at {given.program}: build it first, by bin/afdx --version")
+        words.error(
+            f"there is no program at {given.program}: build it first, by bin/afdx --version"
+        )
+    return given
 
+
+def main():
+    given = read_words()
     with tempfile.TemporaryDirectory(prefix="afdx-bench-") as folder:
         bench = Bench(given, folder)
         if given.scaling:
-            head(["links", "lines", "seconds", "of these before the first line", "us a line", "peak memory"])
+            head(GROWTH_HEAD)
             sizes = [given.lines // 100, given.lines // 10, given.lines]
             for lines in sizes:
                 show(bench.scaling("gigabit", max(1, lines), 400))

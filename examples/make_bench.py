@@ -4,8 +4,8 @@
     examples/make_bench.py [FOLDER]
 
 They are written to FOLDER, where it isn't given to the folder of this script. What the frames are
-made of stands in docs/FORMATS.md, what happens to them in docs/NETWORK.md, section 16. The lists are
-the same each time.
+made of stands in docs/FORMATS.md, what happens to them in docs/NETWORK.md, section 16. The lists
+are the same each time.
 """
 import os
 import sys
@@ -48,8 +48,8 @@ def header_checksum(header):
 def frame_of(ident, partition, vl, payload, number, side, udp, least=64, **changes):
     """A frame without its check sequence, as a sender builds it, but for the changes.
 
-    The changes are values of fields: ether_type, flags, protocol, checksum (added to the right one),
-    udp_length, address.
+    The changes are values of fields: ether_type, flags, protocol, checksum (added to the right
+    one), udp_length, address.
     """
     address = changes.get("address", b"\x03\x00\x00\x00" + two(vl))
     source = b"\x02\x00\x00" + two(ident) + (b"\x20" if side == "A" else b"\x40")
@@ -68,7 +68,8 @@ def built(system, vl, text, number, side="A", udp=None, least=64, **changes):
     """The frame of a system of the lists with a text as its message."""
     _, ident, partition = SYSTEMS[system]
     port = 20000 + vl if udp is None else udp
-    return frame_of(ident, partition, vl, text.encode("ascii"), number, side, port, least, **changes)
+    payload = text.encode("ascii")
+    return frame_of(ident, partition, vl, payload, number, side, port, least, **changes)
 
 
 def sealed(frame):
@@ -83,14 +84,15 @@ class Frames:
         self.lines = []
         self.head = []
 
-    def say(self, time, *texts):
-        self.lines += [(time, f"# {text}") for text in texts]
+    def say(self, time, text):
+        """Adds each line of the text as a remark."""
+        self.lines += [(time, f"# {line}") for line in text.splitlines()]
 
     def add(self, time, side, port, frame, kind="F"):
         self.lines.append((time, f"{kind} {time} {side} {port} {frame.hex() or '-'}"))
 
     def send(self, time, system, vl, text, number, sides="AB", late=5 * US, **more):
-        """The frame on both sides, or on one; the copy on side B comes `late` ns after that on A."""
+        """The frame on both sides, or on one; the copy on side B comes `late` ns after A's."""
         for side in sides:
             at = time + late if side == "B" else time
             self.add(at, side, SYSTEMS[system][0], built(system, vl, text, number, side, **more))
@@ -118,45 +120,53 @@ def background(frames, end):
             number = next_number(number)
 
 
+PRIORITIES = """\
+At the captain's displays: the long low frame of link 903 is first, but the choice of this moment
+is made when all have come: the high frame of link 104 goes first, and then the low one. A high
+frame that comes while that is being sent (link 303) doesn't interrupt it.
+"""
+
+
 def priorities(frames, start):
-    frames.say(
-        start,
-        "At the captain's displays: the long low frame of link 903 is first, but the choice of this moment",
-        "is made when all have come: the high frame of link 104 goes first, and then the low one. A high",
-        "frame that comes while that is being sent (link 303) doesn't interrupt it.",
-    )
+    frames.say(start, PRIORITIES)
     frames.send(start, "fms1", 903, "flight plan page 1 of 4", 0, "A", least=512)
     frames.send(start, "fcc1", 104, "pitch 2.0", 0, "A")
     frames.send(start + 8 * US, "ads1", 303, "speed 251", 0, "A")
 
 
+LATE_COPIES = """\
+Late copies on side B: 1,400 us after the one on A, within the skew of 1,500 us: dropped as
+redundant. The next one comes 1,600 us late, beyond the skew: it counts as new, and is delivered.
+"""
+
+
 def late_copies(frames, start):
-    frames.say(
-        start,
-        "Late copies on side B: 1,400 us after the one on A, within the skew of 1,500 us: dropped as",
-        "redundant. The next one comes 1,600 us late, beyond the skew: it counts as new, and is delivered.",
-    )
+    frames.say(start, LATE_COPIES)
     frames.send(start, "fcc1", 102, "elevator 1", 0, late=1400 * US)
     frames.send(start + 2 * MS, "fcc1", 102, "elevator 2", 1, late=1600 * US)
 
 
+BABBLING = """\
+disp1 babbles: link 703, which may send one frame in 32 ms, sends one each 50 us. Only the first
+passes; link 706 of the same system isn't touched by that.
+"""
+
+
 def babbling(frames, start):
-    frames.say(
-        start,
-        "disp1 babbles: link 703, which may send one frame in 32 ms, sends one each 50 us. Only the first",
-        "passes; link 706 of the same system isn't touched by that.",
-    )
+    frames.say(start, BABBLING)
     for count in range(24):
         frames.send(start + count * 50 * US, "disp1", 703, "baro 1013", count, "A")
     frames.send(start + 610 * US, "disp1", 706, "position", 0, "A")
 
 
+MASKED = """\
+eec2 sends under the name of eec1: link 1001, but at port 11. Wrong port; and link 1001's own
+frame, between those, is accepted as if they weren't there.
+"""
+
+
 def masked(frames, start):
-    frames.say(
-        start,
-        "eec2 sends under the name of eec1: link 1001, but at port 11. Wrong port; and link 1001's own",
-        "frame, between those, is accepted as if they weren't there.",
-    )
+    frames.say(start, MASKED)
     for count in range(10):
         time = start + count * 20 * US
         frames.add(time, "A", SYSTEMS["eec2"][0], built("eec1", 1001, "thrust 0", count, "A"))
@@ -165,19 +175,25 @@ def masked(frames, start):
 
 
 def wrong_at_the_switch(frames, start):
-    frames.say(start, "One frame of each kind that the switch drops by its shape, all from fcc1 at port 1.")
+    frames.say(
+        start, "One frame of each kind that the switch drops by its shape, all from fcc1 at port 1."
+    )
     good = built("fcc1", 110, "record", 0, "A", least=128)
+    changed = sealed(good)[:50] + b"\x01" + sealed(good)[51:]
+    elsewhere = built("fcc1", 110, "record", 0, address=b"\x01\x00\x5e\x00\x00\x6e")
+    too_great = built("fcc1", 107, "alignment", 0, least=85)
+    too_small = built("fcc1", 110, "record", 0, least=127)
     port = SYSTEMS["fcc1"][0]
     kinds = [
         ("too-short: 20 bytes", "R", sealed(good)[:20]),
         ("too-short: no bytes", "R", b""),
         ("too-long: 1519 bytes", "R", bytes(1519)),
         ("bad-fcs: the check sequence is turned over", "B", good),
-        ("bad-fcs: one bit of a sealed frame is changed", "R", sealed(good)[:50] + b"\x01" + sealed(good)[51:]),
-        ("bad-address: another destination", "F", built("fcc1", 110, "record", 0, address=b"\x01\x00\x5e\x00\x00\x6e")),
+        ("bad-fcs: one bit of a sealed frame is changed", "R", changed),
+        ("bad-address: another destination", "F", elsewhere),
         ("unknown-link: no link has the identifier 199", "F", built("fcc1", 199, "record", 0)),
-        ("over-lmax: link 107 has at most 84 bytes", "F", built("fcc1", 107, "alignment", 0, least=85)),
-        ("under-lmin: link 110 has at least 128 bytes", "F", built("fcc1", 110, "record", 0, least=127)),
+        ("over-lmax: link 107 has at most 84 bytes", "F", too_great),
+        ("under-lmin: link 110 has at least 128 bytes", "F", too_small),
         ("and a good one, which they cost nothing", "F", good),
     ]
     for count, (text, kind, frame) in enumerate(kinds):
@@ -188,6 +204,7 @@ def wrong_at_the_switch(frames, start):
 
 def wrong_at_the_receiver(frames, start):
     frames.say(start, "Frames of link 101 that pass the switch, and that fcc2 drops.")
+    one_less = 8 + len("monitor 10") - 1
     kinds = [
         ("good: number 0", 0, {}),
         ("good: number 1", 1, {}),
@@ -197,7 +214,7 @@ def wrong_at_the_receiver(frames, start):
         ("bad-ip-header: a checksum that is 1 too great", 7, {"checksum": 1}),
         ("fragment: more fragments follow", 8, {"flags": 0x2000}),
         ("not-udp: protocol 1", 9, {"protocol": 1}),
-        ("bad-udp-length: 1 less than the IPv4 header says", 10, {"udp_length": 8 + len("monitor 10") - 1}),
+        ("bad-udp-length: 1 less than the IPv4 header says", 10, {"udp_length": one_less}),
         ("no-port: fcc2 reads link 101 at port 20101 alone", 11, {"udp": 20102}),
         ("good: number 12", 12, {}),
     ]
@@ -207,46 +224,52 @@ def wrong_at_the_receiver(frames, start):
         frames.send(time, "fcc1", 101, f"monitor {number}", number, "A", **changes)
 
 
+BENCH = """\
+# A test bench for network.toml, written by examples/make_bench.py: 60 ms at both switches.
+#
+#     afdx replay examples/network.toml examples/bench.list
+#
+# All the while the inertial systems send body rates (links 501 and 601) every 2 ms on both
+# sides; the copy on side B comes 5 us after that on A, so the receivers drop it as redundant.
+"""
+BREAKS = """\
+The line from irs1 to switch A breaks: link 501 comes by side B alone, and fcc1 and fcc2 go on by
+that, without a gap.
+"""
+MENDED = """\
+It is mended. The first frame on side A is five numbers after the last one there: dropped as
+sequence, so its copy on B is used. From the next one on side A is first again.
+"""
+
+
 def bench():
     frames = Frames()
-    frames.head = [
-        "# A test bench for network.toml, written by examples/make_bench.py: 60 ms at both switches.",
-        "#",
-        "#     afdx replay examples/network.toml examples/bench.list",
-        "#",
-        "# All the while the inertial systems send body rates (links 501 and 601) every 2 ms on both",
-        "# sides; the copy on side B comes 5 us after that on A, so the receivers drop it as redundant.",
-    ]
+    frames.head = BENCH.splitlines()
     priorities(frames, 1200 * US)
     late_copies(frames, 3 * MS)
     babbling(frames, 10 * MS + 100 * US)
     masked(frames, 13 * MS)
     wrong_at_the_switch(frames, 15 * MS)
     wrong_at_the_receiver(frames, 17 * MS + 300 * US)
-    frames.say(
-        30 * MS,
-        "The line from irs1 to switch A breaks: link 501 comes by side B alone, and fcc1 and fcc2 go on by",
-        "that, without a gap.",
-    )
-    frames.say(
-        38 * MS,
-        "It is mended. The first frame on side A is five numbers after the last one there: dropped as",
-        "sequence, so its copy on B is used. From the next one on side A is first again.",
-    )
+    frames.say(30 * MS, BREAKS)
+    frames.say(38 * MS, MENDED)
     background(frames, 60 * MS)
     return frames
 
 
+GIGABIT = """\
+# A list for gigabit.toml, written by examples/make_bench.py.
+#
+#     afdx replay --no-admission examples/gigabit.toml examples/gigabit.list
+#
+# Both radars send two frames in 6 us, as their accounts allow. The displays at port 4 take them at
+# 1000 Mbit/s; the recorder at port 5 takes 256 us for each.
+"""
+
+
 def gigabit():
     frames = Frames()
-    frames.head = [
-        "# A list for gigabit.toml, written by examples/make_bench.py.",
-        "#",
-        "#     afdx replay --no-admission examples/gigabit.toml examples/gigabit.list",
-        "#",
-        "# Both radars send two frames in 6 us, as their accounts allow. The displays at port 4 take them at",
-        "# 1000 Mbit/s; the recorder at port 5 takes 256 us for each.",
-    ]
+    frames.head = GIGABIT.splitlines()
     for start, number in ((0, 0), (4 * MS, 2)):
         frames.send(start, "radar1", 1, f"echo {number}", number, "A", least=300)
         frames.send(start, "radar2", 2, f"cloud {number}", number, "A", least=300)

@@ -21,7 +21,10 @@ cat >"$room/kit/rt" <<'RT'
 #!/usr/bin/env bash
 echo "rt $*" >>"$CALLS"
 case $1 in
-all) [[ ! -e $BROKEN ]] || { echo 'not proved'; exit 1; }; echo 'crate low: modules loaded=1 checked=1' ;;
+all)
+    [[ ! -e $BROKEN ]] || { echo 'not proved'; exit 1; }
+    echo 'crate low: modules loaded=1 checked=1'
+    ;;
 run)
     mkdir -p out
     printf '#!/bin/sh\necho "ran $*"\nexit 3\n' >out/afdx

@@ -56,7 +56,8 @@ listed() { # TEXT : the next cases read it on standard input
     input=$work/list
 }
 
-text_case() { # NAME STATUS STREAM WORDS_TO_FIND WORD.. : the text is on that stream, and nothing on the other
+# The text is on that stream, and nothing on the other.
+text_case() { # NAME STATUS STREAM WORDS_TO_FIND WORD..
     local name=$1 wanted=$2 stream=$3 find=$4 other=err
     [[ $stream == out ]] || other=out
     shift 4

@@ -2,7 +2,7 @@
 # Refuses requests for memory, and looks at what the program, or a test, makes of it.
 #
 #     tests/refused_growths.sh PROGRAM             the built program, as crates/afdx/out/afdx
-#     tests/refused_growths.sh --tests RUNNER..    built test runners, as afdx_link_tests_tests
+#     tests/refused_growths.sh --tests RUNNER..    built test runners, as afdx_part_tests_tests
 #
 # PROGRAM polices examples/one_link.list on standard input, checks examples/base.toml, explains a
 # line, replays a frame and its copy in examples/base.toml, replays examples/gigabit.list, and sends
@@ -128,7 +128,9 @@ refuse_program() { # NAME WORD..
 look_at_test() { # HOW
     fault=
     if [[ $status -eq 0 ]]; then return; fi
-    if [[ $1 == REFUSE_FROM && $met == yes && $err =~ AllocError|Memory|(was refused) ]]; then return; fi
+    if [[ $1 == REFUSE_FROM && $met == yes && $err =~ AllocError|Memory|(was refused) ]]; then
+        return
+    fi
     fault="status $status"$'\n'"${err:0:600}"
 }
 

@@ -3,7 +3,8 @@
 passed=0
 failed=0
 
-tell() { # NAME FAULT [NOTE] : a case, its fault if it has one, and what is told of it where it passes
+# A case, its fault if it has one, and what is told of it where it passes.
+tell() { # NAME FAULT [NOTE]
     if [[ -z $2 ]]; then
         passed=$((passed + 1))
         echo "ok $1${3:+ ($3)}"

@@ -16,7 +16,8 @@ _afdx_words() { # WORD.. : those that the word begins
 
 _afdx_systems() { # CONFIG : the names of its systems
     local names
-    names=$(sed -n '/^ *\(\[\[link\]\]\|link *=\)/q; s/.*\bname *= *"\([A-Za-z0-9]*\)".*/\1/p' "$1" 2>/dev/null)
+    names=$(sed -n -e '/^ *\(\[\[link\]\]\|link *=\)/q' \
+        -e 's/.*\bname *= *"\([A-Za-z0-9]*\)".*/\1/p' "$1" 2>/dev/null)
     # shellcheck disable=SC2086
     _afdx_words $names
 }
@@ -41,7 +42,8 @@ _afdx() {
             replay) _afdx_words --no-admission --explain --line-buffered --summary --help ;;
             send) _afdx_words --explain --line-buffered --summary --help ;;
             police)
-                _afdx_words --vl --port --lmin --policing --explain --line-buffered --summary --help ;;
+                _afdx_words --vl --port --lmin --policing --explain --line-buffered --summary --help
+                ;;
             check) _afdx_words --explain --help ;;
             explain) _afdx_words --help ;;
         esac
@@ -66,10 +68,16 @@ _afdx_tool() {
     esac
     if [[ ${COMP_WORDS[COMP_CWORD]} == -* ]]; then
         case $tool in
-            afdx-capture) _afdx_words --config --port --origin --fcs --side --all --out --split --help ;;
-            afdx-report) _afdx_words --out --no-admission --link --from --rows --title --json --help ;;
+            afdx-capture)
+                _afdx_words --config --port --origin --fcs --side --all --out --split --help
+                ;;
+            afdx-report)
+                _afdx_words --out --no-admission --link --from --rows --title --json --help
+                ;;
             afdx-campaign)
-                _afdx_words --out --no-admission --pages --jobs --resume --sshlogin --transfer --help ;;
+                _afdx_words --out --no-admission --pages --jobs --resume --sshlogin --transfer \
+                    --help
+                ;;
         esac
     elif [[ $tool == afdx-capture ]] && ((COMP_CWORD == 1)); then
         _afdx_words list pcap

@@ -179,7 +179,7 @@ class Arrived:
 
 
 class Track:
-    """Of a link's arrivals those that follow each other where most went wrong, else the first ones."""
+    """Of a link's arrivals those that follow each other where most went wrong, else the first."""
 
     def __init__(self, each: int) -> None:
         self.each = each

@@ -26,7 +26,10 @@ REASONS = (*VERDICTS, LOST, OLD)
 
 def text(x: float, y: float, words: str, kind: str = "", anchor: str = "start") -> str:
     """A text whose base line begins, has its middle or ends at x, y."""
-    return f'<text x="{x:.1f}" y="{y:.1f}" class="{kind}" text-anchor="{anchor}">{escape(words)}</text>'
+    return (
+        f'<text x="{x:.1f}" y="{y:.1f}" class="{kind}" text-anchor="{anchor}">'
+        f"{escape(words)}</text>"
+    )
 
 
 def line(x1: float, y1: float, x2: float, y2: float, kind: str) -> str:
@@ -92,7 +95,7 @@ LEFT, RIGHT, ROW = 250, 150, 20
 
 
 def latency_row(row: dict, y: float, place) -> list[str]:
-    """One link: least to greatest as a bar, the median as a dot, the bound, the configured latency."""
+    """One link: least to greatest as a bar, median as a dot, bound, configured latency."""
     least, greatest = place(row["least_ns"]), place(row["greatest_ns"])
     share = f"{row['share']:.0%} of the bound" if row["share"] is not None else "no bound"
     words = (
@@ -275,7 +278,10 @@ def arrival_mark(arrived: Arrived, x: float, y: float) -> str:
 def copy_mark(arrived: Arrived, copy: tuple[str, int, int, str], x: float, y: float) -> str:
     """A tick where a copy left (hollow where it was not delivered), a square where it was lost."""
     what, time, port, end = copy
-    words = f"line {arrived.line}: {what} at port {port}, {time:,} ns, {time - arrived.time:,} ns after its arrival"
+    words = (
+        f"line {arrived.line}: {what} at port {port}, {time:,} ns, "
+        f"{time - arrived.time:,} ns after its arrival"
+    )
     words += f"; {end}" if end else ""
     if what == "left":
         kind = "delivered" if end == "delivered" else "passed"

@@ -1,4 +1,4 @@
-"""The frames of recordings on their way into a list: side, port and kind of each, in order of time."""
+"""Recorded frames on their way into a list: side, port and kind of each, in order of time."""
 from __future__ import annotations
 
 import argparse
@@ -40,7 +40,7 @@ class Counts:
 
 @dataclass
 class Source:
-    """A recording with what was decided of it: the side (None: by the address), each frame's kind."""
+    """A recording with what was decided of it: side (None: by the address), each frame's kind."""
 
     path: str
     frames: Iterator

@@ -15,17 +15,18 @@ NAMES = {
     "ports": "Ports: greatest backlog in bytes, and frames that left",
 }
 PROVED = (
-    "Proved: each verdict (V), loss (L), departure with its time (D), drop for age (T), message (M) "
-    "and refusal at a receiver (X) is a line of the proved program, and so are the bounds of the "
-    "ports (P) and the answer of admission. On an admitted network no accepted frame is lost, and "
-    "each leaves its port within its link's configured latency; the bound of a port is the least "
-    "latency in ns that admission takes there."
+    "Proved: each verdict (V), loss (L), departure with its time (D), drop for age (T), message "
+    "(M) and refusal at a receiver (X) is a line of the proved program, and so are the bounds of "
+    "the ports (P) and the answer of admission. On an admitted network no accepted frame is lost, "
+    "and each leaves its port within its link's configured latency; the bound of a port is the "
+    "least latency in ns that admission takes there."
 )
 UNPROMISED = "This network is not admitted, so nothing promises its bounds."
 COUNTED = (
-    "Counted by this report from those lines and the list, and not proved: all sums; latencies (a departure "
-    "less the arrival of its line) with least, median and greatest; backlogs (bytes of frames that wait in "
-    "an output port, without the one that is being sent); shares; and the pictures."
+    "Counted by this report from those lines and the list, and not proved: all sums; latencies (a "
+    "departure less the arrival of its line) with least, median and greatest; backlogs (bytes of "
+    "frames that wait in an output port, without the one that is being sent); shares; and the "
+    "pictures."
 )
 
 

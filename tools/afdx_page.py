@@ -31,12 +31,16 @@ section { background: var(--sheet); border: 1px solid var(--rule); border-radius
 .good { color: var(--good); } .bad { color: var(--bad); }
 .cards { display: grid; grid-template-columns: repeat(auto-fit, minmax(98px, 1fr)); gap: 10px;
   margin-top: 16px; }
-.card { background: var(--sheet); border: 1px solid var(--rule); border-radius: 8px; padding: 10px 14px; }
+.card { background: var(--sheet); border: 1px solid var(--rule); border-radius: 8px;
+  padding: 10px 14px; }
 .card b { display: block; font-size: 21px; font-weight: 600; font-variant-numeric: tabular-nums; }
 .card span { color: var(--muted); font-size: 12.5px; }
-table { border-collapse: collapse; font-variant-numeric: tabular-nums; font-size: 13px; width: 100%; }
-th { text-align: left; font-weight: 600; color: var(--muted); border-bottom: 1px solid var(--axis); }
-th, td { padding: 3px 10px 3px 0; white-space: nowrap; } td { border-bottom: 1px solid var(--rule); }
+table { border-collapse: collapse; font-variant-numeric: tabular-nums; font-size: 13px;
+  width: 100%; }
+th { text-align: left; font-weight: 600; color: var(--muted);
+  border-bottom: 1px solid var(--axis); }
+th, td { padding: 3px 10px 3px 0; white-space: nowrap; }
+td { border-bottom: 1px solid var(--rule); }
 .number { text-align: right; } td.words { white-space: normal; }
 svg { display: block; width: 100%; min-width: 760px; height: auto; margin-top: 8px; }
 svg text { font-size: 12.5px; fill: var(--ink); } svg text.muted { fill: var(--muted); }
@@ -120,8 +124,9 @@ def answer(report: Row) -> str:
     most = worst(report["latency"])
     if most:
         parts.append(
-            f' <span class="muted">Nearest to its bound: link {most["link"]} at port {most["port"]}, '
-            f'{most["greatest_ns"]:,} of {most["bound_ns"]:,} ns ({most["share"]:.0%}).</span>'
+            f' <span class="muted">Nearest to its bound: link {most["link"]} at port '
+            f'{most["port"]}, {most["greatest_ns"]:,} of {most["bound_ns"]:,} ns '
+            f'({most["share"]:.0%}).</span>'
         )
     return f'<p style="margin-top:10px">{"".join(parts)}</p>'
 
@@ -171,8 +176,8 @@ def track_section(counting: Counting) -> str:
     shown = track.shown()
     ports = {port: counting.by_port[port].name for port in link.ports}
     words = (
-        f"From {link.source} to {', '.join(link.to)}; {link.priority} priority, BAG {link.bag_ms} ms, "
-        f"Lmax {link.lmax} bytes. "
+        f"From {link.source} to {', '.join(link.to)}; {link.priority} priority, "
+        f"BAG {link.bag_ms} ms, Lmax {link.lmax} bytes. "
     )
     if len(shown) < counting.links[vl].frames:
         where = "" if counting.tracks.begin or not track.most else ", where most were dropped"
@@ -189,7 +194,8 @@ def foot(report: Row) -> str:
     )
     return (
         f"<footer><p>{escape(PROVED)}</p><p>{escape(COUNTED)}</p>"
-        f"<p>{files}<br>Program: {escape(run['program'])}; written {escape(run['written'])}.</p></footer>"
+        f"<p>{files}<br>Program: {escape(run['program'])}; "
+        f"written {escape(run['written'])}.</p></footer>"
     )
 
 
@@ -208,7 +214,10 @@ def page(report: Row, counting: Counting, rows: int) -> str:
         latency_section(report, rows),
         section(
             "Drops by reason over time",
-            "At the switches, by the time of the arrival; copies that were too old by that of their drop.",
+            (
+                "At the switches, by the time of the arrival; "
+                "copies that were too old by that of their drop."
+            ),
             figures.drops(counting.drops),
         ),
         track_section(counting),

@@ -1,8 +1,8 @@
 """Reads recordings (pcap, pcapng) and writes pcap, by the header and block classes of dpkt.
 
 dpkt's own readers aren't used: they give times as fractions of seconds, which in pcapng loses
-nanoseconds, and they tell neither a frame's interface nor whether it was cut. Its classes for headers,
-blocks and options have all of that; the loops over them stand here.
+nanoseconds, and they tell neither a frame's interface nor whether it was cut. Its classes for
+headers, blocks and options have all of that; the loops over them stand here.
 """
 from __future__ import annotations
 

@@ -1,7 +1,8 @@
 """What the tools of this folder share: where the program is, tables, frame lists, frames.
 
 The tools judge nothing. Whatever is right or wrong about a configuration, a list or a frame is said
-by the program; what stands here only reads the same files, so that the program's lines can be counted.
+by the program; what stands here only reads the same files, so that the program's lines can be
+counted.
 """
 from __future__ import annotations
 

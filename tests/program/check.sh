@@ -5,6 +5,10 @@ check_with() { # NAME STATUS OUT ERR SED_SCRIPT : `check` on base.toml as the sc
     case_of "$1" "$2" "$3" "$4" check "$work/changed.toml"
 }
 
+fault_with() { # NAME FAULT SED_SCRIPT : the script makes that fault of the configuration
+    check_with "$1" 1 '' "config $2"$'\n' "$3"
+}
+
 idle=$'P 1 0 0 0\nP 2 0 0 0\n'
 base=$idle$'P 3 16800 20297 252\n'
 case_of 'check base.toml' 0 "$base"$'ok\n' '' check examples/base.toml
@@ -29,22 +33,24 @@ check_with 'A3' 1 "$base"$'no A3 3 1 16800\n' '' 's/^latency_us = 17/latency_us 
 check_with 'A4' 1 "$base"$'no A4 3 2 20297\n' '' 's/^latency_us = 21/latency_us = 20/'
 check_with 'profile 2 at 1000 Mbit/s' 0 "$idle"$'P 3 1680 2018 252\nok\n' '' \
     's/^profile = 1/profile = 2/; s/^rate = 100/rate = 1000/'
-check_with 'profile 1 at 1000 Mbit/s' 1 '' $'config OutOfRange system 1 key 5\n' '0,/^rate = 100/s//rate = 1000/'
-check_with 'no TOML' 1 '' $'config NotToml\n' '1s/^/=\n/'
-check_with 'a key twice' 1 '' $'config NotToml\n' 's/^buffer = 252/buffer = 252\nbuffer = 252/'
-check_with 'profile 3' 1 '' $'config BadProfile\n' 's/^profile = 1/profile = 3/'
-check_with 'no buffer' 1 '' $'config Missing top 0 key 2\n' '/^buffer/d'
-check_with 'a buffer too small' 1 '' $'config OutOfRange top 0 key 2\n' 's/^buffer = 252/buffer = 63/'
-check_with 'a buffer that is no whole number' 1 '' $'config WrongKind top 0 key 2\n' 's/^buffer = 252/buffer = 252.0/'
-check_with 'an identifier that is text' 1 '' $'config WrongKind link 1 key 1\n' 's/^vl = 1/vl = "1"/'
-check_with 'an identifier below 0' 1 '' $'config OutOfRange link 1 key 1\n' 's/^vl = 1/vl = -1/'
-check_with 'an unknown key' 1 '' $'config UnknownKey system 2 key 0\n' 's/^name = "s2"/name = "s2"\nx = 1/'
-check_with 'BAG 3 in a link' 1 '' $'config OutOfRange link 1 key 4\n' '0,/^bag_ms = 1/s//bag_ms = 3/'
-check_with 'a port twice' 1 '' $'config Twice system 2 key 2\n' 's/^port = 2/port = 1/'
-check_with 'a receiver that is not there' 1 '' $'config NoSuchSystem link 2 key 3\n' '/^from = "s2"/,/^to/s/"s3"/"s9"/'
-check_with 'no receivers' 1 '' $'config OutOfRange link 1 key 3\n' '/^from = "s1"/,/^to/s/\["s3"\]/[]/'
-check_with 'a sender that receives' 1 '' $'config Twice link 1 key 3\n' '/^from = "s1"/,/^to/s/\["s3"\]/["s1"]/'
-check_with 'a port entry of no link' 1 '' $'config OutOfRange port 2 key 2\n' 's/^link = 2/link = 3/'
+fault_with 'profile 1 at 1000 Mbit/s' 'OutOfRange system 1 key 5' '0,/^rate = 100/s//rate = 1000/'
+fault_with 'no TOML' NotToml '1s/^/=\n/'
+fault_with 'a key twice' NotToml 's/^buffer = 252/buffer = 252\nbuffer = 252/'
+fault_with 'profile 3' BadProfile 's/^profile = 1/profile = 3/'
+fault_with 'no buffer' 'Missing top 0 key 2' '/^buffer/d'
+fault_with 'a buffer too small' 'OutOfRange top 0 key 2' 's/^buffer = 252/buffer = 63/'
+fault_with 'a buffer that is no whole number' 'WrongKind top 0 key 2' \
+    's/^buffer = 252/buffer = 252.0/'
+fault_with 'an identifier that is text' 'WrongKind link 1 key 1' 's/^vl = 1/vl = "1"/'
+fault_with 'an identifier below 0' 'OutOfRange link 1 key 1' 's/^vl = 1/vl = -1/'
+fault_with 'an unknown key' 'UnknownKey system 2 key 0' 's/^name = "s2"/name = "s2"\nx = 1/'
+fault_with 'BAG 3 in a link' 'OutOfRange link 1 key 4' '0,/^bag_ms = 1/s//bag_ms = 3/'
+fault_with 'a port twice' 'Twice system 2 key 2' 's/^port = 2/port = 1/'
+fault_with 'a receiver that is not there' 'NoSuchSystem link 2 key 3' \
+    '/^from = "s2"/,/^to/s/"s3"/"s9"/'
+fault_with 'no receivers' 'OutOfRange link 1 key 3' '/^from = "s1"/,/^to/s/\["s3"\]/[]/'
+fault_with 'a sender that receives' 'Twice link 1 key 3' '/^from = "s1"/,/^to/s/\["s3"\]/["s1"]/'
+fault_with 'a port entry of no link' 'OutOfRange port 2 key 2' 's/^link = 2/link = 3/'
 
 # Beginnings of a configuration: each is answered, as that of a text that ends there.
 begun_with() { # NAME LAST ERR : base.toml as far as the first line that begins with LAST

@@ -8,12 +8,15 @@ explained_case() { # NAME STATUS OUT FAULT WORDS WORD..
     tell "$name" "$(
         has_status "$wanted"
         differs 'standard output' "$out" "$work/out"
-        if [[ $(head -n 1 "$work/err") != "$fault" ]]; then echo "the first line is not '$fault'"; fi
+        if [[ $(head -n 1 "$work/err") != "$fault" ]]; then
+            echo "the first line is not '$fault'"
+        fi
         if ! grep -qF -- "$find" "$work/err"; then echo "no '$find' in the text"; fi
     )"
 }
 
-tell 'each row of FORMATS is explained in its words' "$(python3 "$top/tests/explain.py" "$program" 2>&1 || true)"
+tell 'each row of FORMATS is explained in its words' \
+    "$(python3 "$top/tests/explain.py" "$program" 2>&1 || true)"
 
 text_case 'a key by its number' 0 out 'Key 7 of a link is jitter_us: 0 to 1000 times bag_ms.' \
     explain 'config Missing link 1 key 7'
@@ -42,7 +45,8 @@ tell 'each line of the examples is explained' "$(
 
 sed 's/^bag_ms = .*/bag_ms = 3/' examples/base.toml >"$work/explained.toml"
 explained_case 'check explains a fault' 1 '' 'config OutOfRange link 1 key 4' \
-    'Key 4 of a link is bag_ms: 1, 2, 4, 8, 16, 32, 64 or 128.' check --explain "$work/explained.toml"
+    'Key 4 of a link is bag_ms: 1, 2, 4, 8, 16, 32, 64 or 128.' \
+    check --explain "$work/explained.toml"
 printf 'profile = 1\nbuffer = = 2\n' >"$work/explained.toml"
 explained_case 'where a text stops being TOML' 1 '' 'config NotToml' 'line 2, column 10' \
     check --explain "$work/explained.toml"
@@ -56,8 +60,8 @@ tell 'check explains a line of admission' "$(
     if [[ $(tail -n 1 "$work/out") != 'no A3 7 104 267995' ]]; then echo 'another last line'; fi
 )"
 case_of 'nothing to explain' 0 "$three" '' police --explain 1 64 500 examples/one_link.list
-explained_case 'police explains a number' 2 '' 'words BadRule' 'JITTER_US is 0 to 1000 times BAG_MS' \
-    police --explain 1 64 1001 examples/one_link.list
+explained_case 'police explains a number' 2 '' 'words BadRule' \
+    'JITTER_US is 0 to 1000 times BAG_MS' police --explain 1 64 1001 examples/one_link.list
 explained_case 'police explains a path' 4 '' 'device List' "$work/none: No such file or directory" \
     police --explain 1 64 500 "$work/none"
 explained_case 'police explains a folder' 4 '' 'device Read' "$work: Is a directory" \

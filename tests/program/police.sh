@@ -93,13 +93,15 @@ F 0 A 1 $frame
 F 0 A 1 $frame
 "
 case_of 'a wrong port, and an account for each side' 0 \
-    $'V 1 A drop wrong-port\nV 2 B accept\nV 3 A accept\nV 4 A drop over-rate\n' '' police 1 64 500 -
+    $'V 1 A drop wrong-port\nV 2 B accept\nV 3 A accept\nV 4 A drop over-rate\n' '' \
+    police 1 64 500 -
 
 listed "F 0 A 1 $frame
 F 1000000000000000 A 1 $frame
 F 1000000000000001 A 1 $frame
 "
-case_of 'a time over 10^15' 3 $'V 1 A accept\nV 2 A accept\n' $'list TimeTooLarge 3\n' police 1 64 500 -
+case_of 'a time over 10^15' 3 $'V 1 A accept\nV 2 A accept\n' $'list TimeTooLarge 3\n' \
+    police 1 64 500 -
 
 listed "F 000 A 01 ${frame^^}"
 case_of 'leading zeros, upper-case digits, no last line feed' 0 "$accept1" '' police 1 64 500 -
@@ -158,7 +160,8 @@ input=/dev/null
 
 case_of 'a list that is not there' 4 '' $'device List\n' police 1 64 500 "$work/none"
 case_of 'a list that is a folder' 4 '' $'device Read\n' police 1 64 500 "$work"
-case_of 'a list that is not there, before a bad rule' 4 '' $'device List\n' police 3 64 500 "$work/none"
+case_of 'a list that is not there, before a bad rule' 4 '' $'device List\n' \
+    police 3 64 500 "$work/none"
 case_of 'BAG 3' 2 '' $'words BadRule\n' police 3 64 500 -
 case_of 'BAG 256' 2 '' $'words BadRule\n' police 256 64 500 -
 case_of 'Lmax 63' 2 '' $'words BadRule\n' police 1 63 500 -
@@ -214,7 +217,8 @@ case_of 'port 0' 2 '' $'words BadRule\n' police --port 0 1 64 500 -
 case_of 'port 257' 2 '' $'words BadRule\n' police --port 257 1 64 500 -
 case_of 'Lmin over Lmax' 2 '' $'words BadRule\n' police --lmin 65 1 64 500 -
 case_of 'Lmin 63' 2 '' $'words BadRule\n' police --lmin 63 1 64 500 -
-case_of 'a list that is not there, before a bad port' 4 '' $'device List\n' police --port 0 1 64 500 "$work/none"
+case_of 'a list that is not there, before a bad port' 4 '' $'device List\n' \
+    police --port 0 1 64 500 "$work/none"
 text_case 'a kind of policing that is none' 2 err frame police --policing bit 1 64 500 -
 text_case 'a port that is no number' 2 err x police --port x 1 64 500 -
 
@@ -229,7 +233,8 @@ tell 'the counts of a replay' "$(
     count() { grep -c "$1" "$work/out" || true; }
     lines=$(grep -c '' examples/gigabit.list)
     wanted="summary lines $lines accepted $(count '^V.*accept') dropped $(count '^V.*drop')"
-    wanted+=" lost $(count '^L') departed $(count '^D') too-old $(count '^T') delivered $(count '^M')"
+    wanted+=" lost $(count '^L') departed $(count '^D') too-old $(count '^T')"
+    wanted+=" delivered $(count '^M')"
     differs 'standard error' "$wanted"$'\n' "$work/err"
 )"
 launch send --summary examples/network.toml fcc1 examples/messages.list

@@ -9,10 +9,12 @@ text_case 'missing words' 2 err LIST police 1 64 500
 text_case 'a word too many' 2 err more police 1 64 500 - more
 text_case 'a number that is none' 2 err x police x 64 500 -
 text_case 'a number below 0' 2 err -1 police -1 64 500 -
-text_case 'a number beyond 64 bits' 2 err 99999999999999999999999 police 99999999999999999999999 64 500 -
+text_case 'a number beyond 64 bits' 2 err 99999999999999999999999 \
+    police 99999999999999999999999 64 500 -
 text_case 'first steps in the help' 0 out 'afdx check examples/network.toml' --help
 for command in check police replay send; do
-    text_case "help of $command tells of a closed pipe" 0 out "'device Write', status 4" "$command" --help
+    text_case "help of $command tells of a closed pipe" 0 out "'device Write', status 4" \
+        "$command" --help
 done
 for command in check replay send; do
     text_case "help of $command tells of /dev/stdin" 0 out /dev/stdin "$command" --help

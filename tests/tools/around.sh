@@ -5,11 +5,15 @@
 
 # ---- campaigns -----------------------------------------------------------------------------
 
+campaign() { # WORD..
+    launch tools/afdx-campaign examples/base.toml "$@"
+}
+
 campaign_tests() {
     cp examples/one_link.list "$work/one a.list"
     printf 'F 0 A 1 %s\n' "$(frame_of A 0)" >"$work/two.list"
     printf 'F 0 A 1 %s\nF 0 C 1 00\n' "$(frame_of A 0)" >"$work/three.list"
-    launch tools/afdx-campaign examples/base.toml "$work/one a.list" "$work/two.list" --out "$work/sound"
+    campaign "$work/one a.list" "$work/two.list" --out "$work/sound"
     tell 'a campaign of two sound lists' "$(
         is_status 0
         says out 'one a.list'
@@ -17,26 +21,30 @@ campaign_tests() {
         printf '3,2,1,0\n1,1,0,0\n' >"$work/wanted"
         same "$work/wanted" "$work/got"
     )"
-    launch tools/afdx-campaign examples/base.toml "$work/two.list" "$work/three.list" --out "$work/mixed"
+    campaign "$work/two.list" "$work/three.list" --out "$work/mixed"
     tell 'the status of the worst run' "$(is_status 3; says out 'list BadLine 2')"
-    launch tools/afdx-campaign examples/base.toml "$work/two.list" "$work/three.list" "$work/one a.list" \
-        --out "$work/mixed" --resume
+    campaign "$work/two.list" "$work/three.list" "$work/one a.list" --out "$work/mixed" --resume
     tell 'a campaign that goes on with what is new' "$(
         is_status 3
-        if [[ $(grep -c 'afdx-report' "$work/mixed/joblog") -ne 3 ]]; then cat "$work/mixed/joblog"; fi
+        if [[ $(grep -c 'afdx-report' "$work/mixed/joblog") -ne 3 ]]; then
+            cat "$work/mixed/joblog"
+        fi
         tail -n +2 "$work/mixed/campaign.csv" | cut -d , -f 2 >"$work/got"
         printf '1\n1\n3\n' >"$work/wanted"
         same "$work/wanted" "$work/got"
     )"
-    launch tools/afdx-campaign examples/base.toml "$work/one a.list" --out "$work/mixed" --resume
+    campaign "$work/one a.list" --out "$work/mixed" --resume
     tell 'other lists than before are refused' "$(is_status 2; says err '--resume wants the lists')"
-    launch tools/afdx-campaign examples/base.toml "$work/two.list" --out "$work/login" --sshlogin 1/: --pages
+    campaign "$work/two.list" --out "$work/login" --sshlogin 1/: --pages
     tell 'sshlogin is handed on; a page for each run' "$(
         is_status 0
         if [[ ! -s $work/login/pages/1/report.html ]]; then echo 'there is no page'; fi
     )"
     launch tools/afdx-campaign examples/refused.toml "$work/two.list" --out "$work/refused"
-    tell 'a network that is refused, in a campaign' "$(is_status 1; says out 'admit A3 7 104 267995')"
+    tell 'a network that is refused, in a campaign' "$(
+        is_status 1
+        says out 'admit A3 7 104 267995'
+    )"
 }
 
 if [[ -z $built ]]; then
@@ -51,7 +59,11 @@ fi
 
 if has man; then
     launch man --warnings=w -l docs/afdx.1
-    tell 'the man page has no warnings' "$(is_status 0; if [[ -s $work/err ]]; then cat "$work/err"; fi; says out 'no-admission')"
+    tell 'the man page has no warnings' "$(
+        is_status 0
+        if [[ -s $work/err ]]; then cat "$work/err"; fi
+        says out 'no-admission'
+    )"
 else
     skip 'the man page' 'there is no man'
 fi
@@ -126,7 +138,10 @@ install_tests() {
         wants_number "$work/out" 'r["totals"]["frames"]' 3
     )"
     launch env AFDX=/nowhere bin/install "$work/none"
-    tell 'nothing is installed without a program' "$(is_status 1; if [[ -e $work/none ]]; then echo 'there is a folder'; fi)"
+    tell 'nothing is installed without a program' "$(
+        is_status 1
+        if [[ -e $work/none ]]; then echo 'there is a folder'; fi
+    )"
     launch bin/install
     tell 'install wants a folder' "$(is_status 2; says err 'bin/install PREFIX')"
 }
@@ -141,13 +156,15 @@ guide_tests() {
     if "$program" send --help >"$work/out" 2>&1; then HAS+=' send'; fi
     if [[ -n $dpkt ]]; then HAS+=' capture'; fi
     export HAS
-    env -u AFDX PATH="$work/prefix/bin:$PATH" "$python" tests/guide.py docs/GUIDE.md "$folder" >"$work/guide.out" 2>&1
+    env -u AFDX PATH="$work/prefix/bin:$PATH" "$python" tests/guide.py docs/GUIDE.md "$folder" \
+        >"$work/guide.out" 2>&1
     passed=$((passed + $(grep -c '^ok ' "$work/guide.out")))
     failed=$((failed + $(grep -c '^FAILED ' "$work/guide.out")))
     skipped=$((skipped + $(grep -c '^skipped ' "$work/guide.out")))
     cat "$work/guide.out"
     tell 'the guide was run to its end' "$(
-        if [[ $(grep -cE '^(ok|FAILED|skipped) ' "$work/guide.out") -ne $(grep -c '^```sh' docs/GUIDE.md) ]]; then
+        told=$(grep -cE '^(ok|FAILED|skipped) ' "$work/guide.out")
+        if [[ $told -ne $(grep -c '^```sh' docs/GUIDE.md) ]]; then
             tail -n 3 "$work/guide.out"
         fi
     )"

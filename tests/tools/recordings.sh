@@ -49,7 +49,9 @@ capture_tests() {
     tell 'port, origin and lines without check sequence as told' "$(
         is_status 0
         says err '1 left out: before the origin'
-        if [[ $(cut -d ' ' -f 1-4 "$work/out" | head -n 1) != 'F 1500 B 7' ]]; then head -n 1 "$work/out"; fi
+        if [[ $(cut -d ' ' -f 1-4 "$work/out" | head -n 1) != 'F 1500 B 7' ]]; then
+            head -n 1 "$work/out"
+        fi
     )"
 
     sed 's/ 020000000 / /; s/0200000001\([24]\)/0200000009\1/' "$list" >"$work/rogue.list"
@@ -62,7 +64,8 @@ capture_tests() {
         if [[ $(grep -c ' 3 03' "$work/out") -ne 5 ]]; then cut -c 1-30 "$work/out"; fi
     )"
 
-    printf 'R 0 A 1 ffffffffffff020000000120080645\nF 5 A 1 %s\n' "$(frame_of A 0)" >"$work/foreign.list"
+    printf 'R 0 A 1 ffffffffffff020000000120080645\nF 5 A 1 %s\n' "$(frame_of A 0)" \
+        >"$work/foreign.list"
     tools/afdx-capture pcap "$work/foreign.list" "$work/foreign.pcap" 2>"$work/err"
     launch tools/afdx-capture list --config examples/base.toml "$work/foreign.pcap"
     tell 'frames that are no AFDX frames are counted' "$(
@@ -86,7 +89,10 @@ capture_tests() {
     launch tools/afdx-capture list --config examples/base.toml README.md
     tell 'what is no recording is refused' "$(is_status 2; says err 'is no recording')"
     launch tools/afdx-capture list "$work/five.pcap"
-    tell 'the ports have to come from somewhere' "$(is_status 2; says err '--config CONFIG or --port N')"
+    tell 'the ports have to come from somewhere' "$(
+        is_status 2
+        says err '--config CONFIG or --port N'
+    )"
 }
 
 odd_tests() { # what few programs write
@@ -121,7 +127,8 @@ frame = bytes.fromhex("03000000000102000000012008004500")
 with open(sys.argv[1], "wb") as file:
     file.write(struct.pack("<IHHiIII", 0xA1B23C4D, 2, 4, 0, 0, 65535, 1))
     for n in range(1_000_001):
-        file.write(struct.pack("<IIII", n // 10**6, n % 10**6 * 1000, len(frame), len(frame)) + frame)
+        head = struct.pack("<IIII", n // 10**6, n % 10**6 * 1000, len(frame), len(frame))
+        file.write(head + frame)
 PY
     launch tools/afdx-capture list --port 1 -o "$work/many.list" "$work/many.pcap"
     tell 'more than 1,000,000 frames are refused' "$(
@@ -152,7 +159,12 @@ fi
 
 dump_of() { # TIME HEX : as text2pcap reads it
     printf '%s\n' "$1"
-    printf '%s' "$2" | sed 's/../& /g' | fold -w 48 | awk '{ printf "%06x %s\n", (NR - 1) * 16, $0 } END { print "" }'
+    printf '%s' "$2" | sed 's/../& /g' | fold -w 48 |
+        awk '{ printf "%06x %s\n", (NR - 1) * 16, $0 } END { print "" }'
+}
+
+list_as_wanted() { # NAME WORDS : the list is that of $work/wanted, and WORDS are told beside it
+    tell "$1" "$(is_status 0; says err "$2"; same "$work/wanted" "$work/out")"
 }
 
 wireshark_tests() {
@@ -170,7 +182,11 @@ wireshark_tests() {
     printf 'B 7 A 1 %s\n' "$(frame_of A 0)" >"$work/bad.list"
     tools/afdx-capture pcap "$work/bad.list" "$work/bad.pcap" 2>"$work/err"
     launch tshark -r "$work/bad.pcap" -o eth.check_fcs:TRUE -T fields -e eth.fcs.status
-    tell 'tshark sees a bad check sequence' "$(is_status 0; printf '0\n' >"$work/wanted"; same "$work/wanted" "$work/out")"
+    tell 'tshark sees a bad check sequence' "$(
+        is_status 0
+        printf '0\n' >"$work/wanted"
+        same "$work/wanted" "$work/out"
+    )"
 
     { dump_of '2026-01-02 03:04:05.000001000' "$(frame_of A 0)"
       dump_of '2026-01-02 03:04:05.001001000' "$(frame_of A 1)"; } >"$work/a.txt"
@@ -182,13 +198,13 @@ wireshark_tests() {
     tell 'text2pcap writes pcap' "$(is_status 0)"
     launch text2pcap -q -F nsecpcap -t '%Y-%m-%d %H:%M:%S.%f' "$work/b.txt" "$work/tb.pcap"
     launch tools/afdx-capture list --config examples/base.toml "$work/ta.pcap" "$work/tb.pcap"
-    tell 'two recordings of text2pcap' "$(is_status 0; says err 'without check sequences'; same "$work/wanted" "$work/out")"
+    list_as_wanted 'two recordings of text2pcap' 'without check sequences'
     launch mergecap -I none -w "$work/two.pcapng" "$work/ta.pcap" "$work/tb.pcap"
     launch tools/afdx-capture list --config examples/base.toml "$work/two.pcapng"
-    tell 'mergecap, two interfaces' "$(is_status 0; says err 'side A, B'; same "$work/wanted" "$work/out")"
+    list_as_wanted 'mergecap, two interfaces' 'side A, B'
     launch mergecap -I all -w "$work/one.pcapng" "$work/ta.pcap" "$work/tb.pcap"
     launch tools/afdx-capture list --config examples/base.toml "$work/one.pcapng"
-    tell 'mergecap, one interface' "$(is_status 0; says err 'side by the source address'; same "$work/wanted" "$work/out")"
+    list_as_wanted 'mergecap, one interface' 'side by the source address'
     launch mergecap -a -I none -w "$work/behind.pcapng" "$work/tb.pcap" "$work/ta.pcap"
     launch tools/afdx-capture list --config examples/base.toml --side A "$work/behind.pcapng"
     tell 'a recording whose times go back' "$(
@@ -202,16 +218,21 @@ wireshark_tests() {
         launch tshark -r "$work/$each" -T fields -e frame.time_epoch
         tell "tshark sees the times of $each as we do" "$(
             is_status 0
-            tools/afdx-capture list --port 1 --origin 1700000000000000000 "$work/$each" 2>"$work/err" |
+            tools/afdx-capture list --port 1 --origin 1700000000000000000 "$work/$each" \
+                2>"$work/err" |
                 awk '{ printf "%d.%09d\n", 1700000000 + int($2 / 1e9), $2 % 1e9 }' >"$work/got"
             grep . "$work/out" >"$work/wanted"
             same "$work/wanted" "$work/got"
         )"
     done
     launch tshark -r "$work/sound.pcap" -F pcapng -w "$work/sound.pcapng"
-    tools/afdx-capture list --config examples/network.toml "$work/sound.pcap" >"$work/wanted" 2>"$work/err"
+    tools/afdx-capture list --config examples/network.toml "$work/sound.pcap" \
+        >"$work/wanted" 2>"$work/err"
     launch tools/afdx-capture list --config examples/network.toml "$work/sound.pcapng"
-    tell 'tshark writes pcapng, and the list is the same' "$(is_status 0; same "$work/wanted" "$work/out")"
+    tell 'tshark writes pcapng, and the list is the same' "$(
+        is_status 0
+        same "$work/wanted" "$work/out"
+    )"
 }
 
 if [[ -z $dpkt ]]; then

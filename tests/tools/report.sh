@@ -7,7 +7,8 @@
 if [[ -x $program ]]; then built=1; else built=; fi
 
 json_of() { # FILE EXPRESSION : a Python expression over the report `r`
-    "$python" -c 'import json, sys; r = json.load(open(sys.argv[1])); print(eval(sys.argv[2]))' "$1" "$2"
+    "$python" -c 'import json, sys; r = json.load(open(sys.argv[1])); print(eval(sys.argv[2]))' \
+        "$1" "$2"
 }
 
 wants_number() { # FILE EXPRESSION WANTED
@@ -16,27 +17,42 @@ wants_number() { # FILE EXPRESSION WANTED
     if [[ $got != "$3" ]]; then echo "$2 is $got, wanted $3"; fi
 }
 
+frame_of_link_2() { # its first frame on side A
+    frame_of A 0 | sed 's/^030000000001020000000120/030000000002020000000220/'
+}
+
 report_tests() {
     local json=$work/one/report.json
     launch tools/afdx-report examples/base.toml examples/one_link.list --out "$work/one"
     tell 'a report' "$(
         is_status 0
         says out 'nearest    link 1 at port 3: 6720 of 16800 ns (40.0%)'
-        wants_number "$json" 'r["totals"]["frames"], r["totals"]["accepted"], r["totals"]["dropped"]' '(3, 2, 1)'
+        wants_number "$json" \
+            'r["totals"]["frames"], r["totals"]["accepted"], r["totals"]["dropped"]' '(3, 2, 1)'
         wants_number "$json" 'r["totals"]["delivered"], r["totals"]["redundant"]' '(1, 1)'
-        wants_number "$json" 'r["latency"][0]["greatest_ns"], r["latency"][0]["bound_ns"]' '(6720, 16800)'
+        wants_number "$json" 'r["latency"][0]["greatest_ns"], r["latency"][0]["bound_ns"]' \
+            '(6720, 16800)'
         wants_number "$json" 'r["ports"][0]["backlog"], r["ports"][0]["bound"]' '(64, 252)'
         wants_number "$json" 'r["admission"], r["fault"], r["status"]' "('ok', '', 0)"
     )"
     tell 'its page needs nothing beside it' "$(
-        if grep -qE '(src|href)=|@import|url\(' "$work/one/report.html"; then echo 'it refers to something'; fi
+        if grep -qE '(src|href)=|@import|url\(' "$work/one/report.html"; then
+            echo 'it refers to something'
+        fi
         "$python" tests/well_formed.py "$work/one/report.html"
     )"
     launch tools/afdx-report examples/base.toml - --json <examples/one_link.list
-    tell 'nothing on standard input is an empty list' "$(is_status 0; wants_number "$work/out" 'r["totals"]["frames"]' 0)"
+    tell 'nothing on standard input is an empty list' "$(
+        is_status 0
+        wants_number "$work/out" 'r["totals"]["frames"]' 0
+    )"
     status=0
-    tools/afdx-report examples/base.toml - --json <examples/one_link.list >"$work/out" 2>"$work/err" || status=$?
-    tell 'a list on standard input' "$(is_status 0; wants_number "$work/out" 'r["totals"]["frames"]' 3)"
+    tools/afdx-report examples/base.toml - --json <examples/one_link.list \
+        >"$work/out" 2>"$work/err" || status=$?
+    tell 'a list on standard input' "$(
+        is_status 0
+        wants_number "$work/out" 'r["totals"]["frames"]' 3
+    )"
 }
 
 counted_tests() { # the tool's sums against sums made another way
@@ -52,13 +68,17 @@ counted_tests() { # the tool's sums against sums made another way
         wants_number "$json" 'r["totals"]["departed"]' "$(grep -c '^D' "$work/lines")"
         wants_number "$json" 'r["totals"]["delivered"]' "$(grep -c '^M' "$work/lines")"
         wants_number "$json" 'r["totals"]["redundant"]' "$(grep -c '^X.*redundant$' "$work/lines")"
-        wants_number "$json" 'r["totals"]["refused"]' "$(grep '^X' "$work/lines" | grep -vc 'redundant$')"
+        wants_number "$json" 'r["totals"]["refused"]' \
+            "$(grep '^X' "$work/lines" | grep -vc 'redundant$')"
         wants_number "$json" 'sum(l["reasons"].get("over-rate", 0) for l in r["links"])' \
             "$(grep -c 'drop over-rate$' "$work/lines")"
-        if [[ $(grep -c 'drop over-rate$' "$work/lines") -lt 5 ]]; then echo 'the sample is too small'; fi
+        if [[ $(grep -c 'drop over-rate$' "$work/lines") -lt 5 ]]; then
+            echo 'the sample is too small'
+        fi
     )"
     tell 'latencies and backlogs, counted another way' "$(
-        "$python" tests/counted_again.py examples/network.toml "$work/sample.list" "$work/lines" "$json"
+        "$python" tests/counted_again.py examples/network.toml "$work/sample.list" \
+            "$work/lines" "$json"
     )"
     tell 'no latency is over its bound, no backlog either' "$(
         wants_number "$json" 'max(l["greatest_ns"] - l["bound_ns"] for l in r["latency"]) <= 0' True
@@ -70,10 +90,16 @@ counted_tests() { # the tool's sums against sums made another way
         wants_number "$json" 'len(r["ports"]) + 1' "$(wc -l <"$work/sample/ports.csv")"
         "$python" tests/well_formed.py "$work/sample/report.html"
     )"
-    launch tools/afdx-report examples/network.toml "$work/sample.list" --link 501 --from 50000000 --out "$work/sample"
+}
+
+time_line_tests() { # of the sample of counted_tests
+    launch tools/afdx-report examples/network.toml "$work/sample.list" --link 501 --from 50000000 \
+        --out "$work/sample"
     tell 'the time line of a chosen link' "$(
         is_status 0
-        if ! grep -q 'Time line of link 501' "$work/sample/report.html"; then echo 'it is not there'; fi
+        if ! grep -q 'Time line of link 501' "$work/sample/report.html"; then
+            echo 'it is not there'
+        fi
     )"
 }
 
@@ -82,16 +108,23 @@ fault_tests() {
     tell 'a network that is refused: status 1 and the line' "$(
         is_status 1
         says err 'admit A3 7 104 267995'
-        wants_number "$work/refused/report.json" 'r["admission"], r["fault"]' "('no A3 7 104 267995', 'admit A3 7 104 267995')"
+        wants_number "$work/refused/report.json" 'r["admission"], r["fault"]' \
+            "('no A3 7 104 267995', 'admit A3 7 104 267995')"
     )"
-    launch tools/afdx-report --no-admission examples/refused.toml examples/one_link.list --out "$work/refused"
-    tell 'and replayed without admission' "$(is_status 0; wants_number "$work/refused/report.json" 'r["totals"]["frames"]' 3)"
-    printf 'F 0 A 1 %s\nF 5 A 1 %s\nF 4 A 1 00\n' "$(frame_of A 0)" "$(frame_of A 1)" >"$work/fault.list"
+    launch tools/afdx-report --no-admission examples/refused.toml examples/one_link.list \
+        --out "$work/refused"
+    tell 'and replayed without admission' "$(
+        is_status 0
+        wants_number "$work/refused/report.json" 'r["totals"]["frames"]' 3
+    )"
+    printf 'F 0 A 1 %s\nF 5 A 1 %s\nF 4 A 1 00\n' "$(frame_of A 0)" "$(frame_of A 1)" \
+        >"$work/fault.list"
     launch tools/afdx-report examples/base.toml "$work/fault.list" --out "$work/fault"
     tell "a list's fault: status 3, and what came before it" "$(
         is_status 3
         says err 'list TimeBack 3'
-        wants_number "$work/fault/report.json" 'r["totals"]["frames"], r["fault"]' "(2, 'list TimeBack 3')"
+        wants_number "$work/fault/report.json" 'r["totals"]["frames"], r["fault"]' \
+            "(2, 'list TimeBack 3')"
     )"
     printf 'F 0 A 1 %s\nF 5 A\n' "$(frame_of A 0)" >"$work/fault.list"
     launch tools/afdx-report examples/base.toml "$work/fault.list" --json
@@ -100,26 +133,32 @@ fault_tests() {
     launch tools/afdx-report "$work/bad.toml" examples/one_link.list --json
     tell "a configuration's fault" "$(is_status 1; says err 'config BadProfile')"
     launch tools/afdx-report examples/base.toml "$work/nowhere.list" --json
-    tell 'a list that is not there' "$(if [[ $status -eq 0 ]]; then echo 'status 0'; fi; says err nowhere.list)"
+    tell 'a list that is not there' "$(
+        if [[ $status -eq 0 ]]; then echo 'status 0'; fi
+        says err nowhere.list
+    )"
+}
 
+lost_tests() { # a buffer for one frame
     sed 's/^buffer = .*/buffer = 64/' examples/base.toml >"$work/small.toml"
-    printf 'F 0 A 1 %s\nF 0 A 2 %s\n' "$(frame_of A 0)" \
-        "$(frame_of A 0 | sed 's/^030000000001020000000120/030000000002020000000220/')" >"$work/lost.list"
+    printf 'F 0 A 1 %s\nF 0 A 2 %s\n' "$(frame_of A 0)" "$(frame_of_link_2)" >"$work/lost.list"
     launch tools/afdx-report --no-admission "$work/small.toml" "$work/lost.list" --json
     tell 'a copy that is lost' "$(
         is_status 0
-        wants_number "$work/out" 'r["totals"]["lost"], r["totals"]["departed"], r["ports"][0]["backlog"]' '(1, 1, 64)'
+        wants_number "$work/out" \
+            'r["totals"]["lost"], r["totals"]["departed"], r["ports"][0]["backlog"]' '(1, 1, 64)'
     )"
 }
 
 old_tests() { # profile 2: a low frame that waits for longer than its latency
-    sed 's/^profile = 1/profile = 2/; s/^latency_us = 21/latency_us = 6/' examples/base.toml >"$work/old.toml"
-    printf 'F 0 A 1 %s\nF 719 A 2 %s\n' "$(frame_of A 0)" \
-        "$(frame_of A 0 | sed 's/^030000000001020000000120/030000000002020000000220/')" >"$work/old.list"
+    sed 's/^profile = 1/profile = 2/; s/^latency_us = 21/latency_us = 6/' examples/base.toml \
+        >"$work/old.toml"
+    printf 'F 0 A 1 %s\nF 719 A 2 %s\n' "$(frame_of A 0)" "$(frame_of_link_2)" >"$work/old.list"
     launch tools/afdx-report --no-admission "$work/old.toml" "$work/old.list" --out "$work/old"
     tell 'a copy that is too old' "$(
         is_status 0
-        wants_number "$work/old/report.json" 'r["totals"]["too_old"], r["totals"]["departed"]' '(1, 1)'
+        wants_number "$work/old/report.json" 'r["totals"]["too_old"], r["totals"]["departed"]' \
+            '(1, 1)'
         "$python" tests/well_formed.py "$work/old/report.html"
     )"
 }
@@ -128,16 +167,25 @@ chromium_test() {
     launch chromium --headless --no-sandbox --disable-gpu --hide-scrollbars --window-size=1120,900 \
         --screenshot="$work/page.png" "file://$work/sample/report.html"
     tell 'a browser shows the page' "$(
-        if [[ ! -s $work/page.png || $(stat -c %s "$work/page.png") -lt 20000 ]]; then tail -n 3 "$work/err"; echo 'no picture'; fi
+        if [[ ! -s $work/page.png || $(stat -c %s "$work/page.png") -lt 20000 ]]; then
+            tail -n 3 "$work/err"
+            echo 'no picture'
+        fi
     )"
 }
 
 if [[ -n $built ]]; then
     report_tests
     counted_tests
+    time_line_tests
     fault_tests
+    lost_tests
     old_tests
-    if has chromium; then chromium_test; else skip 'a browser shows the page' 'there is no chromium'; fi
+    if has chromium; then
+        chromium_test
+    else
+        skip 'a browser shows the page' 'there is no chromium'
+    fi
 else
     skip 'reports' "there is no program $program"
 fi

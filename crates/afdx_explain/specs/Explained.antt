@@ -7,16 +7,16 @@ use Rattle.afdx_explain.specs.declared.kinds.TheConstants.{KINDS}
 use Rattle.afdx_explain.specs.declared.lines.TheConstants.{LINES}
 
 -- the tables of the code
-abbrev pub faults : List Entry
+unfoldable pub faults : List Entry
 faults = map (λ entry. (map (λ form. form.now) entry.0.now, entry.1.now)) FAULTS
 
-abbrev pub keys : List Entry
+unfoldable pub keys : List Entry
 keys = map (λ entry. (map (λ form. form.now) entry.0.now, entry.1.now)) KEYS
 
-abbrev pub kinds : List Entry
+unfoldable pub kinds : List Entry
 kinds = map (λ entry. (map (λ form. form.now) entry.0.now, entry.1.now)) KINDS
 
-abbrev pub lines : List Entry
+unfoldable pub lines : List Entry
 lines = map (λ entry. (map (λ form. form.now) entry.0.now, entry.1.now)) LINES
 
 abbrev pub or_else : Option (List ℕ) → Option (List ℕ) → Option (List ℕ)

@@ -1,9 +1,8 @@
 -- Lines of text by their form.
 use Rattle.std.specs.Prelude.{ℕ, ◌==◌, Bool, true, false, ◌&&◌, List, [], ◌∷◌, length, not, codes, Option, Some, None, if◌then◌else◌}
-use Rattle.std.specs.Borrow.{Bor}
 use Rattle.std.specs.List.{slice_split, list_any}
 use Rattle.std.specs.Str.{bytes_eq}
-use Rattle.afdx_lists.specs.Fields.{all_digits, between_spaces}
+use Rattle.afdx_fields.specs.Fields.{all_digits, between_spaces}
 
 -- `|`
 abbrev pub bar : ℕ
@@ -12,11 +11,6 @@ bar = 124
 -- the words that stand between bars
 abbrev pub between_bars : List ℕ → List (List ℕ)
 between_bars text = slice_split (λ byte. byte == bar) text
-
--- the parts of what is left of a text after such a byte
-abbrev pub parts_after : ℕ → Option (Bor (List ℕ)) → List (List ℕ)
-parts_after byte None = []
-parts_after byte (Some rest) = slice_split (λ one. one == byte) rest.now
 
 abbrev pub is_empty : List ℕ → Bool
 is_empty text = length text == 0

@@ -1,22 +1,12 @@
 //! Whether a line has a form.
 
-ghost use Rattle.std.specs.Prelude.{◌≡◌, ◌<◌, ◌∷◌, ◌==◌, length, IfSome};
-ghost use Rattle.std.specs.List.{slice_split, list_any};
+ghost use Rattle.std.specs.Prelude.{◌≡◌};
+ghost use Rattle.std.specs.List.{list_any};
 ghost use Rattle.std.specs.Str.{bytes_eq};
-ghost use Rattle.afdx_lists.specs.Fields.{all_digits, between_spaces};
-ghost use Rattle.afdx_explain.specs.Forms.{all_stand_for, between_bars, has_form, stands_for, parts_after};
+ghost use Rattle.afdx_fields.specs.Fields.{all_digits};
+ghost use Rattle.afdx_explain.specs.Forms.{between_bars, has_form, stands_for};
 
-/// What stands before the first such byte, and the rest after it.
-fn cut(text: &[u8], byte: u8) -> (&[u8], Option<&[u8]>)
-    ensures parts { slice_split (λ one. one == byte) text.now
-        ≡ result.0.now ∷ parts_after byte result.1 }
-    ensures shorter { IfSome result.1 (λ rest. length rest.now < length text.now) }
-{
-    match memchr::memchr(byte, text) {
-        Some(at) => (&text[..at], Some(&text[at + 1..])),
-        None => (text, None),
-    }
-}
+use afdx_fields::first_field;
 
 /// Whether all bytes are digits.
 fn are_digits(mut word: &[u8]) -> bool
@@ -35,7 +25,7 @@ fn are_digits(mut word: &[u8]) -> bool
 fn is_one_of(word: &[u8], words: &[u8]) -> bool
     ensures { result ≡ list_any (bytes_eq word.now) (between_bars words.now) }
 {
-    let (first, rest) = cut(words, b'|');
+    let (first, rest) = first_field(words, b'|');
     if word == first {
         return true;
     }
@@ -64,8 +54,8 @@ fn stands_for(wanted: &[u8], word: &[u8]) -> bool
 pub fn has_form(line: &[u8], form: &[u8]) -> bool
     ensures { result ≡ has_form line.now form.now }
 {
-    let (wanted, wanted_rest) = cut(form, b' ');
-    let (word, rest) = cut(line, b' ');
+    let (wanted, wanted_rest) = first_field(form, b' ');
+    let (word, rest) = first_field(line, b' ');
     if !stands_for(wanted, word) {
         return false;
     }

@@ -5,12 +5,10 @@ use Rattle.std.proofs.Common.{sym, ◌∙◌, arith, eqb, eq-eqb, Option, Some, 
 use Rattle.std.proofs.lemmas.Grind.{common_steps}
 use Rattle.std.specs.Char.{is_ascii_digit}
 use Rattle.std.specs.List.{slice_split}
-use Rattle.std.proofs.lemmas.List.Splits.{slice_split_at, slice_split_none}
-use Rattle.memchr.specs.Find.{IsFirstByte, is_byte}
-use Rattle.afdx_lists.proofs.LineLemmas.{piece_before, no_feed_at_all}
 use Rattle.std.proofs.Common.{Result, Ok, Err}
 use Rattle.afdx_lists.specs.declared.fault.LineFault.TheVariants.{TimeTooLarge, TimeBack}
-use Rattle.afdx_lists.specs.Fields.{number_of, number_after, all_digits, bytes_of_digits, ok_of}
+use Rattle.afdx_fields.specs.Fields.{number_of, number_after, all_digits}
+use Rattle.afdx_lists.specs.Fields.{bytes_of_digits, ok_of}
 use Rattle.afdx_frame.specs.Times.{latest_listed}
 use Rattle.afdx_lists.specs.Fields.{cut, time_fault}
 use Rattle.hex.specs.Hex.{decode_of, decode_sized}
@@ -18,21 +16,6 @@ use Rattle.hex.specs.declared.error.FromHexError.{FromHexError}
 use Rattle.std.specs.Prelude.{MatchResult, ◌/◌, ◌%◌}
 use Rattle.std.specs.Str.{bytes_eq}
 use Rattle.hex.specs.declared.error.FromHexError.TheVariants.{OddLength}
-
--- the first part ends at the first such byte
-pub split_at_byte : (b : ℕ) (text : List ℕ) (at : ℕ) → IsFirstByte (is_byte b) text (Some at)
-    → slice_split (λ byte. eqb byte b) text ≡ take at text
-    ∷ slice_split (λ byte. eqb byte b) (take (length text - (at + 1)) (drop (at + 1) text))
-split_at_byte b text at h =
-    let cut = piece_before b text at h in
-    let rest : take (length text - (at + 1)) (drop (at + 1) text) ≡ drop (at + 1) text = grind (arith, common_steps) in
-    rw rest (ap (slice_split (λ byte. eqb byte b)) cut.1
-    ∙ slice_split_at (λ byte. eqb byte b) (take at text) b (drop (at + 1) text) cut.0
-    (grind (arith, common_steps)))
-
-pub split_at_none : (b : ℕ) (text : List ℕ) → IsFirstByte (is_byte b) text None
-    → slice_split (λ byte. eqb byte b) text ≡ text ∷ []
-split_at_none b text h = slice_split_none (λ byte. eqb byte b) text (no_feed_at_all b text h)
 
 and_false : (b : Bool) → (b && false) ≡ false
 and_false true = refl

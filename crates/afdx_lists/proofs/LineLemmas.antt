@@ -1,13 +1,14 @@
 -- Lines taken from known bytes.
 use Rattle.std.proofs.Common.{◌≡◌, ℕ, ◌+◌, ◌<◌, ◌≤◌, List, [], ◌∷◌, ◌++◌, length, get_or, take}
 use Rattle.std.proofs.Common.{drop, Bool, true, false, cond, refl, ap, ◌∙◌, arith, eqb, Some, None}
-use Rattle.std.proofs.Common.{drop-cons, subst}
+use Rattle.std.proofs.Common.{subst}
 use Rattle.std.specs.List.{slice_split, onto_first, All}
-use Rattle.std.proofs.lemmas.List.{take-append-drop, get_or-take}
+use Rattle.std.proofs.lemmas.List.{take-append-drop}
 use Rattle.memchr.specs.Find.{IsFirstByte, is_byte}
 use Rattle.std.proofs.lemmas.List.Splits.{slice_split_at, slice_split_none, slice_split-cons_yes, slice_split-cons_no}
 use Rattle.std.proofs.lemmas.List.Elements.{All-append, All-head, All-tail}
 use Rattle.std.proofs.lemmas.Grind.{common_steps}
+use Rattle.afdx_fields.proofs.FieldLemmas.{piece_before, no_such_byte}
 use Rattle.afdx_lists.specs.Lines.{lines_of, but_empty_last, HasNoFeed, IsFirstFeed}
 
 -- a split has a first part
@@ -57,30 +58,6 @@ lines_of_last line h some = ap but_empty_last (slice_split_none (λ byte. eqb by
 pub lines_of_nothing : lines_of [] ≡ []
 unfolding lines_of
 lines_of_nothing = refl
-
-not_true : (b : Bool) → (b ≡ true → ⊥) → b ≡ false
-not_true true h = absurd (h refl)
-not_true false h = refl
-
-get_or-within : (xs : List ℕ) (k d e : ℕ) → k < length xs → get_or xs k d ≡ get_or xs k e
-get_or-within xs k d e h = grind (arith, common_steps)
-
--- what stands before the first line feed, and after it
-pub piece_before : (b : ℕ) (hay : List ℕ) (at : ℕ) → IsFirstByte (is_byte b) hay (Some at)
-    → All (λ byte. eqb byte b ≡ false) (take at hay) × (hay ≡ take at hay ++ b ∷ drop (at + 1) hay)
-    × (at < length hay)
-piece_before b hay at h =
-    let below : at < length hay = h.0.high in
-    let feed : get_or hay at 0 ≡ b = grind (arith, common_steps, h.1) in (
-      λ k d lt. let at_k : k < at = grind (arith, common_steps) in
-          rw (get_or-take at hay k d at_k)
-          (rw (get_or-within hay k d 0 (omega arith)) (not_true _ (h.0.before k (omega arith) at_k))),
-      grind (arith, common_steps, feed, take-append-drop at hay, drop-cons hay at 0 below),
-      below,
-    )
-
-pub no_feed_at_all : (b : ℕ) (hay : List ℕ) → IsFirstByte (is_byte b) hay None → All (λ byte. eqb byte b ≡ false) hay
-no_feed_at_all b hay h = λ k d lt. rw (get_or-within hay k d 0 lt) (not_true _ (h k (omega arith) lt))
 
 -- bytes with no line feed at the front stand at the front of the first line
 split_front : (p : ℕ → Bool) (part rest : List ℕ) → All (λ x. p x ≡ false) part → (first : List ℕ)
@@ -143,4 +120,4 @@ pub no_feed_found : (bytes : List ℕ) (searched : ℕ) → HasNoFeed (take sear
 no_feed_found bytes searched none h =
     subst HasNoFeed (take-append-drop searched bytes)
     (All-append (λ byte. eqb byte 10 ≡ false) (take searched bytes) (drop searched bytes) none
-    (no_feed_at_all 10 (drop searched bytes) h))
+    (no_such_byte 10 (drop searched bytes) h))

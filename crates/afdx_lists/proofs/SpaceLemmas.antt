@@ -15,9 +15,11 @@ use Rattle.std.specs.Str.{bytes_eq}
 use Rattle.memchr.specs.Find.{IsFirstByte, is_byte}
 use Rattle.hex.specs.Hex.{decode_pairs, decode_of, value_at, pair_value, ◌>>=◌}
 use Rattle.hex.specs.declared.error.FromHexError.{FromHexError}
-use Rattle.afdx_lists.specs.Fields.{between_spaces, number_of, number_after, cut_number, all_digits}
+use Rattle.afdx_fields.specs.Fields.{between_spaces, number_of, number_after, all_digits}
+use Rattle.afdx_lists.specs.Fields.{cut_number}
 use Rattle.afdx_lists.specs.Fields.{holds_space, bytes_of_digits, ok_of}
-use Rattle.afdx_lists.proofs.LineLemmas.{slice_split-has_first, piece_before, no_feed_at_all}
+use Rattle.afdx_fields.proofs.FieldLemmas.{piece_before, no_such_byte}
+use Rattle.afdx_lists.proofs.LineLemmas.{slice_split-has_first}
 use Rattle.afdx_lists.proofs.FieldLemmas.{number_of_digits}
 
 abbrev NoSpace : List ℕ → Type 0
@@ -58,7 +60,7 @@ pub found_space : (bytes : List ℕ) (at : ℕ) → IsFirstByte (is_byte 32) byt
 found_space bytes at h = ap holds_space (piece_before 32 bytes at h).1 ∙ holds_one (take at bytes) (drop (at + 1) bytes)
 
 pub found_none : (bytes : List ℕ) → IsFirstByte (is_byte 32) bytes None → holds_space bytes ≡ false
-found_none bytes h = holds_none bytes (no_feed_at_all 32 bytes h)
+found_none bytes h = holds_none bytes (no_such_byte 32 bytes h)
 
 -- the parts of bytes with no space, and with one
 pub one_part : (bytes : List ℕ) → holds_space bytes ≡ false → between_spaces bytes ≡ bytes ∷ []

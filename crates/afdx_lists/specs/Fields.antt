@@ -1,40 +1,14 @@
 -- Numbers and bytes as the fields of a line write them.
-use Rattle.std.specs.Prelude.{ℕ, ◌+◌, ◌-◌, ◌*◌, ◌^◌, min, ◌==◌, ◌≡◌, Bool, true, false, ◌&&◌, ◌||◌, List, [], ◌∷◌, Option}
+use Rattle.std.specs.Prelude.{ℕ, ◌-◌, ◌^◌, min, ◌==◌, ◌≡◌, Bool, true, false, ◌||◌, List, [], ◌∷◌, Option}
 use Rattle.std.specs.Prelude.{Some, None, Result, Ok, Err, if◌then◌else◌, option_map, nat_lt}
 use Rattle.std.specs.Borrow.{Bor}
-use Rattle.std.specs.List.{slice_split}
 use Rattle.std.specs.Str.{bytes_eq}
-use Rattle.std.specs.Char.{is_ascii_digit}
 use Rattle.hex.specs.Hex.{decode_of}
 use Rattle.afdx_frame.specs.Times.{latest_listed}
-use Rattle.afdx_lists.specs.Letters.{space, number_sign, hyphen, zero_digit}
+use Rattle.afdx_fields.specs.Fields.{space, between_spaces, fields_after, number_of}
+use Rattle.afdx_lists.specs.Letters.{number_sign, hyphen}
 use Rattle.afdx_lists.specs.declared.fault.LineFault.{LineFault}
 use Rattle.afdx_lists.specs.declared.fault.LineFault.TheVariants.{TimeTooLarge, TimeBack}
-
--- the fields of a text, which stand between spaces
-abbrev pub between_spaces : List ℕ → List (List ℕ)
-between_spaces text = slice_split (λ byte. byte == space) text
-
--- the fields of what is left of a text after a space
-abbrev pub fields_after : Option (Bor (List ℕ)) → List (List ℕ)
-fields_after None = []
-fields_after (Some rest) = between_spaces rest.now
-
--- what digits write after a number
-abbrev pub number_after : ℕ → List ℕ → ℕ
-number_after n [] = n
-number_after n (digit ∷ digits) = number_after (n * 10 + (digit - zero_digit)) digits
-
--- each byte is a decimal digit
-abbrev pub all_digits : List ℕ → Bool
-all_digits [] = true
-all_digits (byte ∷ bytes) = is_ascii_digit byte && all_digits bytes
-
--- the number that one or more decimal digits write
-abbrev pub number_of : List ℕ → Option ℕ
-number_of [] = None
-number_of (byte ∷ bytes) =
-    if all_digits (byte ∷ bytes) then Some (number_after 0 (byte ∷ bytes)) else None
 
 -- the value of an answer that is one
 abbrev pub ok_of : {A E : Type 0} → Result A E → Option A

@@ -5,10 +5,6 @@ use Rattle.std.specs.Prelude.{ℕ}
 abbrev pub line_feed : ℕ
 line_feed = 10
 
--- what stands between two fields
-abbrev pub space : ℕ
-space = 32
-
 -- what begins a remark: `#`
 abbrev pub number_sign : ℕ
 number_sign = 35
@@ -16,10 +12,6 @@ number_sign = 35
 -- what stands for no bytes: `-`
 abbrev pub hyphen : ℕ
 hyphen = 45
-
--- the digit `0`
-abbrev pub zero_digit : ℕ
-zero_digit = 48
 
 abbrev pub letter_A : ℕ
 letter_A = 65

@@ -1,11 +1,11 @@
-//! The fields of a line: text between spaces, numbers, and bytes in hexadecimal digits.
+//! The fields of a line: numbers, and bytes in hexadecimal digits.
 
 ghost use Rattle.hex.specs.Hex.{hex_digit_value, decode_pairs, decode_sized};
-ghost use Rattle.std.specs.Prelude.{◌≤◌, nat_le, length, true, IfSome, MatchResult, Err, ◌*◌, Ok, if◌then◌else◌, ◌≡◌, ◌∷◌, ◌⊎◌, ◌^◌, ◌-◌, min, Some, None, OnOk, IfErr, option_map};
+ghost use Rattle.std.specs.Prelude.{◌≤◌, nat_le, length, true, IfSome, MatchResult, Err, ◌*◌, Ok, if◌then◌else◌, ◌≡◌, ◌^◌, ◌-◌, min, Some, None, OnOk, IfErr};
 ghost use Rattle.std.specs.Prelude.{false};
-ghost use Rattle.memchr.specs.Find.{IsFirstByte, is_byte};
 ghost use Rattle.std.specs.Str.Lines.{strip_carriage_return};
-ghost use Rattle.afdx_lists.specs.Fields.{between_spaces, fields_after, number_of, bytes_of_digits, is_skipped};
+ghost use Rattle.afdx_fields.specs.Fields.{number_of};
+ghost use Rattle.afdx_lists.specs.Fields.{bytes_of_digits, is_skipped};
 ghost use Rattle.afdx_frame.specs.Times.{latest_listed};
 ghost use Rattle.afdx_lists.specs.Fields.{SplitsNumber, holds_space, time_fault, cut_number};
 ghost use Rattle.afdx_lists.specs.Faults.{IsBytesError};
@@ -13,6 +13,7 @@ ghost use Rattle.afdx_lists.specs.declared.fault.LineFault.TheVariants.{BadLine}
 ghost use Rattle.afdx_lists.specs.declared.fault.LineError.TheVariants.{Fault};
 
 use crate::fault::{LineError, LineFault};
+use afdx_fields::first_field;
 use afdx_frame::LATEST_LISTED;
 use hex::FromHexError;
 use std::alloc::AllocError;
@@ -37,27 +38,6 @@ pub(crate) fn says_nothing(text: &[u8]) -> bool
     ensures { result ≡ is_skipped text.now }
 {
     matches!(text, [] | [b'#', ..])
-}
-
-/// Where the first space stands. Most fields of a line are one byte.
-#[inline(always)]
-fn find_space(text: &[u8]) -> Option<usize>
-    ensures { IsFirstByte (is_byte 32) text.now result }
-{
-    match text {
-        [first, b' ', ..] if *first != b' ' => Some(1),
-        _ => memchr::memchr(b' ', text),
-    }
-}
-
-/// What stands before the first space, and the rest after it.
-pub(crate) fn split_field(text: &[u8]) -> (&[u8], Option<&[u8]>)
-    ensures { between_spaces text.now ≡ result.0.now ∷ fields_after result.1 }
-{
-    match find_space(text) {
-        Some(at) => (&text[..at], Some(&text[at + 1..])),
-        None => (text, None),
-    }
 }
 
 /// The number that a text begins with, where it has few digits and a space behind them, and the
@@ -105,7 +85,7 @@ fn read_many_digits(text: &[u8]) -> Option<u64>
 fn split_any_number(text: &[u8]) -> (Option<u64>, Option<&[u8]>)
     ensures { SplitsNumber text.now result.0 result.1 }
 {
-    let (field, rest) = split_field(text);
+    let (field, rest) = first_field(text, b' ');
     let number = if field.is_empty() {
         None
     } else {
@@ -146,7 +126,7 @@ pub(crate) fn fault_of_time(time: u64, latest: u64) -> Option<LineFault>
 fn has_space(bytes: &[u8]) -> bool
     ensures { result ≡ holds_space bytes.now }
 {
-    match find_space(bytes) {
+    match memchr::memchr(b' ', bytes) {
         Some(_) => true,
         None => false,
     }

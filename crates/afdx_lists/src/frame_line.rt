@@ -1,6 +1,6 @@
 //! One line of a frame list.
 
-ghost use Rattle.std.specs.Prelude.{◌≡◌, ◌⊎◌, ◌^◌, ◌≤◌, None, Ok, Err, IfOk, IfSome, IfErr, OnOk, option_map};
+ghost use Rattle.std.specs.Prelude.{◌≡◌, ◌^◌, ◌≤◌, None, Ok, Err, IfOk, IfSome, IfErr, OnOk, option_map};
 ghost use Rattle.afdx_frame.specs.Sealing.{is_sealed, sealed_wrongly};
 ghost use Rattle.afdx_lists.specs.Faults.{IsErrorOf};
 ghost use Rattle.afdx_frame.specs.Times.{latest_listed};
@@ -13,8 +13,9 @@ ghost use Rattle.afdx_frame.specs.Ports.{last_port};
 
 use crate::fault::{LineError, LineFault};
 use crate::fields::{
-    fault_of_time, first_error, read_bytes, says_nothing, split_field, split_number, trim_line,
+    fault_of_time, first_error, read_bytes, says_nothing, split_number, trim_line,
 };
+use afdx_fields::first_field;
 use afdx_frame::{LAST_PORT, Side, fcs, is_sealed, seal};
 use std::alloc::AllocError;
 
@@ -102,7 +103,7 @@ fn read_fields(text: &[u8]) -> Option<Fields<'_>>
     ensures { if_five frame_form (option_map frame_fields_of result)
         ≡ option_map cut_frame (frame_fields text.now) }
 {
-    let (kind, rest) = split_field(text);
+    let (kind, rest) = first_field(text, b' ');
     let Some(text) = rest else {
         return None;
     };
@@ -110,7 +111,7 @@ fn read_fields(text: &[u8]) -> Option<Fields<'_>>
     let Some(text) = rest else {
         return None;
     };
-    let (side, rest) = split_field(text);
+    let (side, rest) = first_field(text, b' ');
     let Some(text) = rest else {
         return None;
     };

@@ -11,7 +11,8 @@ use Rattle.hex.specs.Hex.{decode_of}
 use Rattle.hex.specs.declared.error.FromHexError.{FromHexError}
 use Rattle.hex.proofs.HexLemmas.{decode_of-ok}
 use Rattle.afdx_frame.specs.Sealing.{AreBytes}
-use Rattle.afdx_lists.specs.Fields.{number_of, bytes_of_digits, between_spaces, ok_of}
+use Rattle.afdx_fields.specs.Fields.{number_of, between_spaces}
+use Rattle.afdx_lists.specs.Fields.{bytes_of_digits, ok_of}
 use Rattle.afdx_lists.specs.Forms.{from_five, five_of}
 use Rattle.afdx_lists.specs.SubmissionLines.{Submission, SubmissionFields, at_most, submission_fields}
 use Rattle.afdx_lists.specs.SubmissionLines.{submission_fields_with, submission_fields_from}

@@ -22,7 +22,8 @@ use Rattle.afdx_frame.specs.Sealing.{AreBytes}
 use Rattle.afdx_frame.specs.declared.link.Side.{Side}
 use Rattle.afdx_frame.specs.declared.link.Side.TheVariants.{A, B}
 use Rattle.afdx_police.specs.Arrival.{arrival_with}
-use Rattle.afdx_lists.specs.Fields.{between_spaces, number_of, number_after, all_digits, bytes_of_digits}
+use Rattle.afdx_fields.specs.Fields.{between_spaces, number_of, number_after, all_digits}
+use Rattle.afdx_lists.specs.Fields.{bytes_of_digits}
 use Rattle.afdx_lists.specs.Forms.{from_five, five_of, said_with}
 use Rattle.afdx_lists.specs.FrameLines.{FrameFields, kind_of, side_of, frame_fields, frame_fields_with}
 use Rattle.afdx_lists.specs.FrameLines.{frame_fields_from, frame_bytes, frame_form, numbers_fault, line_says}

@@ -1,13 +1,15 @@
-//! Configurations and frames that the tests of several crates use.
+//! What the tests of several crates use: configurations, frames, and what a table of rows comes to.
 //!
 //! A long text is what a function answers, so that a proof doesn't carry its letters.
 #![tactic(auto)]
 
 mod configurations;
 mod frames;
+mod rows;
 
 pub use configurations::{
     GREATEST_COUNT, ShortText, admitted, base, base_tables, changed, gigabit, largest,
     largest_tables, read,
 };
 pub use frames::{HELLO, NUMBER, hello, longer_hello, sealed, spelled, world};
+pub use rows::all_right;

@@ -1,4 +1,0 @@
-use Rattle.afdx_link_tests.proofs.frame.payload_of.Goals as goal
-
-pub returns-in-Err : goal.returns-in-Err
-returns-in-Err c = c.in-Err.ensures.read c.args.frame.bytes.now c.in-Ok.ensures.ok

@@ -1,0 +1,354 @@
+//! Frames with known check sequences and fields, read and built.
+
+ghost use Rattle.std.specs.Prelude.{ℕ, ◌≤◌, MatchOption, length};
+ghost use Rattle.afdx_frame.specs.Grammar.{Read};
+ghost use Rattle.afdx_frame.specs.Reading.{NoneRead};
+
+use afdx_frame::{
+    Address, Checked, Datagram, IpFault, MacFault, MacView, Side, VlId, build, build_both, fcs,
+    is_sealed, seal, vl_of,
+};
+use afdx_samples::{HELLO, all_right, hello, sealed};
+use std::alloc::{AllocError, Global};
+use std::process::Abort;
+use std::test::Fail;
+
+const ADDRESS: Address = Address {
+    vl: VlId(1),
+    system_id: 1,
+    partition: 1,
+    from_udp: 1000,
+    to_udp: 1000,
+    least: 64,
+};
+
+const LETTERS: [u8; 1471] = [0x61; 1471];
+
+/// What both views answer to bytes.
+#[derive(Clone, Copy, Debug, PartialEq, Eq)]
+enum Answer {
+    Mac(MacFault),
+    Ip(IpFault),
+    Carried { from_port: u16, to_port: u16 },
+}
+
+fn answer_to(bytes: &[u8]) -> Answer {
+    let view = match MacView::parse(Checked::new(bytes)) {
+        Ok(view) => view,
+        Err(fault) => return Answer::Mac(fault),
+    };
+    match Datagram::parse(view) {
+        Ok(datagram) => Answer::Carried {
+            from_port: datagram.from_port(),
+            to_port: datagram.to_port(),
+        },
+        Err(fault) => Answer::Ip(fault),
+    }
+}
+
+/// The two views together say whether bytes are read, and what.
+fn payload_of(frame: Checked<'_>) -> Option<&[u8]>
+    ensures { MatchOption result (NoneRead frame.entry.bytes.now)
+        (λ payload.
+        (vl from_port to_port number : ℕ)
+        × Read frame.entry.bytes.now vl from_port to_port payload.now number) }
+{
+    let Ok(view) = MacView::parse(frame) else {
+        return None;
+    };
+    match Datagram::parse(view) {
+        Ok(datagram) => Some(datagram.payload()),
+        Err(_) => None,
+    }
+}
+
+/// A copy. Where memory was refused once, it is asked for again.
+fn copied(alloc: Global, bytes: &[u8]) -> Result<Vec<u8>, AllocError> {
+    match Vec::from_slice(alloc, bytes) {
+        Ok(copy) => Ok(copy),
+        Err(AllocError) => Vec::from_slice(alloc, bytes),
+    }
+}
+
+/// Seals the bytes. A refused call leaves them as they were, and the next one seals them.
+fn seal_them(rt: &impl Abort, frame: &mut Vec<u8>, bytes: &[u8]) -> Result<(), AllocError> {
+    if seal(frame).is_err() {
+        assert_eq!(rt; frame.as_slice(), bytes);
+        seal(frame)?;
+    }
+    Ok(())
+}
+
+/// The frame of link 1 with this payload. Where memory was refused once, the next call builds it.
+fn built(
+    alloc: Global,
+    address: &Address,
+    number: u8,
+    side: Side,
+    payload: &[u8],
+) -> Result<Vec<u8>, AllocError>
+    requires least { (64 ≤ address.now.least) × (address.now.least ≤ 1518) }
+    requires payload { (1 ≤ length payload.now) × (length payload.now ≤ 1471) }
+{
+    match build(alloc, address, number, side, payload) {
+        Ok(frame) => Ok(frame),
+        Err(AllocError) => build(alloc, address, number, side, payload),
+    }
+}
+
+/// The length of the frame of the first `len` letters.
+fn built_length(
+    alloc: Global,
+    address: &Address,
+    side: Side,
+    len: usize,
+) -> Result<usize, AllocError>
+    requires least { (64 ≤ address.now.least) × (address.now.least ≤ 1518) }
+    requires payload { (1 ≤ len) × (len ≤ 1471) }
+{
+    Ok(built(alloc, address, 7, side, &LETTERS[..len])?.len())
+}
+
+/// The frame `hello` with a wrong check sequence.
+pub(crate) fn wrongly_sealed() -> [u8; 64] {
+    let mut frame = hello(0);
+    frame[63] = !frame[63];
+    frame
+}
+
+/// The sequence wanted of the first bytes that have another one.
+fn wrong_sequence(rows: &[(&[u8], u32)]) -> Option<u32> {
+    for (bytes, wanted) in rows {
+        if fcs(bytes) != *wanted {
+            return Some(*wanted);
+        }
+    }
+    None
+}
+
+#[test]
+fn check_sequences(rt: HostRuntime) -> Result<(), Fail> {
+    let rows: [(&[u8], u32); 7] = [
+        (b"", 0),
+        (b"123456789", 0xcbf4_3926),
+        (b"a", 0xe8b7_be43),
+        (b"abc", 0x3524_41c2),
+        (&[0], 0xd202_ef8d),
+        (&[0; 4], 0x2144_df1c),
+        (&[0xff; 32], 0xff6c_ab0b),
+    ];
+    all_right(wrong_sequence(rows.as_slice()))
+}
+
+#[test]
+fn seals_or_is_refused(rt: HostRuntime) -> Result<(), AllocError> {
+    let mut bytes = copied(rt.alloc(), b"123456789")?;
+    seal_them(&rt, &mut bytes, b"123456789")?;
+    assert_eq!(rt; bytes.as_slice(), b"123456789\x26\x39\xf4\xcb".as_slice());
+    Ok(())
+}
+
+#[test]
+fn tells_sealed_frames(rt: HostRuntime) {
+    let sealed = [
+        is_sealed(b"123456789\x26\x39\xf4\xcb"),
+        is_sealed(b"123456789\x26\x39\xf4\xcc"),
+        is_sealed(b"abc"),
+    ];
+    assert_eq!(rt; sealed, [true, false, false]);
+}
+
+#[test]
+fn names_a_link(rt: HostRuntime) {
+    let links = [
+        vl_of(&[3, 0, 0, 0, 1, 2]),
+        vl_of(&[3, 0, 0, 0, 1]),
+        vl_of(&[3, 0, 0, 1, 1, 2]),
+    ];
+    assert_eq!(rt; links, [Some(VlId(258)), None, None]);
+}
+
+/// Whether the frame of `hello` with number 0 is built as this one.
+fn is_built_as(alloc: Global, side: Side, wanted: &[u8; 64]) -> Result<bool, AllocError> {
+    let frame = built(alloc, &ADDRESS, 0, side, b"hello")?;
+    Ok(frame.as_slice() == wanted.as_slice())
+}
+
+#[test]
+fn builds_or_is_refused(rt: HostRuntime) -> Result<(), AllocError> {
+    let on_b = sealed(&HELLO, &[(11, 0x40)]);
+    assert!(rt; is_built_as(rt.alloc(), Side::A, &hello(0))?);
+    assert!(rt; is_built_as(rt.alloc(), Side::B, &on_b)?);
+    Ok(())
+}
+
+/// Whether these are the frames of the first `len` letters that are built one by one.
+fn are_as_built(alloc: Global, a: &[u8], b: &[u8], len: usize) -> Result<bool, AllocError>
+    requires { (1 ≤ len) × (len ≤ 1471) }
+{
+    let is_a = built(alloc, &ADDRESS, 7, Side::A, &LETTERS[..len])?.as_slice() == a;
+    let is_b = built(alloc, &ADDRESS, 7, Side::B, &LETTERS[..len])?.as_slice() == b;
+    Ok(is_a && is_b && is_sealed(b))
+}
+
+/// Both frames of the first `len` letters. Where memory was refused once, the next call builds
+/// them.
+fn both(alloc: Global, len: usize) -> Result<(Vec<u8>, Vec<u8>), AllocError>
+    requires { (1 ≤ len) × (len ≤ 1471) }
+{
+    match build_both(alloc, &ADDRESS, 7, &LETTERS[..len]) {
+        Ok(frames) => Ok(frames),
+        Err(AllocError) => build_both(alloc, &ADDRESS, 7, &LETTERS[..len]),
+    }
+}
+
+// Both frames of a message are those that are built one by one, at the least length, at one that
+// the payload asks for, and at the greatest.
+#[test]
+fn builds_both_or_is_refused(rt: HostRuntime) -> Result<(), AllocError> {
+    for len in [1, 18, 200, 1471] {
+        let (a, b) = both(rt.alloc(), len)?;
+        let as_built = are_as_built(rt.alloc(), a.as_slice(), b.as_slice(), len)?;
+        assert!(rt; as_built);
+    }
+    Ok(())
+}
+
+#[test]
+fn builds_lengths(rt: HostRuntime) -> Result<(), AllocError> {
+    let alloc = rt.alloc();
+    let longer = Address {
+        least: 100,
+        ..ADDRESS
+    };
+    let lengths = [
+        built_length(alloc, &ADDRESS, Side::A, 1)?,
+        built_length(alloc, &ADDRESS, Side::A, 17)?,
+        built_length(alloc, &ADDRESS, Side::A, 18)?,
+        built_length(alloc, &ADDRESS, Side::B, 1471)?,
+        built_length(alloc, &longer, Side::B, 1)?,
+    ];
+    assert_eq!(rt; lengths, [64, 64, 65, 1518, 100]);
+    Ok(())
+}
+
+// Where memory is there, a payload of each length has its frame: want of memory is no answer to a
+// length.
+#[test]
+fn builds_each_length(rt: HostRuntime) -> Result<(), AllocError> {
+    for len in 1..1472_usize {
+        let length = built_length(rt.alloc(), &ADDRESS, Side::A, len)?;
+        assert_eq!(rt; length, (len + 47).max(64));
+    }
+    Ok(())
+}
+
+/// The link, the length, the number, the type and the length of the body that a view tells.
+fn head_of(frame: Checked<'_>) -> Result<(VlId, u64, u8, u16, usize), MacFault> {
+    let view = MacView::parse(frame)?;
+    Ok((
+        view.vl(),
+        view.length(),
+        view.sequence(),
+        view.ether_type(),
+        view.body().len(),
+    ))
+}
+
+/// Whether these bytes are read as the 18 letters.
+fn are_read(bytes: &[u8]) -> bool {
+    let frame = Checked::new(bytes);
+    (head_of(frame), payload_of(frame))
+        == (
+            Ok((VlId(1), 65, 7, 0x0800, 46)),
+            Some(b"aaaaaaaaaaaaaaaaaa".as_slice()),
+        )
+}
+
+#[test]
+fn reads(rt: HostRuntime) -> Result<(), AllocError> {
+    let frame = built(rt.alloc(), &ADDRESS, 7, Side::B, b"aaaaaaaaaaaaaaaaaa")?;
+    assert!(rt; are_read(frame.as_slice()));
+    Ok(())
+}
+
+#[test]
+fn refuses_frames(rt: HostRuntime) {
+    let answers = [
+        answer_to(&[0; 63]),
+        answer_to(&[0; 1519]),
+        answer_to(&wrongly_sealed()),
+        answer_to(&sealed(&[0; 60], &[])),
+    ];
+    let wanted = [
+        Answer::Mac(MacFault::TooShort),
+        Answer::Mac(MacFault::TooLong),
+        Answer::Mac(MacFault::BadFcs),
+        Answer::Mac(MacFault::BadAddress),
+    ];
+    assert_eq!(rt; answers, wanted);
+    assert_eq!(rt; payload_of(Checked::new(&wrongly_sealed())), None);
+}
+
+/// What is answered to the frame `hello` with other bytes at some places.
+fn answer_to_changed(changes: &[(usize, u8)]) -> Answer {
+    answer_to(&sealed(&HELLO, changes))
+}
+
+#[test]
+fn refuses_datagrams(rt: HostRuntime) {
+    let other_type = answer_to_changed(&[(13, 0x06)]);
+    let wrong_sum = answer_to_changed(&[(25, 0xeb)]);
+    let first_part = answer_to_changed(&[(20, 0x20), (24, 0xad)]);
+    let last_part = answer_to_changed(&[(21, 0x01), (25, 0xe9)]);
+    let icmp = answer_to_changed(&[(23, 0x01), (25, 0xfa)]);
+    let short = answer_to_changed(&[(39, 0x0c)]);
+    assert_eq!(rt;
+        [other_type, wrong_sum, first_part, last_part, icmp, short],
+        [
+            Answer::Ip(IpFault::NotIpv4),
+            Answer::Ip(IpFault::BadIpHeader),
+            Answer::Ip(IpFault::Fragment),
+            Answer::Ip(IpFault::Fragment),
+            Answer::Ip(IpFault::NotUdp),
+            Answer::Ip(IpFault::BadUdpLength),
+        ]
+    );
+}
+
+const TO_OTHER_PORT: Answer = Answer::Carried {
+    from_port: 1000,
+    to_port: 1001,
+};
+
+const UNCHANGED: Answer = Answer::Carried {
+    from_port: 1000,
+    to_port: 1000,
+};
+
+#[test]
+fn takes_datagrams(rt: HostRuntime) {
+    let other_port = answer_to_changed(&[(37, 0xe9)]);
+    let not_to_be_parted = answer_to_changed(&[(20, 0x40), (24, 0x8d)]);
+    assert_eq!(rt; [other_port, not_to_be_parted], [TO_OTHER_PORT, UNCHANGED]);
+    let padded = sealed(&HELLO, &[(47, 0xff), (58, 0xff)]);
+    assert_eq!(rt;
+        payload_of(Checked::new(&padded)),
+        Some(b"hello".as_slice())
+    );
+}
+
+// The other words of this header have the sum ffff, so that both zeros of ones' complement are
+// right checksums.
+#[test]
+fn takes_both_zeros(rt: HostRuntime) {
+    let plus = answer_to_changed(&[(18, 0xcd), (19, 0xea), (24, 0), (25, 0)]);
+    let minus = answer_to_changed(&[(18, 0xcd), (19, 0xea), (24, 0xff), (25, 0xff)]);
+    assert_eq!(rt; [plus, minus], [UNCHANGED, UNCHANGED]);
+}
+
+#[test]
+fn faults_in_words(rt: HostRuntime) {
+    let words = (MacFault::TooLong.word(), IpFault::Fragment.word());
+    assert_eq!(rt; words, ("too-long", "fragment"));
+}

@@ -1,0 +1,26 @@
+//! Tests of the parts of a network, each by itself: frames, policing, output ports, configurations,
+//! admission, bounds, receivers and communication ports, lists, and what explains a line.
+#![tactic(auto)]
+
+#[cfg(test)]
+mod admit;
+#[cfg(test)]
+mod bounds;
+#[cfg(test)]
+mod comport;
+#[cfg(test)]
+mod config;
+#[cfg(test)]
+mod explain;
+#[cfg(test)]
+mod fields;
+#[cfg(test)]
+mod frame;
+#[cfg(test)]
+mod lists;
+#[cfg(test)]
+mod police;
+#[cfg(test)]
+mod port;
+#[cfg(test)]
+mod receive;

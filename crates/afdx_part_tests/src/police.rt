@@ -1,0 +1,265 @@
+//! Rules, shapes and accounts with known answers.
+
+ghost use Rattle.std.specs.Prelude.{◌≤◌};
+ghost use Rattle.afdx_police.specs.LinkAccounts.{last_time};
+
+use crate::frame::wrongly_sealed;
+use afdx_frame::{Checked, Policing, VlId};
+use afdx_police::{
+    ByteCharge, Charge, FrameCharge, LinkAccount, LinkRule, Policer, Reason, judge, laws,
+};
+use afdx_samples::{HELLO, all_right, hello, longer_hello, sealed, world};
+use std::process::Abort;
+use std::test::Fail;
+
+/// The port at which a frame comes, its bytes, and the verdict on it.
+type Arrival<'a> = (u8, &'a [u8], Option<Reason>);
+
+fn rule_of_link_1(lmax: u64) -> Option<LinkRule> {
+    LinkRule::new(VlId(1), 1, 1, 64, lmax, 500, Policing::Byte)
+}
+
+#[test]
+fn rules_in_range(rt: HostRuntime) {
+    let new = |port: u8, bag_ms: u64, lmin: u64, lmax: u64, jitter_us: u64| {
+        LinkRule::new(VlId(1), port, bag_ms, lmin, lmax, jitter_us, Policing::Byte).is_some()
+    };
+    assert!(rt; new(1, 1, 64, 64, 1000));
+    assert!(rt; new(24, 128, 64, 1518, 128_000));
+    assert!(rt; !new(1, 3, 64, 64, 500));
+    assert!(rt; !new(1, 1, 64, 63, 500));
+    assert!(rt; !new(1, 1, 64, 64, 1001));
+    assert!(rt; !new(0, 1, 64, 64, 500));
+    assert!(rt; !new(25, 1, 64, 64, 500));
+    assert!(rt; !new(1, 1, 63, 64, 500));
+    assert!(rt; !new(1, 1, 64, 1519, 500));
+    assert!(rt; !new(1, 256, 64, 64, 500));
+}
+
+/// The link, the port and the policing of a rule, and the greatest length and the jitter of the
+/// rule of its account.
+fn given(rule: &LinkRule) -> (VlId, u8, Policing, u64, u64) {
+    let account = LinkAccount::new(rule);
+    let kept = account.rule();
+    (
+        rule.vl,
+        rule.port,
+        rule.policing(),
+        kept.lmax,
+        kept.jitter_us,
+    )
+}
+
+#[test]
+fn rules_as_given(rt: HostRuntime) -> Result<(), Fail> {
+    let rule = LinkRule::new(VlId(7), 3, 8, 70, 90, 20, Policing::Frame).ok_or("range")?;
+    assert_eq!(rt; given(&rule), (VlId(7), 3, Policing::Frame, 90, 20));
+    Ok(())
+}
+
+fn keeps_every_window<C: Charge>(rt: &impl Abort, rule: &LinkRule) {
+    let mut policer = Policer::<C>::new(rule);
+    assert!(rt; policer.offer(0, 64));
+    assert!(rt; !policer.offer(499_999, 64));
+    assert!(rt; policer.offer(500_000, 64));
+    // The window of three frames decides; the last two alone would allow 1,000,000.
+    assert!(rt; !policer.offer(1_499_999, 64));
+    assert!(rt; policer.offer(1_500_000, 64));
+    assert!(rt; policer.offer(1_000_000_000_000_000, 64));
+}
+
+#[test]
+fn windows(rt: HostRuntime) -> Result<(), Fail> {
+    let rule = rule_of_link_1(64).ok_or("range")?;
+    keeps_every_window::<ByteCharge>(&rt, &rule);
+    keeps_every_window::<FrameCharge>(&rt, &rule);
+    Ok(())
+}
+
+#[test]
+fn burst_by_bytes(rt: HostRuntime) -> Result<(), Fail> {
+    // 252 of 330 bytes, then 336.
+    let rule = rule_of_link_1(200).ok_or("range")?;
+    let mut policer = Policer::<ByteCharge>::new(&rule);
+    assert!(rt; policer.offer(0, 64));
+    assert!(rt; policer.offer(0, 64));
+    assert!(rt; policer.offer(0, 64));
+    assert!(rt; !policer.offer(0, 64));
+    Ok(())
+}
+
+#[test]
+fn longest_gap(rt: HostRuntime) -> Result<(), Fail> {
+    let rule = rule_of_link_1(64).ok_or("range")?;
+    let mut policer = Policer::<ByteCharge>::new(&rule);
+    assert!(rt; policer.offer(0, 64));
+    assert!(rt; policer.offer(u64::MAX, 64));
+    assert!(rt; !policer.offer(u64::MAX, 64));
+    Ok(())
+}
+
+#[test]
+fn whole_frames(rt: HostRuntime) -> Result<(), Fail> {
+    let rule = LinkRule::new(VlId(1), 1, 128, 64, 1518, 0, Policing::Byte).ok_or("range")?;
+    let mut policer = Policer::<FrameCharge>::new(&rule);
+    assert!(rt; policer.offer(0, 64));
+    assert!(rt; !policer.offer(127_999_999, 64));
+    assert!(rt; policer.offer(128_000_000, 64));
+    Ok(())
+}
+
+#[test]
+fn eighteen_at_once(rt: HostRuntime) -> Result<(), Fail> {
+    // 1,512 of 1,538 bytes, and then no room for 84 more.
+    let rule = LinkRule::new(VlId(1), 1, 128, 64, 1518, 0, Policing::Byte).ok_or("range")?;
+    let mut policer = Policer::<ByteCharge>::new(&rule);
+    for _ in 0..18 {
+        assert!(rt; policer.offer(0, 64));
+    }
+    assert!(rt; !policer.offer(0, 64));
+    Ok(())
+}
+
+#[test]
+fn charges(rt: HostRuntime) {
+    assert_eq!(rt; ByteCharge::charge(1538, 84), 84);
+    assert_eq!(rt; FrameCharge::charge(1538, 84), 1538);
+}
+
+/// The verdict on a frame by a rule alone.
+fn verdict(rule: &LinkRule, port: u8, frame: &[u8]) -> Option<Reason> {
+    judge(Some(rule), port, Checked::new(frame))
+}
+
+/// The place of the first of the arrivals that is judged otherwise.
+fn wrongly_judged(rule: &LinkRule, arrivals: &[Arrival<'_>]) -> Option<usize> {
+    for (place, (port, frame, wanted)) in arrivals.iter().enumerate() {
+        if verdict(rule, *port, frame) != *wanted {
+            return Some(place);
+        }
+    }
+    None
+}
+
+#[test]
+fn order_of_faults(rt: HostRuntime) -> Result<(), Fail> {
+    let rule = rule_of_link_1(64).ok_or("range")?;
+    let arrivals: [Arrival<'_>; 9] = [
+        (2, &[0; 63], Some(Reason::TooShort)),
+        (2, &[0; 1519], Some(Reason::TooLong)),
+        (2, &[1; 64], Some(Reason::BadFcs)),
+        (2, &sealed(&HELLO, &[(0, 2)]), Some(Reason::BadAddress)),
+        (2, &world(0), Some(Reason::UnknownLink)),
+        (2, &hello(0), Some(Reason::WrongPort)),
+        (1, &hello(0), None),
+        (2, &longer_hello(), Some(Reason::WrongPort)),
+        (1, &longer_hello(), Some(Reason::OverLmax)),
+    ];
+    all_right(wrongly_judged(&rule, &arrivals))
+}
+
+#[test]
+fn no_rule_has_no_link(rt: HostRuntime) {
+    let verdict = judge(None, 1, Checked::new(&hello(0)));
+    assert_eq!(rt; verdict, Some(Reason::UnknownLink));
+}
+
+/// The rule of link 2, whose frames have 100 to 200 bytes, with this policing.
+fn rule_of_link_2(policing: Policing) -> Option<LinkRule> {
+    LinkRule::new(VlId(2), 2, 1, 100, 200, 500, policing)
+}
+
+#[test]
+fn least_length_by_policing(rt: HostRuntime) -> Result<(), Fail> {
+    let by_byte = rule_of_link_2(Policing::Byte).ok_or("range")?;
+    let by_frame = rule_of_link_2(Policing::Frame).ok_or("range")?;
+    let verdicts = (
+        verdict(&by_byte, 2, &world(0)),
+        verdict(&by_frame, 2, &world(0)),
+    );
+    assert_eq!(rt; verdicts, (Some(Reason::UnderLmin), None));
+    Ok(())
+}
+
+/// The verdict on an arrival at time 0.
+fn at_start(account: &mut LinkAccount, port: u8, frame: &[u8]) -> Option<Reason>
+    requires { last_time account.old ≤ 0 }
+    ensures { last_time account.new ≤ 0 }
+{
+    account.police(0, port, Checked::new(frame))
+}
+
+/// The place of the first of the arrivals at time 0 on which the verdict of a new account is
+/// another one.
+fn wrongly_policed(rule: &LinkRule, arrivals: &[Arrival<'_>]) -> Option<usize> {
+    let mut account = LinkAccount::new(rule);
+    for (place, (port, frame, wanted)) in arrivals.iter().enumerate() {
+        if at_start(&mut account, *port, frame) != *wanted {
+            return Some(place);
+        }
+    }
+    None
+}
+
+#[test]
+fn one_of_each_fault_of_bytes(rt: HostRuntime) -> Result<(), Fail> {
+    let rule = rule_of_link_1(64).ok_or("range")?;
+    let arrivals: [Arrival<'_>; 5] = [
+        (1, &wrongly_sealed(), Some(Reason::BadFcs)),
+        (1, &[0; 63], Some(Reason::TooShort)),
+        (1, &[0; 1519], Some(Reason::TooLong)),
+        (1, &HELLO[..5], Some(Reason::TooShort)),
+        (1, &[], Some(Reason::TooShort)),
+    ];
+    all_right(wrongly_policed(&rule, &arrivals))
+}
+
+// None of those before the fifth arrival was charged.
+#[test]
+fn one_of_each_fault_of_a_link(rt: HostRuntime) -> Result<(), Fail> {
+    let rule = rule_of_link_1(64).ok_or("range")?;
+    let arrivals: [Arrival<'_>; 6] = [
+        (1, &sealed(&[0; 60], &[]), Some(Reason::BadAddress)),
+        (1, &sealed(&HELLO, &[(5, 9)]), Some(Reason::UnknownLink)),
+        (1, &longer_hello(), Some(Reason::OverLmax)),
+        (2, &hello(0), Some(Reason::WrongPort)),
+        (1, &hello(0), None),
+        (1, &hello(0), Some(Reason::OverRate)),
+    ];
+    all_right(wrongly_policed(&rule, &arrivals))
+}
+
+#[test]
+fn account_over_time(rt: HostRuntime) -> Result<(), Fail> {
+    let hello = hello(0);
+    for policing in [Policing::Byte, Policing::Frame] {
+        let rule = LinkRule::new(VlId(1), 1, 1, 64, 64, 500, policing).ok_or("range")?;
+        let mut account = LinkAccount::new(&rule);
+        assert_eq!(rt; account.police(0, 1, Checked::new(&hello)), None);
+        let early = account.police(499_999, 1, Checked::new(&hello));
+        assert_eq!(rt; early, Some(Reason::OverRate));
+        assert!(rt; account.offer(500_000, 64));
+    }
+    Ok(())
+}
+
+#[test]
+fn laws_hold() {
+    laws::fits_is_each_window();
+    laws::fits_is_account_test();
+    laws::accounts_move();
+    laws::arrivals_are_offers();
+    laws::regular_is_accepted();
+    laws::own_steps();
+    laws::strangers_are_refused();
+    laws::no_frame_is_refused();
+    laws::faults_change_nothing();
+    laws::sound_has_no_fault();
+    laws::sound_is_charged_for();
+    laws::verdicts_decide();
+}
+
+#[test]
+fn reasons_in_words(rt: HostRuntime) {
+    assert_eq!(rt; Reason::WrongPort.word(), "wrong-port");
+}

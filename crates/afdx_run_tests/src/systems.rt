@@ -1,0 +1,292 @@
+//! Frames that leave a switch, and what the systems tell of them. The tests pass also where any one
+//! growth is refused.
+
+use crate::texts::short_text;
+use afdx_config::Tables;
+use afdx_frame::{Checked, Side};
+use afdx_lists::Text;
+use afdx_samples::{HELLO, ShortText, all_right, base_tables, hello, sealed, world};
+use afdx_systems::{Handover, Systems};
+use std::alloc::{AllocError, Global};
+use std::test::Fail;
+
+mod lengths;
+
+/// A frame of the list: its side, its time and its bytes. Its line is its place in the test, from
+/// 1.
+#[derive(Clone, Copy)]
+struct Listed {
+    side: Side,
+    time: u64,
+    bytes: [u8; 64],
+}
+
+fn on_a(time: u64, bytes: [u8; 64]) -> Listed {
+    Listed {
+        side: Side::A,
+        time,
+        bytes,
+    }
+}
+
+fn on_b(time: u64, bytes: [u8; 64]) -> Listed {
+    Listed {
+        side: Side::B,
+        time,
+        bytes,
+    }
+}
+
+/// Hands over a frame, and answers whether a message was delivered.
+fn receive(
+    systems: &mut Systems,
+    handover: Handover<'_>,
+    text: &mut Text,
+) -> Result<bool, AllocError> {
+    systems.receive(handover, text)
+}
+
+/// Hands over the frames at a port, one after the other. Adds what the systems tell of them, and
+/// answers how many messages they delivered.
+fn hand_over(
+    systems: &mut Systems,
+    port: u8,
+    frames: &[Listed],
+    text: &mut Text,
+) -> Result<u64, AllocError> {
+    let mut delivered = 0u64;
+    let mut line = 0u64;
+    for frame in frames {
+        line = line.saturating_add(1);
+        let handover = Handover {
+            side: frame.side,
+            port,
+            time: frame.time,
+            line,
+            frame: Checked::new(frame.bytes.as_slice()),
+        };
+        let is_delivered = receive(systems, handover, text)?;
+        delivered = delivered.saturating_add(u64::from(is_delivered));
+    }
+    Ok(delivered)
+}
+
+/// What new systems of the tables tell of frames at a port, and how many messages they delivered.
+fn tell_once(
+    alloc: Global,
+    tables: &Tables,
+    port: u8,
+    frames: &[Listed],
+) -> Result<(Text, u64), AllocError> {
+    let mut systems = Systems::new(alloc, tables)?;
+    let mut text = Text::new(alloc);
+    let delivered = hand_over(&mut systems, port, frames, &mut text)?;
+    Ok((text, delivered))
+}
+
+/// The same in the base tables. Where a growth is refused, it is begun again with new systems.
+fn tell(alloc: Global, port: u8, frames: &[Listed]) -> Result<(ShortText, u64), Fail> {
+    let tables = base_tables(alloc)?;
+    let (text, delivered) = match tell_once(alloc, &tables, port, frames) {
+        Err(_) => tell_once(alloc, &tables, port, frames)?,
+        Ok(told) => told,
+    };
+    Ok((short_text(text.as_bytes())?, delivered))
+}
+
+/// Whether this is what new systems tell of frames at a port, and how many messages they deliver.
+fn is_told(
+    alloc: Global,
+    port: u8,
+    frames: &[Listed],
+    wanted: &str,
+    delivered: u64,
+) -> Result<bool, Fail> {
+    let (text, count) = tell(alloc, port, frames)?;
+    Ok(text.as_str() == wanted && count == delivered)
+}
+
+#[test]
+fn messages_of_both_kinds_of_port(rt: HostRuntime) -> Result<(), Fail> {
+    let frames = [on_a(6720, hello(0)), on_a(13440, world(0))];
+    let told = "M 6720 s3 1 68656c6c6f\nM 13440 s3 2 776f726c64\n";
+    assert!(rt; is_told(rt.alloc(), 3, frames.as_slice(), told, 2)?);
+    let frames = [on_a(6720, world(0)), on_a(13440, hello(0))];
+    let told = "M 6720 s3 2 776f726c64\nM 13440 s3 1 68656c6c6f\n";
+    assert!(rt; is_told(rt.alloc(), 3, frames.as_slice(), told, 2)?);
+    Ok(())
+}
+
+#[test]
+fn refused_telling_is_begun_again(rt: HostRuntime) -> Result<(), Fail> {
+    let frames = [
+        on_a(1, hello(0)),
+        on_a(2, hello(1)),
+        on_b(3, hello(0)),
+        on_a(4, world(0)),
+        on_a(5, world(1)),
+    ];
+    let told = "M 1 s3 1 68656c6c6f\nM 2 s3 1 68656c6c6f\nX 3 s3 3 redundant\n\
+        M 4 s3 2 776f726c64\nM 5 s3 2 776f726c64\n";
+    assert!(rt; is_told(rt.alloc(), 3, frames.as_slice(), told, 4)?);
+    Ok(())
+}
+
+#[test]
+fn a_copy_is_redundant(rt: HostRuntime) -> Result<(), Fail> {
+    let frames = [on_a(6720, hello(0)), on_b(6720, hello(0))];
+    let told = "M 6720 s3 1 68656c6c6f\nX 6720 s3 2 redundant\n";
+    assert!(rt; is_told(rt.alloc(), 3, frames.as_slice(), told, 1)?);
+    Ok(())
+}
+
+/// The numbers of three frames, the time of the last one, what is told of them, and how many
+/// messages are delivered.
+type Numbered = ([u8; 3], u64, &'static str, u64);
+
+/// Whether the row is told as it should be.
+fn is_numbered(alloc: Global, row: &Numbered) -> Result<bool, Fail> {
+    let ([first, second, third], last, told, delivered) = *row;
+    let frames = [
+        on_a(6720, hello(first)),
+        on_a(1_006_720, hello(second)),
+        on_a(last, hello(third)),
+    ];
+    is_told(alloc, 3, frames.as_slice(), told, delivered)
+}
+
+/// The numbers of the first row that isn't told as it should be.
+fn wrongly_numbered(alloc: Global, rows: &[Numbered]) -> Result<Option<[u8; 3]>, Fail> {
+    for row in rows {
+        if !is_numbered(alloc, row)? {
+            return Ok(Some(row.0));
+        }
+    }
+    Ok(None)
+}
+
+#[test]
+fn numbers(rt: HostRuntime) -> Result<(), Fail> {
+    let rows = [
+        (
+            [5, 8, 9],
+            2_006_720,
+            "M 6720 s3 1 68656c6c6f\nX 1006720 s3 2 sequence\nM 2006720 s3 1 68656c6c6f\n",
+            2,
+        ),
+        (
+            [254, 255, 1],
+            2_006_720,
+            "M 6720 s3 1 68656c6c6f\nM 1006720 s3 1 68656c6c6f\nM 2006720 s3 1 68656c6c6f\n",
+            3,
+        ),
+        (
+            [4, 4, 5],
+            2_006_720,
+            "M 6720 s3 1 68656c6c6f\nX 1006720 s3 2 sequence\nM 2006720 s3 1 68656c6c6f\n",
+            2,
+        ),
+        (
+            [3, 0, 0],
+            1_006_721,
+            "M 6720 s3 1 68656c6c6f\nX 1006720 s3 2 redundant\nM 1006721 s3 1 68656c6c6f\n",
+            2,
+        ),
+    ];
+    all_right(wrongly_numbered(rt.alloc(), rows.as_slice())?)
+}
+
+/// Bytes of `hello` with their places, and what is told of the frame then.
+type Changed = ([(usize, u8); 3], &'static str);
+
+/// Whether the changed frame is told so, and no message is delivered.
+fn is_dropped(alloc: Global, row: &Changed) -> Result<bool, Fail> {
+    let (changes, line) = row;
+    let frames = [on_a(6720, sealed(&HELLO, changes.as_slice()))];
+    is_told(alloc, 3, frames.as_slice(), line, 0)
+}
+
+/// What should be told in the first of the rows where it isn't, or where a message is delivered.
+fn wrongly_dropped(alloc: Global, rows: &[Changed]) -> Result<Option<&'static str>, Fail> {
+    for row in rows {
+        if !is_dropped(alloc, row)? {
+            return Ok(Some(row.1));
+        }
+    }
+    Ok(None)
+}
+
+#[test]
+fn words_of_frames_that_won(rt: HostRuntime) -> Result<(), Fail> {
+    let rows = [
+        (
+            [(13, 0x06), (13, 0x06), (13, 0x06)],
+            "X 6720 s3 1 not-ipv4\n",
+        ),
+        (
+            [(25, 0xeb), (25, 0xeb), (25, 0xeb)],
+            "X 6720 s3 1 bad-ip-header\n",
+        ),
+        (
+            [(20, 0x20), (24, 0xad), (25, 0xea)],
+            "X 6720 s3 1 fragment\n",
+        ),
+        (
+            [(23, 0x01), (24, 0xcd), (25, 0xfa)],
+            "X 6720 s3 1 not-udp\n",
+        ),
+        (
+            [(39, 0x0c), (39, 0x0c), (39, 0x0c)],
+            "X 6720 s3 1 bad-udp-length\n",
+        ),
+        (
+            [(37, 0xe9), (37, 0xe9), (37, 0xe9)],
+            "X 6720 s3 1 no-port\n",
+        ),
+    ];
+    all_right(wrongly_dropped(rt.alloc(), rows.as_slice())?)
+}
+
+#[test]
+fn bytes_that_a_switch_drops(rt: HostRuntime) -> Result<(), Fail> {
+    let mut damaged = hello(0);
+    damaged[63] ^= 0xff;
+    let frames = [
+        on_a(1, damaged),
+        on_a(2, sealed(&HELLO, &[(0, 2)])),
+        on_a(3, sealed(&HELLO, &[(5, 9)])),
+    ];
+    let told = "X 1 s3 1 bad-fcs\nX 2 s3 2 bad-address\nX 3 s3 3 not-subscribed\n";
+    assert!(rt; is_told(rt.alloc(), 3, frames.as_slice(), told, 0)?);
+    Ok(())
+}
+
+/// A port, what is told of frames there, and how many messages are delivered.
+type Told = (u8, &'static str, u64);
+
+/// The first of the ports at which the frames aren't told as they should be.
+fn wrongly_told_at(alloc: Global, frames: &[Listed], rows: &[Told]) -> Result<Option<u8>, Fail> {
+    for (port, told, delivered) in rows {
+        if !is_told(alloc, *port, frames, told, *delivered)? {
+            return Ok(Some(*port));
+        }
+    }
+    Ok(None)
+}
+
+#[test]
+fn each_port_has_its_system(rt: HostRuntime) -> Result<(), Fail> {
+    let rows = [
+        (0, "", 0),
+        (1, "X 0 s1 1 not-subscribed\n", 0),
+        (2, "X 0 s2 1 not-subscribed\n", 0),
+        (3, "M 0 s3 1 68656c6c6f\n", 1),
+        (4, "", 0),
+        (24, "", 0),
+        (25, "", 0),
+        (255, "", 0),
+    ];
+    let frames = [on_a(0, hello(0))];
+    let wrong = wrongly_told_at(rt.alloc(), frames.as_slice(), rows.as_slice())?;
+    all_right(wrong)
+}

@@ -1,7 +1,0 @@
-//! Tests of a switch and of a sender.
-#![tactic(auto)]
-
-#[cfg(test)]
-mod send;
-#[cfg(test)]
-mod switch;
