@@ -2,8 +2,9 @@
 
     tests/counted_again.py CONFIG LIST LINES REPORT.JSON
 
-Prints what differs. All lines are held; a port's backlog is taken anew at each arrival, as the bytes
-of the frames that have come to it and whose slots have not begun before. Nothing of tools/ is used.
+Prints what differs. All lines are held; a port's backlog is taken anew at each arrival, as the
+bytes of the frames that have come to it and whose slots have not begun before. Nothing of tools/ is
+used.
 """
 import json
 import statistics

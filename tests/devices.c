@@ -71,7 +71,8 @@ static void tell(char kind, size_t asked, ssize_t answer) {
 static int is_broken(struct device *device, ssize_t *answer) {
     int is_at = ++device->calls == device->broken_at;
     int is_late = device->broken_at > 0 && device->calls > device->broken_at;
-    if (!is_at && !(is_late && (!strcmp(device->how, "fails") || !strcmp(device->how, "none")))) return 0;
+    int stays = !strcmp(device->how, "fails") || !strcmp(device->how, "none");
+    if (!is_at && !(is_late && stays)) return 0;
     *answer = strcmp(device->how, "none") ? -1 : 0;
     errno = strcmp(device->how, "interrupted") ? EIO : EINTR;
     return 1;

@@ -3,15 +3,16 @@
 
     tests/devices.py PROGRAM
 
-tests/devices.c, which `cc` compiles, makes the devices weak: at most 16 bytes a call, and the first call
-broken, then the second, and so on. A call is broken by an error that stays, by an error that is gone at the
-next call, by an interruption, or by moving no byte. `police`, `replay`, with admission and without, and
-`send` are run on lists of a few lines, read by path or as standard input, and `check` on configurations. Each
-run must write a beginning of the undisturbed text, exactly as far as it has to, and end with the status and
-the one line of the device that failed; and a device that failed, or has ended, must not be asked again, nor
-the other one be asked for more than what is held. With --line-buffered each line's text must be handed over
-before more is read. Prints `ok NAME` or `FAILED NAME` for each case, then `N passed, M failed`; ends with
-status 1 if a case failed.
+tests/devices.c, which `cc` compiles, makes the devices weak: at most 16 bytes a call, and the first
+call broken, then the second, and so on. A call is broken by an error that stays, by an error that
+is gone at the next call, by an interruption, or by moving no byte. `police`, `replay`, with
+admission and without, and `send` are run on lists of a few lines, read by path or as standard
+input, and `check` on configurations. Each run must write a beginning of the undisturbed text,
+exactly as far as it has to, and end with the status and the one line of the device that failed; and
+a device that failed, or has ended, must not be asked again, nor the other one be asked for more
+than what is held. With --line-buffered each line's text must be handed over before more is read.
+Prints `ok NAME` or `FAILED NAME` for each case, then `N passed, M failed`; ends with status 1 if a
+case failed.
 """
 from __future__ import annotations
 
@@ -67,7 +68,9 @@ class Weak:
         """One run on weak devices, with the log of its calls."""
         log = os.path.join(self.program.folder, "calls")
         env = {"LD_PRELOAD": self.shim, "DEVICE_LOG": log}
-        env |= {"DEVICE_MOST": str(most)} | {f"DEVICE_{name.upper()}": how for name, how in broken.items()}
+        env |= {"DEVICE_MOST": str(most)} | {
+            f"DEVICE_{name.upper()}": how for name, how in broken.items()
+        }
         if self.by_path:
             path = env["DEVICE_LIST"] = self.program.write("list", self.given)
             found = self.program.run(*self.words, *options, path, env=env)
@@ -91,11 +94,15 @@ def of_kind(calls: list[Call], kind: str) -> list[Call]:
 def never_again(calls: list[Call], kind: str) -> None:
     """The last call of the device is the one that failed or moved nothing, and the only such."""
     dead = [place for place, call in enumerate(of_kind(calls, kind)) if call.answer <= 0]
-    must(dead == [len(of_kind(calls, kind)) - 1], f"broken calls {dead} of {len(of_kind(calls, kind))}")
+    must(
+        dead == [len(of_kind(calls, kind)) - 1],
+        f"broken calls {dead} of {len(of_kind(calls, kind))}",
+    )
 
 
 def whole_runs(weak: Weak) -> int:
-    """Devices that move little and don't fail change nothing; how many reads of a few bytes there are."""
+    """Devices that move little and don't fail change nothing; how many reads of a few bytes there
+    are."""
     reads: list[int] = []
     for most in (1, FEW):
         for options in ([], ["--line-buffered"]):
@@ -109,14 +116,18 @@ def whole_runs(weak: Weak) -> int:
 
 
 def each_line_at_once(weak: Weak) -> None:
-    """At each read the text of all lines that have been read whole has been handed over, and no more."""
+    """At each read the text of all lines that have been read whole has been handed over, and no
+    more."""
     for most in (1, FEW):
         _, calls = weak.run(most, "--line-buffered")
         got, written = 0, 0
         for call in calls:
             if call.kind == "r":
                 wanted = len(weak.lines_before(got))
-                must(written == wanted, f"{written} bytes written where {got} were read, wanted {wanted}")
+                must(
+                    written == wanted,
+                    f"{written} bytes written where {got} were read, wanted {wanted}",
+                )
                 got += call.answer
             else:
                 written += call.answer
@@ -137,7 +148,8 @@ def broken_reads(weak: Weak, reads: int) -> None:
 
 
 def broken_writes(weak: Weak, options: list[str]) -> None:
-    """Each write in turn fails, or takes nothing. A fault of the list stands where the text comes at the end."""
+    """Each write in turn fails, or takes nothing. A fault of the list stands where the text comes
+    at the end."""
     fault = WRITE if options or weak.whole.status == 0 else (weak.whole.status, weak.whole.err)
     _, calls = weak.run(FEW, *options)
     written = 0
@@ -190,11 +202,16 @@ def large_texts(weak: Weak) -> None:
         weak.ends(found, (0, b""), weak.whole.out)
         written = of_kind(calls, "w")
         must(len(written) > 3, f"{len(written)} writes")
-        must(most > 0 or max(call.asked for call in written) <= 65_536 + 4_200, "more is held than a buffer and a line")
+        must(
+            most > 0 or max(call.asked for call in written) <= 65_536 + 4_200,
+            "more is held than a buffer and a line",
+        )
         for k in (1, 2, 3, len(written)):
             for how in ("fails", "once", "none"):
                 found, calls = weak.run(most, write=f"{k}:{how}")
-                weak.ends(found, WRITE, weak.whole.out[: sum(call.answer for call in written[: k - 1])])
+                weak.ends(
+                    found, WRITE, weak.whole.out[: sum(call.answer for call in written[: k - 1])]
+                )
                 never_again(calls, "w")
                 must(calls[-1].kind == "w", "more was read after a failed write")
 
@@ -227,7 +244,11 @@ def deaf_errors(program: Program, words: list[str], given: bytes, status: int) -
     """A fault that can't be told leaves the status as it is."""
     with open("/dev/full", "wb") as full:
         done = subprocess.run(
-            [program.path, *words, "-"], input=given, stdout=subprocess.PIPE, stderr=full, check=False
+            [program.path, *words, "-"],
+            input=given,
+            stdout=subprocess.PIPE,
+            stderr=full,
+            check=False,
         )
     must(done.returncode == status, f"status {done.returncode}")
 
@@ -235,20 +256,28 @@ def deaf_errors(program: Program, words: list[str], given: bytes, status: int) -
 # ---- the lists -----------------------------------------------------------------------------------
 
 TABLES = made.base_tables()
-H1, H2 = HELLO.hex().encode(), frame_of(TABLES["system"][1], 2, 2000, b"world", 0, "A")[:-4].hex().encode()
+H1, H2 = (
+    HELLO.hex().encode(),
+    frame_of(TABLES["system"][1], 2, 2000, b"world", 0, "A")[:-4].hex().encode(),
+)
 
 
 def spelled(text: str) -> bytes:
-    """A list, written with ` / ` between its lines; H1 is link 1's frame with `hello`, H2 link 2's with `world`."""
+    """A list, written with ` / ` between its lines; H1 is link 1's frame with `hello`, H2 link 2's
+    with `world`."""
     return b"\n".join(text.encode().split(b" / ")).replace(b"H1", H1).replace(b"H2", H2)
 
 
 WRONG = f"B 0 A 1 H1 / R 0 A 1 {'00' * 63} / R 0 A 1 0300000000 / F 0 A 1 {'00' * 60}"
-WRONG += f" / F 0 A 1 {HELLO.hex()[:11]}9{HELLO.hex()[12:]} / F 0 A 1 H100 / R 0 A 1 - / F 0 A 1 H1 / "
+WRONG += (
+    f" / F 0 A 1 {HELLO.hex()[:11]}9{HELLO.hex()[12:]} / F 0 A 1 H100 / R 0 A 1 - / F 0 A 1 H1 / "
+)
 SENT = list_sent(TABLES, "s1", [Message(0, 1, 1 + k % 2, 1000, b"%c" % (97 + k)) for k in range(4)])
 
 FRAMES = {
-    "five frames": spelled("F 0 A 1 H1 / F 499999 A 1 H1 / F 500000 A 1 H1 / F 1499999 A 1 H1 / F 1500000 A 1 H1 / "),
+    "five frames": spelled(
+        "F 0 A 1 H1 / F 499999 A 1 H1 / F 500000 A 1 H1 / F 1499999 A 1 H1 / F 1500000 A 1 H1 / "
+    ),
     "frames of each wrong kind": spelled(WRONG),
     "a time that goes back": spelled("F 5 A 1 H1 / F 4 A 1 H1 / "),
     "remarks and a line that breaks off": spelled("# a / \r / F 0 A 1 H1\r / F 0 A"),
@@ -257,19 +286,27 @@ REPLAYED = {
     "high before low": spelled("F 0 A 2 H2 / F 0 A 1 H1"),
     "a frame and its copy": spelled("F 0 A 1 H1 / F 0 B 1 H1 / "),
     "eight frames that were sent": SENT,
-    "all that policing lets through": spelled("F 0 A 1 H1 / F 0 A 2 H2 / F 500000 A 1 H1 / F 500000 A 2 H2 / "),
+    "all that policing lets through": spelled(
+        "F 0 A 1 H1 / F 0 A 2 H2 / F 500000 A 1 H1 / F 500000 A 2 H2 / "
+    ),
     "an odd number of digits": spelled("F 0 A 1 H1 / F 7000 A 2 H2 / F 20000 A 1 030"),
 }
 MESSAGES = {
-    "four messages": submission_list([Message(0, 1, 1 + k % 2, 1000, b"%c" % (97 + k)) for k in range(4)]),
-    "refused messages": b"0 2 1 1000 00\n0 1 3 1000 00\n0 1 1 1000 -\n7000 1 1 1000 " + b"00" * 18 + b"\n",
+    "four messages": submission_list(
+        [Message(0, 1, 1 + k % 2, 1000, b"%c" % (97 + k)) for k in range(4)]
+    ),
+    "refused messages": b"0 2 1 1000 00\n0 1 3 1000 00\n0 1 1 1000 -\n7000 1 1 1000 "
+    + b"00" * 18
+    + b"\n",
     "a time beyond the last": b"0 1 1 1000 61\n5000000 1 2 1000 62\n1000000000000001 1 1 1000 61\n",
 }
 
 
 def try_all(cases: Cases, program: Program) -> None:
     """All cases."""
-    source, shim = os.path.join(TOP, "tests", "devices.c"), os.path.join(program.folder, "devices.so")
+    source, shim = os.path.join(TOP, "tests", "devices.c"), os.path.join(
+        program.folder, "devices.so"
+    )
     try:
         subprocess.run(["cc", "-shared", "-fPIC", "-O1", "-o", shim, source, "-ldl"], check=True)
     except (OSError, subprocess.CalledProcessError) as fault:
@@ -282,7 +319,13 @@ def try_all(cases: Cases, program: Program) -> None:
     commands += [("replay", ["replay", config], REPLAYED)]
     commands += [("replay --no-admission", ["replay", "--no-admission", config], REPLAYED)]
     frames_too_old = spelled("F 0 A 1 H1 / F 0 A 2 H2 / F 6720 B 1 H1 / ")
-    commands += [("replay --no-admission", ["replay", "--no-admission", too_old], {"frames too old": frames_too_old})]
+    commands += [
+        (
+            "replay --no-admission",
+            ["replay", "--no-admission", too_old],
+            {"frames too old": frames_too_old},
+        )
+    ]
     commands += [("send", ["send", config, "s1"], MESSAGES)]
     all_cases: list[tuple] = [
         (f"{command}: {name}", weak_devices, Weak(program, words, given, by_path))
@@ -291,16 +334,28 @@ def try_all(cases: Cases, program: Program) -> None:
     ]
     for command, words, given in (
         ("police", POLICE, b"".join(b"F %d A 1 %s\n" % (n * 500_000, H1) for n in range(80))),
-        ("replay", ["replay", config], b"".join(b"F %d A 1 %s\n" % (n * 1_000_000, H1) for n in range(30))),
+        (
+            "replay",
+            ["replay", config],
+            b"".join(b"F %d A 1 %s\n" % (n * 1_000_000, H1) for n in range(30)),
+        ),
         ("send", ["send", config, "s1"], MESSAGES["four messages"]),
     ):
-        all_cases.append((f"{command}: more than 1,000 writes", many_writes, Weak(program, words, given, False)))
+        all_cases.append(
+            (f"{command}: more than 1,000 writes", many_writes, Weak(program, words, given, False))
+        )
     for command, words, line in (
         ("police", POLICE, b"R 0 A 1 -\n"),
         ("replay", ["replay", config], b"R 0 A 1 -\n"),
         ("send", ["send", config, "s1"], b"0 2 1 1000 61\n"),
     ):
-        all_cases.append((f"{command}: more than a buffer", large_texts, Weak(program, words, line * 30_000, True)))
+        all_cases.append(
+            (
+                f"{command}: more than a buffer",
+                large_texts,
+                Weak(program, words, line * 30_000, True),
+            )
+        )
     all_cases.append(("check", weak_check, program, TABLES, 0))
     all_cases.append(("check, not admitted", weak_check, program, TABLES | {"buffer": 64}, 1))
     for name, words, given, status in (
@@ -309,7 +364,9 @@ def try_all(cases: Cases, program: Program) -> None:
         ("a fault of the configuration", ["replay", "/dev/null"], b"", 1),
         ("a fault of a submission list", ["send", config, "s1"], b"x\n", 3),
     ):
-        all_cases.append((f"{name} on a full standard error", deaf_errors, program, words, given, status))
+        all_cases.append(
+            (f"{name} on a full standard error", deaf_errors, program, words, given, status)
+        )
     cases.try_at_once(all_cases)
 
 

@@ -1,11 +1,12 @@
 #!/usr/bin/env python3
-"""Checks that the program explains each line and word of docs/FORMATS.md in the words of its tables.
+"""Checks that the program explains each line and word of docs/FORMATS.md in the words of its
+tables.
 
     tests/explain.py PROGRAM
 
-For each row an example of its line is given to `afdx explain`; the answer must have what the row says
-of it, and for a key of a configuration its name and its range. Prints a line for each that doesn't,
-and nothing where all do; ends with status 1 if there is one.
+For each row an example of its line is given to `afdx explain`; the answer must have what the row
+says of it, and for a key of a configuration its name and its range. Prints a line for each that
+doesn't, and nothing where all do; ends with status 1 if there is one.
 """
 import itertools
 import pathlib
@@ -75,8 +76,12 @@ def wanted_answers(texts: str) -> list[tuple[str, list[str]]]:
 
 
 def wanted_keys(texts: str) -> list[tuple[str, list[str]]]:
-    """The faults of each key that can come, with what is said of the fault, the key and its range."""
-    whens = {line.split()[1].strip("`"): when for line, when in rows_below("| Line on standard error | When |", texts)}
+    """The faults of each key that can come, with what is said of the fault, the key and its
+    range."""
+    whens = {
+        line.split()[1].strip("`"): when
+        for line, when in rows_below("| Line on standard error | When |", texts)
+    }
     wanted = [(f"config {fault}", [whens[fault]]) for fault in ("NotToml", "BadProfile")]
     for part, number, key, value in rows_below("| Part | Number | Key | Value |", texts):
         index = "0" if part == "top" else "12"
@@ -122,7 +127,11 @@ def faults(program: str) -> list[str]:
         elif said is None:
             found.append(f"'{line}' is not explained")
         else:
-            found += [f"'{line}' is explained without '{plain(part)}'" for part in says if plain(part) not in said]
+            found += [
+                f"'{line}' is explained without '{plain(part)}'"
+                for part in says
+                if plain(part) not in said
+            ]
     return found
 
 

@@ -11,13 +11,14 @@ holds what must be so of any output. Beside that
 - each command is run twice, once with the list on standard input, and must answer the same;
 - where a list has a fault, the output is a beginning of that of the lines before it alone;
 - `replay` without its option replays exactly where `check` says `ok`, and then as it does with it;
-- a link's verdicts are the same where all other frames are taken out of the list, and so are the ports
-  that its frames leave, where the network is admitted;
+- a link's verdicts are the same where all other frames are taken out of the list, and so are the
+  ports that its frames leave, where the network is admitted;
 - `police` gives the verdicts of a replay whose tables have that one link;
 - what `send` writes is replayed without a loss, and each message is read once and in order.
 
-The first case that is wrong is written to DIR (a new folder where it isn't given), its seed and number
-are printed, and the status is 1. `--seed N --first K` begins with that case. Needs Python 3, no packages.
+The first case that is wrong is written to DIR (a new folder where it isn't given), its seed and
+number are printed, and the status is 1. `--seed N --first K` begins with that case. Needs Python 3,
+no packages.
 """
 import argparse
 import os
@@ -31,6 +32,7 @@ sys.dont_write_bytecode = True
 sys.path.insert(0, os.path.join(os.path.dirname(os.path.abspath(__file__)), "fuzzing"))
 import checks  # noqa: E402
 import made  # noqa: E402
+import sending  # noqa: E402
 from checks import Wrong, must  # noqa: E402
 
 PROGRAM = os.path.join(made.TOP, "crates", "afdx", "out", "afdx")
@@ -55,7 +57,12 @@ class Runs:
         self.count += 1
         try:
             done = subprocess.run(
-                [self.program, *words], input=given, capture_output=True, cwd=self.folder, timeout=LONGEST, check=False
+                [self.program, *words],
+                input=given,
+                capture_output=True,
+                cwd=self.folder,
+                timeout=LONGEST,
+                check=False,
             )
         except subprocess.TimeoutExpired:
             raise Wrong(f"{' '.join(words)} takes more than {LONGEST} s") from None
@@ -79,13 +86,17 @@ def try_check(runs, case):
 
 
 def try_prefix(runs, words, text, answer):
-    """Where the list has a fault: what was written is a beginning of what the lines before it give."""
+    """Where the list has a fault: what was written is a beginning of what the lines before it
+    give."""
     fault = checks.faulty_line(answer[2])
     if fault is None:
         return
     status, out, err = runs.run([*words, "-"], checks.cut(text, fault))
     must(status == 0, f"the lines before the fault give: {err!r}")
-    must(out.startswith(answer[1]), "what was written before the fault is not what the lines before it give")
+    must(
+        out.startswith(answer[1]),
+        "what was written before the fault is not what the lines before it give",
+    )
 
 
 def copies_left(out, numbers):
@@ -101,7 +112,11 @@ def try_alone(runs, words, case, answer, events, kinds):
         text = checks.alone(checks.cut(case.text, checks.faulty_line(answer[2])), events.frames, vl)
         status, out, err = runs.run([*words, "-"], text)
         must(status == 0, f"link {vl} alone: status {status}, {err!r}")
-        numbers = {n for n, frame in events.frames.items() if frame.bytes[:6] == b"\x03\0\0\0" + vl.to_bytes(2, "big")}
+        numbers = {
+            n
+            for n, frame in events.frames.items()
+            if frame.bytes[:6] == b"\x03\0\0\0" + vl.to_bytes(2, "big")
+        }
         must(
             checks.told_of(out, "V", numbers) == checks.told_of(answer[1], "V", numbers),
             f"the verdicts of link {vl} are others where it is alone",
@@ -116,7 +131,9 @@ def try_alone(runs, words, case, answer, events, kinds):
 def try_replay(runs, case, checked):
     free = ["replay", "--no-admission", "config"]
     answer = runs.run_twice(free, case.text)
-    must((answer[0] == 1) == (checked[2] != ""), "replay and check don't agree on the configuration")
+    must(
+        (answer[0] == 1) == (checked[2] != ""), "replay and check don't agree on the configuration"
+    )
     if answer[0] == 1:
         must(answer[2] == checked[2], f"replay says {answer[2]!r}, check {checked[2]!r}")
     events = checks.check_replay(case.tables, case.text, False, *answer)
@@ -127,7 +144,10 @@ def try_replay(runs, case, checked):
         must((status, out, err) == answer, "a fault of the configuration depends on the option")
     elif checked[0] == 1:
         wanted = "admit" + checked[1].split("\n")[-2][len("no") :] + "\n"
-        must((status, out, err) == (1, "", wanted), f"not admitted, but replay answers {status}, {err!r}")
+        must(
+            (status, out, err) == (1, "", wanted),
+            f"not admitted, but replay answers {status}, {err!r}",
+        )
         try_alone(runs, free, case, answer, events, "V")
     else:
         must((status, out, err) == answer, "the option changes the replay of an admitted network")
@@ -144,8 +164,22 @@ def one_link(bag, lmax, jitter):
         "system": [system | {"name": "s1"}, system | {"name": "s2", "port": 2, "id": 2}],
         "link": [
             {
-                **{"vl": 1, "from": "s1", "to": ["s2"], "bag_ms": bag, "lmin": 64, "lmax": lmax, "jitter_us": jitter},
-                **{"priority": "low", "policing": "byte", "latency_us": 1000, "skew_us": 1000, "subs": 1},
+                **{
+                    "vl": 1,
+                    "from": "s1",
+                    "to": ["s2"],
+                    "bag_ms": bag,
+                    "lmin": 64,
+                    "lmax": lmax,
+                    "jitter_us": jitter,
+                },
+                **{
+                    "priority": "low",
+                    "policing": "byte",
+                    "latency_us": 1000,
+                    "skew_us": 1000,
+                    "subs": 1,
+                },
             }
         ],
         "port": [],
@@ -170,13 +204,13 @@ def try_send(runs, case):
     words = ["send", "config", case.name]
     answer = runs.run_twice(words, case.messages)
     must(not checks.CONFIG_FAULT.fullmatch(answer[2]), "send finds a fault in sound tables")
-    sent = checks.check_send(case.tables, case.name, case.messages, *answer)
+    sent = sending.check_send(case.tables, case.name, case.messages, *answer)
     try_prefix(runs, words, case.messages, answer)
     is_late = any(frame.time > 10**15 for frame in sent)  # a frame list has no later times
     if answer[0] == 0 and not is_late:
         status, out, err = runs.run(["replay", "config", "-"], answer[1].encode("ascii"))
         must((status, err) == (0, ""), f"what was sent can't be replayed: {err!r}")
-        checks.check_delivered(case.tables, sent, out)
+        sending.check_delivered(case.tables, sent, out)
 
 
 def try_case(runs, seed, number, stored):
@@ -197,21 +231,31 @@ def keep(runs, folder):
     os.makedirs(target, exist_ok=True)
     for name in ("config", "list", "one.toml"):
         if os.path.exists(runs.path(name)):
-            with open(runs.path(name), "rb") as source, open(os.path.join(target, name), "wb") as copy:
+            with open(runs.path(name), "rb") as source, open(
+                os.path.join(target, name), "wb"
+            ) as copy:
                 copy.write(source.read())
     return target
 
 
 def main():
-    words = argparse.ArgumentParser(description=__doc__, formatter_class=argparse.RawDescriptionHelpFormatter)
+    words = argparse.ArgumentParser(
+        description=__doc__, formatter_class=argparse.RawDescriptionHelpFormatter
+    )
     words.add_argument("program", metavar="PROGRAM", nargs="?", default=PROGRAM)
     words.add_argument("--seconds", metavar="S", type=float, default=20)
-    words.add_argument("--seed", metavar="N", type=int, default=random.SystemRandom().randrange(10**9))
-    words.add_argument("--first", metavar="K", type=int, default=1, help="the number of the first case")
+    words.add_argument(
+        "--seed", metavar="N", type=int, default=random.SystemRandom().randrange(10**9)
+    )
+    words.add_argument(
+        "--first", metavar="K", type=int, default=1, help="the number of the first case"
+    )
     words.add_argument("--keep", metavar="DIR", help="where a case that is wrong is written")
     given = words.parse_args()
     if not os.access(given.program, os.X_OK):
-        words.error(f"there is no program at {given.program}: build it first, by bin/afdx --version")
+        words.error(
+            f"there is no program at {given.program}: build it first, by bin/afdx --version"
+        )
     stored = made.stored()
     end = time.monotonic() + given.seconds
     number = given.first
@@ -221,10 +265,12 @@ def main():
             try:
                 try_case(runs, given.seed, number, stored)
             except Wrong as wrong:
-                print(f"WRONG: {wrong}\nseed {given.seed}, case {number}, kept in {keep(runs, given.keep)}")
+                kept = keep(runs, given.keep)
+                print(f"WRONG: {wrong}\nseed {given.seed}, case {number}, kept in {kept}")
                 sys.exit(1)
             number += 1
-        print(f"ok: {number - given.first} cases, {runs.count} runs, nothing wrong (seed {given.seed})")
+        tried = f"{number - given.first} cases, {runs.count} runs"
+        print(f"ok: {tried}, nothing wrong (seed {given.seed})")
 
 
 if __name__ == "__main__":

@@ -3,10 +3,10 @@
 
     tests/guide.py DOCUMENT FOLDER
 
-Each block ```sh is run by bash in FOLDER, in the order of the document. A block ```text right after it
-is what it prints on standard output, in which a line `..` stands for any lines. Words after `sh` say
-what the block wants: `status=N` (0), and names of what it needs; a block that needs what is not in
-the environment variable HAS is skipped. Prints a line for each block as tests/tools.sh does.
+Each block ```sh is run by bash in FOLDER, in the order of the document. A block ```text right after
+it is what it prints on standard output, in which a line `..` stands for any lines. Words after `sh`
+say what the block wants: `status=N` (0), and names of what it needs; a block that needs what is not
+in the environment variable HAS is skipped. Prints a line for each block as tests/tools.sh does.
 """
 from __future__ import annotations
 

@@ -3,13 +3,13 @@
 
     tests/hostile.py PROGRAM
 
-Tried are all beginnings of a configuration, of frame lists, of a submission list and of frames; lines as long
-as they may be and one byte longer; fields that are nearly right; numbers of up to 5,000 digits; as many lines
-as there may be and one more; configurations of 4 MB. Each run must end at once with the status and the one line of
-the first fault, by the orders of docs/FORMATS.md, which tests/calling/first_fault.py follows apart from the
-program, and with the output of the lines before it. Prints `ok NAME` or `FAILED NAME` for each case, then
-`N passed, M failed`; ends with status 1 if a case failed. Needs Python 3, and for the beginnings of a
-configuration Python 3.11.
+Tried are all beginnings of a configuration, of frame lists, of a submission list and of frames;
+lines as long as they may be and one byte longer; fields that are nearly right; numbers of up to
+5,000 digits; as many lines as there may be and one more; configurations of 4 MB. Each run must end
+at once with the status and the one line of the first fault, by the orders of docs/FORMATS.md, which
+tests/calling/first_fault.py follows apart from the program, and with the output of the lines before
+it. Prints `ok NAME` or `FAILED NAME` for each case, then `N passed, M failed`; ends with status 1
+if a case failed. Needs Python 3, and for the beginnings of a configuration Python 3.11.
 """
 from __future__ import annotations
 
@@ -67,7 +67,9 @@ class Command:
             if len(lines) < 1_000_000:
                 same_text("standard output", self.before(front), found.out)
         elif self.is_frames:
-            told = [line.split(b" ")[1:3] for line in found.out.splitlines() if line.startswith(b"V")]
+            told = [
+                line.split(b" ")[1:3] for line in found.out.splitlines() if line.startswith(b"V")
+            ]
             must(told == frames_in(given), f"the verdicts are on {short(told)}")
         return found
 
@@ -75,7 +77,9 @@ class Command:
 def frames_in(given: bytes) -> list[list[bytes]]:
     """Number and side of each line of a sound list that isn't skipped."""
     lines = [(n, line.rstrip(b"\r")) for n, line in enumerate(list_lines(given), 1)]
-    return [[b"%d" % n, line.split(b" ")[2]] for n, line in lines if line and not line.startswith(b"#")]
+    return [
+        [b"%d" % n, line.split(b" ")[2]] for n, line in lines if line and not line.startswith(b"#")
+    ]
 
 
 def commands_of(program: Program) -> dict[str, Command]:
@@ -102,7 +106,10 @@ def config_beginnings(program: Program, text: bytes, part: int, parts: int) -> N
             answers(found, 1, b"", fault)
         else:
             last = found.out.splitlines()[-1][:2]
-            must(found.err == b"" and (found.status, last) in ((0, b"ok"), (1, b"no")), f"{count} bytes: {found}")
+            must(
+                found.err == b"" and (found.status, last) in ((0, b"ok"), (1, b"no")),
+                f"{count} bytes: {found}",
+            )
         for words in (["replay", "--no-admission", path], ["send", path, "s1"]) if fault else ():
             answers(program.run(*words, "-"), 1, b"", fault)
 
@@ -119,7 +126,8 @@ def frame_list_beginnings(command: Command, text: bytes) -> None:
 
 
 def submission_list_beginnings(command: Command, messages: list[Message]) -> None:
-    """Every beginning of a submission list: one that breaks off in its bytes is a shorter message."""
+    """Every beginning of a submission list: one that breaks off in its bytes is a shorter
+    message."""
     text, tables = submission_list(messages), made.base_tables()
     for count in range(len(text) + 1):
         found = command.is_told(text[:count])
@@ -142,14 +150,20 @@ def frame_beginnings(program: Program) -> None:
     for kind, added in (("R", 0), ("F", 4), ("B", 4)):
         for count in range(len(frame) - added + 1):
             n, at, length = len(lines) + 1, len(lines) * MS, count + added
-            lines.append(b"%s %d A 1 %s\n" % (kind.encode(), at, frame[:count].hex().encode() or b"-"))
+            lines.append(
+                b"%s %d A 1 %s\n" % (kind.encode(), at, frame[:count].hex().encode() or b"-")
+            )
             whole = kind == "F" or (kind == "R" and count == len(frame))
             word = "drop too-short" if length < 64 else "accept" if whole else "drop bad-fcs"
             wanted.append(f"V {n} A {word}\n")
             end = at + (length + 20) * 80
             if word == "accept":
                 is_cut = length - 19 < 128  # before the end of the datagram
-                told = f"X {end} s3 {n} bad-ip-header" if is_cut else f"M {end} s3 1 {bytes(100).hex()}"
+                told = (
+                    f"X {end} s3 {n} bad-ip-header"
+                    if is_cut
+                    else f"M {end} s3 1 {bytes(100).hex()}"
+                )
                 wanted.append(f"D {n} {end} A 3\n{told}\n")
     found = program.run("replay", "--no-admission", config, "-", given=b"".join(lines))
     answers(found, 0, "".join(wanted).encode(), b"")
@@ -172,25 +186,35 @@ def longest_lines(command: Command) -> None:
             b"\0" * size,
             b"\r" * size,
         ):
-            for given in (line, line + b"\n", good + line, good + line + b"\n" + good, line + b"\r\n" + good):
+            for given in (
+                line,
+                line + b"\n",
+                good + line,
+                good + line + b"\n" + good,
+                line + b"\r\n" + good,
+            ):
                 command.is_told(given)
 
 
 ODD_FRAMES = [
-    *(b"\0", b"F\0 5 A 1 00", b"\xef\xbb\xbfF 5 A 1 00", b"F 5 A 1 00\r\r", b"\r\r", b"\rF 5 A 1 00", b" # x"),
-    *(b"F 5 A 1 00 ", b" F 5 A 1 00", b"F  5 A 1 00", b"F\t5 A 1 00", b"f 5 A 1 00", b"F 5 a 1 00", b"FF 5 A 1 00"),
-    *(b"F +5 A 1 00", b"F 0x5 A 1 00", b"F 5. A 1 00", b"F 5e0 A 1 00", b"F 5_0 A 1 00", b"F \xd9\xa5 A 1 00"),
-    *(b"F 5 A 1.0 00", b"F 5 A +1 00", b"F 5 AB 1 00", b"F 5 A 1 0X", b"F 5 A 1 0x00", b"F 5 A 1 -0", b"F 5 A 1 --"),
-    *(b"F 5 A 1 \xff\xff", b"F 5 A 1 00\0", b"F 5 A 1 0\r", b"F 5 A 1", b"F 5 A 1 ", b"F", b"R 5 A 24 -", b"B 5 A 1 -"),
-    *(b"F 5 A 24 00", b"F 5 A 25 00", b"F 5 A 00 00", b"F 4 A 25 0", b"F 4 C 25 0", b"V 5 A accept", b"R 5 A 1 -\r"),
-    *(b"F 1000000000000000 A 1 -", b"F 1000000000000001 A 1 -", b"F 1000000000000001 A 25 0", b"F 5 A 1 aAfF"),
+    b"\0", b"F\0 5 A 1 00", b"\xef\xbb\xbfF 5 A 1 00", b"F 5 A 1 00\r\r", b"\r\r", b"\rF 5 A 1 00",
+    b" # x", b"F 5 A 1 00 ", b" F 5 A 1 00", b"F  5 A 1 00", b"F\t5 A 1 00", b"f 5 A 1 00",
+    b"F 5 a 1 00", b"FF 5 A 1 00", b"F +5 A 1 00", b"F 0x5 A 1 00", b"F 5. A 1 00", b"F 5e0 A 1 00",
+    b"F 5_0 A 1 00", b"F \xd9\xa5 A 1 00", b"F 5 A 1.0 00", b"F 5 A +1 00", b"F 5 AB 1 00",
+    b"F 5 A 1 0X", b"F 5 A 1 0x00", b"F 5 A 1 -0", b"F 5 A 1 --", b"F 5 A 1 \xff\xff",
+    b"F 5 A 1 00\0", b"F 5 A 1 0\r", b"F 5 A 1", b"F 5 A 1 ", b"F", b"R 5 A 24 -", b"B 5 A 1 -",
+    b"F 5 A 24 00", b"F 5 A 25 00", b"F 5 A 00 00", b"F 4 A 25 0", b"F 4 C 25 0", b"V 5 A accept",
+    b"R 5 A 1 -\r", b"F 1000000000000000 A 1 -", b"F 1000000000000001 A 1 -",
+    b"F 1000000000000001 A 25 0", b"F 5 A 1 aAfF",
 ]
 ODD_MESSAGES = [
-    *(b"\0", b"5\0 1 1 1000 61", b"\xef\xbb\xbf5 1 1 1000 61", b"5 1 1 1000 61\r\r", b"\r\r", b" # x", b"5 1 1 1000 61 "),
-    *(b"5  1 1 1000 61", b"+5 1 1 1000 61", b"5 -1 1 1000 61", b"5 1 1 65536 61", b"5 65536 1 1000 61", b"5 1 256 1000 61"),
-    *(b"5 65535 255 65535 61", b"5 1 0 1000 61", b"5 1 1 0 61", b"5 1 1 1000 6", b"5 1 1 1000 6g", b"5 1 1 1000"),
-    *(b"4 1 1 65536 6", b"4 1 1 1000 6", b"1000000000000001 1 1 1000 6", b"1000000000000001 1 1 65536 6", b"5 1 1 1000 --"),
-    *(b"R 5 A 1 00", b"5 1 1 1000 -", b"5 1 1 1000 61\r", b"5 1 1 1000 0\r", b"5 1.0 1 1000 61", b"5 1 1 1000 \xff\xff"),
+    b"\0", b"5\0 1 1 1000 61", b"\xef\xbb\xbf5 1 1 1000 61", b"5 1 1 1000 61\r\r", b"\r\r", b" # x",
+    b"5 1 1 1000 61 ", b"5  1 1 1000 61", b"+5 1 1 1000 61", b"5 -1 1 1000 61", b"5 1 1 65536 61",
+    b"5 65536 1 1000 61", b"5 1 256 1000 61", b"5 65535 255 65535 61", b"5 1 0 1000 61",
+    b"5 1 1 0 61", b"5 1 1 1000 6", b"5 1 1 1000 6g", b"5 1 1 1000", b"4 1 1 65536 6",
+    b"4 1 1 1000 6", b"1000000000000001 1 1 1000 6", b"1000000000000001 1 1 65536 6",
+    b"5 1 1 1000 --", b"R 5 A 1 00", b"5 1 1 1000 -", b"5 1 1 1000 61\r", b"5 1 1 1000 0\r",
+    b"5 1.0 1 1000 61", b"5 1 1 1000 \xff\xff",
 ]
 
 
@@ -198,23 +222,36 @@ def odd_lines(command: Command) -> None:
     """Lines that are nearly right, first, later, and last without a line feed."""
     good = b"F 5 A 1 %s\n" % H1 if command.is_frames else b"5 1 1 1000 61\n"
     for line in ODD_FRAMES if command.is_frames else ODD_MESSAGES:
-        for given in (line, line + b"\n", good + line, good + line + b"\n" + good, b"\n#\n\r\n" + line + b"\r\n" + good):
+        for given in (
+            line,
+            line + b"\n",
+            good + line,
+            good + line + b"\n" + good,
+            b"\n#\n\r\n" + line + b"\r\n" + good,
+        ):
             command.is_told(given)
 
 
 def long_numbers(command: Command) -> None:
     """Numbers of 1 to 5,000 digits in each field."""
-    fields = [b"R", b"0", b"A", b"1", b"-"] if command.is_frames else [b"0", b"1", b"1", b"1000", b"61"]
+    fields = (
+        [b"R", b"0", b"A", b"1", b"-"] if command.is_frames else [b"0", b"1", b"1", b"1000", b"61"]
+    )
     places = (1, 3) if command.is_frames else (0, 1, 2, 3)
     around = sum(map(len, fields)) + 4
     for place in places:
         lines = []
         for count in range(0, 4201 - around):
-            lines.append(b" ".join([*fields[:place], b"0" * count + fields[place], *fields[place + 1 :]]))
+            lines.append(
+                b" ".join([*fields[:place], b"0" * count + fields[place], *fields[place + 1 :]])
+            )
         found = command.is_told(b"\n".join(lines) + b"\n")
         must(found.status == 0 and len(lines[-1]) == 4200, f"status {found.status}")
         if command.is_frames:
-            must(found.out.count(b"too-short") == len(lines), "a line with zeros before a number is not read")
+            must(
+                found.out.count(b"too-short") == len(lines),
+                "a line with zeros before a number is not read",
+            )
         for count in [*range(1, 41), 64, 65, 100, 1000, 4000, *range(4185, 4201), 5000]:
             for digit in (b"1", b"9"):
                 odd = [*fields[:place], digit * count, *fields[place + 1 :]]
@@ -255,17 +292,29 @@ def large_configs() -> list[tuple[str, bytes, bytes]]:
         ("arrays in arrays, open", head + b"x = " + b"[" * room, b"NotToml"),
         ("arrays in arrays", head + b"x = " + b"[" * (room // 2) + b"]" * (room // 2), b"NotToml"),
         ("tables in tables, open", head + b"x = " + b"{a=" * (room // 3), b"NotToml"),
-        ("tables in tables", head + b"x = " + b"{a=" * (room // 4) + b"1" + b"}" * (room // 4), b"NotToml"),
+        (
+            "tables in tables",
+            head + b"x = " + b"{a=" * (room // 4) + b"1" + b"}" * (room // 4),
+            b"NotToml",
+        ),
         ("a key of many parts", head + b"x" + b".x" * (room // 2) + b" = 1", b"NotToml"),
         ("a head of many parts", head + b"[x" + b".x" * (room // 2) + b"]", b"NotToml"),
         ("100,000 keys", head + b"\n".join(keys), b"UnknownKey top 0 key 0"),
         ("100,000 keys in a table", head + known + b"\n".join(keys), b"UnknownKey system 1 key 0"),
-        ("100,000 keys in a table in a line", head + b"system = [{" + b", ".join(keys) + b"}]", b"Missing system 1 key 1"),
+        (
+            "100,000 keys in a table in a line",
+            head + b"system = [{" + b", ".join(keys) + b"}]",
+            b"Missing system 1 key 1",
+        ),
         ("100,000 systems", head + systems, b"OutOfRange top 0 key 3"),
         ("300,000 receivers", head + known + link + names + b"]\n", b"OutOfRange link 1 key 3"),
         ("a long text", head + b'x = "' + b"a" * room + b'"', b"UnknownKey top 0 key 0"),
         ("a long text, open", head + b'x = "' + b"a" * room, b"NotToml"),
-        ("a long name", head + b'[[system]]\nname = "' + b"a" * (room - 20) + b'"', b"OutOfRange system 1 key 1"),
+        (
+            "a long name",
+            head + b'[[system]]\nname = "' + b"a" * (room - 20) + b'"',
+            b"OutOfRange system 1 key 1",
+        ),
         ("a long number", head + b"x = " + b"1" * room, b"NotToml"),
         ("zeros before a number", b"profile = 1\nbuffer = " + b"0" * room + b"252\n", b"NotToml"),
         ("bytes of zero", b"\0" * most, b"NotToml"),
@@ -309,7 +358,11 @@ def long_words(program: Program) -> None:
 def try_all(cases: Cases, program: Program) -> None:
     """All cases."""
     base, commands = made.example("base.toml"), commands_of(program)
-    frames = b"F 0 A 1 %s\r\n# a remark\n\nF 0 A 1 %s\nR 1000000 A 1 %s" % (H1, H1, sealed(HELLO).hex().encode())
+    frames = b"F 0 A 1 %s\r\n# a remark\n\nF 0 A 1 %s\nR 1000000 A 1 %s" % (
+        H1,
+        H1,
+        sealed(HELLO).hex().encode(),
+    )
     messages = [Message(0, 1, 1, 1000, b"first"), Message(7, 1, 2, 1000, bytes(range(17)))]
     messages.append(Message(10**7, 1, 1, 1000, b"x"))
     all_cases: list[tuple] = [("beginnings of a frame", frame_beginnings, program.apart())]
@@ -320,9 +373,13 @@ def try_all(cases: Cases, program: Program) -> None:
         all_cases.append((name, config_beginnings, program, base, part, 4))
     for name, command in commands.items():
         if command.is_frames:
-            all_cases.append((f"{name}: beginnings of a list", frame_list_beginnings, command, frames))
+            all_cases.append(
+                (f"{name}: beginnings of a list", frame_list_beginnings, command, frames)
+            )
         else:
-            all_cases.append((f"{name}: beginnings of a list", submission_list_beginnings, command, messages))
+            all_cases.append(
+                (f"{name}: beginnings of a list", submission_list_beginnings, command, messages)
+            )
         all_cases.append((f"{name}: the longest lines", longest_lines, command))
         all_cases.append((f"{name}: odd lines", odd_lines, command))
         all_cases.append((f"{name}: long numbers", long_numbers, command))

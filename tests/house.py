@@ -7,9 +7,9 @@
 - Each crate has its row in README and in docs/ARCHITECTURE.md, which names each of its files of
   definitions.
 - Each must-fail edit finds the text that it changes, once.
-- Each source file says at its head what it is; lines of definitions, of contracts and of code have
-  at most 100 columns, those of proofs at most 140; imports may be wider, and the tables of numbers
-  in afdx_frame/src/tables.rt.
+- Each source file says at its head what it is; lines of definitions, of contracts, of code and of
+  scripts have at most 100 columns, those of proofs at most 140; imports may be wider, and the
+  tables of numbers in afdx_frame/src/tables.rt.
 
 Prints a line for each fault, then `N passed, M failed`; ends with status 1 if there is one.
 """
@@ -23,6 +23,8 @@ DOCUMENTS = ["README.md", "docs/PROMISES.md", "docs/ARCHITECTURE.md", "docs/DEVE
 COLUMNS = 100
 PROOF_COLUMNS = 140
 NUMBERS = CRATES / "afdx_frame/src/tables.rt"
+SCRIPTS = ["tests/**/*.py", "tests/**/*.sh", "tests/*.c", "examples/*.py"]
+SCRIPTS += ["bench/*", "bin/*", "tools/*", ".ci/*"]
 
 
 def text_of(path: pathlib.Path) -> str:
@@ -46,7 +48,8 @@ def crate_names() -> list[str]:
 def known_words() -> set[str]:
     """All words of the sources, and the names of files and folders."""
     words: set[str] = set()
-    for path in sources("crates/**/*.rt", "crates/**/*.antt", "crates/*/must-fail/*", "tests/*", "bench/*", "tools/*", "bin/*", "examples/*.toml"):
+    named = ["crates/**/*.rt", "crates/**/*.antt", "crates/*/must-fail/*", "tests/*", "bench/*"]
+    for path in sources(*named, "tools/*", "bin/*", "examples/*.toml"):
         if path.is_file():
             words.update(re.findall(r"\w+", text_of(path)))
             words.update(re.findall(r"\w+", str(path.relative_to(TOP))))
@@ -116,10 +119,10 @@ def is_import(line: str) -> bool:
     return re.match(r"\s*(pub )?(ghost )?use ", line) is not None
 
 
-def wide_lines(pattern: str, most: int) -> list[str]:
+def wide_lines(most: int, *patterns: str) -> list[str]:
     faults = []
-    for path in sources(pattern):
-        if path == NUMBERS:
+    for path in sources(*patterns):
+        if path == NUMBERS or not path.is_file():
             continue
         for number, line in enumerate(text_of(path).splitlines(), 1):
             if len(line) > most and not is_import(line):
@@ -141,9 +144,10 @@ def main() -> int:
         "rows of crates": missing_rows(),
         "must-fail edits": wrong_edits(),
         "heads of source files": headless(),
-        "columns of definitions": wide_lines("crates/*/specs/*.antt", COLUMNS),
-        "columns of code": wide_lines("crates/*/src/**/*.rt", COLUMNS),
-        "columns of proofs": wide_lines("crates/*/proofs/**/*.antt", PROOF_COLUMNS),
+        "columns of definitions": wide_lines(COLUMNS, "crates/*/specs/*.antt"),
+        "columns of code": wide_lines(COLUMNS, "crates/*/src/**/*.rt"),
+        "columns of proofs": wide_lines(PROOF_COLUMNS, "crates/*/proofs/**/*.antt"),
+        "columns of scripts": wide_lines(COLUMNS, *SCRIPTS),
     }
     for name, faults in checks.items():
         print(f"{'FAILED' if faults else 'ok'} {name}")

@@ -2,8 +2,8 @@
 
     tests/odd_recordings.py FOLDER HEX
 
-FOLDER/big.pcapng   high byte first, two interfaces with times in ns and in 2^-20 s, an offset of 5 s
-                    on both, 4 bytes of check sequence said by one
+FOLDER/big.pcapng   high byte first, two interfaces with times in ns and in 2^-20 s, an offset of
+                    5 s on both, 4 bytes of check sequence said by one
 FOLDER/big.pcap     high byte first, times in us
 FOLDER/cut.pcap     the second frame was cut
 FOLDER/wifi.pcap    not Ethernet

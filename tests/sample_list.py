@@ -4,9 +4,9 @@
     tests/sample_list.py CONFIG [--ms N] [--seed N] [--sound] >sample.list
 
 Each system sends on each of its links about once in a BAG, at most one frame at a time on its line,
-on both sides; side B is a little late. Unless --sound is given, a link babbles for a while, some check
-sequences are wrong, some copies are missing on one side, one system uses another's link, and some
-frames name no link. The same words give the same list.
+on both sides; side B is a little late. Unless --sound is given, a link babbles for a while, some
+check sequences are wrong, some copies are missing on one side, one system uses another's link, and
+some frames name no link. The same words give the same list.
 """
 from __future__ import annotations
 

@@ -3,13 +3,13 @@
 
     tests/streams.py PROGRAM
 
-What `send` writes is compared byte for byte with frames and times that tests/calling computes apart from the
-program. Its replay must accept every frame, lose none, and deliver each message once and in order to each
-system that has a port for it. Tried are messages of every length, numbers that go round, all systems of
-examples/network.toml at once, strangers under the links' names, a side that dies or is late, long lists, how
-much memory they take, and the largest tables. Prints `ok NAME` or `FAILED NAME` for each case, then
-`N passed, M failed`; ends with status 1 if a case failed. Needs Python 3, and for examples/network.toml
-Python 3.11.
+What `send` writes is compared byte for byte with frames and times that tests/calling computes apart
+from the program. Its replay must accept every frame, lose none, and deliver each message once and
+in order to each system that has a port for it. Tried are messages of every length, numbers that go
+round, all systems of examples/network.toml at once, strangers under the links' names, a side that
+dies or is late, long lists, how much memory they take, and the largest tables. Prints `ok NAME` or
+`FAILED NAME` for each case, then `N passed, M failed`; ends with status 1 if a case failed. Needs
+Python 3, and for examples/network.toml Python 3.11.
 """
 from __future__ import annotations
 
@@ -20,10 +20,13 @@ import sys
 sys.dont_write_bytecode = True
 sys.path.insert(0, os.path.join(os.path.dirname(os.path.abspath(__file__)), "calling"))
 import tables as made  # noqa: E402
-from delivery import bounds_of, check_all_accepted, check_delivered, lines_to, renumbered, told_pairs  # noqa: E402
+from delivery import bounds_of, check_all_accepted, check_delivered  # noqa: E402
+from delivery import lines_to, renumbered, told_pairs  # noqa: E402
 from frames import frame_of, number_of, slot  # noqa: E402
 from program import Cases, Program, answers, main_of, must, same_text  # noqa: E402
 from sender import Message, emissions, list_sent, submission_list  # noqa: E402
+from traffic import late, merged, payloads_read, random_messages  # noqa: E402
+from traffic import stream_of, strangers  # noqa: E402
 
 MS = 1_000_000
 REPLAYS = (["replay"], ["replay", "--no-admission"])
@@ -107,47 +110,14 @@ def beside_a_babbler(program: Program, profile: int) -> None:
     told = told_pairs(tables, emissions(tables, "s1", messages), 3, first=101)
     first, rest = told[: told.index(b"V 103")], told[told.index(b"V 103") :]
     left = b"D 1 20160 A 3\nM 20160 s3 2 776f726c64\n"
-    same_text("the replay", b"".join(wanted) + first + left + rest, replayed(program, tables, babble * 100 + text))
+    same_text(
+        "the replay",
+        b"".join(wanted) + first + left + rest,
+        replayed(program, tables, babble * 100 + text),
+    )
 
 
 # ---- all systems at once -------------------------------------------------------------------------
-
-
-def random_messages(tables: dict, name: str, count: int, chance: random.Random) -> list[Message]:
-    """Messages of all links of a system, in bursts and with pauses; most to a configured UDP port."""
-    messages = []
-    for link in tables["link"]:
-        if link["from"] != name:
-            continue
-        udps = [row["udp"] for row in tables["port"] if row["link"] == link["vl"]] or [7]
-        time = chance.randrange(2 * MS)
-        for place in range(count):
-            size = chance.choice([1, link["lmax"] - 47, chance.randint(1, link["lmax"] - 47)])
-            payload = (b"%d.%d " % (link["vl"], place) + chance.randbytes(size))[:size]
-            udp = chance.choice(udps) if chance.random() < 0.95 else 7
-            messages.append(Message(time, link["vl"], chance.randint(1, link["subs"]), udp, payload))
-            time += chance.choice([0, 1, 500_000, 1, 2, 4]) * chance.choice([1, MS // 2, MS]) * link["bag_ms"] // 2
-    return sorted(messages, key=lambda message: message.time)
-
-
-def merged(lists: list[bytes]) -> bytes:
-    """One list of the lines of all, by time."""
-    lines = [line for text in lists for line in text.splitlines(keepends=True)]
-    return b"".join(sorted(lines, key=lambda line: int(line.split(b" ")[1])))
-
-
-def strangers(tables: dict, end: int, count: int, chance: random.Random) -> bytes:
-    """Frames under the links' names that come in at other systems' ports, or where no system is."""
-    lines = []
-    for place in range(count):
-        link = chance.choice(tables["link"])
-        sender = made.system_named(tables, link["from"])
-        port = chance.choice([port for port in range(1, 25) if port != sender["port"]])
-        payload = chance.randbytes(chance.randint(1, link["lmax"] - 47))
-        side, least = chance.choice("AB"), link["lmin"]
-        frame = frame_of(sender, link["vl"], 1000, payload, number_of(place), side, least)
-        lines.append(b"R %d %s %d %s\n" % (chance.randrange(end), side.encode(), port, frame.hex().encode()))
-    return b"".join(lines)
 
 
 def every_system(program: Program, tables: dict, count: int) -> None:
@@ -167,50 +137,39 @@ def every_system(program: Program, tables: dict, count: int) -> None:
     mixed, places = lines_to(text, others)
     wrong, rest = renumbered(replayed(program, tables, mixed), places)
     must(len(wrong) == 2000, f"{len(wrong)} of the strangers' frames have a verdict")
-    must(all(line.endswith(b" drop wrong-port") for line in wrong), "a stranger's frame is not dropped")
+    must(
+        all(line.endswith(b" drop wrong-port") for line in wrong),
+        "a stranger's frame is not dropped",
+    )
     same_text("the replay with strangers", out, rest)
 
 
 # ---- a side that fails ---------------------------------------------------------------------------
 
 
-def stream_of(tables: dict, gap: int, count: int) -> tuple[list[Message], list[bytes]]:
-    """Messages of link 1 with a gap between them, and what is sent."""
-    messages = [Message(k * gap, 1, 1, 1000, b"%d" % k) for k in range(count)]
-    return messages, list_sent(tables, "s1", messages).splitlines(keepends=True)
-
-
-def payloads_read(out: bytes) -> list[bytes]:
-    """The messages of the M lines, in order."""
-    lines = (line.split(b" ") for line in out.splitlines())
-    return [bytes.fromhex(words[4].decode()) for words in lines if words[0] == b"M"]
-
-
 def one_side(program: Program, profile: int) -> None:
-    """A side dies, is away for a while, or loses every other frame: each message is still read once, in order."""
+    """A side dies, is away for a while, or loses every other frame: each message is still read
+    once, in order."""
     tables = made.base_tables(profile)
     messages, lines = stream_of(tables, MS, 600)
     wanted = [message.payload for message in messages]
     for side in (b"A", b"B"):
         for away in (range(300, 600), range(0, 300), range(200, 460), range(1, 600, 2)):
-            kept = [line for n, line in enumerate(lines) if n // 2 not in away or line.split(b" ")[2] != side]
+            kept = [
+                line
+                for n, line in enumerate(lines)
+                if n // 2 not in away or line.split(b" ")[2] != side
+            ]
             found = payloads_read(replayed(program, tables, b"".join(kept)))
-            must(found == wanted, f"side {side.decode()} is away for {away}: {len(found)} messages are read")
-
-
-def late(lines: list[bytes], side: bytes, delay: int) -> bytes:
-    """The lines with those of one side later by so much."""
-    moved = []
-    for line in lines:
-        words = line.split(b" ")
-        if words[2] == side:
-            words[1] = b"%d" % (int(words[1]) + delay)
-        moved.append(b" ".join(words))
-    return merged(moved)
+            must(
+                found == wanted,
+                f"side {side.decode()} is away for {away}: {len(found)} messages are read",
+            )
 
 
 def late_side(program: Program, profile: int, skew_us: int, gap: int) -> None:
-    """One side is late by up to the skew: each message is read once. A ns later each is read twice."""
+    """One side is late by up to the skew: each message is read once. A ns later each is read
+    twice."""
     tables = made.base_tables(profile)
     tables["link"][0]["skew_us"] = skew_us
     messages, lines = stream_of(tables, gap, 300)
@@ -218,14 +177,21 @@ def late_side(program: Program, profile: int, skew_us: int, gap: int) -> None:
     for side in (b"A", b"B"):
         for delay in (1, 16_999, skew_us * 1000 - 1, skew_us * 1000):
             found = payloads_read(replayed(program, tables, late(lines, side, delay)))
-            must(found == wanted, f"side {side.decode()} is late by {delay} ns: {len(found)} messages are read")
+            must(
+                found == wanted,
+                f"side {side.decode()} is late by {delay} ns: {len(found)} messages are read",
+            )
     if gap > skew_us * 1000 + 1:
         found = payloads_read(replayed(program, tables, late(lines, b"B", skew_us * 1000 + 1)))
-        must(found == [one for one in wanted for _ in "AB"], "copies beyond the skew are not read again")
+        must(
+            found == [one for one in wanted for _ in "AB"],
+            "copies beyond the skew are not read again",
+        )
 
 
 def late_in_the_switch(program: Program) -> None:
-    """Switch B alone is busy: each copy there waits for a long frame that began a ns before it came."""
+    """Switch B alone is busy: each copy there waits for a long frame that began a ns before it
+    came."""
     tables = made.base_tables()
     tables["buffer"] = 4096
     tables["link"][0] |= {"latency_us": 134, "skew_us": 134}
@@ -237,9 +203,13 @@ def late_in_the_switch(program: Program) -> None:
         busy.append(b"R %d B 2 %s\n" % (k * MS + 6719, frame.hex().encode()))
         long, first, copy, told = 3 * k + 1, 3 * k + 2, 3 * k + 3, (b"%d" % k).hex().encode()
         wanted.append(b"V %d B accept\nV %d A accept\nV %d B accept\n" % (long, first, copy))
-        wanted.append(b"D %d %d A 3\nM %d s3 1 %s\n" % (first, k * MS + 13440, k * MS + 13440, told))
+        wanted.append(
+            b"D %d %d A 3\nM %d s3 1 %s\n" % (first, k * MS + 13440, k * MS + 13440, told)
+        )
         end = k * MS + 6719 + 123040
-        wanted.append(b"D %d %d B 3\nM %d s3 2 %s\n" % (long, end, end, letters(1471).hex().encode()))
+        wanted.append(
+            b"D %d %d B 3\nM %d s3 2 %s\n" % (long, end, end, letters(1471).hex().encode())
+        )
         wanted.append(b"D %d %d B 3\nX %d s3 %d redundant\n" % (copy, end + 6720, end + 6720, copy))
     same_text("the replay", b"".join(wanted), replayed(program, tables, merged(lines + busy)))
 
@@ -270,7 +240,8 @@ def long_stream(program: Program, count: int) -> None:
 
 
 def least_memory(program: Program, words: list[str]) -> int:
-    """The least address space, in KiB and to the nearest 64, in which the run doesn't want memory."""
+    """The least address space, in KiB and to the nearest 64, in which the run doesn't want
+    memory."""
     low, high = 0, 1 << 20
     while high - low > 64:
         middle = (low + high) // 2
@@ -309,7 +280,10 @@ def largest(program: Program) -> None:
     lists, sent = [], []
     for system in tables["system"]:
         own = [link for link in tables["link"] if link["from"] == system["name"]]
-        messages = [Message(0, link["vl"], 1 + link["vl"] % 4, 1000 + link["vl"], b"%d" % link["vl"]) for link in own]
+        messages = [
+            Message(0, link["vl"], 1 + link["vl"] % 4, 1000 + link["vl"], b"%d" % link["vl"])
+            for link in own
+        ]
         lists.append(sent_by(program, tables, system["name"], messages))
         sent += emissions(tables, system["name"], messages)
     text = merged(lists)
@@ -344,15 +318,30 @@ def largest_one_frame(program: Program) -> None:
 def try_all(cases: Cases, program: Program) -> None:
     """All cases."""
     cases.try_case("messages of every length", every_length, program, 64)
-    cases.try_case("messages of every length, with a least length of 300", every_length, program, 300)
+    cases.try_case(
+        "messages of every length, with a least length of 300", every_length, program, 300
+    )
     cases.try_case("numbers that go round", round_and_round, program, 1, 100, 300)
-    cases.try_case("numbers that go round thrice, profile 2", round_and_round, program, 2, 1000, 800)
+    cases.try_case(
+        "numbers that go round thrice, profile 2", round_and_round, program, 2, 1000, 800
+    )
     cases.try_case("full queues", bursts, program)
     for profile in (1, 2):
-        cases.try_case(f"four messages beside a babbler, profile {profile}", beside_a_babbler, program, profile)
+        cases.try_case(
+            f"four messages beside a babbler, profile {profile}", beside_a_babbler, program, profile
+        )
         cases.try_case(f"a side that is away, profile {profile}", one_side, program, profile)
-        cases.try_case(f"a side that is late, profile {profile}", late_side, program, profile, 1000, 3 * MS)
-        cases.try_case(f"a side that is late by many frames, profile {profile}", late_side, program, profile, 100_000, MS)
+        cases.try_case(
+            f"a side that is late, profile {profile}", late_side, program, profile, 1000, 3 * MS
+        )
+        cases.try_case(
+            f"a side that is late by many frames, profile {profile}",
+            late_side,
+            program,
+            profile,
+            100_000,
+            MS,
+        )
     cases.try_case("a side whose switch is busy", late_in_the_switch, program)
     if made.tomllib is None:
         print("skipped network.toml: it needs Python 3.11")

@@ -8,7 +8,8 @@ from program import must
 
 
 def told_pairs(tables: dict, sent: list[Sent], port: int, first: int = 1) -> bytes:
-    """The replay of one link's emissions, each frame before its copy, to one idle port that reads them all.
+    """The replay of one link's emissions, each frame before its copy, to one idle port that reads
+    them all.
 
     `first` is the number of the first line.
     """
@@ -32,9 +33,11 @@ def bounds_of(told: bytes) -> dict[tuple[int, str], int]:
     return bounds
 
 
-def check_all_accepted(tables: dict, bounds: dict[tuple[int, str], int], text: bytes, out: bytes) -> None:
-    """Each frame of the list is accepted, and each of its copies leaves once, within the port's bound and the
-    link's latency."""
+def check_all_accepted(
+    tables: dict, bounds: dict[tuple[int, str], int], text: bytes, out: bytes
+) -> None:
+    """Each frame of the list is accepted, and each of its copies leaves once, within the port's
+    bound and the link's latency."""
     links = {link["vl"]: link for link in tables["link"]}
     ports = {system["name"]: system["port"] for system in tables["system"]}
     waiting = {}
@@ -48,7 +51,10 @@ def check_all_accepted(tables: dict, bounds: dict[tuple[int, str], int], text: b
         must(words[0] in (b"V", b"D", b"M", b"X"), f"a line is {line!r}")
         if words[0] == b"V":
             accepted += 1
-            must(words[1:] == [b"%d" % accepted, waiting[accepted][1], b"accept"], f"a verdict is {line!r}")
+            must(
+                words[1:] == [b"%d" % accepted, waiting[accepted][1], b"accept"],
+                f"a verdict is {line!r}",
+            )
         elif words[0] == b"D":
             time, side, link = waiting[int(words[1])]
             stay, port = int(words[2]) - time, int(words[4])
@@ -58,7 +64,10 @@ def check_all_accepted(tables: dict, bounds: dict[tuple[int, str], int], text: b
             left[int(words[1])].add(port)
     must(accepted == len(waiting), f"{accepted} of {len(waiting)} frames have a verdict")
     for number, (_, _, link) in waiting.items():
-        must(left[number] == {ports[name] for name in link["to"]}, f"line {number} left ports {left[number]}")
+        must(
+            left[number] == {ports[name] for name in link["to"]},
+            f"line {number} left ports {left[number]}",
+        )
 
 
 def check_delivered(tables: dict, sent: list[Sent], out: bytes) -> None:
@@ -78,7 +87,8 @@ def check_delivered(tables: dict, sent: list[Sent], out: bytes) -> None:
             of_link = by_link.get(link["vl"], [])
             wanted = [one.payload for one in of_link if (name, one.vl, one.udp) in open_ports]
             found = read.pop((name, link["vl"]), [])
-            must(found == wanted, f"{name} reads {len(found)} messages of link {link['vl']} in place of {len(wanted)}")
+            of_what = f"messages of link {link['vl']} in place of {len(wanted)}"
+            must(found == wanted, f"{name} reads {len(found)} {of_what}")
     must(not read, f"messages are read where none are sent: {sorted(read)[:5]}")
 
 
@@ -87,11 +97,14 @@ def lines_to(text: bytes, others: bytes) -> tuple[bytes, list[int]]:
     lines = [(int(line.split(b" ")[1]), 1, line) for line in text.splitlines(keepends=True)]
     lines += [(int(line.split(b" ")[1]), 0, line) for line in others.splitlines(keepends=True)]
     lines.sort(key=lambda entry: entry[:2])
-    return b"".join(line for _, _, line in lines), [n for n, entry in enumerate(lines, 1) if entry[1] == 1]
+    return b"".join(line for _, _, line in lines), [
+        n for n, entry in enumerate(lines, 1) if entry[1] == 1
+    ]
 
 
 def renumbered(out: bytes, places: list[int]) -> tuple[list[bytes], bytes]:
-    """The lines on all other frames, and the rest with the numbers that its frames have without them."""
+    """The lines on all other frames, and the rest with the numbers that its frames have without
+    them."""
     numbers = {b"%d" % old: b"%d" % new for new, old in enumerate(places, 1)}
     others, rest = [], []
     for line in out.splitlines():

@@ -1,4 +1,5 @@
-"""The first fault of a configuration and of a list, by the orders of docs/FORMATS.md, apart from the program."""
+"""The first fault of a configuration and of a list, by the orders of docs/FORMATS.md, apart from
+the program."""
 from __future__ import annotations
 
 import re
@@ -18,7 +19,13 @@ KEYS = {
 MOST_ROWS = {"system": 24, "link": 4096, "port": 4096}
 TEXTS = ("name", "from", "priority", "policing", "kind")
 RANGES = {
-    **{"port": (1, 24), "id": (0, 65535), "partition": (0, 255), "vl": (0, 65535), "lmin": (64, 1518)},
+    **{
+        "port": (1, 24),
+        "id": (0, 65535),
+        "partition": (0, 255),
+        "vl": (0, 65535),
+        "lmin": (64, 1518),
+    },
     **{"latency_us": (1, 100000), "skew_us": (1, 100000), "subs": (1, 4), "udp": (1, 65535)},
 }
 
@@ -40,7 +47,12 @@ def is_of_kind(part: str, key: str, value: object) -> bool:
 def in_range(tables: dict, part: str, row: dict, key: str) -> bool:
     """The value, of its kind, is in its range."""
     value = row[key]
-    lower = {"name": r"[A-Za-z0-9]{1,16}", "priority": "high|low", "policing": "byte|frame", "kind": "sampling|queuing"}
+    lower = {
+        "name": r"[A-Za-z0-9]{1,16}",
+        "priority": "high|low",
+        "policing": "byte|frame",
+        "kind": "sampling|queuing",
+    }
     if key in lower:
         return re.fullmatch(lower[key], value) is not None
     if key == "to":

@@ -1,4 +1,5 @@
-"""Frames by the layout of docs/FORMATS.md, and lists of them. Nothing is taken from the program or its tools."""
+"""Frames by the layout of docs/FORMATS.md, and lists of them. Nothing is taken from the program or
+its tools."""
 from __future__ import annotations
 
 import zlib

@@ -68,7 +68,9 @@ class Program:
     def run_limited(self, room: int, *words: str) -> Answer:
         """One run in an address space of so many KiB."""
         limited = ["sh", "-c", 'ulimit -v "$0" && exec "$@"', str(room), self.path, *words]
-        done = subprocess.run(limited, capture_output=True, cwd=self.folder, timeout=LONGEST, check=False)
+        done = subprocess.run(
+            limited, capture_output=True, cwd=self.folder, timeout=LONGEST, check=False
+        )
         return Answer(done.returncode, done.stdout, done.stderr)
 
 
@@ -121,7 +123,8 @@ class Cases:
             print(text + (f" ({took:.0f} s)" if took >= 2 and not fault else ""), flush=True)
 
     def try_at_once(self, cases: list[tuple]) -> None:
-        """So many cases at a time as there are processors; each is a name, a case, and what it is given."""
+        """So many cases at a time as there are processors; each is a name, a case, and what it is
+        given."""
         with ThreadPoolExecutor(os.cpu_count()) as pool:
             for future in [pool.submit(self.try_case, *case) for case in cases]:
                 future.result()

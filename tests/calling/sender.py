@@ -1,7 +1,8 @@
 """What a sending end system does with submissions, computed apart from the program.
 
-A link's oldest message of the next sub-VL is released a BAG or more after the link's last release, from
-its submission on; released frames leave one after the other, in order of release and of the links' places.
+A link's oldest message of the next sub-VL is released a BAG or more after the link's last release,
+from its submission on; released frames leave one after the other, in order of release and of the
+links' places.
 """
 from __future__ import annotations
 
@@ -56,7 +57,9 @@ def emissions(tables: dict, name: str, messages: list[Message]) -> list[Sent]:
     free, sent = 0, []
     for time, place, count, m in sorted(all_released):
         least, number = tables["link"][place]["lmin"], number_of(count)
-        frame = {side: frame_of(system, m.vl, m.udp, m.payload, number, side, least) for side in "AB"}
+        frame = {
+            side: frame_of(system, m.vl, m.udp, m.payload, number, side, least) for side in "AB"
+        }
         free = max(free, time) + slot(frame["A"], system)
         sent.append(Sent(free, m.vl, m.udp, m.payload, frame["A"], frame["B"]))
     return sent

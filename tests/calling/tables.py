@@ -26,9 +26,12 @@ def system_of(port: int, rate: int = 100) -> dict:
 
 def base_tables(profile: int = 1, rate: int = 100) -> dict:
     """The tables of examples/base.toml: link 1 of s1, high, and link 2 of s2, low, both to s3."""
-    link = {"bag_ms": 1, "lmin": 64, "lmax": 64, "jitter_us": 500, "policing": "frame", "skew_us": 1000}
-    first = {"vl": 1, "from": "s1", "to": ["s3"], **link, "priority": "high", "latency_us": 17, "subs": 2}
-    second = {"vl": 2, "from": "s2", "to": ["s3"], **link, "priority": "low", "latency_us": 21, "subs": 1}
+    link = {"bag_ms": 1, "lmin": 64, "lmax": 64, "jitter_us": 500, "policing": "frame"}
+    link |= {"skew_us": 1000}
+    first = {"vl": 1, "from": "s1", "to": ["s3"], **link, "priority": "high"}
+    first |= {"latency_us": 17, "subs": 2}
+    second = {"vl": 2, "from": "s2", "to": ["s3"], **link, "priority": "low"}
+    second |= {"latency_us": 21, "subs": 1}
     return {
         "profile": profile,
         "buffer": 252,
@@ -52,18 +55,23 @@ def long_tables(profile: int = 1, rate: int = 100) -> dict:
 
 
 def largest_tables() -> dict:
-    """24 systems, 4,096 links each to all others, 4,096 communication ports; admitted, by 1 Gbit/s and long BAGs."""
+    """24 systems, 4,096 links each to all others, 4,096 communication ports; admitted, by 1 Gbit/s
+    and long BAGs."""
     systems = [system_of(port, 1000) for port in range(1, 25)]
     names = [system["name"] for system in systems]
     links, ports = [], []
     for vl in range(4096):
         sender = names[vl % 24]
-        link = {"vl": vl, "from": sender, "to": [name for name in names if name != sender], "bag_ms": 128}
-        link |= {"lmin": 64, "lmax": 64, "jitter_us": 500, "priority": ["high", "low"][vl // 24 % 2]}
-        link |= {"policing": ["byte", "frame"][vl // 48 % 2], "latency_us": 10000, "skew_us": 10000, "subs": 4}
+        to = [name for name in names if name != sender]
+        link = {"vl": vl, "from": sender, "to": to, "bag_ms": 128, "lmin": 64, "lmax": 64}
+        link |= {"jitter_us": 500, "priority": ["high", "low"][vl // 24 % 2]}
+        link |= {"policing": ["byte", "frame"][vl // 48 % 2], "latency_us": 10000}
+        link |= {"skew_us": 10000, "subs": 4}
         links.append(link)
         reader = names[(vl + 1 + vl // 24 % 23) % 24]
-        ports.append({"system": reader, "link": vl, "udp": 1000 + vl, "kind": "sampling", "depth": 1})
+        ports.append(
+            {"system": reader, "link": vl, "udp": 1000 + vl, "kind": "sampling", "depth": 1}
+        )
     return {"profile": 2, "buffer": 524288, "system": systems, "link": links, "port": ports}
 
 

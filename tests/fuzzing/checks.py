@@ -1,7 +1,7 @@
 """What must hold of whatever the program answers, for tests/fuzz.py.
 
-No rule is computed a second time here: no schedule, no account, no reception. What is looked at is the
-form of each line, the order of lines, and what must be so by the promises.
+No rule is computed a second time here: no schedule, no account, no reception. What is looked at is
+the form of each line, the order of lines, and what must be so by the promises.
 """
 import re
 import zlib
@@ -13,16 +13,18 @@ CONFIG_FAULT = re.compile(
 ADMISSION = r"(A1 N|A2 N N|A3 N N N|A4 N N N|A5 \w+ N|A6 N N|A7 N)".replace("N", "[0-9]+")
 ADMIT_FAULT = re.compile(rf"admit {ADMISSION}\n")
 LIST_FAULT = re.compile(
-    r"list (?:TooManyLines|(?:LineTooLong|BadLine|TimeTooLarge|TimeBack|BadPort|BadHex) ([1-9][0-9]*))\n"
+    r"list (?:TooManyLines"
+    r"|(?:LineTooLong|BadLine|TimeTooLarge|TimeBack|BadPort|BadHex) ([1-9][0-9]*))\n"
 )
 NUMBER = r"(?:0|[1-9][0-9]*)"
-DROPS = "too-short|too-long|bad-fcs|bad-address|unknown-link|wrong-port|over-lmax|under-lmin|over-rate"
+DROPS = (
+    "too-short|too-long|bad-fcs|bad-address|unknown-link|wrong-port|over-lmax|under-lmin|over-rate"
+)
 UNREAD = "sequence|redundant|not-ipv4|bad-ip-header|fragment|not-udp|bad-udp-length|no-port"
 PORT = "(?:[1-9]|1[0-9]|2[0-4])"
-EMISSION = re.compile(rf"R ({NUMBER}) ([AB]) ({PORT}) ((?:[0-9a-f][0-9a-f])+)")
-REFUSAL = re.compile(rf"# ({NUMBER}) S[1-5]")
 EVENT = re.compile(
-    rf"V {NUMBER} [AB] (?:accept|drop (?:{DROPS}))|L {NUMBER} [AB] {PORT}|[DT] {NUMBER} {NUMBER} [AB] {PORT}"
+    rf"V {NUMBER} [AB] (?:accept|drop (?:{DROPS}))"
+    rf"|L {NUMBER} [AB] {PORT}|[DT] {NUMBER} {NUMBER} [AB] {PORT}"
     rf"|M {NUMBER} \w+ {NUMBER} (?:[0-9a-f][0-9a-f])+|X {NUMBER} \w+ {NUMBER} (?:{UNREAD})"
 )
 BOUND = re.compile(rf"P ({PORT}) {NUMBER} (?:{NUMBER}|-) {NUMBER}")
@@ -88,9 +90,15 @@ def check_status(command, status, err):
     if status == 3:
         must(LIST_FAULT.fullmatch(err), f"status 3 with on standard error: {err[:200]!r}")
     elif status == 1 and command != "check":
-        must(CONFIG_FAULT.fullmatch(err) or ADMIT_FAULT.fullmatch(err), f"status 1 with on standard error: {err[:200]!r}")
+        must(
+            CONFIG_FAULT.fullmatch(err) or ADMIT_FAULT.fullmatch(err),
+            f"status 1 with on standard error: {err[:200]!r}",
+        )
     elif status == 1:
-        must(err == "" or CONFIG_FAULT.fullmatch(err), f"check: status 1 with on standard error: {err[:200]!r}")
+        must(
+            err == "" or CONFIG_FAULT.fullmatch(err),
+            f"check: status 1 with on standard error: {err[:200]!r}",
+        )
     else:
         must(err == "", f"status 0 with on standard error: {err[:200]!r}")
 
@@ -105,8 +113,14 @@ def check_check(tables, status, out, err):
     if err:
         must(not lines, "check wrote both a fault and lines")
         return
-    must(lines and (lines[-1] == "ok") == (status == 0), "the last line of check doesn't say what its status says")
-    must(status == 0 or re.fullmatch(f"no {ADMISSION}", lines[-1]), f"check's last line is {lines[-1]!r}")
+    must(
+        lines and (lines[-1] == "ok") == (status == 0),
+        "the last line of check doesn't say what its status says",
+    )
+    must(
+        status == 0 or re.fullmatch(f"no {ADMISSION}", lines[-1]),
+        f"check's last line is {lines[-1]!r}",
+    )
     ports = []
     for line in lines[:-1]:
         match = BOUND.fullmatch(line)
@@ -114,7 +128,10 @@ def check_check(tables, status, out, err):
         ports.append(int(match[1]))
     must(ports == sorted(set(ports)), "the ports of check are not ascending")
     if tables is not None:
-        must(ports == sorted(row["port"] for row in tables["system"]), "check's ports are not those of the systems")
+        must(
+            ports == sorted(row["port"] for row in tables["system"]),
+            "check's ports are not those of the systems",
+        )
 
 
 def check_verdict(line, frames, numbers):
@@ -143,7 +160,8 @@ class Events:
         self.numbers = list(self.frames)
         self.accepted, self.gone = set(), {}
         self.latest = 0  # the time of the last event
-        self.place = (0, 0, "A", 0)  # time, turn (leaves, arrives, too old), side and port of the last event
+        # time, turn (leaves, arrives, too old), side and port of the last event
+        self.place = (0, 0, "A", 0)
         self.left = {}  # by side, port and link the line that had its turn last
         self.free = {}  # by side and port the end of the last slot
         self.before = None  # the words of the line before
@@ -154,10 +172,13 @@ class Events:
         must(EVENT.fullmatch(line), f"replay wrote the line {line!r}")
         words = line.split(" ")
         waits = self.before is not None and self.before[0] == "D"
-        must(waits == (words[0] in "MX"), f"{line!r} after {self.before}: M and X stand right behind a D line")
-        {"V": self.verdict, "L": self.loss, "D": self.turn, "T": self.turn, "M": self.message, "X": self.unread}[
-            words[0]
-        ](words)
+        must(
+            waits == (words[0] in "MX"),
+            f"{line!r} after {self.before}: M and X stand right behind a D line",
+        )
+        told = {"V": self.verdict, "L": self.loss, "D": self.turn, "T": self.turn}
+        told |= {"M": self.message, "X": self.unread}
+        told[words[0]](words)
         self.before = words
 
     def follow(self, place, line):
@@ -169,21 +190,33 @@ class Events:
         self.follow((self.frames[n].time, 1, "", n), words)
         if words[3] == "accept":
             self.accepted.add(n)
-            must(not self.links or self.frames[n].vl() in self.links, f"{words}: the tables have no such link")
+            must(
+                not self.links or self.frames[n].vl() in self.links,
+                f"{words}: the tables have no such link",
+            )
 
     def once(self, n, side, port, line):
         must(n in self.accepted, f"{line}: its frame was not accepted before")
         must(self.frames[n].side == side, f"{line} has another side than its line")
-        must((n, port) not in self.gone, f"{line}: the copy is gone already, by {self.gone.get((n, port))}")
+        must(
+            (n, port) not in self.gone,
+            f"{line}: the copy is gone already, by {self.gone.get((n, port))}",
+        )
         self.gone[n, port] = line
         if self.links:
             to = self.links[self.frames[n].vl()]["to"]
-            must(port in self.systems and self.systems[port]["name"] in to, f"{line}: the link doesn't go there")
+            must(
+                port in self.systems and self.systems[port]["name"] in to,
+                f"{line}: the link doesn't go there",
+            )
 
     def loss(self, words):
         n, side, port = int(words[1]), words[2], int(words[3])
         behind = self.before is not None and self.before[0] in "VL" and self.before[1] == words[1]
-        must(behind and (self.before[0] == "V" or int(self.before[3]) < port), f"{words} stands after {self.before}")
+        must(
+            behind and (self.before[0] == "V" or int(self.before[3]) < port),
+            f"{words} stands after {self.before}",
+        )
         self.once(n, side, port, words)
 
     def turn(self, words):
@@ -194,7 +227,10 @@ class Events:
         # Several frames may be too old at one moment at one port; but each slot takes its time.
         self.follow((time, turn, side, port) + ((len(self.gone),) if turn == 2 else ()), words)
         of_link = (side, port, frame.vl())
-        must(self.left.get(of_link, 0) < n, f"{words}: line {self.left.get(of_link)} of its link was put later")
+        must(
+            self.left.get(of_link, 0) < n,
+            f"{words}: line {self.left.get(of_link)} of its link was put later",
+        )
         self.left[of_link] = n
         begin = time
         if self.links:
@@ -203,9 +239,15 @@ class Events:
                 begin = time - (len(frame.bytes) + 20) * BYTE_NS[self.systems[port]["rate"]]
             if self.tables["profile"] == 2:
                 old = begin - frame.time > wait
-                must(old == (turn == 2), f"{words}: its turn came {begin - frame.time} ns after it, of {wait}")
+                must(
+                    old == (turn == 2),
+                    f"{words}: its turn came {begin - frame.time} ns after it, of {wait}",
+                )
         must(begin >= frame.time, f"{words}: its slot began before it came")
-        must(begin >= self.free.get((side, port), 0), f"{words}: its turn came before the last slot's end")
+        must(
+            begin >= self.free.get((side, port), 0),
+            f"{words}: its turn came before the last slot's end",
+        )
         self.free[side, port] = time
 
     def received(self, words):
@@ -220,7 +262,10 @@ class Events:
         frame = self.frames[n]
         payload = bytes.fromhex(words[4])
         must(int(words[3]) == frame.vl(), f"{words} has another link than line {n}")
-        must(frame.bytes[42 : 42 + len(payload)] == payload, f"{words} has another message than line {n}")
+        must(
+            frame.bytes[42 : 42 + len(payload)] == payload,
+            f"{words} has another message than line {n}",
+        )
         if self.tables is not None:
             udp = int.from_bytes(frame.bytes[36:38], "big")
             row = (words[2], frame.vl(), udp)
@@ -235,12 +280,18 @@ class Events:
         must(not self.numbers, f"line {self.numbers[:1]} has no V line")
         must(self.before is None or self.before[0] != "D", f"nothing behind {self.before}")
         if self.status == 3:
-            must(self.before is None or self.before[0] in "VL", f"{self.before} is written after the fault of the list")
+            must(
+                self.before is None or self.before[0] in "VL",
+                f"{self.before} is written after the fault of the list",
+            )
         if self.status == 0 and self.links:
             for n in self.accepted:
                 for name in self.links[self.frames[n].vl()]["to"]:
                     port = next(port for port, row in self.systems.items() if row["name"] == name)
-                    must((n, port) in self.gone, f"the copy of line {n} for port {port} is never told of")
+                    must(
+                        (n, port) in self.gone,
+                        f"the copy of line {n} for port {port} is never told of",
+                    )
 
 
 def check_replay(tables, text, admission, status, out, err):
@@ -253,12 +304,18 @@ def check_replay(tables, text, admission, status, out, err):
         events.take(line)
     events.end()
     if admission:
-        must(not re.search("^[LT]", out, re.MULTILINE), "a frame is lost or too old on an admitted network")
+        must(
+            not re.search("^[LT]", out, re.MULTILINE),
+            "a frame is lost or too old on an admitted network",
+        )
         for (n, port), words in events.gone.items():
             frame = events.frames[n]
             if events.links:
                 took = int(words[2]) - frame.time
-                must(took <= events.links[frame.vl()]["latency_us"] * 1000, f"{words} is late: it took {took} ns")
+                must(
+                    took <= events.links[frame.vl()]["latency_us"] * 1000,
+                    f"{words} is late: it took {took} ns",
+                )
     return events
 
 
@@ -279,102 +336,6 @@ def alone(text, frames, vl):
 
 def told_of(out, kinds, numbers):
     """The lines of these kinds that are of these list lines."""
-    return [line for line in lines_in(out) if line[0] in kinds and int(line.split(" ")[1]) in numbers]
-
-
-class Sent:
-    """A frame that `send` wrote, with its copy."""
-
-    def __init__(self, first, second):
-        one, two = EMISSION.fullmatch(first), EMISSION.fullmatch(second)
-        must(one and two, f"send wrote the lines {first!r} and {second!r}")
-        same = one[1] == two[1] and one[2] == "A" and two[2] == "B" and one[3] == two[3]
-        must(same, f"{first!r} and {second!r} are not a frame and its copy")
-        self.time, self.port, self.bytes = int(one[1]), int(one[3]), bytes.fromhex(one[4])
-        other = bytes.fromhex(two[4])
-        for side, frame in ((0x20, self.bytes), (0x40, other)):
-            must(zlib.crc32(frame[:-4]).to_bytes(4, "little") == frame[-4:], f"{first!r}: a wrong check sequence")
-            must(frame[11] == side, f"{first!r}: not the side in the source address")
-        must(self.bytes[:11] + self.bytes[12:-4] == other[:11] + other[12:-4], f"{first!r}: its copy is another frame")
-        self.vl, self.number = int.from_bytes(self.bytes[4:6], "big"), self.bytes[-5]
-        length = int.from_bytes(self.bytes[38:40], "big") - 8
-        self.message = (self.vl, int.from_bytes(self.bytes[36:38], "big"), self.bytes[42 : 42 + length])
-
-
-def check_send(tables, name, text, status, out, err):
-    """Gives what was sent."""
-    if status == 1:
-        must(out == "", "there is output beside a fault of the configuration")
-        return []
-    given, times = {}, {}
-    fault = faulty_line(err)
-    for n, line in enumerate(raw_lines(text), 1):
-        if n == fault:
-            break
-        line = said(line)
-        if line is not None:
-            time, vl, _, udp, digits = line.split(b" ")
-            times[n] = int(time)
-            given[n] = (int(vl), int(udp), b"" if digits == b"-" else bytes.fromhex(digits.decode()))
-    lines, sent, refused = lines_in(out), [], 0
-    while lines:
-        refusal = REFUSAL.fullmatch(lines[0])
-        if refusal:
-            n = int(refusal[1])
-            must(n in given and n > refused, f"{lines[0]!r} is no line of the list, or not in order")
-            del given[n]
-            refused = n
-            lines.pop(0)
-        else:
-            must(len(lines) > 1, f"{lines[0]!r} has no copy")
-            sent.append(Sent(lines.pop(0), lines.pop(0)))
-    if status == 0:
-        must(sorted(given.values()) == sorted(frame.message for frame in sent), "other messages are sent than were taken")
-    taken = {}
-    for n in sorted(given):
-        taken.setdefault(given[n][0], []).append(times[n])
-    check_sent(tables, name, sent, taken)
-    return sent
-
-
-def check_sent(tables, name, sent, taken):
-    """The frames are this system's, follow each other on its line, and their numbers go round.
-
-    `taken` holds by link the times of the messages that were taken: no frame begins before there were as
-    many, nor before as many gaps are over.
-    """
-    system = next(row for row in tables["system"] if row["name"] == name)
-    links = {row["vl"]: row for row in tables["link"] if row["from"] == name}
-    numbers, free, counts = {}, 0, {}
-    for frame in sent:
-        must(frame.vl in links and frame.port == system["port"], f"link {frame.vl} is not of {name}")
-        link = links[frame.vl]
-        must(link["lmin"] <= len(frame.bytes) <= link["lmax"], f"a frame of link {frame.vl} has {len(frame.bytes)} bytes")
-        wanted = numbers.get(frame.vl, 0)
-        must(frame.number == wanted, f"link {frame.vl}: number {frame.number} in place of {wanted}")
-        numbers[frame.vl] = wanted % 255 + 1
-        begin = frame.time - (len(frame.bytes) + 20) * BYTE_NS[system["rate"]]
-        count = counts.get(frame.vl, 0)
-        counts[frame.vl] = count + 1
-        earliest = max(taken[frame.vl][count], taken[frame.vl][0] + count * link["bag_ms"] * 10**6)
-        must(begin >= earliest, f"frame {count + 1} of link {frame.vl} begins at {begin}, before {earliest}")
-        must(begin >= free, f"the slot that ends at {frame.time} begins before that before it has ended")
-        free = frame.time
-
-
-def check_delivered(tables, sent, out):
-    """Each message that was sent is read once, and in order, by each of its link's systems that has a port for it."""
-    must(not re.search("^([LT]|V .* drop)", out, re.MULTILINE), "a frame that was sent is dropped or lost")
-    must(not re.search("^X .* sequence$", out, re.MULTILINE), "a number that was sent is dropped")
-    read = {}
-    for line in lines_in(out):
-        words = line.split(" ")
-        if words[0] == "M":
-            read.setdefault((words[2], int(words[3])), []).append(bytes.fromhex(words[4]))
-    open_ports = {(row["system"], row["link"], row["udp"]) for row in tables["port"]}
-    for link in tables["link"]:
-        for name in link["to"]:
-            vl = link["vl"]
-            of_link = [frame.message for frame in sent if frame.vl == vl]
-            wanted = [payload for _, udp, payload in of_link if (name, vl, udp) in open_ports]
-            must(read.get((name, vl), []) == wanted, f"{name} reads other messages of link {vl} than were sent")
+    return [
+        line for line in lines_in(out) if line[0] in kinds and int(line.split(" ")[1]) in numbers
+    ]

@@ -4,7 +4,8 @@ import sys
 
 try:
     import tomllib
-except ImportError:  # before Python 3.11 the examples are only changed, and nothing is known of them
+except ImportError:
+    # before Python 3.11 the examples are only changed, and nothing is known of them
     tomllib = None
 
 TOP = os.path.dirname(os.path.dirname(os.path.dirname(os.path.abspath(__file__))))
@@ -14,10 +15,12 @@ from make_bench import frame_of, sealed  # noqa: E402
 from tables import text_of  # noqa: E402
 
 BAGS = [1, 2, 4, 8, 16, 32, 64, 128]
-WORDS = [b"F", b"B", b"R", b"A", b"B", b"#", b"-", b"", b"0", b"1", b"24", b"25", b"07", b"1000000000000000"]
-WORDS += [b"1000000000000001", b"18446744073709551616", b"99999999999999999999999", b"\r", b"\xff", b"+5", b"\t"]
-TOML_WORDS = ["0", "1", "2", "3", "-1", "24", "25", "63", "64", "1518", "1519", "65536", "4194305", "1.5", '"s1"', "[]"]
-TOML_WORDS += ["true", '"high"', "9223372036854775808", "[[link]]", "x = 1", "[port]", '""', "= ", "\u00e9", "'''"]
+WORDS = [b"F", b"B", b"R", b"A", b"B", b"#", b"-", b"", b"0", b"1", b"24", b"25", b"07", b"+5"]
+WORDS += [b"1000000000000000", b"1000000000000001", b"18446744073709551616"]
+WORDS += [b"99999999999999999999999", b"\r", b"\xff", b"\t"]
+TOML_WORDS = ["0", "1", "2", "3", "-1", "24", "25", "63", "64", "1518", "1519", "65536", "4194305"]
+TOML_WORDS += ["1.5", '"s1"', "[]", "true", '"high"', "9223372036854775808", "[[link]]", "x = 1"]
+TOML_WORDS += ["[port]", '""', "= ", "\u00e9", "'''"]
 
 
 def read(name):
@@ -37,13 +40,20 @@ def parsed(text):
 
 
 def random_tables(random):
-    """Lawful tables; often admitted, as the jitters and latencies are ample in half of the cases."""
+    """Lawful tables; often admitted, as the jitters and latencies are ample in half of the
+    cases."""
     profile = random.choice([1, 1, 2])
     rates = [10, 100, 100, 100] + ([1000, 1000] if profile == 2 else [])
     count = random.randint(2, 6)
     ports = random.sample(range(1, 25), count)
     systems = [
-        {"name": f"s{place}", "port": ports[place], "id": place * 257, "partition": place, "rate": random.choice(rates)}
+        {
+            "name": f"s{place}",
+            "port": ports[place],
+            "id": place * 257,
+            "partition": place,
+            "rate": random.choice(rates),
+        }
         for place in range(count)
     ]
     names = [system["name"] for system in systems]
@@ -53,9 +63,15 @@ def random_tables(random):
         sender = random.choice(names)
         others = [name for name in names if name != sender]
         lmin = random.choice([64, 64, 64, 65, 100, 300])
-        lmax = max(lmin, random.choice([64, 80, 100, 300, 1518] if not ample else [64, 80, 100, 300]))
+        lmax = max(
+            lmin, random.choice([64, 80, 100, 300, 1518] if not ample else [64, 80, 100, 300])
+        )
         bag = random.choice(BAGS[4:] if ample else BAGS)
-        latency = random.choice([1, 6, 20, 100, 1000, 100000]) if not ample else random.choice([20000, 100000])
+        latency = (
+            random.choice([1, 6, 20, 100, 1000, 100000])
+            if not ample
+            else random.choice([20000, 100000])
+        )
         links.append(
             {
                 "vl": vl,
@@ -64,7 +80,9 @@ def random_tables(random):
                 "bag_ms": bag,
                 "lmin": lmin,
                 "lmax": lmax,
-                "jitter_us": random.choice([0, 500, 1000 * bag]) if not ample else min(1000 * bag, 4000),
+                "jitter_us": random.choice([0, 500, 1000 * bag])
+                if not ample
+                else min(1000 * bag, 4000),
                 "priority": random.choice(["high", "low"]),
                 "policing": random.choice(["byte", "frame"]),
                 "latency_us": latency,
@@ -78,7 +96,9 @@ def random_tables(random):
             if random.random() < 0.8:
                 kind = random.choice(["sampling", "queuing"])
                 depth = 1 if kind == "sampling" else random.randint(1, 64)
-                coms.append({"system": name, "link": link["vl"], "udp": 1000, "kind": kind, "depth": depth})
+                coms.append(
+                    {"system": name, "link": link["vl"], "udp": 1000, "kind": kind, "depth": depth}
+                )
     buffer = random.choice([64, 200, 700, 3000]) if not ample else 65536
     return {"profile": profile, "buffer": buffer, "system": systems, "link": links, "port": coms}
 
@@ -114,27 +134,45 @@ def changed_config(random, text):
 
 def random_frame(random, tables, link, number, side):
     """A frame of the link, mostly a good one, with its check sequence or without."""
-    sender = next((system for system in tables["system"] if system["name"] == link["from"]), tables["system"][0])
+    sender = next(
+        (system for system in tables["system"] if system["name"] == link["from"]),
+        tables["system"][0],
+    )
     longest = max(link["lmax"] - 47, 1)
-    payload = bytes(random.randrange(256) for _ in range(random.choice([1, 5, 17, longest, min(longest, 30)])))
+    payload = bytes(
+        random.randrange(256) for _ in range(random.choice([1, 5, 17, longest, min(longest, 30)]))
+    )
     changes = {}
     if random.random() < 0.1:
-        key = random.choice(["ether_type", "flags", "protocol", "checksum", "udp_length", "address"])
+        key = random.choice(
+            ["ether_type", "flags", "protocol", "checksum", "udp_length", "address"]
+        )
         changes[key] = random.randbytes(6) if key == "address" else random.randrange(256)
     least = random.choice([64, link["lmin"], link["lmin"], link["lmax"], link["lmax"] + 1])
     udps = [row["udp"] for row in tables["port"] if row["link"] == link["vl"]] or [1000]
     udp = random.choice(udps) if random.random() < 0.95 else 7
-    return sender, frame_of(sender["id"], sender["partition"], link["vl"], payload, number, side, udp, least, **changes)
+    return sender, frame_of(
+        sender["id"], sender["partition"], link["vl"], payload, number, side, udp, least, **changes
+    )
 
 
 def random_list(random, tables):
-    """A list of frames for the tables: bursts and pauses, copies on side B, and some that are wrong."""
+    """A list of frames for the tables: bursts and pauses, copies on side B, and some that are
+    wrong."""
     lines, time, numbers = [], random.choice([0, 0, 5, 10**15 - 10**8]), {}
     links = tables["link"]
     for _ in range(random.choice([1, 3, 10, 40])):
         time += random.choice([0, 0, 0, 1, 719, 720, 6720, 6719, 100000, 500000, 1000000, 16000000])
         if not links or not tables["system"] or random.random() < 0.03:
-            lines.append((time, "R", random.choice("AB"), random.randint(1, 24), random.randbytes(random.choice([0, 5, 64]))))
+            lines.append(
+                (
+                    time,
+                    "R",
+                    random.choice("AB"),
+                    random.randint(1, 24),
+                    random.randbytes(random.choice([0, 5, 64])),
+                )
+            )
             continue
         link = random.choice(links)
         vl = link["vl"]
@@ -150,7 +188,10 @@ def random_list(random, tables):
             kind = random.choice(["F"] * 12 + ["R", "B"])
             lines.append((at, kind, side, port, sealed(frame) if kind == "R" else frame))
     lines.sort(key=lambda line: line[0])
-    texts = [f"{kind} {min(at, 10**15)} {side} {port} {frame.hex() or '-'}" for at, kind, side, port, frame in lines]
+    texts = [
+        f"{kind} {min(at, 10**15)} {side} {port} {frame.hex() or '-'}"
+        for at, kind, side, port, frame in lines
+    ]
     return ("\n".join(texts) + random.choice(["\n", ""])).encode("ascii")
 
 
@@ -162,7 +203,11 @@ def changed_fields(random, line):
         fields[1] = b"%d" % max(0, int(fields[1]) + step)
     elif at == len(fields) - 1 and len(fields[at]) > 2:
         place = random.randrange(len(fields[at]))
-        fields[at] = fields[at][:place] + random.choice([b"0", b"f", b"F", b"g", b"", b"00"]) + fields[at][place + 1 :]
+        fields[at] = (
+            fields[at][:place]
+            + random.choice([b"0", b"f", b"F", b"g", b"", b"00"])
+            + fields[at][place + 1 :]
+        )
     else:
         fields[at] = random.choice(WORDS)
     return b" ".join(fields)
@@ -189,7 +234,10 @@ def changed_list(random, text):
         elif way == 4:
             lines.insert(at, lines[at])
         elif way == 5:
-            lines.insert(at, random.choice([b"", b"# a remark", b"\r", b" ", b"#" * 4200, b"#" * 4201, b"\0"]))
+            lines.insert(
+                at,
+                random.choice([b"", b"# a remark", b"\r", b" ", b"#" * 4200, b"#" * 4201, b"\0"]),
+            )
         elif way == 6:
             lines[at] += b"\r"
         else:
@@ -210,8 +258,16 @@ def random_submissions(random, tables, name):
         own = own[:1]
     for _ in range(count):
         time = min(10**15, time + random.choice(gaps))
-        link = random.choice(own if own and random.random() < 0.95 else others) if others else {"vl": 1, "lmax": 64, "subs": 1}
-        sub = random.randint(1, link["subs"]) if random.random() < 0.95 else random.choice([0, 5, 255])
+        link = (
+            random.choice(own if own and random.random() < 0.95 else others)
+            if others
+            else {"vl": 1, "lmax": 64, "subs": 1}
+        )
+        sub = (
+            random.randint(1, link["subs"])
+            if random.random() < 0.95
+            else random.choice([0, 5, 255])
+        )
         longest = link["lmax"] - 47
         size = random.choice([1, 1, 5, 17, longest, longest + 1, random.randint(0, longest)])
         udp = random.choice([1000] * 9 + [7, 0, 65535])
@@ -229,8 +285,13 @@ class Case:
 
 def stored():
     """The examples' configurations and lists."""
-    configs = {name: read(name) for name in ("base.toml", "network.toml", "refused.toml", "gigabit.toml")}
-    lists = {name: read(name) for name in ("bench.list", "gigabit.list", "babbling.list", "one_link.list")}
+    configs = {
+        name: read(name) for name in ("base.toml", "network.toml", "refused.toml", "gigabit.toml")
+    }
+    lists = {
+        name: read(name)
+        for name in ("bench.list", "gigabit.list", "babbling.list", "one_link.list")
+    }
     return configs, lists
 
 
