@@ -8,6 +8,10 @@ use Rattle.afdx_port.specs.Schedule.{Entry, Turn, AreTurns, IsSchedule, IsLost}
 use Rattle.afdx_port.specs.ScheduleOf.{AreInOrder}
 use Rattle.afdx_bounds.specs.Policed.{AreFlows, charged_to, IsCharged, IsRegulated}
 
+-- the bytes that may wait at a sender's own port
+abbrev pub sender_buffer : ℕ
+sender_buffer = 65536
+
 -- the time in which one frame of each link is sent, each of its link's greatest size, in ns
 abbrev pub one_of_each : ℕ → List Flow → ℕ
 one_of_each byte_ns flows = sending_time (λ f. f.link) byte_ns flows
@@ -27,11 +31,11 @@ pub record IsSender (byte_ns : ℕ) (class : Priority) (flows : List Flow) : Typ
   pub jitter : fixed_jitter + one_of_each byte_ns flows ≤ greatest_jitter
   pub each : All (λ f. IsSent byte_ns class flows f) flows
 
--- such links are admitted at a port of 65,536 bytes
+-- such links are admitted at a port of that buffer
 abbrev pub SenderIsAdmitted : Type 0
 SenderIsAdmitted =
     (byte_ns : ℕ) (class : Priority) (flows : List Flow) → IsSender byte_ns class flows →
-    IsPortAdmitted byte_ns 65536 flows
+    IsPortAdmitted byte_ns sender_buffer flows
 
 -- the entries of each link are a stream that keeps the link's gap
 abbrev pub AreReleased : {X : Type 0} → (X → ℕ) → (Entry X → ℕ) → List Flow → List (Entry X) →
@@ -48,7 +52,7 @@ SenderIsRegulated X =
     IsSender byte_ns class flows → AreInOrder entries →
     All (λ e. IsCharged vl_of charge_of flows e) entries →
     AreReleased vl_of charge_of flows entries →
-    IsRegulated byte_ns 65536 flows vl_of charge_of entries
+    IsRegulated byte_ns sender_buffer flows vl_of charge_of entries
 
 -- the port is never full
 abbrev pub SenderIsNeverFull : Type 0 → Type 0
@@ -58,7 +62,7 @@ SenderIsNeverFull X =
     IsSender byte_ns class flows → AreInOrder (entries ++ new ∷ []) →
     All (λ e. IsCharged vl_of charge_of flows e) (entries ++ new ∷ []) →
     AreReleased vl_of charge_of flows (entries ++ new ∷ []) →
-    IsSchedule byte_ns entries turns → IsLost 65536 entries turns new.time new.bytes → ⊥
+    IsSchedule byte_ns entries turns → IsLost sender_buffer entries turns new.time new.bytes → ⊥
 
 -- and each frame has been sent when one frame of each link could have been since its release
 abbrev pub SenderIsInTime : Type 0 → Type 0

@@ -4,7 +4,6 @@ use Rattle.std.proofs.Common.{length, get_or, take, drop, Bool, true, false, con
 use Rattle.std.proofs.Common.{sym, ◌∙◌, arith, eqb, eq-eqb, Option, Some, None, suc, zero, nat_lt, ltb-false}
 use Rattle.std.proofs.lemmas.Grind.{common_steps}
 use Rattle.std.specs.Char.{is_ascii_digit}
-use Rattle.std.specs.List.{slice_split}
 use Rattle.std.proofs.Common.{Result, Ok, Err}
 use Rattle.afdx_lists.specs.declared.fault.LineFault.TheVariants.{TimeTooLarge, TimeBack}
 use Rattle.afdx_fields.specs.Fields.{number_of, number_after, all_digits}

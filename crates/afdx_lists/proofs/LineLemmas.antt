@@ -1,5 +1,5 @@
 -- Lines taken from known bytes.
-use Rattle.std.proofs.Common.{◌≡◌, ℕ, ◌+◌, ◌<◌, ◌≤◌, List, [], ◌∷◌, ◌++◌, length, get_or, take}
+use Rattle.std.proofs.Common.{◌≡◌, ℕ, ◌+◌, ◌<◌, ◌≤◌, List, [], ◌∷◌, ◌++◌, length, take}
 use Rattle.std.proofs.Common.{drop, Bool, true, false, cond, refl, ap, ◌∙◌, arith, eqb, Some, None}
 use Rattle.std.proofs.Common.{subst}
 use Rattle.std.specs.List.{slice_split, onto_first, All}

@@ -60,8 +60,8 @@ fn answer(alloc: Global, text: &str) -> Result<ShortText, Fail> {
 
 /// Whether that text is the wanted one.
 fn is_answered(alloc: Global, text: &str, wanted: &str) -> Result<bool, Fail> {
-    let answer = answer(alloc, text)?;
-    Ok(answer.as_str() == wanted)
+    let told = answer(alloc, text)?;
+    Ok(told.as_str() == wanted)
 }
 
 /// The first false line, and how many links come back, admitted or not.

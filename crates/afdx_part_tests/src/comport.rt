@@ -17,7 +17,7 @@ fn new_ports(alloc: Global, tables: &Tables, system: SystemId) -> Result<ComPort
     }
 }
 
-// The ports of the third system.
+/// The ports of the third system.
 fn base_ports(alloc: Global) -> Result<ComPorts, Fail> {
     let tables = base_tables(alloc)?;
     Ok(new_ports(alloc, &tables, SystemId(2))?)

@@ -202,8 +202,8 @@ fn both(alloc: Global, len: usize) -> Result<(Vec<u8>, Vec<u8>), AllocError>
     }
 }
 
-// Both frames of a message are those that are built one by one, at the least length, at one that
-// the payload asks for, and at the greatest.
+/// Both frames of a message are those that are built one by one, at the least length, at one that
+/// the payload asks for, and at the greatest.
 #[test]
 fn builds_both_or_is_refused(rt: HostRuntime) -> Result<(), AllocError> {
     for len in [1, 18, 200, 1471] {
@@ -232,8 +232,8 @@ fn builds_lengths(rt: HostRuntime) -> Result<(), AllocError> {
     Ok(())
 }
 
-// Where memory is there, a payload of each length has its frame: want of memory is no answer to a
-// length.
+/// Where memory is there, a payload of each length has its frame: want of memory is no answer to a
+/// length.
 #[test]
 fn builds_each_length(rt: HostRuntime) -> Result<(), AllocError> {
     for len in 1..1472_usize {
@@ -338,8 +338,8 @@ fn takes_datagrams(rt: HostRuntime) {
     );
 }
 
-// The other words of this header have the sum ffff, so that both zeros of ones' complement are
-// right checksums.
+/// The other words of this header have the sum ffff, so that both zeros of ones' complement are
+/// right checksums.
 #[test]
 fn takes_both_zeros(rt: HostRuntime) {
     let plus = answer_to_changed(&[(18, 0xcd), (19, 0xea), (24, 0), (25, 0)]);

@@ -214,7 +214,7 @@ fn one_of_each_fault_of_bytes(rt: HostRuntime) -> Result<(), Fail> {
     all_right(wrongly_policed(&rule, &arrivals))
 }
 
-// None of those before the fifth arrival was charged.
+/// None of those before the fifth arrival was charged.
 #[test]
 fn one_of_each_fault_of_a_link(rt: HostRuntime) -> Result<(), Fail> {
     let rule = rule_of_link_1(64).ok_or("range")?;
@@ -231,12 +231,12 @@ fn one_of_each_fault_of_a_link(rt: HostRuntime) -> Result<(), Fail> {
 
 #[test]
 fn account_over_time(rt: HostRuntime) -> Result<(), Fail> {
-    let hello = hello(0);
+    let frame = hello(0);
     for policing in [Policing::Byte, Policing::Frame] {
         let rule = LinkRule::new(VlId(1), 1, 1, 64, 64, 500, policing).ok_or("range")?;
         let mut account = LinkAccount::new(&rule);
-        assert_eq!(rt; account.police(0, 1, Checked::new(&hello)), None);
-        let early = account.police(499_999, 1, Checked::new(&hello));
+        assert_eq!(rt; account.police(0, 1, Checked::new(&frame)), None);
+        let early = account.police(499_999, 1, Checked::new(&frame));
         assert_eq!(rt; early, Some(Reason::OverRate));
         assert!(rt; account.offer(500_000, 64));
     }

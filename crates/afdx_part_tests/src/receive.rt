@@ -35,7 +35,7 @@ fn of_link(vl: u16) -> [u8; 64] {
     sealed(&HELLO, &[(HIGH_OF_LINK, high), (LOW_OF_LINK, low)])
 }
 
-// Whether it is the message `hello` of a link.
+/// Whether it is the message `hello` of a link.
 fn is_hello(reception: Reception<'_>, link: u16) -> bool {
     match reception {
         Reception::Message { vl, udp, bytes } => vl == VlId(link)
@@ -45,7 +45,7 @@ fn is_hello(reception: Reception<'_>, link: u16) -> bool {
     }
 }
 
-// Whether it is dropped for this reason, or without one is the message `hello` of link 1.
+/// Whether it is dropped for this reason, or without one is the message `hello` of link 1.
 fn is_answer(reception: Reception<'_>, wanted: Option<DropReason>) -> bool {
     match (reception, wanted) {
         (Reception::Dropped(reason), Some(why)) => reason == why,

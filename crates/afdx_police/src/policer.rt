@@ -55,7 +55,7 @@ impl<C: Charge> Policer<C> {
         }
     }
 
-    // The rule of the account's link.
+    /// The rule of the account's link.
     pub(crate) fn rule(&self) -> &LinkRule
         ensures { rule_of result.now ≡ self.now.rule }
     {
@@ -88,7 +88,7 @@ impl<C: Charge> Policer<C> {
         passes
     }
 
-    // The level of the account at this time, if nothing is charged until then.
+    /// The level of the account at this time, if nothing is charged until then.
     fn level_at(&self, time: u64) -> u64
         requires { self.now.time ≤ time }
         ensures stands { (offers : List Offer) → StandsFor C.charge_of self.now offers →

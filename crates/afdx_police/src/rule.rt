@@ -74,28 +74,28 @@ impl LinkRule {
         self.policing
     }
 
-    // The greatest wire size of the link's frames.
+    /// The greatest wire size of the link's frames.
     pub(crate) fn smax(&self) -> u64
         ensures { result ≡ (regulation_of (rule_of self.now)).smax }
     {
         self.lmax + WIRE_EXTRA
     }
 
-    // The units by which the link's account is filled in a nanosecond.
+    /// The units by which the link's account is filled in a nanosecond.
     pub(crate) fn fill_rate(&self) -> u64
         ensures { result ≡ fill_rate (regulation_of (rule_of self.now)) }
     {
         self.smax() * (128 / self.bag_ms)
     }
 
-    // The nanoseconds in which an empty account is filled.
+    /// The nanoseconds in which an empty account is filled.
     pub(crate) fn fill_time(&self) -> u64
         ensures { let link = regulation_of (rule_of self.now) in result ≡ bag link + jitter link }
     {
         1_000_000 * self.bag_ms + 1000 * self.jitter_us
     }
 
-    // The units of a full account.
+    /// The units of a full account.
     pub(crate) fn cap(&self) -> u64
         ensures { result ≡ cap (regulation_of (rule_of self.now)) }
     {

@@ -3,7 +3,6 @@ use Rattle.std.proofs.Common.{◌≡◌, ℕ, zero, suc, ◌+◌, ◌<◌, ◌�
 use Rattle.std.proofs.Common.{List, [], ◌∷◌, ◌++◌, map, length, Option, Some, None, refl, ap, sym}
 use Rattle.std.proofs.Common.{◌∙◌, subst, arith, replicate, slice_set, slice_index_or}
 use Rattle.std.specs.Prelude.{IfSome, IfNone, Result, Ok, Err, IsOk}
-use Rattle.std.proofs.lemmas.Bool.Decides.{nat_tests}
 use Rattle.std.specs.List.{slice_get}
 use Rattle.std.specs.Io.KnownBytes.{Appends}
 use Rattle.std.proofs.KnownBytes.{Appends-trans, Appends-nil}
@@ -15,6 +14,7 @@ use Rattle.afdx_config.specs.Rows.{SystemRow, LinkRow, Rows}
 use Rattle.afdx_lists.specs.Calls.{AppendsFront}
 use Rattle.afdx_lists.specs.Lines.{lines_of}
 use Rattle.afdx_lists.specs.declared.fault.RunFault.{RunFault}
+use Rattle.afdx_port.proofs.TurnLemmas.{eqb-same, eqb-other}
 use Rattle.afdx_promises.specs.Sent.{sent_in}
 use Rattle.afdx_send.specs.Releases as send
 use Rattle.afdx_send.specs.Sender.{StandsFor, Emits, IsTaken, IsRefused, LinkTakes, AreAllEmitted, no_calls}
@@ -67,12 +67,6 @@ one_refused c = record c { dropped = c.dropped + 1 }
 
 abbrev the_empty : List send.Submission
 the_empty = []
-
-eqb-same : (a b : ℕ) → a ≡ b → (a == b) ≡ true
-eqb-same a b h = grind (arith, nat_tests)
-
-eqb-other : (a b : ℕ) → (a ≡ b → ⊥) → (a == b) ≡ false
-eqb-other a b h = grind (arith, nat_tests)
 
 -- a message more for the link with this identifier
 abbrev more_of : ℕ → send.Submission → ℕ → List send.Submission → List send.Submission

@@ -1,9 +1,8 @@
 -- The lines of a sender's text, and those at its port.
-use Rattle.std.proofs.Common.{◌≡◌, ℕ, ◌-◌, ◌<◌, ◌≤◌, ◌==◌, ◌&&◌, Bool, true, false}
+use Rattle.std.proofs.Common.{◌≡◌, ℕ, ◌-◌, ◌<◌, ◌≤◌, ◌&&◌, Bool, true, false}
 use Rattle.std.proofs.Common.{if◌then◌else◌, List, [], ◌∷◌, ◌++◌, length, Some, None, refl, sym, ap}
 use Rattle.std.proofs.Common.{◌∙◌, arith, append_assoc, append-nil}
 use Rattle.std.specs.Prelude.{Ok}
-use Rattle.std.proofs.lemmas.Bool.Decides.{nat_tests}
 use Rattle.std.proofs.lemmas.Grind.{common_steps}
 use Rattle.std.proofs.lemmas.List.Elements.{filter-append}
 use Rattle.std.specs.Fmt.{decimal}
@@ -19,6 +18,7 @@ use Rattle.afdx_lists.specs.Lines.{lines_of, HasNoFeed, most_lines}
 use Rattle.afdx_frame.specs.Times.{latest_listed}
 use Rattle.afdx_lists.proofs.FrameLemmas.{line_says_nothing}
 use Rattle.afdx_lists.proofs.LineLemmas.{lines_of_feed, lines_of_nothing}
+use Rattle.afdx_port.proofs.TurnLemmas.{eqb-same, eqb-other}
 use Rattle.afdx_port.specs.Schedule.{Turn}
 use Rattle.afdx_send.specs.Frames as send
 use Rattle.afdx_send.specs.Words.{refusal_word}
@@ -84,12 +84,6 @@ refused-least n fault few = (
         (omega arith, lower-least 32 48 (refusal_word fault) (omega arith) (word-least fault)),
   ),
 )
-
-eqb-other : (a b : ℕ) → (a ≡ b → ⊥) → (a == b) ≡ false
-eqb-other a b h = grind (arith, nat_tests)
-
-eqb-same : (a : ℕ) → (a == a) ≡ true
-eqb-same a = grind (arith, nat_tests)
 
 -- no line that has no byte below a space ends with a carriage return
 pub no-return : (line : List ℕ) → 0 < length line → AtLeast 32 line → line ≡ strip_carriage_return line
@@ -190,7 +184,7 @@ module _ (s : SystemRow) (one : 1 ≤ s.port) (most : s.port ≤ 24) where
   turn-test : (side own : Side) (turn : Turn send.Frame) → CanBeRead s turn
       → says_at side s.port (line_says 0 (line_on s own turn)) ≡ is_side side own
   turn-test side own turn can = ap (says_at side s.port) (turn-says own turn can)
-      ∙ ap (λ b. is_side side own && b) (eqb-same s.port) ∙ and-true (is_side side own)
+      ∙ ap (λ b. is_side side own && b) (eqb-same s.port s.port refl) ∙ and-true (is_side side own)
     where
       and-true : (b : Bool) → (b && true) ≡ b
       and-true true = refl

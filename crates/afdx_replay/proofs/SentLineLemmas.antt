@@ -32,6 +32,7 @@ use Rattle.afdx_frame.specs.Times.{latest_listed}
 use Rattle.afdx_lists.proofs.FieldLemmas.{number_of_digits}
 use Rattle.afdx_lists.proofs.FormLemmas.{says_item}
 use Rattle.afdx_lists.proofs.LineLemmas.{lines_of_feed, lines_of_nothing}
+use Rattle.afdx_port.proofs.TurnLemmas.{eqb-other}
 use Rattle.afdx_replay.specs.Lists.{with_item, items_of, fault_in, fault_said, HaveNoFault}
 use Rattle.afdx_replay.specs.Listed.{frames, arrivals_of}
 use Rattle.afdx_replay.specs.PoliceText.{side_text}
@@ -50,9 +51,6 @@ append-least n (x ∷ xs) ys h k = (h.0, append-least n xs ys h.1 k)
 pub lower-least : (m n : ℕ) (xs : List ℕ) → m ≤ n → AtLeast n xs → AtLeast m xs
 lower-least m n [] le h = tt
 lower-least m n (x ∷ xs) le h = ((let k : n ≤ x = h.0 in omega (arith, k, le)), lower-least m n xs le h.1)
-
-eqb-other : (a b : ℕ) → (a ≡ b → ⊥) → (a == b) ≡ false
-eqb-other a b h = grind (arith, nat_tests)
 
 pub none-below : (n b : ℕ) (xs : List ℕ) → b < n → AtLeast n xs → All (λ x. (x == b) ≡ false) xs
 none-below n b [] lt h k d within = absurd (omega (arith, within))

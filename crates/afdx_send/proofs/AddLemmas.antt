@@ -31,10 +31,11 @@ use Rattle.afdx_send.specs.Sender.{SenderHistory, with_submission, submission, n
 use Rattle.afdx_send.specs.Sender.{HoldsSame, IsIdle, IsPlaceOf, IsRefused, LinkTakes, StandsFor}
 use Rattle.afdx_send.specs.Sender.{AreUnreleased}
 use Rattle.afdx_send.proofs.LineLemmas.{Takes, line_takes}
-use Rattle.afdx_send.proofs.OwnLemmas.{own_set, own_before, all_stay, before_longer, eqb-same}
+use Rattle.afdx_port.proofs.TurnLemmas.{eqb-same}
+use Rattle.afdx_send.proofs.OwnLemmas.{own_set, own_before, all_stay, before_longer, same_get}
 use Rattle.afdx_send.proofs.RegulatorLemmas.{due, not_none}
 use Rattle.afdx_send.proofs.ReleaseLemmas.{get_either, get_set_same, get_set_other, length_set}
-use Rattle.afdx_send.proofs.StandLemmas.{same_get, none_before, held_more}
+use Rattle.afdx_send.proofs.StandLemmas.{none_before, held_more}
 
 -- where a queue has a front that has come by t, the next release isn't after t
 old_next : (p : Regulator) (i c t : ℕ) (n : Queued) (ms : List Queued)

@@ -28,7 +28,8 @@ use Rattle.afdx_send.specs.Frames.{Frame, facts}
 use Rattle.afdx_send.specs.Releases.{Submission, Release, earliest_after}
 use Rattle.afdx_send.specs.Sender.{AreSent, flows_of}
 use Rattle.afdx_config.specs.Rows.{SystemRow}
-use Rattle.afdx_send.proofs.OwnLemmas.{own_mine, own_other, eqb-same, eqb-other}
+use Rattle.afdx_port.proofs.TurnLemmas.{eqb-same, eqb-other}
+use Rattle.afdx_send.proofs.OwnLemmas.{own_mine, own_other}
 
 -- the link of a frame, and what its entry is charged
 abbrev pub vl_of : Frame → ℕ

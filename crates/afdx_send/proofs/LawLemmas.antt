@@ -33,7 +33,8 @@ use Rattle.afdx_send.proofs.EmitLemmas.{AreOurs, are_ours, is_slot, more_of, get
 use Rattle.afdx_send.proofs.FullLemmas.{vl_of, charge_of, AllFit, charged_all, released_all}
 use Rattle.afdx_send.proofs.KeptLemmas.{all_fit}
 use Rattle.afdx_send.proofs.NextLemmas.{append_none, append_append, all_first, split_last}
-use Rattle.afdx_send.proofs.OwnLemmas.{own_mine, own_other, eqb-same, eqb-other}
+use Rattle.afdx_port.proofs.TurnLemmas.{eqb-same, eqb-other}
+use Rattle.afdx_send.proofs.OwnLemmas.{own_mine, own_other}
 use Rattle.afdx_send.proofs.ReleaseLemmas.{get_either, get_last}
 
 -- the law of ports: what a port took are the turns of its entries

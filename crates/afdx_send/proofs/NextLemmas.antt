@@ -7,7 +7,7 @@ use Rattle.afdx_config.specs.Flows.{regulation_of_link}
 use Rattle.afdx_config.specs.Rows.{LinkRow}
 use Rattle.afdx_send.specs.Emissions.{LinkRelease, own, own_submissions, IsNextOf, IsNextOfAll, AreAllReleases}
 use Rattle.afdx_send.specs.Releases.{Submission, Release, IsNext, AreReleases, last_served, turn}
-use Rattle.afdx_send.proofs.OwnLemmas.{own_releases}
+use Rattle.afdx_send.proofs.OwnLemmas.{own_releases, same_get}
 use Rattle.afdx_send.proofs.RegulatorLemmas.{turn_same}
 
 -- the sub-VLs of what was taken are those of the link
@@ -16,9 +16,6 @@ AreSubs subs ss = (i : ℕ) (s : Submission) → slice_get ss i ≡ Some s → (
 
 abbrev pub AllSubs : List LinkRow → List (List Submission) → Type 0
 AllSubs links taken = (i : ℕ) (l : LinkRow) → slice_get links i ≡ Some l → AreSubs l.subs (own_submissions taken i)
-
-same_get : {Y : Type 0} (xs : List Y) (i : ℕ) (a b : Y) → slice_get xs i ≡ Some a → slice_get xs i ≡ Some b → a ≡ b
-same_get xs i a b h k = let e : Some a ≡ Some b = sym h ∙ k in cc e
 
 served_within : (b subs : ℕ) (ss : List Submission) (rs : List Release) → AreSubs subs ss
     → AreReleases b subs ss rs → last_served rs ≤ subs

@@ -13,9 +13,7 @@ use Rattle.afdx_send.specs.Sender.{SenderHistory, IsNextIn, AreAllEmitted}
 use Rattle.afdx_send.proofs.EmitLemmas.{are_ours, get_more, more_of}
 use Rattle.afdx_send.proofs.LawLemmas.{GoInOrder, next_place, order_after}
 use Rattle.afdx_send.proofs.NextLemmas.{AllSubs, comparable, append_append, split_last, all_first}
-
-same_get : {Y : Type 0} (xs : List Y) (i : ℕ) (a b : Y) → slice_get xs i ≡ Some a → slice_get xs i ≡ Some b → a ≡ b
-same_get xs i a b h k = let e : Some a ≡ Some b = sym h ∙ k in cc e
+use Rattle.afdx_send.proofs.OwnLemmas.{same_get}
 
 -- ---- one next emission
 

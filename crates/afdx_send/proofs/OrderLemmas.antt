@@ -14,7 +14,7 @@ use Rattle.afdx_config.specs.Flows.{regulation_of_link}
 use Rattle.afdx_config.specs.Rows.{LinkRow}
 use Rattle.afdx_send.specs.Complete.{IsFor, submissions_of, for_sub, AreReleasesOfAll}
 use Rattle.afdx_send.specs.Releases.{Submission, Release, has_release, IsNext, AreReleases}
-use Rattle.afdx_send.proofs.OwnLemmas.{eqb-same, eqb-other}
+use Rattle.afdx_port.proofs.TurnLemmas.{eqb-same, eqb-other}
 
 -- the submissions without a release. The first one stands at this place
 abbrev left : List Release → ℕ → List Submission → List Submission

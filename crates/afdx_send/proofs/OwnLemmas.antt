@@ -5,19 +5,13 @@ use Rattle.std.proofs.Common.{arith, ◌∙◌, slice_set}
 use Rattle.std.specs.List.{slice_get, AllByRecursion}
 use Rattle.std.proofs.lemmas.List.{get_or-set_same, get_or-set_other}
 use Rattle.std.proofs.lemmas.Bool.{cases_lt, cases_eq}
-use Rattle.std.proofs.lemmas.Bool.Decides.{nat_tests}
 use Rattle.afdx_frame.specs.Regulation.{bag}
 use Rattle.afdx_config.specs.Flows.{regulation_of_link}
 use Rattle.afdx_config.specs.Rows.{LinkRow}
+use Rattle.afdx_port.proofs.TurnLemmas.{eqb-same, eqb-other}
 use Rattle.afdx_send.specs.Emissions.{LinkRelease, own, own_submissions, IsNextOf, AreAllReleases}
 use Rattle.afdx_send.specs.Releases.{Submission, Release, IsNext, AreReleases}
 use Rattle.afdx_send.proofs.ReleaseLemmas.{next_stays, next_was}
-
-pub eqb-same : (a b : ℕ) → a ≡ b → (a == b) ≡ true
-eqb-same a b h = grind (arith, nat_tests)
-
-pub eqb-other : (a b : ℕ) → a ≢ b → (a == b) ≡ false
-eqb-other a b h = grind (arith, nat_tests)
 
 pub own_mine : (x : LinkRelease) (earlier : List LinkRelease) → own x.place (x ∷ earlier)
     ≡ x.release ∷ own x.place earlier
@@ -100,7 +94,7 @@ all_stay links taken place s (x ∷ xs) below before h = (
           | inr a ↦ subst (λ (z : List Submission). IsNext (bag (regulation_of_link l)) l.subs z (own i xs) r) a.1 n
         ]
 
-same_get : {Y : Type 0} (xs : List Y) (i : ℕ) (a b : Y) → slice_get xs i ≡ Some a → slice_get xs i ≡ Some b → a ≡ b
+pub same_get : {Y : Type 0} (xs : List Y) (i : ℕ) (a b : Y) → slice_get xs i ≡ Some a → slice_get xs i ≡ Some b → a ≡ b
 same_get xs i a b h k = let e : Some a ≡ Some b = sym h ∙ k in cc e
 
 -- each link's own are its releases

@@ -7,7 +7,7 @@ use Rattle.std.proofs.lemmas.List.{length-map}
 use Rattle.std.proofs.lemmas.List.Sums.{sum_by-set}
 use Rattle.std.proofs.lemmas.Option.{get_or_from_slice_get, slice_get_within, slice_get-get_or}
 use Rattle.std.proofs.lemmas.Bool.{cases_eq}
-use Rattle.std.proofs.lemmas.Bool.Decides.{nat_tests}
+use Rattle.afdx_port.proofs.TurnLemmas.{eqb-same, eqb-other}
 use Rattle.afdx_send.specs.declared.regulator.Queued.{Queued}
 use Rattle.afdx_send.specs.declared.regulator.Regulator.{Regulator}
 use Rattle.afdx_send.specs.Releases.{Submission, Release, has_release, earliest_after, turn}
@@ -23,12 +23,6 @@ or_left true b h = h
 or_right : (a b : Bool) → (a || b) ≡ false → b ≡ false
 or_right false b h = h
 or_right true b h = cc
-
-eqb-same : (a b : ℕ) → a ≡ b → (a == b) ≡ true
-eqb-same a b h = grind (arith, nat_tests)
-
-eqb-other : (a b : ℕ) → a ≢ b → (a == b) ≡ false
-eqb-other a b h = grind (arith, nat_tests)
 
 -- an element of a longer list
 pub get_longer : {Y : Type 0} (xs : List Y) (y : Y) (i : ℕ) (x : Y) → slice_get xs i ≡ Some x

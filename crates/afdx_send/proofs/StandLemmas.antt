@@ -34,11 +34,8 @@ use Rattle.afdx_send.specs.Regulator.{next_time_of, sub_count}
 use Rattle.afdx_send.specs.Releases.{Submission, Release, IsNext}
 use Rattle.afdx_send.specs.Sender.{SenderHistory, at, HasGiven, messages_held, nexts_of, port_history, StandsFor}
 use Rattle.afdx_send.proofs.LineLemmas.{limited, time_limit, mul_most}
-use Rattle.afdx_send.proofs.OwnLemmas.{own_mine, own_other, before_longer}
+use Rattle.afdx_send.proofs.OwnLemmas.{own_mine, own_other, before_longer, same_get}
 use Rattle.afdx_send.proofs.ReleaseLemmas.{get_set_same, get_set_other, length_set, next_time_is}
-
-pub same_get : {Y : Type 0} (xs : List Y) (i : ℕ) (a b : Y) → slice_get xs i ≡ Some a → slice_get xs i ≡ Some b → a ≡ b
-same_get xs i a b h k = let e : Some a ≡ Some b = sym h ∙ k in cc e
 
 pub read_at : {Y : Type 0} (xs : List Y) (i : ℕ) (x : Y) → i < length xs → x ≡ slice_index_or xs i x
     → slice_get xs i ≡ Some x

@@ -1,10 +1,9 @@
 -- What the output port holds of a released message.
 use Rattle.std.specs.Prelude.{ℕ, ◌+◌, max, min, None, List, length}
-use Rattle.std.proofs.Common.{arith}
 use Rattle.afdx_config.specs.SentList.{Message}
 use Rattle.afdx_frame.specs.Lengths.{least_frame, greatest_frame, frame_overhead}
 use Rattle.afdx_frame.specs.declared.builder.Address.{Address}
-use Rattle.afdx_port.specs.Facts.{Facts, AreLawful}
+use Rattle.afdx_port.specs.Facts.{Facts}
 
 -- its link's identifier, the least length of the link's frames, its sequence number, and the
 -- message
@@ -41,7 +40,3 @@ facts f = record {
       (max (length f.message.payload + frame_overhead) (max least_frame f.least));
   longest_wait = None;
 }
-
--- it is lawful
-pub facts-lawful : (f : Frame) → AreLawful (facts f)
-facts-lawful f = record { least = omega arith; most = omega arith; wait = tt }

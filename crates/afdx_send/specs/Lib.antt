@@ -1,5 +1,6 @@
 pub mod Releases
 pub mod Frames
+pub mod FramesLaw
 pub mod Emissions
 pub mod Agenda
 pub mod Regulator

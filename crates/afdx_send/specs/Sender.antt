@@ -13,7 +13,7 @@ use Rattle.afdx_config.specs.LawfulStream.{Sending}
 use Rattle.afdx_config.specs.Admission.{byte_ns, links_from}
 use Rattle.afdx_config.specs.Lawful.{IsLink, AreDistinct}
 use Rattle.afdx_config.specs.Rows.{SystemRow, LinkRow, Rows}
-use Rattle.afdx_bounds.specs.Sender.{IsSender, one_of_each}
+use Rattle.afdx_bounds.specs.Sender.{IsSender, one_of_each, sender_buffer}
 use Rattle.afdx_bounds.specs.Tables.{sent_flow}
 use Rattle.afdx_port.specs.History as port
 use Rattle.afdx_port.specs.Held as held
@@ -147,7 +147,7 @@ abbrev pub port_history : SenderHistory → List LinkRelease → List (Turn Fram
     port.PortHistory Frame
 port_history h released given time = record {
   byte_ns = byte_ns h.system;
-  buffer = 65536;
+  buffer = sender_buffer;
   entries = entries_of released;
   taken = given;
   time = time;

@@ -99,7 +99,8 @@ impl Released {
 }
 
 impl HasLength for Released {
-    ghost use Rattle.afdx_send.specs.Frames.{facts, facts-lawful};
+    ghost use Rattle.afdx_send.specs.Frames.{facts};
+    ghost use Rattle.afdx_send.specs.FramesLaw.{facts-lawful};
 
     ghost facts = { facts };
 

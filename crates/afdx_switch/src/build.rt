@@ -2,7 +2,7 @@
 
 ghost use Rattle.std.specs.Prelude.{◌≡◌, ℕ, ◌≤◌, ◌<◌, ◌+◌, Option, Some, IfOk, OnOk, IfSome, length, slice_get, vec_len};
 ghost use Rattle.afdx_config.specs.Lawful.{IsLawful};
-ghost use Rattle.afdx_config.specs.Reading.{link_of};
+ghost use Rattle.afdx_config.specs.Reading.{greatest_delay, link_of};
 ghost use Rattle.afdx_config.specs.Rows.{LinkRow, Rows, link_row};
 ghost use Rattle.afdx_frame.specs.Lengths.{least_frame, greatest_buffer};
 ghost use Rattle.afdx_frame.specs.declared.link.Side.{Side};
@@ -68,7 +68,7 @@ fn goes(tables: &Tables, link: usize, port: u8) -> bool
 /// How long the frames of a link may wait for their turn, in ns, if there is a limit.
 #[tactic(auto, unfolding(crate::specs::Tables::longest_wait_of))]
 fn longest_wait(tables: &Tables, link: &Link) -> Option<u64>
-    requires { link.now.latency_us ≤ 100000 }
+    requires { link.now.latency_us ≤ greatest_delay }
     ensures is { result ≡ longest_wait_of tables.now (link_row link.now) }
     ensures small { IfSome result (λ wait. wait ≤ greatest_wait) }
 {

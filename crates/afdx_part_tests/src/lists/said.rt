@@ -227,7 +227,7 @@ fn submission_lines_that_say_nothing(rt: HostRuntime) -> Result<(), Fail> {
 #[test]
 fn a_space_among_digits_whose_memory_is_refused(rt: HostRuntime) {
     let bad_line = LineError::Fault(LineFault::BadLine);
-    let said = said(rt.alloc(), "F 6 A 1 00 00").0;
-    let handed = handed(rt.alloc(), "6 1 1 1000 00 00").0;
-    assert_eq!(rt; (said, handed), (Err(bad_line), Err(bad_line)));
+    let of_frame = said(rt.alloc(), "F 6 A 1 00 00").0;
+    let of_message = handed(rt.alloc(), "6 1 1 1000 00 00").0;
+    assert_eq!(rt; (of_frame, of_message), (Err(bad_line), Err(bad_line)));
 }

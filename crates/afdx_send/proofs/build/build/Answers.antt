@@ -11,7 +11,7 @@ use Rattle.afdx_send.specs.Frames.{facts}
 use Rattle.afdx_send.specs.New.{AreNewLines}
 use Rattle.afdx_send.specs.Sender.{no_calls}
 use Rattle.afdx_send.proofs.NewLemmas.{are_sent, stands_new, quiet_new, held_new, IsNew}
-use Rattle.afdx_send.proofs.StandLemmas.{same_get}
+use Rattle.afdx_send.proofs.OwnLemmas.{same_get}
 use Rattle.afdx_send.proofs.build.build.Goals as goal
 
 made : goal.In_ok-output → Working
