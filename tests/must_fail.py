@@ -5,18 +5,21 @@
 
 Stands on the libraries that are built in CRATES/*/out, where CRATES is crates/ unless it is given.
 A function is proved from the contracts of what it calls, whatever stands in their bodies: so edits
-of several functions are tried in one run of the prover, which checks those functions and what they
-call, and nothing else. Each of them must be refused for its own body, by an error in its own proof
-or an open goal of its own: one that is refused only for what it calls is tried again without that.
-(`rt must-fail` checks the whole crate with each edit, and takes a refusal anywhere.) An edit of
-what is no function, as a constant, is tried alone. It says which function must be refused in a line
-of its own, `refused: MODULE::FUNCTION`, as does one of a method whose name can't be read off the
-file.
+of several functions are tried in one run of the prover, which checks those functions and nothing
+else. What they call besides is taken by its contract, and its proof, which was checked where the
+library was built, is spoiled: that costs nothing, and nothing is told of it. Each function that is
+edited must be refused for its own body, by an error in its own proof or an open goal of its own;
+one that has neither may be refused for what it calls, and is tried again alone. (`rt must-fail`
+checks the whole crate with each edit, and takes a refusal anywhere.) An edit of what is no
+function, as a constant, is tried alone, where an error of a lemma counts too. It says which
+function must be refused in a line of its own, `refused: MODULE::FUNCTION`, as does one of a method
+whose name can't be read off the file.
 
 Prints a line for each edit, then `N passed, M failed`; ends with status 1 if one failed.
 """
 import argparse
 import concurrent.futures
+import functools
 import os
 import pathlib
 import re
@@ -32,7 +35,11 @@ KIT = pathlib.Path(shutil.which("rt") or "rt").resolve().parent.parent
 PARTS = ["src", "specs", "proofs"]
 # what a proof says that names what the edit took away: that tells nothing of the contract
 VANISHED = r"(\./)?proofs/.*(has no field|is not in scope|has no `|was not admitted)"
-OPEN = "`search` did not prove"
+# what it says of an open goal, by its place
+OPEN = r"note: (?:.*: )?(src/\S+?):(\d+):\d+: (it is not proved .*|`search` found .*|error: .*)"
+# what is no definition: it spoils a proof that isn't to be checked, and where a proof is checked by
+# search alone, the prover then seeks no answers to offer, which takes as long as the search
+NONE = "no-definition"
 
 
 class BadEdit(Exception):
@@ -62,15 +69,36 @@ def below(crate: str, named: dict[str, list[str]]) -> set[str]:
     return own.union(*(below(it, named) for it in own))
 
 
-def put_answers(proofs: pathlib.Path, function: str) -> None:
-    """Puts an empty file of answers where there is none: the prover then doesn't seek some to offer.
+@functools.cache
+def functions_of(crate: str) -> frozenset[str]:
+    """The functions of a crate's sources with a body of their own, but those of traits' impls."""
+    found: set[str | None] = set()
+    for path in (CRATES / crate / "src").rglob("*.rt"):
+        text = path.read_text(encoding="utf-8")
+        is_plain = True
+        for line in re.finditer(r".*\n", text):
+            if re.match(r"impl\b|(pub )?trait\b", line[0]):
+                is_plain = " for " not in line[0] and "trait" not in line[0]
+            elif line[0] == "}\n":
+                is_plain = True
+            elif is_plain and re.match(r" *(pub(\(\w+\))? )?(const )?fn \w", line[0]):
+                file = str(path.relative_to(CRATES / crate))
+                found.add(path_of(file, text, line.end()))
+    return frozenset(it for it in found if it)
 
-    Not beside the one proof of functions that call one another, and for names that are plain alone.
+
+def spoil(proofs: pathlib.Path, function: str, name: str) -> None:
+    """Spoils this file of a function's proof, which is made; not where functions call one another.
+
+    Names are those of plain functions and methods alone.
     """
     folder = proofs.joinpath(*function.split("::"))
     if re.fullmatch(r"\w+(::\w+)*", function) and not any(folder.parent.glob("+*")):
+        if name == "Proof.antt":
+            shutil.rmtree(folder, ignore_errors=True)
         folder.mkdir(parents=True, exist_ok=True)
-        (folder / "Answers.antt").touch()
+        with (folder / name).open("a", encoding="utf-8") as file:
+            file.write(f"\npub {NONE} : tt\n{NONE} = tt\n")
 
 
 @dataclass
@@ -80,6 +108,9 @@ class Prover:
     crate: str
     built: pathlib.Path
     kept: pathlib.Path
+
+    def text_of(self, file: str) -> str:
+        return (CRATES / self.crate / file).read_text(encoding="utf-8")
 
     def rlib(self, name: str) -> pathlib.Path:
         return self.built / name / "out/rlib" / f"{name}.rlib"
@@ -96,7 +127,7 @@ class Prover:
             words += ["-L", f"dependency={folder}"]
         words += ["--antt-project", str(KIT / "rattle/logic/antt-project.json")]
         words += ["--logic-built", str(KIT / "logic_built")]
-        words += ["--jobs", "1", "--incremental", str(self.kept)]
+        words += ["--jobs", "1", "--incremental", str(self.kept), "--short-goals"]
         return words + [word for it in functions for word in ("--only", it)]
 
     def says(self, functions: list[str], texts: dict[str, str]) -> str:
@@ -108,8 +139,10 @@ class Prover:
                     shutil.copytree(CRATES / self.crate / part, room / part)
             for path, text in texts.items():
                 (room / path).write_text(text, encoding="utf-8")
+            for function in functions_of(self.crate).difference(functions):
+                spoil(room / "proofs", function, "Proof.antt")
             for function in functions:
-                put_answers(room / "proofs", function)
+                spoil(room / "proofs", function, "Answers.antt")
             ran = subprocess.run(
                 self.command(functions), cwd=room, stdin=subprocess.DEVNULL,
                 stdout=subprocess.PIPE, stderr=subprocess.STDOUT, errors="replace", check=False,
@@ -189,47 +222,57 @@ def together(crate: str, edits: list[Edit]) -> tuple[list[Edit], dict[str, str]]
     return chosen, texts
 
 
-def answers(said: str, crate: str) -> dict[str, str]:
-    """What the prover said of each function. Raises BadEdit where it said nothing."""
+def lines_of(said: str) -> list[str]:
+    """The lines that the prover writes. Raises BadEdit where it did not come to its end."""
     lines = said.splitlines()
     if not lines or not re.match(r"only=\d+ proved=\d+", lines[-1]):
         told = next((it for it in lines if "error" in it), lines[-1] if lines else "nothing")
         raise BadEdit(f"it did not reach the prover: {told[:160]}")
-    found = (re.match(rf"fn {crate}::(\S+): (.*)", it) for it in lines)
-    return {it[1].replace("fn::", ""): it[2] for it in found if it}
+    return lines
 
 
-def own_reason(said: str, function: str, why: str, is_alone: bool) -> str | None:
-    """Why this function, of which the prover says `why`, is refused for its own body, if it is.
+def function_at(file: str, text: str, number: int) -> str | None:
+    """The function that this line of a source file is of: from its attributes to its last line."""
+    lines = text.splitlines(keepends=True)
+    while lines[number - 1].lstrip().startswith("#["):
+        number += 1
+    is_head = re.match(r" *(pub(\(\w+\))? )?(const )?fn \w", lines[number - 1])
+    return path_of(file, text, len("".join(lines[: number if is_head else number - 1])))
+
+
+def own_reason(prover: Prover, said: str, function: str, texts: dict[str, str]) -> str | None:
+    """Why this function is refused for its own body, if it is.
 
     It is, where its own proof has an error, or a goal of it is open, whatever it calls. An error
-    for a name that isn't there tells nothing of the body. Where the edit was tried alone, and the
-    function calls nothing that is refused, an error of a lemma that its proof cites tells as much.
+    for a name that isn't there tells nothing of the body.
     """
-    place = rf"(\./)?proofs/{re.escape(function.replace('::', '/'))}/\S+"
-    if is_alone and "it calls" not in why:
-        place = r"\S+"
-    told = [it for it in said.splitlines() if re.match(rf"{place}:\d+:\d+: error", it)]
-    if told:
-        own = (it.split(": error: ", 1)[-1] for it in told if not re.match(VANISHED, it))
-        return next(own, None)
-    return why if OPEN in why or "it calls" not in why else None
+    own = rf"(\./)?proofs/{re.escape(function.replace('::', '/'))}/\S+:\d+:\d+: error: (.*)"
+    for line in lines_of(said):
+        if found := re.match(own, line):
+            if NONE not in line and not re.match(VANISHED, line):
+                return found[2]
+        elif found := re.match(OPEN, line):
+            text = texts.get(found[1]) or prover.text_of(found[1])
+            # (a type's name may have those of its parameters behind it)
+            if function_at(found[1], text, int(found[2])) == re.sub(r"\+\w+", "", function):
+                return found[3]
+    return None
 
 
-def refusal(edit: Edit, said: str, answered: dict[str, str], is_alone: bool) -> str | None:
-    """Why the prover refused a function of the edit; None where that may be for another edit.
+def lemma_reason(said: str) -> str | None:
+    """An error of a lemma, which tells as much of an edit that is tried alone."""
+    errors = (re.match(r"(?:\./)?proofs/\S+:\d+:\d+: error: (.*)", it) for it in lines_of(said))
+    own = (it for it in errors if it and NONE not in it[0] and not re.match(VANISHED, it[0]))
+    return next((it[1] for it in own if "/Proof.antt:" not in it[0]), None)
 
-    Raises BadEdit where it was not refused, or, alone, for nothing that its own body says.
-    """
-    of_it = {it: answered.get(it, "not looked at") for it in edit.functions}
-    refused = {it: why for it, why in of_it.items() if why not in ("proved", "not looked at")}
-    if not refused:
-        raise BadEdit(f"NOT REFUSED: {of_it}")
-    own = ((it, own_reason(said, it, why, is_alone)) for it, why in refused.items())
-    reason = next((f"{it}: {reason[:100]}" for it, reason in own if reason), None)
-    if is_alone and reason is None:
-        raise BadEdit(f"refused only for what it calls, or for names that it took away: {refused}")
-    return reason
+
+def refusal(prover: Prover, edit: Edit, said: str, texts: dict[str, str]) -> str | None:
+    """Which function of the edit the prover refused for its own body, and why."""
+    for function in edit.functions:
+        why = own_reason(prover, said, function, texts)
+        if why:
+            return f"{function}: {why[:100]}"
+    return None
 
 
 def try_together(prover: Prover, edits: list[Edit]) -> tuple[list[Edit], list]:
@@ -241,16 +284,17 @@ def try_together(prover: Prover, edits: list[Edit]) -> tuple[list[Edit], list]:
     left, results = [it for it in edits if it not in chosen], []
     for edit in chosen:
         try:
-            why = refusal(edit, said, answers(said, prover.crate), is_alone)
+            why = refusal(prover, edit, said, texts) or (lemma_reason(said) if is_alone else None)
             if why:
                 results.append((True, f"{edit.name}: refused: {why}"))
+            elif is_alone:
+                raise BadEdit("NOT REFUSED, or not for its own body")
             else:
                 left.append(edit)
         except BadEdit as fault:
             if is_alone:
                 results.append((False, f"{edit.name}: {fault}"))
             else:
-                edit.is_alone = True
                 left.append(edit)
     if not results:
         for edit in chosen:
