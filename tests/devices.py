@@ -20,6 +20,7 @@ import itertools
 import os
 import subprocess
 import sys
+from collections.abc import Iterator
 from typing import NamedTuple
 
 sys.dont_write_bytecode = True
@@ -291,6 +292,7 @@ REPLAYED = {
     ),
     "an odd number of digits": spelled("F 0 A 1 H1 / F 7000 A 2 H2 / F 20000 A 1 030"),
 }
+TOO_OLD = {"frames too old": spelled("F 0 A 1 H1 / F 0 A 2 H2 / F 6720 B 1 H1 / ")}
 MESSAGES = {
     "four messages": submission_list(
         [Message(0, 1, 1 + k % 2, 1000, b"%c" % (97 + k)) for k in range(4)]
@@ -302,72 +304,81 @@ MESSAGES = {
 }
 
 
-def try_all(cases: Cases, program: Program) -> None:
-    """All cases."""
-    source, shim = os.path.join(TOP, "tests", "devices.c"), os.path.join(
-        program.folder, "devices.so"
-    )
+def compile_devices(program: Program) -> None:
+    """Compiles the weak devices, to be loaded before the C library."""
+    source = os.path.join(TOP, "tests", "devices.c")
+    shim = os.path.join(program.folder, "devices.so")
     try:
         subprocess.run(["cc", "-shared", "-fPIC", "-O1", "-o", shim, source, "-ldl"], check=True)
     except (OSError, subprocess.CalledProcessError) as fault:
         raise SystemExit(f"tests/devices.c can't be compiled: {fault}") from None
-    config = program.write("base.toml", made.text_of(TABLES))
+
+
+def short_lists(program: Program, config: str) -> Iterator[tuple]:
+    """Each command on lists of a few lines, read by path and as standard input by turns."""
     old = made.base_tables(2)
     old["link"][1]["latency_us"] = 6
     too_old = program.write("old.toml", made.text_of(old))
-    commands = [("police", POLICE, FRAMES)]
-    commands += [("replay", ["replay", config], REPLAYED)]
-    commands += [("replay --no-admission", ["replay", "--no-admission", config], REPLAYED)]
-    frames_too_old = spelled("F 0 A 1 H1 / F 0 A 2 H2 / F 6720 B 1 H1 / ")
-    commands += [
-        (
-            "replay --no-admission",
-            ["replay", "--no-admission", too_old],
-            {"frames too old": frames_too_old},
-        )
-    ]
-    commands += [("send", ["send", config, "s1"], MESSAGES)]
-    all_cases: list[tuple] = [
-        (f"{command}: {name}", weak_devices, Weak(program, words, given, by_path))
-        for command, words, lists in commands
-        for by_path, (name, given) in zip(itertools.cycle((True, False)), lists.items())
-    ]
-    for command, words, given in (
-        ("police", POLICE, b"".join(b"F %d A 1 %s\n" % (n * 500_000, H1) for n in range(80))),
-        (
-            "replay",
-            ["replay", config],
-            b"".join(b"F %d A 1 %s\n" % (n * 1_000_000, H1) for n in range(30)),
-        ),
-        ("send", ["send", config, "s1"], MESSAGES["four messages"]),
+    unadmitted = ["replay", "--no-admission"]
+    for words, lists in (
+        (POLICE, FRAMES),
+        (["replay", config], REPLAYED),
+        ([*unadmitted, config], REPLAYED),
+        ([*unadmitted, too_old], TOO_OLD),
+        (["send", config, "s1"], MESSAGES),
     ):
-        all_cases.append(
-            (f"{command}: more than 1,000 writes", many_writes, Weak(program, words, given, False))
-        )
-    for command, words, line in (
-        ("police", POLICE, b"R 0 A 1 -\n"),
-        ("replay", ["replay", config], b"R 0 A 1 -\n"),
-        ("send", ["send", config, "s1"], b"0 2 1 1000 61\n"),
+        for by_path, (name, given) in zip(itertools.cycle((True, False)), lists.items()):
+            yield f"{named(words)}: {name}", weak_devices, Weak(program, words, given, by_path)
+
+
+def long_lists(program: Program, config: str) -> Iterator[tuple]:
+    """Each command on a list with a text of many writes, and on one of several buffers."""
+    replay, send = ["replay", config], ["send", config, "s1"]
+    for words, given in (
+        (POLICE, b"".join(b"F %d A 1 %s\n" % (n * 500_000, H1) for n in range(80))),
+        (replay, b"".join(b"F %d A 1 %s\n" % (n * 1_000_000, H1) for n in range(30))),
+        (send, MESSAGES["four messages"]),
     ):
-        all_cases.append(
-            (
-                f"{command}: more than a buffer",
-                large_texts,
-                Weak(program, words, line * 30_000, True),
-            )
-        )
-    all_cases.append(("check", weak_check, program, TABLES, 0))
-    all_cases.append(("check, not admitted", weak_check, program, TABLES | {"buffer": 64}, 1))
+        weak = Weak(program, words, given, False)
+        yield f"{named(words)}: more than 1,000 writes", many_writes, weak
+    for words, line in (
+        (POLICE, b"R 0 A 1 -\n"),
+        (replay, b"R 0 A 1 -\n"),
+        (send, b"0 2 1 1000 61\n"),
+    ):
+        weak = Weak(program, words, line * 30_000, True)
+        yield f"{named(words)}: more than a buffer", large_texts, weak
+
+
+def untold_faults(program: Program, config: str) -> Iterator[tuple]:
+    """A fault of each kind where the standard error is full."""
     for name, words, given, status in (
         ("a list's fault", POLICE, b"F\n", 3),
         ("wrong words", ["police", "3", "64", "500"], b"", 2),
         ("a fault of the configuration", ["replay", "/dev/null"], b"", 1),
         ("a fault of a submission list", ["send", config, "s1"], b"x\n", 3),
     ):
-        all_cases.append(
-            (f"{name} on a full standard error", deaf_errors, program, words, given, status)
-        )
-    cases.try_at_once(all_cases)
+        yield f"{name} on a full standard error", deaf_errors, program, words, given, status
+
+
+def named(words: list[str]) -> str:
+    """The command that a case is named by: its word, and its options."""
+    return " ".join([words[0], *(word for word in words if word.startswith("--"))])
+
+
+def try_all(cases: Cases, program: Program) -> None:
+    """All cases."""
+    compile_devices(program)
+    config = program.write("base.toml", made.text_of(TABLES))
+    cases.try_at_once(
+        [
+            *short_lists(program, config),
+            *long_lists(program, config),
+            ("check", weak_check, program, TABLES, 0),
+            ("check, not admitted", weak_check, program, TABLES | {"buffer": 64}, 1),
+            *untold_faults(program, config),
+        ]
+    )
 
 
 if __name__ == "__main__":

@@ -16,6 +16,7 @@ from __future__ import annotations
 import os
 import sys
 import time
+from collections.abc import Iterator
 
 sys.dont_write_bytecode = True
 sys.path.insert(0, os.path.join(os.path.dirname(os.path.abspath(__file__)), "calling"))
@@ -276,55 +277,62 @@ def most_lines(command: Command) -> None:
 
 # ---- configurations of 4 MB ----------------------------------------------------------------------
 
+HEAD = b"profile = 1\nbuffer = 252\n"
+MOST = 4_194_304  # the bytes of the longest configuration
+ROOM = MOST - len(HEAD) - 20
 
-def large_configs() -> list[tuple[str, bytes, bytes]]:
-    """Name, text and fault."""
-    head, most = b"profile = 1\nbuffer = 252\n", 4_194_304
-    room = most - len(head) - 20
+
+def deep_configs() -> list[tuple[str, bytes, bytes]]:
+    """Arrays and tables in one another: name, text and fault."""
+    value, fault = HEAD + b"x = ", b"NotToml"
+    return [
+        ("arrays 80 deep", value + b"[" * 80 + b"]" * 80, b"UnknownKey top 0 key 0"),
+        ("arrays 81 deep", value + b"[" * 81 + b"]" * 81, fault),
+        ("arrays in arrays, open", value + b"[" * ROOM, fault),
+        ("arrays in arrays", value + b"[" * (ROOM // 2) + b"]" * (ROOM // 2), fault),
+        ("tables in tables, open", value + b"{a=" * (ROOM // 3), fault),
+        ("tables in tables", value + b"{a=" * (ROOM // 4) + b"1" + b"}" * (ROOM // 4), fault),
+        ("a key of many parts", HEAD + b"x" + b".x" * (ROOM // 2) + b" = 1", fault),
+        ("a head of many parts", HEAD + b"[x" + b".x" * (ROOM // 2) + b"]", fault),
+    ]
+
+
+def wide_configs() -> list[tuple[str, bytes, bytes]]:
+    """Many keys, tables and receivers: name, text and fault."""
     keys = [b"k%d = 1" % n for n in range(100_000)]
+    lines, row = b"\n".join(keys), b", ".join(keys)
     names = b"".join(b'"n%d", ' % n for n in range(300_000))
     systems = b"".join(b"[[system]]\nname = 's%d'\n" % n for n in range(100_000))
     link = b"[[link]]\nvl = 1\nfrom = 's1'\nto = ["
     known = b"[[system]]\nname = 's1'\nport = 1\nid = 1\npartition = 1\nrate = 100\n"
+    in_line = HEAD + b"system = [{" + row + b"}]"
     return [
-        ("arrays 80 deep", head + b"x = " + b"[" * 80 + b"]" * 80, b"UnknownKey top 0 key 0"),
-        ("arrays 81 deep", head + b"x = " + b"[" * 81 + b"]" * 81, b"NotToml"),
-        ("arrays in arrays, open", head + b"x = " + b"[" * room, b"NotToml"),
-        ("arrays in arrays", head + b"x = " + b"[" * (room // 2) + b"]" * (room // 2), b"NotToml"),
-        ("tables in tables, open", head + b"x = " + b"{a=" * (room // 3), b"NotToml"),
-        (
-            "tables in tables",
-            head + b"x = " + b"{a=" * (room // 4) + b"1" + b"}" * (room // 4),
-            b"NotToml",
-        ),
-        ("a key of many parts", head + b"x" + b".x" * (room // 2) + b" = 1", b"NotToml"),
-        ("a head of many parts", head + b"[x" + b".x" * (room // 2) + b"]", b"NotToml"),
-        ("100,000 keys", head + b"\n".join(keys), b"UnknownKey top 0 key 0"),
-        ("100,000 keys in a table", head + known + b"\n".join(keys), b"UnknownKey system 1 key 0"),
-        (
-            "100,000 keys in a table in a line",
-            head + b"system = [{" + b", ".join(keys) + b"}]",
-            b"Missing system 1 key 1",
-        ),
-        ("100,000 systems", head + systems, b"OutOfRange top 0 key 3"),
-        ("300,000 receivers", head + known + link + names + b"]\n", b"OutOfRange link 1 key 3"),
-        ("a long text", head + b'x = "' + b"a" * room + b'"', b"UnknownKey top 0 key 0"),
-        ("a long text, open", head + b'x = "' + b"a" * room, b"NotToml"),
-        (
-            "a long name",
-            head + b'[[system]]\nname = "' + b"a" * (room - 20) + b'"',
-            b"OutOfRange system 1 key 1",
-        ),
-        ("a long number", head + b"x = " + b"1" * room, b"NotToml"),
-        ("zeros before a number", b"profile = 1\nbuffer = " + b"0" * room + b"252\n", b"NotToml"),
-        ("bytes of zero", b"\0" * most, b"NotToml"),
-        ("bytes that are no text", head + b"# \xff\n", b"NotToml"),
-        ("two byte order marks", b"\xef\xbb\xbf" * 2 + made.example("base.toml"), b"NotToml"),
-        ("text of 16 bits", made.example("base.toml").decode().encode("utf-16"), b"NotToml"),
-        ("a long remark", head + b"#" * room, b""),
-        ("many empty lines", head + b"\n" * room, b""),
-        ("a byte order mark", b"\xef\xbb\xbf" + made.example("base.toml"), b""),
-        ("carriage returns", made.example("base.toml").replace(b"\n", b"\r\n"), b""),
+        ("100,000 keys", HEAD + lines, b"UnknownKey top 0 key 0"),
+        ("100,000 keys in a table", HEAD + known + lines, b"UnknownKey system 1 key 0"),
+        ("100,000 keys in a table in a line", in_line, b"Missing system 1 key 1"),
+        ("100,000 systems", HEAD + systems, b"OutOfRange top 0 key 3"),
+        ("300,000 receivers", HEAD + known + link + names + b"]\n", b"OutOfRange link 1 key 3"),
+    ]
+
+
+def long_configs() -> list[tuple[str, bytes, bytes]]:
+    """Long values, and bytes around what is meant: name, text and fault, none where it is sound."""
+    base, fault = made.example("base.toml"), b"NotToml"
+    name = HEAD + b'[[system]]\nname = "' + b"a" * (ROOM - 20) + b'"'
+    return [
+        ("a long text", HEAD + b'x = "' + b"a" * ROOM + b'"', b"UnknownKey top 0 key 0"),
+        ("a long text, open", HEAD + b'x = "' + b"a" * ROOM, fault),
+        ("a long name", name, b"OutOfRange system 1 key 1"),
+        ("a long number", HEAD + b"x = " + b"1" * ROOM, fault),
+        ("zeros before a number", b"profile = 1\nbuffer = " + b"0" * ROOM + b"252\n", fault),
+        ("bytes of zero", b"\0" * MOST, fault),
+        ("bytes that are no text", HEAD + b"# \xff\n", fault),
+        ("two byte order marks", b"\xef\xbb\xbf" * 2 + base, fault),
+        ("text of 16 bits", base.decode().encode("utf-16"), fault),
+        ("a long remark", HEAD + b"#" * ROOM, b""),
+        ("many empty lines", HEAD + b"\n" * ROOM, b""),
+        ("a byte order mark", b"\xef\xbb\xbf" + base, b""),
+        ("carriage returns", base.replace(b"\n", b"\r\n"), b""),
     ]
 
 
@@ -355,37 +363,35 @@ def long_words(program: Program) -> None:
     answers(program.run("send", config, "s" * 100_000, "-"), 2, b"", b"words NoSuchSystem\n")
 
 
-def try_all(cases: Cases, program: Program) -> None:
-    """All cases."""
-    base, commands = made.example("base.toml"), commands_of(program)
-    frames = b"F 0 A 1 %s\r\n# a remark\n\nF 0 A 1 %s\nR 1000000 A 1 %s" % (
-        H1,
-        H1,
-        sealed(HELLO).hex().encode(),
-    )
+def list_cases(name: str, command: Command) -> Iterator[tuple]:
+    """What is tried with a command's list."""
     messages = [Message(0, 1, 1, 1000, b"first"), Message(7, 1, 2, 1000, bytes(range(17)))]
     messages.append(Message(10**7, 1, 1, 1000, b"x"))
+    sound = sealed(HELLO).hex().encode()
+    frames = b"F 0 A 1 %s\r\n# a remark\n\nF 0 A 1 %s\nR 1000000 A 1 %s" % (H1, H1, sound)
+    if command.is_frames:
+        yield f"{name}: beginnings of a list", frame_list_beginnings, command, frames
+    else:
+        yield f"{name}: beginnings of a list", submission_list_beginnings, command, messages
+    yield f"{name}: the longest lines", longest_lines, command
+    yield f"{name}: odd lines", odd_lines, command
+    yield f"{name}: long numbers", long_numbers, command
+    yield f"{name}: the most lines", most_lines, command
+
+
+def try_all(cases: Cases, program: Program) -> None:
+    """All cases."""
+    base = made.example("base.toml")
     all_cases: list[tuple] = [("beginnings of a frame", frame_beginnings, program.apart())]
     if made.tomllib is None:
         print("skipped the beginnings of a configuration: they need Python 3.11")
     for part in range(4) if made.tomllib else ():
         name = f"beginnings of a configuration, {part + 1} of 4"
         all_cases.append((name, config_beginnings, program, base, part, 4))
-    for name, command in commands.items():
-        if command.is_frames:
-            all_cases.append(
-                (f"{name}: beginnings of a list", frame_list_beginnings, command, frames)
-            )
-        else:
-            all_cases.append(
-                (f"{name}: beginnings of a list", submission_list_beginnings, command, messages)
-            )
-        all_cases.append((f"{name}: the longest lines", longest_lines, command))
-        all_cases.append((f"{name}: odd lines", odd_lines, command))
-        all_cases.append((f"{name}: long numbers", long_numbers, command))
-        all_cases.append((f"{name}: the most lines", most_lines, command))
+    for name, command in commands_of(program).items():
+        all_cases += list_cases(name, command)
     all_cases.append(("long words", long_words, program.apart()))
-    for name, text, fault in large_configs():
+    for name, text, fault in [*deep_configs(), *wide_configs(), *long_configs()]:
         all_cases.append((f"a configuration: {name}", large_config, program, text, fault))
     cases.try_at_once(all_cases)
 

@@ -232,16 +232,11 @@ def drops(series: Series) -> str:
     for step in range(count):
         parts += bar(series, step, place_x, place_y, present)
     parts.append(line(left, bottom, right, bottom, "axis"))
-    parts.append(
-        text(
-            left,
-            bottom + 36,
-            f"time of the list in {unit}; a bar is "
-            f"{in_unit(series.width, unit)} {unit} wide; its height is a number of frames, or of "
-            "copies for lost and too-old",
-            "muted",
-        )
+    told = (
+        f"time of the list in {unit}; a bar is {in_unit(series.width, unit)} {unit} wide; "
+        "its height is a number of frames, or of copies for lost and too-old"
     )
+    parts.append(text(left, bottom + 36, told, "muted"))
     return picture(bottom + 44, parts, "Drops by reason over time")
 
 

@@ -39,14 +39,12 @@ def parsed(text):
     return {key: tables.get(key, []) for key in ("system", "link", "port")} | tables
 
 
-def random_tables(random):
-    """Lawful tables; often admitted, as the jitters and latencies are ample in half of the
-    cases."""
-    profile = random.choice([1, 1, 2])
+def random_systems(random, profile):
+    """Systems at ports of their own."""
     rates = [10, 100, 100, 100] + ([1000, 1000] if profile == 2 else [])
     count = random.randint(2, 6)
     ports = random.sample(range(1, 25), count)
-    systems = [
+    return [
         {
             "name": f"s{place}",
             "port": ports[place],
@@ -56,51 +54,56 @@ def random_tables(random):
         }
         for place in range(count)
     ]
-    names = [system["name"] for system in systems]
-    ample = random.random() < 0.6
-    links = []
-    for vl in random.sample([0, 1, 2, 3, 255, 256, 4660, 65535], random.randint(1, 5)):
-        sender = random.choice(names)
-        others = [name for name in names if name != sender]
-        lmin = random.choice([64, 64, 64, 65, 100, 300])
-        lmax = max(
-            lmin, random.choice([64, 80, 100, 300, 1518] if not ample else [64, 80, 100, 300])
-        )
-        bag = random.choice(BAGS[4:] if ample else BAGS)
-        latency = (
-            random.choice([1, 6, 20, 100, 1000, 100000])
-            if not ample
-            else random.choice([20000, 100000])
-        )
-        links.append(
-            {
-                "vl": vl,
-                "from": sender,
-                "to": random.sample(others, random.randint(1, len(others))),
-                "bag_ms": bag,
-                "lmin": lmin,
-                "lmax": lmax,
-                "jitter_us": random.choice([0, 500, 1000 * bag])
-                if not ample
-                else min(1000 * bag, 4000),
-                "priority": random.choice(["high", "low"]),
-                "policing": random.choice(["byte", "frame"]),
-                "latency_us": latency,
-                "skew_us": random.choice([1, 1000, 100000]) if not ample else 100000,
-                "subs": random.randint(1, 4),
-            }
-        )
-    coms = []
+
+
+def random_link(random, vl, names, ample):
+    """A link between these systems."""
+    sender = random.choice(names)
+    others = [name for name in names if name != sender]
+    lmin = random.choice([64, 64, 64, 65, 100, 300])
+    lmax = max(lmin, random.choice([64, 80, 100, 300] if ample else [64, 80, 100, 300, 1518]))
+    bag = random.choice(BAGS[4:] if ample else BAGS)
+    latency = random.choice([20000, 100000] if ample else [1, 6, 20, 100, 1000, 100000])
+    return {
+        "vl": vl,
+        "from": sender,
+        "to": random.sample(others, random.randint(1, len(others))),
+        "bag_ms": bag,
+        "lmin": lmin,
+        "lmax": lmax,
+        "jitter_us": min(1000 * bag, 4000) if ample else random.choice([0, 500, 1000 * bag]),
+        "priority": random.choice(["high", "low"]),
+        "policing": random.choice(["byte", "frame"]),
+        "latency_us": latency,
+        "skew_us": 100000 if ample else random.choice([1, 1000, 100000]),
+        "subs": random.randint(1, 4),
+    }
+
+
+def random_ports(random, links):
+    """A port at most of the links' receivers."""
+    ports = []
     for link in links:
         for name in link["to"]:
             if random.random() < 0.8:
                 kind = random.choice(["sampling", "queuing"])
-                depth = 1 if kind == "sampling" else random.randint(1, 64)
-                coms.append(
-                    {"system": name, "link": link["vl"], "udp": 1000, "kind": kind, "depth": depth}
-                )
-    buffer = random.choice([64, 200, 700, 3000]) if not ample else 65536
-    return {"profile": profile, "buffer": buffer, "system": systems, "link": links, "port": coms}
+                row = {"system": name, "link": link["vl"], "udp": 1000, "kind": kind}
+                ports.append(row | {"depth": 1 if kind == "sampling" else random.randint(1, 64)})
+    return ports
+
+
+def random_tables(random):
+    """Lawful tables; often admitted, as the jitters and latencies are ample in half of the
+    cases."""
+    profile = random.choice([1, 1, 2])
+    systems = random_systems(random, profile)
+    names = [system["name"] for system in systems]
+    ample = random.random() < 0.6
+    numbers = random.sample([0, 1, 2, 3, 255, 256, 4660, 65535], random.randint(1, 5))
+    links = [random_link(random, vl, names, ample) for vl in numbers]
+    ports = random_ports(random, links)
+    buffer = 65536 if ample else random.choice([64, 200, 700, 3000])
+    return {"profile": profile, "buffer": buffer, "system": systems, "link": links, "port": ports}
 
 
 def changed_config(random, text):

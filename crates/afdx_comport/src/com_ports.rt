@@ -47,11 +47,21 @@ impl ComPort {
 /// The communication ports of an end system (ARINC 664 Part 7). A contract sees them as a list of
 /// ports in the order of the tables, each with its link, its UDP port, the messages that it holds
 /// and the room that a message which was given back leaves for the next one.
-#[derive(Drop)]
 pub struct ComPorts {
     alloc: Global,
     places: HashMap<(VlId, u16), usize>,
     ports: Vec<ComPort>,
+}
+
+impl Drop for ComPorts {
+    // (written out, it is one call wherever a value is let go)
+    fn drop(self) {
+        let Self {
+            alloc,
+            places,
+            ports,
+        } = self;
+    }
 }
 
 impl Model for ComPorts {

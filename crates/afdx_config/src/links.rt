@@ -12,9 +12,16 @@ use std::alloc::{AllocError, Global};
 use std::marker::Model;
 
 /// The links by identifier, in file order.
-#[derive(Debug, Drop)]
+#[derive(Debug)]
 pub(crate) struct Links {
     by_vl: IndexMap<VlId, Link>,
+}
+
+impl Drop for Links {
+    // (written out, it is one call wherever a value is let go)
+    fn drop(self) {
+        let Self { by_vl } = self;
+    }
 }
 
 impl Model for Links {

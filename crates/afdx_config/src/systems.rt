@@ -13,9 +13,16 @@ use std::alloc::{AllocError, Global};
 use std::marker::Model;
 
 /// The systems by name, in file order.
-#[derive(Debug, Drop)]
+#[derive(Debug)]
 pub(crate) struct Systems {
     by_name: IndexMap<String, System>,
+}
+
+impl Drop for Systems {
+    // (written out, it is one call wherever a value is let go)
+    fn drop(self) {
+        let Self { by_name } = self;
+    }
 }
 
 impl Model for Systems {

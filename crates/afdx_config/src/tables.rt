@@ -8,13 +8,26 @@ use std::marker::Model;
 
 /// The tables of a network: its systems, its links and the communication ports of its systems, each
 /// in the order of the file. Every rule of the format holds in them.
-#[derive(Debug, Drop)]
+#[derive(Debug)]
 pub struct Tables {
     profile: u64,
     buffer: u64,
     systems: Systems,
     links: Links,
     coms: Vec<ComRow>,
+}
+
+impl Drop for Tables {
+    // (written out, it is one call wherever a value is let go)
+    fn drop(self) {
+        let Self {
+            profile,
+            buffer,
+            systems,
+            links,
+            coms,
+        } = self;
+    }
 }
 
 impl Model for Tables {

@@ -42,10 +42,16 @@ fn first_side(a: Option<Due>, b: Option<Due>, until: u64) -> Option<Side>
 }
 
 /// The switches of both sides.
-#[derive(Drop)]
 pub struct Network {
     a: Switch,
     b: Switch,
+}
+
+impl Drop for Network {
+    // (written out, it is one call wherever a value is let go)
+    fn drop(self) {
+        let Self { a, b } = self;
+    }
 }
 
 impl Network {

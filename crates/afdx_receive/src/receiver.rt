@@ -33,10 +33,16 @@ pub(crate) struct Endpoint {
 /// keeps the number of the frame that came last on each network, valid or not, and the number and
 /// time of the frame that won last. A contract speaks of it as what it stands for: a list of all
 /// that arrived, the newest first.
-#[derive(Drop)]
 pub struct Receiver {
     links: Links,
     ports: HashSet<Endpoint>,
+}
+
+impl Drop for Receiver {
+    // (written out, it is one call wherever a value is let go)
+    fn drop(self) {
+        let Self { links, ports } = self;
+    }
 }
 
 /// The memory of each link that goes to the system.

@@ -31,12 +31,23 @@ use std::alloc::{AllocError, Global};
 use std::io::{Read, Write};
 
 /// What a replay works with.
-#[derive(Drop)]
 struct Replay {
     network: Network,
     systems: Systems,
     text: Text,
     counts: Summary,
+}
+
+impl Drop for Replay {
+    // (written out, it is one call wherever a value is let go)
+    fn drop(self) {
+        let Self {
+            network,
+            systems,
+            text,
+            counts,
+        } = self;
+    }
 }
 
 /// Counts an arrival, and the copies that it lost.

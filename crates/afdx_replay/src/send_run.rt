@@ -86,13 +86,24 @@ fn put_refusal(text: &mut Text, n: u64, fault: SendFault) -> Result<(), AllocErr
 }
 
 /// What a run that sends works with.
-#[derive(Drop)]
 struct Sending {
     sender: Sender,
     /// The switch port of its system.
     port: u8,
     text: Text,
     counts: Summary,
+}
+
+impl Drop for Sending {
+    // (written out, it is one call wherever a value is let go)
+    fn drop(self) {
+        let Self {
+            sender,
+            port,
+            text,
+            counts,
+        } = self;
+    }
 }
 
 impl Sending {

@@ -19,7 +19,6 @@ use afdx_port::{Left, Port};
 use std::alloc::{AllocError, Global};
 
 /// What a sender works with.
-#[derive(Drop)]
 pub(crate) struct Working {
     pub(crate) alloc: Global,
     pub(crate) system_id: u16,
@@ -35,6 +34,23 @@ pub(crate) struct Working {
     pub(crate) output: Port<Released>,
     /// What left the port and isn't emitted yet.
     pub(crate) ready: Option<Left<Released>>,
+}
+
+impl Drop for Working {
+    // (written out, it is one call wherever a value is let go)
+    fn drop(self) {
+        let Self {
+            alloc,
+            system_id,
+            partition,
+            clock,
+            lines,
+            places,
+            agenda,
+            output,
+            ready,
+        } = self;
+    }
 }
 
 impl Working {

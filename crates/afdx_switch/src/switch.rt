@@ -64,11 +64,17 @@ impl Departure {
 }
 
 /// One switch. It keeps an account for each link, and the frames that still have a turn to come.
-#[derive(Drop)]
 pub struct Switch {
     working: Working,
     /// Room for the shares of a frame. Between calls it is empty.
     shares: Vec<Frame>,
+}
+
+impl Drop for Switch {
+    // (written out, it is one call wherever a value is let go)
+    fn drop(self) {
+        let Self { working, shares } = self;
+    }
 }
 
 impl Model for Switch {

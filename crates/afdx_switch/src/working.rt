@@ -24,7 +24,6 @@ use afdx_port::{Due, Port, Serving, first_due};
 use std::alloc::{AllocError, Global};
 
 /// What a switch works with.
-#[derive(Drop)]
 pub(crate) struct Working {
     pub(crate) alloc: Global,
     /// The last time used.
@@ -39,6 +38,21 @@ pub(crate) struct Working {
     pub(crate) serving: Serving,
     /// The place of the port whose turn goes first.
     pub(crate) first: usize,
+}
+
+impl Drop for Working {
+    // (written out, it is one call wherever a value is let go)
+    fn drop(self) {
+        let Self {
+            alloc,
+            clock,
+            lines,
+            places,
+            ports,
+            serving,
+            first,
+        } = self;
+    }
 }
 
 /// Makes so many shares of a frame.

@@ -18,11 +18,21 @@ use afdx_receive::{Receiver, Reception};
 use std::alloc::{AllocError, Global};
 
 /// An end system: its receiver, and its communication ports, in which nothing is left to read.
-#[derive(Drop)]
 pub(crate) struct EndSystem {
     pub(crate) name: String,
     pub(crate) receiver: Receiver,
     pub(crate) ports: ComPorts,
+}
+
+impl Drop for EndSystem {
+    // (written out, it is one call wherever a value is let go)
+    fn drop(self) {
+        let Self {
+            name,
+            receiver,
+            ports,
+        } = self;
+    }
 }
 
 /// Puts a message to the port at this place, reads it there at once, and adds the line of what was
