@@ -3,7 +3,7 @@
 //! Each reading that lacks memory is made again, so the tests of this file, not those of `faults`,
 //! pass where any one growth is refused.
 
-use afdx_config::{ConfigFault, Kind, Part, Place, SystemId, Tables, read_tables};
+use afdx_config::{ConfigFault, Kind, Link, Part, Place, SystemId, Tables, read_tables};
 use afdx_frame::{Policing, Priority, VlId};
 use afdx_samples::{ShortText, base, changed};
 use std::alloc::Global;
@@ -24,56 +24,81 @@ fn at(part: Part, index: usize, key: u8) -> Place {
     Place { part, index, key }
 }
 
-/// Asserts how many rows the base tables have, and which names and numbers lead to them.
-fn are_counted(rt: &impl Abort, tables: &Tables) {
+/// Whether the tables have as many rows as the base tables.
+fn are_counted(tables: &Tables) -> bool {
     let counts = (
         tables.system_count(),
         tables.link_count(),
         tables.com_count(),
     );
-    assert_eq!(rt; (tables.profile(), tables.buffer()), (1, 252));
-    assert_eq!(rt; counts, (3, 2, 2));
-    let named = (tables.system_named("s2"), tables.system_named("s9"));
-    assert_eq!(rt; named, (Some(SystemId(1)), None));
-    let at_ports = (tables.system_at(3), tables.system_at(4));
-    assert_eq!(rt; at_ports, (Some(SystemId(2)), None));
-    let links = (tables.link_of(VlId(2)), tables.link_of(VlId(3)));
-    assert_eq!(rt; links, (Some(1), None));
+    (tables.profile(), tables.buffer()) == (1, 252) && counts == (3, 2, 2)
 }
 
-/// Asserts the third system and the first link of the base tables.
-fn have_rows(rt: &impl Abort, tables: &Tables) {
-    assert!(rt; tables.system_count() == 3 && tables.link_count() == 2);
+/// Whether the names and numbers of the base tables lead to their rows, and others to none.
+fn are_found(tables: &Tables) -> bool {
+    tables.system_named("s2") == Some(SystemId(1))
+        && tables.system_named("s9").is_none()
+        && tables.system_at(3) == Some(SystemId(2))
+        && tables.system_at(4).is_none()
+        && tables.link_of(VlId(2)) == Some(1)
+        && tables.link_of(VlId(3)).is_none()
+}
+
+/// Whether the third system is that of the base tables.
+fn is_third_system(tables: &Tables) -> bool {
+    if tables.system_count() < 3 {
+        return false;
+    }
     let system = tables.system(SystemId(2));
     let numbers = (system.port, system.id, system.partition, system.rate);
-    assert_eq!(rt; (system.name.as_str(), numbers), ("s3", (3, 3, 1, 100)));
-    assert_eq!(rt; tables.byte_ns(SystemId(2)), 80);
-    let link = tables.link(0);
-    assert_eq!(rt; (link.vl, link.from), (VlId(1), SystemId(0)));
-    assert_eq!(rt; link.to.as_slice(), [SystemId(2)].as_slice());
-    let traffic = (link.bag_ms, link.lmin, link.lmax, link.jitter_us);
-    assert_eq!(rt; traffic, (1, 64, 64, 500));
-    let treatment = (link.priority, link.policing);
-    assert_eq!(rt; treatment, (Priority::High, Policing::Frame));
-    assert_eq!(rt; (link.latency_us, link.skew_us, link.subs), (17, 1000, 2));
-    assert!(rt; tables.goes_to(0, SystemId(2)) && !tables.goes_to(0, SystemId(1)));
+    system.name.as_str() == "s3" && numbers == (3, 3, 1, 100) && tables.byte_ns(SystemId(2)) == 80
 }
 
-/// Asserts the second port entry of the base tables.
-fn have_ports(rt: &impl Abort, tables: &Tables) {
-    assert!(rt; tables.com_count() == 2);
+/// Whether a link has the traffic and the treatment of the first one of the base tables.
+fn is_treated(link: &Link) -> bool {
+    (link.bag_ms, link.lmin, link.lmax, link.jitter_us) == (1, 64, 64, 500)
+        && (link.priority, link.policing) == (Priority::High, Policing::Frame)
+        && (link.latency_us, link.skew_us, link.subs) == (17, 1000, 2)
+}
+
+/// Whether the first link is that of the base tables.
+fn is_first_link(tables: &Tables) -> bool {
+    if tables.link_count() < 1 {
+        return false;
+    }
+    let link = tables.link(0);
+    (link.vl, link.from) == (VlId(1), SystemId(0))
+        && link.to.as_slice() == [SystemId(2)].as_slice()
+        && is_treated(link)
+}
+
+/// Whether the first link goes to the third system, and to no second one.
+fn goes_to_the_third(tables: &Tables) -> bool {
+    if tables.link_count() < 1 || tables.system_count() < 3 {
+        return false;
+    }
+    tables.goes_to(0, SystemId(2)) && !tables.goes_to(0, SystemId(1))
+}
+
+/// Whether the second port entry is that of the base tables.
+fn is_second_port(tables: &Tables) -> bool {
+    if tables.com_count() < 2 {
+        return false;
+    }
     let com = tables.com(1);
-    let key = (com.system, com.link, com.udp);
-    assert_eq!(rt; key, (SystemId(2), VlId(2), 2000));
-    assert_eq!(rt; (com.kind, com.depth), (Kind::Queuing, 4));
+    (com.system, com.link, com.udp) == (SystemId(2), VlId(2), 2000)
+        && (com.kind, com.depth) == (Kind::Queuing, 4)
 }
 
 #[test]
 fn base_tables(rt: HostRuntime) -> Result<(), Fail> {
     let tables = read(rt.alloc(), base().as_bytes())?;
-    are_counted(&rt, &tables);
-    have_rows(&rt, &tables);
-    have_ports(&rt, &tables);
+    assert!(rt; are_counted(&tables));
+    assert!(rt; are_found(&tables));
+    assert!(rt; is_third_system(&tables));
+    assert!(rt; is_first_link(&tables));
+    assert!(rt; goes_to_the_third(&tables));
+    assert!(rt; is_second_port(&tables));
     Ok(())
 }
 
@@ -104,7 +129,7 @@ fn fault_of(alloc: Global, text: &[u8]) -> Option<ConfigFault> {
 #[test]
 fn refused_readings_are_made_again(rt: HostRuntime) -> Result<(), Fail> {
     let tables = read(rt.alloc(), base().as_bytes())?;
-    are_counted(&rt, &tables);
+    assert!(rt; are_counted(&tables));
     let text = changed(base(), "depth = 4", "depth = 65")?;
     let fault = fault_of(rt.alloc(), text.as_bytes());
     assert_eq!(rt; fault, Some(ConfigFault::OutOfRange(at(Part::Port, 2, 5))));
