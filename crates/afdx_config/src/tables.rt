@@ -43,7 +43,8 @@ impl Model for Tables {
 }
 
 impl Tables {
-    ghost use Rattle.std.specs.Prelude.{◌≡◌, ◌<◌, ◌≤◌, length, slice_get, Some, option_map, IfSome};
+    ghost use Rattle.std.specs.Prelude.{◌≡◌, ◌<◌, ◌≤◌, length, slice_get};
+    ghost use Rattle.std.specs.Prelude.{Some, option_map, IfSome};
     ghost use Rattle.afdx_config.specs.Rows.{SystemRow, LinkRow, system_row, link_row, port_row};
     ghost use Rattle.afdx_config.specs.Rows.{port_rows, rows_with, is_to};
     ghost use Rattle.afdx_config.specs.Admission.{byte_ns};

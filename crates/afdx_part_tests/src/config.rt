@@ -24,7 +24,7 @@ fn at(part: Part, index: usize, key: u8) -> Place {
     Place { part, index, key }
 }
 
-/// Whether the tables have as many rows as the base tables.
+/// Whether the tables have the profile, the buffer and as many rows as the base tables.
 fn are_counted(tables: &Tables) -> bool {
     let counts = (
         tables.system_count(),
@@ -72,7 +72,7 @@ fn is_first_link(tables: &Tables) -> bool {
         && is_treated(link)
 }
 
-/// Whether the first link goes to the third system, and to no second one.
+/// Whether the first link goes to the third system, and not to the second.
 fn goes_to_the_third(tables: &Tables) -> bool {
     if tables.link_count() < 1 || tables.system_count() < 3 {
         return false;
