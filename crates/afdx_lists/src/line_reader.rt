@@ -21,7 +21,7 @@ const CHUNK: usize = 65_536;
 /// Takes the lines of a list one by one, in memory that doesn't grow.
 ///
 /// It holds what was read and not yet taken, and the line that was taken last.
-#[derive(Debug)]
+#[derive(Debug, Drop)]
 pub struct LineReader {
     chunk: Vec<u8>,
     line_start: usize,
@@ -34,20 +34,6 @@ pub struct LineReader {
     ghost ordered: { start ≤ end },
     ghost within: { end ≤ vec_len chunk },
     ghost room: { vec_len chunk ≡ 65536 },
-}
-
-impl Drop for LineReader {
-    // (written out, it is one call wherever a value is let go)
-    fn drop(self) {
-        let Self {
-            chunk,
-            line_start,
-            line_end,
-            start,
-            end,
-            lines,
-        } = self;
-    }
 }
 
 /// Room for what is held.

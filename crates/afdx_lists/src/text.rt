@@ -32,7 +32,7 @@ struct Numeral {
 /// So the digits of such a number are kept until another one is put.
 ///
 /// Where a piece finds no memory, what stands in the text is open, until it is cleared.
-#[derive(Debug)]
+#[derive(Debug, Drop)]
 pub struct Text {
     room: Vec<u8>,
     end: usize,
@@ -41,18 +41,6 @@ pub struct Text {
     /// The number of a line that was put last.
     line: Numeral,
     ghost within: { end ≤ vec_len room },
-}
-
-impl Drop for Text {
-    // (written out, it is one call wherever a value is let go)
-    fn drop(self) {
-        let Self {
-            room,
-            end,
-            time,
-            line,
-        } = self;
-    }
 }
 
 impl Numeral {

@@ -55,7 +55,7 @@ fn is_third_system(tables: &Tables) -> bool {
 }
 
 /// Whether a link has the traffic and the treatment of the first one of the base tables.
-fn is_treated(link: &Link) -> bool {
+fn is_treated_as_the_first(link: &Link) -> bool {
     (link.bag_ms, link.lmin, link.lmax, link.jitter_us) == (1, 64, 64, 500)
         && (link.priority, link.policing) == (Priority::High, Policing::Frame)
         && (link.latency_us, link.skew_us, link.subs) == (17, 1000, 2)
@@ -69,7 +69,7 @@ fn is_first_link(tables: &Tables) -> bool {
     let link = tables.link(0);
     (link.vl, link.from) == (VlId(1), SystemId(0))
         && link.to.as_slice() == [SystemId(2)].as_slice()
-        && is_treated(link)
+        && is_treated_as_the_first(link)
 }
 
 /// Whether the first link goes to the third system, and not to the second.
@@ -129,7 +129,7 @@ fn fault_of(alloc: Global, text: &[u8]) -> Option<ConfigFault> {
 #[test]
 fn refused_readings_are_made_again(rt: HostRuntime) -> Result<(), Fail> {
     let tables = read(rt.alloc(), base().as_bytes())?;
-    assert!(rt; are_counted(&tables));
+    assert!(rt; are_counted(&tables) && are_found(&tables));
     let text = changed(base(), "depth = 4", "depth = 65")?;
     let fault = fault_of(rt.alloc(), text.as_bytes());
     assert_eq!(rt; fault, Some(ConfigFault::OutOfRange(at(Part::Port, 2, 5))));

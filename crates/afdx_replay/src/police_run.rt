@@ -21,16 +21,10 @@ use std::alloc::{AllocError, Global};
 use std::io::{Read, Write};
 
 /// The accounts of one link, one at each switch.
+#[derive(Drop)]
 struct Policers {
     a: LinkAccount,
     b: LinkAccount,
-}
-
-impl Drop for Policers {
-    // (written out, it is one call wherever a value is let go)
-    fn drop(self) {
-        let Self { a, b } = self;
-    }
 }
 
 impl Policers {

@@ -20,16 +20,10 @@ use std::alloc::{AllocError, Global};
 
 /// The end systems of a network. A contract speaks of them as what they stand for: a list of all
 /// frames that were handed over to them, the newest first.
+#[derive(Drop)]
 pub struct Systems {
     /// By number of their ports, from 0.
     at_ports: Vec<Option<EndSystem>>,
-}
-
-impl Drop for Systems {
-    // (written out, it is one call wherever a value is let go)
-    fn drop(self) {
-        let Self { at_ports } = self;
-    }
 }
 
 /// The system at a port of the switch, if there is one, at which nothing arrived.
