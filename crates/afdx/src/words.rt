@@ -52,6 +52,11 @@ const CONFIG_HELP: &str = "The path of a configuration (TOML), at most 4,194,304
 
 const LIST_HELP: &str = "The path of a frame list, or - for standard input";
 
+/// A command, as yet without words.
+fn command<'a>(alloc: Global, name: &'a str, about: &'a str, after: &'a str) -> Command<'a> {
+    Command::new(alloc, name).about(about).after_help(after)
+}
+
 /// An option without a value.
 fn flag<'a>(alloc: Global, name: &'a str, help: &'a str) -> Arg<'a> {
     Arg::new(alloc, name)
@@ -119,10 +124,8 @@ Example:
   afdx check examples/network.toml";
 
 fn check_command<'a>(alloc: Global) -> Result<Command<'a>, AllocError> {
-    Command::new(alloc, "check")
-        .about(CHECK_ABOUT)
-        .after_help(CHECK_AFTER)
-        .args(vec![in alloc; explain_option(alloc), word(alloc, "CONFIG", CONFIG_HELP)]?)
+    let words = vec![in alloc; explain_option(alloc), word(alloc, "CONFIG", CONFIG_HELP)]?;
+    command(alloc, "check", CHECK_ABOUT, CHECK_AFTER).args(words)
 }
 
 const REPLAY_ABOUT: &str = "Replays a list of frames through both switches to the systems";
@@ -154,17 +157,15 @@ Example:
 const FREELY_HELP: &str = "Replays also in tables that are not admitted";
 
 fn replay_command<'a>(alloc: Global) -> Result<Command<'a>, AllocError> {
-    Command::new(alloc, "replay")
-        .about(REPLAY_ABOUT)
-        .after_help(REPLAY_AFTER)
-        .args(vec![in alloc;
-            flag(alloc, "no-admission", FREELY_HELP),
-            explain_option(alloc),
-            line_buffered(alloc),
-            summary_option(alloc),
-            word(alloc, "CONFIG", CONFIG_HELP),
-            word(alloc, "LIST", LIST_HELP),
-        ]?)
+    let words = vec![in alloc;
+        flag(alloc, "no-admission", FREELY_HELP),
+        explain_option(alloc),
+        line_buffered(alloc),
+        summary_option(alloc),
+        word(alloc, "CONFIG", CONFIG_HELP),
+        word(alloc, "LIST", LIST_HELP),
+    ]?;
+    command(alloc, "replay", REPLAY_ABOUT, REPLAY_AFTER).args(words)
 }
 
 const SEND_ABOUT: &str = "Sends the messages of a list from one system, as a list for replay";
@@ -200,17 +201,15 @@ const SUBMISSIONS_HELP: &str = "The path of a submission list, or - for standard
 const SYSTEM_HELP: &str = "The name of the system that sends";
 
 fn send_command<'a>(alloc: Global) -> Result<Command<'a>, AllocError> {
-    Command::new(alloc, "send")
-        .about(SEND_ABOUT)
-        .after_help(SEND_AFTER)
-        .args(vec![in alloc;
-            explain_option(alloc),
-            line_buffered(alloc),
-            summary_option(alloc),
-            word(alloc, "CONFIG", CONFIG_HELP),
-            word(alloc, "SYSTEM", SYSTEM_HELP),
-            word(alloc, "SUBMISSIONS", SUBMISSIONS_HELP),
-        ]?)
+    let words = vec![in alloc;
+        explain_option(alloc),
+        line_buffered(alloc),
+        summary_option(alloc),
+        word(alloc, "CONFIG", CONFIG_HELP),
+        word(alloc, "SYSTEM", SYSTEM_HELP),
+        word(alloc, "SUBMISSIONS", SUBMISSIONS_HELP),
+    ]?;
+    command(alloc, "send", SEND_ABOUT, SEND_AFTER).args(words)
 }
 
 const BAG_HELP: &str = "The bandwidth allocation gap in ms: 1, 2, 4, 8, 16, 32, 64 or 128";
@@ -253,22 +252,20 @@ fn policing_option<'a>(alloc: Global) -> Arg<'a> {
 }
 
 fn police_command<'a>(alloc: Global) -> Result<Command<'a>, AllocError> {
-    Command::new(alloc, "police")
-        .about(POLICE_ABOUT)
-        .after_help(POLICE_AFTER)
-        .args(vec![in alloc;
-            number_option(alloc, "vl", "1", VL_HELP),
-            number_option(alloc, "port", "1", PORT_HELP),
-            number_option(alloc, "lmin", "64", LMIN_HELP),
-            policing_option(alloc),
-            explain_option(alloc),
-            line_buffered(alloc),
-            summary_option(alloc),
-            number_word(alloc, "BAG_MS", BAG_HELP),
-            number_word(alloc, "LMAX", LMAX_HELP),
-            number_word(alloc, "JITTER_US", JITTER_HELP),
-            word(alloc, "LIST", LIST_HELP),
-        ]?)
+    let words = vec![in alloc;
+        number_option(alloc, "vl", "1", VL_HELP),
+        number_option(alloc, "port", "1", PORT_HELP),
+        number_option(alloc, "lmin", "64", LMIN_HELP),
+        policing_option(alloc),
+        explain_option(alloc),
+        line_buffered(alloc),
+        summary_option(alloc),
+        number_word(alloc, "BAG_MS", BAG_HELP),
+        number_word(alloc, "LMAX", LMAX_HELP),
+        number_word(alloc, "JITTER_US", JITTER_HELP),
+        word(alloc, "LIST", LIST_HELP),
+    ]?;
+    command(alloc, "police", POLICE_ABOUT, POLICE_AFTER).args(words)
 }
 
 const EXPLAIN_ABOUT: &str = "Says in plain words what a line of the program means";
@@ -287,31 +284,26 @@ Examples:
 
 fn explain_command<'a>(alloc: Global) -> Result<Command<'a>, AllocError> {
     let text = word(alloc, "TEXT", "A line, in quotes or not, or a word of one").num_args(1..);
-    Command::new(alloc, "explain")
-        .about(EXPLAIN_ABOUT)
-        .after_help(EXPLAIN_AFTER)
-        .arg(text)
+    command(alloc, "explain", EXPLAIN_ABOUT, EXPLAIN_AFTER).arg(text)
 }
 
-/// With a command more, where memory was there to make it.
+/// With a command more, where memory was there to make both.
 fn with_command<'a>(
-    program: Command<'a>,
+    program: Result<Command<'a>, AllocError>,
     made: Result<Command<'a>, AllocError>,
 ) -> Result<Command<'a>, AllocError> {
-    program.subcommand(made?)
+    program?.subcommand(made?)
 }
 
 /// The words that the program takes.
 pub fn afdx_command<'a>(alloc: Global) -> Result<Command<'a>, AllocError> {
-    let program = Command::new(alloc, "afdx")
+    let program = command(alloc, "afdx", ABOUT, AFTER)
         .version(VERSION)
-        .about(ABOUT)
-        .after_help(AFTER)
         .subcommand_required(true)
         .arg_required_else_help(true);
-    let program = with_command(program, check_command(alloc))?;
-    let program = with_command(program, explain_command(alloc))?;
-    let program = with_command(program, police_command(alloc))?;
-    let program = with_command(program, replay_command(alloc))?;
+    let program = with_command(Ok(program), check_command(alloc));
+    let program = with_command(program, explain_command(alloc));
+    let program = with_command(program, police_command(alloc));
+    let program = with_command(program, replay_command(alloc));
     with_command(program, send_command(alloc))
 }

@@ -8,16 +8,16 @@ use Rattle.afdx_explain.specs.declared.lines.TheConstants.{LINES}
 
 -- the tables of the code
 unfoldable pub faults : List Entry
-faults = map (λ entry. (map (λ form. form.now) entry.0.now, entry.1.now)) FAULTS
+faults = map (λ entry. (entry.0.now, entry.1.now)) FAULTS
 
 unfoldable pub keys : List Entry
-keys = map (λ entry. (map (λ form. form.now) entry.0.now, entry.1.now)) KEYS
+keys = map (λ entry. (entry.0.now, entry.1.now)) KEYS
 
 unfoldable pub kinds : List Entry
-kinds = map (λ entry. (map (λ form. form.now) entry.0.now, entry.1.now)) KINDS
+kinds = map (λ entry. (entry.0.now, entry.1.now)) KINDS
 
 unfoldable pub lines : List Entry
-lines = map (λ entry. (map (λ form. form.now) entry.0.now, entry.1.now)) LINES
+lines = map (λ entry. (entry.0.now, entry.1.now)) LINES
 
 abbrev pub or_else : Option (List ℕ) → Option (List ℕ) → Option (List ℕ)
 or_else (Some text) other = Some text

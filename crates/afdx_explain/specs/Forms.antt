@@ -34,12 +34,20 @@ all_stand_for (one ∷ wanted) (word ∷ words) = stands_for one word && all_sta
 abbrev pub has_form : (line form : List ℕ) → Bool
 has_form line form = all_stand_for (between_spaces form) (between_spaces line)
 
-unfoldable pub has_some_form : (line : List ℕ) (forms : List (List ℕ)) → Bool
-has_some_form line forms = list_any (has_form line) forms
+-- `\n`
+abbrev pub feed : ℕ
+feed = 10
 
--- what a line means that has one of these forms
+-- the forms of an entry, which stand on a line each
+abbrev pub between_feeds : List ℕ → List (List ℕ)
+between_feeds text = slice_split (λ byte. byte == feed) text
+
+unfoldable pub has_some_form : (line forms : List ℕ) → Bool
+has_some_form line forms = list_any (has_form line) (between_feeds forms)
+
+-- the forms of a line, and what a line means that has one of them
 abbrev pub Entry : Type 0
-Entry = List (List ℕ) × List ℕ
+Entry = List ℕ × List ℕ
 
 -- what the first entry says that has a form of the line
 abbrev pub text_among : List Entry → (line : List ℕ) → Option (List ℕ)

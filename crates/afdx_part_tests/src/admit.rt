@@ -5,7 +5,7 @@
 use afdx_admit::{AdmitFault, AdmitText, Admitted, admit, bounds_of};
 use afdx_config::{SystemId, Tables};
 use afdx_frame::VlId;
-use afdx_samples::{ShortText, all_right, base, changed, gigabit, read};
+use afdx_samples::{ShortText, all_right, base, changed, equal, gigabit, read};
 use std::alloc::Global;
 use std::fmt::{self, Write};
 use std::test::Fail;
@@ -128,11 +128,10 @@ fn base_bounds(rt: HostRuntime) -> Result<(), Fail> {
 
 #[test]
 fn tables_come_back(rt: HostRuntime) -> Result<(), Fail> {
-    assert_eq!(rt; judged(rt.alloc(), base())?, (None, 2));
+    equal(judged(rt.alloc(), base())?, (None, 2))?;
     let late = changed(base(), "latency_us = 17", "latency_us = 16")?;
     let wanted = AdmitFault::HighLatency(3, VlId(1), 16_800);
-    assert_eq!(rt; judged(rt.alloc(), late.as_str())?, (Some(wanted), 2));
-    Ok(())
+    equal(judged(rt.alloc(), late.as_str())?, (Some(wanted), 2))
 }
 
 /// A piece of the base text, what takes its place, and the line that is then false, if any.
@@ -176,7 +175,7 @@ fn overloaded_port(rt: HostRuntime) -> Result<(), Fail> {
 fn four_wide_links(rt: HostRuntime) -> Result<(), Fail> {
     let text = network(100, 4, 128, 100_000)?;
     let wanted = AdmitFault::SenderJitter(SystemId(0), 532_160);
-    assert_eq!(rt; judged(rt.alloc(), text.as_str())?, (Some(wanted), 4));
+    equal(judged(rt.alloc(), text.as_str())?, (Some(wanted), 4))?;
     assert!(rt; is_answered(rt.alloc(), text.as_str(), "A5 s1 532160")?);
     Ok(())
 }

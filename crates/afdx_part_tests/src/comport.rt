@@ -3,7 +3,7 @@
 use afdx_comport::{ComPorts, PutFault};
 use afdx_config::{SystemId, Tables};
 use afdx_frame::VlId;
-use afdx_samples::{GREATEST_COUNT, base_tables, largest_tables};
+use afdx_samples::{GREATEST_COUNT, all_right, base_tables, equal, largest_tables};
 use std::alloc::{AllocError, Global};
 use std::process::Abort;
 use std::test::Fail;
@@ -108,11 +108,19 @@ fn is_done(rt: &impl Abort, ports: &mut ComPorts, step: Step) -> Result<bool, Pu
     }
 }
 
-/// Does one step after another at the ports, and asserts what becomes of it.
-fn play(rt: &impl Abort, ports: &mut ComPorts, steps: &[Step]) {
+/// Does one step after another at the ports, and tells the first that becomes something else. Fails
+/// where memory was refused again.
+fn wrong_step(
+    rt: &impl Abort,
+    ports: &mut ComPorts,
+    steps: &[Step],
+) -> Result<Option<Step>, PutFault> {
     for step in steps {
-        assert_eq!(rt; is_done(rt, ports, *step), Ok(true), "{step:?}");
+        if !is_done(rt, ports, *step)? {
+            return Ok(Some(*step));
+        }
     }
+    Ok(None)
 }
 
 #[test]
@@ -132,8 +140,8 @@ fn first_in_is_first_out_through_refused_puts(rt: HostRuntime) -> Result<(), Fai
         Step::Takes(6),
         Step::IsEmpty,
     ];
-    play(&rt, &mut base_ports(rt.alloc())?, steps.as_slice());
-    Ok(())
+    let mut ports = base_ports(rt.alloc())?;
+    all_right(wrong_step(&rt, &mut ports, steps.as_slice())?)
 }
 
 #[test]
@@ -146,8 +154,8 @@ fn refused_put_leaves_the_sample(rt: HostRuntime) -> Result<(), Fail> {
         Step::Shows(6, 2),
         Step::Shows(6, 2),
     ];
-    play(&rt, &mut base_ports(rt.alloc())?, steps.as_slice());
-    Ok(())
+    let mut ports = base_ports(rt.alloc())?;
+    all_right(wrong_step(&rt, &mut ports, steps.as_slice())?)
 }
 
 /// Whether the message is put to the queue of link 2, taken out of it and given back.
@@ -188,7 +196,7 @@ fn each_port_by_itself(rt: HostRuntime) -> Result<(), Fail> {
         has_none(&ports, 2, 1000),
         has_none(&ports, 3, 1000),
     );
-    assert_eq!(rt; none, (true, true, true));
+    equal(none, (true, true, true))?;
     let steps = [
         Step::Sample(5, 1),
         Step::Queue(2),
@@ -196,8 +204,7 @@ fn each_port_by_itself(rt: HostRuntime) -> Result<(), Fail> {
         Step::Takes(2),
         Step::Shows(5, 1),
     ];
-    play(&rt, &mut ports, steps.as_slice());
-    Ok(())
+    all_right(wrong_step(&rt, &mut ports, steps.as_slice())?)
 }
 
 /// How many links have their port at the place of their number.
@@ -220,12 +227,12 @@ fn largest_ports(alloc: Global) -> Result<ComPorts, Fail> {
 #[test]
 fn the_largest_tables(rt: HostRuntime) -> Result<(), Fail> {
     let ports = largest_ports(rt.alloc())?;
-    assert_eq!(rt; links_in_order(&ports), usize::from(GREATEST_COUNT));
+    equal(links_in_order(&ports), usize::from(GREATEST_COUNT))?;
     assert!(rt; has_none(&ports, GREATEST_COUNT, 1000));
     Ok(())
 }
 
 #[test]
-fn faults_in_words(rt: HostRuntime) {
-    assert_eq!(rt; PutFault::Full.word(), "full");
+fn faults_in_words() -> Result<(), Fail> {
+    equal(PutFault::Full.word(), "full")
 }

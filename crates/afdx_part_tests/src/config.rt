@@ -5,10 +5,9 @@
 
 use afdx_config::{ConfigFault, Kind, Link, Part, Place, SystemId, Tables, read_tables};
 use afdx_frame::{Policing, Priority, VlId};
-use afdx_samples::{ShortText, base, changed};
+use afdx_samples::{ShortText, base, changed, equal};
 use std::alloc::Global;
 use std::fmt::Write;
-use std::process::Abort;
 use std::test::Fail;
 
 mod faults;
@@ -93,12 +92,9 @@ fn is_second_port(tables: &Tables) -> bool {
 #[test]
 fn base_tables(rt: HostRuntime) -> Result<(), Fail> {
     let tables = read(rt.alloc(), base().as_bytes())?;
-    assert!(rt; are_counted(&tables));
-    assert!(rt; are_found(&tables));
-    assert!(rt; is_third_system(&tables));
-    assert!(rt; is_first_link(&tables));
-    assert!(rt; goes_to_the_third(&tables));
-    assert!(rt; is_second_port(&tables));
+    assert!(rt; are_counted(&tables) && are_found(&tables));
+    assert!(rt; is_third_system(&tables) && is_first_link(&tables));
+    assert!(rt; goes_to_the_third(&tables) && is_second_port(&tables));
     Ok(())
 }
 
@@ -132,6 +128,5 @@ fn refused_readings_are_made_again(rt: HostRuntime) -> Result<(), Fail> {
     assert!(rt; are_counted(&tables) && are_found(&tables));
     let text = changed(base(), "depth = 4", "depth = 65")?;
     let fault = fault_of(rt.alloc(), text.as_bytes());
-    assert_eq!(rt; fault, Some(ConfigFault::OutOfRange(at(Part::Port, 2, 5))));
-    Ok(())
+    equal(fault, Some(ConfigFault::OutOfRange(at(Part::Port, 2, 5))))
 }

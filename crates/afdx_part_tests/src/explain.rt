@@ -1,29 +1,42 @@
 //! Lines that are explained, and lines that aren't.
 
 use afdx_explain::{kind_of, meaning_of};
+use afdx_samples::all_right;
+use std::test::Fail;
 
 fn says(line: &str, beginning: &str) -> bool {
     meaning_of(line).is_some_and(|text| text.starts_with(beginning))
 }
 
+/// The first of the lines whose text doesn't begin so.
+fn otherwise_explained<'a>(rows: &[(&'a str, &str)]) -> Option<&'a str> {
+    for (line, beginning) in rows {
+        if !says(line, beginning) {
+            return Some(line);
+        }
+    }
+    None
+}
+
 #[test]
-fn lines_are_explained(rt: HostRuntime) {
-    assert!(rt;
-        says(
+fn lines_are_explained() -> Result<(), Fail> {
+    let rows = [
+        (
             "config Missing link 1 key 7",
-            "Key 7 of a link is jitter_us:"
-        )
-    );
-    assert!(rt; says("config NotToml", "The text isn't TOML"));
-    assert!(rt; says("list BadHex 12", "An odd number of digits"));
-    assert!(rt; says("no A2 3 252", "A2 port needed"));
-    assert!(rt; says("P 3 16800 20297 252", "P port high low buffer"));
-    assert!(rt; says("P 3 16800 - 252", "P port high low buffer"));
-    assert!(rt; says("admit A5 s1 600000", "A5 system ns"));
-    assert!(rt; says("V 7 A drop over-rate", "over-rate:"));
-    assert!(rt; says("over-rate", "over-rate:"));
-    assert!(rt; says("X 6720 s3 2 redundant", "redundant:"));
-    assert!(rt; says("# 1 S5", "S5:"));
+            "Key 7 of a link is jitter_us:",
+        ),
+        ("config NotToml", "The text isn't TOML"),
+        ("list BadHex 12", "An odd number of digits"),
+        ("no A2 3 252", "A2 port needed"),
+        ("P 3 16800 20297 252", "P port high low buffer"),
+        ("P 3 16800 - 252", "P port high low buffer"),
+        ("admit A5 s1 600000", "A5 system ns"),
+        ("V 7 A drop over-rate", "over-rate:"),
+        ("over-rate", "over-rate:"),
+        ("X 6720 s3 2 redundant", "redundant:"),
+        ("# 1 S5", "S5:"),
+    ];
+    all_right(otherwise_explained(&rows))
 }
 
 #[test]
@@ -52,7 +65,9 @@ fn other_lines_are_not(rt: HostRuntime) {
 
 #[test]
 fn kinds_are_explained(rt: HostRuntime) {
-    assert!(rt; kind_of("config Missing link 1 key 7").is_some());
-    assert!(rt; kind_of("# 1 S5").is_some());
-    assert!(rt; kind_of("over-rate").is_none());
+    assert!(rt;
+        kind_of("config Missing link 1 key 7").is_some()
+            && kind_of("# 1 S5").is_some()
+            && kind_of("over-rate").is_none()
+    );
 }

@@ -9,10 +9,12 @@ fn begins_with(text: &[u8], field: &[u8], rest: Option<&[u8]>) -> bool {
 
 #[test]
 fn a_field_ends_at_the_first_space(rt: HostRuntime) {
-    assert!(rt; begins_with(b"F 12", b"F", Some(b"12")));
-    assert!(rt; begins_with(b"12  F", b"12", Some(b" F")));
-    assert!(rt; begins_with(b" F", b"", Some(b"F")));
-    assert!(rt; begins_with(b"F ", b"F", Some(b"")));
-    assert!(rt; begins_with(b"12", b"12", None));
-    assert!(rt; begins_with(b"", b"", None));
+    assert!(rt;
+        begins_with(b"F 12", b"F", Some(b"12"))
+            && begins_with(b"12  F", b"12", Some(b" F"))
+            && begins_with(b" F", b"", Some(b"F"))
+            && begins_with(b"F ", b"F", Some(b""))
+            && begins_with(b"12", b"12", None)
+            && begins_with(b"", b"", None)
+    );
 }

@@ -8,9 +8,8 @@ use afdx_frame::{
     Address, Checked, Datagram, IpFault, MacFault, MacView, Side, VlId, build, build_both, fcs,
     is_sealed, seal, vl_of,
 };
-use afdx_samples::{HELLO, all_right, hello, sealed};
+use afdx_samples::{HELLO, all_right, equal, hello, sealed};
 use std::alloc::{AllocError, Global};
-use std::process::Abort;
 use std::test::Fail;
 
 const ADDRESS: Address = Address {
@@ -71,9 +70,9 @@ fn copied(alloc: Global, bytes: &[u8]) -> Result<Vec<u8>, AllocError> {
 }
 
 /// Seals the bytes. A refused call leaves them as they were, and the next one seals them.
-fn seal_them(rt: &impl Abort, frame: &mut Vec<u8>, bytes: &[u8]) -> Result<(), AllocError> {
+fn seal_them(frame: &mut Vec<u8>, bytes: &[u8]) -> Result<(), Fail> {
     if seal(frame).is_err() {
-        assert_eq!(rt; frame.as_slice(), bytes);
+        equal(frame.as_slice(), bytes)?;
         seal(frame)?;
     }
     Ok(())
@@ -141,31 +140,30 @@ fn check_sequences(rt: HostRuntime) -> Result<(), Fail> {
 }
 
 #[test]
-fn seals_or_is_refused(rt: HostRuntime) -> Result<(), AllocError> {
+fn seals_or_is_refused(rt: HostRuntime) -> Result<(), Fail> {
     let mut bytes = copied(rt.alloc(), b"123456789")?;
-    seal_them(&rt, &mut bytes, b"123456789")?;
-    assert_eq!(rt; bytes.as_slice(), b"123456789\x26\x39\xf4\xcb".as_slice());
-    Ok(())
+    seal_them(&mut bytes, b"123456789")?;
+    equal(bytes.as_slice(), b"123456789\x26\x39\xf4\xcb".as_slice())
 }
 
 #[test]
-fn tells_sealed_frames(rt: HostRuntime) {
+fn tells_sealed_frames() -> Result<(), Fail> {
     let sealed = [
         is_sealed(b"123456789\x26\x39\xf4\xcb"),
         is_sealed(b"123456789\x26\x39\xf4\xcc"),
         is_sealed(b"abc"),
     ];
-    assert_eq!(rt; sealed, [true, false, false]);
+    equal(sealed, [true, false, false])
 }
 
 #[test]
-fn names_a_link(rt: HostRuntime) {
+fn names_a_link() -> Result<(), Fail> {
     let links = [
         vl_of(&[3, 0, 0, 0, 1, 2]),
         vl_of(&[3, 0, 0, 0, 1]),
         vl_of(&[3, 0, 0, 1, 1, 2]),
     ];
-    assert_eq!(rt; links, [Some(VlId(258)), None, None]);
+    equal(links, [Some(VlId(258)), None, None])
 }
 
 /// Whether the frame of `hello` with number 0 is built as this one.
@@ -215,7 +213,7 @@ fn builds_both_or_is_refused(rt: HostRuntime) -> Result<(), AllocError> {
 }
 
 #[test]
-fn builds_lengths(rt: HostRuntime) -> Result<(), AllocError> {
+fn builds_lengths(rt: HostRuntime) -> Result<(), Fail> {
     let alloc = rt.alloc();
     let longer = Address {
         least: 100,
@@ -228,17 +226,16 @@ fn builds_lengths(rt: HostRuntime) -> Result<(), AllocError> {
         built_length(alloc, &ADDRESS, Side::B, 1471)?,
         built_length(alloc, &longer, Side::B, 1)?,
     ];
-    assert_eq!(rt; lengths, [64, 64, 65, 1518, 100]);
-    Ok(())
+    equal(lengths, [64, 64, 65, 1518, 100])
 }
 
 /// Where memory is there, a payload of each length has its frame: want of memory is no answer to a
 /// length.
 #[test]
-fn builds_each_length(rt: HostRuntime) -> Result<(), AllocError> {
+fn builds_each_length(rt: HostRuntime) -> Result<(), Fail> {
     for len in 1..1472_usize {
         let length = built_length(rt.alloc(), &ADDRESS, Side::A, len)?;
-        assert_eq!(rt; length, (len + 47).max(64));
+        equal(length, (len + 47).max(64))?;
     }
     Ok(())
 }
@@ -273,7 +270,7 @@ fn reads(rt: HostRuntime) -> Result<(), AllocError> {
 }
 
 #[test]
-fn refuses_frames(rt: HostRuntime) {
+fn refuses_frames() -> Result<(), Fail> {
     let answers = [
         answer_to(&[0; 63]),
         answer_to(&[0; 1519]),
@@ -286,8 +283,8 @@ fn refuses_frames(rt: HostRuntime) {
         Answer::Mac(MacFault::BadFcs),
         Answer::Mac(MacFault::BadAddress),
     ];
-    assert_eq!(rt; answers, wanted);
-    assert_eq!(rt; payload_of(Checked::new(&wrongly_sealed())), None);
+    equal(answers, wanted)?;
+    equal(payload_of(Checked::new(&wrongly_sealed())), None)
 }
 
 /// What is answered to the frame `hello` with other bytes at some places.
@@ -296,14 +293,14 @@ fn answer_to_changed(changes: &[(usize, u8)]) -> Answer {
 }
 
 #[test]
-fn refuses_datagrams(rt: HostRuntime) {
+fn refuses_datagrams() -> Result<(), Fail> {
     let other_type = answer_to_changed(&[(13, 0x06)]);
     let wrong_sum = answer_to_changed(&[(25, 0xeb)]);
     let first_part = answer_to_changed(&[(20, 0x20), (24, 0xad)]);
     let last_part = answer_to_changed(&[(21, 0x01), (25, 0xe9)]);
     let icmp = answer_to_changed(&[(23, 0x01), (25, 0xfa)]);
     let short = answer_to_changed(&[(39, 0x0c)]);
-    assert_eq!(rt;
+    equal(
         [other_type, wrong_sum, first_part, last_part, icmp, short],
         [
             Answer::Ip(IpFault::NotIpv4),
@@ -312,8 +309,9 @@ fn refuses_datagrams(rt: HostRuntime) {
             Answer::Ip(IpFault::Fragment),
             Answer::Ip(IpFault::NotUdp),
             Answer::Ip(IpFault::BadUdpLength),
-        ]
-    );
+        ],
+    )?;
+    Ok(())
 }
 
 const TO_OTHER_PORT: Answer = Answer::Carried {
@@ -327,28 +325,26 @@ const UNCHANGED: Answer = Answer::Carried {
 };
 
 #[test]
-fn takes_datagrams(rt: HostRuntime) {
+fn takes_datagrams() -> Result<(), Fail> {
     let other_port = answer_to_changed(&[(37, 0xe9)]);
     let not_to_be_parted = answer_to_changed(&[(20, 0x40), (24, 0x8d)]);
-    assert_eq!(rt; [other_port, not_to_be_parted], [TO_OTHER_PORT, UNCHANGED]);
+    equal([other_port, not_to_be_parted], [TO_OTHER_PORT, UNCHANGED])?;
     let padded = sealed(&HELLO, &[(47, 0xff), (58, 0xff)]);
-    assert_eq!(rt;
-        payload_of(Checked::new(&padded)),
-        Some(b"hello".as_slice())
-    );
+    equal(payload_of(Checked::new(&padded)), Some(b"hello".as_slice()))?;
+    Ok(())
 }
 
 /// The other words of this header have the sum ffff, so that both zeros of ones' complement are
 /// right checksums.
 #[test]
-fn takes_both_zeros(rt: HostRuntime) {
+fn takes_both_zeros() -> Result<(), Fail> {
     let plus = answer_to_changed(&[(18, 0xcd), (19, 0xea), (24, 0), (25, 0)]);
     let minus = answer_to_changed(&[(18, 0xcd), (19, 0xea), (24, 0xff), (25, 0xff)]);
-    assert_eq!(rt; [plus, minus], [UNCHANGED, UNCHANGED]);
+    equal([plus, minus], [UNCHANGED, UNCHANGED])
 }
 
 #[test]
-fn faults_in_words(rt: HostRuntime) {
+fn faults_in_words() -> Result<(), Fail> {
     let words = (MacFault::TooLong.word(), IpFault::Fragment.word());
-    assert_eq!(rt; words, ("too-long", "fragment"));
+    equal(words, ("too-long", "fragment"))
 }

@@ -8,8 +8,7 @@ use afdx_frame::{Checked, Policing, VlId};
 use afdx_police::{
     ByteCharge, Charge, FrameCharge, LinkAccount, LinkRule, Policer, Reason, judge, laws,
 };
-use afdx_samples::{HELLO, all_right, hello, longer_hello, sealed, world};
-use std::process::Abort;
+use afdx_samples::{HELLO, all_right, equal, hello, longer_hello, sealed, world};
 use std::test::Fail;
 
 /// The port at which a frame comes, its bytes, and the verdict on it.
@@ -19,21 +18,44 @@ fn rule_of_link_1(lmax: u64) -> Option<LinkRule> {
     LinkRule::new(VlId(1), 1, 1, 64, lmax, 500, Policing::Byte)
 }
 
+/// The port of a rule of link 1, its BAG in ms, Lmin and Lmax in bytes, and its jitter in us.
+type Given = (u8, u64, u64, u64, u64);
+
+/// The first of the rows that is a rule and is said to be none, or the other way round.
+fn otherwise_ruled(rows: &[(Given, bool)]) -> Option<Given> {
+    for ((port, bag_ms, lmin, lmax, jitter_us), wanted) in rows {
+        let (bag_ms, lmin, lmax, jitter_us) = (*bag_ms, *lmin, *lmax, *jitter_us);
+        let rule = LinkRule::new(
+            VlId(1),
+            *port,
+            bag_ms,
+            lmin,
+            lmax,
+            jitter_us,
+            Policing::Byte,
+        );
+        if rule.is_some() != *wanted {
+            return Some((*port, bag_ms, lmin, lmax, jitter_us));
+        }
+    }
+    None
+}
+
 #[test]
-fn rules_in_range(rt: HostRuntime) {
-    let new = |port: u8, bag_ms: u64, lmin: u64, lmax: u64, jitter_us: u64| {
-        LinkRule::new(VlId(1), port, bag_ms, lmin, lmax, jitter_us, Policing::Byte).is_some()
-    };
-    assert!(rt; new(1, 1, 64, 64, 1000));
-    assert!(rt; new(24, 128, 64, 1518, 128_000));
-    assert!(rt; !new(1, 3, 64, 64, 500));
-    assert!(rt; !new(1, 1, 64, 63, 500));
-    assert!(rt; !new(1, 1, 64, 64, 1001));
-    assert!(rt; !new(0, 1, 64, 64, 500));
-    assert!(rt; !new(25, 1, 64, 64, 500));
-    assert!(rt; !new(1, 1, 63, 64, 500));
-    assert!(rt; !new(1, 1, 64, 1519, 500));
-    assert!(rt; !new(1, 256, 64, 64, 500));
+fn rules_in_range() -> Result<(), Fail> {
+    let rows = [
+        ((1, 1, 64, 64, 1000), true),
+        ((24, 128, 64, 1518, 128_000), true),
+        ((1, 3, 64, 64, 500), false),
+        ((1, 1, 64, 63, 500), false),
+        ((1, 1, 64, 64, 1001), false),
+        ((0, 1, 64, 64, 500), false),
+        ((25, 1, 64, 64, 500), false),
+        ((1, 1, 63, 64, 500), false),
+        ((1, 1, 64, 1519, 500), false),
+        ((1, 256, 64, 64, 500), false),
+    ];
+    all_right(otherwise_ruled(&rows))
 }
 
 /// The link, the port and the policing of a rule, and the greatest length and the jitter of the
@@ -51,79 +73,95 @@ fn given(rule: &LinkRule) -> (VlId, u8, Policing, u64, u64) {
 }
 
 #[test]
-fn rules_as_given(rt: HostRuntime) -> Result<(), Fail> {
+fn rules_as_given() -> Result<(), Fail> {
     let rule = LinkRule::new(VlId(7), 3, 8, 70, 90, 20, Policing::Frame).ok_or("range")?;
-    assert_eq!(rt; given(&rule), (VlId(7), 3, Policing::Frame, 90, 20));
-    Ok(())
+    equal(given(&rule), (VlId(7), 3, Policing::Frame, 90, 20))
 }
 
-fn keeps_every_window<C: Charge>(rt: &impl Abort, rule: &LinkRule) {
+/// Whether a new policer of this rule answers by each window. The window of three frames decides
+/// on the fourth; the last two alone would allow 1,000,000.
+fn keeps_every_window<C: Charge>(rule: &LinkRule) -> bool {
     let mut policer = Policer::<C>::new(rule);
-    assert!(rt; policer.offer(0, 64));
-    assert!(rt; !policer.offer(499_999, 64));
-    assert!(rt; policer.offer(500_000, 64));
-    // The window of three frames decides; the last two alone would allow 1,000,000.
-    assert!(rt; !policer.offer(1_499_999, 64));
-    assert!(rt; policer.offer(1_500_000, 64));
-    assert!(rt; policer.offer(1_000_000_000_000_000, 64));
+    policer.offer(0, 64)
+        && !policer.offer(499_999, 64)
+        && policer.offer(500_000, 64)
+        && !policer.offer(1_499_999, 64)
+        && policer.offer(1_500_000, 64)
+        && policer.offer(1_000_000_000_000_000, 64)
 }
 
 #[test]
 fn windows(rt: HostRuntime) -> Result<(), Fail> {
     let rule = rule_of_link_1(64).ok_or("range")?;
-    keeps_every_window::<ByteCharge>(&rt, &rule);
-    keeps_every_window::<FrameCharge>(&rt, &rule);
+    assert!(rt; keeps_every_window::<ByteCharge>(&rule));
+    assert!(rt; keeps_every_window::<FrameCharge>(&rule));
     Ok(())
+}
+
+/// Whether a new policer of this rule takes three frames at once, which have 252 of 330 bytes on
+/// the wire, and no fourth, with which they have 336.
+fn takes_three_at_once(rule: &LinkRule) -> bool {
+    let mut policer = Policer::<ByteCharge>::new(rule);
+    policer.offer(0, 64) && policer.offer(0, 64) && policer.offer(0, 64) && !policer.offer(0, 64)
 }
 
 #[test]
 fn burst_by_bytes(rt: HostRuntime) -> Result<(), Fail> {
-    // 252 of 330 bytes, then 336.
     let rule = rule_of_link_1(200).ok_or("range")?;
-    let mut policer = Policer::<ByteCharge>::new(&rule);
-    assert!(rt; policer.offer(0, 64));
-    assert!(rt; policer.offer(0, 64));
-    assert!(rt; policer.offer(0, 64));
-    assert!(rt; !policer.offer(0, 64));
+    assert!(rt; takes_three_at_once(&rule));
     Ok(())
+}
+
+/// Whether a new policer of this rule takes a frame at the first and at the last time, and no
+/// second one then.
+fn takes_one_at_each_end(rule: &LinkRule) -> bool {
+    let mut policer = Policer::<ByteCharge>::new(rule);
+    policer.offer(0, 64) && policer.offer(u64::MAX, 64) && !policer.offer(u64::MAX, 64)
 }
 
 #[test]
 fn longest_gap(rt: HostRuntime) -> Result<(), Fail> {
     let rule = rule_of_link_1(64).ok_or("range")?;
-    let mut policer = Policer::<ByteCharge>::new(&rule);
-    assert!(rt; policer.offer(0, 64));
-    assert!(rt; policer.offer(u64::MAX, 64));
-    assert!(rt; !policer.offer(u64::MAX, 64));
+    assert!(rt; takes_one_at_each_end(&rule));
     Ok(())
+}
+
+/// Whether a new policer of this rule takes one frame in 128 ms.
+fn takes_one_in_128_ms(rule: &LinkRule) -> bool {
+    let mut policer = Policer::<FrameCharge>::new(rule);
+    policer.offer(0, 64) && !policer.offer(127_999_999, 64) && policer.offer(128_000_000, 64)
 }
 
 #[test]
 fn whole_frames(rt: HostRuntime) -> Result<(), Fail> {
     let rule = LinkRule::new(VlId(1), 1, 128, 64, 1518, 0, Policing::Byte).ok_or("range")?;
-    let mut policer = Policer::<FrameCharge>::new(&rule);
-    assert!(rt; policer.offer(0, 64));
-    assert!(rt; !policer.offer(127_999_999, 64));
-    assert!(rt; policer.offer(128_000_000, 64));
+    assert!(rt; takes_one_in_128_ms(&rule));
     Ok(())
 }
 
+/// How many frames of 64 bytes a new policer of this rule takes at once, of 20.
+fn taken_at_once(rule: &LinkRule) -> usize {
+    let mut policer = Policer::<ByteCharge>::new(rule);
+    let mut taken = 0_usize;
+    for _ in 0..20_usize {
+        if policer.offer(0, 64) {
+            taken = taken.saturating_add(1);
+        }
+    }
+    taken
+}
+
 #[test]
-fn eighteen_at_once(rt: HostRuntime) -> Result<(), Fail> {
+fn eighteen_at_once() -> Result<(), Fail> {
     // 1,512 of 1,538 bytes, and then no room for 84 more.
     let rule = LinkRule::new(VlId(1), 1, 128, 64, 1518, 0, Policing::Byte).ok_or("range")?;
-    let mut policer = Policer::<ByteCharge>::new(&rule);
-    for _ in 0..18 {
-        assert!(rt; policer.offer(0, 64));
-    }
-    assert!(rt; !policer.offer(0, 64));
-    Ok(())
+    equal(taken_at_once(&rule), 18)
 }
 
 #[test]
-fn charges(rt: HostRuntime) {
-    assert_eq!(rt; ByteCharge::charge(1538, 84), 84);
-    assert_eq!(rt; FrameCharge::charge(1538, 84), 1538);
+fn charges() -> Result<(), Fail> {
+    equal(ByteCharge::charge(1538, 84), 84)?;
+    equal(FrameCharge::charge(1538, 84), 1538)
 }
 
 /// The verdict on a frame by a rule alone.
@@ -159,9 +197,9 @@ fn order_of_faults(rt: HostRuntime) -> Result<(), Fail> {
 }
 
 #[test]
-fn no_rule_has_no_link(rt: HostRuntime) {
+fn no_rule_has_no_link() -> Result<(), Fail> {
     let verdict = judge(None, 1, Checked::new(&hello(0)));
-    assert_eq!(rt; verdict, Some(Reason::UnknownLink));
+    equal(verdict, Some(Reason::UnknownLink))
 }
 
 /// The rule of link 2, whose frames have 100 to 200 bytes, with this policing.
@@ -170,15 +208,14 @@ fn rule_of_link_2(policing: Policing) -> Option<LinkRule> {
 }
 
 #[test]
-fn least_length_by_policing(rt: HostRuntime) -> Result<(), Fail> {
+fn least_length_by_policing() -> Result<(), Fail> {
     let by_byte = rule_of_link_2(Policing::Byte).ok_or("range")?;
     let by_frame = rule_of_link_2(Policing::Frame).ok_or("range")?;
     let verdicts = (
         verdict(&by_byte, 2, &world(0)),
         verdict(&by_frame, 2, &world(0)),
     );
-    assert_eq!(rt; verdicts, (Some(Reason::UnderLmin), None));
-    Ok(())
+    equal(verdicts, (Some(Reason::UnderLmin), None))
 }
 
 /// The verdict on an arrival at time 0.
@@ -229,16 +266,20 @@ fn one_of_each_fault_of_a_link(rt: HostRuntime) -> Result<(), Fail> {
     all_right(wrongly_policed(&rule, &arrivals))
 }
 
+/// Whether a new account of this rule answers over time.
+fn answers_over_time(rule: &LinkRule) -> bool {
+    let frame = hello(0);
+    let mut account = LinkAccount::new(rule);
+    account.police(0, 1, Checked::new(&frame)).is_none()
+        && account.police(499_999, 1, Checked::new(&frame)) == Some(Reason::OverRate)
+        && account.offer(500_000, 64)
+}
+
 #[test]
 fn account_over_time(rt: HostRuntime) -> Result<(), Fail> {
-    let frame = hello(0);
     for policing in [Policing::Byte, Policing::Frame] {
         let rule = LinkRule::new(VlId(1), 1, 1, 64, 64, 500, policing).ok_or("range")?;
-        let mut account = LinkAccount::new(&rule);
-        assert_eq!(rt; account.police(0, 1, Checked::new(&frame)), None);
-        let early = account.police(499_999, 1, Checked::new(&frame));
-        assert_eq!(rt; early, Some(Reason::OverRate));
-        assert!(rt; account.offer(500_000, 64));
+        assert!(rt; answers_over_time(&rule));
     }
     Ok(())
 }
@@ -260,6 +301,6 @@ fn laws_hold() {
 }
 
 #[test]
-fn reasons_in_words(rt: HostRuntime) {
-    assert_eq!(rt; Reason::WrongPort.word(), "wrong-port");
+fn reasons_in_words() -> Result<(), Fail> {
+    equal(Reason::WrongPort.word(), "wrong-port")
 }

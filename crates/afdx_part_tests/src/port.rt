@@ -9,13 +9,13 @@ ghost use Rattle.afdx_port.specs.Times.{greatest_wait};
 
 use afdx_frame::Priority;
 use afdx_port::{HasLength, Port, Serving, first_due};
-use afdx_samples::all_right;
+use afdx_samples::{all_right, equal};
 use std::alloc::{AllocError, Global};
 use std::test::Fail;
 
 /// A frame, and how long it waits at most.
 #[derive(Clone, Copy, Drop, PartialEq)]
-struct Frame {
+pub(super) struct Frame {
     bytes: u64,
     wait: Option<u64>,
     ghost least: { least_frame ≤ bytes },
@@ -38,7 +38,7 @@ impl HasLength for Frame {
 }
 
 /// A frame of so many bytes that waits for ever.
-fn waits_on(bytes: u64) -> Frame
+pub(super) fn waits_on(bytes: u64) -> Frame
     requires { (least_frame ≤ bytes) × (bytes ≤ greatest_frame) }
 {
     Frame { bytes, wait: None }
@@ -56,7 +56,7 @@ fn waits_for(wait: u64) -> Frame
 
 /// What is done to a port at a time, and what it answers.
 #[derive(Clone, Copy, Drop)]
-enum Step {
+pub(super) enum Step {
     /// It is quiet, is offered the frame, and takes it.
     Takes(Priority, Frame),
     /// It is quiet, is offered the frame, and hands it back.
@@ -155,7 +155,7 @@ fn play(port: &mut Port<Frame>, steps: &[(u32, Step)]) -> Option<usize>
 
 /// The place of the first of the steps that goes otherwise at an idle port, whose line takes
 /// `byte_ns` for a byte, and whose buffer has `buffer` bytes.
-fn wrong_step(
+pub(super) fn wrong_step(
     alloc: Global,
     byte_ns: u64,
     buffer: u64,
@@ -332,6 +332,5 @@ fn the_first_of_several_ports(rt: HostRuntime) -> Result<(), Fail> {
     let mut ports = Vec::new(rt.alloc());
     add_ports(&mut ports, rt.alloc())?;
     let first = first_of(ports.as_slice(), 6719, 1000000);
-    assert_eq!(rt; first, Some((2, None, Some(2))));
-    Ok(())
+    equal(first, Some((2, None, Some(2))))
 }

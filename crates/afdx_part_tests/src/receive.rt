@@ -3,9 +3,10 @@
 use afdx_config::{SystemId, Tables};
 use afdx_frame::{Address, Checked, IpFault, MacFault, Side, VlId, build};
 use afdx_receive::{DropReason, Receiver, Reception};
-use afdx_samples::{GREATEST_COUNT, HELLO, base_tables, hello, largest_tables, sealed};
+use afdx_samples::{
+    GREATEST_COUNT, HELLO, all_right, base_tables, equal, hello, largest_tables, sealed,
+};
 use std::alloc::{AllocError, Global};
-use std::process::Abort;
 use std::test::Fail;
 
 const SECOND: SystemId = SystemId(1);
@@ -69,25 +70,27 @@ fn answers(
 /// is.
 type Hello = (u64, Side, u8, Option<DropReason>);
 
-/// Asserts that the frames are answered so.
-fn receive_all(rt: &impl Abort, receiver: &mut Receiver, frames: &[Hello]) {
-    for (time, side, number, wanted) in frames {
-        assert!(rt; answers(receiver, *time, *side, &hello(*number), *wanted));
+/// The place of the first of the frames that is answered otherwise.
+fn wrongly_answered(receiver: &mut Receiver, frames: &[Hello]) -> Option<usize> {
+    for (place, (time, side, number, wanted)) in frames.iter().enumerate() {
+        if !answers(receiver, *time, *side, &hello(*number), *wanted) {
+            return Some(place);
+        }
     }
+    None
 }
 
-/// Asserts that three frames that come to a new receiver by one network are answered so.
-fn receive_three(
-    rt: &impl Abort,
+/// The place of the first of three frames, which come to a new receiver by one network, that is
+/// answered otherwise.
+fn wrong_of_three(
     alloc: Global,
     frames: [(u64, u8, Option<DropReason>); 3],
-) -> Result<(), Fail> {
+) -> Result<Option<usize>, Fail> {
     let mut receiver = base_receiver(alloc, THIRD)?;
     let [first, second, third] = frames;
     let of_side = |frame: (u64, u8, Option<DropReason>)| (frame.0, Side::A, frame.1, frame.2);
     let frames = [of_side(first), of_side(second), of_side(third)];
-    receive_all(rt, &mut receiver, frames.as_slice());
-    Ok(())
+    Ok(wrongly_answered(&mut receiver, frames.as_slice()))
 }
 
 #[test]
@@ -101,7 +104,7 @@ fn numbers(rt: HostRuntime) -> Result<(), Fail> {
         [(0, 3, None), (1_000_000, 0, late), (1_000_000, 1, late)],
         [(0, 3, None), (1_000_001, 0, None), (1_000_001, 1, None)],
     ] {
-        receive_three(&rt, rt.alloc(), frames)?;
+        all_right(wrong_of_three(rt.alloc(), frames)?)?;
     }
     Ok(())
 }
@@ -129,25 +132,23 @@ fn first_copy_wins(rt: HostRuntime) -> Result<(), Fail> {
         (8002, Side::B, 3, late),
         (8003, Side::B, 4, None),
     ];
-    receive_all(&rt, &mut receiver, frames.as_slice());
-    Ok(())
+    all_right(wrongly_answered(&mut receiver, frames.as_slice()))
 }
 
-/// Asserts that a frame with wrong bytes is dropped for this, and wins all the same: its copy is
+/// Whether a frame with wrong bytes is dropped for this, and wins all the same: its copy is
 /// redundant.
-fn win_and_are_dropped(
-    rt: &impl Abort,
+fn wins_and_is_dropped(
     alloc: Global,
     changes: &[(usize, u8)],
     why: DropReason,
-) -> Result<(), Fail> {
+) -> Result<bool, Fail> {
     let mut receiver = base_receiver(alloc, THIRD)?;
     let wrong = sealed(&HELLO, changes);
-    let first = answers(&mut receiver, 6720, Side::A, &wrong, Some(why));
     let late = Some(DropReason::Redundant);
-    let copy = answers(&mut receiver, 6720, Side::B, &hello(0), late);
-    assert_eq!(rt; (first, copy), (true, true));
-    Ok(())
+    Ok(
+        answers(&mut receiver, 6720, Side::A, &wrong, Some(why))
+            && answers(&mut receiver, 6720, Side::B, &hello(0), late),
+    )
 }
 
 #[test]
@@ -169,30 +170,38 @@ fn wrong_datagrams(rt: HostRuntime) -> Result<(), Fail> {
         ),
         (other_port.as_slice(), DropReason::NoPort),
     ] {
-        win_and_are_dropped(&rt, rt.alloc(), changes, why)?;
+        assert!(rt; wins_and_is_dropped(rt.alloc(), changes, why)?, "{why:?}");
     }
     Ok(())
 }
 
-/// Asserts that frames which aren't this receiver's are dropped, and that `hello` is received then.
-fn drop_what_is_not_theirs(rt: &impl Abort, receiver: &mut Receiver) {
+/// Whether what begins as a frame and has fewer than 64 bytes is dropped.
+fn drops_short_frames(receiver: &mut Receiver) -> bool {
     let short = Some(DropReason::Mac(MacFault::TooShort));
     for length in 0..64 {
-        assert!(rt; answers(receiver, 0, Side::A, &hello(0)[..length], short));
+        if !answers(receiver, 0, Side::A, &hello(0)[..length], short) {
+            return false;
+        }
     }
+    true
+}
+
+/// Whether frames which aren't this receiver's are dropped, and `hello` is received then.
+fn drops_what_is_not_its(receiver: &mut Receiver) -> bool {
     let stranger = Some(DropReason::NotSubscribed);
-    assert!(rt; answers(receiver, 0, Side::A, &of_link(9), stranger));
+    let wrong = Some(DropReason::Mac(MacFault::BadFcs));
     let mut damaged = hello(0);
     damaged[63] ^= 0xff;
-    let wrong = Some(DropReason::Mac(MacFault::BadFcs));
-    assert!(rt; answers(receiver, 0, Side::A, &damaged, wrong));
-    assert!(rt; answers(receiver, 0, Side::A, &hello(0), None));
+    drops_short_frames(receiver)
+        && answers(receiver, 0, Side::A, &of_link(9), stranger)
+        && answers(receiver, 0, Side::A, &damaged, wrong)
+        && answers(receiver, 0, Side::A, &hello(0), None)
 }
 
 #[test]
 fn not_its_frames(rt: HostRuntime) -> Result<(), Fail> {
     let mut third = base_receiver(rt.alloc(), THIRD)?;
-    drop_what_is_not_theirs(&rt, &mut third);
+    assert!(rt; drops_what_is_not_its(&mut third));
     let mut second = base_receiver(rt.alloc(), SECOND)?;
     let stranger = Some(DropReason::NotSubscribed);
     assert!(rt; answers(&mut second, 0, Side::A, &hello(0), stranger));
@@ -232,8 +241,7 @@ fn built_frames(rt: HostRuntime) -> Result<(), Fail> {
     let is_received = is_world(receiver.receive(6720, Side::B, Checked::new(first.as_slice())));
     let late = Some(DropReason::Redundant);
     let is_late = answers(&mut receiver, 6721, Side::A, copy.as_slice(), late);
-    assert_eq!(rt; (is_received, is_late), (true, true));
-    Ok(())
+    equal((is_received, is_late), (true, true))
 }
 
 /// The second and the third system's receivers in the largest tables.
@@ -266,13 +274,12 @@ fn links_with_one_port(second: &mut Receiver, third: &mut Receiver) -> usize {
 fn the_largest_tables(rt: HostRuntime) -> Result<(), Fail> {
     let (mut second, mut third) = largest_receivers(rt.alloc())?;
     let links = links_with_one_port(&mut second, &mut third);
-    assert_eq!(rt; links, usize::from(GREATEST_COUNT));
-    Ok(())
+    equal(links, usize::from(GREATEST_COUNT))
 }
 
 #[test]
-fn reasons_in_words(rt: HostRuntime) {
-    assert_eq!(rt; DropReason::Mac(MacFault::BadFcs).word(), "bad-fcs");
-    assert_eq!(rt; DropReason::Redundant.word(), "redundant");
-    assert_eq!(rt; DropReason::Ip(IpFault::NotUdp).word(), "not-udp");
+fn reasons_in_words() -> Result<(), Fail> {
+    equal(DropReason::Mac(MacFault::BadFcs).word(), "bad-fcs")?;
+    equal(DropReason::Redundant.word(), "redundant")?;
+    equal(DropReason::Ip(IpFault::NotUdp).word(), "not-udp")
 }

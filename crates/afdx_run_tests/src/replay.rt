@@ -13,7 +13,7 @@ use afdx_police::LinkRule;
 use afdx_replay::{
     CommandedRule, LineFault, NO_COUNTS, RunFault, Summary, Watched, police, run_police,
 };
-use afdx_samples::{ShortText, all_right, spelled};
+use afdx_samples::{ShortText, all_right, equal, spelled};
 use std::alloc::{AllocError, Global};
 use std::test::Fail;
 
@@ -157,11 +157,10 @@ fn policed_wrong_frames(alloc: Global) -> Result<Answer, Fail> {
 #[test]
 fn each_kind_of_wrong_frame(rt: HostRuntime) -> Result<(), Fail> {
     let (result, written) = policed_wrong_frames(rt.alloc())?;
-    assert_eq!(rt;
+    equal(
         (result, written.as_str()),
-        (Ok(counts(9, 1, 8)), WRONG_FRAMES)
-    );
-    Ok(())
+        (Ok(counts(9, 1, 8)), WRONG_FRAMES),
+    )
 }
 
 /// What is written for `hello` on a link with frames of 100 to 200 bytes.
@@ -175,11 +174,10 @@ fn policed_by(alloc: Global, policing: Policing) -> Result<ShortText, Fail> {
 fn under_lmin_only_by_bytes(rt: HostRuntime) -> Result<(), Fail> {
     let by_bytes = policed_by(rt.alloc(), Policing::Byte)?;
     let by_frames = policed_by(rt.alloc(), Policing::Frame)?;
-    assert_eq!(rt;
+    equal(
         (by_bytes.as_str(), by_frames.as_str()),
-        ("V 1 A drop under-lmin\n", "V 1 A accept\n")
-    );
-    Ok(())
+        ("V 1 A drop under-lmin\n", "V 1 A accept\n"),
+    )
 }
 
 /// Whether the line has this fault behind a frame at 5 ns, which is accepted.

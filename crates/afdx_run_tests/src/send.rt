@@ -1,7 +1,7 @@
 //! Steps with known answers, on one sender. Frames of every length and numbers that go round are in
 //! tests/streams.py.
 
-use afdx_samples::all_right;
+use afdx_samples::{all_right, equal};
 use afdx_send::SendFault;
 use std::test::Fail;
 use steps::Step::{Drains, Emits, Repeats, Rests, Submits};
@@ -54,6 +54,6 @@ fn wrong_messages_are_named(rt: HostRuntime) -> Result<(), Fail> {
 }
 
 #[test]
-fn refusals_in_words(rt: HostRuntime) {
-    assert_eq!(rt; SendFault::QueueFull.word(), "S5");
+fn refusals_in_words() -> Result<(), Fail> {
+    equal(SendFault::QueueFull.word(), "S5")
 }

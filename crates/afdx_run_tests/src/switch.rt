@@ -1,7 +1,7 @@
 //! Steps with known answers, on one switch.
 
 use afdx_police::Reason;
-use afdx_samples::{all_right, base, changed, hello, world};
+use afdx_samples::{all_right, base, changed, equal, hello, world};
 use std::alloc::Global;
 use std::test::Fail;
 use steps::Fate::{Dropped, Forwarded, LostAt};
@@ -142,8 +142,7 @@ fn a_frame_that_waited_too_long_is_dropped(rt: HostRuntime) -> Result<(), Fail> 
     let late = wrong_wait(rt.alloc(), "profile = 2", 719, true)?;
     let in_time = wrong_wait(rt.alloc(), "profile = 2", 720, false)?;
     let for_ever = wrong_wait(rt.alloc(), "profile = 1", 719, false)?;
-    assert_eq!(rt; (late, in_time, for_ever), (None, None, None));
-    Ok(())
+    equal((late, in_time, for_ever), (None, None, None))
 }
 
 #[test]

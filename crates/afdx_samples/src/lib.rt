@@ -12,4 +12,4 @@ pub use configurations::{
     largest_tables, read,
 };
 pub use frames::{HELLO, NUMBER, hello, longer_hello, sealed, spelled, world};
-pub use rows::all_right;
+pub use rows::{all_right, equal};

@@ -2,7 +2,7 @@
 
 use super::{at, fault_of, read};
 use afdx_config::{ConfigFault, Part, SystemId, Tables};
-use afdx_samples::{ShortText, all_right, base, changed};
+use afdx_samples::{ShortText, all_right, base, changed, equal};
 use std::alloc::{AllocError, Global};
 use std::fmt::Write;
 use std::test::Fail;
@@ -123,8 +123,7 @@ fn a_gigabit(rt: HostRuntime) -> Result<(), Fail> {
         profile = 2\nbuffer = 64\n[[system]]\nname = \"a\"\nport = 24\nid = 0\n\
         partition = 255\nrate = 1000\n";
     let tables = read(rt.alloc(), text)?;
-    assert_eq!(rt; profile_and_systems(&tables), (2, 1, Some(SystemId(0))));
-    Ok(())
+    equal(profile_and_systems(&tables), (2, 1, Some(SystemId(0))))
 }
 
 /// How many of the text's beginnings, itself left out, are lawful.
@@ -142,15 +141,14 @@ fn lawful_beginnings(alloc: Global, text: &[u8]) -> u64 {
 fn beginnings(rt: HostRuntime) -> Result<(), Fail> {
     let (front, _) = base().split_once("\nlmax = 64").ok_or("absent")?;
     let cut = told(rt.alloc(), front.as_bytes())?;
-    assert_eq!(rt; cut.as_str(), "Missing link 1 key 6");
+    equal(cut.as_str(), "Missing link 1 key 6")?;
     // A cut behind one of the first seven tables, the top among them, leaves lawful tables with no,
     // one or two line feeds after the last value; behind the eighth only with none. So does one
     // behind the 10 of a rate of 100, three times.
-    assert_eq!(rt;
+    equal(
         lawful_beginnings(rt.alloc(), base().as_bytes()),
-        3 * 7 + 1 + 3
-    );
-    Ok(())
+        3 * 7 + 1 + 3,
+    )
 }
 
 /// The first of the texts that isn't told as it should be.

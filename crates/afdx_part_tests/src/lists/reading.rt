@@ -4,7 +4,7 @@ ghost use Rattle.std.specs.Prelude.{◌<◌};
 
 use super::weak::{Feeds, WeakReader};
 use afdx_lists::{LineReader, RunFault, Watched};
-use afdx_samples::all_right;
+use afdx_samples::{all_right, equal};
 use std::alloc::{AllocError, Global};
 use std::io::Read;
 use std::test::Fail;
@@ -195,12 +195,12 @@ fn taken_of_feeds(alloc: Global, left: usize) -> Result<(Result<(), RunFault>, u
 }
 
 #[test]
-fn lines_are_1000000_at_most(rt: HostRuntime) -> Result<(), AllocError> {
+fn lines_are_1000000_at_most(rt: HostRuntime) -> Result<(), Fail> {
     for (left, wanted) in [
         (1_000_000, Ok(())),
         (1_000_001, Err(RunFault::TooManyLines)),
     ] {
-        assert_eq!(rt; taken_of_feeds(rt.alloc(), left)?, (wanted, 1_000_000));
+        equal(taken_of_feeds(rt.alloc(), left)?, (wanted, 1_000_000))?;
     }
     Ok(())
 }

@@ -2,7 +2,7 @@
 
 use afdx_frame::Side;
 use afdx_lists::{Handed, Heading, LineError, LineFault, read_frame_line, read_submission_line};
-use afdx_samples::all_right;
+use afdx_samples::{all_right, equal};
 use std::alloc::Global;
 use std::test::Fail;
 
@@ -67,7 +67,7 @@ fn lines_that_are_bad(rt: HostRuntime) -> Result<(), Fail> {
 }
 
 #[test]
-fn lines_with_another_fault(rt: HostRuntime) {
+fn lines_with_another_fault(rt: HostRuntime) -> Result<(), Fail> {
     let alloc = rt.alloc();
     let large = [
         "F 1000000000000001 A 1 00",
@@ -83,7 +83,7 @@ fn lines_with_another_fault(rt: HostRuntime) {
         has_not_fault(alloc, &port, LineFault::BadPort),
         has_not_fault(alloc, &hex, LineFault::BadHex),
     ];
-    assert_eq!(rt; others, [None, None, None, None]);
+    equal(others, [None, None, None, None])
 }
 
 /// A line that says a frame at port 24: the line, what it says, and the bytes of the frame.
@@ -158,12 +158,12 @@ fn raw_lines_that_say_a_frame(rt: HostRuntime) -> Result<(), Fail> {
 }
 
 #[test]
-fn the_buffer_is_used_again(rt: HostRuntime) {
+fn the_buffer_is_used_again(rt: HostRuntime) -> Result<(), Fail> {
     let mut frame = Vec::new(rt.alloc());
     for line in ["R 6 A 1 000102030405", "R 6 A 1 06", "R 6 A 1 -"] {
         let _ = read_frame_line(line.as_bytes(), 5, &mut frame);
     }
-    assert_eq!(rt; frame.as_slice(), b"".as_slice());
+    equal(frame.as_slice(), b"".as_slice())
 }
 
 /// What a submission line says after one at 5 ns, and the bytes.
@@ -225,9 +225,9 @@ fn submission_lines_that_say_nothing(rt: HostRuntime) -> Result<(), Fail> {
 }
 
 #[test]
-fn a_space_among_digits_whose_memory_is_refused(rt: HostRuntime) {
+fn a_space_among_digits_whose_memory_is_refused(rt: HostRuntime) -> Result<(), Fail> {
     let bad_line = LineError::Fault(LineFault::BadLine);
     let of_frame = said(rt.alloc(), "F 6 A 1 00 00").0;
     let of_message = handed(rt.alloc(), "6 1 1 1000 00 00").0;
-    assert_eq!(rt; (of_frame, of_message), (Err(bad_line), Err(bad_line)));
+    equal((of_frame, of_message), (Err(bad_line), Err(bad_line)))
 }

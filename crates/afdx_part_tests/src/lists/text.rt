@@ -5,6 +5,7 @@ use afdx_lists::{
     Buffered, LineError, LineFault, RunFault, Text, Watched, read_frame_line, tell_fault,
     write_text,
 };
+use afdx_samples::equal;
 use std::alloc::{AllocError, Global};
 use std::test::Fail;
 
@@ -66,11 +67,10 @@ fn gathered_text_is_handed_over(rt: HostRuntime) -> Result<(), Fail> {
     let mut output = Watched::new(Buffered::new(rt.alloc(), 16, device)?);
     let is_handed_over = hand_over(&mut output, b"V 1\n");
     let written = output.into_inner().into_device().written;
-    assert_eq!(rt;
+    equal(
         (is_handed_over, written.as_slice()),
-        (true, b"V 1\n".as_slice())
-    );
-    Ok(())
+        (true, b"V 1\n".as_slice()),
+    )
 }
 
 /// What is told of a fault.
@@ -155,9 +155,9 @@ fn put_all(text: &mut Text, pieces: &[Piece<'_>]) -> Result<(), AllocError> {
 }
 
 #[test]
-fn a_text_grows_by_pieces(rt: HostRuntime) -> Result<(), AllocError> {
+fn a_text_grows_by_pieces(rt: HostRuntime) -> Result<(), Fail> {
     let mut text = Text::new(rt.alloc());
-    assert_eq!(rt; text.as_bytes(), b"".as_slice());
+    equal(text.as_bytes(), b"".as_slice())?;
     let pieces = [
         Piece::Bytes(b"D "),
         Piece::Number(0),
@@ -171,10 +171,10 @@ fn a_text_grows_by_pieces(rt: HostRuntime) -> Result<(), AllocError> {
     for _ in 0..3u32 {
         text.clear();
         put_all(&mut text, &pieces)?;
-        assert_eq!(rt;
+        equal(
             text.as_bytes(),
-            b"D 0 18446744073709551615 009aff\n".as_slice()
-        );
+            b"D 0 18446744073709551615 009aff\n".as_slice(),
+        )?;
     }
     Ok(())
 }
@@ -188,15 +188,14 @@ fn put_thousand(text: &mut Text) -> Result<(), AllocError> {
 }
 
 #[test]
-fn a_text_grows_past_its_first_room(rt: HostRuntime) -> Result<(), AllocError> {
+fn a_text_grows_past_its_first_room(rt: HostRuntime) -> Result<(), Fail> {
     let mut text = Text::new(rt.alloc());
     put(&mut text, &Piece::Bytes(b"D "))?;
     text.clear();
     put_thousand(&mut text)?;
     let bytes = text.as_bytes();
     let is_at_end = bytes.ends_with(b"1000000999");
-    assert_eq!(rt; (bytes.len(), is_at_end), (10_000, true));
-    Ok(())
+    equal((bytes.len(), is_at_end), (10_000, true))
 }
 
 /// Puts times, each with the number of a line.
@@ -222,20 +221,19 @@ fn put_small_numbers(text: &mut Text) -> Result<(), AllocError> {
 }
 
 #[test]
-fn numbers_that_come_again(rt: HostRuntime) -> Result<(), AllocError> {
+fn numbers_that_come_again(rt: HostRuntime) -> Result<(), Fail> {
     let mut text = Text::new(rt.alloc());
     for _ in 0..2u32 {
         text.clear();
         put_times(&mut text)?;
-        assert_eq!(rt;
+        equal(
             text.as_bytes(),
-            b"0 0 7 1 7 1 1000000000000000 142857142857142 7 1 ".as_slice()
-        );
+            b"0 0 7 1 7 1 1000000000000000 142857142857142 7 1 ".as_slice(),
+        )?;
     }
     text.clear();
     put_small_numbers(&mut text)?;
-    assert_eq!(rt; text.as_bytes(), b"0 9 10 24 99 100 255 ".as_slice());
-    Ok(())
+    equal(text.as_bytes(), b"0 9 10 24 99 100 255 ".as_slice())
 }
 
 /// A hundred bytes.

@@ -2,7 +2,7 @@
 
 use crate::texts::short_text;
 use afdx_replay::{Watched, check};
-use afdx_samples::{ShortText, all_right, base, changed, gigabit, largest};
+use afdx_samples::{ShortText, all_right, base, changed, equal, gigabit, largest};
 use std::alloc::Global;
 use std::fmt::Write;
 use std::test::Fail;
@@ -71,8 +71,7 @@ fn jitter(rt: HostRuntime) -> Result<(), Fail> {
     let small = ends(rt.alloc(), small.as_str(), "no A6 1 46720\n")?;
     let enough = changed(base(), "jitter_us = 500", "jitter_us = 47")?;
     let enough = ends(rt.alloc(), enough.as_str(), "ok\n")?;
-    assert_eq!(rt; (small, enough), ((1, true), (0, true)));
-    Ok(())
+    equal((small, enough), ((1, true), (0, true)))
 }
 
 #[test]
@@ -80,8 +79,7 @@ fn rates_of_a_gigabit(rt: HostRuntime) -> Result<(), Fail> {
     let config = gigabit()?;
     let (status, output, _) = checked(rt.alloc(), config.as_bytes())?;
     let text = "P 1 0 0 0\nP 2 0 0 0\nP 3 1680 2018 252\nok\n";
-    assert_eq!(rt; (status, output.as_str()), (0, text));
-    Ok(())
+    equal((status, output.as_str()), (0, text))
 }
 
 /// The base text without its second link, with long frames to a port of low rate.
@@ -99,8 +97,7 @@ fn filled_port() -> Result<ShortText, Fail> {
 fn a_port_that_its_high_links_fill(rt: HostRuntime) -> Result<(), Fail> {
     let config = filled_port()?;
     let answer = ends(rt.alloc(), config.as_str(), "P 3 1845600 - 2307\nno A1 3\n")?;
-    assert_eq!(rt; answer, (1, true));
-    Ok(())
+    equal(answer, (1, true))
 }
 
 /// The base systems and so many links from the first to the third, each of the longest frames and
@@ -126,8 +123,7 @@ fn the_jitter_of_a_sender(rt: HostRuntime) -> Result<(), Fail> {
     let four = ends(rt.alloc(), four.as_str(), "\nno A5 s1 532160\n")?;
     let three = long_links(3)?;
     let three = ends(rt.alloc(), three.as_str(), "\nP 3 370562 371634 4633\nok\n")?;
-    assert_eq!(rt; (four, three), ((1, true), (0, true)));
-    Ok(())
+    equal((four, three), ((1, true), (0, true)))
 }
 
 /// A piece of the base text, what takes its place, and the line of the fault.
@@ -222,8 +218,6 @@ fn the_largest_tables(rt: HostRuntime) -> Result<(), Fail> {
     let (status, output, errors) = checked_largest(rt.alloc())?;
     let first = "P 1 0 0 0\nP 2 41287680 - 516096\n";
     let last = "\nP 24 41287680 - 516096\nno A1 2\n";
-    assert!(rt; output.as_str().starts_with(first));
-    assert!(rt; output.as_str().ends_with(last));
-    assert_eq!(rt; (status, errors.as_str()), (1, ""));
-    Ok(())
+    let is_told = output.as_str().starts_with(first) && output.as_str().ends_with(last);
+    equal((status, is_told, errors.as_str()), (1, true, ""))
 }

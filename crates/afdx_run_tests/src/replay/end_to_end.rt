@@ -5,7 +5,7 @@ use super::sends::sent;
 use crate::texts::{push_line, short_text, shown};
 use afdx_admit::Admitted;
 use afdx_replay::{LineFault, RunFault, Watched, run};
-use afdx_samples::{ShortText, admitted, base, spelled};
+use afdx_samples::{ShortText, admitted, base, equal, spelled};
 use std::alloc::{AllocError, Global};
 use std::test::Fail;
 
@@ -106,8 +106,7 @@ fn what_is_taken_is_told_once(rt: HostRuntime) -> Result<(), Fail> {
     let wanted = "\
         M 13440 s3 1 61\nM 20160 s3 2 68\nM 1013440 s3 1 63\nM 1020160 s3 2 69\n\
         M 3013440 s3 1 64\n";
-    assert_eq!(rt; told.as_str(), wanted);
-    Ok(())
+    equal(told.as_str(), wanted)
 }
 
 /// Whether the line tells of side B after 1 ms.
@@ -140,8 +139,7 @@ fn one_network_is_enough(rt: HostRuntime) -> Result<(), Fail> {
     let list = sent_without_b(rt.alloc(), list)?;
     let told = messages(rt.alloc(), list.as_str())?;
     let wanted = "M 13440 s3 1 61\nM 1013440 s3 1 63\nM 3013440 s3 1 64\n";
-    assert_eq!(rt; (list.as_str().lines().count(), told.as_str()), (5, wanted));
-    Ok(())
+    equal((list.as_str().lines().count(), told.as_str()), (5, wanted))
 }
 
 /// What the first system sends for a list of one or two messages.
@@ -156,6 +154,5 @@ fn frames_after_the_last_time_are_no_list(rt: HostRuntime) -> Result<(), Fail> {
     let text = sent_alone(rt.alloc(), "1000000000000000 1 1 1000 61\n")?;
     assert!(rt; text.as_str().starts_with("R 1000000000006720 A 1 "));
     let (result, _) = replayed(rt.alloc(), text.as_str())?;
-    assert_eq!(rt; result, Err(RunFault::Line(1, LineFault::TimeTooLarge)));
-    Ok(())
+    equal(result, Err(RunFault::Line(1, LineFault::TimeTooLarge)))
 }

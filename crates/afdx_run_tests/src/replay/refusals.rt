@@ -3,7 +3,7 @@
 use super::checks::{BASE_PORTS, checked};
 use super::{answer, rule_up_to};
 use afdx_replay::RunFault;
-use afdx_samples::base;
+use afdx_samples::{base, equal};
 use std::test::Fail;
 
 /// How often a call is made where one request for memory may be refused.
@@ -17,18 +17,14 @@ fn a_run_may_be_refused(rt: HostRuntime) -> Result<(), Fail> {
     for _ in 0..TRIES {
         let (result, written) = answer(rt.alloc(), &rule, list.as_bytes())?;
         match result {
-            Ok(_) => {
-                assert_eq!(rt; written.as_str(), text);
-                return Ok(());
-            }
+            Ok(_) => return equal(written.as_str(), text),
             Err(RunFault::Memory | RunFault::Write) => {
-                assert!(rt; text.starts_with(written.as_str()));
+                equal(text.starts_with(written.as_str()), true)?;
             }
-            Err(fault) => assert!(rt; false, "{fault}"),
+            Err(fault) => return Err(fault.into()),
         }
     }
-    assert!(rt; false, "each try was refused");
-    Ok(())
+    Err("each try was refused".into())
 }
 
 #[test]
@@ -36,12 +32,10 @@ fn a_check_may_be_refused(rt: HostRuntime) -> Result<(), Fail> {
     for _ in 0..TRIES {
         let (status, output, _) = checked(rt.alloc(), base().as_bytes())?;
         if status == 0 {
-            assert!(rt; output.as_str().starts_with(BASE_PORTS));
-            assert!(rt; output.as_str().ends_with("ok\n"));
-            return Ok(());
+            let begins = output.as_str().starts_with(BASE_PORTS);
+            return equal((begins, output.as_str().ends_with("ok\n")), (true, true));
         }
-        assert_eq!(rt; status, 4);
+        equal(status, 4)?;
     }
-    assert!(rt; false, "each try was refused");
-    Ok(())
+    Err("each try was refused".into())
 }

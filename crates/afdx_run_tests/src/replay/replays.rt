@@ -4,7 +4,7 @@ use super::Answer;
 use crate::texts::short_text;
 use afdx_config::Tables;
 use afdx_replay::{LineFault, NO_COUNTS, RunFault, Summary, Watched, run_unadmitted};
-use afdx_samples::{ShortText, all_right, base, changed, read, spelled};
+use afdx_samples::{ShortText, all_right, base, changed, equal, read, spelled};
 use std::alloc::Global;
 use std::test::Fail;
 
@@ -126,8 +126,7 @@ fn a_list_with_a_fault(rt: HostRuntime) -> Result<(), Fail> {
     let (result, written) = replayed(rt.alloc(), base(), list)?;
     let want = Err(RunFault::Line(3, LineFault::TimeBack));
     let text = "V 1 A accept\nD 1 6720 A 3\nM 6720 s3 1 68656c6c6f\nV 2 A accept\n";
-    assert_eq!(rt; (result, written.as_str()), (want, text));
-    Ok(())
+    equal((result, written.as_str()), (want, text))
 }
 
 #[test]
@@ -144,6 +143,5 @@ fn counts_of_a_replay(rt: HostRuntime) -> Result<(), Fail> {
         delivered: 2,
         ..NO_COUNTS
     };
-    assert_eq!(rt; result, Ok(want));
-    Ok(())
+    equal(result, Ok(want))
 }

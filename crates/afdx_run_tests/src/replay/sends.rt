@@ -7,7 +7,7 @@ use crate::texts::{push_line, short_text, shown};
 use afdx_admit::Admitted;
 use afdx_config::SystemId;
 use afdx_replay::{NO_COUNTS, RunFault, Summary, Watched, run_send};
-use afdx_samples::{ShortText, admitted, base};
+use afdx_samples::{ShortText, admitted, base, equal};
 use std::alloc::Global;
 use std::test::Fail;
 
@@ -92,8 +92,7 @@ fn messages_are_sent_in_turn(rt: HostRuntime) -> Result<(), Fail> {
     ];
     let right = right_lines(text.as_str(), wanted.as_slice());
     let all = text.as_str().lines().count();
-    assert_eq!(rt; (result, right, all), (Ok(counts(4, 4, 0, 4)), 8, 8));
-    Ok(())
+    equal((result, right, all), (Ok(counts(4, 4, 0, 4)), 8, 8))
 }
 
 #[test]
@@ -102,8 +101,7 @@ fn wrong_messages_are_written(rt: HostRuntime) -> Result<(), Fail> {
         0 1 1 1000 000000000000000000000000000000000000\n";
     let (result, text) = sent_shortly(rt.alloc(), list)?;
     let told = "# 1 S1\n# 2 S2\n# 3 S3\n# 4 S4\n";
-    assert_eq!(rt; (result, text.as_str()), (Ok(counts(4, 0, 4, 0)), told));
-    Ok(())
+    equal((result, text.as_str()), (Ok(counts(4, 0, 4, 0)), told))
 }
 
 /// Adds so many messages to one sub-VL at one time.
@@ -132,6 +130,5 @@ fn sent_too_many(alloc: Global) -> Result<(Result<Summary, RunFault>, bool), Fai
 #[test]
 fn a_full_queue_takes_no_message(rt: HostRuntime) -> Result<(), Fail> {
     let answer = sent_too_many(rt.alloc())?;
-    assert_eq!(rt; answer, (Ok(counts(65, 64, 1, 64)), true));
-    Ok(())
+    equal(answer, (Ok(counts(65, 64, 1, 64)), true))
 }
