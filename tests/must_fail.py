@@ -6,14 +6,14 @@
 Stands on the libraries that are built in CRATES/*/out, where CRATES is crates/ unless it is given.
 A function is proved from the contracts of what it calls, whatever stands in their bodies: so edits
 of several functions are tried in one run of the prover, which checks those functions and nothing
-else. What they call besides is taken by its contract, and its proof, which was checked where the
-library was built, is spoiled: that costs nothing, and nothing is told of it. Each function that is
-edited must be refused for its own body, by an error in its own proof or an open goal of its own;
-one that has neither may be refused for what it calls, and is tried again alone. (`rt must-fail`
-checks the whole crate with each edit, and takes a refusal anywhere.) An edit of what is no
-function, as a constant, is tried alone, where an error of a lemma counts too. It says which
-function must be refused in a line of its own, `refused: MODULE::FUNCTION`, as does one of a method
-whose name can't be read off the file.
+else. What they call besides is taken by its contract: its body and its proof, which were checked
+where the library was built, are taken away, which spares time, and nothing is told of it. Each
+function that is edited must be refused for its own body, by an error in its own proof or an open
+goal of its own; one that has neither may be refused for what it calls, and is tried again alone.
+(`rt must-fail` checks the whole crate with each edit, and takes a refusal anywhere.) An edit of
+what is no function, as a constant, is tried alone, where an error of a lemma counts too. It says
+which function must be refused in a line of its own, `refused: MODULE::FUNCTION`, as does one of a
+method whose name can't be read off the file.
 
 Prints a line for each edit, then `N passed, M failed`; ends with status 1 if one failed.
 """
@@ -87,18 +87,49 @@ def functions_of(crate: str) -> frozenset[str]:
     return frozenset(it for it in found if it)
 
 
-def spoil(proofs: pathlib.Path, function: str, name: str) -> None:
-    """Spoils this file of a function's proof, which is made; not where functions call one another.
+def is_spoilt(proofs: pathlib.Path, function: str) -> bool:
+    """Whether this function's proof can be spoilt: not where functions call one another.
 
     Names are those of plain functions and methods alone.
     """
     folder = proofs.joinpath(*function.split("::"))
-    if re.fullmatch(r"\w+(::\w+)*", function) and not any(folder.parent.glob("+*")):
-        if name == "Proof.antt":
-            shutil.rmtree(folder, ignore_errors=True)
-        folder.mkdir(parents=True, exist_ok=True)
-        with (folder / name).open("a", encoding="utf-8") as file:
-            file.write(f"\npub {NONE} : tt\n{NONE} = tt\n")
+    return bool(re.fullmatch(r"\w+(::\w+)*", function)) and not any(folder.parent.glob("+*"))
+
+
+def spoil(proofs: pathlib.Path, function: str, name: str) -> None:
+    """Spoils this file of a function's proof, which is made."""
+    folder = proofs.joinpath(*function.split("::"))
+    if name == "Proof.antt":
+        shutil.rmtree(folder, ignore_errors=True)
+    folder.mkdir(parents=True, exist_ok=True)
+    with (folder / name).open("a", encoding="utf-8") as file:
+        file.write(f"\npub {NONE} : tt\n{NONE} = tt\n")
+
+
+def body_at(lines: list[str], head: int) -> range:
+    """The lines of a function's body, as `rt fmt` lays it out, from the line of its head."""
+    indent = lines[head][: len(lines[head]) - len(lines[head].lstrip())]
+    for number in range(head, len(lines)):
+        line = lines[number]
+        if line.startswith(f"{indent}{{}}") or number == head and line.endswith("}\n"):
+            return range(0)
+        is_signature = number == head or line.startswith(f"{indent})")
+        if line == f"{indent}{{\n" or is_signature and line.endswith(" {\n"):
+            return range(number + 1, lines.index(f"{indent}}}\n", number))
+    return range(0)
+
+
+def without_bodies(file: str, text: str, functions: set[str]) -> str:
+    """The text of a file with endless loops in place of these functions' bodies, line by line."""
+    lines = text.splitlines(keepends=True)
+    place = 0
+    for number, line in enumerate(text.splitlines(keepends=True)):
+        place += len(line)
+        if re.match(r" *(pub(\(\w+\))? )?fn \w", line) and path_of(file, text, place) in functions:
+            body = body_at(lines, number)
+            for it in body:
+                lines[it] = "loop {}\n" if it == body.start else "\n"
+    return "".join(lines)
 
 
 @dataclass
@@ -130,6 +161,20 @@ class Prover:
         words += ["--jobs", "1", "--incremental", str(self.kept), "--short-goals"]
         return words + [word for it in functions for word in ("--only", it)]
 
+    def spoil_others(self, room: pathlib.Path, functions: list[str]) -> None:
+        """Takes away the bodies and the proofs of all other functions, and the answers of these."""
+        proofs = room / "proofs"
+        others = functions_of(self.crate).difference(functions)
+        spoilt = {it for it in others if is_spoilt(proofs, it)}
+        for path in (room / "src").rglob("*.rt"):
+            file, text = str(path.relative_to(room)), path.read_text(encoding="utf-8")
+            path.write_text(without_bodies(file, text, spoilt), encoding="utf-8")
+        for function in spoilt:
+            spoil(proofs, function, "Proof.antt")
+        for function in functions:
+            if is_spoilt(proofs, function):
+                spoil(proofs, function, "Answers.antt")
+
     def says(self, functions: list[str], texts: dict[str, str]) -> str:
         """What it says of these functions, with these texts in place of the crate's own."""
         with tempfile.TemporaryDirectory(prefix="must-fail-") as name:
@@ -139,10 +184,7 @@ class Prover:
                     shutil.copytree(CRATES / self.crate / part, room / part)
             for path, text in texts.items():
                 (room / path).write_text(text, encoding="utf-8")
-            for function in functions_of(self.crate).difference(functions):
-                spoil(room / "proofs", function, "Proof.antt")
-            for function in functions:
-                spoil(room / "proofs", function, "Answers.antt")
+            self.spoil_others(room, functions)
             ran = subprocess.run(
                 self.command(functions), cwd=room, stdin=subprocess.DEVNULL,
                 stdout=subprocess.PIPE, stderr=subprocess.STDOUT, errors="replace", check=False,

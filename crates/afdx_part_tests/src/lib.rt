@@ -1,13 +1,11 @@
-//! Tests of the parts of a network, each by itself: frames, policing, output ports, configurations,
-//! admission, bounds, receivers and communication ports, lists, and what explains a line.
+//! Tests of what a run stands on: frames, policing, output ports, configurations, admission,
+//! bounds, lists, and what explains a line.
 #![tactic(auto)]
 
 #[cfg(test)]
 mod admit;
 #[cfg(test)]
 mod bounds;
-#[cfg(test)]
-mod comport;
 #[cfg(test)]
 mod config;
 #[cfg(test)]
@@ -22,5 +20,3 @@ mod lists;
 mod police;
 #[cfg(test)]
 mod port;
-#[cfg(test)]
-mod receive;

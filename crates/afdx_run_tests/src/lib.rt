@@ -1,7 +1,11 @@
-//! Tests of what parts do together: a switch, a sender, the systems of a run, and whole runs over
-//! text.
+//! Tests of what takes part in a run: senders, switches, receivers, communication ports and the
+//! systems that have them, and of whole runs over text.
 #![tactic(auto)]
 
+#[cfg(test)]
+mod comport;
+#[cfg(test)]
+mod receive;
 #[cfg(test)]
 mod replay;
 #[cfg(test)]
