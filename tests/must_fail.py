@@ -164,7 +164,9 @@ class Prover:
     def spoil_others(self, room: pathlib.Path, functions: list[str]) -> None:
         """Takes away the bodies and the proofs of all other functions, and the answers of these."""
         proofs = room / "proofs"
-        others = functions_of(self.crate).difference(functions)
+        # (a type's name may have those of its parameters behind it)
+        kept = {re.sub(r"\+\w+", "", it) for it in functions}
+        others = functions_of(self.crate).difference(kept)
         spoilt = {it for it in others if is_spoilt(proofs, it)}
         for path in (room / "src").rglob("*.rt"):
             file, text = str(path.relative_to(room)), path.read_text(encoding="utf-8")
