@@ -24,5 +24,5 @@ text_case 'a configuration on standard input' 1 out 'no A3 7 104 267995' check /
 input=/dev/null
 
 if kit=$(rt version 2>/dev/null); then
-    case_of 'the version names the kit' 0 "afdx 0.1.0 ($kit)"$'\n' '' --version
+    case_of 'the version names the logic' 0 "afdx 0.1.0 (logic ${kit##* })"$'\n' '' --version
 fi

@@ -5,8 +5,8 @@ use std::alloc::{AllocError, Global};
 
 const ABOUT: &str = "A proved simulator of aircraft networks (AFDX, ARINC 664 Part 7)";
 
-/// The version of the program, and the kit that it is proved and built with (`rt version`).
-const VERSION: &str = "0.1.0 (rattle-kit-13b logic dac8208d650f15bf)";
+/// The version of the program, and the logic that it is proved in, the last word of `rt version`.
+const VERSION: &str = "0.1.0 (logic dac8208d650f15bf)";
 
 const AFTER: &str = "\
 To begin with, in the repository's folder:

@@ -15,7 +15,7 @@ pub struct Checked<'a> {
     pub bytes: &'a [u8],
     /// What `is_sealed` answers of them.
     pub sealed: bool,
-    ghost known: { sealed ≡ is_sealed bytes.now },
+    pub ghost known: { sealed ≡ is_sealed bytes.now },
     ghost fits: { AreBytes bytes.now },
 }
 

@@ -7,6 +7,7 @@ use Rattle.afdx_frame.specs.Ports.{last_port}
 use Rattle.afdx_config.specs.Rows.{Rows}
 use Rattle.afdx_config.specs.Reading.{system_at_port, Spells}
 use Rattle.afdx_config.specs.Admission.{IsAdmitted}
+use Rattle.afdx_config.specs.Lawful.{IsLawful}
 use Rattle.afdx_admit.specs.declared.fault.AdmitFault.{AdmitFault}
 use Rattle.afdx_admit.specs.FaultText.{fault_text}
 use Rattle.afdx_admit.specs.Known.{name_of}
@@ -48,9 +49,10 @@ answer_line t (Some fault) = codes "no " ++ fault_text (name_of t fault) fault +
 abbrev pub check_text : Rows → List ℕ
 check_text t = used_port_lines t last_port ++ answer_line t (first_false (lines t))
 
--- the text of the tables that these bytes spell is written
+-- the text of the tables that these bytes spell, which are lawful, is written
 pub record WritesCheck (config : List ℕ) (old new : Option (List ℕ)) (t : Rows) : Type 0 where
   pub spelled : Spells config t
+  pub lawful : IsLawful t
   pub written : Appends old new (check_text t)
 
 -- a beginning of it is written
