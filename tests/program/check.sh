@@ -31,6 +31,38 @@ case_of 'check refused.toml' 1 "$network"$'no A3 7 104 267995\n' '' check exampl
 check_with 'A2' 1 "$base"$'no A2 3 252\n' '' 's/^buffer = 252/buffer = 251/'
 check_with 'A3' 1 "$base"$'no A3 3 1 16800\n' '' 's/^latency_us = 17/latency_us = 16/'
 check_with 'A4' 1 "$base"$'no A4 3 2 20297\n' '' 's/^latency_us = 21/latency_us = 20/'
+check_with 'A7' 1 "$base"$'no A7 1\n' '' '0,/^skew_us = 1000/s//skew_us = 16/'
+
+ends_with() { # NAME STATUS LINES : `check` on the changed base.toml, whose output ends with them
+    launch check "$work/changed.toml"
+    tail -c "${#3}" "$work/out" >"$work/end"
+    tell "$1" "$(
+        has_status "$2"
+        differs 'the end of standard output' "$3" "$work/end"
+    )"
+}
+
+sed '0,/^jitter_us = 500/s//jitter_us = 46/' examples/base.toml >"$work/changed.toml"
+ends_with 'A6' 1 $'no A6 1 46720\n'
+sed '0,/^jitter_us = 500/s//jitter_us = 47/' examples/base.toml >"$work/changed.toml"
+ends_with 'a jitter of one microsecond more' 0 $'ok\n'
+sed '/^vl = 2/Q; s/^lmax = 64/lmax = 1518/; /^id = 3/,/^rate/s/^rate = 100/rate = 10/' \
+    examples/base.toml | sed '$d' >"$work/changed.toml"
+ends_with 'A1, a port that its high links fill' 1 $'P 3 1845600 - 2307\nno A1 3\n'
+
+long_links() { # COUNT : so many links of s1 to s3, each of the longest frames and gap
+    sed '/^\[\[link/Q; s/^buffer = 252/buffer = 65536/' examples/base.toml
+    for ((vl = 0; vl < $1; vl++)); do
+        printf '%s\n' '[[link]]' "vl = $vl" 'from = "s1"' 'to = ["s3"]' 'bag_ms = 128' \
+            'lmin = 64' 'lmax = 1518' 'jitter_us = 500' 'priority = "high"' 'policing = "frame"' \
+            'latency_us = 100000' 'skew_us = 100000' 'subs = 1'
+    done
+}
+long_links 4 >"$work/changed.toml"
+ends_with 'A5' 1 $'no A5 s1 532160\n'
+long_links 3 >"$work/changed.toml"
+ends_with 'the jitter of a sender' 0 $'P 3 370562 371634 4633\nok\n'
+
 check_with 'profile 2 at 1000 Mbit/s' 0 "$idle"$'P 3 1680 2018 252\nok\n' '' \
     's/^profile = 1/profile = 2/; s/^rate = 100/rate = 1000/'
 fault_with 'profile 1 at 1000 Mbit/s' 'OutOfRange system 1 key 5' '0,/^rate = 100/s//rate = 1000/'

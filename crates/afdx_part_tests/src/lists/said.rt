@@ -9,8 +9,8 @@ use std::test::Fail;
 /// What a line says after a frame at time 5, and the bytes of its frame.
 fn said(alloc: Global, line: &str) -> (Result<Option<Heading>, LineError>, Vec<u8>) {
     let mut frame = Vec::new(alloc);
-    let said = read_frame_line(line.as_bytes(), 5, &mut frame);
-    (said, frame)
+    let heading = read_frame_line(line.as_bytes(), 5, &mut frame);
+    (heading, frame)
 }
 
 /// The first of the lines of which something else is said.
@@ -101,8 +101,8 @@ fn heading(time: u64, side: Side, is_sealed: bool) -> Heading {
 
 /// Whether a line says a frame with this heading and these bytes.
 fn says_frame(alloc: Global, line: &str, heading: Heading, bytes: &[u8]) -> bool {
-    let (said, frame) = said(alloc, line);
-    (said, frame.as_slice()) == (Ok(Some(heading)), bytes)
+    let (found, frame) = said(alloc, line);
+    (found, frame.as_slice()) == (Ok(Some(heading)), bytes)
 }
 
 /// The first of the lines that doesn't say its frame.
