@@ -2,7 +2,7 @@
 //! in turn; `port_bench fill` fills a queue of 4 MiB with frames of 64 bytes and drains it.
 #![tactic(auto)]
 
-ghost use Rattle.std.specs.Prelude.{◌≡◌, ◌≤◌, ◌*◌, None};
+ghost use Rattle.std.specs.Prelude.{◌≡◌, ◌≤◌, ◌*◌};
 ghost use Rattle.afdx_port.specs.Held.{last_time};
 
 use afdx_frame::{GREATEST_BUFFER, Priority};
@@ -19,7 +19,9 @@ const SLOT: u64 = 6_720;
 struct Short;
 
 impl HasLength for Short {
-    ghost facts = { λ _. record { bytes = 64; longest_wait = None } };
+    ghost use Rattle.port_bench.specs.ShortLaw.{short_facts, short-lawful};
+
+    ghost facts = { λ _. short_facts };
 
     fn length(&self) -> u64 {
         64
@@ -29,9 +31,7 @@ impl HasLength for Short {
         None
     }
 
-    ghost use Rattle.std.proofs.Common.{arith};
-
-    ghost lawful = { λ _. record { least = Prim.omega arith; most = Prim.omega arith; wait = tt } };
+    ghost lawful = { λ _. short-lawful };
 }
 
 /// How many of so many frames left, each put to an idle port and taken.
