@@ -12,7 +12,7 @@ else; where two are of one function, the second is made to a copy of it. What th
 taken by its contract: its body and its proof, which were checked where the library was built, are
 taken away, which spares time, and nothing is told of it. Each function that is edited must be
 refused for its own body, by an error in its own proof or an open goal of its own; one that has
-neither may be refused for what it calls, and is tried again alone. (`rt must-fail` checks the whole
+neither may be refused for what it calls, and is tried again alone. (`rt must-fail` checks the
 crate with each edit, and takes a refusal anywhere.) An edit of what is no function, as a constant,
 is tried alone, where an error of a lemma counts too. It says which function must be refused in a
 line of its own, `refused: MODULE::FUNCTION`, as does one of a method whose name can't be read off
@@ -31,6 +31,7 @@ import tempfile
 from collections.abc import Iterable
 from dataclasses import dataclass
 
+sys.dont_write_bytecode = True
 sys.path.insert(0, os.path.join(os.path.dirname(os.path.abspath(__file__)), "refusing"))
 from edits import CRATES, BadEdit, Edit, apply, chosen_edits, read_edit, with_copy  # noqa: E402
 from prover import Prover, lemma_reason, refusal  # noqa: E402
@@ -130,7 +131,10 @@ def try_ready(ready: queue.PriorityQueue, built: pathlib.Path) -> list:
     """Tries crate by crate what is ready, of those that are the one with the most edits."""
     results = []
     while (found := ready.get())[0] < 0:
-        results += try_crate(found[1], found[2], built)
+        try:
+            results += try_crate(found[1], found[2], built)
+        except Exception as fault:  # pylint: disable=broad-exception-caught
+            results.append((False, f"{found[1]}: not tried: {fault!r}"))
     return results
 
 
@@ -140,24 +144,34 @@ def try_all(names: Iterable[str], edits: dict, jobs: int, built: pathlib.Path) -
     left = dict(edits)
     with concurrent.futures.ThreadPoolExecutor(jobs) as pool:
         tasks = [pool.submit(try_ready, ready, built) for _ in range(jobs)]
-        for name in names:
-            if name in left:
-                paths = left.pop(name)
-                ready.put((-len(paths), name, paths))
-        for _ in tasks:
-            ready.put((0, "", []))
+        try:
+            for name in names:
+                if name in left:
+                    paths = left.pop(name)
+                    ready.put((-len(paths), name, paths))
+        finally:
+            for _ in tasks:
+                ready.put((0, "", []))
         results = [it for task in tasks for it in task.result()]
     untried = [f"{name}/{path.stem}" for name, paths in left.items() for path in paths]
     return results + [(False, f"{it}: not tried, since its crate was not proved") for it in untried]
 
 
+def side_by_side() -> int:
+    """How many provers at once: one a processor, where a `rt ci` beside them has room too."""
+    memory = re.search(r"MemAvailable: *(\d+)", pathlib.Path("/proc/meminfo").read_text("utf-8"))
+    kilobytes = int(memory[1]) if memory else 0
+    return max(1, min(len(os.sched_getaffinity(0)), kilobytes // 6_000_000))
+
+
 def main() -> int:
     parser = argparse.ArgumentParser(description=(__doc__ or "").splitlines()[0])
-    parser.add_argument("--jobs", type=int, default=len(os.sched_getaffinity(0)))
+    parser.add_argument("--jobs", type=int, default=side_by_side())
     parser.add_argument("--built", type=pathlib.Path, default=CRATES, metavar="CRATES")
     parser.add_argument("--as-proved", action="store_true")
     parser.add_argument("names", nargs="*", metavar="CRATE | CRATE/EDIT")
     words = parser.parse_args()
+    sys.stdin.reconfigure(errors="replace")
     edits = chosen_edits(words.names)
     names = named_proved(sys.stdin) if words.as_proved else list(edits)
     results = try_all(names, edits, words.jobs, words.built.resolve())

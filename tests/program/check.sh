@@ -59,9 +59,9 @@ long_links() { # COUNT : so many links of s1 to s3, each of the longest frames a
     done
 }
 long_links 4 >"$work/changed.toml"
-ends_with 'A5' 1 $'no A5 s1 532160\n'
+ends_with 'A5' 1 $'\nno A5 s1 532160\n'
 long_links 3 >"$work/changed.toml"
-ends_with 'the jitter of a sender' 0 $'P 3 370562 371634 4633\nok\n'
+ends_with 'the jitter of a sender' 0 $'\nP 3 370562 371634 4633\nok\n'
 
 check_with 'profile 2 at 1000 Mbit/s' 0 "$idle"$'P 3 1680 2018 252\nok\n' '' \
     's/^profile = 1/profile = 2/; s/^rate = 100/rate = 1000/'

@@ -111,7 +111,8 @@ def span_of(file: str, text: str, function: str) -> range | None:
 def with_copy(crate: str, edit: Edit, texts: dict[str, str], name: str) -> dict[str, str] | None:
     """The texts with the edit made to a copy of its function, of this name, beside that function.
 
-    None where the edit changes anything but one function with a body of its own.
+    None where the edit changes anything but one function with a body of its own, or that function
+    calls itself, as its copy would not.
     """
     function, file = edit.functions[0], edit.changes[0][0]
     whole = (CRATES / crate / file).read_text(encoding="utf-8")
@@ -121,11 +122,14 @@ def with_copy(crate: str, edit: Edit, texts: dict[str, str], name: str) -> dict[
     if len(edit.functions) > 1 or function not in functions_of(crate) or not span or not beside:
         return None
     copy = "".join(whole.splitlines(keepends=True)[span.start : span.stop])
+    plain = function.split("::")[-1]
+    if re.search(rf"\b(Self::|self\.){plain}\(|(?<!fn )(?<![\w.:]){plain}\(", copy):
+        return None
     for changed, old, new in edit.changes:
         if changed != file or copy.count(old) != 1:
             return None
         copy = copy.replace(old, new)
-    copy = re.sub(rf"\bfn {function.split('::')[-1]}\b", f"fn {name}", copy, count=1)
+    copy = re.sub(rf"\bfn {plain}\b", f"fn {name}", copy, count=1)
     return texts | {file: "".join([*lines[: beside.stop], "\n", copy, *lines[beside.stop :]])}
 
 
