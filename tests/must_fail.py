@@ -171,9 +171,11 @@ def main() -> int:
     parser.add_argument("--as-proved", action="store_true")
     parser.add_argument("names", nargs="*", metavar="CRATE | CRATE/EDIT")
     words = parser.parse_args()
-    sys.stdin.reconfigure(errors="replace")
     edits = chosen_edits(words.names)
-    names = named_proved(sys.stdin) if words.as_proved else list(edits)
+    names: Iterable[str] = list(edits)
+    if words.as_proved:
+        sys.stdin.reconfigure(errors="replace")
+        names = named_proved(sys.stdin)
     results = try_all(names, edits, words.jobs, words.built.resolve())
     for _, text in sorted(results, key=lambda it: it[1]):
         print(text)
