@@ -25,6 +25,7 @@ use Rattle.afdx_config.specs.declared.rows.Kind.{Kind}
 use Rattle.afdx_config.specs.declared.rows.Kind.TheVariants.{Sampling, Queuing}
 use Rattle.afdx_config.specs.declared.read_links.Traffic.{Traffic}
 use Rattle.afdx_config.specs.declared.read_links.Treatment.{Treatment}
+use Rattle.afdx_config.specs.declared.read_ports.Socket.{Socket}
 use Rattle.afdx_config.specs.Rows.{SystemRow, LinkRow, PortRow, Rows, is_to}
 use Rattle.afdx_config.specs.Fault.{◌>>=◌, ◌>>◌, check, or_fault}
 use Rattle.afdx_config.specs.Keys.{place, whole, one_of, text, word, tables, texts}
@@ -175,21 +176,34 @@ abbrev pub deepest : Kind → ℕ
 deepest Sampling = 1
 deepest Queuing = 64
 
--- a port entry, for a link that goes to its system, and a triple that no entry before has
+-- what a port entry takes: its link goes to its system, and no entry before takes the same
+unfoldable pub socket_at : (ℕ → Place) → List SystemRow → List LinkRow → List PortRow → Members →
+    Result Socket ConfigFault
+socket_at at systems links before t = do
+  system ← named (at 1) (codes "system") systems t
+  link ← whole (at 2) (codes "link") 0 65535 t
+  check (goes_to links link system) (OutOfRange (at 2))
+  udp ← whole (at 3) (codes "udp") 1 65535 t
+  check (not (has_port before system link udp)) (Twice (at 3))
+  Ok (record { system = record { 0 = system }; link = record { 0 = link }; udp = udp })
+
+-- a port entry
 unfoldable pub port_at : List SystemRow → List LinkRow → List PortRow → Members →
     Result PortRow ConfigFault
 port_at systems links before t =
     let at : ℕ → Place = place part.Port (length before + 1) in do
-      system ← named (at 1) (codes "system") systems t
-      link ← whole (at 2) (codes "link") 0 65535 t
-      check (goes_to links link system) (OutOfRange (at 2))
-      udp ← whole (at 3) (codes "udp") 1 65535 t
-      check (not (has_port before system link udp)) (Twice (at 3))
+      socket ← socket_at at systems links before t
       kind ← word (at 4) (codes "kind")
           ((codes "sampling", Sampling) ∷ (codes "queuing", Queuing) ∷ []) t
       depth ← whole (at 5) (codes "depth") 1 (deepest kind) t
       only_port_keys (at 0) t
-      Ok (record { system = system; link = link; udp = udp; kind = kind; depth = depth })
+      Ok (record {
+        system = socket.system.0;
+        link = socket.link.0;
+        udp = socket.udp;
+        kind = kind;
+        depth = depth;
+      })
 
 -- the rows of some tables, each read after those before it
 abbrev pub each : {R : Type 0} → (List R → Members → Result R ConfigFault) → List R →

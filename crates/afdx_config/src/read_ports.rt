@@ -1,14 +1,15 @@
 //! The reading of communication ports.
 
 ghost use Rattle.std.specs.Prelude.{◌≡◌, ◌≤◌, ◌<◌, ◌∷◌, [], length, IfOk, codes, nat_eq, ◌&&◌};
-ghost use Rattle.std.specs.Prelude.{false};
+ghost use Rattle.std.specs.Prelude.{false, true};
 ghost use Rattle.std.specs.List.{list_any};
 ghost use Rattle.toml.specs.View.{table_view};
-ghost use Rattle.afdx_config.specs.Lawful.{IsPort, ArePorts};
+ghost use Rattle.afdx_config.specs.Lawful.{IsPort, ArePorts, IsWithin};
 ghost use Rattle.afdx_config.specs.Rows.{port_row, port_rows};
 ghost use Rattle.afdx_config.specs.Fault.{Gives};
 ghost use Rattle.afdx_config.specs.Trees.{trees};
 ghost use Rattle.afdx_config.specs.Keys as keys;
+ghost use Rattle.afdx_config.specs.Reading.{goes_to};
 ghost use Rattle.afdx_config.specs.Reading as spec;
 
 use crate::fault::{ConfigFault, Part, Place};
@@ -37,6 +38,47 @@ fn is_taken(before: &[ComRow], system: SystemId, link: VlId, udp: u16) -> bool
     has_port(before, system, link, udp)
 }
 
+/// Which messages a port entry takes: those of the link, at the system, to the UDP port.
+#[derive(Clone, Copy)]
+struct Socket {
+    system: SystemId,
+    link: VlId,
+    udp: u16,
+}
+
+/// What the entry of this number takes, where the link goes to the system, and no entry before
+/// takes the same.
+#[tactic(auto, unfolding(crate::specs::Reading::socket_at))]
+fn socket_of(
+    table: &Table,
+    index: usize,
+    systems: &Systems,
+    links: &Links,
+    before: &[ComRow],
+) -> Result<Socket, ConfigFault>
+    ensures system { IfOk result (λ s. s.system.0 < length systems.now) }
+    ensures link { IfOk result (λ s. goes_to links.now s.link.0 s.system.0 ≡ true) }
+    ensures udp { IfOk result (λ s. IsWithin 1 65535 s.udp) }
+    ensures fresh { IfOk result
+        (λ s. spec.has_port (port_rows before.now) s.system.0 s.link.0 s.udp ≡ false) }
+    ensures value { Gives (λ s. s) result
+        (spec.socket_at (keys.place Part.Port index) systems.now links.now
+        (port_rows before.now) (table_view table.now)) }
+{
+    let system = named(table, place(Part::Port, index, 1), "system", systems)?;
+    let at = place(Part::Port, index, 2);
+    let link = VlId(whole(table, at, "link", 0, 65535)? as u16);
+    if !links.goes_to(link, system) {
+        return Err(ConfigFault::OutOfRange(at));
+    }
+    let at = place(Part::Port, index, 3);
+    let udp = whole(table, at, "udp", 1, 65535)? as u16;
+    if is_taken(before, system, link, udp) {
+        return Err(ConfigFault::Twice(at));
+    }
+    Ok(Socket { system, link, udp })
+}
+
 /// The port entry that a table states, after those before it.
 #[tactic(auto, unfolding(crate::specs::Reading::port_at))]
 fn com_of(
@@ -53,25 +95,10 @@ fn com_of(
         (spec.port_at systems.now links.now (port_rows before.now) (table_view table.now)) }
 {
     let index = before.len() + 1;
-    let system = named(table, place(Part::Port, index, 1), "system", systems)?;
-    let at = place(Part::Port, index, 2);
-    let link = VlId(whole(table, at, "link", 0, 65535)? as u16);
-    if !links.goes_to(link, system) {
-        return Err(ConfigFault::OutOfRange(at));
-    }
-    let at = place(Part::Port, index, 3);
-    let udp = whole(table, at, "udp", 1, 65535)? as u16;
-    if is_taken(before, system, link, udp) {
-        return Err(ConfigFault::Twice(at));
-    }
+    let Socket { system, link, udp } = socket_of(table, index, systems, links, before)?;
     let kind = kind_at(table, place(Part::Port, index, 4))?;
-    let depth = whole(
-        table,
-        place(Part::Port, index, 5),
-        "depth",
-        1,
-        deepest(kind),
-    )?;
+    let at = place(Part::Port, index, 5);
+    let depth = whole(table, at, "depth", 1, deepest(kind))?;
     only_port_keys(table, place(Part::Port, index, 0))?;
     Ok(ComRow {
         system,

@@ -14,7 +14,7 @@ use Rattle.afdx_frame.specs.declared.link.VlId.{VlId}
 use Rattle.afdx_police.specs.Arrival.{names}
 use Rattle.afdx_police.specs.Laws.{NoFrameIsRefused}
 use Rattle.afdx_police.specs.Rule.{Rule}
-use Rattle.afdx_police.specs.Shape.{fault_of, reason_for, is_under_lmin}
+use Rattle.afdx_police.specs.Shape.{fault_of, fault_by, reason_for, is_under_lmin}
 use Rattle.afdx_police.specs.declared.shape.Reason.{Reason}
 use Rattle.afdx_police.specs.declared.shape.Reason.TheVariants.{TooShort, TooLong, BadFcs}
 use Rattle.afdx_police.specs.declared.shape.Reason.TheVariants.{BadAddress, UnknownLink, WrongPort}
@@ -52,14 +52,6 @@ link_in : Result FrameParts MacFault → Option VlId
 link_in (Ok parts) = Some parts.link
 link_in (Err fault) = None
 
--- what is left to ask of a frame
-abbrev pub reason_of_frame : Rule → ℕ → List ℕ → ℕ → Option Reason
-reason_of_frame rule port bytes vl =
-    if not (vl == rule.vl) then Some UnknownLink
-    else (if not (rule.port == port) then Some WrongPort
-    else (if nat_lt rule.lmax (length bytes) then Some OverLmax
-    else (if is_under_lmin rule bytes then Some UnderLmin else None)))
-
 -- the first of the tests that are left
 left : (a b c d : Bool) → option_map (λ (fault : Bool × Reason). fault.1) (find (λ fault. fault.0)
     ((not a, UnknownLink) ∷ (not b, WrongPort) ∷ (c, OverLmax) ∷ (d, UnderLmin) ∷ []))
@@ -91,7 +83,7 @@ passed bytes parts false false true (Some v) vl port c d h =
 
 -- of the arrival of a frame, the tests that are left decide
 pub judged : (rule : Rule) (port : ℕ) (bytes : List ℕ) (parts : FrameParts) → frame_of bytes ≡ Ok parts
-    → fault_of (Some rule) port bytes ≡ reason_of_frame rule port bytes parts.link.0
+    → fault_of (Some rule) port bytes ≡ fault_by rule port parts.link.0 bytes
 unfolding frame_of fault_of answered reason_among named names
 judged rule port bytes parts h =
     passed bytes parts (nat_lt (length bytes) least_frame) (nat_lt greatest_frame (length bytes)) (is_sealed bytes)

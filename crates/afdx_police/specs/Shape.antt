@@ -1,6 +1,7 @@
 -- What is wrong with one arrival, from its bytes, its port and its link's rule alone.
 use Rattle.std.specs.Prelude.{◌≡◌, ◌≤◌, ℕ, IsTrue, Bool, false, true, not, ◌&&◌, ◌==◌, nat_lt}
-use Rattle.std.specs.Prelude.{is_none, Option, List, [], ◌∷◌, length, find, option_map}
+use Rattle.std.specs.Prelude.{is_none, Option, Some, None, List, [], ◌∷◌, length, find, option_map}
+use Rattle.std.specs.Prelude.{if◌then◌else◌}
 use Rattle.std.specs.Option.{option_map_or}
 use Rattle.afdx_frame.specs.Lengths.{least_frame, greatest_frame}
 use Rattle.afdx_frame.specs.declared.fault.MacFault.{MacFault}
@@ -48,6 +49,14 @@ faults rule port bytes =
 unfoldable pub fault_of : Option Rule → ℕ → List ℕ → Option Reason
 fault_of rule port bytes =
     option_map (λ fault. fault.1) (find (λ fault. fault.0) (faults rule port bytes))
+
+-- the first fault of a frame that names link vl, where this rule is that of its link
+abbrev pub fault_by : Rule → ℕ → ℕ → List ℕ → Option Reason
+fault_by rule port vl bytes =
+    if not (vl == rule.vl) then Some UnknownLink
+    else (if not (rule.port == port) then Some WrongPort
+    else (if nat_lt rule.lmax (length bytes) then Some OverLmax
+    else (if is_under_lmin rule bytes then Some UnderLmin else None)))
 
 -- an arrival of the rule's link in which nothing is wrong
 pub record IsSound (rule : Rule) (port : ℕ) (bytes : List ℕ) : Type 0 where

@@ -5,10 +5,10 @@ ghost use Rattle.std.specs.Option.{option_copied};
 ghost use Rattle.afdx_frame.specs.Lengths.{least_frame};
 ghost use Rattle.afdx_frame.specs.Sealing.{is_sealed};
 ghost use Rattle.afdx_police.specs.RuleOf.{rule_of};
-ghost use Rattle.afdx_police.specs.Shape.{fault_of};
+ghost use Rattle.afdx_police.specs.Shape.{fault_of, fault_by};
 
 use crate::rule::LinkRule;
-use afdx_frame::{Checked, MacFault, MacView, Policing};
+use afdx_frame::{Checked, MacFault, MacView, Policing, VlId};
 use std::fmt;
 
 /// Why an arrival is dropped.
@@ -103,16 +103,24 @@ pub fn judge(rule: Option<&LinkRule>, port: u8, frame: Checked<'_>) -> Option<Re
         Ok(view) => view,
         Err(fault) => return Some(fault.into()),
     };
-    let Some(rule) = rule else {
-        return Some(Reason::UnknownLink);
-    };
-    if view.vl().0 != rule.vl.0 {
+    match rule {
+        Some(rule) => fault_by(rule, port, view.vl(), frame.bytes),
+        None => Some(Reason::UnknownLink),
+    }
+}
+
+/// The first fault of a frame of this link, by that link's rule.
+fn fault_by(rule: &LinkRule, port: u8, vl: VlId, bytes: &[u8]) -> Option<Reason>
+    ensures reason { result ≡ fault_by (rule_of rule.now) port vl.0 bytes.now }
+    ensures longest { IfNone result (length bytes.now ≤ rule.now.lmax) }
+{
+    let length = bytes.len() as u64;
+    if vl.0 != rule.vl.0 {
         return Some(Reason::UnknownLink);
     }
     if rule.port != port {
         return Some(Reason::WrongPort);
     }
-    let length = frame.bytes.len() as u64;
     if length > rule.lmax {
         return Some(Reason::OverLmax);
     }
