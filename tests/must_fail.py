@@ -27,7 +27,6 @@ import pathlib
 import queue
 import re
 import sys
-import tempfile
 from collections.abc import Iterable
 from dataclasses import dataclass
 
@@ -105,18 +104,17 @@ def try_together(prover: Prover, edits: list[Edit]) -> tuple[list[Edit], list]:
 
 
 def try_crate(crate: str, paths: list[pathlib.Path], built: pathlib.Path) -> list:
-    """Tries a crate's edits, over what its runs before proved."""
+    """Tries a crate's edits."""
     left, results = [], []
     for path in paths:
         try:
             left.append(read_edit(crate, path))
         except (BadEdit, OSError) as fault:
             results.append((False, f"{crate}/{path.stem}: {fault}"))
-    with tempfile.TemporaryDirectory(prefix="must-fail-kept-") as kept:
-        prover = Prover(crate, built, pathlib.Path(kept))
-        while left:
-            left, more = try_together(prover, left)
-            results += more
+    prover = Prover(crate, built)
+    while left:
+        left, more = try_together(prover, left)
+        results += more
     return results
 
 

@@ -27,7 +27,8 @@ def path_of(file: str, text: str, at: int) -> str | None:
     function = block = None
     for line in text[:at].splitlines():
         if found := re.match(r"impl(?:<.*?>)? (?:(?:\w+::)*(\w+)(?:<.*?>)? for )?(\w+)", line):
-            block = found[2] + (found[1] or "")
+            # (the prover names a drop by its type alone)
+            block = found[2] + (found[1] or "").removesuffix("Drop")
         elif found := re.match(r"( *)(?:pub(?:\(\w+\))? )?(?:const )?fn (\w+)", line):
             function = (block if found[1] else None, found[2])
         elif line == "}":
@@ -42,14 +43,14 @@ def path_of(file: str, text: str, at: int) -> str | None:
 
 @functools.cache
 def functions_of(crate: str) -> frozenset[str]:
-    """The functions of a crate's sources with a body of their own, but those of traits' impls."""
+    """A crate's functions with a body of their own; of traits' impls those of Drop's alone."""
     found: set[str | None] = set()
     for path in (CRATES / crate / "src").rglob("*.rt"):
         text = path.read_text(encoding="utf-8")
         is_plain = True
         for line in re.finditer(r".*\n", text):
             if re.match(r"impl\b|(pub )?trait\b", line[0]):
-                is_plain = " for " not in line[0] and "trait" not in line[0]
+                is_plain = bool(re.match(r"impl\b(?!.* for )|impl(<.*?>)? Drop for", line[0]))
             elif line[0] == "}\n":
                 is_plain = True
             elif is_plain and re.match(r" *(pub(\(\w+\))? )?(const )?fn \w", line[0]):

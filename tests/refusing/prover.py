@@ -64,11 +64,10 @@ def copy_proof(proofs: pathlib.Path, function: str, copy: str) -> None:
 
 @dataclass
 class Prover:
-    """The prover over one crate: where the libraries are built, and the work of its runs before."""
+    """The prover over one crate, and where the libraries are built."""
 
     crate: str
     built: pathlib.Path
-    kept: pathlib.Path
 
     def text_of(self, file: str) -> str:
         return (CRATES / self.crate / file).read_text(encoding="utf-8")
@@ -88,7 +87,7 @@ class Prover:
             words += ["-L", f"dependency={folder}"]
         words += ["--antt-project", str(KIT / "rattle/logic/antt-project.json")]
         words += ["--logic-built", str(KIT / "logic_built")]
-        words += ["--jobs", "1", "--incremental", str(self.kept), "--short-goals"]
+        words += ["--jobs", "1", "--short-goals"]
         return words + [word for it in functions for word in ("--only", it)]
 
     def spoil_others(self, room: pathlib.Path, functions: list[str]) -> None:
