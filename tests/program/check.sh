@@ -69,6 +69,8 @@ fault_with 'profile 1 at 1000 Mbit/s' 'OutOfRange system 1 key 5' '0,/^rate = 10
 fault_with 'no TOML' NotToml '1s/^/=\n/'
 fault_with 'a key twice' NotToml 's/^buffer = 252/buffer = 252\nbuffer = 252/'
 fault_with 'profile 3' BadProfile 's/^profile = 1/profile = 3/'
+fault_with 'a profile that is text' BadProfile 's/^profile = 1/profile = "1"/'
+fault_with 'no profile' BadProfile '/^profile/d'
 fault_with 'no buffer' 'Missing top 0 key 2' '/^buffer/d'
 fault_with 'a buffer too small' 'OutOfRange top 0 key 2' 's/^buffer = 252/buffer = 63/'
 fault_with 'a buffer that is no whole number' 'WrongKind top 0 key 2' \
@@ -83,6 +85,28 @@ fault_with 'a receiver that is not there' 'NoSuchSystem link 2 key 3' \
 fault_with 'no receivers' 'OutOfRange link 1 key 3' '/^from = "s1"/,/^to/s/\["s3"\]/[]/'
 fault_with 'a sender that receives' 'Twice link 1 key 3' '/^from = "s1"/,/^to/s/\["s3"\]/["s1"]/'
 fault_with 'a port entry of no link' 'OutOfRange port 2 key 2' 's/^link = 2/link = 3/'
+fault_with 'a name twice' 'Twice system 2 key 1' 's/^name = "s2"/name = "s1"/'
+fault_with 'a system identifier twice' 'Twice system 3 key 3' 's/^id = 3/id = 1/'
+fault_with 'a link identifier twice' 'Twice link 2 key 1' 's/^vl = 2/vl = 1/'
+fault_with 'a receiver twice' 'Twice link 1 key 3' '/^from = "s1"/,/^to/s/"s3"/"s3", "s3"/'
+fault_with 'a port entry twice' 'Twice port 2 key 3' \
+    's/^link = 2/link = 1/; s/^udp = 2000/udp = 1000/'
+check_with 'two UDP ports of one link' 0 "$base"$'ok\n' '' \
+    's/^link = 2/link = 1/; s/^udp = 2000/udp = 1001/'
+check_with 'a sender of 10 Mbit/s' 0 "$base"$'ok\n' '' '0,/^rate = 100/s//rate = 10/'
+
+text_with() { # NAME STATUS OUT ERR TEXT : `check` on a text of its own
+    printf '%b' "$5" >"$work/changed.toml"
+    case_of "$1" "$2" "$3" "$4" check "$work/changed.toml"
+}
+text_with 'a top without a buffer' 1 '' $'config Missing top 0 key 2\n' 'profile = 1\n'
+text_with 'links that are a number' 1 '' $'config WrongKind top 0 key 4\n' \
+    'profile = 1\nlink = 5\nbuffer = 252\n'
+text_with 'a link that is a number' 1 '' $'config WrongKind top 0 key 4\n' \
+    'profile = 1\nlink = [5]\nbuffer = 252\n'
+text_with 'an empty array of links' 0 $'ok\n' '' 'profile = 1\nlink = []\nbuffer = 252\n'
+text_with 'a byte that is no UTF-8' 1 '' $'config NotToml\n' \
+    'profile = 1\nbuffer = 252\nname = "\xff"\n'
 
 # Beginnings of a configuration: each is answered, as that of a text that ends there.
 begun_with() { # NAME LAST ERR : base.toml as far as the first line that begins with LAST

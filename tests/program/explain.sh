@@ -26,6 +26,11 @@ case_of 'no line of the program' 2 '' $'words UnknownText\n' explain nonsense
 case_of 'a key that is not there' 2 '' $'words UnknownText\n' explain config Missing link 1 key 13
 case_of 'a line feed is none of a line' 2 '' $'words UnknownText\n' explain $'memory\n'
 case_of 'an empty text' 2 '' $'words UnknownText\n' explain ''
+for line in ' ' 'config' 'config Twice link 1 key 7' 'config Missing link x key 7' \
+    'config Missing link  key 7' 'config Missing link 1 key 7 ' ' config Missing link 1 key 7' \
+    'list BadHex' 'V 7 C drop over-rate' 'V 7 A drop overrate' '# 1 S6' 'n' '*' 'no|admit A1 3'; do
+    case_of "no line of the program: '$line'" 2 '' $'words UnknownText\n' explain "$line"
+done
 text_case 'help of explain' 0 out 'afdx explain over-rate' explain --help
 full_case 'an explanation to a full device' 4 $'device Write\n' explain memory
 

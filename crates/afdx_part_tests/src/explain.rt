@@ -1,4 +1,4 @@
-//! Lines that are explained, and lines that aren't.
+//! Lines that are explained, and lines that aren't, more of which tests/program/explain.sh tries.
 
 use afdx_explain::{kind_of, meaning_of};
 use afdx_samples::all_right;
@@ -41,26 +41,7 @@ fn lines_are_explained() -> Result<(), Fail> {
 
 #[test]
 fn other_lines_are_not(rt: HostRuntime) {
-    for line in [
-        "",
-        " ",
-        "config",
-        "config Missing link 1 key 13",
-        "config Twice link 1 key 7",
-        "config Missing link x key 7",
-        "config Missing link  key 7",
-        "config Missing link 1 key 7 ",
-        " config Missing link 1 key 7",
-        "list BadHex",
-        "V 7 C drop over-rate",
-        "V 7 A drop overrate",
-        "# 1 S6",
-        "n",
-        "*",
-        "no|admit A1 3",
-    ] {
-        assert!(rt; meaning_of(line).is_none());
-    }
+    assert!(rt; meaning_of("config Missing link 1 key 13").is_none());
 }
 
 #[test]

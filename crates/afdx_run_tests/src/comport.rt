@@ -43,10 +43,16 @@ enum Step {
     IsEmpty,
 }
 
-/// The message of the sampling port, and when it came. The port is no queue.
-fn sample(rt: &impl Abort, ports: &mut ComPorts) -> Option<(u64, u8)> {
+/// Whether nothing can be taken out of the sampling port, which is no queue.
+fn is_no_queue(rt: &impl Abort, ports: &mut ComPorts) -> bool {
     let port = ports.find(VlId(1), 1000).expect(rt, "the sampling port");
-    assert!(rt; ports.take_queued(port).is_none());
+    ports.take_queued(port).is_none()
+}
+
+/// The message of the sampling port, and when it came.
+fn sample(rt: &impl Abort, ports: &mut ComPorts) -> Option<(u64, u8)> {
+    assert!(rt; is_no_queue(rt, ports));
+    let port = ports.find(VlId(1), 1000).expect(rt, "the sampling port");
     let (time, bytes) = ports.read_sample(port)?;
     let [byte] = bytes else { return None };
     Some((time, *byte))
@@ -68,10 +74,10 @@ fn put_sample(rt: &impl Abort, ports: &mut ComPorts, time: u64, byte: u8) -> Res
 }
 
 /// A message comes to the queue. Where memory is refused, the call is made again.
-fn put_queued(rt: &impl Abort, ports: &mut ComPorts, byte: u8) -> Result<(), PutFault> {
+fn put_queued(rt: &impl Abort, ports: &mut ComPorts, message: &[u8]) -> Result<(), PutFault> {
     let port = ports.find(VlId(2), 2000).expect(rt, "the queue");
-    match ports.put(port, 0, &[byte]) {
-        Err(PutFault::Memory) => ports.put(port, 0, &[byte]),
+    match ports.put(port, 0, message) {
+        Err(PutFault::Memory) => ports.put(port, 0, message),
         answer => answer,
     }
 }
@@ -101,8 +107,8 @@ fn is_done(rt: &impl Abort, ports: &mut ComPorts, step: Step) -> Result<bool, Pu
         Step::Sample(time, byte) => is_answer(put_sample(rt, ports, time, byte), Ok(())),
         Step::Shows(time, byte) => Ok(sample(rt, ports) == Some((time, byte))),
         Step::ShowsNone => Ok(sample(rt, ports).is_none()),
-        Step::Queue(byte) => is_answer(put_queued(rt, ports, byte), Ok(())),
-        Step::IsFull(byte) => is_answer(put_queued(rt, ports, byte), Err(PutFault::Full)),
+        Step::Queue(byte) => is_answer(put_queued(rt, ports, &[byte]), Ok(())),
+        Step::IsFull(byte) => is_answer(put_queued(rt, ports, &[byte]), Err(PutFault::Full)),
         Step::Takes(byte) => Ok(take(rt, ports) == Some(byte)),
         Step::IsEmpty => Ok(take(rt, ports).is_none()),
     }
@@ -160,10 +166,10 @@ fn refused_put_leaves_the_sample(rt: HostRuntime) -> Result<(), Fail> {
 
 /// Whether the message is put to the queue of link 2, taken out of it and given back.
 fn passes(rt: &impl Abort, ports: &mut ComPorts, message: &[u8]) -> bool {
-    let port = ports.find(VlId(2), 2000).expect(rt, "the queue");
-    if ports.put(port, 0, message) == Err(PutFault::Memory) {
-        assert_eq!(rt; ports.put(port, 0, message), Ok(()));
+    if put_queued(rt, ports, message).is_err() {
+        return false;
     }
+    let port = ports.find(VlId(2), 2000).expect(rt, "the queue");
     match ports.take_queued(port) {
         Some(bytes) => {
             let is_same = bytes.as_slice() == message;

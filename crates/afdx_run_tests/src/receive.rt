@@ -80,17 +80,10 @@ fn wrongly_answered(receiver: &mut Receiver, frames: &[Hello]) -> Option<usize> 
     None
 }
 
-/// The place of the first of three frames, which come to a new receiver by one network, that is
-/// answered otherwise.
-fn wrong_of_three(
-    alloc: Global,
-    frames: [(u64, u8, Option<DropReason>); 3],
-) -> Result<Option<usize>, Fail> {
+/// The place of the first of the frames, which come to a new receiver, that is answered otherwise.
+fn wrong_of_first(alloc: Global, frames: &[Hello]) -> Result<Option<usize>, Fail> {
     let mut receiver = base_receiver(alloc, THIRD)?;
-    let [first, second, third] = frames;
-    let of_side = |frame: (u64, u8, Option<DropReason>)| (frame.0, Side::A, frame.1, frame.2);
-    let frames = [of_side(first), of_side(second), of_side(third)];
-    Ok(wrongly_answered(&mut receiver, frames.as_slice()))
+    Ok(wrongly_answered(&mut receiver, frames))
 }
 
 #[test]
@@ -98,13 +91,33 @@ fn numbers(rt: HostRuntime) -> Result<(), Fail> {
     let gap = Some(DropReason::Sequence);
     let late = Some(DropReason::Redundant);
     for frames in [
-        [(0, 5, None), (1_000_000, 8, gap), (2_000_000, 9, None)],
-        [(0, 254, None), (1_000_000, 255, None), (2_000_000, 1, None)],
-        [(0, 4, None), (1_000_000, 4, gap), (1_000_001, 5, None)],
-        [(0, 3, None), (1_000_000, 0, late), (1_000_000, 1, late)],
-        [(0, 3, None), (1_000_001, 0, None), (1_000_001, 1, None)],
+        [
+            (0, Side::A, 5, None),
+            (1_000_000, Side::A, 8, gap),
+            (2_000_000, Side::A, 9, None),
+        ],
+        [
+            (0, Side::A, 254, None),
+            (1_000_000, Side::A, 255, None),
+            (2_000_000, Side::A, 1, None),
+        ],
+        [
+            (0, Side::A, 4, None),
+            (1_000_000, Side::A, 4, gap),
+            (1_000_001, Side::A, 5, None),
+        ],
+        [
+            (0, Side::A, 3, None),
+            (1_000_000, Side::A, 0, late),
+            (1_000_000, Side::A, 1, late),
+        ],
+        [
+            (0, Side::A, 3, None),
+            (1_000_001, Side::A, 0, None),
+            (1_000_001, Side::A, 1, None),
+        ],
     ] {
-        all_right(wrong_of_three(rt.alloc(), frames)?)?;
+        all_right(wrong_of_first(rt.alloc(), frames.as_slice())?)?;
     }
     Ok(())
 }

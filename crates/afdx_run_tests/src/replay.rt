@@ -1,4 +1,5 @@
-//! Runs over text: policing, by a run and by the command, here, the others in modules.
+//! Runs over text: policing, by a run and by the command, here, the others in modules. Each verdict
+//! and each fault of a list is tried at the program (tests/program/police.sh).
 
 mod checks;
 mod end_to_end;
@@ -10,11 +11,9 @@ mod sends;
 use crate::texts::short_text;
 use afdx_frame::{Policing, VlId};
 use afdx_police::LinkRule;
-use afdx_replay::{
-    CommandedRule, LineFault, NO_COUNTS, RunFault, Summary, Watched, police, run_police,
-};
-use afdx_samples::{ShortText, all_right, equal, spelled};
-use std::alloc::{AllocError, Global};
+use afdx_replay::{CommandedRule, NO_COUNTS, RunFault, Summary, Watched, police, run_police};
+use afdx_samples::{ShortText, all_right, spelled};
+use std::alloc::Global;
 use std::test::Fail;
 
 /// What a run answers, and what it writes.
@@ -24,14 +23,6 @@ type Answer = (Result<Summary, RunFault>, ShortText);
 fn rule_up_to(lmax: u64) -> Result<LinkRule, Fail> {
     let rule = LinkRule::new(VlId(1), 1, 1, 64, lmax, 500, Policing::Byte);
     Ok(rule.ok_or("a rule")?)
-}
-
-/// Adds the digits of so many zero bytes.
-fn push_zeros(text: &mut String, count: usize) -> Result<(), AllocError> {
-    for _ in 0..count {
-        text.push_str("00")?;
-    }
-    Ok(())
 }
 
 fn counts(lines: u64, accepted: u64, dropped: u64) -> Summary {
@@ -116,145 +107,6 @@ fn wrongly_policed(alloc: Global, rows: &[Worked]) -> Result<Option<&'static str
 #[test]
 fn worked_lists(rt: HostRuntime) -> Result<(), Fail> {
     all_right(wrongly_policed(rt.alloc(), WORKED_LISTS.as_slice())?)
-}
-
-/// A frame of each kind that is wrong by its bytes or its link's name and length, and a right one.
-fn wrong_frames(alloc: Global) -> Result<String, AllocError> {
-    let mut text = spelled(alloc, "B 0 A 1 H1\n")?;
-    for (line, count) in [
-        ("R 0 A 1 ", 63),
-        ("\nR 0 A 1 ", 1519),
-        ("\nR 0 A 1 0300000000\nF 0 A 1 ", 60),
-    ] {
-        text.push_str(line)?;
-        push_zeros(&mut text, count)?;
-    }
-    let rest = spelled(alloc, "\nF 0 A 1 H9\nF 0 A 1 H100\nR 0 A 1 -\nF 0 A 1 H1\n")?;
-    text.push_str(rest.as_str())?;
-    Ok(text)
-}
-
-/// Their verdicts.
-const WRONG_FRAMES: &str = "\
-V 1 A drop bad-fcs
-V 2 A drop too-short
-V 3 A drop too-long
-V 4 A drop too-short
-V 5 A drop bad-address
-V 6 A drop unknown-link
-V 7 A drop over-lmax
-V 8 A drop too-short
-V 9 A accept
-";
-
-/// What a run answers for them.
-fn policed_wrong_frames(alloc: Global) -> Result<Answer, Fail> {
-    let rule = rule_up_to(64)?;
-    let list = wrong_frames(alloc)?;
-    answer(alloc, &rule, list.as_bytes())
-}
-
-#[test]
-fn each_kind_of_wrong_frame(rt: HostRuntime) -> Result<(), Fail> {
-    let (result, written) = policed_wrong_frames(rt.alloc())?;
-    equal(
-        (result, written.as_str()),
-        (Ok(counts(9, 1, 8)), WRONG_FRAMES),
-    )
-}
-
-/// What is written for `hello` on a link with frames of 100 to 200 bytes.
-fn policed_by(alloc: Global, policing: Policing) -> Result<ShortText, Fail> {
-    let rule = LinkRule::new(VlId(1), 1, 1, 100, 200, 500, policing).ok_or("a rule")?;
-    let (_, written) = policed(alloc, &rule, "F 0 A 1 H1")?;
-    Ok(written)
-}
-
-#[test]
-fn under_lmin_only_by_bytes(rt: HostRuntime) -> Result<(), Fail> {
-    let by_bytes = policed_by(rt.alloc(), Policing::Byte)?;
-    let by_frames = policed_by(rt.alloc(), Policing::Frame)?;
-    equal(
-        (by_bytes.as_str(), by_frames.as_str()),
-        ("V 1 A drop under-lmin\n", "V 1 A accept\n"),
-    )
-}
-
-/// Whether the line has this fault behind a frame at 5 ns, which is accepted.
-fn is_refused(alloc: Global, line: &str, fault: LineFault) -> Result<bool, Fail> {
-    let rule = rule_up_to(64)?;
-    let mut list = ShortText::from("F 5 A 1 H1\n")?;
-    list.try_push_str(line)?;
-    let (result, written) = policed(alloc, &rule, list.as_str())?;
-    Ok(written.as_str() == "V 1 A accept\n" && result == Err(RunFault::Line(2, fault)))
-}
-
-/// The first of the lines that hasn't its fault.
-fn wrongly_refused(
-    alloc: Global,
-    rows: &[(&'static str, LineFault)],
-) -> Result<Option<&'static str>, Fail> {
-    for (line, fault) in rows {
-        if !is_refused(alloc, line, *fault)? {
-            return Ok(Some(line));
-        }
-    }
-    Ok(None)
-}
-
-#[test]
-fn list_faults(rt: HostRuntime) -> Result<(), Fail> {
-    let rows = [
-        ("F 5 A", LineFault::BadLine),
-        ("F 5 A 1 030", LineFault::BadHex),
-        ("F 5 A 1 0g", LineFault::BadHex),
-        ("F 5 C 1 00", LineFault::BadLine),
-        ("F 5 A 25 00", LineFault::BadPort),
-        ("F 5 A 0 00", LineFault::BadPort),
-        ("F 5 A 99999999999999999999 00", LineFault::BadPort),
-        ("F 99999999999999999999 A 1 00", LineFault::TimeTooLarge),
-        ("F 1000000000000001 A 1 H1", LineFault::TimeTooLarge),
-        ("F 4 A 1 H1", LineFault::TimeBack),
-        ("F  5 A 1 00", LineFault::BadLine),
-        ("F 5 A 1 00 00", LineFault::BadLine),
-        ("G 5 A 1 00", LineFault::BadLine),
-        ("F +5 A 1 00", LineFault::BadLine),
-        ("F 5 A 1 ", LineFault::BadLine),
-    ];
-    all_right(wrongly_refused(rt.alloc(), rows.as_slice())?)
-}
-
-/// A byte, how often it stands in a list, and what a run answers for the list.
-type Repeated = (u8, usize, Result<Summary, RunFault>);
-
-/// Whether this is what a run answers for the list.
-fn is_answered(alloc: Global, row: &Repeated) -> Result<bool, Fail> {
-    let (byte, count, want) = row;
-    let rule = rule_up_to(64)?;
-    let list = vec![in alloc; *byte; *count]?;
-    let (result, _) = answer(alloc, &rule, list.as_slice())?;
-    Ok(result == *want)
-}
-
-/// The length of the first of the lists that isn't answered as it should be.
-fn wrongly_answered(alloc: Global, rows: &[Repeated]) -> Result<Option<usize>, Fail> {
-    for row in rows {
-        if !is_answered(alloc, row)? {
-            return Ok(Some(row.1));
-        }
-    }
-    Ok(None)
-}
-
-#[test]
-fn sizes_of_lines_and_lists(rt: HostRuntime) -> Result<(), Fail> {
-    let rows = [
-        (b'#', 4_200, Ok(counts(1, 0, 0))),
-        (b'#', 4_201, Err(RunFault::LineTooLong(1))),
-        (b'\n', 1_000_000, Ok(counts(1_000_000, 0, 0))),
-        (b'\n', 1_000_001, Err(RunFault::TooManyLines)),
-    ];
-    all_right(wrongly_answered(rt.alloc(), rows.as_slice())?)
 }
 
 /// A rule for a link at port 1, with frames of 64 bytes.

@@ -112,51 +112,52 @@ pub fn changed(text: &str, old: &str, new: &str) -> Result<ShortText, Fail> {
     joined(front, new, back)
 }
 
-/// The base text in profile 2, with lines of a gigabit.
-pub fn gigabit() -> Result<ShortText, Fail> {
-    let mut text = changed(base(), "profile = 1", "profile = 2")?;
-    for _ in 0..3_u8 {
-        text = changed(text.as_str(), "rate = 100\n", "rate = 1000\n")?;
+/// Puts the text with the number in the place of each `#`.
+fn push_numbered(
+    alloc: Global,
+    text: &mut String,
+    piece: &str,
+    number: u16,
+) -> Result<(), AllocError> {
+    let mut digits = String::new(alloc);
+    write!(digits, "{number}")?;
+    let numbered = piece.replace(alloc, "#", digits.as_str())?;
+    text.push_str(numbered.as_str())
+}
+
+const SYSTEM: &str = "\
+[[system]]\nname = \"s#\"\nport = #\nid = #\npartition = 1\nrate = 100\n";
+
+const LINK: &str = "\
+[[link]]\nvl = #\nfrom = \"s1\"\nto = [OTHERS]\nbag_ms = 1\nlmin = 64\nlmax = 64\njitter_us = 500\n\
+priority = \"high\"\npolicing = \"frame\"\nlatency_us = 17\nskew_us = 1000\nsubs = 2\n";
+
+const PORT: &str = "\
+[[port]]\nsystem = \"s2\"\nlink = #\nudp = 1000\nkind = \"sampling\"\ndepth = 1\n";
+
+/// The entry of a link from the first system to all others, of no number yet.
+fn link_to_all(alloc: Global) -> Result<String, AllocError> {
+    let mut others = String::new(alloc);
+    for place in 2..=u16::from(LAST_PORT) {
+        push_numbered(alloc, &mut others, "\"s#\",", place)?;
     }
-    Ok(text)
-}
-
-fn push_system(text: &mut String, place: u8) -> Result<(), AllocError> {
-    write!(text, "[[system]]\nname = \"s{place}\"\nport = {place}\n")?;
-    write!(text, "id = {place}\npartition = 1\nrate = 100\n")
-}
-
-fn push_link(text: &mut String, vl: u16, others: &str) -> Result<(), AllocError> {
-    write!(
-        text,
-        "[[link]]\nvl = {vl}\nfrom = \"s1\"\nto = [{others}]\n"
-    )?;
-    text.push_str("bag_ms = 1\nlmin = 64\nlmax = 64\njitter_us = 500\npriority = \"high\"\n")?;
-    text.push_str("policing = \"frame\"\nlatency_us = 17\nskew_us = 1000\nsubs = 2\n")
-}
-
-fn push_port(text: &mut String, vl: u16) -> Result<(), AllocError> {
-    write!(text, "[[port]]\nsystem = \"s2\"\nlink = {vl}\nudp = 1000\n")?;
-    text.push_str("kind = \"sampling\"\ndepth = 1\n")
+    LINK.replace(alloc, "OTHERS", others.as_str())
 }
 
 /// The text of the largest tables: 24 systems, 4,096 links from the first to all others, and for
 /// each of them a port of the second.
 pub fn largest(alloc: Global) -> Result<String, AllocError> {
-    let mut others = String::new(alloc);
+    let link = link_to_all(alloc)?;
     let mut text = String::new(alloc);
     text.push_str("profile = 1\nbuffer = 252\n")?;
-    for place in 1..=LAST_PORT {
-        if place > 1 {
-            write!(others, "\"s{place}\",")?;
-        }
-        push_system(&mut text, place)?;
+    for place in 1..=u16::from(LAST_PORT) {
+        push_numbered(alloc, &mut text, SYSTEM, place)?;
     }
     for vl in 0..GREATEST_COUNT {
-        push_link(&mut text, vl, others.as_str())?;
+        push_numbered(alloc, &mut text, link.as_str(), vl)?;
     }
     for vl in 0..GREATEST_COUNT {
-        push_port(&mut text, vl)?;
+        push_numbered(alloc, &mut text, PORT, vl)?;
     }
     Ok(text)
 }

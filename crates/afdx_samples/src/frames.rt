@@ -73,18 +73,6 @@ fn digits(alloc: Global, frame: &[u8; 60], changes: &[(usize, u8)]) -> Result<St
     hex::encode(alloc, bytes.as_slice())
 }
 
-/// The text with `new` in the place of each `old`.
-fn each_changed(alloc: Global, text: &str, old: &str, new: &str) -> Result<String, AllocError> {
-    let mut result = String::new(alloc);
-    for (count, part) in text.split(old).enumerate() {
-        if count > 0 {
-            result.push_str(new)?;
-        }
-        result.push_str(part)?;
-    }
-    Ok(result)
-}
-
 /// A list with the digits of frames in the places of marks: `H1` is `hello`, `N1` the same with the
 /// number 1, `H9` the same on link 9, `H2` is `world`.
 pub fn spelled(alloc: Global, list: &str) -> Result<String, AllocError> {
@@ -97,7 +85,7 @@ pub fn spelled(alloc: Global, list: &str) -> Result<String, AllocError> {
         ("H2", &WORLD, (NUMBER, 0)),
     ] {
         let new = digits(alloc, frame, &[change])?;
-        text = each_changed(alloc, text.as_str(), mark, new.as_str())?;
+        text = text.replace(alloc, mark, new.as_str())?;
     }
     Ok(text)
 }

@@ -8,8 +8,7 @@ mod frames;
 mod rows;
 
 pub use configurations::{
-    GREATEST_COUNT, ShortText, admitted, base, base_tables, changed, gigabit, largest,
-    largest_tables, read,
+    GREATEST_COUNT, ShortText, admitted, base, base_tables, changed, largest, largest_tables, read,
 };
 pub use frames::{HELLO, NUMBER, hello, longer_hello, sealed, spelled, world};
 pub use rows::{all_right, equal};

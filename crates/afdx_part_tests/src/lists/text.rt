@@ -80,47 +80,13 @@ fn told(alloc: Global, fault: &RunFault) -> Vec<u8> {
     errors.into_inner()
 }
 
-/// Whether a fault is told as it prints.
-fn is_told_as_it_prints(alloc: Global, fault: &RunFault) -> Result<bool, Fail> {
-    let line = format!(in alloc; "{fault}\n")?;
-    Ok(told(alloc, fault).as_slice() == line.as_bytes())
-}
-
-/// Whether this is how a fault prints, and behind it its status.
-fn is_line_of(alloc: Global, fault: &RunFault, wanted: &str) -> Result<bool, Fail> {
-    let line = format!(in alloc; "{fault} {}", fault.status())?;
-    Ok(line.as_str() == wanted)
-}
-
-/// The fault of a run whose line `n` has this one.
-fn at_line(fault: LineFault, n: u64) -> RunFault {
-    LineError::Fault(fault).at_line(n)
-}
-
 #[test]
-fn faults_are_told(rt: HostRuntime) -> Result<(), Fail> {
-    for (fault, wanted) in [
-        (at_line(LineFault::BadLine, 1), "list BadLine 1 3"),
-        (at_line(LineFault::BadHex, 20), "list BadHex 20 3"),
-        (at_line(LineFault::TimeBack, 3), "list TimeBack 3 3"),
-        (at_line(LineFault::TimeTooLarge, 3), "list TimeTooLarge 3 3"),
-        (
-            at_line(LineFault::BadPort, 1_000_000),
-            "list BadPort 1000000 3",
-        ),
-        (LineError::Memory.at_line(3), "memory 4"),
-        (RunFault::LineTooLong(3), "list LineTooLong 3 3"),
-        (RunFault::TooManyLines, "list TooManyLines 3"),
-        (RunFault::Read, "device Read 4"),
-        (RunFault::Write, "device Write 4"),
-    ] {
-        let is_told = is_told_as_it_prints(rt.alloc(), &fault)?;
-        assert!(rt;
-            is_told && is_line_of(rt.alloc(), &fault, wanted)?,
-            "{wanted}"
-        );
-    }
-    Ok(())
+fn a_fault_is_told(rt: HostRuntime) -> Result<(), Fail> {
+    let fault = LineError::Fault(LineFault::BadLine).at_line(20);
+    equal(
+        (told(rt.alloc(), &fault).as_slice(), fault.status()),
+        (b"list BadLine 20\n".as_slice(), 3),
+    )
 }
 
 /// A piece of a text.

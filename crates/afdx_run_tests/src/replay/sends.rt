@@ -1,9 +1,9 @@
-//! The worked rows of a run that sends.
+//! A run that sends; each refusal is tried at the program (tests/program/send.sh).
 
 ghost use Rattle.std.specs.Prelude.{◌<◌, length};
 
 use super::Answer;
-use crate::texts::{push_line, short_text, shown};
+use crate::texts::short_text;
 use afdx_admit::Admitted;
 use afdx_config::SystemId;
 use afdx_replay::{NO_COUNTS, RunFault, Summary, Watched, run_send};
@@ -93,42 +93,4 @@ fn messages_are_sent_in_turn(rt: HostRuntime) -> Result<(), Fail> {
     let right = right_lines(text.as_str(), wanted.as_slice());
     let all = text.as_str().lines().count();
     equal((result, right, all), (Ok(counts(4, 4, 0, 4)), 8, 8))
-}
-
-#[test]
-fn wrong_messages_are_written(rt: HostRuntime) -> Result<(), Fail> {
-    let list = "0 2 1 1000 00\n0 1 3 1000 00\n0 1 1 1000 -\n\
-        0 1 1 1000 000000000000000000000000000000000000\n";
-    let (result, text) = sent_shortly(rt.alloc(), list)?;
-    let told = "# 1 S1\n# 2 S2\n# 3 S3\n# 4 S4\n";
-    equal((result, text.as_str()), (Ok(counts(4, 0, 4, 0)), told))
-}
-
-/// Adds so many messages to one sub-VL at one time.
-fn push_messages(list: &mut ShortText, count: u8) -> Result<(), Fail> {
-    for _ in 0..count {
-        push_line(list, "0 1 1 1000 61")?;
-    }
-    Ok(())
-}
-
-/// Whether the text has so many lines, the first one, and this beginning of the last one.
-fn has_ends(text: &str, count: usize, first: &str, last: &str) -> bool {
-    let is_last = text.lines().last().unwrap_or("").starts_with(last);
-    is_last && text.lines().next() == Some(first) && text.lines().count() == count
-}
-
-/// What a run of the first system answers for 65 messages, and whether it writes the frames of 64.
-fn sent_too_many(alloc: Global) -> Result<(Result<Summary, RunFault>, bool), Fail> {
-    let mut list = ShortText::new();
-    push_messages(&mut list, 65)?;
-    let (result, written) = sent(alloc, 0, list.as_str())?;
-    let is_written = has_ends(shown(written.as_slice()), 129, "# 65 S5", "R 63006720 ");
-    Ok((result, is_written))
-}
-
-#[test]
-fn a_full_queue_takes_no_message(rt: HostRuntime) -> Result<(), Fail> {
-    let answer = sent_too_many(rt.alloc())?;
-    equal(answer, (Ok(counts(65, 64, 1, 64)), true))
 }
