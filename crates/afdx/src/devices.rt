@@ -14,6 +14,7 @@ pub struct Traced<T> {
 }
 
 impl<T> Traced<T> {
+    /// A device of which no call has failed yet.
     pub fn new(device: T) -> Traced<T> {
         Traced { device, code: None }
     }
@@ -86,6 +87,7 @@ pub struct Heard<W> {
 }
 
 impl<W> Heard<W> {
+    /// A device to which no line was written yet.
     pub fn new(device: W) -> Heard<W> {
         Heard {
             device,
@@ -97,6 +99,7 @@ impl<W> Heard<W> {
         }
     }
 
+    /// The writer itself.
     pub fn device(&self) -> &W {
         &self.device
     }

@@ -50,7 +50,7 @@ unfoldable pub fault_of : Option Rule → ℕ → List ℕ → Option Reason
 fault_of rule port bytes =
     option_map (λ fault. fault.1) (find (λ fault. fault.0) (faults rule port bytes))
 
--- the first fault of a frame that names link vl, where this rule is that of its link
+-- the first fault of a frame that names this link, by this rule
 abbrev pub fault_by : Rule → ℕ → ℕ → List ℕ → Option Reason
 fault_by rule port vl bytes =
     if not (vl == rule.vl) then Some UnknownLink
