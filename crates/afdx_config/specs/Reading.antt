@@ -177,8 +177,8 @@ deepest Sampling = 1
 deepest Queuing = 64
 
 -- what a port entry takes: its link goes to its system, and no entry before takes the same
-unfoldable pub socket_at : (ℕ → Place) → List SystemRow → List LinkRow → List PortRow → Members →
-    Result Socket ConfigFault
+unfoldable pub socket_at : (ℕ → Place) → List SystemRow → List LinkRow → List PortRow →
+    Members → Result Socket ConfigFault
 socket_at at systems links before t = do
   system ← named (at 1) (codes "system") systems t
   link ← whole (at 2) (codes "link") 0 65535 t

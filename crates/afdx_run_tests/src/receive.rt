@@ -81,7 +81,7 @@ fn wrongly_answered(receiver: &mut Receiver, frames: &[Hello]) -> Option<usize> 
 }
 
 /// The place of the first of the frames, which come to a new receiver, that is answered otherwise.
-fn wrong_of_first(alloc: Global, frames: &[Hello]) -> Result<Option<usize>, Fail> {
+fn wrongly_answered_anew(alloc: Global, frames: &[Hello]) -> Result<Option<usize>, Fail> {
     let mut receiver = base_receiver(alloc, THIRD)?;
     Ok(wrongly_answered(&mut receiver, frames))
 }
@@ -117,7 +117,7 @@ fn numbers(rt: HostRuntime) -> Result<(), Fail> {
             (1_000_001, Side::A, 1, None),
         ],
     ] {
-        all_right(wrong_of_first(rt.alloc(), frames.as_slice())?)?;
+        all_right(wrongly_answered_anew(rt.alloc(), frames.as_slice())?)?;
     }
     Ok(())
 }

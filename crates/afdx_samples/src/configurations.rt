@@ -125,13 +125,16 @@ fn push_numbered(
     text.push_str(numbered.as_str())
 }
 
+/// The entry of a system, with `#` in the places of its number.
 const SYSTEM: &str = "\
 [[system]]\nname = \"s#\"\nport = #\nid = #\npartition = 1\nrate = 100\n";
 
+/// That of a link from the first system, with `OTHERS` in the place of the others.
 const LINK: &str = "\
 [[link]]\nvl = #\nfrom = \"s1\"\nto = [OTHERS]\nbag_ms = 1\nlmin = 64\nlmax = 64\njitter_us = 500\n\
 priority = \"high\"\npolicing = \"frame\"\nlatency_us = 17\nskew_us = 1000\nsubs = 2\n";
 
+/// That of a port of the second system for a link.
 const PORT: &str = "\
 [[port]]\nsystem = \"s2\"\nlink = #\nudp = 1000\nkind = \"sampling\"\ndepth = 1\n";
 
