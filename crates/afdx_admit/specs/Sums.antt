@@ -3,7 +3,8 @@ use Rattle.std.specs.Prelude.{◌≡◌, ℕ, ◌+◌, ◌*◌, ◌≤◌, ◌<�
 use Rattle.std.specs.Prelude.{Option, Some, if◌then◌else◌}
 use Rattle.afdx_frame.specs.declared.link.Priority.TheVariants.{High, Low}
 use Rattle.afdx_frame.specs.Lengths.{greatest_frame}
-use Rattle.afdx_frame.specs.Regulation.{fill_rate, cap, wire_of}
+use Rattle.afdx_frame.specs.Ports.{last_port}
+use Rattle.afdx_frame.specs.Regulation.{fill_rate, cap, wire_of, slowest_byte}
 use Rattle.afdx_config.specs.Rows.{SystemRow, LinkRow, Rows}
 use Rattle.afdx_config.specs.Lawful.{IsLink}
 use Rattle.afdx_frame.specs.Flows.{Flow, is_class}
@@ -38,7 +39,7 @@ greatest_load = 157491200
 
 -- how great the sums of so many links are at most
 pub record IsSmall (count : ℕ) (r : Sums) : Type 0 where
-  pub byte_ns : r.byte_ns ≤ 800
+  pub byte_ns : r.byte_ns ≤ slowest_byte
   pub burst : r.burst ≤ count * greatest_burst
   pub load : r.load ≤ count * greatest_load
   pub high_burst : r.high_burst ≤ r.burst
@@ -65,7 +66,7 @@ CanSend l = (systems : ℕ) × IsLink systems l
 
 -- the jitters of all systems, in their order
 pub record AreJitters (t : Rows) (jitters : List ℕ) : Type 0 where
-  pub count : length jitters ≡ 24
+  pub count : length jitters ≡ last_port
   pub each : (place : ℕ) → place < length t.systems → slice_index jitters place ≡ jitter_at t place
 
 -- the first false line of the output port to the system at a place, at a port of the switch

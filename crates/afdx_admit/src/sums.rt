@@ -1,10 +1,11 @@
 //! What is summed over the links that go to one output port.
 
 ghost use Rattle.std.specs.Prelude.{◌≡◌, ◌*◌, ◌≤◌, ◌<◌, ◌∷◌, [], length, slice_get, Some};
-ghost use Rattle.afdx_frame.specs.Regulation.{cap, fill_rate, wire_of};
+ghost use Rattle.afdx_frame.specs.Regulation.{cap, fill_rate, slowest_byte, wire_of};
 ghost use Rattle.afdx_config.specs.Rows.{SystemRow, link_row};
 ghost use Rattle.afdx_frame.specs.Lengths.{greatest_frame};
 ghost use Rattle.afdx_config.specs.Flows.{flow_of_link, regulation_of_link};
+ghost use Rattle.afdx_config.specs.Reading.{most_links};
 ghost use Rattle.afdx_config.specs.Admission.{byte_ns};
 ghost use Rattle.afdx_admit.specs.Sums.{CanSend, IsSums, IsSmall, AreSumsTo, greatest_burst};
 ghost use Rattle.afdx_admit.specs.Sums.{greatest_load};
@@ -30,7 +31,7 @@ impl Sums {
     ghost use Rattle.afdx_admit.specs.Sums.{Adds};
 
     fn empty(byte_ns: u64) -> Sums
-        requires { byte_ns ≤ 800 }
+        requires { byte_ns ≤ slowest_byte }
         ensures small { IsSmall 0 result }
         ensures sums { IsSums (record { byte_ns = byte_ns; flows = [] }) result }
     {
@@ -72,7 +73,7 @@ impl Sums {
 
     /// What a high frame waits for at most, in ns times `BYTE_UNITS`.
     pub(crate) fn high_wait(&self) -> u64
-        requires { IsSmall 4096 self.now }
+        requires { IsSmall most_links self.now }
         ensures { (o : LoadedOutput) → IsSums o self.now → result ≡ high_wait o.byte_ns o.flows }
     {
         (self.high_burst + BYTE_UNITS * self.longest_low) * self.byte_ns
@@ -80,7 +81,7 @@ impl Sums {
 
     /// What a low frame waits for at most, in ns times what the high ones leave of `BYTE_UNITS`.
     pub(crate) fn low_wait(&self) -> u64
-        requires { IsSmall 4096 self.now }
+        requires { IsSmall most_links self.now }
         ensures { (o : LoadedOutput) → IsSums o self.now → result ≡ low_wait o.byte_ns o.flows }
     {
         self.burst * self.byte_ns
@@ -97,7 +98,7 @@ impl Sums {
     /// What a high frame waits for at most, in ns, rounded up.
     #[tactic(auto, unfolding(crate::specs::Lines::high_bound_of))]
     pub(crate) fn high_bound(&self) -> u64
-        requires { IsSmall 4096 self.now }
+        requires { IsSmall most_links self.now }
         ensures { (o : LoadedOutput) → IsSums o self.now → result ≡ high_bound_of o }
     {
         self.high_wait().div_ceil(BYTE_UNITS)
@@ -106,7 +107,7 @@ impl Sums {
     /// What a low frame waits for at most, in ns, rounded up, if the high ones leave something.
     #[tactic(auto, unfolding(crate::specs::Lines::low_bound_of))]
     pub(crate) fn low_bound(&self) -> Option<u64>
-        requires { IsSmall 4096 self.now }
+        requires { IsSmall most_links self.now }
         ensures { (o : LoadedOutput) → IsSums o self.now → result ≡ low_bound_of o }
     {
         if self.high_load < BYTE_UNITS {
@@ -138,7 +139,7 @@ fn burst_of(link: &Link) -> u64
 /// What a link may send in the time of a byte.
 fn load_of(byte_ns: u64, link: &Link) -> u64
     requires lawful { CanSend (link_row link.now) }
-    requires slow { byte_ns ≤ 800 }
+    requires slow { byte_ns ≤ slowest_byte }
     ensures load { result ≡ fill_rate (regulation_of_link (link_row link.now)) * byte_ns }
     ensures small { result ≤ greatest_load }
 {
@@ -157,7 +158,7 @@ pub(crate) fn link_at(tables: &Tables, index: usize) -> &Link
 /// The sums of the output port to a system.
 pub(crate) fn sums_to(tables: &Tables, system: SystemId) -> Sums
     requires { system.0 < length tables.now.systems }
-    ensures small { IsSmall 4096 result }
+    ensures small { IsSmall most_links result }
     ensures sums { AreSumsTo tables.now system.0 result }
 {
     let count = tables.link_count();

@@ -6,7 +6,7 @@ use Rattle.std.specs.Option.{option_map_or}
 use Rattle.afdx_frame.specs.declared.link.Priority.{Priority}
 use Rattle.afdx_frame.specs.declared.link.Side.{Side}
 use Rattle.afdx_frame.specs.Flows.{Flow}
-use Rattle.afdx_frame.specs.Layout.{link_named_by}
+use Rattle.afdx_frame.specs.Layout.{identifier_count, link_named_by}
 use Rattle.afdx_frame.specs.Regulation.{wire_of}
 use Rattle.afdx_police.specs.Arrival.{Arrival, is_side, names}
 use Rattle.afdx_police.specs.Charge.{charge_by}
@@ -98,9 +98,10 @@ module _ {X : Type 0} where
     pub charge : (r : Row) (x : Arrival) → Contains rows r → names r.rule.vl x.bytes ≡ true →
         charge_of (entry_of item_of r x) ≡ (charged_by r.rule x).charge
 
-  -- the link that the bytes of an item name; none is 65536
+  -- the link that the bytes of an item name; if none, a number that no link has
   abbrev pub link_in : (X → List ℕ) → X → ℕ
-  link_in bytes_of item = option_map_or (λ named. named.0) (link_named_by (bytes_of item)) 65536
+  link_in bytes_of item =
+      option_map_or (λ named. named.0) (link_named_by (bytes_of item)) identifier_count
 
   -- what its row charges for an entry
   abbrev pub charge_in : (X → List ℕ) → List Row → Entry X → ℕ

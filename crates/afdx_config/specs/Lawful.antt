@@ -7,7 +7,7 @@ use Rattle.afdx_frame.specs.Regulation.{is_bag}
 use Rattle.afdx_frame.specs.Ports.{last_port}
 use Rattle.afdx_config.specs.Rows.{SystemRow, LinkRow, PortRow, Rows}
 use Rattle.afdx_config.specs.Reading.{is_name, are_apart, goes_to, deepest, rates}
-use Rattle.afdx_config.specs.Reading.{greatest_delay}
+use Rattle.afdx_config.specs.Reading.{greatest_delay, most_links, most_ports}
 
 abbrev pub IsWithin : ℕ → ℕ → ℕ → Type 0
 IsWithin low high n = (low ≤ n) × (n ≤ high)
@@ -32,7 +32,7 @@ pub record IsLink (systems : ℕ) (l : LinkRow) : Type 0 where
   pub vl : IsWithin 0 65535 l.vl
   pub from : l.from < systems
   pub to : AllByRecursion (λ i. i < systems) l.to
-  pub to_count : IsWithin 1 24 (length l.to)
+  pub to_count : IsWithin 1 last_port (length l.to)
   pub apart : are_apart l.from l.to ≡ true
   pub bag_ms : IsTrue (is_bag l.bag_ms)
   pub lmin : IsWithin least_frame greatest_frame l.lmin
@@ -53,19 +53,19 @@ abbrev pub triple : PortRow → ℕ × ℕ × ℕ
 triple p = (p.system, p.link, p.udp)
 
 pub record AreSystems (profile : ℕ) (systems : List SystemRow) : Type 0 where
-  pub count : length systems ≤ 24
+  pub count : length systems ≤ last_port
   pub each : AllByRecursion (IsSystem profile) systems
   pub names : AreDistinct (λ s. s.name) systems
   pub ports : AreDistinct (λ s. s.port) systems
   pub ids : AreDistinct (λ s. s.id) systems
 
 pub record AreLinks (systems : ℕ) (links : List LinkRow) : Type 0 where
-  pub count : length links ≤ 4096
+  pub count : length links ≤ most_links
   pub each : AllByRecursion (IsLink systems) links
   pub identifiers : AreDistinct (λ l. l.vl) links
 
 pub record ArePorts (systems : ℕ) (links : List LinkRow) (ports : List PortRow) : Type 0 where
-  pub count : length ports ≤ 4096
+  pub count : length ports ≤ most_ports
   pub each : AllByRecursion (IsPort systems links) ports
   pub triples : AreDistinct triple ports
 

@@ -63,11 +63,11 @@ has_repeat (i ∷ is) = list_any (λ j. nat_eq j i) is || has_repeat is
 unfoldable pub are_apart : ℕ → List ℕ → Bool
 are_apart from to = not (list_any (λ j. nat_eq j from) to) && not (has_repeat to)
 
--- what `to` names: 1 to 24 systems, all different, and other than `from`
+-- what `to` names: 1 to as many systems as a switch has ports, all different, and other than `from`
 unfoldable pub destinations : Place → List SystemRow → ℕ → Members → Result (List ℕ) ConfigFault
 destinations at systems from t = do
   names ← texts at (codes "to") t
-  check (nat_le 1 (length names) && nat_le (length names) 24) (OutOfRange at)
+  check (nat_le 1 (length names) && nat_le (length names) last_port) (OutOfRange at)
   to ← or_fault (NoSuchSystem at) (all_of (system_named systems) names)
   check (are_apart from to) (Twice at)
   Ok to
@@ -220,14 +220,22 @@ abbrev pub or_bad_profile : Result ℕ ConfigFault → Result ℕ ConfigFault
 or_bad_profile (Ok n) = Ok n
 or_bad_profile (Err e) = Err BadProfile
 
+-- how many links, and how many communication ports, there may be; of systems, as many as ports of
+-- a switch
+abbrev pub most_links : ℕ
+most_links = 4096
+
+abbrev pub most_ports : ℕ
+most_ports = 4096
+
 -- the top, whose arrays of tables are counted before any table is read
 unfoldable pub tables_at : Members → Result Rows ConfigFault
 tables_at t = do
   profile ← or_bad_profile (whole (place part.Top 0 1) (codes "profile") 1 2 t)
   buffer ← whole (place part.Top 0 2) (codes "buffer") least_frame greatest_buffer t
-  systems ← tables (place part.Top 0 3) (codes "system") 24 t
-  links ← tables (place part.Top 0 4) (codes "link") 4096 t
-  ports ← tables (place part.Top 0 5) (codes "port") 4096 t
+  systems ← tables (place part.Top 0 3) (codes "system") last_port t
+  links ← tables (place part.Top 0 4) (codes "link") most_links t
+  ports ← tables (place part.Top 0 5) (codes "port") most_ports t
   only_top_keys (place part.Top 0 0) t
   systems ← each (system_at profile) [] systems
   links ← each (link_at systems) [] links

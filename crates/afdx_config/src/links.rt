@@ -3,7 +3,7 @@
 ghost use Rattle.std.specs.Prelude.{◌≡◌, ◌<◌, ◌≤◌, ◌++◌, [], ◌∷◌, length, slice_get, None, Some};
 ghost use Rattle.std.specs.Prelude.{OnOk, IfSome};
 ghost use Rattle.afdx_config.specs.Rows.{link_row};
-ghost use Rattle.afdx_config.specs.Reading.{link_of, goes_to};
+ghost use Rattle.afdx_config.specs.Reading.{link_of, goes_to, most_links};
 
 use crate::rows::{Link, SystemId};
 use afdx_frame::VlId;
@@ -29,13 +29,14 @@ impl Model for Links {
     ghost use Rattle.std.specs.List.{AllByRecursion};
     ghost use Rattle.afdx_config.specs.Rows.{LinkRow};
     ghost use Rattle.afdx_config.specs.Kept.{link_rows, IsUnderItsIdentifier};
+    ghost use Rattle.afdx_config.specs.Reading.{most_links};
 
     ghost Value = { List LinkRow };
 
     ghost view = { λ l. link_rows l.by_vl.entries };
 
-    ghost invariant = { λ l.
-        (length l.by_vl.entries ≤ 4096) × AllByRecursion IsUnderItsIdentifier l.by_vl.entries };
+    ghost invariant = { λ l. (length l.by_vl.entries ≤ most_links)
+        × AllByRecursion IsUnderItsIdentifier l.by_vl.entries };
 }
 
 impl Links {
@@ -49,7 +50,7 @@ impl Links {
 
     pub(crate) fn len(&self) -> usize
         ensures len { result ≡ length self.now }
-        ensures small { result ≤ 4096 }
+        ensures small { result ≤ most_links }
     {
         self.by_vl.len()
     }
@@ -79,7 +80,7 @@ impl Links {
     }
 
     pub(crate) fn push(&mut self, link: Link) -> Result<(), AllocError>
-        requires room { length self.old < 4096 }
+        requires room { length self.old < most_links }
         requires fresh { link_of self.old link.vl.0 ≡ None }
         ensures { OnOk result (self.new ≡ self.old ++ link_row link ∷ []) }
     {

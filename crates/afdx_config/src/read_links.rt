@@ -8,6 +8,7 @@ ghost use Rattle.afdx_frame.specs.declared.link.Priority.TheVariants.{High, Low}
 ghost use Rattle.afdx_frame.specs.declared.link.Policing.TheVariants.{Byte, Frame};
 ghost use Rattle.afdx_frame.specs.Lengths.{least_frame, greatest_frame};
 ghost use Rattle.afdx_frame.specs.Regulation.{is_bag};
+ghost use Rattle.afdx_frame.specs.Ports.{last_port};
 ghost use Rattle.afdx_config.specs.Lawful.{IsLink, AreLinks, IsWithin};
 ghost use Rattle.afdx_config.specs.Rows.{link_row, system_places};
 ghost use Rattle.afdx_config.specs.Fault.{Gives, or_fault};
@@ -83,7 +84,7 @@ fn destinations(
 ) -> Result<Vec<SystemId>, ConfigFault>
     ensures known { IfOk result
         (λ v. AllByRecursion (λ i. i < length systems.now) (system_places v.items)) }
-    ensures count { IfOk result (λ v. IsWithin 1 24 (length v.items)) }
+    ensures count { IfOk result (λ v. IsWithin 1 last_port (length v.items)) }
     ensures apart { IfOk result (λ v. spec.are_apart from.0 (system_places v.items) ≡ true) }
     ensures value { Gives (λ v. system_places v.items) result
         (spec.destinations at systems.now from.0 (table_view table.now)) }
@@ -246,7 +247,7 @@ pub(crate) fn links_of(
     tables: &[&Table],
     systems: &Systems,
 ) -> Result<Links, ConfigFault>
-    requires { length tables.now ≤ 4096 }
+    requires { length tables.now ≤ spec.most_links }
     ensures lawful { IfOk result (AreLinks (length systems.now)) }
     ensures value { Gives (λ l. l) result
         (spec.each (spec.link_at systems.now) [] (trees tables.now)) }

@@ -87,7 +87,7 @@ fn com_of(
     links: &Links,
     before: &[ComRow],
 ) -> Result<ComRow, ConfigFault>
-    requires { length before.now < 4096 }
+    requires { length before.now < spec.most_ports }
     ensures fresh { IfOk result
         (λ p. spec.has_port (port_rows before.now) p.system.0 p.link.0 p.udp ≡ false) }
     ensures lawful { IfOk result (λ p. IsPort (length systems.now) links.now (port_row p)) }
@@ -139,7 +139,7 @@ pub(crate) fn coms_of(
     systems: &Systems,
     links: &Links,
 ) -> Result<Vec<ComRow>, ConfigFault>
-    requires { length tables.now ≤ 4096 }
+    requires { length tables.now ≤ spec.most_ports }
     ensures lawful { IfOk result
         (λ v. ArePorts (length systems.now) links.now (port_rows v.items)) }
     ensures value { Gives (λ v. port_rows v.items) result

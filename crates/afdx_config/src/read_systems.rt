@@ -4,6 +4,7 @@ ghost use Rattle.std.specs.Prelude.{◌≡◌, ◌≤◌, ◌<◌, [], length, N
 ghost use Rattle.std.specs.List.{list_all};
 ghost use Rattle.std.specs.Char.{is_ascii_alphanumeric};
 ghost use Rattle.toml.specs.View.{table_view};
+ghost use Rattle.afdx_frame.specs.Ports.{last_port};
 ghost use Rattle.afdx_config.specs.Lawful.{IsSystem, AreSystems};
 ghost use Rattle.afdx_config.specs.New.{IsNewSystem};
 ghost use Rattle.afdx_config.specs.Rows.{system_row};
@@ -123,7 +124,7 @@ pub(crate) fn systems_of(
     tables: &[&Table],
     profile: u64,
 ) -> Result<Systems, ConfigFault>
-    requires { length tables.now ≤ 24 }
+    requires { length tables.now ≤ last_port }
     ensures lawful { IfOk result (AreSystems profile) }
     ensures value { Gives (λ s. s) result
         (spec.each (spec.system_at profile) [] (trees tables.now)) }

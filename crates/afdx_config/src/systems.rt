@@ -4,6 +4,7 @@ ghost use Rattle.std.specs.Prelude.{◌≡◌, ◌<◌, ◌≤◌, ◌++◌, [],
 ghost use Rattle.std.specs.Prelude.{option_map, None, Some, OnOk, IfSome, position, ◌==◌};
 ghost use Rattle.std.specs.List.{list_any};
 ghost use Rattle.indexmap.specs.IndexMap.{values};
+ghost use Rattle.afdx_frame.specs.Ports.{last_port};
 ghost use Rattle.afdx_config.specs.Rows.{system_row};
 ghost use Rattle.afdx_config.specs.Reading.{system_named, system_at_port, has_id};
 
@@ -28,6 +29,7 @@ impl Drop for Systems {
 impl Model for Systems {
     ghost use Rattle.std.specs.Prelude.{◌≤◌, List, map, length};
     ghost use Rattle.std.specs.List.{AllByRecursion};
+    ghost use Rattle.afdx_frame.specs.Ports.{last_port};
     ghost use Rattle.afdx_config.specs.Rows.{SystemRow};
     ghost use Rattle.afdx_config.specs.Kept.{system_rows, IsUnderItsName};
 
@@ -35,8 +37,8 @@ impl Model for Systems {
 
     ghost view = { λ s. system_rows s.by_name.entries };
 
-    ghost invariant = { λ s.
-        (length s.by_name.entries ≤ 24) × AllByRecursion IsUnderItsName s.by_name.entries };
+    ghost invariant = { λ s. (length s.by_name.entries ≤ last_port)
+        × AllByRecursion IsUnderItsName s.by_name.entries };
 }
 
 impl Systems {
@@ -50,7 +52,7 @@ impl Systems {
 
     pub(crate) fn len(&self) -> usize
         ensures len { result ≡ length self.now }
-        ensures small { result ≤ 24 }
+        ensures small { result ≤ last_port }
     {
         self.by_name.len()
     }
@@ -85,7 +87,7 @@ impl Systems {
     }
 
     pub(crate) fn push(&mut self, system: System) -> Result<(), AllocError>
-        requires room { length self.old < 24 }
+        requires room { length self.old < last_port }
         requires fresh { system_named self.old (string_bytes system.name) ≡ None }
         ensures { OnOk result (self.new ≡ self.old ++ system_row system ∷ []) }
     {

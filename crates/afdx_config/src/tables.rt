@@ -47,6 +47,7 @@ impl Tables {
     ghost use Rattle.std.specs.Prelude.{Some, option_map, IfSome};
     ghost use Rattle.afdx_config.specs.Rows.{SystemRow, LinkRow, system_row, link_row, port_row};
     ghost use Rattle.afdx_config.specs.Rows.{port_rows, rows_with, is_to};
+    ghost use Rattle.afdx_frame.specs.Regulation.{slowest_byte};
     ghost use Rattle.afdx_config.specs.Admission.{byte_ns};
     ghost use Rattle.afdx_config.specs.Reading.{system_named, system_at_port, link_of};
     ghost use Rattle.afdx_config.specs.Lawful.{IsLawful, IsSystem, IsLink, IsPort};
@@ -110,7 +111,7 @@ impl Tables {
         ensures time { (s : SystemRow) → slice_get self.now.systems id.0 ≡ Some s →
             result ≡ byte_ns s }
         ensures some { 1 ≤ result }
-        ensures small { result ≤ 800 }
+        ensures small { result ≤ slowest_byte }
     {
         8000 / self.system(id).rate
     }

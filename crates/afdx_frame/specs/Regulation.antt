@@ -15,6 +15,10 @@ is_bag ms = list_any (λ bag. bag == ms) gaps
 abbrev pub wire_of : ℕ → ℕ
 wire_of bytes = bytes + 20
 
+-- the time of a byte on the slowest line, of 10 Mbit/s, in ns
+abbrev pub slowest_byte : ℕ
+slowest_byte = 800
+
 -- the bandwidth allocation gap in ms, the jitter in us, and the greatest wire size in bytes
 pub record Regulation : Type 0 where
   pub bag_ms : ℕ

@@ -1,6 +1,7 @@
 //! The switches of both sides as one.
 
 ghost use Rattle.std.specs.Prelude.{◌≡◌, ℕ, ◌+◌, ◌≤◌, ◌∷◌, [], List, Option, IfSome, IfNone, IfOk, OnOk, OnErr, MatchOption, None};
+ghost use Rattle.afdx_frame.specs.Ports.{last_port};
 ghost use Rattle.afdx_port.specs.Times.{drain_end, latest_put};
 ghost use Rattle.afdx_network.specs.First.{IsFirstSide, IsOrder};
 
@@ -106,7 +107,7 @@ impl Network {
             OnErr result (shape_fault t arrival ≡ None) }
         ensures refused { OnErr result (self.new ≡ self.old) }
         ensures quiet { IsQuiet self.new time }
-        ensures held { frames_held self.new ≤ frames_held self.old + 24 }
+        ensures held { frames_held self.new ≤ frames_held self.old + last_port }
         ensures clock { IsUntil self.new time }
     {
         match side {

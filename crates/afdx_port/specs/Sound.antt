@@ -3,6 +3,7 @@ use Rattle.std.specs.Prelude.{◌≡◌, ◌+◌, ◌*◌, ◌<◌, ◌≤◌, l
 use Rattle.std.specs.List.{AllByRecursion}
 use Rattle.afdx_port.specs.Times.{latest_put, longest_slot}
 use Rattle.afdx_frame.specs.Lengths.{least_frame, greatest_buffer}
+use Rattle.afdx_frame.specs.Regulation.{slowest_byte}
 use Rattle.afdx_frame.specs.declared.link.Priority.{Priority}
 use Rattle.afdx_frame.specs.declared.link.Priority.TheVariants.{High, Low}
 use Rattle.afdx_port.specs.declared.pending.Pending.{Pending}
@@ -23,7 +24,7 @@ module _ {X : Type 0} where
 
   -- what is true of every port, whatever the calls
   pub record IsPortSound (facts : X → Facts) (p : Pending X) : Type 0 where
-    pub rate : (1 ≤ p.byte_ns) × (p.byte_ns ≤ 800)
+    pub rate : (1 ≤ p.byte_ns) × (p.byte_ns ≤ slowest_byte)
     pub buffer : p.buffer ≤ greatest_buffer
     pub waiting : p.waiting ≡ sum_by (λ w. (facts w.item).bytes) p.high.items
         + sum_by (λ w. (facts w.item).bytes) p.low.items

@@ -4,6 +4,7 @@ ghost use Rattle.std.specs.Prelude.{◌≡◌, ℕ, ◌+◌, ◌-◌, ◌*◌, �
 ghost use Rattle.std.specs.Prelude.{◌++◌, List, Some, None, IfOk, IfErr, OnOk, OnErr, IsErr};
 ghost use Rattle.std.specs.Prelude.{IfSome, OnSome, IfNone, MatchOption, MatchResult};
 ghost use Rattle.std.specs.Prelude.{is_some, option_copied, slice_get, true};
+ghost use Rattle.afdx_frame.specs.Regulation.{slowest_byte};
 ghost use Rattle.afdx_port.specs.Times.{drain_end, latest_put, longest_slot};
 ghost use Rattle.afdx_frame.specs.Lengths.{least_frame, greatest_buffer};
 ghost use Rattle.afdx_frame.specs.declared.link.Priority.{Priority};
@@ -111,7 +112,7 @@ impl<T: HasLength> Pending<T> {
     #[inline]
     fn turn_of(&self, waiting: &Waiting<T>, moment: u64) -> Due
         requires came { waiting.now.time ≤ moment }
-        requires rate { self.now.byte_ns ≤ 800 }
+        requires rate { self.now.byte_ns ≤ slowest_byte }
         requires fits { moment + longest_slot < 2 ^ 64 }
         ensures { result ≡ due_from T.facts self.now.byte_ns waiting.now moment }
     {

@@ -1,6 +1,7 @@
 //! Which of 24 ports is served first.
 
 ghost use Rattle.std.specs.Prelude.{◌≡◌, ℕ, ◌<◌, ◌≤◌, List, length, slice_set};
+ghost use Rattle.afdx_frame.specs.Ports.{last_port};
 ghost use Rattle.afdx_port.specs.Keys.{key_of, AreRanked, IsLeastIn};
 
 use crate::has_length::HasLength;
@@ -40,7 +41,7 @@ impl Serving {
 
     /// The order in which 24 ports are served as they are.
     pub fn of<T: HasLength>(ports: &[Port<T>]) -> Serving
-        requires { length ports.now ≡ 24 }
+        requires { length ports.now ≡ last_port }
         ensures { IsServing T.facts ports.now result }
     {
         let mut serving = Serving {
@@ -56,7 +57,7 @@ impl Serving {
     /// From now on the port at this place has this order.
     #[inline(always)]
     fn set(&mut self, place: usize, order: u64)
-        requires place { place < 24 }
+        requires place { place < last_port }
         requires order { order ≤ order_without_turn }
         ensures { self.new.keys ≡ slice_set self.old.keys place (key_of order place) }
     {
@@ -68,7 +69,7 @@ impl Serving {
     /// The port at this place has changed, and is now this one.
     #[inline]
     pub fn renew<T: HasLength>(&mut self, place: usize, port: &Port<T>)
-        requires { place < 24 }
+        requires { place < last_port }
         ensures { (ports : List (Pending T)) → IsServing T.facts ports self.old →
             IsServing T.facts (slice_set ports place port.now) self.new }
     {

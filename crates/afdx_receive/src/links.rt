@@ -2,6 +2,7 @@
 
 ghost use Rattle.std.specs.Prelude.{◌≡◌, ℕ, ◌+◌, ◌<◌, cond, nat_eq, None, Some, length};
 ghost use Rattle.std.specs.Prelude.{OnOk, IfNone, IfSome};
+ghost use Rattle.afdx_frame.specs.Layout.{identifier_count};
 ghost use Rattle.afdx_receive.specs.Kept.{place_in, memory_at, IsConsidered};
 
 use crate::memory::{LinkMemory, Standing};
@@ -55,7 +56,7 @@ impl Links {
     /// Keeps the memory of a link. It takes room for that, and for the places of the identifiers up
     /// to the link's.
     pub(crate) fn insert(&mut self, vl: VlId, memory: LinkMemory) -> Result<(), AllocError>
-        requires { length self.old.memories < 65536 }
+        requires { length self.old.memories < identifier_count }
         ensures updates { OnOk result ((q : ℕ) →
             memory_at self.new q ≡ cond (nat_eq vl.0 q) (Some memory) (memory_at self.old q)) }
         ensures count { OnOk result

@@ -1,6 +1,7 @@
 -- What a replay answers and writes, and how far it has come.
 use Rattle.std.specs.Prelude.{ℕ, ◌+◌, ◌*◌, ◌≡◌, ◌≤◌, ◌⊎◌, List, ◌∷◌, length, Option, Result, Ok, Err}
 use Rattle.std.specs.Io.KnownBytes.{Appends}
+use Rattle.afdx_frame.specs.Ports.{last_port}
 use Rattle.afdx_config.specs.Rows.{Rows}
 use Rattle.afdx_police.specs.Arrival.{Arrival}
 use Rattle.afdx_lists.specs.Lines.{lines_of}
@@ -91,8 +92,8 @@ pub record TellsDeparture
 -- there is room for more counts: n arrivals came, and so many frames are held
 pub record HasRoom (counts : Summary) (held n : ℕ) : Type 0 where
   pub verdicts : counts.accepted + counts.dropped ≤ n
-  pub losses : counts.lost ≤ 24 * n
-  pub turns : counts.departed + counts.too_old + held ≤ 24 * n
+  pub losses : counts.lost ≤ last_port * n
+  pub turns : counts.departed + counts.too_old + held ≤ last_port * n
   pub messages : counts.delivered ≤ counts.departed
 
 -- ---- the same words of what a replay works with

@@ -1,6 +1,7 @@
 //! The lines of the events of a replay.
 
 ghost use Rattle.std.specs.Prelude.{◌≡◌, ℕ, ◌++◌, ◌≤◌, [], if◌then◌else◌, OnOk, IfOk, length};
+ghost use Rattle.afdx_frame.specs.Ports.{last_port};
 ghost use Rattle.afdx_lists.specs.Texts.{text_bytes};
 ghost use Rattle.afdx_network.specs.Network.{reason_in, ports_in, lost_in};
 ghost use Rattle.afdx_switch.specs.Departures.{as_given, giving_port};
@@ -50,7 +51,7 @@ fn add_each_loss(text: &mut Text, n: u64, side: Side, lost: &PortSet) -> Result<
     ensures lines { OnOk result (text_bytes text.new
         ≡ text_bytes text.old ++ loss_lines n side (ports_in lost.now)) }
     ensures count { IfOk result (λ count. count ≡ length (ports_in lost.now)) }
-    ensures few { IfOk result (λ count. count ≤ 24) }
+    ensures few { IfOk result (λ count. count ≤ last_port) }
 {
     let mut count = 0u64;
     for place in 0..LAST_PORT {
@@ -66,7 +67,7 @@ fn add_losses(text: &mut Text, n: u64, side: Side, lost: &PortSet) -> Result<u64
     ensures lines { OnOk result (text_bytes text.new
         ≡ text_bytes text.old ++ loss_lines n side (ports_in lost.now)) }
     ensures count { IfOk result (λ count. count ≡ length (ports_in lost.now)) }
-    ensures few { IfOk result (λ count. count ≤ 24) }
+    ensures few { IfOk result (λ count. count ≤ last_port) }
 {
     if lost.is_empty() {
         return Ok(0);
@@ -85,7 +86,7 @@ pub(crate) fn put_admission(
     ensures lines { OnOk result (text_bytes text.new
         ≡ verdict_line n side (reason_in verdict.now) ++ loss_lines n side (lost_in verdict.now)) }
     ensures count { IfOk result (λ count. count ≡ length (lost_in verdict.now)) }
-    ensures few { IfOk result (λ count. count ≤ 24) }
+    ensures few { IfOk result (λ count. count ≤ last_port) }
 {
     put_verdict(text, n, side, reason_of(verdict))?;
     match verdict {

@@ -2,6 +2,7 @@
 
 ghost use Rattle.std.specs.Prelude.{◌≡◌, ℕ, ◌+◌, ◌*◌, ◌-◌, ◌^◌, ◌≤◌, ◌<◌, ◌⊎◌, ◌++◌, ◌∷◌, [], List, Option, length, OnOk, OnErr, IfErr, IfSome, true, false};
 ghost use Rattle.afdx_port.specs.Times.{drain_end};
+ghost use Rattle.afdx_frame.specs.Ports.{last_port};
 ghost use Rattle.afdx_frame.specs.Times.{latest_listed};
 ghost use Rattle.afdx_lists.specs.Lines.{most_lines, most_reads};
 ghost use Rattle.afdx_config.specs.Rows.{Rows};
@@ -53,10 +54,10 @@ impl Drop for Replay {
 /// Counts an arrival, and the copies that it lost.
 fn count_admission(counts: &mut Summary, reason: Option<Reason>, lost: u64)
     requires room { (n held : ℕ) × (n < most_lines) × HasRoom counts.old held n }
-    requires few { lost ≤ 24 }
+    requires few { lost ≤ last_port }
     ensures counted { counts.new ≡ with_admission counts.old reason lost }
     ensures room { (n held : ℕ) →
-        HasRoom counts.old held n → HasRoom counts.new (held + 24) (n + 1) }
+        HasRoom counts.old held n → HasRoom counts.new (held + last_port) (n + 1) }
 {
     match reason {
         None => {

@@ -1,5 +1,6 @@
 -- The soonest of several releases, found by a tournament.
 use Rattle.std.specs.Prelude.{◌≡◌, ℕ, ◌+◌, ◌*◌, ◌<◌, ◌≤◌, ◌⊎◌, List, map, drop, length, Option, Some, None, option_map, slice_get}
+use Rattle.afdx_config.specs.Reading.{most_links}
 use Rattle.afdx_send.specs.declared.agenda.Agenda.{Agenda}
 use Rattle.afdx_send.specs.declared.agenda.Next.{Next}
 
@@ -32,7 +33,7 @@ IsWinner nodes i = (a b c : Option Next) → slice_get nodes i ≡ Some a →
 -- the sooner of the two below it
 pub record IsTournament (count : ℕ) (nodes : List (Option Next)) : Type 0 where
   pub size : length nodes ≡ 2 * count
-  pub small : count ≤ 4096
+  pub small : count ≤ most_links
   pub leaves : (k : ℕ) (x : Next) → slice_get nodes (count + k) ≡ Some (Some x) → x.place ≡ k
   pub winners : (i : ℕ) → 1 ≤ i → i < count → IsWinner nodes i
 

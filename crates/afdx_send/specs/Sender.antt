@@ -7,6 +7,7 @@ use Rattle.afdx_frame.specs.declared.link.Side.TheVariants.{A, B}
 use Rattle.afdx_frame.specs.Flows.{Flow}
 use Rattle.afdx_frame.specs.Grammar.{built_frame}
 use Rattle.afdx_frame.specs.Lengths.{frame_overhead}
+use Rattle.afdx_frame.specs.Layout.{identifier_count}
 use Rattle.afdx_frame.specs.Regulation.{jitter}
 use Rattle.afdx_config.specs.Flows.{regulation_of_link}
 use Rattle.afdx_config.specs.LawfulStream.{Sending}
@@ -159,7 +160,7 @@ pub record StandsFor (w : Working) (h : SenderHistory) : Type 0 where
   pub partition : w.partition ≡ h.system.partition
   pub clock : w.clock ≡ h.time
   pub are_sent : AreSent h.system h.links
-  pub place_count : length w.places.items ≡ 65536
+  pub place_count : length w.places.items ≡ identifier_count
   pub places : (vl : ℕ) (place : Option ℕ) → slice_get w.places.items vl ≡ Some place →
       IsPlaceOf h.links vl place
   pub released : List LinkRelease

@@ -1,6 +1,7 @@
 //! The soonest of several releases, found by a tournament.
 
 ghost use Rattle.std.specs.Prelude.{◌≡◌, ℕ, ◌+◌, ◌*◌, ◌<◌, ◌≤◌, ◌↔◌, IsTrue, false, List, Option, Some, None, IfOk, MatchOption, option_map, length, replicate, slice_set, vec_len};
+ghost use Rattle.afdx_config.specs.Reading.{most_links};
 ghost use Rattle.afdx_send.specs.Agenda.{IsAhead, IsSooner, IsPlayed, IsSoonest, NoneBefore, nexts, next_with};
 
 use std::alloc::{AllocError, Global};
@@ -68,7 +69,7 @@ fn leaf(time: Option<u64>, place: usize) -> Option<Next>
 impl Agenda {
     /// No link of so many has a release.
     pub(crate) fn new(alloc: Global, count: usize) -> Result<Agenda, AllocError>
-        requires { count ≤ 4096 }
+        requires { count ≤ most_links }
         ensures played { IfOk result (λ a. IsPlayed a) }
         ensures none { IfOk result (λ a. nexts a ≡ replicate count None) }
         ensures count { IfOk result (λ a. a.count ≡ count) }

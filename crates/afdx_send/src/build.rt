@@ -1,8 +1,10 @@
 //! A sender of the tables, before anything came.
 
 ghost use Rattle.std.specs.Prelude.{◌≡◌, ℕ, ◌≤◌, ◌<◌, ◌+◌, Option, Some, None, IfOk, length, slice_get, vec_len, filter, nat_eq};
+ghost use Rattle.afdx_frame.specs.Layout.{identifier_count};
 ghost use Rattle.afdx_config.specs.Admission.{links_from};
 ghost use Rattle.afdx_config.specs.Lawful.{IsLink};
+ghost use Rattle.afdx_config.specs.Reading.{most_links};
 ghost use Rattle.afdx_config.specs.Rows.{SystemRow, LinkRow, link_row};
 ghost use Rattle.afdx_send.specs.declared.line.Line.{Line};
 ghost use Rattle.afdx_send.specs.Sender.{IsSenderSound, IsQuiet, StandsFor, no_calls, last_time, frames_held};
@@ -38,7 +40,7 @@ fn line(alloc: Global, link: &Link) -> Result<Line, AllocError>
 /// Of each link that the system sends.
 fn new_lines(alloc: Global, tables: &Tables, system: SystemId) -> Result<Vec<Line>, AllocError>
     ensures new { IfOk result (λ v. AreNewLines (links_from tables.now.links system.0) v.items) }
-    ensures count { IfOk result (λ v. vec_len v ≤ 4096) }
+    ensures count { IfOk result (λ v. vec_len v ≤ most_links) }
 {
     let mut lines = Vec::new(alloc);
     for place in 0..tables.link_count() {
@@ -52,8 +54,8 @@ fn new_lines(alloc: Global, tables: &Tables, system: SystemId) -> Result<Vec<Lin
 
 /// By identifier, the place of its line.
 fn new_places(alloc: Global, lines: &Vec<Line>) -> Result<Vec<Option<u16>>, AllocError>
-    requires { vec_len lines.now ≤ 4096 }
-    ensures count { IfOk result (λ v. vec_len v ≡ 65536) }
+    requires { vec_len lines.now ≤ most_links }
+    ensures count { IfOk result (λ v. vec_len v ≡ identifier_count) }
     ensures each { IfOk result (λ v. (vl : ℕ) (place : Option ℕ) →
         slice_get v.items vl ≡ Some place → IsPlaceIn lines.now.items vl place) }
 {

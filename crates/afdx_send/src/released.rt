@@ -70,21 +70,18 @@ impl Released {
         system_id: u16,
         partition: u8,
     ) -> Result<(Vec<u8>, Vec<u8>), AllocError>
-        ensures built { IfOk result (λ both.
-            Built (address_with system_id partition self.now)
-            self.now.number A self.now.message.payload both.0.items
-            × Built (address_with system_id partition self.now)
-            self.now.number B self.now.message.payload both.1.items) }
-        ensures long { IfOk result (λ both.
-            (length both.0.items ≡ built_length (address_with system_id partition self.now)
-            (length self.now.message.payload))
-            × (length both.1.items ≡ built_length (address_with system_id partition self.now)
-            (length self.now.message.payload))) }
-        ensures computed { IfOk result (λ both.
-            (both.0.items ≡ built_frame (address_with system_id partition self.now)
-            self.now.number A self.now.message.payload)
-            × (both.1.items ≡ built_frame (address_with system_id partition self.now)
-            self.now.number B self.now.message.payload)) }
+        ensures built { let address = address_with system_id partition self.now in
+            let Frame = Built address self.now.number in
+            let payload = self.now.message.payload in
+            IfOk result (λ both. Frame A payload both.0.items × Frame B payload both.1.items) }
+        ensures long { let address = address_with system_id partition self.now in
+            let long = built_length address (length self.now.message.payload) in
+            IfOk result (λ both. (length both.0.items ≡ long) × (length both.1.items ≡ long)) }
+        ensures computed { let address = address_with system_id partition self.now in
+            let frame = built_frame address self.now.number in
+            let payload = self.now.message.payload in
+            IfOk result
+            (λ both. (both.0.items ≡ frame A payload) × (both.1.items ≡ frame B payload)) }
     {
         let address = Address {
             vl: self.vl,

@@ -1,6 +1,7 @@
 -- What a switch keeps of its links: their lines, in the order of the tables, and where each is.
 use Rattle.std.specs.Prelude.{◌≡◌, ℕ, ◌+◌, ◌<◌, ◌≤◌, ◌==◌, Bool, true, false, Option, Some, None, List, length, slice_get}
 use Rattle.std.specs.List.{list_any}
+use Rattle.afdx_frame.specs.Ports.{last_port}
 use Rattle.afdx_frame.specs.declared.link.Side.{Side}
 use Rattle.afdx_police.specs.Arrival.{Arrival, own, names}
 use Rattle.afdx_police.specs.LinkAccounts.{StandsForOwn}
@@ -13,8 +14,8 @@ is_among place places = list_any (λ p. p == place) places
 
 -- places of output ports, each once
 pub record ArePlaces (places : List ℕ) : Type 0 where
-  pub few : length places ≤ 24
-  pub within : (k place : ℕ) → slice_get places k ≡ Some place → place < 24
+  pub few : length places ≤ last_port
+  pub within : (k place : ℕ) → slice_get places k ≡ Some place → place < last_port
   pub once : (j k place : ℕ) → slice_get places j ≡ Some place → slice_get places k ≡ Some place →
       j ≡ k
 
@@ -23,7 +24,8 @@ pub record IsLine (side : Side) (arrivals : List Arrival) (r : Row) (line : Line
   pub account : StandsForOwn r.rule line.account (own r.rule.vl side arrivals)
   pub priority : line.priority ≡ r.priority
   pub longest_wait : line.longest_wait ≡ r.longest_wait
-  pub goes : (place : ℕ) → place < 24 → is_among place line.goes.items ≡ r.goes_to (place + 1)
+  pub goes : (place : ℕ) → place < last_port →
+      is_among place line.goes.items ≡ r.goes_to (place + 1)
 
 -- the row of this identifier stands here and nowhere else
 pub record IsPlace (rows : List Row) (vl place : ℕ) : Type 0 where

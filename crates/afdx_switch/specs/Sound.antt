@@ -1,5 +1,7 @@
 -- What is true of every switch, whatever the calls.
 use Rattle.std.specs.Prelude.{All, ◌≡◌, ℕ, ◌<◌, ◌≤◌, Some, IfSome, slice_get, vec_len}
+use Rattle.afdx_frame.specs.Layout.{identifier_count}
+use Rattle.afdx_frame.specs.Ports.{last_port}
 use Rattle.afdx_police.specs.LinkAccounts as accounts
 use Rattle.afdx_port.specs.Held as held
 use Rattle.afdx_port.specs.History as queue
@@ -29,10 +31,10 @@ pub record IsPortSound (time : ℕ) (p : Pending HeldFrame) : Type 0 where
 -- and the port that is served first is the one whose turn goes first
 pub record IsSwitchSound (w : Working) : Type 0 where
   pub lines : All (IsLineSound w.clock) w.lines.items
-  pub place_count : vec_len w.places ≡ 65536
+  pub place_count : vec_len w.places ≡ identifier_count
   pub places : (vl place : ℕ) → slice_get w.places.items vl ≡ Some (Some place) →
       place < vec_len w.lines
-  pub port_count : vec_len w.ports ≡ 24
+  pub port_count : vec_len w.ports ≡ last_port
   pub ports : All (IsPortSound w.clock) w.ports.items
   pub serving : IsServing facts w.ports.items w.serving
   pub served : AreServed facts w.ports.items w.first

@@ -103,7 +103,7 @@ pub record StandsFor (t : Rows) (side : Side) (w : Working) (h : SwitchHistory) 
       slice_get w.lines.items i ≡ Some line → IsLine side h.arrivals r line
   pub places : (vl : ℕ) (place : Option ℕ) → slice_get w.places.items vl ≡ Some place →
       IsPlaceOf (rows_of t) vl place
-  pub port_count : length w.ports.items ≡ 24
+  pub port_count : length w.ports.items ≡ last_port
   pub ports : (i : ℕ) (p : Pending HeldFrame) → slice_get w.ports.items i ≡ Some p →
       queue.StandsFor facts p (calls_at t side (i + 1) h p.clock)
 

@@ -2,9 +2,11 @@
 
 ghost use Rattle.std.specs.Prelude.{◌≡◌, ℕ, ◌≤◌, ◌<◌, ◌+◌, Option, Some, IfOk, OnOk, IfSome, length, slice_get, vec_len};
 ghost use Rattle.afdx_config.specs.Lawful.{IsLawful};
-ghost use Rattle.afdx_config.specs.Reading.{greatest_delay, link_of};
+ghost use Rattle.afdx_config.specs.Reading.{greatest_delay, link_of, most_links};
 ghost use Rattle.afdx_config.specs.Rows.{LinkRow, Rows, link_row};
+ghost use Rattle.afdx_frame.specs.Layout.{identifier_count};
 ghost use Rattle.afdx_frame.specs.Lengths.{least_frame, greatest_buffer};
+ghost use Rattle.afdx_frame.specs.Ports.{last_port};
 ghost use Rattle.afdx_frame.specs.declared.link.Side.{Side};
 ghost use Rattle.afdx_bounds.specs.Outputs.{Row};
 ghost use Rattle.afdx_port.specs.Held.{IsByteTime};
@@ -84,7 +86,7 @@ fn ports_of(tables: &Tables, link: usize) -> ArrayVec<u8, 24>
     requires { link < length tables.now.links }
     ensures places { ArePlaces result.items }
     ensures each { (l : LinkRow) (place : ℕ) → slice_get tables.now.links link ≡ Some l →
-        place < 24 → is_among place result.items ≡ goes_to tables.now l (place + 1) }
+        place < last_port → is_among place result.items ≡ goes_to tables.now l (place + 1) }
 {
     let mut places = ArrayVec::new();
     for place in 0..LAST_PORT {
@@ -138,7 +140,7 @@ fn new_lines(alloc: Global, tables: &Tables) -> Result<Vec<Line>, AllocError>
 
 /// The place of the link of this identifier, if there is one.
 fn place_of(tables: &Tables, vl: u16) -> Option<u16>
-    requires { length tables.now.links ≤ 4096 }
+    requires { length tables.now.links ≤ most_links }
     ensures place { result ≡ link_of tables.now.links vl }
     ensures known { IfSome result (λ i. i < length tables.now.links) }
 {
@@ -149,8 +151,8 @@ fn place_of(tables: &Tables, vl: u16) -> Option<u16>
 }
 
 fn new_places(alloc: Global, tables: &Tables) -> Result<Vec<Option<u16>>, AllocError>
-    requires { length tables.now.links ≤ 4096 }
-    ensures count { IfOk result (λ v. vec_len v ≡ 65536) }
+    requires { length tables.now.links ≤ most_links }
+    ensures count { IfOk result (λ v. vec_len v ≡ identifier_count) }
     ensures each { IfOk result (λ v. (vl : ℕ) (place : Option ℕ) →
         slice_get v.items vl ≡ Some place → place ≡ link_of tables.now.links vl) }
 {
@@ -162,7 +164,7 @@ fn new_places(alloc: Global, tables: &Tables) -> Result<Vec<Option<u16>>, AllocE
 }
 
 fn new_ports(alloc: Global, tables: &Tables) -> Result<Vec<Port<Frame>>, AllocError>
-    ensures count { IfOk result (λ v. vec_len v ≡ 24) }
+    ensures count { IfOk result (λ v. vec_len v ≡ last_port) }
     ensures each { IfOk result (λ v. (i : ℕ) (p : Pending HeldFrame) →
         slice_get v.items i ≡ Some p →
         IsNewPort tables.now i p) }

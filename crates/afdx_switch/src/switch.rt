@@ -163,7 +163,7 @@ impl Switch {
             OnErr result (shape_fault t arrival ≡ None) }
         ensures refused { OnErr result (self.new ≡ self.old) }
         ensures quiet { IsQuiet self.new time }
-        ensures held { frames_held self.new ≤ frames_held self.old + 24 }
+        ensures held { frames_held self.new ≤ frames_held self.old + last_port }
         ensures clock { OnOk result (last_time self.new ≡ time) }
     {
         let arrived = self

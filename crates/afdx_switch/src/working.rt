@@ -1,6 +1,7 @@
 //! What a switch does with its accounts and its ports.
 
 ghost use Rattle.std.specs.Prelude.{[], ◌≢◌, ◌≡◌, ◌↔◌, ℕ, ◌≤◌, ◌<◌, ◌+◌, List, Option, None, Some, IfOk, OnOk, OnErr, IfSome, IfNone, MatchOption, length, slice_get, true, false, not, All, vec_len};
+ghost use Rattle.afdx_frame.specs.Ports.{last_port};
 ghost use Rattle.afdx_port.specs.Times.{drain_end, latest_put};
 ghost use Rattle.afdx_frame.specs.declared.link.Priority.{Priority};
 ghost use Rattle.afdx_port.specs.Serving.{IsServing};
@@ -85,13 +86,13 @@ fn forward(
     time: u64,
     priority: Priority,
 ) -> PortSet
-    requires port_count { length ports.old ≡ 24 }
+    requires port_count { length ports.old ≡ last_port }
     requires places { ArePlaces places.now }
     requires share_count { length shares.old.items ≡ length places.now }
     requires limit { time ≤ latest_put }
     requires clocks { All (λ p. held.last_time p ≤ time) ports.old }
     requires quiet { All (λ p. held.IsQuiet facts p time) ports.old }
-    ensures count { length ports.new ≡ 24 }
+    ensures count { length ports.new ≡ last_port }
     ensures offered { (c : HeldFrame) (i : ℕ) (o n : Pending HeldFrame) →
         AreShares c shares.old.items →
         slice_get ports.old i ≡ Some o → slice_get ports.new i ≡ Some n →
@@ -112,7 +113,7 @@ fn forward(
 
 /// Finds anew where the ports at these places stand in the order in which all are served.
 fn renew(serving: &mut Serving, ports: &[Port<Frame>], places: &[u8])
-    requires port_count { length ports.now ≡ 24 }
+    requires port_count { length ports.now ≡ last_port }
     requires places { ArePlaces places.now }
     ensures { (old : List (Pending HeldFrame)) → IsServing facts old serving.old →
         AreKept places.now old ports.now → IsServing facts ports.now serving.new }
@@ -126,7 +127,6 @@ impl Working {
     ghost use Rattle.afdx_config.specs.Rows.{Rows};
     ghost use Rattle.afdx_frame.specs.declared.link.Side.{Side};
     ghost use Rattle.afdx_frame.specs.Layout.{link_named_by};
-    ghost use Rattle.afdx_frame.specs.Ports.{last_port};
     ghost use Rattle.afdx_police.specs.Arrival.{arrival_with};
     ghost use Rattle.afdx_port.specs.Due.{given_at, IsAfter};
     ghost use Rattle.afdx_port.specs.Schedule.{Turn};
@@ -181,7 +181,7 @@ impl Working {
         ensures refused { OnErr result (self.new ≡ self.old) }
         ensures sound { IsSwitchSound self.new }
         ensures quiet { IsQuiet self.new time }
-        ensures held { frames_held self.new ≤ frames_held self.old + 24 }
+        ensures held { frames_held self.new ≤ frames_held self.old + last_port }
         ensures clock { OnOk result (last_time self.new ≡ time) }
     {
         let Some(place) = self.place_of(frame.bytes) else {
