@@ -224,18 +224,23 @@ def weak_check(program: Program, tables: dict, status: int) -> None:
     path = program.write("config", config)
     log = os.path.join(program.folder, "calls")
     env = {"LD_PRELOAD": shim, "DEVICE_LOG": log, "DEVICE_LIST": path}
-    env["DEVICE_MOST"] = str(FEW)
     whole = program.run("check", path)
     must(whole.status == status and whole.err == b"", f"status {whole.status}")
-    answers(program.run("check", path, env=env), status, whole.out, b"")
-    for k in range(1, len(whole.out) // FEW + 1):
+    for most in (1, FEW):
+        env["DEVICE_MOST"] = str(most)
+        answers(program.run("check", path, env=env), status, whole.out, b"")
+    with open(log, encoding="ascii") as file:
+        kinds = [line[0] for line in file]
+    writes, reads = kinds.count("w"), kinds.count("r")
+    must(writes == -(-len(whole.out) // FEW) and reads > len(config) // FEW, "calls are missing")
+    for k in range(1, writes + 1):
         for how in (*ERRORS, "none"):
             found = program.run("check", path, env=env | {"DEVICE_WRITE": f"{k}:{how}"})
             answers(found, *WRITE[:1], whole.out[: FEW * (k - 1)], WRITE[1])
             with open(log, encoding="ascii") as file:
                 dead = [line for line in file if line.startswith("w") and int(line.split()[2]) <= 0]
             must(len(dead) == 1, "a failed output is asked again")
-    for k in range(1, len(config) // FEW + 1):
+    for k in range(1, reads + 1):
         for how in ("fails", "once"):
             found = program.run("check", path, env=env | {"DEVICE_READ": f"{k}:{how}"})
             answers(found, 4, b"", b"device Config\n")

@@ -5,8 +5,9 @@ tables.
     tests/explain.py PROGRAM
 
 For each row an example of its line is given to `afdx explain`; the answer must have what the row
-says of it, and for a key of a configuration its name and its range. Prints a line for each that
-doesn't, and nothing where all do; ends with status 1 if there is one.
+says of it, and for a key of a configuration its name and its range. What has no row (`ok`, the
+counts, `not-subscribed`) must have an answer. Prints a line for each that doesn't, and nothing
+where all do; ends with status 1 if there is one.
 """
 import itertools
 import pathlib
@@ -21,6 +22,11 @@ EXAMPLES = {
     "needed": "252", "bound": "16800", "ns": "600000", "hex": "6869", "HEX": "0300", "Sk": "S1",
     "high": "16800", "low": "-", "buffer": "252",
 }
+LETTERS = ("D", "L", "M", "R", "T")
+WITHOUT_ROW = [
+    "ok", "not-subscribed", "X 6720 s3 2 not-subscribed",
+    "summary lines 3 accepted 2 dropped 1 lost 0 departed 2 too-old 0 delivered 1",
+]
 
 
 def rows_below(heading: str, texts: str) -> list[list[str]]:
@@ -75,6 +81,24 @@ def wanted_answers(texts: str) -> list[tuple[str, list[str]]]:
     return wanted
 
 
+def wanted_besides(texts: str) -> list[tuple[str, list[str]]]:
+    """A line of `check` with its columns; letters and `accept`, alone; a receiver's line with the
+    words that can't come in a replay; and what has no row."""
+    columns = [meaning for _, meaning in rows_below("| Field | Meaning |", texts)[1:]]
+    wanted = [(line, columns) for line in ("P 3 16800 20297 252", "P 3 16800 - 252", "P")]
+    for part in texts.split("| Line | Meaning |")[1:]:
+        for line, meaning in rows_below("| Line | Meaning |", "| Line | Meaning |" + part):
+            words = line.strip("`").split()
+            if words[0] in LETTERS and "B" not in words:
+                wanted.append((words[0], [meaning]))
+            elif words[-1] == "accept":
+                wanted.append(("accept", [meaning]))
+    frames = {word.strip("`"): frame for word, frame in rows_below("| WORD | The frame |", texts)}
+    for word in ("too-short", "too-long", "bad-fcs", "bad-address"):
+        wanted.append((f"X 6720 s3 2 {word}", [frames[word]]))
+    return wanted + [(line, []) for line in WITHOUT_ROW]
+
+
 def wanted_keys(texts: str) -> list[tuple[str, list[str]]]:
     """The faults of each key that can come, with what is said of the fault, the key and its
     range."""
@@ -119,7 +143,7 @@ def can_come(line: str) -> bool:
 def faults(program: str) -> list[str]:
     texts = FORMATS.read_text(encoding="utf-8")
     found = []
-    for line, says in wanted_answers(texts) + wanted_keys(texts):
+    for line, says in wanted_answers(texts) + wanted_besides(texts) + wanted_keys(texts):
         said = answer(program, line)
         if not can_come(line):
             if said is not None:
