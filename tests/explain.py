@@ -37,6 +37,13 @@ def rows_below(heading: str, texts: str) -> list[list[str]]:
     return [[cell.strip() for cell in line.strip("|").split(" | ")] for line in table]
 
 
+def lines_with_meaning(texts: str) -> list[list[str]]:
+    """The rows of all tables of a run's lines."""
+    heading = "| Line | Meaning |"
+    parts = texts.split(heading)[1:]
+    return [row for part in parts for row in rows_below(heading, heading + part)]
+
+
 def plain(text: str) -> str:
     """In small letters, without marks, one space between words."""
     text = re.sub(r" \(point \d\)|[`']", "", text)
@@ -73,11 +80,9 @@ def wanted_answers(texts: str) -> list[tuple[str, list[str]]]:
         word = word.strip("`")
         wanted.append((f"# 7 {word}", [when, "was refused"]))
         wanted.append((word, [when]))
-    for heading in ("| Line | Meaning |",):
-        for part in texts.split(heading)[1:]:
-            for line, meaning in rows_below(heading, heading + part):
-                if "WORD" not in line and "Sk" not in line:
-                    wanted.append((example_of(line), [meaning]))
+    for line, meaning in lines_with_meaning(texts):
+        if "WORD" not in line and "Sk" not in line:
+            wanted.append((example_of(line), [meaning]))
     return wanted
 
 
@@ -86,13 +91,12 @@ def wanted_besides(texts: str) -> list[tuple[str, list[str]]]:
     words that can't come in a replay; and what has no row."""
     columns = [meaning for _, meaning in rows_below("| Field | Meaning |", texts)[1:]]
     wanted = [(line, columns) for line in ("P 3 16800 20297 252", "P 3 16800 - 252", "P")]
-    for part in texts.split("| Line | Meaning |")[1:]:
-        for line, meaning in rows_below("| Line | Meaning |", "| Line | Meaning |" + part):
-            words = line.strip("`").split()
-            if words[0] in LETTERS and "B" not in words:
-                wanted.append((words[0], [meaning]))
-            elif words[-1] == "accept":
-                wanted.append(("accept", [meaning]))
+    for line, meaning in lines_with_meaning(texts):
+        words = line.strip("`").split()
+        if words[0] in LETTERS and "B" not in words:
+            wanted.append((words[0], [meaning]))
+        elif words[-1] == "accept":
+            wanted.append(("accept", [meaning]))
     frames = {word.strip("`"): frame for word, frame in rows_below("| WORD | The frame |", texts)}
     for word in ("too-short", "too-long", "bad-fcs", "bad-address"):
         wanted.append((f"X 6720 s3 2 {word}", [frames[word]]))
