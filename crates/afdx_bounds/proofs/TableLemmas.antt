@@ -9,10 +9,11 @@ use Rattle.std.proofs.lemmas.Bool.{cases_Bool, eqb-true}
 use Rattle.std.proofs.lemmas.List.Sums.{sum_by-cons}
 use Rattle.std.proofs.lemmas.Option.{slice_get_cases}
 use Rattle.afdx_frame.specs.declared.link.Priority.{Priority}
+use Rattle.afdx_frame.specs.declared.link.Side.{Side}
 use Rattle.afdx_frame.specs.Flows.{IsPortAdmitted}
-use Rattle.afdx_config.specs.Admission.{byte_ns, flows_to, links_from}
+use Rattle.afdx_config.specs.Admission.{IsServing, byte_ns, flows_to, links_from}
 use Rattle.afdx_config.specs.Flows.{flow_of_link}
-use Rattle.afdx_config.specs.Lawful.{IsLawful, IsOneOf, IsLink, IsSystem, AreDistinct}
+use Rattle.afdx_config.specs.Lawful.{IsLawfulUpTo, IsOneOf, IsLink, IsLinkUpTo, IsSystem, AreDistinct}
 use Rattle.afdx_config.specs.Reading.{system_at_port}
 use Rattle.afdx_config.specs.Rows.{SystemRow, LinkRow, Rows, is_to}
 use Rattle.afdx_config.proofs.LookUpLemmas.{each_row-found}
@@ -21,7 +22,7 @@ use Rattle.afdx_port.specs.Held.{IsByteTime}
 use Rattle.afdx_bounds.specs.Outputs.{AreRows, flows_at}
 use Rattle.afdx_bounds.specs.Sender.{one_of_each, IsSent}
 use Rattle.afdx_bounds.specs.Tables.{rule_of, goes_to, row_of, rows_of, byte_ns_of, byte_ns_at, IsPortOf}
-use Rattle.afdx_bounds.specs.Tables.{PortsAreOfSystems, EachOutputIsServed, sent_flow, sent_flows, EachSystemIsSender}
+use Rattle.afdx_bounds.specs.Tables.{ServesTables, sent_flow, sent_flows, EachSystemIsSender}
 
 -- a byte takes 8, 80 or 800 ns
 pub line-time : (profile : ℕ) (s : SystemRow) → IsSystem profile s → IsByteTime (byte_ns s)
@@ -58,13 +59,14 @@ each-at P (x ∷ xs) zero y h at = let same : x ≡ y = cc at in subst P same h.
 each-at P (x ∷ xs) (suc i) y h at = each-at P xs i y h.1 at
 
 -- so it does on the line of each system
-pub system-time : (t : Rows) (i : ℕ) (s : SystemRow) → IsLawful t → slice_get t.systems i ≡ Some s
+pub system-time : {greatest_jitter : ℕ → ℕ} (t : Rows) (i : ℕ) (s : SystemRow)
+    → IsLawfulUpTo greatest_jitter t → slice_get t.systems i ≡ Some s
     → IsByteTime (byte_ns s)
 system-time t i s lawful at =
     line-time t.profile s (each-at (IsSystem t.profile) t.systems i s lawful.systems.each at)
 
 -- what is the byte time of each row at this place, where one stands
-pub line-at : (t : Rows) (i n : ℕ) → IsLawful t → i < length t.systems
+pub line-at : {greatest_jitter : ℕ → ℕ} (t : Rows) (i n : ℕ) → IsLawfulUpTo greatest_jitter t → i < length t.systems
     → ((s : SystemRow) → slice_get t.systems i ≡ Some s → n ≡ byte_ns s) → IsByteTime n
 line-at t i n lawful within is = elim ((slice_get_cases t.systems i).1) [
   | inl (s, here, at, own) ↦ subst IsByteTime (sym (is s at)) (system-time t i s lawful at)
@@ -72,7 +74,7 @@ line-at t i n lawful within is = elim ((slice_get_cases t.systems i).1) [
 ]
 
 -- a byte takes some time on each line
-pub byte-time : (t : Rows) (port : ℕ) → IsLawful t → 0 < byte_ns_at t port
+pub byte-time : {greatest_jitter : ℕ → ℕ} (t : Rows) (port : ℕ) → IsLawfulUpTo greatest_jitter t → 0 < byte_ns_at t port
 unfolding byte_ns_at
 byte-time t port lawful = by (system_at_port t.systems port)
   where
@@ -133,11 +135,11 @@ one-link links i j k l distinct at there same =
     let here : slice_get links j ≡ Some k = subst (λ (n : ℕ). slice_get links n ≡ Some k) places at in
     cc (here, there)
 
-pub rows-are : (t : Rows) → IsLawful t → AreRows (rows_of t)
+pub rows-are : {greatest_jitter : ℕ → ℕ} (t : Rows) → IsLawfulUpTo greatest_jitter t → AreRows (rows_of t)
 unfolding rows_of rule_of
-rows-are t lawful = record {
+rows-are {greatest_jitter} t lawful = record {
   gaps = all-mapped (λ r. IsTrue (is_bag r.rule.bag_ms)) (row_of t) t.links
-      (λ i l at. (each-at (IsLink (length t.systems)) t.links i l lawful.links.each at).bag_ms);
+      (λ i l at. (each-at (IsLinkUpTo greatest_jitter (length t.systems)) t.links i l lawful.links.each at).bag_ms);
   distinct = λ r s k l same. (let a = mapped (row_of t) t.links r k in
       let b = mapped (row_of t) t.links s l in
       let vls : a.own.vl ≡ b.own.vl = ap (λ z. z.rule.vl) a.is ∙ same ∙ sym (ap (λ z. z.rule.vl) b.is) in
@@ -156,7 +158,8 @@ goes-is : (t : Rows) (system port : ℕ) (l : LinkRow) → system_at_port t.syst
 unfolding goes_to
 goes-is t system port l found = ap (λ (o : Option ℕ). option_map_or (λ k. is_to k l) o false) found
 
-pub port-of-system : PortsAreOfSystems
+pub port-of-system : {greatest_jitter : ℕ → ℕ} (t : Rows) (system : ℕ) (s : SystemRow)
+    → IsLawfulUpTo greatest_jitter t → slice_get t.systems system ≡ Some s → IsPortOf t system s
 port-of-system t system s lawful at =
     let found = (each_row-found t lawful).by_port system s at in
     record { line = line-is t system s found at; goes = λ l. goes-is t system s.port l found }
@@ -178,7 +181,9 @@ flows-are : (t : Rows) (system : ℕ) (s : SystemRow) → IsPortOf t system s
 unfolding rows_of
 flows-are t system s is = flows-same t system s.port is.goes t.links
 
-pub output-served : EachOutputIsServed
+pub output-served : {greatest_jitter : ℕ → ℕ} (t : Rows) (side : Side) (system : ℕ) (s : SystemRow)
+    → IsLawfulUpTo greatest_jitter t → IsServing t → slice_get t.systems system ≡ Some s
+    → ServesTables t side system s
 output-served t side system s lawful admitted at =
     let is = port-of-system t system s lawful at in
     let flows = flows-are t system s is in

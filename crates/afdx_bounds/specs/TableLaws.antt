@@ -2,8 +2,8 @@
 use Rattle.std.specs.Prelude.{◌≡◌, ℕ, ◌+◌, ◌*◌, ◌≤◌, true, false, All, List, Some, reverse}
 use Rattle.std.specs.Prelude.{slice_get}
 use Rattle.afdx_frame.specs.declared.link.Side.{Side}
-use Rattle.afdx_config.specs.Admission.{IsAdmitted}
-use Rattle.afdx_config.specs.Lawful.{IsLawful}
+use Rattle.afdx_config.specs.Admission.{IsServing}
+use Rattle.afdx_config.specs.Lawful.{IsLawfulSwitch}
 use Rattle.afdx_config.specs.Rows.{SystemRow, LinkRow, Rows, is_to}
 use Rattle.afdx_police.specs.Arrival.{Arrival}
 use Rattle.afdx_port.specs.Due.{IsAfter}
@@ -17,8 +17,8 @@ module _ {X : Type 0} where
   -- came; what it holds of a frame keeps the bytes
   pub record IsOutputOf (item_of : Arrival → X) (bytes_of : X → List ℕ) (t : Rows) (system : ℕ)
       (s : SystemRow) (arrivals : List Arrival) : Type 0 where
-    pub lawful : IsLawful t
-    pub admitted : IsAdmitted t
+    pub lawful : IsLawfulSwitch t
+    pub admitted : IsServing t
     pub stands : slice_get t.systems system ≡ Some s
     pub keeps_bytes : (x : Arrival) → bytes_of (item_of x) ≡ x.bytes
     pub timed : AreTimed arrivals

@@ -7,9 +7,9 @@ use Rattle.afdx_frame.specs.declared.link.Priority.{Priority}
 use Rattle.afdx_frame.specs.declared.link.Side.{Side}
 use Rattle.afdx_frame.specs.Flows.{Flow, sending_time}
 use Rattle.afdx_frame.specs.Regulation.{regulation_with}
-use Rattle.afdx_config.specs.Admission.{IsAdmitted, byte_ns, flows_to, links_from}
+use Rattle.afdx_config.specs.Admission.{IsAdmitted, IsServing, byte_ns, flows_to, links_from}
 use Rattle.afdx_config.specs.Flows.{regulation_of_link}
-use Rattle.afdx_config.specs.Lawful.{IsLawful}
+use Rattle.afdx_config.specs.Lawful.{IsLawful, IsLawfulSwitch}
 use Rattle.afdx_config.specs.Reading.{system_at_port}
 use Rattle.afdx_config.specs.Rows.{SystemRow, LinkRow, Rows, is_to}
 use Rattle.afdx_police.specs.Rule.{Rule, rule_with}
@@ -69,8 +69,8 @@ pub record IsPortOf (t : Rows) (system : ℕ) (s : SystemRow) : Type 0 where
 
 abbrev pub PortsAreOfSystems : Type 0
 PortsAreOfSystems =
-    (t : Rows) (system : ℕ) (s : SystemRow) → IsLawful t → slice_get t.systems system ≡ Some s →
-    IsPortOf t system s
+    (t : Rows) (system : ℕ) (s : SystemRow) → IsLawfulSwitch t →
+    slice_get t.systems system ≡ Some s → IsPortOf t system s
 
 -- where the tables are admitted, each system's output port is, with the flows that they say go
 -- there
@@ -80,7 +80,7 @@ pub record ServesTables (t : Rows) (side : Side) (system : ℕ) (s : SystemRow) 
 
 abbrev pub EachOutputIsServed : Type 0
 EachOutputIsServed =
-    (t : Rows) (side : Side) (system : ℕ) (s : SystemRow) → IsLawful t → IsAdmitted t →
+    (t : Rows) (side : Side) (system : ℕ) (s : SystemRow) → IsLawfulSwitch t → IsServing t →
     slice_get t.systems system ≡ Some s → ServesTables t side system s
 
 -- the links that a system sends, in one class, as its own port sees them

@@ -1,3 +1,4 @@
+pub mod AmongOthersLemmas
 pub mod DistinctLemmas
 pub mod EachRowLemmas
 pub mod EntryLemmas

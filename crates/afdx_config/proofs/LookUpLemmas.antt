@@ -1,13 +1,15 @@
 -- Look-ups in lawful tables.
-use Rattle.std.proofs.Common.{◌==◌, nat_eq, refl, sym}
+use Rattle.std.proofs.Common.{ℕ, ◌==◌, nat_eq, refl, sym}
 use Rattle.std.specs.Str.{bytes_eq}
 use Rattle.std.proofs.lemmas.Bool.{eqb-true, eq-eqb}
 use Rattle.std.proofs.lemmas.Slice.Eq.{bytes_eq-Decides}
 use Rattle.afdx_config.specs.Reading.{system_named, system_at_port, link_of}
-use Rattle.afdx_config.specs.Laws.{EachRowIsFound}
+use Rattle.afdx_config.specs.Lawful.{IsLawfulUpTo}
+use Rattle.afdx_config.specs.Laws.{RowsAreFound}
+use Rattle.afdx_config.specs.Rows.{Rows}
 use Rattle.afdx_config.proofs.DistinctLemmas.{found}
 
-pub each_row-found : EachRowIsFound
+pub each_row-found : {greatest_jitter : ℕ → ℕ} (t : Rows) → IsLawfulUpTo greatest_jitter t → RowsAreFound t
 unfolding system_named system_at_port link_of
 each_row-found t lawful = record {
   by_name = λ i s at. found (λ r. r.name) (λ r. bytes_eq s.name r.name) t.systems i s

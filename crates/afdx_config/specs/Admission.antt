@@ -34,6 +34,14 @@ greatest_jitter = 500000
 abbrev pub sender_jitter : ℕ → List LinkRow → ℕ
 sender_jitter ns own = fixed_jitter + sending_time regulation_of_link ns own
 
+-- what a switch and its receivers need of admission, whoever sends to the switch: the four lines of
+-- each output port, and that the copies of a frame are no further apart than its link's skew
+pub record IsServing (t : Rows) : Type 0 where
+  pub ports : (i : ℕ) (s : SystemRow) → slice_get t.systems i ≡ Some s →
+      IsPortAdmitted (byte_ns s) t.buffer (flows_to t.links i)
+  pub skews : (i : ℕ) (l : LinkRow) → slice_get t.links i ≡ Some l → l.latency_us ≤ l.skew_us
+
+-- and what its senders need too: all seven lines
 pub record IsAdmitted (t : Rows) : Type 0 where
   -- no overload, buffer, and the latency of high and of low frames
   pub ports : (i : ℕ) (s : SystemRow) → slice_get t.systems i ≡ Some s →

@@ -1,5 +1,6 @@
--- Every rule of the format, as a fact of the rows.
-use Rattle.std.specs.Prelude.{◌≡◌, ℕ, ◌*◌, ◌<◌, ◌≤◌, true, List, length, nat_eq, slice_get}
+-- Every rule of the format, as a fact of the rows. A link's greatest jitter is a number of its own:
+-- it depends on who sends the link to this switch, a system or another switch.
+use Rattle.std.specs.Prelude.{◌≡◌, ℕ, ◌+◌, ◌*◌, ◌<◌, ◌≤◌, true, List, length, nat_eq, slice_get}
 use Rattle.std.specs.Prelude.{IsTrue, Some}
 use Rattle.std.specs.List.{list_any, AllByRecursion}
 use Rattle.afdx_frame.specs.Lengths.{least_frame, greatest_frame, greatest_buffer}
@@ -28,7 +29,16 @@ pub record IsSystem (profile : ℕ) (s : SystemRow) : Type 0 where
   pub partition : IsWithin 0 255 s.partition
   pub rate : IsOneOf (rates profile) s.rate
 
-pub record IsLink (systems : ℕ) (l : LinkRow) : Type 0 where
+-- the greatest jitter of a link, in us, by its BAG in ms: of one that a system sends
+abbrev pub jitter_from_system : ℕ → ℕ
+jitter_from_system bag_ms = 1000 * bag_ms
+
+-- and of one that may come over a cable from another switch: the latencies before this switch, of
+-- at most 100 ms, are in its jitter too
+abbrev pub jitter_from_any : ℕ → ℕ
+jitter_from_any bag_ms = 1000 * bag_ms + greatest_delay
+
+pub record IsLinkUpTo (greatest_jitter : ℕ → ℕ) (systems : ℕ) (l : LinkRow) : Type 0 where
   pub vl : IsWithin 0 65535 l.vl
   pub from : l.from < systems
   pub to : AllByRecursion (λ i. i < systems) l.to
@@ -37,10 +47,13 @@ pub record IsLink (systems : ℕ) (l : LinkRow) : Type 0 where
   pub bag_ms : IsTrue (is_bag l.bag_ms)
   pub lmin : IsWithin least_frame greatest_frame l.lmin
   pub lmax : IsWithin l.lmin greatest_frame l.lmax
-  pub jitter_us : IsWithin 0 (1000 * l.bag_ms) l.jitter_us
+  pub jitter_us : IsWithin 0 (greatest_jitter l.bag_ms) l.jitter_us
   pub latency_us : IsWithin 1 greatest_delay l.latency_us
   pub skew_us : IsWithin 1 greatest_delay l.skew_us
   pub subs : IsWithin 1 4 l.subs
+
+abbrev pub IsLink : ℕ → LinkRow → Type 0
+IsLink = IsLinkUpTo jitter_from_system
 
 pub record IsPort (systems : ℕ) (links : List LinkRow) (p : PortRow) : Type 0 where
   pub system : p.system < systems
@@ -59,19 +72,31 @@ pub record AreSystems (profile : ℕ) (systems : List SystemRow) : Type 0 where
   pub ports : AreDistinct (λ s. s.port) systems
   pub ids : AreDistinct (λ s. s.id) systems
 
-pub record AreLinks (systems : ℕ) (links : List LinkRow) : Type 0 where
+pub record AreLinksUpTo (greatest_jitter : ℕ → ℕ) (systems : ℕ) (links : List LinkRow) :
+    Type 0 where
   pub count : length links ≤ most_links
-  pub each : AllByRecursion (IsLink systems) links
+  pub each : AllByRecursion (IsLinkUpTo greatest_jitter systems) links
   pub identifiers : AreDistinct (λ l. l.vl) links
+
+abbrev pub AreLinks : ℕ → List LinkRow → Type 0
+AreLinks = AreLinksUpTo jitter_from_system
 
 pub record ArePorts (systems : ℕ) (links : List LinkRow) (ports : List PortRow) : Type 0 where
   pub count : length ports ≤ most_ports
   pub each : AllByRecursion (IsPort systems links) ports
   pub triples : AreDistinct triple ports
 
-pub record IsLawful (t : Rows) : Type 0 where
+pub record IsLawfulUpTo (greatest_jitter : ℕ → ℕ) (t : Rows) : Type 0 where
   pub profile : IsWithin 1 2 t.profile
   pub buffer : IsWithin least_frame greatest_buffer t.buffer
   pub systems : AreSystems t.profile t.systems
-  pub links : AreLinks (length t.systems) t.links
+  pub links : AreLinksUpTo greatest_jitter (length t.systems) t.links
   pub ports : ArePorts (length t.systems) t.links t.ports
+
+-- the tables of the one switch on a side
+abbrev pub IsLawful : Rows → Type 0
+IsLawful = IsLawfulUpTo jitter_from_system
+
+-- the tables of a switch that may have other switches beside it, which send links to it
+abbrev pub IsLawfulSwitch : Rows → Type 0
+IsLawfulSwitch = IsLawfulUpTo jitter_from_any

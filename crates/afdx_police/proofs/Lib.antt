@@ -1,4 +1,5 @@
 pub mod AccountLemmas
+pub mod DelayLemmas
 pub mod FrameLemmas
 pub mod PolicerLemmas
 pub mod ShapeLemmas

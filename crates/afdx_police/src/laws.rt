@@ -4,6 +4,7 @@ ghost use Rattle.afdx_police.specs.Laws.{FitsIsEachWindow, FitsIsAccountTest, Ea
 ghost use Rattle.afdx_police.specs.Laws.{ArrivalsAreOffers, EachOwnSteps, StrangersAreRefused};
 ghost use Rattle.afdx_police.specs.Laws.{FaultsChangeNothing, SoundHasNoFault, SoundIsChargedFor};
 ghost use Rattle.afdx_police.specs.Laws.{VerdictsDecide, NoFrameIsRefused};
+ghost use Rattle.afdx_police.specs.Delayed.{DelayedAreAccepted, RoomIsNeeded};
 ghost use Rattle.afdx_police.specs.Stream.{RegularIsAccepted};
 
 /// The window rule's test is that of each window.
@@ -29,6 +30,13 @@ pub fn arrivals_are_offers()
 /// A stream that keeps its gap and its jitter is accepted whole.
 pub fn regular_is_accepted()
     ensures { RegularIsAccepted }
+{}
+
+/// Frames that one switch accepted are all accepted by the next, where its jitter has room for
+/// their delay. With less room there are frames of which one is refused.
+pub fn delayed_are_accepted()
+    ensures all { DelayedAreAccepted }
+    ensures needed { RoomIsNeeded }
 {}
 
 /// One more arrival is a link's own, or changes nothing there.

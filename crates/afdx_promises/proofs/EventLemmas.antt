@@ -10,7 +10,7 @@ use Rattle.std.proofs.lemmas.Bool.{eqb-true, eq-eqb, and_parts, cases_lt, lt-ltb
 use Rattle.afdx_frame.specs.declared.link.Side.{Side}
 use Rattle.afdx_frame.specs.declared.link.Side.TheVariants.{A, B}
 use Rattle.afdx_frame.proofs.SideLemmas.{is_side-same}
-use Rattle.afdx_config.specs.Lawful.{IsLawful}
+use Rattle.afdx_config.specs.Lawful.{IsLawfulUpTo}
 use Rattle.afdx_config.specs.Rows.{Rows}
 use Rattle.afdx_police.specs.Arrival.{Arrival, is_side}
 use Rattle.afdx_port.specs.Schedule.{Entry, Turn, AreTurns}
@@ -32,8 +32,8 @@ use Rattle.afdx_network.specs.Order.{events_so_far}
 use Rattle.afdx_network.proofs.OrderLemmas.{before_trans, below_trans, same_events}
 use Rattle.afdx_network.proofs.EventLemmas.{turn-of, at-port-of, is-departure, is-either}
 use Rattle.afdx_network.proofs.TurnLemmas.{next-after}
-use Rattle.afdx_promises.specs.Receptions.{brought, is_from, order_of, ComeInOrder, brought_by}
-use Rattle.afdx_promises.specs.NetworkPromises.{EventsBringReceptions, IsAsPromised}
+use Rattle.afdx_promises.specs.Receptions.{brought, is_from, order_of, ComeInOrder, brought_by, AreReceptions}
+use Rattle.afdx_promises.specs.NetworkPromises.{IsAsPromised}
 use Rattle.afdx_promises.specs.NetworkPromises.{EventsAreAsPromised, EventsSoFarAreAsPromised}
 use Rattle.afdx_promises.proofs.PromiseLemmas.{judged-alone, run-from}
 use Rattle.afdx_promises.proofs.ListLemmas.{all-imply}
@@ -121,9 +121,9 @@ turn-is-at side port turns e h =
     let here : is_at side port (Left r.d) ≡ true = rw (r.side_is, r.port_is, same_self side) (eq-eqb port port refl) in
     ap (is_at side port) r.is ∙ here
 
-module _ (t : Rows) (arrivals : List Arrival) (events : List Event) (side : Side) (port : ℕ)
-    (lawful : IsLawful t) (timed : AreTimed arrivals) (low : 1 ≤ port) (high : port ≤ 24)
-    (are : AreEvents t arrivals events) where
+module _ {greatest_jitter : ℕ → ℕ} (t : Rows) (arrivals : List Arrival) (events : List Event)
+    (side : Side) (port : ℕ) (lawful : IsLawfulUpTo greatest_jitter t) (timed : AreTimed arrivals)
+    (low : 1 ≤ port) (high : port ≤ 24) (are : AreEvents t arrivals events) where
   at-own : (e : Event) → IsAmong e (filter (is_at side port) events)
       → IsAmong e (departures_of side port (turns_at t side port arrivals))
   at-own e h = by (is-either t arrivals e (are.own e (filter-own (is_at side port) e events h).0))
@@ -358,7 +358,9 @@ brought-in-order port (Left d ∷ before) order =
     )
     by false is rest = rest
 
-pub events-bring : EventsBringReceptions
+pub events-bring : {greatest_jitter : ℕ → ℕ} (t : Rows) (arrivals : List Arrival) (events : List Event)
+    (port : ℕ) → IsLawfulUpTo greatest_jitter t → AreTimed arrivals → 1 ≤ port → port ≤ 24
+    → AreEvents t arrivals events → AreReceptions t port arrivals (brought_by port events)
 events-bring t arrivals events port lawful timed low high are = record {
   by_side = λ side. brought-by-side side port events
       ∙ ap (λ es. map (brought side) (slots (turns_in es)))
@@ -528,8 +530,8 @@ so-far-is t arrivals events are =
     (first.0, first.1 ∙ ap (λ es. first.0 ++ es) (sym (one-order-so-far t arrivals events are)))
 
 -- what has left a port is the beginning of its turns
-taken-so-far : (t : Rows) (arrivals : List Arrival) (events : List Event) (side : Side) (port : ℕ)
-    → IsLawful t → AreTimed arrivals → 1 ≤ port → port ≤ 24 → AreEventsSoFar t arrivals events →
+taken-so-far : {greatest_jitter : ℕ → ℕ} (t : Rows) (arrivals : List Arrival) (events : List Event) (side : Side) (port : ℕ)
+    → IsLawfulUpTo greatest_jitter t → AreTimed arrivals → 1 ≤ port → port ≤ 24 → AreEventsSoFar t arrivals events →
     (later : List (Turn HeldFrame)) × (turns_at t side port arrivals ≡ later ++ taken_at port (turns_on side events))
 taken-so-far t arrivals events side port lawful timed low high are =
     let more = so-far-is t arrivals events are in (

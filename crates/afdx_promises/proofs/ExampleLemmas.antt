@@ -1,4 +1,5 @@
 -- The example's numbers.
+use Rattle.afdx_config.proofs.AmongOthersLemmas.{among-others, admitted-serving}
 use Rattle.afdx_promises.proofs.StreamLemmas.{accepted-stream}
 use Rattle.afdx_switch.specs.Regular.{at_port}
 use Rattle.afdx_promises.proofs.PromiseLemmas.{goes-there}
@@ -63,7 +64,7 @@ two-distinct f a b apart (suc (suc i)) j x y at there same = absurd (cc at)
 two-distinct f a b apart zero (suc (suc j)) x y at there same = absurd (cc there)
 two-distinct f a b apart (suc zero) (suc (suc j)) x y at there same = absurd (cc there)
 
-one-distinct : {R X : Type 0} (f : R → X) (a : R) → AreDistinct f (a ∷ [])
+pub one-distinct : {R X : Type 0} (f : R → X) (a : R) → AreDistinct f (a ∷ [])
 unfolding AreDistinct
 one-distinct f a zero zero x y at there same = refl
 one-distinct f a (suc i) j x y at there same = absurd (cc at)
@@ -138,21 +139,21 @@ is-lawful latency some most = record {
 }
 
 -- what holds of one element, or of both of two, holds of each that stands there
-all-one : {X : Type 0} (P : X → Type 0) (x : X) → P x → All P (x ∷ [])
+pub all-one : {X : Type 0} (P : X → Type 0) (x : X) → P x → All P (x ∷ [])
 all-one P x own zero d lt = own
 all-one P x own (suc k) d lt = absurd (omega (arith, lt))
 
-one-at : {X : Type 0} (P : ℕ → X → Type 0) (a : X) → P 0 a → (i : ℕ) (x : X) → slice_get (a ∷ []) i ≡ Some x → P i x
+pub one-at : {X : Type 0} (P : ℕ → X → Type 0) (a : X) → P 0 a → (i : ℕ) (x : X) → slice_get (a ∷ []) i ≡ Some x → P i x
 one-at P a first zero x at = let same : a ≡ x = cc at in subst (P 0) same first
 one-at P a first (suc i) x at = absurd (cc at)
 
-two-at : {X : Type 0} (P : ℕ → X → Type 0) (a b : X) → P 0 a → P 1 b → (i : ℕ) (x : X)
+pub two-at : {X : Type 0} (P : ℕ → X → Type 0) (a b : X) → P 0 a → P 1 b → (i : ℕ) (x : X)
     → slice_get (a ∷ b ∷ []) i ≡ Some x → P i x
 two-at P a b first second zero x at = let same : a ≡ x = cc at in subst (P 0) same first
 two-at P a b first second (suc zero) x at = let same : b ≡ x = cc at in subst (P 1) same second
 two-at P a b first second (suc (suc i)) x at = absurd (cc at)
 
-none-there : IsPortAdmitted 80 126 []
+pub none-there : IsPortAdmitted 80 126 []
 none-there = record {
   no_overload = omega arith;
   fits_buffer = omega arith;
@@ -229,7 +230,7 @@ unheard-buildable = record {
   partition = omega arith;
 }
 
-first-is : BuiltIsComputed → (side : Side)
+pub first-is : BuiltIsComputed → (side : Side)
     → IsTheFrame (address_of sender link heard) 0 side heard.payload (first_on side)
 unfolding first_on
 first-is computed side = computed (address_of sender link heard) 0 side heard.payload
@@ -241,7 +242,7 @@ unfolding second_on
 second-is computed side = computed (address_of sender link unheard) 1 side unheard.payload
     unheard-buildable (one-byte 8 (omega arith)) (omega arith)
 
-first-named : BuiltIsComputed → (side : Side) → names 1 (first_on side) ≡ true
+pub first-named : BuiltIsComputed → (side : Side) → names 1 (first_on side) ≡ true
 first-named computed side = names-frame 1 (first_on side) _ (first-is computed side).parts
 
 second-named : BuiltIsComputed → (side : Side) → names 1 (second_on side) ≡ true
@@ -417,14 +418,18 @@ premises-met computed = record {
   sends = is-stream computed 11;
   fed = is-fed computed;
   delivers = λ came are. messages-once computed tables arrivals 1 0 receiver link
-      (heard ∷ unheard ∷ []) stream came run refl refl refl (is-stream computed 11)
+      (heard ∷ unheard ∷ []) stream came (is-lawful 11 (omega arith) (omega arith)) run refl refl refl (is-stream computed 11)
       (is-fed computed) are ∙ heard-only;
-  told_once = told-once computed tables arrivals run 1 0 receiver link (heard ∷ unheard ∷ []) stream
-      refl refl refl (is-stream computed 11) (is-fed computed) ∙ heard-only;
+  told_once = told-once computed tables arrivals (is-lawful 11 (omega arith) (omega arith)) run 1 0
+      receiver link (heard ∷ unheard ∷ []) stream refl refl refl (is-stream computed 11) (is-fed computed) ∙ heard-only;
 }
   where
     run : IsAdmittedRun tables arrivals
-    run = record { lawful = is-lawful 11 (omega arith) (omega arith); admitted = is-admitted; timed = is-timed }
+    run = record {
+      lawful = among-others tables (is-lawful 11 (omega arith) (omega arith));
+      admitted = admitted-serving tables is-admitted;
+      timed = is-timed;
+    }
 
 -- ---- with a latency that is less than a frame takes on the line
 

@@ -4,7 +4,7 @@ use Rattle.std.specs.Prelude.{Option, Some, None, Result, slice_get, if◌then�
 use Rattle.std.proofs.lemmas.Bool.{eqb-true, eq-eqb}
 use Rattle.afdx_frame.specs.Parts.{FrameParts, frame_of}
 use Rattle.afdx_frame.specs.declared.fault.MacFault.{MacFault}
-use Rattle.afdx_config.specs.Lawful.{IsLawful}
+use Rattle.afdx_config.specs.Lawful.{IsLawfulUpTo}
 use Rattle.afdx_config.specs.Reading.{system_at_port}
 use Rattle.afdx_config.specs.Rows.{SystemRow, Rows}
 use Rattle.afdx_config.specs.SentList as sent
@@ -86,7 +86,7 @@ told-off : (vl : ℕ) (answer : Answer) (rest : List sent.Message) → with_told
 told-off vl (Message v udp payload) rest = refl
 told-off vl (Dropped why) rest = refl
 
-module _ (t : Rows) (system : ℕ) (s : SystemRow) (vl : ℕ) (lawful : IsLawful t)
+module _ {greatest_jitter : ℕ → ℕ} (t : Rows) (system : ℕ) (s : SystemRow) (vl : ℕ) (lawful : IsLawfulUpTo greatest_jitter t)
     (stands_at : slice_get t.systems system ≡ Some s) where
   -- the system is at its port, and at no other
   at-port : (port : ℕ) → port ≡ s.port → system_at_port t.systems port ≡ Some system

@@ -82,7 +82,7 @@ at-ports rule (x ∷ past) = by (rule.port == x.port) refl (at-ports rule past)
     by true own_port rest = (eqb-true rule.port x.port own_port, rest)
     by false other rest = rest
 
-sendable-sound : (t : Rows) (l : LinkRow) (port : ℕ) (bytes : List ℕ) → IsSendable l bytes
+pub sendable-sound : (t : Rows) (l : LinkRow) (port : ℕ) (bytes : List ℕ) → IsSendable l bytes
     → (rule_of t l).port ≡ port → IsSound (rule_of t l) port bytes
 unfolding rule_of
 sendable-sound t l port bytes is here =

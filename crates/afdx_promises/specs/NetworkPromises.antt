@@ -6,7 +6,7 @@ use Rattle.afdx_frame.specs.declared.link.Side.TheVariants.{A, B}
 use Rattle.afdx_frame.specs.Sides.{is_side}
 use Rattle.afdx_frame.specs.Ports.{last_port}
 use Rattle.afdx_config.specs.LawfulStream.{Sending, IsLawfulStream}
-use Rattle.afdx_config.specs.Lawful.{IsLawful}
+use Rattle.afdx_config.specs.Lawful.{IsLawful, IsLawfulSwitch}
 use Rattle.afdx_config.specs.Reading.{has_port}
 use Rattle.afdx_config.specs.Rows.{SystemRow, LinkRow, Rows, is_to}
 use Rattle.afdx_config.specs.SentList.{Message}
@@ -99,7 +99,8 @@ ReceptionsExist = (t : Rows) (port : ℕ) (arrivals : List Arrival) → IsAdmitt
 -- in the one order of all events, what they bring to a port is that list
 abbrev pub EventsBringReceptions : Type 0
 EventsBringReceptions = (t : Rows) (arrivals : List Arrival) (events : List Event) (port : ℕ) →
-    IsLawful t → AreTimed arrivals → 1 ≤ port → port ≤ last_port → AreEvents t arrivals events →
+    IsLawfulSwitch t → AreTimed arrivals → 1 ≤ port → port ≤ last_port →
+    AreEvents t arrivals events →
     AreReceptions t port arrivals (brought_by port events)
 
 -- alone: with two lists in which a link has equal own arrivals on a side, it has equal verdicts and
@@ -135,8 +136,8 @@ StreamIsRegular = (t : Rows) (arrivals : List Arrival) (side : Side) (l : LinkRo
 -- and it is accepted, whatever else comes, also under this link's name at other ports
 abbrev pub StreamIsAccepted : Type 0
 StreamIsAccepted = (t : Rows) (past : List Arrival) (x : Arrival) (place : ℕ) (l : LinkRow)
-    (messages : List Message) (stream : List Sending) → IsLawful t → slice_get t.links place
-    ≡ Some l →
+    (messages : List Message) (stream : List Sending) → IsLawfulSwitch t →
+    slice_get t.links place ≡ Some l →
     IsStreamOf t l messages stream → names l.vl x.bytes ≡ true → (rule_of t l).port ≡ x.port →
     AreFirstOf x.side stream (at_own_port t l x.side (x ∷ past)) →
     reason_of t past x ≡ None
@@ -147,8 +148,8 @@ StreamIsAccepted = (t : Rows) (past : List Arrival) (x : Arrival) (place : ℕ) 
 abbrev pub MessagesComeSoFar : Type 0
 MessagesComeSoFar = (t : Rows) (arrivals : List Arrival) (system place : ℕ) (s : SystemRow)
     (l : LinkRow) (messages : List Message) (stream : List Sending) (came : List Arrived) →
-    IsAdmittedRun t arrivals → slice_get t.systems system ≡ Some s → slice_get t.links place
-    ≡ Some l → is_to system l ≡ true →
+    IsLawful t → IsAdmittedRun t arrivals → slice_get t.systems system ≡ Some s →
+    slice_get t.links place ≡ Some l → is_to system l ≡ true →
     IsStreamOf t l messages stream → ((side : Side) →
     AreFirstOf side stream (at_own_port t l side arrivals)) →
     AreReceptions t s.port arrivals came →
@@ -163,8 +164,8 @@ MessagesComeSoFar = (t : Rows) (arrivals : List Arrival) (system place : ℕ) (s
 abbrev pub MessagesComeOnce : Type 0
 MessagesComeOnce = (t : Rows) (arrivals : List Arrival) (system place : ℕ) (s : SystemRow)
     (l : LinkRow) (messages : List Message) (stream : List Sending) (came : List Arrived) →
-    IsAdmittedRun t arrivals → slice_get t.systems system ≡ Some s → slice_get t.links place
-    ≡ Some l → is_to system l ≡ true →
+    IsLawful t → IsAdmittedRun t arrivals → slice_get t.systems system ≡ Some s →
+    slice_get t.links place ≡ Some l → is_to system l ≡ true →
     IsStreamOf t l messages stream → ((side : Side) → IsFed t l stream side arrivals) →
     AreReceptions t s.port arrivals came →
     reverse (messages_in (answers_on t system l.vl came))

@@ -12,6 +12,7 @@ use Rattle.afdx_frame.specs.declared.link.Side.TheVariants.{A, B}
 use Rattle.afdx_frame.specs.Ports.{last_port}
 use Rattle.afdx_config.specs.LawfulStream.{Sending}
 use Rattle.afdx_config.specs.Reading.{has_port, system_at_port}
+use Rattle.afdx_config.specs.Lawful.{IsLawful}
 use Rattle.afdx_config.specs.Rows.{SystemRow, LinkRow, Rows, is_to}
 use Rattle.afdx_config.specs.SentList as sent
 use Rattle.afdx_police.specs.Arrival.{Arrival, names, own}
@@ -179,9 +180,11 @@ PromisesAreKeptSoFar = (t : Rows) (arrivals : List Arrival) → IsAdmittedRun t 
     KeepsPromisesSoFar t arrivals (told_so_far t arrivals)
 
 abbrev pub MessagesAreToldOnce : Type 0
-MessagesAreToldOnce = (t : Rows) (arrivals : List Arrival) → IsAdmittedRun t arrivals →
+MessagesAreToldOnce = (t : Rows) (arrivals : List Arrival) → IsLawful t →
+    IsAdmittedRun t arrivals →
     EachIsToldOnce t arrivals (told t arrivals)
 
 abbrev pub MessagesAreToldOnceSoFar : Type 0
-MessagesAreToldOnceSoFar = (t : Rows) (arrivals : List Arrival) → IsAdmittedRun t arrivals →
+MessagesAreToldOnceSoFar = (t : Rows) (arrivals : List Arrival) → IsLawful t →
+    IsAdmittedRun t arrivals →
     EachIsToldOnceSoFar t arrivals (told t arrivals)

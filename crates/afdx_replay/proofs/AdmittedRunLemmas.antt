@@ -3,6 +3,7 @@ use Rattle.std.proofs.Common.{◌≡◌, ℕ, zero, suc, ◌+◌, ◌≤◌}
 use Rattle.std.proofs.Common.{List, [], ◌∷◌, length, refl, ap, ◌∙◌, subst, arith, inl, inr}
 use Rattle.std.specs.Prelude.{Option, Some, None, Result, Ok, Err, All, IfSome, slice_index_or}
 use Rattle.std.specs.Io.KnownBytes.{Appends}
+use Rattle.afdx_config.proofs.AmongOthersLemmas.{among-others, admitted-serving}
 use Rattle.afdx_config.specs.Admission.{IsAdmitted}
 use Rattle.afdx_config.specs.Lawful.{IsLawful}
 use Rattle.afdx_config.specs.Rows.{Rows}
@@ -89,7 +90,11 @@ arrivals-listed list (suc n) x h = by (said_after (arrivals_of list n) (slice_in
 
 module _ (t : Rows) (bytes : List ℕ) (old new : Option (List ℕ)) (lawful : IsLawful t) (admitted : IsAdmitted t) where
   run-of : (n : ℕ) → IsAdmittedRun t (arrivals_of (lines_of bytes) n)
-  run-of n = record { lawful = lawful; admitted = admitted; timed = arrivals-timed (lines_of bytes) n }
+  run-of n = record {
+    lawful = among-others t lawful;
+    admitted = admitted-serving t admitted;
+    timed = arrivals-timed (lines_of bytes) n;
+  }
 
   all-told : (n : ℕ) → WritesSoFar t old new (arrivals_of (lines_of bytes) n)
       → WritesPromisedSoFar t old new (arrivals_of (lines_of bytes) n)
@@ -100,7 +105,7 @@ module _ (t : Rows) (bytes : List ℕ) (old new : Option (List ℕ)) (lawful : I
   some-told : (n : ℕ) → WritesSome t old new (arrivals_of (lines_of bytes) n)
       → WritesPromisedSome t old new (arrivals_of (lines_of bytes) n)
   some-told n written =
-      let told = replay-promised t (arrivals_of (lines_of bytes) n) (run-of n) in
+      let told = replay-promised t (arrivals_of (lines_of bytes) n) lawful (run-of n) in
       record {
         lines = told.lines;
         written = subst (AppendsFront old new) told.written written;
@@ -130,7 +135,7 @@ module _ (t : Rows) (bytes : List ℕ) (old new : Option (List ℕ)) (lawful : I
   promised-answers rest (Err fault) stops = stops-promised rest fault stops
   promised-answers rest (Ok summary) all =
       let list = lines_of bytes in
-      let told = replay-promised t (arrivals_of list (length list)) (run-of (length list)) in
+      let told = replay-promised t (arrivals_of list (length list)) lawful (run-of (length list)) in
       let none = none-counted t (arrivals_of list (length list)) (run-of (length list)) in
       record {
         sound = all.sound;

@@ -6,13 +6,13 @@ use Rattle.afdx_frame.specs.Layout.{link_named_by}
 use Rattle.afdx_frame.specs.declared.link.Priority.TheVariants.{Low}
 use Rattle.afdx_frame.specs.declared.link.Side.{Side}
 use Rattle.afdx_frame.specs.declared.link.VlId.{VlId}
-use Rattle.afdx_config.specs.Lawful.{IsLawful}
+use Rattle.afdx_config.specs.Lawful.{IsLawfulUpTo}
 use Rattle.afdx_config.specs.Reading.{link_of}
 use Rattle.afdx_config.specs.Rows.{Rows}
 use Rattle.afdx_police.specs.Arrival.{Arrival, is_side, names, own}
 use Rattle.afdx_police.specs.LinkAccounts.{StandsForOwn}
 use Rattle.afdx_police.specs.Verdicts.{reason_after}
-use Rattle.afdx_port.specs.Classes.{AreOfOneClass}
+use Rattle.afdx_port.specs.Classes.{AreOfOneClass, GoInOrder}
 use Rattle.afdx_port.specs.History as queue
 use Rattle.afdx_port.specs.Schedule.{Entry, AreTurns}
 use Rattle.afdx_port.proofs.ClassLemmas.{go_in_order}
@@ -21,14 +21,15 @@ use Rattle.afdx_bounds.specs.Offered.{is_lost, entries_of}
 use Rattle.afdx_bounds.specs.Outputs.{Row, accepts, sends, entry_of, with_sent, offers_at}
 use Rattle.afdx_bounds.proofs.VerdictLemmas.{one-name}
 use Rattle.afdx_switch.specs.HeldFrames.{HeldFrame, facts}
-use Rattle.afdx_switch.specs.Laws.{VerdictsAreOwn, EntriesGrow, is_of, TakenAreTurns}
-use Rattle.afdx_switch.specs.Laws.{LinksGoInOrder, OtherSideIsApart, LostPortsAreListed}
+use Rattle.afdx_switch.specs.Laws.{VerdictsAreOwn, EntriesStep, is_of, TakenAreTurns}
+use Rattle.afdx_switch.specs.Laws.{OtherSideIsApart, LostPortsAreListed}
 use Rattle.afdx_switch.specs.Tables.{rows_of, output_at, byte_ns_at, buffer_at, row_named, carried, entries_at}
 use Rattle.afdx_switch.specs.Verdicts.{reason_on, reason_of, is_share_lost, is_lost_at, numbers, lost_ports}
 use Rattle.afdx_switch.specs.Ports.{holds}
 use Rattle.std.specs.List.{AllByRecursion}
 use Rattle.afdx_switch.specs.Lines.{IsPlaceOf, IsNamed}
-use Rattle.afdx_switch.specs.Switching.{calls_at, taken_at}
+use Rattle.afdx_switch.specs.Switching.{SwitchHistory, StandsFor, calls_at, taken_at}
+use Rattle.afdx_switch.specs.declared.working.Working.{Working}
 use Rattle.afdx_switch.proofs.ListLemmas.{find-none, find-found}
 use Rattle.afdx_switch.proofs.NamedLemmas.{unnamed, no-row, row-at}
 use Rattle.afdx_switch.proofs.ArrivalLemmas.{sends-named, row-named, dropped-sent, accepted-sent}
@@ -46,7 +47,8 @@ verdicts-own t past other x same = on (row_named t x.bytes) same
     on (Some r) equal = ap (λ xs. reason_after r.rule xs x) equal
 
 -- where the row stands that the bytes name, in lawful tables
-pub named-place : (t : Rows) (bytes : List ℕ) → IsLawful t → (place : Option ℕ) × IsNamed (rows_of t) bytes place
+pub named-place : {greatest_jitter : ℕ → ℕ} (t : Rows) (bytes : List ℕ) → IsLawfulUpTo greatest_jitter t
+    → (place : Option ℕ) × IsNamed (rows_of t) bytes place
 named-place t bytes lawful = by (link_named_by bytes) refl
   where
     here : (v : VlId) (place : Option ℕ) → link_named_by bytes ≡ Some v
@@ -84,7 +86,8 @@ nothing-named : (t : Rows) (bytes : List ℕ) → IsNamed (rows_of t) bytes None
 unfolding row_named
 nothing-named t bytes none = find-none (λ (s : Row). names s.rule.vl bytes) (rows_of t) none
 
-module _ (t : Rows) (port : ℕ) (x : Arrival) (past : List Arrival) (lawful : IsLawful t) where
+module _ {greatest_jitter : ℕ → ℕ} (t : Rows) (port : ℕ) (x : Arrival) (past : List Arrival)
+    (lawful : IsLawfulUpTo greatest_jitter t) where
   sent-to : (r : Row) → reason_of t past x ≡ None → row_named t x.bytes ≡ Some r
       → find (sends (output_at t x.side port) past x) (rows_of t)
       ≡ (if r.goes_to port then Some r else None)
@@ -123,7 +126,8 @@ module _ (t : Rows) (port : ℕ) (x : Arrival) (past : List Arrival) (lawful : I
       ∙ ap (λ b. if b then entries_at t x.side port past else entries_at t x.side port past
       ++ entry_of (carried t) r x ∷ []) is
 
-pub entries-grow : EntriesGrow
+pub entries-grow : {greatest_jitter : ℕ → ℕ} (t : Rows) (side : Side) (port : ℕ) (x : Arrival)
+    (past : List Arrival) → IsLawfulUpTo greatest_jitter t → EntriesStep t side port x past
 entries-grow t side port x past lawful = record {
   other_side = other-kept t side port x past;
   dropped = λ reason is. (let at = named-place t x.bytes lawful in
@@ -181,7 +185,8 @@ entry-from t side port (x ∷ past) i e at =
         (entry_of (carried t) r x)) sent earlier
         (sym (ap (λ es. slice_get es i) (side-with t side port x past (Some r) sent)) ∙ at)
 
-pub one-class : (t : Rows) (side : Side) (port vl : ℕ) (arrivals : List Arrival) → IsLawful t
+pub one-class : {greatest_jitter : ℕ → ℕ} (t : Rows) (side : Side) (port vl : ℕ) (arrivals : List Arrival)
+    → IsLawfulUpTo greatest_jitter t
     → AreOfOneClass (is_of vl) (entries_at t side port arrivals)
 unfolding carried
 one-class t side port vl arrivals lawful = by (link_of t.links vl) (place-of t lawful vl (link_of t.links vl) refl)
@@ -218,7 +223,9 @@ taken-turns t side w h (suc i) st low high =
     subst (λ n. AreTurns (byte_ns_at t n) (entries_at t side n h.arrivals) (taken_at n h.taken)) (omega arith)
     (taken_turns facts p.0 (calls_at t side (i + 1) h p.0.clock) (st.ports i p.0 p.1))
 
-pub links-in-order : LinksGoInOrder
+pub links-in-order : {greatest_jitter : ℕ → ℕ} (t : Rows) (side : Side) (w : Working) (h : SwitchHistory)
+    (port vl : ℕ) → IsLawfulUpTo greatest_jitter t → StandsFor t side w h → 1 ≤ port → port ≤ 24
+    → GoInOrder (is_of vl) (entries_at t side port h.arrivals) (taken_at port h.taken)
 links-in-order t side w h port vl lawful st low high =
     go_in_order (byte_ns_at t port) (is_of vl) (entries_at t side port h.arrivals)
     (taken_at port h.taken) (one-class t side port vl h.arrivals lawful)

@@ -10,3 +10,4 @@ pub mod LawLemmas
 pub mod AdmittedLemmas
 pub mod RegularLemmas
 pub mod LinkFrameLemmas
+pub mod HopLemmas

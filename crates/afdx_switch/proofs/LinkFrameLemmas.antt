@@ -1,12 +1,12 @@
 -- The frames of one link at one output port.
-use Rattle.std.proofs.Common.{◌≡◌, ℕ, ◌&&◌, Bool, true, false, not, List, [], ◌∷◌, ◌++◌, refl, sym, ap, ◌∙◌, subst}
+use Rattle.std.proofs.Common.{◌≡◌, ℕ, ◌≤◌, ◌&&◌, Bool, true, false, not, List, [], ◌∷◌, ◌++◌, refl, sym, ap, ◌∙◌, subst}
 use Rattle.std.specs.Prelude.{Option, Some, None, is_none, filter, map, slice_get, if◌then◌else◌}
 use Rattle.std.specs.Option.{option_map_or}
 use Rattle.std.proofs.lemmas.List.{map_push, map-append, append-nil}
 use Rattle.std.proofs.lemmas.List.Elements.{filter-append}
 use Rattle.afdx_frame.specs.declared.link.Side.{Side}
 use Rattle.afdx_frame.proofs.SideLemmas.{is_side-same}
-use Rattle.afdx_config.specs.Lawful.{IsLawful}
+use Rattle.afdx_config.specs.Lawful.{IsLawfulUpTo}
 use Rattle.afdx_config.specs.Rows.{Rows}
 use Rattle.afdx_police.specs.Arrival.{Arrival, is_side, names}
 use Rattle.afdx_police.specs.declared.shape.Reason.{Reason}
@@ -17,8 +17,9 @@ use Rattle.afdx_bounds.specs.Outputs.{Row, entry_of, offers_at}
 use Rattle.afdx_bounds.proofs.VerdictLemmas.{one-name}
 use Rattle.afdx_switch.specs.HeldFrames.{HeldFrame}
 use Rattle.afdx_switch.specs.Laws.{EntriesStep, is_of}
-use Rattle.afdx_switch.specs.LinkFrames.{goes_on, enters, entered, FramesAreOwn, AllFramesAreOwn, OthersGetNone}
-use Rattle.afdx_switch.specs.Switching.{taken_at}
+use Rattle.afdx_switch.specs.LinkFrames.{goes_on, enters, entered, frames_of, OthersGetNone}
+use Rattle.afdx_switch.specs.Switching.{SwitchHistory, StandsFor, IsDone, taken_at}
+use Rattle.afdx_switch.specs.declared.working.Working.{Working}
 use Rattle.afdx_switch.specs.Tables.{rows_of, row_named, carried, byte_ns_at, entries_at}
 use Rattle.afdx_switch.specs.Verdicts.{reason_on, reason_of, is_lost_at}
 use Rattle.afdx_switch.proofs.ArrivalLemmas.{same-side as to-itself, unknown-fault}
@@ -121,7 +122,7 @@ module _ (t : Rows) (port vl : ℕ) (x : Arrival) (past : List Arrival) where
         (ap is_none dropped) refl refl)
     of-reason None accepted = of-named (row_named t x.bytes) accepted refl
 
-  step : (side : Side) → IsLawful t → Step side
+  step : {greatest_jitter : ℕ → ℕ} (side : Side) → IsLawfulUpTo greatest_jitter t → Step side
   step side lawful = by (is_side side x.side) refl
     where
       by : (b : Bool) → is_side side x.side ≡ b → Step side
@@ -130,7 +131,7 @@ module _ (t : Rows) (port vl : ℕ) (x : Arrival) (past : List Arrival) where
           (of-reason (entries-grow t x.side port x past lawful) (reason_of t past x) refl)
 
 -- the entries of a link are its frames that entered
-entered-is : (t : Rows) (side : Side) (port vl : ℕ) (arrivals : List Arrival) → IsLawful t
+entered-is : {greatest_jitter : ℕ → ℕ} (t : Rows) (side : Side) (port vl : ℕ) (arrivals : List Arrival) → IsLawfulUpTo greatest_jitter t
     → items vl (entries_at t side port arrivals) ≡ entered t side port vl arrivals
 unfolding entered offers_at
 entered-is t side port vl [] lawful = refl
@@ -138,7 +139,10 @@ entered-is t side port vl (x ∷ past) lawful =
     step t port vl x past side lawful
     ∙ ap (more (names vl x.bytes) (enters t side port past x) (carried t x)) (entered-is t side port vl past lawful)
 
-pub frames-own : FramesAreOwn
+pub frames-own : {greatest_jitter : ℕ → ℕ} (t : Rows) (side : Side) (w : Working) (h : SwitchHistory)
+    (port vl : ℕ) → IsLawfulUpTo greatest_jitter t → StandsFor t side w h → 1 ≤ port → port ≤ 24
+    → (waiting : List HeldFrame)
+    × (entered t side port vl h.arrivals ≡ frames_of vl (taken_at port h.taken) ++ waiting)
 frames-own t side w h port vl lawful st low high =
     let entries = entries_at t side port h.arrivals in
     let turns = taken_at port h.taken in (
@@ -149,7 +153,9 @@ frames-own t side w h port vl lawful st low high =
           (filter (is_of vl) (without_turn turns 0 entries)),
     )
 
-pub all-own : AllFramesAreOwn
+pub all-own : {greatest_jitter : ℕ → ℕ} (t : Rows) (side : Side) (h : SwitchHistory) (port vl : ℕ)
+    → IsLawfulUpTo greatest_jitter t → IsDone t side h port
+    → entered t side port vl h.arrivals ≡ frames_of vl (taken_at port h.taken)
 all-own t side h port vl lawful done =
     sym (entered-is t side port vl h.arrivals lawful)
     ∙ ap (map (λ (e : Entry HeldFrame). e.item))

@@ -4,7 +4,7 @@ use Rattle.std.proofs.Common.{ap, ◌∙◌, subst, refl, arith, inl, inr}
 use Rattle.std.specs.Prelude.{Result, Ok, Err, IfOk, Option, Some, None, is_none, slice_get, if◌then◌else◌}
 use Rattle.std.proofs.lemmas.Bool.{eq-eqb}
 use Rattle.afdx_frame.specs.Regulation.{Regulation}
-use Rattle.afdx_config.specs.Lawful.{IsLawful}
+use Rattle.afdx_config.specs.Lawful.{IsLawfulUpTo}
 use Rattle.afdx_config.specs.Rows.{LinkRow, Rows}
 use Rattle.afdx_police.specs.Arrival.{Arrival, names, own}
 use Rattle.afdx_police.specs.Rule.{Rule, regulation_of}
@@ -32,7 +32,7 @@ pub at-own : (rule : Rule) (x : Arrival) (past : List Arrival) → (rule.port ==
     → at_port rule (x ∷ past) ≡ x ∷ at_port rule past
 at-own rule x past own_port = ap (λ b. if b then x ∷ at_port rule past else at_port rule past) own_port
 
-at-other : (rule : Rule) (x : Arrival) (past : List Arrival) → (rule.port == x.port) ≡ false
+pub at-other : (rule : Rule) (x : Arrival) (past : List Arrival) → (rule.port == x.port) ≡ false
     → at_port rule (x ∷ past) ≡ at_port rule past
 at-other rule x past other = ap (λ b. if b then x ∷ at_port rule past else at_port rule past) other
 
@@ -56,7 +56,7 @@ pub record AreAccepted (rule : Rule) (xs : List Arrival) : Type 0 where
   pub arrivals : accepted_arrivals rule xs ≡ at_port rule xs
 
 -- one at another port has a fault
-wrong-port : (rule : Rule) (x : Arrival) → (rule.port == x.port) ≡ false → (reason : Reason)
+pub wrong-port : (rule : Rule) (x : Arrival) → (rule.port == x.port) ≡ false → (reason : Reason)
     × (fault_of (Some rule) x.port x.bytes ≡ Some reason)
 wrong-port rule x other = by (fault_of (Some rule) x.port x.bytes) refl
   where
@@ -66,7 +66,7 @@ wrong-port rule x other = by (fault_of (Some rule) x.port x.bytes) refl
     by None none = absurd (let same =
         eq-eqb rule.port x.port ((faultless-is-sound rule x.port x.bytes).0 none).at_port in cc)
 
-step-other : (rule : Rule) (x : Arrival) (past : List Arrival) → (rule.port == x.port) ≡ false
+pub step-other : (rule : Rule) (x : Arrival) (past : List Arrival) → (rule.port == x.port) ≡ false
     → AreAccepted rule past → AreAccepted rule (x ∷ past)
 unfolding accepted_arrivals
 step-other rule x past other so_far =
@@ -96,7 +96,7 @@ reason-own rule x past next sound regular so_far =
       ap (λ zs. fits link zs (charged_by rule x)) so_far.charged ∙ fit,
     )
 
-step-own : (rule : Rule) (x : Arrival) (past : List Arrival) → (rule.port == x.port) ≡ true
+pub step-own : (rule : Rule) (x : Arrival) (past : List Arrival) → (rule.port == x.port) ≡ true
     → reason_after rule past x ≡ None → AreAccepted rule past → AreAccepted rule (x ∷ past)
 unfolding accepted_arrivals
 step-own rule x past own_port none so_far =
@@ -129,8 +129,8 @@ accepted-at rule (x ∷ past) next sound regular =
     ]
 
 -- an arrival at the port is accepted
-pub regular-reason : (t : Rows) (past : List Arrival) (x : Arrival) (place : ℕ) (l : LinkRow)
-    → IsLawful t → slice_get t.links place ≡ Some l → names l.vl x.bytes ≡ true
+pub regular-reason : {greatest_jitter : ℕ → ℕ} (t : Rows) (past : List Arrival) (x : Arrival) (place : ℕ) (l : LinkRow)
+    → IsLawfulUpTo greatest_jitter t → slice_get t.links place ≡ Some l → names l.vl x.bytes ≡ true
     → (rule_of t l).port ≡ x.port →
     IsRegularAt (rule_of t l) (own l.vl x.side (x ∷ past)) → reason_of t past x ≡ None
 regular-reason t past x place l lawful at named port is =

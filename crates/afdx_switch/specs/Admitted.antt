@@ -2,8 +2,8 @@
 -- first.
 use Rattle.std.specs.Prelude.{◌≡◌, ℕ, ◌+◌, ◌*◌, ◌≤◌, true, false, not, is_none, if◌then◌else◌, All, Some, List, [], ◌∷◌, filter, map, reverse, slice_get}
 use Rattle.afdx_frame.specs.declared.link.Side.{Side}
-use Rattle.afdx_config.specs.Admission.{IsAdmitted}
-use Rattle.afdx_config.specs.Lawful.{IsLawful}
+use Rattle.afdx_config.specs.Admission.{IsServing}
+use Rattle.afdx_config.specs.Lawful.{IsLawfulSwitch}
 use Rattle.afdx_config.specs.Rows.{LinkRow, Rows}
 use Rattle.afdx_police.specs.Arrival.{Arrival, own}
 use Rattle.afdx_police.specs.Rule.{Rule}
@@ -23,8 +23,8 @@ use Rattle.afdx_switch.specs.declared.verdict.Verdict.TheVariants.{Dropped, Acce
 
 -- the tables are lawful and admitted, and the times of the arrivals don't decrease
 pub record IsAdmittedRun (t : Rows) (arrivals : List Arrival) : Type 0 where
-  pub lawful : IsLawful t
-  pub admitted : IsAdmitted t
+  pub lawful : IsLawfulSwitch t
+  pub admitted : IsServing t
   pub timed : AreTimed arrivals
 
 -- a frame that passes a switch: the caller's tag, when it arrived, and all bytes

@@ -2,7 +2,7 @@
 use Rattle.std.specs.Prelude.{◌≡◌, ℕ, ◌≤◌, Bool, true, false, IfSome, Some, None, List, [], ◌∷◌, ◌++◌, filter}
 use Rattle.afdx_frame.specs.declared.link.Side.{Side}
 use Rattle.afdx_frame.specs.Ports.{last_port}
-use Rattle.afdx_config.specs.Lawful.{IsLawful}
+use Rattle.afdx_config.specs.Lawful.{IsLawfulSwitch}
 use Rattle.afdx_config.specs.Rows.{Rows}
 use Rattle.afdx_police.specs.Arrival.{Arrival, is_side, names, own}
 use Rattle.afdx_police.specs.declared.shape.Reason.{Reason}
@@ -45,8 +45,8 @@ pub record EntriesStep (t : Rows) (side : Side) (port : ℕ) (x : Arrival)
       ++ entry_of (carried t) r x ∷ []
 
 abbrev pub EntriesGrow : Type 0
-EntriesGrow = (t : Rows) (side : Side) (port : ℕ) (x : Arrival) (past : List Arrival) → IsLawful t →
-    EntriesStep t side port x past
+EntriesGrow = (t : Rows) (side : Side) (port : ℕ) (x : Arrival) (past : List Arrival) →
+    IsLawfulSwitch t → EntriesStep t side port x past
 
 -- the entry is of a frame of this link
 abbrev pub is_of : ℕ → Entry HeldFrame → Bool
@@ -63,7 +63,7 @@ TakenAreTurns = (t : Rows) (side : Side) (w : Working) (h : SwitchHistory) (port
 -- came: those that have had their turns, and then those that haven't, are its entries
 abbrev pub LinksGoInOrder : Type 0
 LinksGoInOrder = (t : Rows) (side : Side) (w : Working) (h : SwitchHistory) (port vl : ℕ) →
-    IsLawful t →
+    IsLawfulSwitch t →
     StandsFor t side w h → 1 ≤ port → port ≤ last_port →
     GoInOrder (is_of vl) (entries_at t side port h.arrivals) (taken_at port h.taken)
 

@@ -13,3 +13,4 @@ pub mod Laws
 pub mod LinkFrames
 pub mod Admitted
 pub mod Regular
+pub mod Hops

@@ -4,7 +4,7 @@ use Rattle.std.specs.Prelude.{◌≡◌, ℕ, ◌≤◌, ◌&&◌, Bool, false, 
 use Rattle.std.specs.Option.{option_map_or}
 use Rattle.afdx_frame.specs.declared.link.Side.{Side}
 use Rattle.afdx_frame.specs.Ports.{last_port}
-use Rattle.afdx_config.specs.Lawful.{IsLawful}
+use Rattle.afdx_config.specs.Lawful.{IsLawfulSwitch}
 use Rattle.afdx_config.specs.Rows.{Rows}
 use Rattle.afdx_police.specs.Arrival.{Arrival, is_side, names}
 use Rattle.afdx_port.specs.Classes.{entries_in}
@@ -44,15 +44,15 @@ frames_of vl turns = map (λ e. e.item) (filter (is_of vl) (entries_in turns))
 -- with their tags; others wait
 abbrev pub FramesAreOwn : Type 0
 FramesAreOwn = (t : Rows) (side : Side) (w : Working) (h : SwitchHistory) (port vl : ℕ) →
-    IsLawful t →
+    IsLawfulSwitch t →
     StandsFor t side w h → 1 ≤ port → port ≤ last_port →
     (waiting : List HeldFrame) ×
     (entered t side port vl h.arrivals ≡ frames_of vl (taken_at port h.taken) ++ waiting)
 
 -- and all of them where each entry of the port has had its turn
 abbrev pub AllFramesAreOwn : Type 0
-AllFramesAreOwn = (t : Rows) (side : Side) (h : SwitchHistory) (port vl : ℕ) → IsLawful t →
-    IsDone t side h port →
+AllFramesAreOwn = (t : Rows) (side : Side) (h : SwitchHistory) (port vl : ℕ) →
+    IsLawfulSwitch t → IsDone t side h port →
     entered t side port vl h.arrivals ≡ frames_of vl (taken_at port h.taken)
 
 -- no frame of a link enters a port that it doesn't go to

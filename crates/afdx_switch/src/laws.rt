@@ -2,6 +2,7 @@
 //! stand on them.
 
 ghost use Rattle.afdx_switch.specs.Admitted.{AcceptedIsKept, AcceptedEnter, TurnsAreInTime, AllHaveLeft};
+ghost use Rattle.afdx_switch.specs.Hops.{CopiesAreAccepted, NoCopyIsDropped};
 ghost use Rattle.afdx_switch.specs.Laws.{VerdictsAreOwn, EntriesGrow, TakenAreTurns};
 ghost use Rattle.afdx_switch.specs.Laws.{LinksGoInOrder, OtherSideIsApart, LostPortsAreListed};
 ghost use Rattle.afdx_switch.specs.LinkFrames.{FramesAreOwn, AllFramesAreOwn, OthersGetNone};
@@ -57,4 +58,12 @@ pub fn admitted_switch_keeps_all()
     ensures enter { AcceptedEnter }
     ensures in_time { TurnsAreInTime }
     ensures left { AllHaveLeft }
+{}
+
+/// What one switch accepted of a link is accepted by the next, where it comes there byte for byte
+/// and in order, and the jitter has room for the delay: whatever else comes between, also under
+/// the link's name at other ports.
+pub fn copies_are_accepted()
+    ensures accepted { CopiesAreAccepted }
+    ensures by_tables { NoCopyIsDropped }
 {}

@@ -2,4 +2,4 @@ use Rattle.afdx_bounds.proofs.TableLemmas.{port-of-system}
 use Rattle.afdx_bounds.proofs.laws.ports_are_of_systems.Goals as goal
 
 pub returns : goal.returns
-returns c = port-of-system
+returns c = λ t system s lawful at. port-of-system t system s lawful at

@@ -9,4 +9,4 @@ pub returns-clause-only : goal.returns-clause-only
 returns-clause-only c = receptions-one
 
 pub returns-clause-events : goal.returns-clause-events
-returns-clause-events c = events-bring
+returns-clause-events c = λ t arrivals events port lawful. events-bring t arrivals events port lawful

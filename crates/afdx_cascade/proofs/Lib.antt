@@ -1,0 +1,3 @@
+pub mod CableLemmas
+pub mod WayLemmas
+pub mod ExampleLemmas

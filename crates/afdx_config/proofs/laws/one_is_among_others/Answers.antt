@@ -1,0 +1,8 @@
+use Rattle.afdx_config.proofs.AmongOthersLemmas.{among-others, admitted-serving}
+use Rattle.afdx_config.proofs.laws.one_is_among_others.Goals as goal
+
+pub returns-clause-lawful : goal.returns-clause-lawful
+returns-clause-lawful c = among-others
+
+pub returns-clause-admitted : goal.returns-clause-admitted
+returns-clause-admitted c = admitted-serving
