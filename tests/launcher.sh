@@ -13,13 +13,16 @@ trap 'rm -rf "$room"' EXIT
 passed=0
 failed=0
 
-mkdir -p "$room/house/bin" "$room/house/crates/afdx/src" "$room/house/crates/low/src" "$room/kit"
+mkdir -p "$room/house/bin" "$room/kit"
+for crate in afdx low tests; do
+    mkdir -p "$room/house/crates/$crate/src"
+    touch "$room/house/crates/$crate/src/lib.rt"
+done
 cp "$top/bin/afdx" "$room/house/bin/afdx"
-printf 'low:\nafdx: low\n' >"$room/house/crates.txt"
-touch "$room/house/crates/afdx/src/main.rt" "$room/house/crates/low/src/lib.rt"
+printf 'low: toml\ntests: afdx low\nafdx: low clap\n' >"$room/house/crates.txt"
 cat >"$room/kit/rt" <<'RT'
 #!/usr/bin/env bash
-echo "rt $*" >>"$CALLS"
+echo "$(basename "$PWD"): $1" >>"$CALLS"
 case $1 in
 all)
     [[ ! -e $BROKEN ]] || { echo 'not proved'; exit 1; }
@@ -53,10 +56,11 @@ expect() { # NAME, TEST.. : passes where the test holds
     fi
 }
 
-called() { [[ $(cut -d ' ' -f 1-2 "$CALLS" | tr '\n' ' ') == "$1" ]]; }
+called() { [[ $(tr '\n' ';' <"$CALLS") == "$1" ]]; }
+both='afdx: all;afdx: run;'
 
 launch police --help
-expect 'the first call proves all crates and builds' called 'rt all rt run '
+expect 'the first call proves what the program stands on, and builds' called "$both"
 expect 'it ends as the program does' [ "$status" = 3 ]
 expect 'standard output is the program'"'"'s alone' cmp -s "$room/out" <(echo 'ran police --help')
 expect 'it says how far it is' grep -q '^afdx: checked low: 1 of 2, after' "$room/err"
@@ -66,10 +70,10 @@ expect 'and says nothing' [ ! -s "$room/err" ]
 sleep 0.01
 touch "$room/house/crates/low/src/lib.rt"
 launch check
-expect 'after an edit it builds again' called 'rt all rt run '
+expect 'after an edit it builds again' called "$both"
 rm "$room/house/crates/low/src/lib.rt"
 launch check
-expect 'after a file was deleted it builds again' called 'rt all rt run '
+expect 'after a file was deleted it builds again' called "$both"
 touch "$room/house/crates/low/src/lib.rt" "$BROKEN"
 launch check
 expect 'where a crate is not proved the status is 70' [ "$status" = 70 ]
