@@ -1,30 +1,18 @@
 -- The lawful stream of a link: what its sender gives to both networks.
 use Rattle.std.specs.Prelude.{◌≡◌, ℕ, ◌+◌, ◌≤◌, List, length, slice_get, Some}
 use Rattle.afdx_frame.specs.declared.link.Side.TheVariants.{A, B}
-use Rattle.afdx_frame.specs.declared.builder.Address.{Address}
 use Rattle.afdx_frame.specs.Grammar.{Built}
 use Rattle.afdx_frame.specs.Regulation.{bag, jitter}
 use Rattle.afdx_config.specs.Rows.{SystemRow, LinkRow}
 use Rattle.afdx_config.specs.Flows.{regulation_of_link}
 use Rattle.afdx_config.specs.Lawful.{IsWithin}
-use Rattle.afdx_config.specs.SentList.{Message, Sent, sent_at}
+use Rattle.afdx_config.specs.SentList.{Message, Sent, sent_at, address_of, AreSendable}
 
 -- a frame that was sent: the moment, in ns, and its bytes on each network
 pub record Sending : Type 0 where
   pub time : ℕ
   pub a : List ℕ
   pub b : List ℕ
-
--- where the builder takes a link's frames from and to: both UDP ports are the message's
-abbrev pub address_of : SystemRow → LinkRow → Message → Address
-address_of s l m = record {
-  vl = record { 0 = l.vl };
-  system_id = s.id;
-  partition = s.partition;
-  from_udp = m.udp;
-  to_udp = m.udp;
-  least = l.lmin;
-}
 
 -- the two frames are built of one message of the sent list, and of a length that the link may have
 pub record IsSent (s : SystemRow) (l : LinkRow) (x : Sent) (y : Sending) : Type 0 where
@@ -34,12 +22,14 @@ pub record IsSent (s : SystemRow) (l : LinkRow) (x : Sent) (y : Sending) : Type 
   pub b_length : IsWithin l.lmin l.lmax (length y.b)
 
 -- There are moments, each a gap or more after the one before. The k-th frame is sent at or after
--- the k-th moment, at most the link's jitter later, and carries the k-th message of the sent list.
+-- the k-th moment, at most the link's jitter later, and carries the k-th message of the sent list,
+-- each of which can be built.
 pub record IsLawfulStream (s : SystemRow) (l : LinkRow) (messages : List Message)
     (stream : List Sending) : Type 0 where
   pub moments : List ℕ
   pub moment_count : length moments ≡ length stream
   pub message_count : length messages ≡ length stream
+  pub sendable : AreSendable s l messages
   pub apart : (k r later : ℕ) → slice_get moments k ≡ Some r →
       slice_get moments (k + 1) ≡ Some later → r + bag (regulation_of_link l) ≤ later
   pub shaped : (k r : ℕ) (y : Sending) → slice_get moments k ≡ Some r →

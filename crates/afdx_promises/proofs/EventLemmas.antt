@@ -25,7 +25,7 @@ use Rattle.afdx_switch.specs.HeldFrames.{HeldFrame}
 use Rattle.afdx_switch.specs.Tables.{byte_ns_at, entries_at}
 use Rattle.afdx_network.specs.Events.{Event, Came, Left, Admission, Departure, departure_with}
 use Rattle.afdx_network.specs.Events.{admission_after, admissions, turns_on, turns_at}
-use Rattle.afdx_network.specs.Events.{departures_of, departures}
+use Rattle.afdx_network.specs.Events.{departures_of, departures, all_events}
 use Rattle.afdx_network.specs.Order.{side_number, phase_of, key, is_below, is_before, IsAmong}
 use Rattle.afdx_network.specs.Order.{AreInOrder, AreEvents, AreEventsSoFar, is_told_by, events_of}
 use Rattle.afdx_network.specs.Order.{events_so_far}
@@ -372,11 +372,11 @@ events-bring t arrivals events port lawful timed low high are = record {
 -- ---- the promises of events
 
 -- an admission is that of an arrival after those before it
-record IsAdmission (t : Rows) (arrivals : List Arrival) (c : Admission) : Type 0 where
-  later : List Arrival
-  past : List Arrival
-  came : arrivals ≡ later ++ c.arrival ∷ past
-  is : c ≡ admission_after t past c.arrival
+pub record IsAdmission (t : Rows) (arrivals : List Arrival) (c : Admission) : Type 0 where
+  pub later : List Arrival
+  pub past : List Arrival
+  pub came : arrivals ≡ later ++ c.arrival ∷ past
+  pub is : c ≡ admission_after t past c.arrival
 
 admission-of : (t : Rows) (arrivals : List Arrival) (c : Admission)
     → IsAmong (Came c) (admissions t arrivals) → IsAdmission t arrivals c
@@ -394,6 +394,18 @@ admission-of t (x ∷ past) c (inl same) =
     }
 admission-of t (x ∷ past) c (inr rest) = let a = admission-of t past c rest in
     record { later = x ∷ a.later; past = a.past; came = ap (λ zs. x ∷ zs) a.came; is = a.is }
+
+pub came-of : (t : Rows) (arrivals : List Arrival) (c : Admission)
+    → IsAmong (Came c) (all_events t arrivals) → IsAdmission t arrivals c
+came-of t arrivals c among = by (is-either t arrivals (Came c) among)
+  where
+    by : IsAmong (Came c) (admissions t arrivals)
+        ⊎ ((side : Side) × IsAmong (Came c) (departures t side arrivals)) → IsAdmission t arrivals c
+    by (inl own) = admission-of t arrivals c own
+    by (inr left) =
+        let at = at-port-of t left.0 arrivals (Came c) left.1 in
+        let r = turn-of left.0 at.port (turns_at t left.0 at.port arrivals) (Came c) at.among in
+        absurd (let is = r.is in cc is)
 
 none-lost : (p : ℕ → Bool) (ports : List ℕ) → ((port : ℕ) → p port ≡ false) → filter p ports ≡ []
 none-lost p [] none = refl
@@ -452,26 +464,26 @@ no-left t [] d h = h
 no-left t (x ∷ past) d (inl same) = cc same
 no-left t (x ∷ past) d (inr rest) = no-left t past d rest
 
+-- what has left a port are its turns
+pub taken-at-port : {greatest_jitter : ℕ → ℕ} (t : Rows) (arrivals : List Arrival) (events : List Event)
+    (side : Side) (port : ℕ) → IsLawfulUpTo greatest_jitter t → AreTimed arrivals → 1 ≤ port → port ≤ 24
+    → AreEvents t arrivals events → taken_at port (turns_on side events) ≡ turns_at t side port arrivals
+taken-at-port t arrivals events side port lawful timed low high are =
+    taken-in side port events
+    ∙ ap turns_in (at-port-are t arrivals events side port lawful timed low high are)
+    ∙ turns-back side port (turns_at t side port arrivals)
+
 pub as-promised : EventsAreAsPromised
 as-promised t arrivals events run are = record {
   admissions = admitted;
   departures = in_time;
-  turns = λ side port low high. taken-in side port events
-      ∙ ap turns_in (at-port-are t arrivals events side port run.lawful run.timed low high are)
-      ∙ turns-back side port (turns_at t side port arrivals);
+  turns = λ side port low high.
+      taken-at-port t arrivals events side port run.lawful run.timed low high are;
   receptions = λ port low high. events-bring t arrivals events port run.lawful run.timed low high are;
 }
   where
-    came-of : (c : Admission) → IsAmong (Came c) (admissions t arrivals)
-        ⊎ ((side : Side) × IsAmong (Came c) (departures t side arrivals)) → IsAdmission t arrivals c
-    came-of c (inl own) = admission-of t arrivals c own
-    came-of c (inr left) =
-        let at = at-port-of t left.0 arrivals (Came c) left.1 in
-        let r = turn-of left.0 at.port (turns_at t left.0 at.port arrivals) (Came c) at.among in
-        absurd (let is = r.is in cc is)
-
     admitted : (c : Admission) → IsAmong (Came c) events → IsAsPromised t arrivals c
-    admitted c h = promised t arrivals c run (came-of c (is-either t arrivals (Came c) (are.own (Came c) h)))
+    admitted c h = promised t arrivals c run (came-of t arrivals c (are.own (Came c) h))
 
     left-of : (d : Departure) → IsAmong (Left d) (admissions t arrivals)
         ⊎ ((side : Side) × IsAmong (Left d) (departures t side arrivals)) → IsInTime t d.turn
@@ -530,7 +542,7 @@ so-far-is t arrivals events are =
     (first.0, first.1 ∙ ap (λ es. first.0 ++ es) (sym (one-order-so-far t arrivals events are)))
 
 -- what has left a port is the beginning of its turns
-taken-so-far : {greatest_jitter : ℕ → ℕ} (t : Rows) (arrivals : List Arrival) (events : List Event) (side : Side) (port : ℕ)
+pub taken-so-far : {greatest_jitter : ℕ → ℕ} (t : Rows) (arrivals : List Arrival) (events : List Event) (side : Side) (port : ℕ)
     → IsLawfulUpTo greatest_jitter t → AreTimed arrivals → 1 ≤ port → port ≤ 24 → AreEventsSoFar t arrivals events →
     (later : List (Turn HeldFrame)) × (turns_at t side port arrivals ≡ later ++ taken_at port (turns_on side events))
 taken-so-far t arrivals events side port lawful timed low high are =

@@ -30,11 +30,11 @@ use Rattle.afdx_frame.specs.declared.link.Side.TheVariants.{A, B}
 use Rattle.afdx_config.specs.Admission.{IsAdmitted, byte_ns, flows_to, sender_jitter, links_from}
 use Rattle.afdx_config.specs.Lawful.{IsLawful, AreDistinct, triple}
 use Rattle.afdx_config.specs.declared.rows.Kind.TheVariants.{Sampling}
-use Rattle.afdx_config.specs.LawfulStream.{Sending, IsSent, address_of}
+use Rattle.afdx_config.specs.LawfulStream.{Sending, IsSent}
 use Rattle.afdx_config.specs.Reading.{is_name, are_apart, has_port}
 use Rattle.afdx_config.specs.Reading as reading
 use Rattle.afdx_config.specs.Rows.{SystemRow, LinkRow}
-use Rattle.afdx_config.specs.SentList.{Message, Sent, sent_at}
+use Rattle.afdx_config.specs.SentList.{Message, Sent, sent_at, address_of, CanBeSent}
 use Rattle.afdx_police.specs.Arrival.{Arrival, names, own}
 use Rattle.afdx_switch.specs.Admitted.{IsAdmittedRun, passing, passing_in, accepted_on}
 use Rattle.afdx_switch.specs.Admitted.{accepted_frames, frames_left, AreInTime}
@@ -313,16 +313,13 @@ is-stream : BuiltIsComputed → (latency : ℕ)
 is-stream computed latency = record {
   sender = sender;
   stands = refl;
-  sendable = record {
-    buildable = two-at (λ k (m : Message). Buildable (address_of sender link m) m.payload) heard
-        unheard heard-buildable unheard-buildable;
-    bytes = two-at (λ k (m : Message). AreBytes m.payload) heard unheard (one-byte 7 (omega arith))
-        (one-byte 8 (omega arith));
-  };
   lawful = record {
     moments = 0 ∷ 1000000 ∷ [];
     moment_count = refl;
     message_count = refl;
+    sendable = two-at (λ k (m : Message). CanBeSent sender (link_with latency) m) heard unheard
+        (record { buildable = heard-buildable; bytes = one-byte 7 (omega arith) })
+        (record { buildable = unheard-buildable; bytes = one-byte 8 (omega arith) });
     apart = apart;
     shaped = shaped;
     sent = sent computed latency;
@@ -475,7 +472,7 @@ is-broken computed keeps =
     let at_port : AreFirstOf A stream (at_port (rule_of t l) (own 1 A one)) =
     subst (AreFirstOf A stream) (sym (one-a computed)) (first-sending, tt) in
     let accepted : accepted_on t l A one ≡ one =
-    (accepted-stream t stream_is.sender l (heard ∷ unheard ∷ []) stream stream_is.sendable
+    (accepted-stream t stream_is.sender l (heard ∷ unheard ∷ []) stream
     stream_is.lawful computed A (own 1 A one) at_port).arrivals ∙ one-a computed in
     let goes : goes_to t l 2 ≡ true = goes-there t 1 receiver l lawful refl refl in
     let all : frames_left 1 turns ≡ map passing (reverse one) =

@@ -8,6 +8,8 @@ pub mod StreamLemmas
 pub mod OnceLemmas
 pub mod EventLemmas
 pub mod LineLemmas
+pub mod AcceptedLemmas
+pub mod DefinitionLemmas
 pub mod HeadlineLemmas
 pub mod HeardLemmas
 pub mod ToldLemmas

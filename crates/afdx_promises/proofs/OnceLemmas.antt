@@ -258,7 +258,7 @@ module _ (computed : BuiltIsComputed) (t : Rows) (arrivals : List Arrival) (syst
   copies-on side =
       let turns = turns_at t side s.port arrivals in
       let accepted : accepted_on t l side arrivals ≡ at_own_port t l side arrivals =
-      (accepted-stream t is.sender l messages stream is.sendable is.lawful computed side
+      (accepted-stream t is.sender l messages stream is.lawful computed side
       (own l.vl side arrivals) (sent side)).arrivals in
       let left : frames_among l.vl (entries_back (slots turns)) ≡ map passing (at_own_port t l side arrivals) =
       left-back t arrivals side s.port place l run at
@@ -269,7 +269,7 @@ module _ (computed : BuiltIsComputed) (t : Rows) (arrivals : List Arrival) (syst
       (its-turns t side s.port arrivals run.timed).each_next
       (in-time t arrivals side s.port place l run at)) in
       let copies = copies-by-slots l.vl (1000 * l.latency_us) side stream
-      (λ k y at_y. (sending-is computed is.sender l messages stream is.sendable is.lawful side k
+      (λ k y at_y. (sending-is computed is.sender l messages stream is.lawful side k
       y at_y).frame)
       (slots turns) (at_own_port t l side arrivals) (sent side) ends left in
       subst (Copies (1000 * l.latency_us) stream (length (at_own_port t l side arrivals)))
@@ -288,7 +288,7 @@ module _ (computed : BuiltIsComputed) (t : Rows) (arrivals : List Arrival) (syst
       ∙ ap reverse (messages-delivered (1000 * l.skew_us) (has_port t.ports system l.vl) (frames_of l.vl came))
       ∙ stream_delivered_once computed (length t.systems) is.sender l messages stream
       (has_port t.ports system l.vl) (frames_of l.vl came) link (run.admitted.skews place l at)
-      is.sendable is.lawful copies
+      is.lawful copies
       ∙ ap (λ n. filter (λ (m : Message). has_port t.ports system l.vl m.udp)
       (take (max n (count_of B (frames_of l.vl came))) messages)) (copies-on A).counted
       ∙ ap (λ n. filter (λ (m : Message). has_port t.ports system l.vl m.udp)

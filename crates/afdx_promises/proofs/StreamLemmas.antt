@@ -13,10 +13,10 @@ use Rattle.afdx_frame.specs.Parts.{frame_of}
 use Rattle.afdx_frame.specs.Reading.{IsTheFrame, BuiltIsComputed}
 use Rattle.afdx_frame.specs.Regulation.{Regulation, bag}
 use Rattle.afdx_config.specs.Lawful.{IsWithin}
-use Rattle.afdx_config.specs.LawfulStream.{Sending, IsSent, IsLawfulStream, address_of}
+use Rattle.afdx_config.specs.LawfulStream.{Sending, IsSent, IsLawfulStream}
 use Rattle.afdx_config.specs.Numbers.{after_steps}
 use Rattle.afdx_config.specs.Rows.{SystemRow, LinkRow, Rows}
-use Rattle.afdx_config.specs.SentList.{Message, Sent}
+use Rattle.afdx_config.specs.SentList.{Message, Sent, address_of}
 use Rattle.afdx_config.specs.Flows.{regulation_of_link}
 use Rattle.afdx_police.specs.Arrival.{Arrival, own}
 use Rattle.afdx_police.specs.Rule.{Rule, regulation_of}
@@ -24,7 +24,7 @@ use Rattle.afdx_police.specs.Shape.{IsSound}
 use Rattle.afdx_police.specs.Stream.{IsRegular}
 use Rattle.afdx_police.specs.Verdicts.{charged_by}
 use Rattle.afdx_police.proofs.ShapeLemmas.{sound-charged}
-use Rattle.afdx_receive.specs.Copies.{copy_on, AreSendable}
+use Rattle.afdx_receive.specs.Copies.{copy_on}
 use Rattle.afdx_receive.proofs.StreamLemmas.{steps_low}
 use Rattle.afdx_switch.specs.Regular.{at_port, AreSound}
 use Rattle.afdx_switch.proofs.RegularLemmas.{AreAccepted, accepted-at, regular-reason}
@@ -48,9 +48,9 @@ built-on s l x y B sent = (sent.b, sent.b_length)
 
 pub sending-is : BuiltIsComputed
     → (s : SystemRow) (l : LinkRow) (messages : List Message) (stream : List Sending)
-    → AreSendable s l messages → IsLawfulStream s l messages stream →
+    → IsLawfulStream s l messages stream →
     (side : Side) (k : ℕ) (y : Sending) → slice_get stream k ≡ Some y → IsSendable l (copy_on side y)
-sending-is computed s l messages stream sendable lawful side k y at =
+sending-is computed s l messages stream lawful side k y at =
     let within : k < length stream = slice_get_within stream k y at in
     let none : Message = record { udp = 0; payload = [] } in
     let m : Message = get_or messages k none in
@@ -63,7 +63,8 @@ sending-is computed s l messages stream sendable lawful side k y at =
     (ap (option_map (λ (o : Message). record { message = o; number = number })) at_m) at in
     let the : IsTheFrame (address_of s l m) number side m.payload
     (built_frame (address_of s l m) number side m.payload) =
-    computed (address_of s l m) number side m.payload (sendable.buildable k m at_m) (sendable.bytes k m at_m) low in
+    computed (address_of s l m) number side m.payload (lawful.sendable k m at_m).buildable
+    (lawful.sendable k m at_m).bytes low in
     let built = built-on s l (record { message = m; number = number }) y side sent in
     let bytes : copy_on side y ≡ built_frame (address_of s l m) number side m.payload =
     the.only_one (copy_on side y) built.0 in
@@ -103,13 +104,13 @@ unfolding rule_of
 regulated-as t l = refl
 
 module _ (t : Rows) (s : SystemRow) (l : LinkRow) (messages : List Message) (stream : List Sending)
-    (sendable : AreSendable s l messages) (lawful : IsLawfulStream s l messages stream)
-    (computed : BuiltIsComputed) (side : Side) where
+    (lawful : IsLawfulStream s l messages stream) (computed : BuiltIsComputed)
+    (side : Side) where
   sendings-sound : (xs : List Arrival) → AreFirstOf side stream xs
       → AllByRecursion (λ x. (rule_of t l).port ≡ x.port) xs → AreSound (rule_of t l) xs
   sendings-sound [] are here = tt
   sendings-sound (x ∷ past) are here =
-      let is = sending-is computed s l messages stream sendable lawful side (length past)
+      let is = sending-is computed s l messages stream lawful side (length past)
       are.0.sending are.0.at_place in (
         sendable-sound t l x.port x.bytes (subst (IsSendable l) (sym are.0.bytes) is) here.0,
         sendings-sound past are.1 here.1,
@@ -179,9 +180,9 @@ module _ (t : Rows) (s : SystemRow) (l : LinkRow) (messages : List Message) (str
 
 pub stream-is-regular : BuiltIsComputed → StreamIsRegular
 stream-is-regular computed t arrivals side l messages stream is sendings =
-    let sound = stream-at t is.sender l messages stream is.sendable is.lawful computed side
+    let sound = stream-at t is.sender l messages stream is.lawful computed side
     (own l.vl side arrivals) sendings in
-    let regular = stream-regular t is.sender l messages stream is.sendable is.lawful computed side
+    let regular = stream-regular t is.sender l messages stream is.lawful computed side
     (at_port (rule_of t l) (own l.vl side arrivals)) sendings sound in
     record { sound = sound; next = regular.0; regular = regular.1 }
 

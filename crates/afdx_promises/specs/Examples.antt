@@ -7,9 +7,9 @@ use Rattle.afdx_frame.specs.declared.link.Priority.TheVariants.{High}
 use Rattle.afdx_frame.specs.declared.link.Side.{Side}
 use Rattle.afdx_frame.specs.declared.link.Side.TheVariants.{A, B}
 use Rattle.afdx_config.specs.Lawful.{IsLawful}
-use Rattle.afdx_config.specs.LawfulStream.{Sending, address_of}
+use Rattle.afdx_config.specs.LawfulStream.{Sending}
 use Rattle.afdx_config.specs.Rows.{SystemRow, LinkRow, Rows, is_to}
-use Rattle.afdx_config.specs.SentList.{Message}
+use Rattle.afdx_config.specs.SentList.{Message, address_of}
 use Rattle.afdx_config.specs.declared.rows.Kind.TheVariants.{Sampling}
 use Rattle.afdx_police.specs.Arrival.{Arrival, arrival_with}
 use Rattle.afdx_receive.specs.Arrivals.{Arrived}

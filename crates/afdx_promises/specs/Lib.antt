@@ -3,6 +3,7 @@ pub mod Receptions
 pub mod Streams
 pub mod NetworkPromises
 pub mod Lines
+pub mod ByDefinition
 pub mod WindowRule
 pub mod Promises
 pub mod Sent

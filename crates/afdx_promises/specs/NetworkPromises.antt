@@ -22,7 +22,6 @@ use Rattle.afdx_switch.specs.HeldFrames.{HeldFrame}
 use Rattle.afdx_switch.specs.Tables.{rule_of, goes_to, byte_ns_at, entries_at}
 use Rattle.afdx_switch.specs.Verdicts.{reason_of, is_lost_at}
 use Rattle.afdx_receive.specs.Arrivals.{Arrived, frames_of}
-use Rattle.afdx_receive.specs.Copies.{AreSendable}
 use Rattle.afdx_network.specs.Events.{Event, Came, Left, Admission, Departure, admission_after, turns_at, turns_on}
 use Rattle.afdx_promises.specs.Ports.{AreItsTurns}
 use Rattle.afdx_network.specs.Order.{IsAmong, AreEvents, AreEventsSoFar}
@@ -123,7 +122,6 @@ pub record IsStreamOf (t : Rows) (l : LinkRow) (messages : List Message)
     (stream : List Sending) : Type 0 where
   pub sender : SystemRow
   pub stands : slice_get t.systems l.from ≡ Some sender
-  pub sendable : AreSendable sender l messages
   pub lawful : IsLawfulStream sender l messages stream
 
 -- where it comes to its sender's port, the link's own arrivals there keep the link's gap

@@ -12,11 +12,12 @@ use Rattle.afdx_frame.specs.declared.link.Side.TheVariants.{A, B}
 use Rattle.afdx_frame.specs.Ports.{last_port}
 use Rattle.afdx_config.specs.LawfulStream.{Sending}
 use Rattle.afdx_config.specs.Reading.{has_port, system_at_port}
-use Rattle.afdx_config.specs.Lawful.{IsLawful}
+use Rattle.afdx_config.specs.Lawful.{IsLawful, IsLawfulSwitch}
 use Rattle.afdx_config.specs.Rows.{SystemRow, LinkRow, Rows, is_to}
 use Rattle.afdx_config.specs.SentList as sent
 use Rattle.afdx_police.specs.Arrival.{Arrival, names, own}
 use Rattle.afdx_police.specs.Shape.{fault_of}
+use Rattle.afdx_bounds.specs.Outputs.{AreTimed}
 use Rattle.afdx_receive.specs.Answers.{Answer}
 use Rattle.afdx_receive.specs.Arrivals.{frames_of}
 use Rattle.afdx_switch.specs.Admitted.{IsAdmittedRun, Passing, passing}
@@ -132,6 +133,20 @@ pub record KeepsPromisesSoFar (t : Rows) (arrivals : List Arrival) (lines : List
   pub latency : AllLeaveInTime t lines
   pub receptions : AreReceived t lines
 
+-- ---- a lawful stream is accepted
+
+-- Where the arrivals on a side that name a link and come at its sender's port are the first frames
+-- of a lawful stream of the link, the verdict on each of them is accept, whatever else comes, also
+-- under this link's name at other ports.
+abbrev pub StreamsAreAccepted : Rows → List Arrival → List Line → Type 0
+StreamsAreAccepted t arrivals lines =
+    (side : Side) (place : ℕ) (l : LinkRow) (messages : List sent.Message)
+    (stream : List Sending) →
+    slice_get t.links place ≡ Some l → IsStreamOf t l messages stream →
+    AreFirstOf side stream (at_own_port t l side arrivals) →
+    (v : Judged) → IsIn v (verdicts_on l.vl side lines) → (rule_of t l).port ≡ v.arrival.port →
+    v.reason ≡ None
+
 -- ---- exactly once
 
 -- Where both sides are fed with one lawful stream of a link, the M lines of each receiver of the
@@ -178,6 +193,17 @@ PromisesAreKept = (t : Rows) (arrivals : List Arrival) → IsAdmittedRun t arriv
 abbrev pub PromisesAreKeptSoFar : Type 0
 PromisesAreKeptSoFar = (t : Rows) (arrivals : List Arrival) → IsAdmittedRun t arrivals →
     KeepsPromisesSoFar t arrivals (told_so_far t arrivals)
+
+-- of any tables, admitted or not
+abbrev pub StreamsAreToldAccepted : Type 0
+StreamsAreToldAccepted = (t : Rows) (arrivals : List Arrival) → IsLawfulSwitch t →
+    AreTimed arrivals →
+    StreamsAreAccepted t arrivals (told t arrivals)
+
+abbrev pub StreamsAreToldAcceptedSoFar : Type 0
+StreamsAreToldAcceptedSoFar = (t : Rows) (arrivals : List Arrival) → IsLawfulSwitch t →
+    AreTimed arrivals →
+    StreamsAreAccepted t arrivals (told_so_far t arrivals)
 
 abbrev pub MessagesAreToldOnce : Type 0
 MessagesAreToldOnce = (t : Rows) (arrivals : List Arrival) → IsLawful t →

@@ -11,7 +11,7 @@ use Rattle.afdx_config.specs.Reading.{has_port}
 use Rattle.afdx_config.specs.Rows.{SystemRow, LinkRow, Rows, is_to}
 use Rattle.afdx_police.specs.Arrival.{Arrival, is_side}
 use Rattle.afdx_port.specs.Schedule.{Turn}
-use Rattle.afdx_receive.specs.Copies.{copy_on, AreSendable}
+use Rattle.afdx_receive.specs.Copies.{copy_on}
 use Rattle.afdx_send.specs.Emissions.{AreSendings, own, sent_list}
 use Rattle.afdx_send.specs.Frames.{Frame, address_with}
 use Rattle.afdx_send.specs.Laws.{EmitsLawfully}
@@ -96,7 +96,6 @@ ReleasedAreToldOnce = (t : Rows) (arrivals : List Arrival) (lines : List Line) (
     slice_get t.systems l.from ≡ Some h.system → AllByRecursion (IsBuildable h.system) h.emitted →
     IsMerged h.system h.emitted arrivals →
     (e : EmitsLawfully h at l (stream_of h.system l.vl h.emitted)) →
-    AreSendable h.system l (sent_list (own at e.released)) →
     reverse (messages_told system l.vl lines)
     ≡ filter (λ m. has_port t.ports system l.vl m.udp) (sent_list (own at e.released))
 
@@ -116,7 +115,6 @@ ReleasedAreToldSoFar = (t : Rows) (arrivals : List Arrival) (lines : List Line) 
     slice_get t.systems l.from ≡ Some h.system → AllByRecursion (IsBuildable h.system) h.emitted →
     IsMergedSoFar h.system h.emitted arrivals →
     (e : EmitsLawfully h at l (stream_of h.system l.vl h.emitted)) →
-    AreSendable h.system l (sent_list (own at e.released)) →
     reverse (messages_told system l.vl lines)
     ≡ filter (λ m. has_port t.ports system l.vl m.udp)
     (take (most_come t l arrivals) (sent_list (own at e.released)))

@@ -1,10 +1,11 @@
 //! What a network whose tables are admitted promises, whatever arrives at its switches.
 
+ghost use Rattle.afdx_promises.specs.ByDefinition.{EventsAreByDefinition, EventsSoFarAreByDefinition};
 ghost use Rattle.afdx_promises.specs.Examples.{PremisesAreMet, AdmissionIsNeeded, TimesAreNeeded};
 ghost use Rattle.afdx_promises.specs.NetworkPromises.{PortsAreAsPromised, LeftSoFarAreFirst, ReceptionsAreOne, ReceptionsExist, EventsBringReceptions, LinksAreApart, StreamIsRegular, StreamIsAccepted, MessagesComeSoFar, MessagesComeOnce, EventsAreAsPromised, EventsSoFarAreAsPromised};
 ghost use Rattle.afdx_promises.specs.Sent.{SentIsFed, StreamIsOfSendings, ReleasedAreToldOnce};
 ghost use Rattle.afdx_promises.specs.Sent.{ReleasedAreToldSoFar, OneSideIsEnough};
-ghost use Rattle.afdx_promises.specs.Promises.{PromisesAreKept, PromisesAreKeptSoFar, MessagesAreToldOnce, MessagesAreToldOnceSoFar};
+ghost use Rattle.afdx_promises.specs.Promises.{PromisesAreKept, PromisesAreKeptSoFar, MessagesAreToldOnce, MessagesAreToldOnceSoFar, StreamsAreToldAccepted, StreamsAreToldAcceptedSoFar};
 
 use afdx_frame::laws::built_is_computed;
 
@@ -52,6 +53,15 @@ pub fn events_are_as_promised()
     ensures so_far { EventsSoFarAreAsPromised }
 {}
 
+/// Also where tables aren't admitted, events are those of the definition: each verdict, each copy
+/// that is lost, each entry of a port, and its turns, which are the one schedule of its entries.
+///
+/// And so are those up to the last arrival: the turns of each port so far begin its schedule.
+pub fn events_are_by_definition()
+    ensures all { EventsAreByDefinition }
+    ensures so_far { EventsSoFarAreByDefinition }
+{}
+
 /// What comes to a receiver is one list: what left its port on both sides, by time, at one time
 /// side A first. It is what the one order of all events brings.
 pub fn receptions_are_one()
@@ -68,9 +78,14 @@ pub fn links_are_apart()
 
 /// A link's lawful stream at its sender's port is what a switch's `arrive` accepts by its clause
 /// `regular`: it is sound and keeps the link's gap. So it is accepted, whatever else comes.
+///
+/// So, of the lines that tell all events, or those up to the last arrival, each verdict on it there
+/// is accept.
 pub fn stream_is_accepted()
     ensures regular { StreamIsRegular }
     ensures accepted { StreamIsAccepted }
+    ensures told { StreamsAreToldAccepted }
+    ensures told_so_far { StreamsAreToldAcceptedSoFar }
 {
     built_is_computed()
 }

@@ -17,12 +17,12 @@ use Rattle.afdx_config.specs.Numbers.{after_steps}
 use Rattle.afdx_config.specs.Rows.{SystemRow, LinkRow}
 use Rattle.afdx_config.specs.Lawful.{IsLink}
 use Rattle.afdx_config.specs.Flows.{regulation_of_link}
-use Rattle.afdx_config.specs.SentList.{Message, Sent}
-use Rattle.afdx_config.specs.LawfulStream.{Sending, IsSent, IsLawfulStream, address_of}
+use Rattle.afdx_config.specs.SentList.{Message, Sent, address_of}
+use Rattle.afdx_config.specs.LawfulStream.{Sending, IsSent, IsLawfulStream}
 use Rattle.afdx_receive.specs.Integrity.{Incoming}
 use Rattle.afdx_receive.specs.TwoStreams.{count_of, AreTwoStreams}
 use Rattle.afdx_receive.specs.Delivery.{delivered, CarriesSent, AllCarrySent}
-use Rattle.afdx_receive.specs.Copies.{copy_on, IsNextCopy, AreCopies, AreSendable}
+use Rattle.afdx_receive.specs.Copies.{copy_on, IsNextCopy, AreCopies}
 use Rattle.afdx_receive.proofs.StreamLemmas.{steps_low}
 use Rattle.afdx_receive.proofs.CopyLemmas.{IsSpaced, near, soon}
 use Rattle.afdx_receive.proofs.DeliveryLemmas.{delivered_once}
@@ -58,10 +58,9 @@ same_parts p q bytes e f = ap (λ (r : FrameParts). r.number) (same (frame_of by
 copy_of : BuiltIsComputed
     → (s : SystemRow) (l : LinkRow) (messages : List Message) (stream : List Sending)
     → IsLawfulStream s l messages stream →
-    AreSendable s l messages →
     (latency : ℕ) (before : List Incoming) (frame : Incoming)
     → IsNextCopy latency stream before frame → IsCopyOf messages (count_of frame.side before) frame
-copy_of computed s l messages stream lawful sendable latency before frame copy =
+copy_of computed s l messages stream lawful latency before frame copy =
     let place : ℕ = count_of frame.side before in
     let within : place < length stream = slice_get_within stream place copy.sending copy.at_place in
     let none : Message = record { udp = 0; payload = [] } in
@@ -75,8 +74,8 @@ copy_of computed s l messages stream lawful sendable latency before frame copy =
     (ap (option_map (λ (o : Message). record { message = o; number = number })) at_place) copy.at_place in
     let the : IsTheFrame (address_of s l m) number frame.side m.payload
     (built_frame (address_of s l m) number frame.side m.payload) =
-    computed (address_of s l m) number frame.side m.payload (sendable.buildable place m at_place)
-    (sendable.bytes place m at_place) low in
+    computed (address_of s l m) number frame.side m.payload
+    (lawful.sendable place m at_place).buildable (lawful.sendable place m at_place).bytes low in
     let bytes : frame.bytes ≡ built_frame (address_of s l m) number frame.side m.payload =
     copy.bytes ∙ the.only_one (copy_on frame.side copy.sending)
     (built_copy s l (record { message = m; number = number }) copy.sending frame.side sent) in
@@ -95,13 +94,13 @@ copy_of computed s l messages stream lawful sendable latency before frame copy =
 two_streams : BuiltIsComputed
     → (systems : ℕ) (s : SystemRow) (l : LinkRow) (messages : List Message) (stream : List Sending)
     → IsLink systems l →
-    l.latency_us ≤ l.skew_us → AreSendable s l messages →
+    l.latency_us ≤ l.skew_us →
     IsLawfulStream s l messages stream → (came : List Incoming) → AreCopies (1000 * l.latency_us) stream came →
     AreTwoStreams (1000 * l.skew_us) came × AllCarrySent messages came
-two_streams computed systems s l messages stream link fast sendable lawful [] copies = (tt, tt)
-two_streams computed systems s l messages stream link fast sendable lawful (frame ∷ before) copies =
-    let older = two_streams computed systems s l messages stream link fast sendable lawful before copies.1 in
-    let this = copy_of computed s l messages stream lawful sendable (1000 * l.latency_us) before frame copies.0 in
+two_streams computed systems s l messages stream link fast lawful [] copies = (tt, tt)
+two_streams computed systems s l messages stream link fast lawful (frame ∷ before) copies =
+    let older = two_streams computed systems s l messages stream link fast lawful before copies.1 in
+    let this = copy_of computed s l messages stream lawful (1000 * l.latency_us) before frame copies.0 in
     let moments = spaced s l messages stream lawful in
     let small : jitter (regulation_of_link l) ≤ bag (regulation_of_link l) = omega (arith, link.jitter_us.1) in
     let wide : 1000000 ≤ bag (regulation_of_link l) = omega (arith, gap_some l.bag_ms link.bag_ms) in
@@ -124,11 +123,10 @@ pub stream_delivered_once : BuiltIsComputed
     → (systems : ℕ) (s : SystemRow) (l : LinkRow) (messages : List Message) (stream : List Sending)
     (is_open : ℕ → Bool)
     (came : List Incoming) →
-    IsLink systems l → l.latency_us ≤ l.skew_us → AreSendable s l messages
-    → IsLawfulStream s l messages stream → AreCopies (1000 * l.latency_us) stream came →
+    IsLink systems l → l.latency_us ≤ l.skew_us → IsLawfulStream s l messages stream → AreCopies (1000 * l.latency_us) stream came →
     reverse (delivered (1000 * l.skew_us) is_open came)
     ≡ filter (λ (m : Message). is_open m.udp)
     (take (max (count_of A came) (count_of B came)) messages)
-stream_delivered_once computed systems s l messages stream is_open came link fast sendable lawful copies =
-    let both = two_streams computed systems s l messages stream link fast sendable lawful came copies in
+stream_delivered_once computed systems s l messages stream is_open came link fast lawful copies =
+    let both = two_streams computed systems s l messages stream link fast lawful came copies in
     delivered_once (1000 * l.skew_us) is_open messages came both.0 both.1

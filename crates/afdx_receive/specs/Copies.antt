@@ -3,13 +3,11 @@ use Rattle.std.specs.Prelude.{◌≡◌, ℕ, ◌+◌, ◌*◌, ◌≤◌, Bool,
 use Rattle.std.specs.Prelude.{reverse, slice_get, take, IfSome}
 use Rattle.afdx_frame.specs.declared.link.Side.{Side}
 use Rattle.afdx_frame.specs.declared.link.Side.TheVariants.{A, B}
-use Rattle.afdx_frame.specs.Sealing.{AreBytes}
 use Rattle.afdx_frame.specs.Parts.{FrameParts, frame_of}
-use Rattle.afdx_frame.specs.Grammar.{Buildable}
 use Rattle.afdx_config.specs.Rows.{SystemRow, LinkRow}
 use Rattle.afdx_config.specs.Lawful.{IsLink}
 use Rattle.afdx_config.specs.SentList.{Message}
-use Rattle.afdx_config.specs.LawfulStream.{Sending, IsLawfulStream, address_of}
+use Rattle.afdx_config.specs.LawfulStream.{Sending, IsLawfulStream}
 use Rattle.afdx_receive.specs.Integrity.{Incoming}
 use Rattle.afdx_receive.specs.Redundancy.{newest}
 use Rattle.afdx_receive.specs.TwoStreams.{count_of}
@@ -40,20 +38,13 @@ AreCopies latency stream [] = Unit {0}
 AreCopies latency stream (frame ∷ before) =
     IsNextCopy latency stream before frame × AreCopies latency stream before
 
--- the builder takes each message of the link
-pub record AreSendable (s : SystemRow) (l : LinkRow) (messages : List Message) : Type 0 where
-  pub buildable : (place : ℕ) (m : Message) → slice_get messages place ≡ Some m →
-      Buildable (address_of s l m) m.payload
-  pub bytes : (place : ℕ) (m : Message) → slice_get messages place ≡ Some m → AreBytes m.payload
-
 -- Where a link's latency is at most its skew, exactly the messages of its stream to an open UDP
 -- port are delivered, each once and in order, as far as one of the sides has come.
 abbrev pub StreamIsDeliveredOnce : Type 0
 StreamIsDeliveredOnce =
     (systems : ℕ) (s : SystemRow) (l : LinkRow) (messages : List Message) (stream : List Sending)
     (is_open : ℕ → Bool) (came : List Incoming) →
-    IsLink systems l → l.latency_us ≤ l.skew_us → AreSendable s l messages →
-    IsLawfulStream s l messages stream →
+    IsLink systems l → l.latency_us ≤ l.skew_us → IsLawfulStream s l messages stream →
     AreCopies (1000 * l.latency_us) stream came →
     reverse (delivered (1000 * l.skew_us) is_open came)
     ≡ filter (λ m. is_open m.udp) (take (max (count_of A came) (count_of B came)) messages)

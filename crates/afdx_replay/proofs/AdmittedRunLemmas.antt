@@ -16,15 +16,14 @@ use Rattle.afdx_lists.proofs.FrameLemmas.{line_says-later}
 use Rattle.afdx_lists.specs.Lines.{lines_of}
 use Rattle.afdx_lists.specs.declared.fault.LineFault.{LineFault}
 use Rattle.afdx_lists.specs.declared.fault.RunFault.{RunFault}
-use Rattle.afdx_lists.specs.declared.fault.RunFault.TheVariants.{Read, Write, Memory, TooManyLines, LineTooLong, Line}
 use Rattle.afdx_replay.specs.Lists.{items_of, latest_in, with_item}
 use Rattle.afdx_replay.specs.Listed.{frames, arrival_at, said_after, arrivals_of}
 use Rattle.afdx_replay.specs.ReplayPromises.{IsListed, ArrivalsAreListed}
 use Rattle.afdx_promises.specs.Lines.{IsIn}
 use Rattle.afdx_replay.specs.PromisedRun.{WritesPromisedSoFar, WritesPromisedSome, PromisedAnswers}
 use Rattle.afdx_replay.specs.Replayed.{WritesSoFar, WritesSome, Answers}
-use Rattle.afdx_replay.specs.Stops.{IsToldOf, StopsAt}
 use Rattle.afdx_replay.specs.declared.summary.Summary.{Summary}
+use Rattle.afdx_replay.proofs.StopLemmas.{stops-as}
 use Rattle.afdx_replay.proofs.PromisedLemmas.{replay-promised, so-far-told, none-counted}
 
 -- ---- the times of a list's arrivals don't decrease
@@ -100,7 +99,12 @@ module _ (t : Rows) (bytes : List ℕ) (old new : Option (List ℕ)) (lawful : I
       → WritesPromisedSoFar t old new (arrivals_of (lines_of bytes) n)
   all-told n written =
       let told = so-far-told t (arrivals_of (lines_of bytes) n) (run-of n) in
-      record { lines = told.lines; written = subst (Appends old new) told.written written; promises = told.promises }
+      record {
+        lines = told.lines;
+        written = subst (Appends old new) told.written written;
+        promises = told.promises;
+        accepted = told.accepted;
+      }
 
   some-told : (n : ℕ) → WritesSome t old new (arrivals_of (lines_of bytes) n)
       → WritesPromisedSome t old new (arrivals_of (lines_of bytes) n)
@@ -110,29 +114,14 @@ module _ (t : Rows) (bytes : List ℕ) (old new : Option (List ℕ)) (lawful : I
         lines = told.lines;
         written = subst (AppendsFront old new) told.written written;
         promises = told.promises;
+        accepted = told.accepted;
       }
-
-  told-all : (n : ℕ) → IsToldOf frames (WritesSoFar t old new) (lines_of bytes) n
-      → IsToldOf frames (WritesPromisedSoFar t old new) (lines_of bytes) n
-  told-all n told = record { within = told.within; sound = told.sound; are_told = all-told n told.are_told }
-
-  told-some : (n : ℕ) → IsToldOf frames (WritesSome t old new) (lines_of bytes) n
-      → IsToldOf frames (WritesPromisedSome t old new) (lines_of bytes) n
-  told-some n told = record { within = told.within; sound = told.sound; are_told = some-told n told.are_told }
-
-  stops-promised : (rest : Option (List ℕ)) (fault : RunFault)
-      → StopsAt (WritesSoFar t old new) (WritesSome t old new) bytes rest fault →
-      StopsAt (WritesPromisedSoFar t old new) (WritesPromisedSome t old new) bytes rest fault
-  stops-promised rest Read h = (h.0, h.1, told-all h.0 h.2)
-  stops-promised rest Write h = (h.0, h.1, told-some h.0 h.2)
-  stops-promised rest Memory h = (h.0, h.1, told-some h.0 h.2)
-  stops-promised rest TooManyLines h = (h.0, h.1, all-told h.0 h.2)
-  stops-promised rest (LineTooLong m) h = (h.0, h.1, all-told h.0 h.2)
-  stops-promised rest (Line m fault) h = (h.0, h.1, h.2, all-told h.0 h.3)
 
   pub promised-answers : (rest : Option (List ℕ)) (r : Result Summary RunFault)
       → Answers t bytes rest old new r → PromisedAnswers t bytes rest old new r
-  promised-answers rest (Err fault) stops = stops-promised rest fault stops
+  promised-answers rest (Err fault) stops =
+      stops-as frames (WritesSoFar t old new) (WritesPromisedSoFar t old new) (WritesSome t old new)
+      (WritesPromisedSome t old new) bytes all-told some-told rest fault stops
   promised-answers rest (Ok summary) all =
       let list = lines_of bytes in
       let told = replay-promised t (arrivals_of list (length list)) lawful (run-of (length list)) in
@@ -143,6 +132,7 @@ module _ (t : Rows) (bytes : List ℕ) (old new : Option (List ℕ)) (lawful : I
         lines = told.lines;
         written = subst (Appends old new) told.written all.written;
         promises = told.promises;
+        accepted = told.accepted;
         once = told.once;
         once_so_far = told.once_so_far;
         none_lost = ap (λ (s : Summary). s.lost) all.counted ∙ none.lost;

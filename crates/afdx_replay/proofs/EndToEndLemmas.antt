@@ -7,17 +7,13 @@ use Rattle.std.specs.Prelude.{reverse}
 use Rattle.std.specs.List.{slice_get, AllByRecursion}
 use Rattle.std.proofs.lemmas.Bool.Decides.{nat_tests}
 use Rattle.std.proofs.lemmas.List.{map_push}
-use Rattle.afdx_frame.specs.Grammar.{Buildable}
 use Rattle.afdx_frame.specs.Reading.{BuiltIsComputed}
-use Rattle.afdx_frame.specs.Sealing.{AreBytes}
 use Rattle.afdx_frame.specs.declared.link.Side.{Side}
 use Rattle.afdx_config.specs.Admission.{IsAdmitted, links_from}
 use Rattle.afdx_config.specs.Lawful.{IsSystem, IsLink, IsLawful, AreDistinct}
-use Rattle.afdx_config.specs.LawfulStream.{address_of}
 use Rattle.afdx_config.specs.Numbers.{next_number, after_steps}
 use Rattle.afdx_config.specs.Reading.{has_port}
 use Rattle.afdx_config.specs.Rows.{SystemRow, LinkRow, Rows, is_to}
-use Rattle.afdx_config.specs.SentList.{Message}
 use Rattle.afdx_config.proofs.EachRowLemmas.{all_at}
 use Rattle.afdx_lists.specs.FrameLines as frame
 use Rattle.afdx_lists.specs.FrameLines.{line_says}
@@ -25,13 +21,13 @@ use Rattle.afdx_lists.specs.Lines.{lines_of, most_lines}
 use Rattle.afdx_frame.specs.Times.{latest_listed}
 use Rattle.afdx_police.specs.Arrival.{Arrival}
 use Rattle.afdx_port.specs.Schedule.{Turn}
-use Rattle.afdx_receive.specs.Copies.{AreSendable}
 use Rattle.afdx_send.specs.Complete.{IsFor, HasSentAll, EmitsAll, IsOfTaken, AllIsSent}
 use Rattle.afdx_send.specs.Complete.{EmissionsAreOfTaken, submissions_of, AreReleasesOfAll}
 use Rattle.afdx_send.specs.Emissions.{own, own_submissions, sent_list}
-use Rattle.afdx_send.specs.Frames.{Frame, numbered_frame, address_with}
-use Rattle.afdx_send.specs.Releases.{Submission, Release, AreReleases}
+use Rattle.afdx_send.specs.Frames.{Frame, address_with}
+use Rattle.afdx_send.specs.Releases.{Submission, Release, IsMessage}
 use Rattle.afdx_send.specs.Sender.{SenderHistory}
+use Rattle.afdx_send.proofs.MessageLemmas.{can_be_sent}
 use Rattle.afdx_send.proofs.NewLemmas.{from_filter, distinct_links}
 use Rattle.afdx_send.proofs.NextLemmas.{split_last}
 use Rattle.afdx_promises.specs.Lines.{Line, messages_told}
@@ -48,31 +44,32 @@ use Rattle.afdx_replay.specs.Listed.{AreSound, arrivals_of}
 use Rattle.afdx_replay.specs.OneSide.{HoldsFirst, AreToldSoFar, TakenIsToldSoFar, TakenIsToldByOneSide}
 use Rattle.afdx_replay.specs.SendEvents.{Handed, Event, Emitted, Submitted, submissions_in}
 use Rattle.afdx_replay.specs.SendEvents.{turns_in, taken_by, calls_in, EachFollows}
-use Rattle.afdx_replay.specs.SendLaws.{AreOfFrame}
 use Rattle.afdx_replay.specs.SendText.{send_text}
 use Rattle.afdx_replay.proofs.PortLineLemmas.{AreSaidBy, said-by}
 use Rattle.afdx_replay.proofs.SaidLemmas.{IsSaid, all-said}
 use Rattle.afdx_replay.proofs.TextListLemmas.{text-is-list}
-use Rattle.afdx_replay.proofs.TakenLemmas.{all-more, taken-each, own-taken}
+use Rattle.afdx_replay.proofs.TakenLemmas.{taken-each, own-taken}
+use Rattle.afdx_replay.proofs.SentLineLemmas.{AreOfFrame}
 use Rattle.afdx_replay.proofs.SendLineLemmas.{line_on, lines_on, CanBeRead, IsFine, turn-says}
 use Rattle.afdx_replay.proofs.SendLineLemmas.{text-at-port, text-off-port}
 
 -- ---- what was taken can be sent
 
 -- a message of a list that a link took
-record IsGood (l : LinkRow) (m : Submission) : Type 0 where
-  for : IsFor l m
-  bytes : AreBytes m.message.payload
-  udp : m.message.udp ≤ 65535
+pub record IsGood (l : LinkRow) (m : Submission) : Type 0 where
+  pub for : IsFor l m
+  pub is_message : IsMessage m.message
 
-taken-good : (n : ℕ) (s : SystemRow) (links : List LinkRow) → AreDistinct (λ l. l.vl) links
+pub taken-good : (n : ℕ) (s : SystemRow) (links : List LinkRow) → AreDistinct (λ l. l.vl) links
     → (events : List Event) → EachFollows s links events
     → AllByRecursion (IsSaid n) (submissions_in events) →
     (i : ℕ) (l : LinkRow) → slice_get links i ≡ Some l → AllByRecursion (IsGood l) (taken_by l.vl events)
 taken-good n s links distinct events follow said i l at =
     taken-each (λ l m. IsGood l m) (IsSaid n)
-    (λ l x can q. record { for = can; bytes = q.bytes; udp = q.udp }) s links distinct events
-    follow said i l at
+    (λ l x can q. record {
+      for = can;
+      is_message = record { some = can.some; udp = omega (arith, q.udp); bytes = q.bytes };
+    }) s links distinct events follow said i l at
 
 -- ---- its frames can be built
 
@@ -88,22 +85,7 @@ unfolding after_steps
 number-small zero = omega arith
 number-small (suc k) = step-small (after_steps k 0) (number-small k)
 
-buildable : (n profile : ℕ) (s : SystemRow) (l : LinkRow) (m : Message) (k : ℕ) → IsSystem profile s
-    → IsLink n l → 1 ≤ length m.payload → length m.payload + 47 ≤ l.lmax → m.udp ≤ 65535 →
-    Buildable (address_with s.id s.partition (numbered_frame l.vl l.lmin k m.udp m.payload)) m.payload
-buildable n profile s l m k system link some fits udp = record {
-  least = link.lmin.0;
-  most = (let low = link.lmin.1 in omega (arith, low));
-  some = some;
-  fits = (let high = link.lmax.1 in omega (arith, high, fits));
-  vl = (let high = link.vl.1 in omega (arith, high));
-  from_port = omega (arith, udp);
-  to_port = omega (arith, udp);
-  system_id = (let high = system.id.1 in omega (arith, high));
-  partition = (let high = system.partition.1 in omega (arith, high));
-}
-
-turn-buildable : (n profile : ℕ) (s : SystemRow) (h : SenderHistory) → IsSystem profile s
+pub turn-buildable : (n profile : ℕ) (s : SystemRow) (h : SenderHistory) → IsSystem profile s
     → ((i : ℕ) (l : LinkRow) → slice_get h.links i ≡ Some l → IsLink n l) →
     ((i : ℕ) (l : LinkRow) → slice_get h.links i ≡ Some l
     → AllByRecursion (IsGood l) (own_submissions h.taken i)) → (turn : Turn Frame)
@@ -112,18 +94,17 @@ turn-buildable n profile s h system links good turn k =
     let g = all_at (IsGood k.row) (own_submissions h.taken k.link) k.place k.submission
     (good k.link k.row k.stands) k.taken in
     let m = k.submission.message in
-    let built = buildable n profile s k.row m (after_steps k.steps 0) system
-    (links k.link k.row k.stands) g.for.some g.for.fits g.udp in
+    let can = can_be_sent profile n s k.row m system (links k.link k.row k.stands) g.is_message g.for.fits in
     subst (λ (f : Frame). IsBuildable s (record turn { entry = record turn.entry { item = f } }))
     (sym k.frame) (record {
-      buildable = built;
-      bytes = g.bytes;
+      buildable = can.buildable;
+      bytes = can.bytes;
       number = (let small = number-small k.steps in omega (arith, small));
     })
 
 -- ---- and read
 
-of-frame : BuiltIsComputed → (s : SystemRow) (turn : Turn Frame) → IsBuildable s turn
+pub of-frame : BuiltIsComputed → (s : SystemRow) (turn : Turn Frame) → IsBuildable s turn
     → (side : Side) → AreOfFrame (frame_on s side turn.entry.item)
 of-frame computed s turn is side =
     let k = computed (address_with s.id s.partition turn.entry.item) turn.entry.item.number side
@@ -235,24 +216,6 @@ sent-messages [] = refl
 sent-messages (r ∷ rs) = ap (λ z. z ++ r.submission.message ∷ []) (sent-messages rs)
     ∙ sym (map_push (λ s. s.message) (submissions_of rs) r.submission)
 
-all-messages : (P : Message → Type 0) (b subs : ℕ) (ss : List Submission) (rs : List Release)
-    → AllByRecursion (λ s. P s.message) ss → AreReleases b subs ss rs → AllByRecursion P (sent_list rs)
-all-messages P b subs ss [] all h = tt
-all-messages P b subs ss (r ∷ rs) all h =
-    all-more P (sent_list rs) r.submission.message (all-messages P b subs ss rs all h.1)
-    (all_at (λ s. P s.message) ss r.place r.submission all h.0.own.stands)
-
-record CanBeSent (s : SystemRow) (l : LinkRow) (m : Message) : Type 0 where
-  buildable : Buildable (address_of s l m) m.payload
-  bytes : AreBytes m.payload
-
-sendable : (s : SystemRow) (l : LinkRow) (ms : List Message) → AllByRecursion (CanBeSent s l) ms → AreSendable s l ms
-sendable s l ms all = record {
-  buildable =
-      λ i m at. (all_at (CanBeSent s l) ms i m all at).buildable;
-  bytes = λ i m at. (all_at (CanBeSent s l) ms i m all at).bytes;
-}
-
 -- ---- all of it
 
 pub record Laws : Type 0 where
@@ -314,6 +277,8 @@ module _ (laws : Laws) (t : Rows) (lawful : IsLawful t) (admitted : IsAdmitted t
     row = sent.stands;
     links = refl;
     fit = λ i l at. all-imply (IsGood l) (IsFor l) (own_submissions h.taken i) (λ m g. g.for) (own-good i l at);
+    messages = λ i l at. all-imply (IsGood l) (λ m. IsMessage m.message) (own_submissions h.taken i)
+        (λ m g. g.is_message) (own-good i l at);
     done = sent.are_done;
   }
 
@@ -361,11 +326,10 @@ module _ (laws : Laws) (t : Rows) (lawful : IsLawful t) (admitted : IsAdmitted t
       → AreSentAs s side (turns_in events) (arrivals_at side s.port (arrivals_of list (length list)))
   merged list sound holds side = side-merged list sound side (holds side)
 
-  -- what one link of the system sent is a lawful stream of messages that can be sent
+  -- what one link of the system sent is a lawful stream of what it took
   abbrev IsReady : LinkRow → Type 0
   IsReady l = (i : ℕ) × (k : EmitsAll h i l (stream_of s l.vl (turns_in events)))
       × AreReleasesOfAll l (taken_by l.vl events) (own i k.emits.released)
-      × AreSendable s l (sent_list (own i k.emits.released))
 
   ready : (place : ℕ) (l : LinkRow) → slice_get t.links place ≡ Some l → l.from ≡ sender → IsReady l
   ready place l link from =
@@ -377,17 +341,7 @@ module _ (laws : Laws) (t : Rows) (lawful : IsLawful t) (admitted : IsAdmitted t
       let rs = own i k.emits.released in
       let all : AreReleasesOfAll l (taken_by l.vl events) rs =
       subst (λ (z : List Submission). AreReleasesOfAll l z rs) (own-is i l among.1) k.all in
-      let is = is_link i l among.1 in
-      let can_send : (m : Submission) → IsGood l m → CanBeSent s l m.message =
-      λ m g. record {
-        buildable = buildable (length t.systems) t.profile s l m.message 0 is_system
-            is g.for.some g.for.fits g.udp;
-        bytes = g.bytes;
-      } in
-      let ms = all-messages (CanBeSent s l) _ l.subs (taken_by l.vl events) rs
-      (all-imply (IsGood l) (λ m. CanBeSent s l m.message) (taken_by l.vl events) can_send
-      (good i l among.1)) all.are_releases in
-      (i, k, all, sendable s l (sent_list rs) ms)
+      (i, k, all)
 
   as-taken : (system : ℕ) (l : LinkRow) (lines : List Line) (k : IsReady l)
       → reverse (messages_told system l.vl lines) ≡ filter (λ m. has_port t.ports system l.vl m.udp)
@@ -416,7 +370,7 @@ module _ (laws : Laws) (t : Rows) (lawful : IsLawful t) (admitted : IsAdmitted t
       let k = ready place l link from in
       as-taken system l lines k
       (laws.once t (arrivals_of list (length list)) lines h system place k.0 receiver l once
-      stands link to (sends l from) build (merged list sound holds) k.1.emits k.3)
+      stands link to (sends l from) build (merged list sound holds) k.1.emits)
 
   -- ---- where a network fails in the middle
 
@@ -448,7 +402,7 @@ module _ (laws : Laws) (t : Rows) (lawful : IsLawful t) (admitted : IsAdmitted t
       (take (most_come t l (arrivals_of list (length list))) (sent_list (own k.0 k.1.emits.released)))
   told-first list lines sound once holds system place receiver l stands link from to k =
       laws.so_far t (arrivals_of list (length list)) lines h system place k.0 receiver l once stands
-      link to (sends l from) build (first-merged list sound holds) k.1.emits k.3
+      link to (sends l from) build (first-merged list sound holds) k.1.emits
 
   told-so-far : (list : List (List ℕ)) (lines : List Line) → AreSound list (length list)
       → EachIsToldOnceSoFar t (arrivals_of list (length list)) lines

@@ -9,12 +9,15 @@ pub mod SendLemmas
 pub mod SentLineLemmas
 pub mod PromisedLemmas
 pub mod LossLemmas
+pub mod StopLemmas
 pub mod AdmittedRunLemmas
+pub mod DefinedLemmas
 mod SaidLemmas
 mod PortLineLemmas
 mod SendLineLemmas
 mod TextListLemmas
 mod TakenLemmas
 mod EndToEndLemmas
+mod SentArrivalLemmas
 mod MergedLemmas
 mod OneRunLemmas

@@ -15,6 +15,7 @@ use Rattle.afdx_promises.specs.NetworkPromises.{EventsKeepPromises, EventsSoFarK
 use Rattle.afdx_promises.specs.Lines.{Departed, leaving, with_reception, told_by}
 use Rattle.afdx_promises.specs.Promises.{told, told_so_far}
 use Rattle.afdx_promises.specs.Receptions.{brought, brought_by}
+use Rattle.afdx_promises.proofs.AcceptedLemmas.{told-accepted, told-so-far-accepted}
 use Rattle.afdx_promises.proofs.EventLemmas.{as-promised, so-far-promised}
 use Rattle.afdx_promises.proofs.ToldLemmas as promise
 use Rattle.afdx_systems.specs.Handovers.{came_to, arrival_of}
@@ -160,6 +161,7 @@ replay-promised t arrivals alone run = record {
   lines = told t arrivals;
   written = text-kept t (events_of t arrivals) (kept t arrivals run);
   promises = promise.kept t arrivals run;
+  accepted = told-accepted built_is_computed t arrivals run.lawful run.timed;
   once = promise.told-once built_is_computed t arrivals alone run;
   once_so_far = promise.told-once-so-far built_is_computed t arrivals alone run;
 }
@@ -175,6 +177,7 @@ so-far-told t arrivals run =
             left = λ d h. (promised.departures d h).not_old;
           });
       promises = promise.kept-so-far t arrivals run;
+      accepted = told-so-far-accepted built_is_computed t arrivals run.lawful run.timed;
     }
 
 pub none-counted : NoneIsCounted

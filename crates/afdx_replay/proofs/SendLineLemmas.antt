@@ -28,12 +28,11 @@ use Rattle.afdx_send.specs.declared.fault.SendFault.TheVariants.{TooLarge, Queue
 use Rattle.afdx_promises.specs.Sent.{frame_on}
 use Rattle.afdx_replay.specs.EndToEnd.{says_at, lines_at}
 use Rattle.afdx_replay.specs.SendEvents.{Event, Emitted, Submitted, turns_in}
-use Rattle.afdx_replay.specs.SendLaws.{AreOfFrame}
 use Rattle.afdx_replay.specs.SendText.{sent_line, refusal_line, event_lines, send_text}
 use Rattle.afdx_replay.proofs.SendLemmas.{text-none, text-more}
 use Rattle.afdx_replay.proofs.SentLineLemmas.{AtLeast, append-least, lower-least, none-below}
 use Rattle.afdx_replay.proofs.SentLineLemmas.{index-least, decimal-least, line_of, line-feed}
-use Rattle.afdx_replay.proofs.SentLineLemmas.{line-least, says}
+use Rattle.afdx_replay.proofs.SentLineLemmas.{AreOfFrame, line-least, says}
 
 -- ---- texts of whole lines
 

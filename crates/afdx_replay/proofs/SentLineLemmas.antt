@@ -18,6 +18,7 @@ use Rattle.std.specs.Str.{bytes_eq}
 use Rattle.std.specs.Str.Lines.{strip_carriage_return}
 use Rattle.hex.specs.Hex.{encode_with, encode_lower, lower_digits}
 use Rattle.hex.proofs.HexLemmas.{decode_of-encode_lower, length-encode_with}
+use Rattle.afdx_frame.specs.Lengths.{greatest_frame}
 use Rattle.afdx_frame.specs.Sealing.{AreBytes}
 use Rattle.afdx_frame.specs.declared.link.Side.{Side}
 use Rattle.afdx_frame.specs.declared.link.Side.TheVariants.{A, B}
@@ -36,8 +37,14 @@ use Rattle.afdx_port.proofs.TurnLemmas.{eqb-other}
 use Rattle.afdx_replay.specs.Lists.{with_item, items_of, fault_in, fault_said, HaveNoFault}
 use Rattle.afdx_replay.specs.Listed.{frames, arrivals_of}
 use Rattle.afdx_replay.specs.PoliceText.{side_text}
-use Rattle.afdx_replay.specs.SendLaws.{IsArrival, AreOfFrame, SentLinesAreArrivals}
+use Rattle.afdx_replay.specs.SendLaws.{IsArrival}
 use Rattle.afdx_replay.specs.SendText.{sent_line}
+
+-- bytes that a frame may have
+pub record AreOfFrame (bytes : List ℕ) : Type 0 where
+  pub are_bytes : AreBytes bytes
+  pub least : 1 ≤ length bytes
+  pub most : length bytes ≤ greatest_frame
 
 -- ---- bytes that are no less than one of them
 
@@ -366,6 +373,3 @@ module _ (side : Side) (port time : ℕ) (bytes : List ℕ) (one : 1 ≤ port) (
     arrivals = subst (λ (z : List (List ℕ)). arrivals_of z 1 ≡ arrival_with 1 time side port bytes
         ∷ []) (sym one-line) arrived;
   }
-
-pub sent-lines : SentLinesAreArrivals
-sent-lines side port time bytes one most early frame = sent-line side port time bytes one most early frame

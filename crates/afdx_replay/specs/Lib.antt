@@ -10,6 +10,7 @@ pub mod ReplayText
 pub mod Replayed
 pub mod ReplayPromises
 pub mod PromisedRun
+pub mod DefinedRun
 pub mod ReplayCommand
 pub mod SendEvents
 pub mod SendText

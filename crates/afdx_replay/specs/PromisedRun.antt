@@ -8,7 +8,7 @@ use Rattle.afdx_lists.specs.Lines.{lines_of}
 use Rattle.afdx_lists.specs.Calls.{AppendsFront}
 use Rattle.afdx_lists.specs.declared.fault.RunFault.{RunFault}
 use Rattle.afdx_promises.specs.Lines.{Line}
-use Rattle.afdx_promises.specs.Promises.{KeepsPromises, KeepsPromisesSoFar, EachIsToldOnce, EachIsToldOnceSoFar}
+use Rattle.afdx_promises.specs.Promises.{KeepsPromises, KeepsPromisesSoFar, EachIsToldOnce, EachIsToldOnceSoFar, StreamsAreAccepted}
 use Rattle.afdx_replay.specs.Listed.{AreSound, arrivals_of}
 use Rattle.afdx_replay.specs.ReplayPromises.{text_of, AreListed}
 use Rattle.afdx_replay.specs.Stops.{StopsAt}
@@ -23,6 +23,7 @@ pub record WritesPromised (t : Rows) (list : List (List ℕ)) (old new : Option 
   pub lines : List Line
   pub written : Appends old new (text_of t lines)
   pub promises : KeepsPromises t (arrivals_of list (length list)) lines
+  pub accepted : StreamsAreAccepted t (arrivals_of list (length list)) lines
   pub once : EachIsToldOnce t (arrivals_of list (length list)) lines
   pub once_so_far : EachIsToldOnceSoFar t (arrivals_of list (length list)) lines
   pub none_lost : summary.lost ≡ 0
@@ -34,6 +35,7 @@ pub record WritesPromisedSoFar (t : Rows) (old new : Option (List ℕ)) (past : 
   pub lines : List Line
   pub written : Appends old new (text_of t lines)
   pub promises : KeepsPromisesSoFar t past lines
+  pub accepted : StreamsAreAccepted t past lines
 
 -- a beginning of the text of all lines of these arrivals is written
 pub record WritesPromisedSome (t : Rows) (old new : Option (List ℕ)) (past : List Arrival) :
@@ -41,6 +43,7 @@ pub record WritesPromisedSome (t : Rows) (old new : Option (List ℕ)) (past : L
   pub lines : List Line
   pub written : AppendsFront old new (text_of t lines)
   pub promises : KeepsPromises t past lines
+  pub accepted : StreamsAreAccepted t past lines
 
 -- What a run answers that is given a list of these bytes, after which the input has `rest` and the
 -- output `new`. After a fault of the list all is told of the lines before it; where a device fails

@@ -7,7 +7,7 @@ use Rattle.afdx_police.specs.Arrival.{Arrival}
 use Rattle.afdx_switch.specs.Admitted.{IsAdmittedRun}
 use Rattle.afdx_network.specs.Order.{events_of, events_so_far}
 use Rattle.afdx_promises.specs.Lines.{Line, Verdict, Departed, Received, IsIn}
-use Rattle.afdx_promises.specs.Promises.{KeepsPromises, KeepsPromisesSoFar, EachIsToldOnce, EachIsToldOnceSoFar}
+use Rattle.afdx_promises.specs.Promises.{KeepsPromises, KeepsPromisesSoFar, EachIsToldOnce, EachIsToldOnceSoFar, StreamsAreAccepted}
 use Rattle.afdx_lists.specs.FrameLines.{ListedFrame}
 use Rattle.afdx_systems.specs.Receptions.{name_of, answer_line}
 use Rattle.afdx_replay.specs.Listed.{arrival_at, arrivals_of, said_after}
@@ -41,12 +41,13 @@ AreListed list count = (x : Arrival) → IsIn x (arrivals_of list count) → IsL
 abbrev pub ArrivalsAreListed : Type 0
 ArrivalsAreListed = (list : List (List ℕ)) (count : ℕ) → AreListed list count
 
--- a text of these arrivals, and of all that leaves, is that of lines which keep the promises, and
--- tell a lawful stream's messages once each
+-- a text of these arrivals, and of all that leaves, is that of lines which keep the promises,
+-- accept a lawful stream, and tell its messages once each
 pub record TellsPromises (t : Rows) (arrivals : List Arrival) (text : List ℕ) : Type 0 where
   pub lines : List Line
   pub written : text ≡ text_of t lines
   pub promises : KeepsPromises t arrivals lines
+  pub accepted : StreamsAreAccepted t arrivals lines
   pub once : EachIsToldOnce t arrivals lines
   pub once_so_far : EachIsToldOnceSoFar t arrivals lines
 
@@ -55,6 +56,7 @@ pub record TellsPromisesSoFar (t : Rows) (arrivals : List Arrival) (text : List 
   pub lines : List Line
   pub written : text ≡ text_of t lines
   pub promises : KeepsPromisesSoFar t arrivals lines
+  pub accepted : StreamsAreAccepted t arrivals lines
 
 -- what a replay of admitted tables tells
 abbrev pub ReplayIsAsPromised : Type 0

@@ -1,8 +1,7 @@
 -- What is true of the texts of senders: what a replay reads of a line, and that a list of
 -- submissions has one text.
-use Rattle.std.specs.Prelude.{ℕ, ◌≡◌, ◌≤◌, List, [], ◌∷◌, length, Some}
-use Rattle.afdx_frame.specs.Lengths.{greatest_frame}
-use Rattle.afdx_frame.specs.Sealing.{AreBytes}
+use Rattle.std.specs.Prelude.{ℕ, ◌≡◌, ◌≤◌, List, [], ◌∷◌, length, Some, slice_get}
+use Rattle.std.specs.List.{AllByRecursion}
 use Rattle.afdx_frame.specs.Times.{latest_listed}
 use Rattle.afdx_frame.specs.declared.link.Side.{Side}
 use Rattle.afdx_config.specs.Admission.{links_from}
@@ -10,9 +9,12 @@ use Rattle.afdx_config.specs.Lawful.{IsLawful}
 use Rattle.afdx_config.specs.Rows.{SystemRow, Rows}
 use Rattle.afdx_police.specs.Arrival.{Arrival, arrival_with}
 use Rattle.afdx_lists.specs.Lines.{lines_of}
-use Rattle.afdx_frame.specs.Ports.{last_port}
+use Rattle.afdx_port.specs.Schedule.{Turn}
+use Rattle.afdx_send.specs.Frames.{Frame}
+use Rattle.afdx_promises.specs.Sent.{frame_on}
 use Rattle.afdx_replay.specs.Listed.{AreSound, arrivals_of}
-use Rattle.afdx_replay.specs.SendEvents.{Handed, Event, AreEventsOf, AreDone}
+use Rattle.afdx_replay.specs.Lists.{items_of, HaveNoFault}
+use Rattle.afdx_replay.specs.SendEvents.{Handed, Event, submissions, turns_in, AreEventsOf, AreDone}
 use Rattle.afdx_replay.specs.SendText.{sent_line}
 use Rattle.afdx_replay.specs.Sent.{source_at, WritesAll}
 use Rattle.afdx_replay.specs.declared.summary.Summary.{Summary}
@@ -23,18 +25,21 @@ pub record IsArrival (text : List ℕ) (x : Arrival) : Type 0 where
   pub sound : AreSound (lines_of text) 1
   pub arrivals : arrivals_of (lines_of text) 1 ≡ x ∷ []
 
--- bytes that a frame may have
-pub record AreOfFrame (bytes : List ℕ) : Type 0 where
-  pub are_bytes : AreBytes bytes
-  pub least : 1 ≤ length bytes
-  pub most : length bytes ≤ greatest_frame
+-- Of an emission that ends by the last time of a list both lines, each read as a list of one line,
+-- are arrivals: of its frame for that side, when its slot ends, at the system's port.
+abbrev pub IsTold : SystemRow → Turn Frame → Type 0
+IsTold s turn = turn.end ≤ latest_listed → (side : Side) →
+    IsArrival (sent_line side s.port turn.end (frame_on s side turn.entry.item))
+    (arrival_with 1 turn.end side s.port (frame_on s side turn.entry.item))
 
--- The line of a frame that is sent by the last time of a list, read as a list of one line, is that
--- frame's arrival at the same time, side and port.
+-- So it is with each emission of a sender's text: of the events of the first n lines of any list of
+-- submissions, in which no fault was found.
 abbrev pub SentLinesAreArrivals : Type 0
-SentLinesAreArrivals = (side : Side) (port time : ℕ) (bytes : List ℕ) →
-    1 ≤ port → port ≤ last_port → time ≤ latest_listed → AreOfFrame bytes →
-    IsArrival (sent_line side port time bytes) (arrival_with 1 time side port bytes)
+SentLinesAreArrivals = (t : Rows) (sender : ℕ) (s : SystemRow) (list : List (List ℕ)) (n : ℕ)
+    (events : List Event) → IsLawful t → slice_get t.systems sender ≡ Some s →
+    HaveNoFault submissions list n →
+    AreEventsOf s (links_from t.links sender) (items_of submissions list n) events →
+    AllByRecursion (IsTold s) (turns_in events)
 
 -- What a run that sends tells is determined by its list: events of the same submissions, after
 -- which all is emitted, are the same.

@@ -22,9 +22,10 @@ use std::io::{Read, Write};
 /// ports within the link's configured latency; and what a receiver delivers on a link is the
 /// integrity and redundancy rules' answer on that link's arrivals there alone. The clause
 /// `promised` says so of the text that is written (`KeepsPromises`): it is that of V, D, M and X
-/// lines, so no line tells of a loss, or of a frame that is too old. Of a link's lawful stream on
-/// both sides each receiver's M lines are exactly the messages to its UDP ports, each once and in
-/// order.
+/// lines, so no line tells of a loss, or of a frame that is too old. Where a link's lawful stream
+/// comes at its sender's port on a side, each verdict on it is accept, whatever else comes. Of one
+/// that comes on both sides each receiver's M lines are exactly the messages to its UDP ports, each
+/// once and in order.
 ///
 /// After a fault of the list, or a failed read, all is told of the lines before it, and what has
 /// left a port is a beginning of the promised frames; after a failed write, or want of memory, a

@@ -1,5 +1,6 @@
 //! What is true of the definitions of a replay.
 
+ghost use Rattle.afdx_replay.specs.DefinedRun.{RunsAreByDefinition};
 ghost use Rattle.afdx_replay.specs.EndToEnd.{TakenIsToldOnce, WrittenIsSent, RunsTellTakenOnce};
 ghost use Rattle.afdx_replay.specs.EndToEnd.{TextsAreLists};
 ghost use Rattle.afdx_replay.specs.Merged.{MergedAreToldOnce};
@@ -28,6 +29,14 @@ pub fn replay_is_as_promised()
     ensures none { NoneIsCounted }
 {}
 
+/// What a run answers and writes, on lawful tables that are admitted or not, is by the definition
+/// of an output port: the times of its arrivals don't go back; each copy that is lost is one for
+/// which the one schedule of the entries before it leaves no room; the turns of each port are the
+/// one schedule of its entries.
+pub fn runs_are_by_definition()
+    ensures { RunsAreByDefinition }
+{}
+
 /// Each arrival of a list is the frame of one of its lines, under the line's number.
 pub fn arrivals_are_listed()
     ensures { ArrivalsAreListed }
@@ -35,9 +44,14 @@ pub fn arrivals_are_listed()
 
 /// Each R line of a sender's text whose time is at most 10^15 ns, read as a frame list of one line,
 /// is the arrival of its frame: with its bytes, at its time, on its side and at its port.
+///
+/// So it is with each emission among the events of the first lines of a list of submissions, as far
+/// as they have no fault.
 pub fn sent_lines_are_arrivals()
     ensures { SentLinesAreArrivals }
-{}
+{
+    built_is_computed()
+}
 
 /// What a run that sends tells is determined by its list: there is one list of events of the
 /// submissions, after which all that was taken is emitted, and so one text and one summary.

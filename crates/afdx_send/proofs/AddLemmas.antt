@@ -1,6 +1,6 @@
 -- What a submission does to the calls that a sender stands for, and how many messages of a sub-VL wait.
-use Rattle.std.proofs.Common.{◌≡◌, ◌≢◌, ℕ, ◌+◌, ◌-◌, ◌*◌, ◌<◌, ◌≤◌, ◌==◌, max, Bool, true, false}
-use Rattle.std.proofs.Common.{if◌then◌else◌, option_map, List, [], ◌∷◌, ◌++◌, length, Option, Some}
+use Rattle.std.proofs.Common.{◌≡◌, ◌≢◌, ℕ, ◌+◌, ◌-◌, ◌*◌, ◌^◌, ◌<◌, ◌≤◌, ◌==◌, max, Bool, true}
+use Rattle.std.proofs.Common.{false, if◌then◌else◌, option_map, List, [], ◌∷◌, ◌++◌, length, Option, Some}
 use Rattle.std.proofs.Common.{None, inl, inr, refl, sym, ap, subst, arith, ◌∙◌, suc, zero}
 use Rattle.std.proofs.Common.{slice_set, slice_index_or, map, sum_by}
 use Rattle.std.specs.List.{slice_get, AllByRecursion}
@@ -12,6 +12,7 @@ use Rattle.std.proofs.lemmas.Option.{get_or_from_slice_get, slice_get_within, sl
 use Rattle.std.proofs.lemmas.Bool.{cases_eq}
 use Rattle.std.proofs.lemmas.Bool.Decides.{nat_tests}
 use Rattle.afdx_config.specs.Rows.{LinkRow}
+use Rattle.afdx_frame.specs.Sealing.{AreBytes}
 use Rattle.afdx_send.specs.declared.agenda.Agenda.{Agenda}
 use Rattle.afdx_send.specs.declared.fault.SendFault.{SendFault}
 use Rattle.afdx_send.specs.declared.fault.SendFault.TheVariants.{NotMyLink, NoSuchSub, Empty}
@@ -242,6 +243,7 @@ line_same line line' l ss rs k st =
             ≤ 1000000000000000 + 257 * line.regulator.bag) (sym k.earliest) st.timely.balance));
       };
       fits = st.fits;
+      messages = st.messages;
       number = k.number ∙ st.number;
     }
 
@@ -502,8 +504,10 @@ submission_is m index sub time udp payload a b c d =
     ∙ ap (λ z. submission time sub z m.payload.items) c ∙ ap (λ z. submission time sub udp z) d
 
 pub can_take : (line : Line) (index sub : ℕ) (m : Queued) (n : ℕ) → LineAdmits line sub n
-    → index + 1 ≡ sub → length m.payload.items ≡ n → CanTake line index m
-can_take line index sub m n a e k = record {
+    → index + 1 ≡ sub → length m.payload.items ≡ n → m.udp < 2 ^ 16 → AreBytes m.payload.items
+    → CanTake line index m
+can_take line index sub m n a e k udp bytes = record {
+  message = record { some = (let b = a.some in omega (arith, b, k)); udp = udp; bytes = bytes };
   within = (let b = a.is_sub.1 in omega arith);
   fits = (let b = a.fits in omega arith);
   room = λ ms h. a.room index ms e h;

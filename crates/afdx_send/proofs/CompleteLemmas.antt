@@ -16,16 +16,18 @@ use Rattle.afdx_send.specs.Complete.{IsFor, HasSentAll, EmitsAll, IsOfTaken, All
 use Rattle.afdx_send.specs.Emissions.{LinkRelease, own, own_submissions, AreAllReleases, entry_for}
 use Rattle.afdx_send.specs.Emissions.{entries_of, AreSendings}
 use Rattle.afdx_send.specs.Frames.{Frame}
-use Rattle.afdx_send.specs.Releases.{Submission}
+use Rattle.afdx_send.specs.Releases.{Submission, IsMessage}
 use Rattle.afdx_send.specs.Sender.{SenderHistory, AreSent, flows_of}
 use Rattle.afdx_send.proofs.EmitLemmas.{are_ours}
 use Rattle.afdx_send.proofs.FullLemmas.{vl_of, charge_of, AllFit, charged_all, released_all}
 use Rattle.afdx_send.proofs.KeptLemmas.{order_push}
-use Rattle.afdx_send.proofs.LawLemmas.{Pairs, pairs_length, entries_length, go_in_order, paired, stream_of}
+use Rattle.afdx_send.proofs.LawLemmas.{Pairs, pairs_length, entries_length, go_in_order, paired}
+use Rattle.afdx_send.proofs.MessageLemmas.{AllMessages}
 use Rattle.afdx_send.proofs.NewLemmas.{are_sent}
 use Rattle.afdx_send.proofs.OrderLemmas.{all-get, are-releases-of-all}
 use Rattle.afdx_send.proofs.OwnLemmas.{own_releases, next_later}
 use Rattle.afdx_send.proofs.ReleaseLemmas.{get_either}
+use Rattle.afdx_send.proofs.StreamLemmas.{stream_of, emits_lawfully}
 
 -- ---- the entries of a port are in order
 
@@ -104,6 +106,10 @@ module _ (t : Rows) (system : ℕ) (h : SenderHistory) (s : HasSentAll t system 
   fits : AllFit h.links h.taken
   fits i j l m at here = (all-get (IsFor l) (own_submissions h.taken i) j m (s.fit i l at) here).fits
 
+  messages : AllMessages h.links h.taken
+  messages i j l m at here =
+      all-get (λ (x : Submission). IsMessage x.message) (own_submissions h.taken i) j m (s.messages i l at) here
+
   pairs : Pairs h.emitted s.done.released
   pairs = pairs-of h.links h.taken (byte_ns h.system) s.done.released h.emitted s.done.are_releases s.done.schedule
 
@@ -124,11 +130,11 @@ module _ (t : Rows) (system : ℕ) (h : SenderHistory) (s : HasSentAll t system 
   emits-all law in_time place l stream row sends =
       let lawful = stream_of h.system h.links h.taken (byte_ns h.system)
       (one_of_each (byte_ns h.system) (flows_of h.system h.links)) (entries_of s.done.released)
-      place l (sent law) fits row ((sent law).jitters place l row)
+      place l (sent law) fits messages row ((sent law).jitters place l row)
       h.emitted s.done.released stream (are_ours s.done.released) s.done.schedule.each_next
       (soon law in_time) s.done.are_releases pairs sends in
       record {
-        emits = record { released = s.done.released; are_releases = s.done.are_releases; lawful = lawful.lawful };
+        emits = emits_lawfully h place l s.done.released stream s.done.are_releases lawful;
         all = are-releases-of-all l (own_submissions h.taken place) (own place s.done.released)
             (s.fit place l row) (own_releases h.links h.taken place l s.done.released row
             s.done.are_releases) (λ p lt. s.done.all_released place p l row lt);

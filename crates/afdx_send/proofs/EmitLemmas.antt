@@ -23,7 +23,7 @@ use Rattle.afdx_send.specs.declared.line.Line.{Line}
 use Rattle.afdx_send.specs.declared.sender.Emission.{Emission}
 use Rattle.afdx_send.specs.declared.working.Working.{Working}
 use Rattle.afdx_send.specs.Emissions.{LinkRelease, own, AreAllReleases, IsNextOf, entry_for, entries_of, IsSending}
-use Rattle.afdx_send.specs.Frames.{Frame, facts, address_with}
+use Rattle.afdx_send.specs.Frames.{Frame, IsReadAs, facts, address_with}
 use Rattle.afdx_send.specs.Releases.{Submission, Release}
 use Rattle.afdx_send.specs.Sender.{SenderHistory, at, HasGiven, IsIdle, IsNextIn, StandsFor, Emits, port_history, sending_of}
 use Rattle.afdx_send.proofs.LineLemmas.{mul_most}
@@ -277,8 +277,9 @@ pub emits : (w : Working) (h : SenderHistory) (until : ℕ) (left : Left Frame) 
     A left.item.message.payload →
     e.b.items ≡ built_frame (address_with w.system_id w.partition left.item) left.item.number B
     left.item.message.payload →
+    IsReadAs e.a.items left.item → IsReadAs e.b.items left.item →
     IsSending w.system_id w.partition left.end left.item (sending_of e) → Emits h until e (record w { ready = None })
-emits w h until left e st ready law time vl a b sending =
+emits w h until left e st ready law time vl a b a_read b_read sending =
     let g = left_next w h until left st ready law in
     let item : left.item ≡ g.slot.entry.item = ap (λ z. z.item) g.left_is in
     let end : left.end ≡ g.slot.end = ap (λ z. z.end) g.left_is in
@@ -296,6 +297,8 @@ emits w h until left e st ready law time vl a b sending =
       b = b ∙ ap (λ i. F B i w.partition left.item) st.system_id
           ∙ ap (λ q. F B h.system.id q left.item) st.partition
           ∙ ap (λ s. F B h.system.id h.system.partition s) item;
+      a_read = subst (IsReadAs e.a.items) item a_read;
+      b_read = subst (IsReadAs e.b.items) item b_read;
       sending = subst (λ (i : ℕ). IsSending i h.system.partition g.slot.end g.slot.entry.item
           (sending_of e)) st.system_id (subst
           (λ (q : ℕ). IsSending w.system_id q g.slot.end g.slot.entry.item (sending_of e)) st.partition

@@ -12,6 +12,8 @@ mod AddLemmas
 mod SubmitLemmas
 pub mod NewLemmas
 pub mod LawLemmas
+pub mod MessageLemmas
+pub mod StreamLemmas
 mod DoneLemmas
 mod OrderLemmas
 mod CompleteLemmas

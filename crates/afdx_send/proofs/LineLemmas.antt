@@ -15,7 +15,7 @@ use Rattle.afdx_send.specs.Frames.{Frame}
 use Rattle.afdx_send.specs.Lines.{IsTimely, LineStands, LineReleases, CanTake, held_by}
 use Rattle.afdx_send.specs.Regulator.{Regulates, Releases, Serves, Pushes, HasQueue, submission_of}
 use Rattle.afdx_send.specs.Regulator.{waiting_of, next_time_of, sub_count}
-use Rattle.afdx_send.specs.Releases.{Submission, Release, IsNext, earliest_after}
+use Rattle.afdx_send.specs.Releases.{Submission, Release, IsMessage, IsNext, earliest_after}
 use Rattle.afdx_send.proofs.RegulatorLemmas.{due}
 use Rattle.afdx_send.proofs.ReleaseLemmas.{pushed, get_either, get_set_same, get_set_other, length_set, popped_sum}
 
@@ -140,6 +140,7 @@ line_releases old new f time sub m next serves rel vl least longest number messa
         regulates = k.regulates;
         timely = timely_release old.regulator new.regulator ss rs time sub m st.regulates st.timely next serves;
         fits = st.fits;
+        messages = st.messages;
         number = number ∙ ap next_number st.number;
       };
     }
@@ -207,6 +208,10 @@ line_takes line line' index m l ss rs k st early before come =
         | inr new ↦ (let t : length s.message.payload ≡ length m.payload.items =
             ap (λ z. length z.message.payload) new.1 in let f = k.can.fits in let g = is.longest in
             omega arith)
+      ];
+      messages = λ i s h. elim (get_either ss (submission_of (index + 1) m) i s h) [
+        | inl old ↦ st.messages i s old
+        | inr new ↦ subst (λ (z : Submission). IsMessage z.message) (sym new.1) k.can.message
       ];
       number = k.number ∙ st.number;
     }

@@ -10,7 +10,7 @@ use Rattle.std.proofs.lemmas.Option.{slice_get_within}
 use Rattle.std.proofs.lemmas.Bool.{cases_eq}
 use Rattle.afdx_frame.specs.declared.link.Priority.TheVariants.{Low}
 use Rattle.afdx_config.specs.Admission.{byte_ns, links_from, sender_jitter, IsAdmitted}
-use Rattle.afdx_config.specs.Lawful.{IsLink, IsLawful, AreDistinct}
+use Rattle.afdx_config.specs.Lawful.{IsSystem, IsLink, IsLawful, AreDistinct}
 use Rattle.afdx_config.specs.Numbers.{after_steps}
 use Rattle.afdx_config.specs.Rows.{SystemRow, LinkRow, Rows}
 use Rattle.afdx_admit.proofs.TakenLemmas.{at_place}
@@ -65,6 +65,7 @@ new_line l line n is lawful g none number = record {
         let b : line.regulator.earliest ≡ 0 = g.earliest in omega arith);
   };
   fits = λ i s h. absurd (cc h);
+  messages = λ i s h. absurd (cc h);
   number = number;
 }
   where
@@ -191,7 +192,7 @@ unfolding AreDistinct
 distinct_links links system d = filter_distinct (λ l. l.vl) (λ l. nat_eq l.from system) links d
 
 -- one frame of each, as admission sums them
-one_each : (s : SystemRow) (all links : List LinkRow)
+pub one_each : (s : SystemRow) (all links : List LinkRow)
     → one_of_each (byte_ns s) (map (sent_flow (byte_ns s) Low all) links)
     ≡ sum_by (λ l. (regulation_of_link l).smax * byte_ns s) links
 one_each s all [] = refl
@@ -219,6 +220,7 @@ jitters_are t place s admitted row i l h =
 pub are_sent : (t : Rows) (place : ℕ) (s : SystemRow) → EachSystemIsSender → IsLawful t
     → IsAdmitted t → slice_get t.systems place ≡ Some s → AreSent s (links_from t.links place)
 are_sent t place s law lawful admitted row = record {
+  system = (t.profile, all_at (IsSystem t.profile) t.systems place s lawful.systems.each row);
   is_sender = law t Low place s lawful admitted row;
   lawful = λ i l h. (let r = from_filter (λ l. nat_eq l.from place) t.links i l h in
       (length t.systems, all_at (IsLink (length t.systems)) t.links r.0 l lawful.links.each r.1));

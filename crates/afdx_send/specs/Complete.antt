@@ -15,7 +15,7 @@ use Rattle.afdx_port.specs.Schedule.{Turn}
 use Rattle.afdx_send.specs.Emissions.{own, own_submissions, AreSendings}
 use Rattle.afdx_send.specs.Frames.{Frame, numbered_frame}
 use Rattle.afdx_send.specs.Laws.{EmitsLawfully}
-use Rattle.afdx_send.specs.Releases.{Submission, Release, AreReleases}
+use Rattle.afdx_send.specs.Releases.{Submission, Release, IsMessage, AreReleases}
 use Rattle.afdx_send.specs.Sender.{SenderHistory, AreAllEmitted, IsSub}
 
 -- a message that a link can take
@@ -32,6 +32,8 @@ pub record HasSentAll (t : Rows) (system : ℕ) (h : SenderHistory) : Type 0 whe
   pub links : h.links ≡ links_from t.links system
   pub fit : (place : ℕ) (l : LinkRow) → slice_get h.links place ≡ Some l →
       AllByRecursion (IsFor l) (own_submissions h.taken place)
+  pub messages : (place : ℕ) (l : LinkRow) → slice_get h.links place ≡ Some l →
+      AllByRecursion (λ m. IsMessage m.message) (own_submissions h.taken place)
   pub done : AreAllEmitted h
 
 -- the submissions of some releases, the first one first

@@ -113,3 +113,8 @@ AreSendings s vl (t ∷ earlier) stream =
 abbrev pub sent_list : List Release → List Message
 sent_list [] = []
 sent_list (r ∷ earlier) = sent_list earlier ++ r.submission.message ∷ []
+
+-- their moments, the first one first
+abbrev pub times_of : List Release → List ℕ
+times_of [] = []
+times_of (r ∷ earlier) = times_of earlier ++ r.time ∷ []

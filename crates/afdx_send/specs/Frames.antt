@@ -2,6 +2,7 @@
 use Rattle.std.specs.Prelude.{ℕ, ◌+◌, max, min, None, List, length}
 use Rattle.afdx_config.specs.SentList.{Message}
 use Rattle.afdx_frame.specs.Lengths.{least_frame, greatest_frame, frame_overhead}
+use Rattle.afdx_frame.specs.Grammar.{Read}
 use Rattle.afdx_frame.specs.declared.builder.Address.{Address}
 use Rattle.afdx_port.specs.Facts.{Facts}
 
@@ -31,6 +32,10 @@ address_with system_id partition f = record {
   to_udp = f.message.udp;
   least = f.least;
 }
+
+-- the bytes are read as a frame of its link that carries its message under its number
+abbrev pub IsReadAs : List ℕ → Frame → Type 0
+IsReadAs bytes f = Read bytes f.vl f.message.udp f.message.udp f.message.payload f.number
 
 -- what a port knows of it: its length is that which the builder gives it, at most that of the
 -- greatest frame. It may wait for ever

@@ -13,8 +13,8 @@ use Rattle.afdx_send.specs.declared.line.Line.{Line}
 use Rattle.afdx_send.specs.declared.regulator.Queued.{Queued}
 use Rattle.afdx_send.specs.declared.regulator.Regulator.{Regulator}
 use Rattle.afdx_send.specs.Frames.{Frame}
-use Rattle.afdx_send.specs.Regulator.{Regulates, HasQueue, waiting_of, sub_count}
-use Rattle.afdx_send.specs.Releases.{Submission, Release, IsNext, queue_limit}
+use Rattle.afdx_send.specs.Regulator.{Regulates, HasQueue, submission_of, waiting_of, sub_count}
+use Rattle.afdx_send.specs.Releases.{Submission, Release, IsMessage, IsNext, queue_limit}
 
 -- the line is that of a row
 pub record IsLineOf (l : LinkRow) (line : Line) : Type 0 where
@@ -44,6 +44,7 @@ pub record LineStands (line : Line) (l : LinkRow) (ss : List Submission) (rs : L
   pub timely : IsTimely line.regulator ss
   pub fits : (i : ℕ) (s : Submission) → slice_get ss i ≡ Some s →
       length s.message.payload + frame_overhead ≤ l.lmax
+  pub messages : (i : ℕ) (s : Submission) → slice_get ss i ≡ Some s → IsMessage s.message
   pub number : line.number ≡ after_steps (length rs) 0
 
 -- the link's next release, as the message that enters the port
@@ -82,6 +83,7 @@ pub record LineAdmits (line : Line) (sub n : ℕ) : Type 0 where
 -- a further message can join the queue at this index
 pub record CanTake (line : Line) (index : ℕ) (m : Queued) : Type 0 where
   pub within : index < sub_count line.regulator
+  pub message : IsMessage (submission_of (index + 1) m).message
   pub fits : length m.payload.items + frame_overhead ≤ line.longest
   pub room : (ms : List Queued) → HasQueue (waiting_of line.regulator) index ms →
       length ms < queue_limit

@@ -1,7 +1,14 @@
 -- When the messages of one link are released, as a predicate on a whole list of releases.
-use Rattle.std.specs.Prelude.{◌≡◌, ℕ, ◌+◌, ◌-◌, ◌≤◌, ◌==◌, nat_lt, Bool, false, if◌then◌else◌, List, [], ◌∷◌, Some, slice_get}
+use Rattle.std.specs.Prelude.{◌≡◌, ℕ, ◌+◌, ◌-◌, ◌^◌, ◌<◌, ◌≤◌, ◌==◌, nat_lt, Bool, false, if◌then◌else◌, List, [], ◌∷◌, length, Some, slice_get}
 use Rattle.std.specs.List.{list_any}
+use Rattle.afdx_frame.specs.Sealing.{AreBytes}
 use Rattle.afdx_config.specs.SentList.{Message}
+
+-- a message that can be sent: one byte or more, to a UDP port
+pub record IsMessage (m : Message) : Type 0 where
+  pub some : 1 ≤ length m.payload
+  pub udp : m.udp < 2 ^ 16
+  pub bytes : AreBytes m.payload
 
 -- a message that was taken: when it came, and its sub-VL
 pub record Submission : Type 0 where

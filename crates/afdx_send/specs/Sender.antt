@@ -12,7 +12,7 @@ use Rattle.afdx_frame.specs.Regulation.{jitter}
 use Rattle.afdx_config.specs.Flows.{regulation_of_link}
 use Rattle.afdx_config.specs.LawfulStream.{Sending}
 use Rattle.afdx_config.specs.Admission.{byte_ns, links_from}
-use Rattle.afdx_config.specs.Lawful.{IsLink, AreDistinct}
+use Rattle.afdx_config.specs.Lawful.{IsSystem, IsLink, AreDistinct}
 use Rattle.afdx_config.specs.Rows.{SystemRow, LinkRow, Rows}
 use Rattle.afdx_bounds.specs.Sender.{IsSender, one_of_each, sender_buffer}
 use Rattle.afdx_bounds.specs.Tables.{sent_flow}
@@ -27,7 +27,7 @@ use Rattle.afdx_send.specs.declared.sender.Emission.{Emission}
 use Rattle.afdx_send.specs.declared.working.Working.{Working}
 use Rattle.afdx_send.specs.Agenda.{NoneBefore, IsPlayed, nexts}
 use Rattle.afdx_send.specs.Emissions.{LinkRelease, own, own_submissions, AreAllReleases, AreReleasedBefore, entries_of, IsNextEmission, IsSending}
-use Rattle.afdx_send.specs.Frames.{Frame, facts, address_with}
+use Rattle.afdx_send.specs.Frames.{Frame, IsReadAs, facts, address_with}
 use Rattle.afdx_send.specs.Lines.{LineStands, held_by}
 use Rattle.afdx_send.specs.Regulator.{next_time_of}
 use Rattle.afdx_send.specs.Releases.{Submission, has_release, count_without, queue_limit}
@@ -137,6 +137,7 @@ IsPlaceOf links vl (Some place) = (l : LinkRow) × (slice_get links place ≡ So
 
 -- a sender of this system can have these links
 pub record AreSent (s : SystemRow) (links : List LinkRow) : Type 0 where
+  pub system : (profile : ℕ) × IsSystem profile s
   pub is_sender : IsSender (byte_ns s) Low (flows_of s links)
   pub lawful : (i : ℕ) (l : LinkRow) → slice_get links i ≡ Some l → (n : ℕ) × IsLink n l
   pub distinct : AreDistinct (λ l. l.vl) links
@@ -216,6 +217,8 @@ pub record Emits (h : SenderHistory) (until : ℕ) (e : Emission) (new : Working
   pub b : e.b.items ≡
       built_frame (address_with h.system.id h.system.partition slot.entry.item)
       slot.entry.item.number B slot.entry.item.message.payload
+  pub a_read : IsReadAs e.a.items slot.entry.item
+  pub b_read : IsReadAs e.b.items slot.entry.item
   pub sending : IsSending h.system.id h.system.partition slot.end slot.entry.item (sending_of e)
   pub stands : StandsFor new (with_emission h slot until)
 

@@ -41,7 +41,7 @@ impl Released {
     ghost use Rattle.std.specs.Prelude.{◌≡◌, ℕ};
     ghost use Rattle.afdx_frame.specs.declared.link.Side.TheVariants.{A, B};
     ghost use Rattle.afdx_frame.specs.Grammar.{Built, built_length, built_frame};
-    ghost use Rattle.afdx_send.specs.Frames.{Frame, numbered_frame, address_with};
+    ghost use Rattle.afdx_send.specs.Frames.{Frame, IsReadAs, numbered_frame, address_with};
 
     pub(crate) fn new(vl: VlId, least: u16, number: u8, udp: u16, payload: Vec<u8>) -> Released
         requires least { (least_frame ≤ least) × (least ≤ greatest_frame) }
@@ -74,6 +74,8 @@ impl Released {
             let Frame = Built address self.now.number in
             let payload = self.now.message.payload in
             IfOk result (λ both. Frame A payload both.0.items × Frame B payload both.1.items) }
+        ensures read { IfOk result
+            (λ both. IsReadAs both.0.items self.now × IsReadAs both.1.items self.now) }
         ensures long { let address = address_with system_id partition self.now in
             let long = built_length address (length self.now.message.payload) in
             IfOk result (λ both. (length both.0.items ≡ long) × (length both.1.items ≡ long)) }

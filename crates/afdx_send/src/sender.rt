@@ -47,7 +47,7 @@ impl Sender {
     ghost use Rattle.afdx_config.specs.Rows.{SystemRow};
     ghost use Rattle.afdx_port.specs.Schedule.{Turn};
     ghost use Rattle.afdx_send.specs.Frames.{Frame};
-    ghost use Rattle.afdx_send.specs.Laws.{EachEmitsLawfully};
+    ghost use Rattle.afdx_send.specs.Laws.{EachIsInTime, EachEmitsLawfully, GoesOn};
     ghost use Rattle.afdx_send.specs.Releases.{Submission};
     ghost use Rattle.afdx_send.specs.Sender.{SenderHistory, no_calls, at, with_submission, IsNextIn};
     ghost use Rattle.afdx_send.specs.Sender.{IsQuiet, StandsFor, Emits, AreAllEmitted, IsTaken};
@@ -104,7 +104,10 @@ impl Sender {
     /// used. If `until` is 1.2e15 or later, None says that each message that was taken has been
     /// emitted.
     ///
-    /// What each link has emitted is a lawful stream of the beginning of its sent list.
+    /// What each link has emitted is a lawful stream of the beginning of its sent list, and goes on
+    /// so with this emission; both frames are read as the message that they were built of. Each
+    /// emission ends at most its system's jitter, as admission sums it, less 40 us after its
+    /// release.
     /// The error says that memory was refused for an emission that ends by then, and is left to be
     /// taken again.
     pub fn emit(&mut self, until: u64) -> Result<Option<Emission>, AllocError>
@@ -123,7 +126,10 @@ impl Sender {
         ensures again { (h : SenderHistory) → StandsFor self.old h →
             OnErr result (StandsFor self.new (at h until)) }
         ensures quiet { IfOk result (λ o. IfNone o (IsQuiet self.new until)) }
+        ensures in_time { (h : SenderHistory) → StandsFor self.new h → EachIsInTime h }
         ensures lawful { (h : SenderHistory) → StandsFor self.new h → EachEmitsLawfully h }
+        ensures goes_on { (h : SenderHistory) → StandsFor self.old h →
+            IfOk result (λ o. IfSome o (λ e. GoesOn h e)) }
         ensures clock { last_time self.new ≡ until }
         ensures held { IfOk result (λ o. MatchOption o (frames_held self.new
             ≡ frames_held self.old) (λ _. frames_held self.new + 1 ≡ frames_held self.old)) }

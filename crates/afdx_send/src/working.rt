@@ -61,7 +61,7 @@ impl Working {
     ghost use Rattle.afdx_send.specs.declared.line.Line.{Line};
     ghost use Rattle.afdx_send.specs.Agenda.{NoneBefore, IsPlayed, IsSoonest, nexts};
     ghost use Rattle.afdx_send.specs.Emissions.{IsSending};
-    ghost use Rattle.afdx_send.specs.Frames.{Frame, facts, address_with};
+    ghost use Rattle.afdx_send.specs.Frames.{Frame, IsReadAs, facts, address_with};
     ghost use Rattle.afdx_send.specs.Lines.{CanTake};
     ghost use Rattle.afdx_send.specs.Regulator.{sub_count, submission_of, next_time_of};
     ghost use Rattle.afdx_send.specs.Sender.{SenderHistory, at, with_submission, submission, sending_of};
@@ -181,6 +181,8 @@ impl Working {
         ensures sending { IfOk result
             (λ e. IsSending self.now.system_id self.now.partition left.now.end left.now.item
             (sending_of e)) }
+        ensures a_read { IfOk result (λ e. IsReadAs e.a.items left.now.item) }
+        ensures b_read { IfOk result (λ e. IsReadAs e.b.items left.now.item) }
         ensures a { IfOk result (λ e. e.a.items ≡ built_frame
             (address_with self.now.system_id self.now.partition left.now.item)
             left.now.item.number A left.now.item.message.payload) }

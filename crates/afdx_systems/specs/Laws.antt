@@ -10,7 +10,7 @@ use Rattle.afdx_config.specs.Reading.{has_port, system_at_port}
 use Rattle.afdx_receive.specs.Arrivals.{incoming}
 use Rattle.afdx_config.specs.SentList as sent
 use Rattle.afdx_receive.specs.TwoStreams.{count_of}
-use Rattle.afdx_receive.specs.Copies.{AreCopies, AreSendable}
+use Rattle.afdx_receive.specs.Copies.{AreCopies}
 use Rattle.afdx_receive.specs.Delivery.{with_answer, delivered}
 use Rattle.afdx_receive.specs.Answers.{Answer, Message, Dropped, answer_after, subscription}
 use Rattle.afdx_receive.specs.declared.reception.DropReason.{DropReason}
@@ -87,7 +87,7 @@ StreamIsToldOnce =
     (messages : List sent.Message) (stream : List Sending) (all : List HandedOver) →
     subscription rows system link.vl ≡ Some link → IsLink systems link →
     link.latency_us ≤ link.skew_us →
-    AreSendable s link messages → IsLawfulStream s link messages stream →
+    IsLawfulStream s link messages stream →
     AreCopies (1000 * link.latency_us) stream (frames_to port link.vl all) →
     reverse (messages_at rows system port link.vl all)
     ≡ filter (λ m. has_port rows.ports system link.vl m.udp)

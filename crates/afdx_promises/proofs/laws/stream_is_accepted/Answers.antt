@@ -1,3 +1,4 @@
+use Rattle.afdx_promises.proofs.AcceptedLemmas.{told-accepted, told-so-far-accepted}
 use Rattle.afdx_promises.proofs.StreamLemmas.{stream-is-regular, stream-accepted}
 use Rattle.afdx_promises.proofs.laws.stream_is_accepted.Goals as goal
 
@@ -6,3 +7,9 @@ returns-clause-regular c = stream-is-regular c.built_is_computed.ensures
 
 pub returns-clause-accepted : goal.returns-clause-accepted
 returns-clause-accepted c = stream-accepted c.built_is_computed.ensures
+
+pub returns-clause-told : goal.returns-clause-told
+returns-clause-told c = told-accepted c.built_is_computed.ensures
+
+pub returns-clause-told_so_far : goal.returns-clause-told_so_far
+returns-clause-told_so_far c = told-so-far-accepted c.built_is_computed.ensures

@@ -1,4 +1,4 @@
-use Rattle.afdx_send.proofs.LawLemmas.{are_in_time, are_lawful}
+use Rattle.afdx_send.proofs.StreamLemmas.{are_in_time, are_lawful}
 use Rattle.afdx_send.proofs.laws.emissions_are_lawful.Goals as goal
 
 pub returns-clause-in_time : goal.returns-clause-in_time

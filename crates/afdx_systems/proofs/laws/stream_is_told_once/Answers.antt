@@ -5,8 +5,8 @@ use Rattle.afdx_systems.proofs.LawLemmas.{messages-delivered}
 use Rattle.afdx_systems.proofs.laws.stream_is_told_once.Goals as goal
 
 pub returns : goal.returns
-returns c rows system port systems s link messages stream all subscribed is-link soon sendable lawful copies =
+returns c rows system port systems s link messages stream all subscribed is-link soon lawful copies =
     ap reverse (messages-delivered rows system port link.vl link all subscribed)
     ∙ c.stream_is_delivered_once.ensures systems s link messages stream
-    (has_port rows.ports system link.vl) (frames_to port link.vl all) is-link soon sendable
+    (has_port rows.ports system link.vl) (frames_to port link.vl all) is-link soon
     lawful copies

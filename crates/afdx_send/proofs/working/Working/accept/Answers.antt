@@ -1,4 +1,5 @@
-use Rattle.std.proofs.Common.{arith, ap, ◌∙◌, subst, ◌≡◌, ◌+◌, ◌-◌, length}
+use Rattle.std.proofs.Common.{arith, ap, ◌∙◌, subst, sym, ◌≡◌, ◌+◌, ◌-◌, length}
+use Rattle.afdx_frame.specs.Sealing.{AreBytes}
 use Rattle.afdx_send.specs.declared.line.Line.{Line}
 use Rattle.afdx_send.specs.Lines.{CanTake}
 use Rattle.afdx_send.specs.Regulator.{submission_of}
@@ -64,11 +65,14 @@ add-requires-clause-queue c = λ line has.
     let from : c.from.result ≡ c.args.sub = c.from.ensures in
     let some = lets.is_sub.0 in
     let at : c.from.result - 1 + 1 ≡ c.args.sub = omega arith in
+    let same_bytes : c.new-message.result.payload.items ≡ c.args.payload.now =
+    ap (λ v. v.items) c.new-message.ensures.payload ∙ c.in-Ok.ensures.items in
     let n : length c.new-message.result.payload.items ≡ length c.args.payload.now =
     ap (λ v. length v.items) c.new-message.ensures.payload ∙ ap length c.in-Ok.ensures.items in
     subst (λ (z : Line). CanTake z (c.from.result - 1) c.new-message.result) same
     (can_take c.index.result.now (c.from.result - 1) c.args.sub c.new-message.result
-    (length c.args.payload.now) lets at n)
+    (length c.args.payload.now) lets at n (omega (arith, c.new-message.ensures.udp))
+    (subst AreBytes (sym same_bytes) (λ i. (c.type_inv.payload i).fits)))
 
 pub returns-in-Ok-add-clause-ok : goal.returns-in-Ok-add-clause-ok
 returns-in-Ok-add-clause-ok c = λ h st.

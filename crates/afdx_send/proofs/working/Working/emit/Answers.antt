@@ -43,7 +43,8 @@ returns-in-Ok-clause-sound c =
     let g = emits w h c.args.until c.in-Some.left c.in-Ok.emission
     (c.prepare.ensures.stands h c.requires.sound.1) (sym c.take.ensures.value ∙ c.in-Some.is)
     c.taken_are_on_schedule.ensures.turns
-    c.in-Ok.ensures.time c.in-Ok.ensures.vl c.in-Ok.ensures.a c.in-Ok.ensures.b c.in-Ok.ensures.sending in (
+    c.in-Ok.ensures.time c.in-Ok.ensures.vl c.in-Ok.ensures.a c.in-Ok.ensures.b
+    c.in-Ok.ensures.a_read c.in-Ok.ensures.b_read c.in-Ok.ensures.sending in (
       with_emission h g.slot c.args.until,
       subst (λ (o : Option (Left Frame)). StandsFor (record w { ready = o })
           (with_emission h g.slot c.args.until)) (sym c.take.ensures.after) g.stands,
@@ -56,7 +57,8 @@ returns-in-Ok-clause-given c = λ h st.
     (record w { ready = o })) (sym c.take.ensures.after)
     (emits w h c.args.until c.in-Some.left c.in-Ok.emission (c.prepare.ensures.stands h st)
     (sym c.take.ensures.value ∙ c.in-Some.is) c.taken_are_on_schedule.ensures.turns
-    c.in-Ok.ensures.time c.in-Ok.ensures.vl c.in-Ok.ensures.a c.in-Ok.ensures.b c.in-Ok.ensures.sending)
+    c.in-Ok.ensures.time c.in-Ok.ensures.vl c.in-Ok.ensures.a c.in-Ok.ensures.b
+    c.in-Ok.ensures.a_read c.in-Ok.ensures.b_read c.in-Ok.ensures.sending)
 
 pub returns-in-Err-clause-sound : goal.returns-in-Err-clause-sound
 returns-in-Err-clause-sound c =
