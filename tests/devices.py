@@ -172,12 +172,22 @@ def both_broken(weak: Weak, reads: int) -> None:
         must(len(of_kind(calls, "w")) <= 1, "a failed output is asked again")
 
 
+def reason_of_the_fault(weak: Weak, reads: int) -> None:
+    """Where both devices fail, the explanation is of the one that the fault's line names."""
+    found, _ = weak.run(FEW, "--explain", read=f"{reads}:fails", write="1:interrupted")
+    lines = found.err.decode().splitlines()
+    name = "list" if weak.by_path else "standard input"
+    must(lines[0] == "device Read", f"the fault's line is {lines[0]}")
+    must(name in lines[-1] and "Input/output error" in lines[-1], f"the last line is {lines[-1]}")
+
+
 def weak_devices(weak: Weak) -> None:
     """All of it, for one command on one list."""
     reads = whole_runs(weak)
     each_line_at_once(weak)
     broken_reads(weak, reads)
     both_broken(weak, reads)
+    reason_of_the_fault(weak, reads)
     broken_writes(weak, [])
     broken_writes(weak, ["--line-buffered"])
 

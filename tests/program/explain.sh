@@ -65,6 +65,10 @@ tell 'check explains a line of admission' "$(
     if [[ $(tail -n 1 "$work/out") != 'no A3 7 104 267995' ]]; then echo 'another last line'; fi
 )"
 case_of 'nothing to explain' 0 "$three" '' police --explain 1 64 500 examples/one_link.list
+case_of 'nothing to explain of a configuration' 0 "$base"$'ok\n' '' \
+    check --explain examples/base.toml
+case_of 'nothing to explain of a replay' 0 '' '' replay --explain examples/base.toml -
+case_of 'nothing to explain of messages' 0 '' '' send --explain examples/base.toml s1 -
 explained_case 'police explains a number' 2 '' 'words BadRule' \
     'JITTER_US is 0 to 1000 times BAG_MS' police --explain 1 64 1001 examples/one_link.list
 explained_case 'police explains a path' 4 '' 'device List' "$work/none: No such file or directory" \
@@ -72,6 +76,10 @@ explained_case 'police explains a path' 4 '' 'device List' "$work/none: No such 
 explained_case 'police explains a folder' 4 '' 'device Read' "$work: Is a directory" \
     police --explain 1 64 500 "$work"
 listed $'F 0 A 1 0\n'
+input=$work
+explained_case 'police explains standard input' 4 '' 'device Read' \
+    'standard input: Is a directory' police --explain 1 64 500 -
+input=/dev/null
 explained_case 'police explains a line' 3 '' 'list BadHex 1' 'An odd number of digits' \
     police --explain 1 64 500 -
 input=/dev/null

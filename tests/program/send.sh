@@ -21,6 +21,14 @@ send_fault() { # NAME STATUS LIST OUT ERR
         send "$work/tables.toml" s1 "$work/list"
 }
 
+counted() { # NAME COUNTS : those of a replay of what was sent
+    launch replay --summary "$work/tables.toml" "$work/sent"
+    tell "$1" "$(
+        has_status 0
+        differs 'standard error' "summary $2"$'\n' "$work/err"
+    )"
+}
+
 both() { # TIME PAYLOAD NUMBER
     printf 'R %s A 1 %s %s / R %s B 1 %s %s' "$1" "$2" "$3" "$1" "$2" "$3"
 }
@@ -54,6 +62,7 @@ tell 'the first frame, byte for byte' "$(
 )"
 lines_of "$four_told" >"$work/wanted_file"
 file_case 'what was sent, replayed' 0 "$work/wanted_file" '' replay "$work/tables.toml" "$work/sent"
+counted 'its counts' 'lines 8 accepted 8 dropped 0 lost 0 departed 8 too-old 0 delivered 4'
 sends 'refused submissions' \
     "0 2 1 1000 00 / 0 1 3 1000 00 / 0 1 1 1000 - / 0 1 1 1000 $(zeros 36)" \
     '# 1 S1 / # 2 S2 / # 3 S3 / # 4 S4'
@@ -79,6 +88,8 @@ tell 'numbers from 0, then 1 to 255 round and round' "$(
 printf '%s' "$all_told" >"$work/wanted_file"
 file_case 'each message once and in order, as sent' 0 "$work/wanted_file" '' \
     replay "$work/tables.toml" "$work/sent"
+counted 'their counts' \
+    'lines 600 accepted 600 dropped 0 lost 0 departed 600 too-old 0 delivered 300'
 
 # Messages of 1 to 1,471 bytes.
 longer='s/^buffer = 252/buffer = 4096/; /^vl = 1/,/^lmax/s/^lmax = 64/lmax = 1518/'

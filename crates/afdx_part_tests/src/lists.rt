@@ -3,4 +3,3 @@
 mod reading;
 mod said;
 mod text;
-mod weak;

@@ -6,7 +6,9 @@ mod end_to_end;
 mod premises;
 mod refusals;
 mod replays;
+mod rows;
 mod sends;
+mod weak;
 
 use crate::texts::short_text;
 use afdx_frame::{Policing, VlId};

@@ -6,9 +6,11 @@
 mod configurations;
 mod frames;
 mod rows;
+mod weak;
 
 pub use configurations::{
     GREATEST_COUNT, ShortText, admitted, base, base_tables, changed, largest, largest_tables, read,
 };
 pub use frames::{HELLO, NUMBER, hello, longer_hello, sealed, spelled, world};
 pub use rows::{all_right, equal};
+pub use weak::{Break, Feeds, WeakReader, WeakWriter};

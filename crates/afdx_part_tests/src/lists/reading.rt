@@ -2,9 +2,8 @@
 
 ghost use Rattle.std.specs.Prelude.{◌<◌};
 
-use super::weak::{Feeds, WeakReader};
 use afdx_lists::{LineReader, RunFault, Watched};
-use afdx_samples::{all_right, equal};
+use afdx_samples::{Feeds, WeakReader, all_right, equal};
 use std::alloc::{AllocError, Global};
 use std::io::Read;
 use std::test::Fail;

@@ -1,11 +1,10 @@
 //! Text that is made and written, and faults that are told.
 
-use super::weak::{Break, WeakWriter};
 use afdx_lists::{
     Buffered, LineError, LineFault, RunFault, Text, Watched, read_frame_line, tell_fault,
     write_text,
 };
-use afdx_samples::equal;
+use afdx_samples::{Break, WeakWriter, equal};
 use std::alloc::{AllocError, Global};
 use std::test::Fail;
 

@@ -7,7 +7,7 @@ use crate::texts::short_text;
 use afdx_admit::Admitted;
 use afdx_config::SystemId;
 use afdx_replay::{NO_COUNTS, RunFault, Summary, Watched, run_send};
-use afdx_samples::{ShortText, admitted, base, equal};
+use afdx_samples::{ShortText, admitted, all_right, base, equal};
 use std::alloc::Global;
 use std::test::Fail;
 
@@ -93,4 +93,45 @@ fn messages_are_sent_in_turn(rt: HostRuntime) -> Result<(), Fail> {
     let right = right_lines(text.as_str(), wanted.as_slice());
     let all = text.as_str().lines().count();
     equal((result, right, all), (Ok(counts(4, 4, 0, 4)), 8, 8))
+}
+
+/// A list of submissions to the first system, its text, and its counts: lines, accepted, dropped
+/// and departed.
+type Refused = (&'static str, &'static str, [u64; 4]);
+
+/// Whether the list is answered so.
+fn is_refused(alloc: Global, row: &Refused) -> Result<bool, Fail> {
+    let (list, text, [lines, accepted, dropped, departed]) = *row;
+    let (result, written) = sent_shortly(alloc, list)?;
+    let wanted = counts(lines, accepted, dropped, departed);
+    Ok(written.as_str() == text && result == Ok(wanted))
+}
+
+/// The first of the lists that isn't answered as it should be.
+fn wrongly_refused(alloc: Global, rows: &[Refused]) -> Result<Option<&'static str>, Fail> {
+    for row in rows {
+        if !is_refused(alloc, row)? {
+            return Ok(Some(row.0));
+        }
+    }
+    Ok(None)
+}
+
+#[test]
+fn messages_are_refused(rt: HostRuntime) -> Result<(), Fail> {
+    let rows = [
+        ("", "", [0, 0, 0, 0]),
+        (
+            "0 2 1 1000 00\n0 1 3 1000 00\n0 1 1 1000 -\n",
+            "# 1 S1\n# 2 S2\n# 3 S3\n",
+            [3, 0, 3, 0],
+        ),
+        ("# a remark\n\n0 7 1 1000 61", "# 3 S1\n", [3, 0, 1, 0]),
+        (
+            "0 1 1 1000 000000000000000000000000000000000000\n",
+            "# 1 S4\n",
+            [1, 0, 1, 0],
+        ),
+    ];
+    all_right(wrongly_refused(rt.alloc(), rows.as_slice())?)
 }

@@ -1,4 +1,4 @@
-//! Devices that move little at a time and fail.
+//! Devices that move little at a time and fail, for tests of what reads and writes.
 
 ghost use Rattle.std.specs.Prelude.{◌<◌};
 
@@ -7,17 +7,17 @@ use std::io::{ErrorKind, Read, Write};
 
 /// What a device does at the call where it breaks.
 #[derive(Clone, Copy, Debug, PartialEq, Eq)]
-pub(super) enum Break {
+pub enum Break {
     Fails,
     TakesNone,
 }
 
 /// Reads from memory, at most `most` bytes a call, and fails once `calls` calls went well.
 #[derive(Drop)]
-pub(super) struct WeakReader<'a> {
-    pub(super) rest: &'a [u8],
-    pub(super) most: usize,
-    pub(super) calls: u64,
+pub struct WeakReader<'a> {
+    pub rest: &'a [u8],
+    pub most: usize,
+    pub calls: u64,
     ghost moves: { 0 < most },
 }
 
@@ -38,11 +38,11 @@ impl Read for WeakReader<'_> {
 
 /// Writes to memory, at most `most` bytes a call, and breaks once `calls` calls went well.
 #[derive(Drop)]
-pub(super) struct WeakWriter {
-    pub(super) written: Vec<u8>,
-    pub(super) most: usize,
-    pub(super) calls: u64,
-    pub(super) at_end: Break,
+pub struct WeakWriter {
+    pub written: Vec<u8>,
+    pub most: usize,
+    pub calls: u64,
+    pub at_end: Break,
 }
 
 impl Write for WeakWriter {
@@ -69,8 +69,8 @@ impl Write for WeakWriter {
 
 /// Gives so many line feeds.
 #[derive(Drop)]
-pub(super) struct Feeds {
-    pub(super) left: usize,
+pub struct Feeds {
+    pub left: usize,
 }
 
 impl Read for Feeds {
