@@ -75,11 +75,11 @@ explained_case 'police explains a path' 4 '' 'device List' "$work/none: No such 
     police --explain 1 64 500 "$work/none"
 explained_case 'police explains a folder' 4 '' 'device Read' "$work: Is a directory" \
     police --explain 1 64 500 "$work"
-listed $'F 0 A 1 0\n'
 input=$work
 explained_case 'police explains standard input' 4 '' 'device Read' \
     'standard input: Is a directory' police --explain 1 64 500 -
 input=/dev/null
+listed $'F 0 A 1 0\n'
 explained_case 'police explains a line' 3 '' 'list BadHex 1' 'An odd number of digits' \
     police --explain 1 64 500 -
 input=/dev/null
