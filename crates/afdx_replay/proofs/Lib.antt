@@ -1,4 +1,6 @@
-pub mod Progress
+pub mod EngineLemmas
+pub mod ListSourceLemmas
+pub mod ListRunLemmas
 pub mod RunLemmas
 pub mod TextLemmas
 pub mod ToldLemmas
@@ -6,6 +8,7 @@ pub mod CheckLemmas
 pub mod RefusalLemmas
 pub mod ReplayLemmas
 pub mod SendLemmas
+pub mod SendStartLemmas
 pub mod SentLineLemmas
 pub mod PromisedLemmas
 pub mod LossLemmas

@@ -17,9 +17,10 @@ use Rattle.afdx_lists.proofs.WholeLemmas.{HasTaken, HasTaken-next}
 use Rattle.afdx_lists.proofs.LineLemmas.{lines_of_nothing}
 use Rattle.afdx_lists.specs.Faults.{fault_at, IsErrorOf}
 use Rattle.afdx_replay.specs.Lists.{Kind, latest_in, with_item, items_of, item_said, fault_in}
-use Rattle.afdx_replay.specs.Lists.{fault_said, HaveNoFault, HaveFirstFault}
+use Rattle.afdx_replay.specs.Lists.{fault_said, HaveFirstFault}
 use Rattle.afdx_replay.specs.Stops.{GaveLines, IsToldOf, StopsIn}
-use Rattle.afdx_replay.proofs.Progress.{HasRead, HasComeIn}
+pub use Rattle.afdx_replay.specs.ListRun.{IsDone}
+use Rattle.afdx_replay.specs.Progress.{HasRead, HasComeIn}
 
 items_of_next : {Y X : Type 0} (k : Kind Y X) (lines : List (List ℕ)) (n : ℕ)
     → items_of k lines (n + 1) ≡ with_item k (n + 1) (item_said k lines n) (items_of k lines n)
@@ -156,12 +157,6 @@ module _ {Y X : Type 0} (k : Kind Y X) where
       taken.short h taken.takes said
       (λ past are. subst (λ (i : ℕ). after (k.item i y ∷ past)) place (tell past are)))
 
--- all lines were read
-pub record IsDone {Y X : Type 0} (k : Kind Y X) (told : List X → Type 0) (n : ℕ) (lines : List (List ℕ)) : Type 0 where
-  pub all : n ≡ length lines
-  pub sound : HaveNoFault k lines (length lines)
-  pub are_told : told (items_of k lines (length lines))
-
 pub HasCome-done : {Y X : Type 0} (k : Kind Y X) (told : List X → Type 0) (latest n : ℕ)
     (input rest : Option (List ℕ)) → HasComeIn k told latest n input rest → IsAtEnd rest
     → IfSome input (λ bytes. IsDone k told n (lines_of bytes))
@@ -179,7 +174,7 @@ HasCome-done k told latest n (Some bytes) (Some rest) h end =
 -- ---- what was read
 
 -- n lines were taken: all of these were read
-GaveLines-taken : (ended : Bool) (input after : Option (List ℕ)) (unread : List ℕ) (n : ℕ) →
+pub GaveLines-taken : (ended : Bool) (input after : Option (List ℕ)) (unread : List ℕ) (n : ℕ) →
     (ended ≡ false → HasTaken input after unread n) → (ended ≡ true → IsAtEnd after) → GaveLines input after n
 unfolding GaveLines
 GaveLines-taken true input after unread n taken honest = inl (honest refl)
@@ -343,7 +338,7 @@ module _ {Y X : Type 0} (k : Kind Y X) (told all beginning : List X → Type 0) 
   stops-reader latest n (Some bytes) (Some rest) after fault h stop gave f =
       stop_answers latest n bytes rest after fault h stop gave f
 
-device : {Y X : Type 0} (k : Kind Y X) (all beginning : List X → Type 0) (bytes : List ℕ)
+pub device : {Y X : Type 0} (k : Kind Y X) (all beginning : List X → Type 0) (bytes : List ℕ)
     (after : Option (List ℕ)) (fault : RunFault) →
     IsDevice fault → (n : ℕ) × GaveLines (Some bytes) after n × IsToldOf k beginning (lines_of bytes) n →
     StopsIn k all beginning bytes after fault

@@ -19,17 +19,10 @@ use Rattle.afdx_replay.specs.Stops.{StopsAt}
 use Rattle.afdx_replay.specs.PoliceText.{text_of, count_judged, verdict_line}
 use Rattle.afdx_replay.specs.Policed.{WritesText, WritesBeginning, WritesAll}
 use Rattle.afdx_replay.specs.Policers.{HaveSeen}
+use Rattle.afdx_replay.specs.PoliceTold.{HasTold}
 use Rattle.afdx_replay.proofs.RunLemmas.{IsDone, stops-at-start}
 use Rattle.afdx_replay.proofs.TextLemmas.{text_of-none, text_of-more, judged-none}
 use Rattle.afdx_replay.proofs.TextLemmas.{judged-more, judged-same, front-whole, front-more}
-
--- These arrivals are told: the accounts stand for them, they are counted, and their text is written
-pub record HasTold (rule : Rule) (policers : Policers) (accepted dropped : ℕ)
-    (old new : Option (List ℕ)) (past : List Arrival) : Type 0 where
-  pub seen : HaveSeen policers rule past
-  pub accepted_is : accepted ≡ count_judged is_none rule past
-  pub dropped_is : dropped ≡ count_judged is_some rule past
-  pub written : WritesText rule old new past
 
 pub told-start : (rule : Rule) (policers : Policers) (output : Option (List ℕ))
     → HaveSeen policers rule [] → HasTold rule policers 0 0 output output []

@@ -1,6 +1,6 @@
 //! A run that polices the frames of one link.
 
-ghost use Rattle.std.specs.Prelude.{◌≡◌, ◌<◌, ◌≤◌, ◌+◌, ◌-◌, ◌^◌, if◌then◌else◌, ◌∷◌, [], ℕ, List, IfSome, OnOk, true, false};
+ghost use Rattle.std.specs.Prelude.{◌≡◌, ◌<◌, ◌≤◌, ◌+◌, ◌-◌, ◌^◌, if◌then◌else◌, ◌∷◌, [], ℕ, List, Option, IfSome, OnOk, true, false};
 ghost use Rattle.afdx_lists.specs.Lines.{most_reads};
 ghost use Rattle.afdx_police.specs.Arrival.{Arrival};
 ghost use Rattle.afdx_police.specs.Rule.{Rule};
@@ -12,10 +12,12 @@ ghost use Rattle.afdx_lists.specs.Watching.{calls_of, device_of, has_ended, has_
 ghost use Rattle.afdx_replay.specs.Listed.{arrival_at};
 ghost use Rattle.afdx_replay.specs.Policed.{Answers};
 
+use crate::engine::Machine;
+use crate::list_run::run_list;
 use crate::summary::{NO_COUNTS, Summary};
 use crate::verdict::put_verdict;
 use afdx_frame::{Checked, Side};
-use afdx_lists::{Heading, LineReader, RunFault, Text, Watched, read_frame_line, write_text};
+use afdx_lists::{Heading, RunFault, Text, Watched, write_text};
 use afdx_police::{LinkAccount, LinkRule, Reason};
 use std::alloc::{AllocError, Global};
 use std::io::{Read, Write};
@@ -68,6 +70,81 @@ fn count_if(count: u64, is_one_more: bool) -> u64
     if is_one_more { count + 1 } else { count }
 }
 
+/// What a run that polices one link works with.
+struct Police {
+    policers: Policers,
+    text: Text,
+    accepted: u64,
+    dropped: u64,
+}
+
+impl Drop for Police {
+    // (written out, it is one call wherever a value is let go)
+    fn drop(self) {
+        let Self {
+            policers,
+            text,
+            accepted,
+            dropped,
+        } = self;
+    }
+}
+
+impl Police {
+    ghost use Rattle.afdx_replay.specs.PoliceTold.{TellsItems};
+
+    /// It has told nothing yet.
+    fn new(alloc: Global, rule: &LinkRule) -> Police
+        ensures { (output : Option (List ℕ)) →
+            TellsItems (rule_of rule.now) result output output [] }
+    {
+        let policers = Policers::new(rule);
+        Police {
+            policers,
+            text: Text::new(alloc),
+            accepted: 0,
+            dropped: 0,
+        }
+    }
+}
+
+impl Machine<Heading> for Police {
+    ghost use Rattle.afdx_replay.specs.PoliceTold.{TellsItems, BeginsItems};
+
+    ghost Rules = { Rule };
+
+    ghost Told = { TellsItems };
+
+    ghost Begins = { BeginsItems };
+
+    ghost Done = { TellsItems };
+
+    #[inline(always)]
+    fn tell<W: Write>(
+        &mut self,
+        n: u64,
+        heading: &Heading,
+        bytes: &[u8],
+        output: &mut Watched<W>,
+    ) -> Result<(), RunFault> {
+        let arrived = Checked {
+            bytes,
+            sealed: heading.is_sealed,
+        };
+        let reason = self.policers.verdict(heading, arrived);
+        let is_accepted = reason.is_none();
+        self.accepted = count_if(self.accepted, is_accepted);
+        self.dropped = count_if(self.dropped, !is_accepted);
+        put_verdict(&mut self.text, n, heading.side, reason)?;
+        write_text(output, self.text.as_bytes())?;
+        Ok(())
+    }
+
+    fn end<W: Write>(&mut self, _output: &mut Watched<W>) -> Result<(), RunFault> {
+        Ok(())
+    }
+}
+
 /// Polices the frames of a list for one virtual link, and writes a line for each.
 ///
 /// Each switch, A and B, has an account of its own. The whole text of a line is handed to `output`
@@ -94,37 +171,12 @@ pub fn run_police<R: Read, W: Write>(
         Answers (rule_of rule.now) bytes (R.remaining (device_of input.new))
         (W.contents (device_of output.old)) (W.contents (device_of output.new)) result) }
 {
-    let mut reader = LineReader::new(alloc)?;
-    let mut policers = Policers::new(rule);
-    let mut frame = Vec::new(alloc);
-    let mut text = Text::new(alloc);
-    let mut latest = 0u64;
-    let mut accepted = 0u64;
-    let mut dropped = 0u64;
-    while reader.next_line(input)? {
-        let n = reader.lines();
-        let heading = match read_frame_line(reader.line(), latest, &mut frame) {
-            Ok(Some(heading)) => heading,
-            Ok(None) => continue,
-            Err(error) => return Err(error.at_line(n)),
-        };
-        latest = heading.time;
-        let bytes = frame.as_slice();
-        let arrived = Checked {
-            bytes,
-            sealed: heading.is_sealed,
-        };
-        let reason = policers.verdict(&heading, arrived);
-        let is_accepted = reason.is_none();
-        accepted = count_if(accepted, is_accepted);
-        dropped = count_if(dropped, !is_accepted);
-        put_verdict(&mut text, n, heading.side, reason)?;
-        write_text(output, text.as_bytes())?;
-    }
+    let mut police = Police::new(alloc, rule);
+    let lines = run_list(alloc, &mut police, input, output)?;
     Ok(Summary {
-        lines: reader.lines(),
-        accepted,
-        dropped,
+        lines,
+        accepted: police.accepted,
+        dropped: police.dropped,
         ..NO_COUNTS
     })
 }

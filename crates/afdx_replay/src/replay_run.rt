@@ -1,6 +1,6 @@
 //! A run that replays a list through the switches of both sides and the systems behind them.
 
-ghost use Rattle.std.specs.Prelude.{◌≡◌, ℕ, ◌+◌, ◌*◌, ◌-◌, ◌^◌, ◌≤◌, ◌<◌, ◌⊎◌, ◌++◌, ◌∷◌, [], List, Option, length, OnOk, OnErr, IfErr, IfSome, true, false};
+ghost use Rattle.std.specs.Prelude.{◌≡◌, ℕ, ◌+◌, ◌*◌, ◌-◌, ◌^◌, ◌≤◌, ◌<◌, ◌⊎◌, ◌++◌, ◌∷◌, [], List, Option, length, OnOk, OnErr, IfOk, IfErr, IfSome, true, false};
 ghost use Rattle.afdx_port.specs.Times.{drain_end};
 ghost use Rattle.afdx_frame.specs.Ports.{last_port};
 ghost use Rattle.afdx_frame.specs.Times.{latest_listed};
@@ -20,11 +20,13 @@ ghost use Rattle.afdx_replay.specs.Replayed.{WritesSome, Answers, ToldAll, Tells
 ghost use Rattle.afdx_replay.specs.Replayed.{IsOutputFault};
 ghost use Rattle.afdx_replay.specs.ReplayText.{replay_counts, frames_left, with_admission};
 
+use crate::engine::Machine;
+use crate::list_run::run_list;
 use crate::replay_lines::{put_admission, put_departure, reason_of};
 use crate::summary::{NO_COUNTS, Summary};
 use afdx_config::Tables;
 use afdx_frame::Checked;
-use afdx_lists::{Heading, LineReader, RunFault, Text, Watched, read_frame_line, write_text};
+use afdx_lists::{Heading, RunFault, Text, Watched, write_text};
 use afdx_network::{Departed, Network};
 use afdx_police::Reason;
 use afdx_systems::{Handover, Systems};
@@ -70,6 +72,22 @@ fn count_admission(counts: &mut Summary, reason: Option<Reason>, lost: u64)
 
 impl Replay {
     ghost use Rattle.afdx_replay.specs.Replayed.{Tells, TellsMore, TellsArrivals, HasRoomFor};
+    ghost use Rattle.afdx_replay.specs.ReplayTold.{TellsItems};
+
+    /// It has told nothing yet.
+    fn new(alloc: Global, tables: &Tables) -> Result<Replay, AllocError>
+        ensures { (output : Option (List ℕ)) →
+            IfOk result (λ replay. TellsItems tables.now replay output output []) }
+    {
+        let network = Network::new(alloc, tables)?;
+        let systems = Systems::new(alloc, tables)?;
+        Ok(Replay {
+            network,
+            systems,
+            text: Text::new(alloc),
+            counts: NO_COUNTS,
+        })
+    }
 
     /// Puts the lines of a departure in the place of the text, hands its frame over to the port's
     /// system if it left, and counts it.
@@ -176,6 +194,38 @@ impl Replay {
     }
 }
 
+impl Machine<Heading> for Replay {
+    ghost use Rattle.afdx_replay.specs.ReplayTold.{TellsItems, BeginsItems, TellsAll};
+
+    ghost Rules = { Rows };
+
+    ghost Told = { TellsItems };
+
+    ghost Begins = { BeginsItems };
+
+    ghost Done = { TellsAll };
+
+    fn tell<W: Write>(
+        &mut self,
+        n: u64,
+        heading: &Heading,
+        bytes: &[u8],
+        output: &mut Watched<W>,
+    ) -> Result<(), RunFault> {
+        let arrived = Checked {
+            bytes,
+            sealed: heading.is_sealed,
+        };
+        self.tell_arrival(n, heading, arrived, output)?;
+        Ok(())
+    }
+
+    fn end<W: Write>(&mut self, output: &mut Watched<W>) -> Result<(), RunFault> {
+        self.tell_departures(u64::MAX, output)?;
+        Ok(())
+    }
+}
+
 /// Replays a list of frames through the switches of both sides and the systems behind them.
 ///
 /// Each line's events are handed to `output` before the next line is read: the frames that leave
@@ -202,34 +252,9 @@ pub fn run_unadmitted<R: Read, W: Write>(
         Answers tables.now bytes (R.remaining (device_of input.new))
         (W.contents (device_of output.old)) (W.contents (device_of output.new)) result) }
 {
-    let mut reader = LineReader::new(alloc)?;
-    let network = Network::new(alloc, tables)?;
-    let systems = Systems::new(alloc, tables)?;
-    let mut replay = Replay {
-        network,
-        systems,
-        text: Text::new(alloc),
-        counts: NO_COUNTS,
-    };
-    let mut frame = Vec::new(alloc);
-    let mut latest = 0u64;
-    while reader.next_line(input)? {
-        let n = reader.lines();
-        let heading = match read_frame_line(reader.line(), latest, &mut frame) {
-            Ok(Some(heading)) => heading,
-            Ok(None) => continue,
-            Err(error) => return Err(error.at_line(n)),
-        };
-        latest = heading.time;
-        let bytes = frame.as_slice();
-        let arrived = Checked {
-            bytes,
-            sealed: heading.is_sealed,
-        };
-        replay.tell_arrival(n, &heading, arrived, output)?;
-    }
-    replay.tell_departures(u64::MAX, output)?;
+    let mut replay = Replay::new(alloc, tables)?;
+    let lines = run_list(alloc, &mut replay, input, output)?;
     let mut summary = replay.counts;
-    summary.lines = reader.lines();
+    summary.lines = lines;
     Ok(summary)
 }

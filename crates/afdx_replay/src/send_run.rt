@@ -1,6 +1,6 @@
 //! A run that sends the messages of a list.
 
-ghost use Rattle.std.specs.Prelude.{◌≡◌, ◌<◌, ◌≤◌, ◌+◌, ◌^◌, ◌⊎◌, ◌↔◌, ◌++◌, ◌∷◌, ℕ, List, Option, Some, IfOk, IfErr, IfSome, IsTrue, OnOk, OnErr, length, slice_get, true, false};
+ghost use Rattle.std.specs.Prelude.{◌≡◌, ◌<◌, ◌≤◌, ◌+◌, ◌^◌, ◌⊎◌, ◌↔◌, ◌++◌, ◌∷◌, [], ℕ, List, Option, Some, IfOk, IfErr, IfSome, IsTrue, OnOk, OnErr, length, slice_get, true, false};
 ghost use Rattle.afdx_frame.specs.Times.{latest_listed};
 ghost use Rattle.afdx_lists.specs.Lines.{most_lines, most_reads};
 ghost use Rattle.afdx_config.specs.Rows.{SystemRow};
@@ -13,12 +13,14 @@ ghost use Rattle.afdx_replay.specs.SendText.{sent_line, emission_lines, refusal_
 ghost use Rattle.afdx_replay.specs.Sent.{Source, source_at, WritesSome, Answers};
 ghost use Rattle.afdx_replay.specs.SendProgress.{handed_at, HasTold, AreTold, ToldUntil, TellsSubmission, HasRoom};
 
+use crate::engine::Machine;
+use crate::list_run::run_list;
 use crate::summary::{NO_COUNTS, Summary};
 use crate::verdict::side_letter;
 use afdx_admit::Admitted;
 use afdx_config::SystemId;
 use afdx_frame::{Side, VlId};
-use afdx_lists::{Handed, LineReader, RunFault, Text, Watched, read_submission_line, write_text};
+use afdx_lists::{Handed, RunFault, Text, Watched, write_text};
 use afdx_send::{Emission, SendFault, Sender};
 use std::alloc::{AllocError, Global};
 use std::io::{Read, Write};
@@ -107,6 +109,24 @@ impl Drop for Sending {
 }
 
 impl Sending {
+    ghost use Rattle.afdx_replay.specs.SendTold.{TellsItems};
+
+    /// It has told nothing yet.
+    fn new(alloc: Global, tables: &Admitted, system: SystemId) -> Result<Sending, AllocError>
+        requires { system.0 < length tables.now.systems }
+        ensures { (row : SystemRow) → slice_get tables.now.systems system.0 ≡ Some row →
+            (output : Option (List ℕ)) → IfOk result (λ sending.
+            TellsItems (source_at tables.now system.0 row) sending output output []) }
+    {
+        let sender = Sender::new(alloc, tables, system)?;
+        Ok(Sending {
+            sender,
+            port: tables.tables().system(system).port,
+            text: Text::new(alloc),
+            counts: NO_COUNTS,
+        })
+    }
+
     /// Tells what is emitted by `until`.
     fn tell_emissions<W: Write>(
         &mut self,
@@ -221,6 +241,34 @@ impl Sending {
     }
 }
 
+impl Machine<Handed> for Sending {
+    ghost use Rattle.afdx_replay.specs.SendTold.{TellsItems, BeginsItems, TellsAll};
+
+    ghost Rules = { Source };
+
+    ghost Told = { TellsItems };
+
+    ghost Begins = { BeginsItems };
+
+    ghost Done = { TellsAll };
+
+    fn tell<W: Write>(
+        &mut self,
+        n: u64,
+        handed: &Handed,
+        payload: &[u8],
+        output: &mut Watched<W>,
+    ) -> Result<(), RunFault> {
+        self.tell_submission(n, handed, payload, output)?;
+        Ok(())
+    }
+
+    fn end<W: Write>(&mut self, output: &mut Watched<W>) -> Result<(), RunFault> {
+        self.tell_emissions(DRAIN_END, output)?;
+        Ok(())
+    }
+}
+
 /// Sends the messages of a list from one system, and writes its frames for both networks as the
 /// list of a replay.
 ///
@@ -252,28 +300,9 @@ pub fn run_send<R: Read, W: Write>(
         Answers (source_at tables.now system.0 row) bytes (R.remaining (device_of input.new))
         (W.contents (device_of output.old)) (W.contents (device_of output.new)) result) }
 {
-    let mut reader = LineReader::new(alloc)?;
-    let sender = Sender::new(alloc, tables, system)?;
-    let mut sending = Sending {
-        sender,
-        port: tables.tables().system(system).port,
-        text: Text::new(alloc),
-        counts: NO_COUNTS,
-    };
-    let mut payload = Vec::new(alloc);
-    let mut latest = 0u64;
-    while reader.next_line(input)? {
-        let n = reader.lines();
-        let handed = match read_submission_line(reader.line(), latest, &mut payload) {
-            Ok(Some(handed)) => handed,
-            Ok(None) => continue,
-            Err(error) => return Err(error.at_line(n)),
-        };
-        latest = handed.time;
-        sending.tell_submission(n, &handed, payload.as_slice(), output)?;
-    }
-    sending.tell_emissions(DRAIN_END, output)?;
+    let mut sending = Sending::new(alloc, tables, system)?;
+    let lines = run_list(alloc, &mut sending, input, output)?;
     let mut summary = sending.counts;
-    summary.lines = reader.lines();
+    summary.lines = lines;
     Ok(summary)
 }

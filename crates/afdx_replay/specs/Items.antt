@@ -1,0 +1,45 @@
+-- What the items of a list say, whatever kind of list it is.
+use Rattle.std.specs.Prelude.{ℕ, ◌≡◌, ◌≤◌, ◌<◌, List, length, map}
+use Rattle.afdx_frame.specs.Sealing.{is_sealed}
+use Rattle.afdx_frame.specs.Times.{latest_listed}
+use Rattle.afdx_police.specs.Arrival.{Arrival}
+use Rattle.afdx_lists.specs.FrameLines.{listed_frame}
+use Rattle.afdx_lists.specs.Lines.{most_lines}
+use Rattle.afdx_lists.specs.SubmissionLines.{submission_of}
+use Rattle.afdx_lists.specs.declared.frame_line.Heading.{Heading}
+use Rattle.afdx_lists.specs.declared.submission_line.Handed.{Handed}
+use Rattle.afdx_replay.specs.Engine.{Item}
+use Rattle.afdx_replay.specs.Lists.{Kind, latest_in}
+use Rattle.afdx_replay.specs.Listed.{frames}
+use Rattle.afdx_replay.specs.SendEvents.{submissions}
+use Rattle.afdx_replay.specs.SendEvents as send
+
+-- what an item says: its line says `says_of` its head and its bytes
+abbrev pub thing_of : {H Y X : Type 0} → Kind Y X → (H → List ℕ → Y) → Item H → X
+thing_of k says_of x = k.item x.number (says_of x.head x.bytes)
+
+-- the arrivals of the items of a list of frames
+abbrev pub arrivals : List (Item Heading) → List Arrival
+arrivals past = map (thing_of frames listed_frame) past
+
+-- the submissions of those of a list of messages
+abbrev pub handed : List (Item Handed) → List send.Handed
+handed past = map (thing_of submissions submission_of) past
+
+-- the limits of a list: an item may come after these, no earlier than they, not too late, and there
+-- are not too many
+pub record IsInOrder {H Y X : Type 0} (k : Kind Y X) (said : Item H → X) (time : H → ℕ)
+    (past : List (Item H)) (x : Item H) : Type 0 where
+  pub order : latest_in k (map said past) ≤ time x.head
+  pub early : time x.head ≤ latest_listed
+  pub few : length past < most_lines
+
+-- a frame may come after these: in order, and what is said of its check sequence is true
+pub record CanFollow (past : List (Item Heading)) (x : Item Heading) : Type 0 where
+  pub in_order : IsInOrder frames (thing_of frames listed_frame) (λ head. head.time) past x
+  pub sealed : x.head.is_sealed ≡ is_sealed x.bytes
+
+-- a message may come after these
+abbrev pub CanBeHanded : List (Item Handed) → Item Handed → Type 0
+CanBeHanded past x =
+    IsInOrder submissions (thing_of submissions submission_of) (λ head. head.time) past x
