@@ -126,7 +126,7 @@ def read_config(path: str) -> Config:
         return Config(tree["profile"], tree["buffer"], systems, links)
     except OSError as error:
         raise Refused(f"{path} can't be read: {error.strerror}") from error
-    except (ValueError, KeyError, TypeError, AttributeError, ZeroDivisionError) as error:
+    except (ValueError, KeyError, TypeError, AttributeError, RecursionError) as error:
         raise Refused(f"{path} is no configuration; `afdx check {path}` says where") from error
 
 

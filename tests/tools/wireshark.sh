@@ -1,0 +1,243 @@
+# Tests of tools/afdx.lua and of annotated recordings, by tshark; a part of tests/tools.sh.
+# shellcheck shell=bash
+# shellcheck disable=SC2154  # what it uses is set by tests/tools.sh, which sources it
+
+# ---- the fields of AFDX frames -------------------------------------------------------------
+
+AFDX_FIELDS=(vl side system partition seq step gap_ms)
+
+shark() { # WORD.. : tshark with the fields of AFDX, without the user's own settings
+    launch env HOME="$work" tshark -X lua_script:tools/afdx.lua "$@"
+}
+
+fields_told() { # RECORDING [WORD..] : the fields of AFDX, the gap in ns
+    local words=() field recording=$1
+    shift
+    for field in "${AFDX_FIELDS[@]}"; do words+=(-e "afdx.$field"); done
+    shark "$@" -r "$recording" -T fields "${words[@]}"
+    awk -F '\t' -v OFS='\t' '$7 != "" { $7 = sprintf("%.0f", $7 * 1e6) } { print }' "$work/out"
+}
+
+fields_are_right() { # NAME LIST RECORDING [WORD..]
+    "$python" tests/afdx_fields_of_list.py "$2" >"$work/wanted"
+    fields_told "${@:3}" >"$work/got"
+    tell "fields of AFDX: $1" "$(is_status 0; same "$work/wanted" "$work/got")"
+}
+
+without_note() { # PCAP OUT : the header doesn't say whether frames end with a check sequence
+    cp "$1" "$2"
+    printf '\1\0\0\0' | dd of="$2" bs=1 seek=20 conv=notrunc status=none
+}
+
+capture() { # WORD.. : afdx-capture, which has to work
+    tools/afdx-capture "$@" 2>"$work/err" || cat "$work/err"
+}
+
+# A frame of link 1 that is padded to 196 bytes, with a check sequence 200, as for a link whose
+# Lmin is 200.
+padded_frame_of() { # SIDE NUMBER
+    frame_of "$1" 0 | sed 's/00$//'
+    printf '0%.0s' {1..272}
+    printf '%02x' "$2"
+}
+
+lists_for_fields() { # writes $work/sound.list, $work/padded.list, $work/odd.list
+    tests/sample_list.py examples/network.toml --ms 60 --sound >"$work/sound.list"
+    printf 'F %d A 1 %s\n' 5 "$(padded_frame_of A 0)" 1000005 "$(padded_frame_of A 7)" \
+        2000005 "$(padded_frame_of A 8)" >"$work/padded.list"
+    { # wrong check sequences at first, numbers that go round, come again, begin anew
+        printf 'B %d A 1 %s\n' 0 "$(frame_of A 254)" 10 "$(frame_of A 255)"
+        printf 'F %d B 1 %s\n' 15 "$(frame_of B 0)"
+        printf 'F %d A 1 %s\n' 20 "$(frame_of A 1)" 30 "$(frame_of A 1)" 41 "$(frame_of A 0)" \
+            52 "$(frame_of A 2)" 63 "$(frame_of A 0)" 74 "$(frame_of A 255)"
+        printf 'F %d B 1 %s\n' 80 "$(frame_of B 2)"
+        printf 'R %d A 1 %.80s\n' 90 "$(frame_of A 5)"
+        printf 'F %d A 1 %s\n' 100 "$(frame_of A 2)"
+    } >"$work/odd.list"
+}
+
+field_tests() {
+    local each
+    lists_for_fields
+    for each in sound padded; do
+        capture pcap "$work/$each.list" "$work/with.pcap"
+        capture pcap --fcs no "$work/$each.list" "$work/without.pcap"
+        without_note "$work/with.pcap" "$work/with_unsaid.pcap"
+        without_note "$work/without.pcap" "$work/without_unsaid.pcap"
+        local list=$work/$each.list
+        fields_are_right "$each, check sequences" "$list" "$work/with.pcap"
+        fields_are_right "$each, none" "$list" "$work/without.pcap"
+        fields_are_right "$each, check sequences that no header tells" "$list" \
+            "$work/with_unsaid.pcap"
+        fields_are_right "$each, none, which no header tells" "$list" "$work/without_unsaid.pcap"
+    done
+    capture pcap "$work/odd.list" "$work/with.pcap"
+    without_note "$work/with.pcap" "$work/with_unsaid.pcap"
+    fields_are_right 'numbers that jump, damaged frames' "$work/odd.list" "$work/with_unsaid.pcap"
+    fields_are_right 'the same in two passes' "$work/odd.list" "$work/with_unsaid.pcap" -2
+    fields_are_right 'the preference is heeded' "$work/odd.list" "$work/with.pcap" \
+        -o afdx.fcs:Yes
+}
+
+interface_tests() { # side A with check sequences, side B without, in one file
+    capture pcap --side A "$work/sound.list" "$work/a.pcap"
+    capture pcap --side B --fcs no "$work/sound.list" "$work/b.pcap"
+    without_note "$work/a.pcap" "$work/au.pcap"
+    without_note "$work/b.pcap" "$work/bu.pcap"
+    mergecap -I none -w "$work/mixed.pcapng" "$work/au.pcap" "$work/bu.pcap"
+    fields_are_right 'one interface with check sequences, one without' "$work/sound.list" \
+        "$work/mixed.pcapng"
+}
+
+numbers_found() { # FILTER WANTED : the frames of the odd list that a filter finds
+    local got
+    shark -r "$work/with.pcap" -Y "$1" -T fields -e frame.number
+    got=$(paste -s -d ' ' "$work/out")
+    if [[ $got != "$2" ]]; then echo "$1 finds '$got', wanted '$2'"; fi
+}
+
+expert_tests() {
+    capture pcap "$work/odd.list" "$work/with.pcap"
+    tell 'expert information finds what is odd about numbers' "$(
+        numbers_found afdx.missing '7 9 10 12'
+        numbers_found afdx.repeated '5'
+        numbers_found afdx.reset '6 8'
+        numbers_found afdx.short '11'
+        numbers_found 'afdx.step == 255' '9'
+        numbers_found 'afdx.vl == 1 && afdx.side == "B"' '3 10'
+    )"
+    printf 'F 0 A 1 ffffffffffff0200000001200806%092d\n' 0 >"$work/arp.list"
+    printf 'F 5 A 1 %s\n' "$(frame_of A 0 | sed 's/0200000001200/0200000001600/')" \
+        >>"$work/arp.list"
+    capture pcap "$work/arp.list" "$work/with.pcap"
+    tell 'other frames stay as they are; a network that is none is told' "$(
+        numbers_found afdx '2'
+        numbers_found afdx.no_side '2'
+        numbers_found afdx.side ''
+    )"
+    "$python" tests/odd_recordings.py "$work" "$(frame_of A 0)5d0b5f3c"
+    shark -r "$work/cut.pcap" -Y afdx.cut -T fields -e frame.number -e afdx.seq
+    tell 'a cut frame has no number' "$(
+        is_status 0
+        printf '2\t\n' >"$work/wanted"
+        same "$work/wanted" "$work/out"
+    )"
+}
+
+hundredths_of() { # WORD.. : processor time of tshark, in hundredths of a second
+    local TIMEFORMAT=%U
+    { time env HOME="$work" tshark "$@" >"$work/out" 2>"$work/err"; } 2>"$work/time"
+    tr -d . <"$work/time" | sed 's/.$//; s/^0*\(.\)/\1/'
+}
+
+speed_tests() { # 30,000 frames; more of a recording takes as much longer
+    local alone with tries
+    tests/sample_list.py examples/network.toml --ms 2050 >"$work/long.list"
+    capture pcap "$work/long.list" "$work/long.pcap"
+    for tries in 1 2 3; do
+        alone=$(hundredths_of -r "$work/long.pcap" -Y 'udp.port == 1')
+        with=$(hundredths_of -X lua_script:tools/afdx.lua -r "$work/long.pcap" -Y 'afdx.seq == 1')
+        if [[ $with -le $((5 * alone)) ]]; then break; fi
+    done
+    tell 'the fields take at most five times the time of tshark alone' "$(
+        if [[ $with -gt $((5 * alone)) ]]; then
+            echo "$with hundredths of a second, $alone without, $tries times"
+        fi
+    )" "$with and $alone hundredths of a second"
+    rm -f "$work"/long.*
+}
+
+# ---- annotated recordings ------------------------------------------------------------------
+
+comments_of() { # RECORDING : each frame's comments, one a line, behind the frame's place
+    launch env HOME="$work" tshark -r "$1" -T fields -E aggregator=';' -e frame.number \
+        -e frame.comment
+    awk -F '\t' '{ n = split($2, line, ";"); for (i = 1; i <= n; i++) print $1, line[i] }' \
+        "$work/out"
+}
+
+# The lines of a replay, each behind the place of its frame among the V lines, messages left out.
+placed_lines() {
+    awk '$1 == "V" { place[$2] = ++count }
+        $1 ~ /[VDTL]/ { last = $2 }
+        $1 == "X" { last = $4 }
+        $1 == "M" { NF = 4 }
+        { print place[last], $0 }' "$@" | sort -s -n -k 1,1
+}
+
+annotated_tests() { # NAME CONFIG LIST [WORD..]
+    local name=$1 config=$2 list=$3
+    shift 3
+    launch tools/afdx-capture annotate "$@" "$config" "$list" "$work/said.pcapng"
+    tell "each frame of $name carries its lines" "$(
+        is_status 0
+        "$program" replay "$@" "$config" "$list" | placed_lines >"$work/wanted"
+        comments_of "$work/said.pcapng" >"$work/got"
+        same "$work/wanted" "$work/got"
+    )"
+    launch env HOME="$work" tshark -r "$work/said.pcapng" \
+        -Y 'frame.comment contains "over-rate"' -T fields -e frame.number
+    tell "a filter finds what was over-rate in $name" "$(
+        is_status 0
+        grep ' drop over-rate$' "$work/wanted" | cut -d ' ' -f 1 >"$work/over"
+        same "$work/over" "$work/out"
+    )" "$(wc -l <"$work/over") frames"
+    launch tools/afdx-capture list --all "$work/said.pcapng"
+    tell "and $name comes back as a list" "$(
+        is_status 0
+        says err "side and port by the interfaces' names"
+        grep -v '^#' "$list" | awk '{ print $2 - first, $3, $4 } NR == 1 { first = $2 }' \
+            >"$work/wanted"
+        cut -d ' ' -f 2-4 "$work/out" >"$work/got"
+        same "$work/wanted" "$work/got"
+    )"
+}
+
+annotate_fault_tests() {
+    launch tools/afdx-capture annotate examples/refused.toml examples/one_link.list "$work/no.png"
+    tell 'annotate where the network is refused' "$(
+        is_status 1
+        says err 'admit A3 7 104 267995'
+        if [[ -e $work/no.png ]]; then echo 'there is a recording'; fi
+    )"
+    printf 'F 0 A 1 %s\nF 0 C 1 00\n' "$(frame_of A 0)" >"$work/three.list"
+    launch tools/afdx-capture annotate examples/base.toml "$work/three.list" "$work/no.png"
+    tell 'annotate where the list has a fault' "$(
+        is_status 3
+        says err 'list BadLine 2'
+        if [[ -e $work/no.png ]]; then echo 'there is a recording'; fi
+    )"
+    launch env AFDX=/nowhere tools/afdx-capture annotate examples/base.toml \
+        examples/one_link.list "$work/no.png"
+    tell 'annotate without a program' "$(is_status 4; says err '/nowhere')"
+    launch env AFDX=/bin/echo tools/afdx-capture annotate examples/base.toml \
+        examples/one_link.list "$work/no.png"
+    tell 'annotate with another program' "$(is_status 2; says err 'is none of this replay')"
+    launch tools/afdx-capture annotate examples/base.toml examples/one_link.list "$work/one.pcapng"
+    status=0
+    tools/afdx-capture annotate examples/base.toml - - <examples/one_link.list >"$work/out" \
+        2>"$work/err" || status=$?
+    tell 'annotate from standard input to standard output' "$(
+        is_status 0
+        same "$work/one.pcapng" "$work/out"
+    )"
+}
+
+if [[ -z $dpkt ]]; then
+    :
+elif has tshark && has mergecap; then
+    field_tests
+    interface_tests
+    expert_tests
+    speed_tests
+    if [[ -n $built ]]; then
+        annotated_tests 'a bench' examples/network.toml examples/bench.list
+        annotated_tests 'a network that is not admitted' examples/gigabit.toml \
+            examples/gigabit.list --no-admission
+        annotate_fault_tests
+    else
+        skip 'annotated recordings' "there is no program $program"
+    fi
+else
+    skip "fields of AFDX in Wireshark" 'there is no tshark (apt-get install tshark)'
+fi

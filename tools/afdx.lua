@@ -1,0 +1,199 @@
+-- Wireshark: fields of AFDX frames (ARINC 664 Part 7). docs/TOOLS.md says what each means.
+--
+--     tshark -X lua_script:tools/afdx.lua -r run.pcap -Y 'afdx.step > 1'
+--
+-- `bin/install PREFIX` puts it at PREFIX/lib/wireshark/plugins/afdx.lua. It reads what stands in
+-- the frames and judges nothing: verdicts are lines of the program, which
+-- `afdx-capture annotate` writes beside the frames.
+
+local afdx = Proto("afdx", "AFDX (ARINC 664 Part 7)")
+
+local fields = {
+    vl = ProtoField.uint16("afdx.vl", "Virtual link"),
+    side = ProtoField.string("afdx.side", "Network"),
+    system = ProtoField.uint16("afdx.system", "Number of the sending system"),
+    partition = ProtoField.uint8("afdx.partition", "Partition"),
+    seq = ProtoField.uint8("afdx.seq", "Sequence number"),
+    step = ProtoField.uint16("afdx.step", "Steps since the link's number before on this network"),
+    gap = ProtoField.double("afdx.gap_ms", "Gap to the link's frame before on this network, in ms"),
+}
+afdx.fields = {
+    fields.vl, fields.side, fields.system, fields.partition, fields.seq, fields.step, fields.gap,
+}
+
+local experts = {
+    missing = ProtoExpert.new("afdx.missing", "Sequence numbers are missing",
+        expert.group.SEQUENCE, expert.severity.WARN),
+    repeated = ProtoExpert.new("afdx.repeated", "The sequence number before comes again",
+        expert.group.SEQUENCE, expert.severity.WARN),
+    reset = ProtoExpert.new("afdx.reset", "Number 0: the sender began anew",
+        expert.group.SEQUENCE, expert.severity.NOTE),
+    no_side = ProtoExpert.new("afdx.no_side", "The source address names neither network",
+        expert.group.PROTOCOL, expert.severity.WARN),
+    short = ProtoExpert.new("afdx.short", "Shorter than a frame is: no sequence number is read",
+        expert.group.MALFORMED, expert.severity.WARN),
+    cut = ProtoExpert.new("afdx.cut", "The recording has a part of the frame: no sequence number",
+        expert.group.UNDECODED, expert.severity.WARN),
+}
+afdx.experts = {
+    experts.missing, experts.repeated, experts.reset, experts.no_side, experts.short, experts.cut,
+}
+
+local AUTO, YES, NO = 0, 1, 2
+afdx.prefs.fcs = Pref.enum("Frames end with a check sequence", AUTO,
+    "Auto looks at the frames themselves",
+    { { 1, "Auto", AUTO }, { 2, "Yes", YES }, { 3, "No", NO } }, false)
+
+local CONSTANT = "\3\0\0\0"    -- a destination address of a virtual link begins with it
+local SIDES = { [0x20] = "A", [0x40] = "B" }
+local LOOKED_AT = 10           -- frames of a link and network whose check sequence is computed
+local SHORTEST = 60            -- bytes of the shortest frame without its check sequence
+
+-- Of each link on each network: true once a right check sequence was found, frames whose check
+-- sequence was computed, time and number of the frame before.
+local sealed, looked, last_time, last_seq
+-- Of each frame, by its number: what the frame before it tells.
+local gaps, steps, begins
+
+function afdx.init()
+    sealed, looked, last_time, last_seq = {}, {}, {}, {}
+    gaps, steps, begins = {}, {}, {}
+end
+
+-- ---- does a frame end with a check sequence? -------------------------------------------------
+
+local crc_table = {}
+for byte = 0, 255 do
+    local rest = byte
+    for _ = 1, 8 do
+        local half = bit32.rshift(rest, 1)
+        rest = rest % 2 == 1 and bit32.bxor(half, 0xEDB88320) or half
+    end
+    crc_table[byte] = rest
+end
+
+-- Do the last four of these bytes hold the check sequence of the others?
+local function is_sealed(bytes)
+    if #bytes < 5 then return false end
+    local rest = 0xFFFFFFFF
+    for place = 1, #bytes - 4 do
+        local byte = bytes:byte(place)
+        rest = bit32.bxor(bit32.rshift(rest, 8), crc_table[bit32.bxor(rest % 256, byte)])
+    end
+    rest = bit32.bnot(rest)
+    local a, b, c, d = bytes:byte(-4, -1)
+    return rest == a + b * 0x100 + c * 0x10000 + d * 0x1000000
+end
+
+-- By its form alone: behind the datagram stand padding, which is zero, and the sequence number; so
+-- what isn't zero before the last byte belongs to a check sequence. No room for one: there is none.
+local function looks_sealed(tvb, length)
+    if length < SHORTEST + 4 or tvb(12, 2):uint() ~= 0x0800 then return false end
+    local behind = 14 + tvb(16, 2):uint()
+    if length - behind < 5 then return false end
+    return tvb:raw(length - 5, 4) ~= "\0\0\0\0"
+end
+
+-- One right check sequence tells it for all frames of the link on that network, which were recorded
+-- at one place; until then each frame tells it for itself.
+local function has_check_sequence(tvb, length, key)
+    if afdx.prefs.fcs ~= AUTO then return afdx.prefs.fcs == YES end
+    if sealed[key] then return true end
+    local count = looked[key] or 0
+    if count < LOOKED_AT then
+        looked[key] = count + 1
+        if is_sealed(tvb:raw(0, length)) then
+            sealed[key] = true
+            return true
+        end
+    end
+    return looks_sealed(tvb, length)
+end
+
+-- ---- what came before on a link --------------------------------------------------------------
+
+-- Steps from one number of a link to a later one: 0, 1, .. 255, 1, ..; none leads to 0.
+local function steps_between(before, seq)
+    if seq == 0 then return nil end
+    return before == 0 and seq or (seq - before) % 255
+end
+
+-- Notes a frame that is seen for the first time. Frames are first seen in the file's order.
+local function note(number, key, seq, time)
+    local before = last_time[key]
+    if before then
+        gaps[number] = math.floor((time - before) * 1e9 + 0.5) / 1e6
+        steps[number] = steps_between(last_seq[key], seq)
+        begins[number] = seq == 0 or nil
+    end
+    last_time[key], last_seq[key] = time, seq
+end
+
+local function add_history(tree, number)
+    local gap, step = gaps[number], steps[number]
+    if gap then tree:add(fields.gap, gap):set_generated() end
+    if step then
+        local item = tree:add(fields.step, step):set_generated()
+        if step == 0 then
+            item:add_proto_expert_info(experts.repeated)
+        elseif step > 1 then
+            item:add_proto_expert_info(experts.missing, (step - 1) .. " sequence numbers missing")
+        end
+    elseif begins[number] then
+        tree:add_proto_expert_info(experts.reset)
+    end
+end
+
+-- ---- a frame ---------------------------------------------------------------------------------
+
+local function add_addresses(tree, tvb, head, side)
+    tree:add(fields.vl, tvb(4, 2))
+    if side then
+        tree:add(fields.side, tvb(11, 1), side)
+    else
+        tree:add_proto_expert_info(experts.no_side)
+    end
+    tree:add(fields.system, tvb(9, 2))
+    if #head == 30 and head:sub(13, 15) == "\8\0\69" then
+        tree:add(fields.partition, tvb(29, 1))
+    end
+end
+
+-- The sequence number and what it tells; nothing where the frame isn't all there.
+local function add_number(tree, tvb, pinfo, key)
+    local length = tvb:len()
+    if tvb:reported_len() > length then
+        tree:add_proto_expert_info(experts.cut)
+        return nil
+    end
+    local size = length - (has_check_sequence(tvb, length, key) and 4 or 0)
+    if size < SHORTEST then
+        tree:add_proto_expert_info(experts.short)
+        return nil
+    end
+    local range = tvb(size - 1, 1)
+    local seq = range:uint()
+    tree:add(fields.seq, range)
+    if not pinfo.visited then note(pinfo.number, key, seq, pinfo.rel_ts) end
+    add_history(tree, pinfo.number)
+    return seq
+end
+
+function afdx.dissector(tvb, pinfo, root)
+    local length = tvb:len()
+    if length < 14 then return end
+    local head = tvb:raw(0, math.min(length, 30))
+    if head:sub(1, 4) ~= CONSTANT then return end
+
+    local high, low = head:byte(5, 6)
+    local vl, network = high * 256 + low, head:byte(12)
+    local name = "VL " .. vl .. " " .. (SIDES[network] or "?")
+    local tree = root:add(afdx, tvb(), "AFDX, " .. name)
+    add_addresses(tree, tvb, head, SIDES[network])
+    local seq = add_number(tree, tvb, pinfo, vl * 256 + network)
+    if seq then name = name .. " #" .. seq end
+    pinfo.cols.protocol = "AFDX"
+    pinfo.cols.info:prepend(name .. " ")
+end
+
+register_postdissector(afdx)
