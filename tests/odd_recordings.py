@@ -7,6 +7,12 @@ FOLDER/big.pcapng   high byte first, two interfaces with times in ns and in 2^-2
 FOLDER/big.pcap     high byte first, times in us
 FOLDER/cut.pcap     the second frame was cut
 FOLDER/wifi.pcap    not Ethernet
+FOLDER/three.pcapng     three interfaces
+FOLDER/comment.pcapng   names and comments that aren't UTF-8
+FOLDER/claims.pcapng    a frame that says that it is longer than its block
+FOLDER/nothing.pcapng   an interface with an option of no bytes
+FOLDER/option.pcapng    an interface with an option that is longer than its block
+FOLDER/order.pcapng     a section in no order of bytes
 HEX are the bytes of the frames.
 """
 import os
@@ -28,10 +34,38 @@ def option(code: int, data: bytes) -> bytes:
     return struct.pack(">HH", code, len(data)) + data + b"\0" * (-len(data) % 4)
 
 
-def packet(place: int, ticks: int, frame: bytes) -> bytes:
-    """An enhanced packet block."""
-    head = struct.pack(">IIIII", place, ticks >> 32, ticks & 0xFFFF_FFFF, len(frame), len(frame))
-    return block(6, head + frame)
+def packet(place: int, ticks: int, frame: bytes, claimed: int = 0, options: bytes = b"") -> bytes:
+    """An enhanced packet block; the frame's length is said to be another where one is claimed."""
+    size = claimed or len(frame)
+    head = struct.pack(">IIIII", place, ticks >> 32, ticks & 0xFFFF_FFFF, size, size)
+    return block(6, head + frame + b"\0" * (-len(frame) % 4) + options)
+
+
+def section(order: int = 0x1A2B3C4D) -> bytes:
+    """The block with which a section begins."""
+    return block(0x0A0D0D0A, struct.pack(">IHHq", order, 1, 0, -1))
+
+
+def interface(options: bytes = b"") -> bytes:
+    """The description of an interface whose frames end with check sequences, times in us."""
+    return block(1, struct.pack(">HHI", 1, 0, 0) + option(13, b"\x04") + options)
+
+
+def odd_pcapngs(frame: bytes) -> dict[str, bytes]:
+    """Files of one section each, of which the last four are damaged."""
+    us = SECOND * 10**6
+    packets = [packet(place, us + place, frame) for place in range(3)]
+    comment = option(1, b"\xff\xfe") + option(0, b"")
+    return {
+        "three.pcapng": section() + 3 * interface() + b"".join(packets),
+        "comment.pcapng": section()
+        + interface(option(1, b"\x80\0") + option(2, b"\xc3") + option(0, b""))
+        + packet(0, us, frame, options=comment),
+        "claims.pcapng": section() + interface() + packet(0, us, frame, len(frame) + 9),
+        "nothing.pcapng": section() + interface(option(9, b"")) + packets[0],
+        "option.pcapng": section() + interface(struct.pack(">HH", 2, 900) + b"name") + packets[0],
+        "order.pcapng": section(0x1A2B3C00) + interface() + packets[0],
+    }
 
 
 def pcapng(frame: bytes) -> bytes:
@@ -39,10 +73,9 @@ def pcapng(frame: bytes) -> bytes:
     offset = option(14, struct.pack(">q", 5)) + option(0, b"")
     first = struct.pack(">HHI", 1, 0, 0) + option(9, b"\x09") + option(13, b"\x04") + offset
     second = struct.pack(">HHI", 1, 0, 0) + option(9, b"\x94") + option(13, b"\x04") + offset
-    section = struct.pack(">IHHq", 0x1A2B3C4D, 1, 0, -1)
     return b"".join(
         [
-            block(0x0A0D0D0A, section),
+            section(),
             block(1, first),
             block(1, second),
             packet(0, SECOND * 10**9, frame),
@@ -68,6 +101,7 @@ def main() -> None:
         "big.pcap": pcap(frame, 1, len(frame)),
         "cut.pcap": pcap(frame, 1, 60),
         "wifi.pcap": pcap(frame, 105, len(frame)),
+        **odd_pcapngs(frame),
     }
     for name, data in files.items():
         with open(os.path.join(folder, name), "wb") as file:

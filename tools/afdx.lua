@@ -55,7 +55,15 @@ local sealed, looked, last_time, last_seq
 -- Of each frame, by its number: what the frame before it tells.
 local gaps, steps, begins
 
+-- The preference, kept here: to ask for it at each frame would be slow.
+local fcs = AUTO
+
+function afdx.prefs_changed()
+    fcs = afdx.prefs.fcs
+end
+
 function afdx.init()
+    fcs = afdx.prefs.fcs
     sealed, looked, last_time, last_seq = {}, {}, {}, {}
     gaps, steps, begins = {}, {}, {}
 end
@@ -97,7 +105,7 @@ end
 -- One right check sequence tells it for all frames of the link on that network, which were recorded
 -- at one place; until then each frame tells it for itself.
 local function has_check_sequence(tvb, length, key)
-    if afdx.prefs.fcs ~= AUTO then return afdx.prefs.fcs == YES end
+    if fcs ~= AUTO then return fcs == YES end
     if sealed[key] then return true end
     local count = looked[key] or 0
     if count < LOOKED_AT then
@@ -129,9 +137,20 @@ local function note(number, key, seq, time)
     last_time[key], last_seq[key] = time, seq
 end
 
+-- Adds a field of the frame's bytes, where a column, a filter or the tree shows it.
+local function add(tree, field, tvb, place, count, value)
+    if not tree:referenced(field) then return end
+    if value then
+        tree:add(field, tvb(place, count), value)
+    else
+        tree:add(field, tvb(place, count))
+    end
+end
+
 local function add_history(tree, number)
     local gap, step = gaps[number], steps[number]
-    if gap then tree:add(fields.gap, gap):set_generated() end
+    if gap and tree:referenced(fields.gap) then tree:add(fields.gap, gap):set_generated() end
+    if step == 1 and not tree:referenced(fields.step) then return end -- nothing is odd about it
     if step then
         local item = tree:add(fields.step, step):set_generated()
         if step == 0 then
@@ -147,21 +166,20 @@ end
 -- ---- a frame ---------------------------------------------------------------------------------
 
 local function add_addresses(tree, tvb, head, side)
-    tree:add(fields.vl, tvb(4, 2))
+    add(tree, fields.vl, tvb, 4, 2)
     if side then
-        tree:add(fields.side, tvb(11, 1), side)
+        add(tree, fields.side, tvb, 11, 1, side)
     else
         tree:add_proto_expert_info(experts.no_side)
     end
-    tree:add(fields.system, tvb(9, 2))
+    add(tree, fields.system, tvb, 9, 2)
     if #head == 30 and head:sub(13, 15) == "\8\0\69" then
-        tree:add(fields.partition, tvb(29, 1))
+        add(tree, fields.partition, tvb, 29, 1)
     end
 end
 
 -- The sequence number and what it tells; nothing where the frame isn't all there.
-local function add_number(tree, tvb, pinfo, key)
-    local length = tvb:len()
+local function add_number(tree, tvb, length, pinfo, key)
     if tvb:reported_len() > length then
         tree:add_proto_expert_info(experts.cut)
         return nil
@@ -171,29 +189,29 @@ local function add_number(tree, tvb, pinfo, key)
         tree:add_proto_expert_info(experts.short)
         return nil
     end
-    local range = tvb(size - 1, 1)
-    local seq = range:uint()
-    tree:add(fields.seq, range)
-    if not pinfo.visited then note(pinfo.number, key, seq, pinfo.rel_ts) end
-    add_history(tree, pinfo.number)
+    local seq, number = tvb:raw(size - 1, 1):byte(), pinfo.number
+    add(tree, fields.seq, tvb, size - 1, 1)
+    if not pinfo.visited then note(number, key, seq, pinfo.rel_ts) end
+    add_history(tree, number)
     return seq
 end
 
 function afdx.dissector(tvb, pinfo, root)
     local length = tvb:len()
     if length < 14 then return end
-    local head = tvb:raw(0, math.min(length, 30))
+    local head = tvb:raw(0, length < 30 and length or 30)
     if head:sub(1, 4) ~= CONSTANT then return end
 
-    local high, low = head:byte(5, 6)
-    local vl, network = high * 256 + low, head:byte(12)
-    local name = "VL " .. vl .. " " .. (SIDES[network] or "?")
+    local high, low, network = head:byte(5), head:byte(6), head:byte(12)
+    local vl, side = high * 256 + low, SIDES[network]
+    local name = "VL " .. vl .. " " .. (side or "?")
     local tree = root:add(afdx, tvb(), "AFDX, " .. name)
-    add_addresses(tree, tvb, head, SIDES[network])
-    local seq = add_number(tree, tvb, pinfo, vl * 256 + network)
+    add_addresses(tree, tvb, head, side)
+    local seq = add_number(tree, tvb, length, pinfo, vl * 256 + network)
     if seq then name = name .. " #" .. seq end
-    pinfo.cols.protocol = "AFDX"
-    pinfo.cols.info:prepend(name .. " ")
+    local columns = pinfo.cols
+    columns.protocol = "AFDX"
+    columns.info:prepend(name .. " ")
 end
 
 register_postdissector(afdx)

@@ -14,6 +14,10 @@ frame_of() { # SIDE NUMBER : link 1's frame of the examples without its check se
     printf '000000000000000000000000%02x' "$2"
 }
 
+capture() { # WORD.. : afdx-capture, which has to work
+    tools/afdx-capture "$@" 2>"$work/err" || cat "$work/err"
+}
+
 capture_tests() {
     local list=$work/five.list
     {

@@ -29,10 +29,6 @@ without_note() { # PCAP OUT : the header doesn't say whether frames end with a c
     printf '\1\0\0\0' | dd of="$2" bs=1 seek=20 conv=notrunc status=none
 }
 
-capture() { # WORD.. : afdx-capture, which has to work
-    tools/afdx-capture "$@" 2>"$work/err" || cat "$work/err"
-}
-
 # A frame of link 1 that is padded to 196 bytes, with a check sequence 200, as for a link whose
 # Lmin is 200.
 padded_frame_of() { # SIDE NUMBER

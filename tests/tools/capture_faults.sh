@@ -1,0 +1,252 @@
+# Tests of what afdx-capture does with input that is odd or broken, and with output that fails; a
+# part of tests/tools.sh.
+# shellcheck shell=bash
+# shellcheck disable=SC2154  # what it uses is set by tests/tools.sh, which sources it
+
+is_fault() { # STATUS WORDS : one line that says them, and no more
+    is_status "$1"
+    says err "$2"
+    if grep -q Traceback "$work/err" || [[ $(grep -vc 'lines, with' "$work/err") -ne 1 ]]; then
+        head -n 5 "$work/err"
+    fi
+}
+
+to_list() { # WORD.. : a list of a recording whose frames come at port 1
+    launch tools/afdx-capture list --port 1 "$@"
+}
+
+# ---- recordings that are broken ------------------------------------------------------------
+
+broken_tests() {
+    local row
+    "$python" tests/odd_recordings.py "$work" "$(frame_of A 0)5d0b5f3c"
+    while IFS='|' read -r -a row; do
+        to_list "$work/${row[0]}"
+        tell "a recording with ${row[2]}" "$(is_fault 2 "${row[1]}")"
+    done <<'ROWS'
+claims.pcapng|a frame that is longer than its block|a frame that claims to be longer than its block
+nothing.pcapng|an interface whose option 9 has 0 bytes|an option of no bytes
+option.pcapng|is cut or damaged|an option that is longer than its block
+order.pcapng|a section in no order of bytes|no order of bytes
+ROWS
+    to_list "$work/comment.pcapng"
+    tell "names and comments that aren't UTF-8 are no fault" "$(
+        is_status 0
+        if [[ $(wc -l <"$work/out") -ne 1 ]]; then cat "$work/out" "$work/err"; fi
+    )"
+    to_list "$work/three.pcapng"
+    tell 'three interfaces: the side is that of the source address' "$(
+        is_status 0
+        says err 'side by the source address'
+        cut -d ' ' -f 2-4 "$work/out" >"$work/got"
+        printf '%d A 1\n' 0 1000 2000 >"$work/wanted"
+        same "$work/wanted" "$work/got"
+    )"
+    launch "$python" tests/mutated_recordings.py 3000 "$work"/{big,comment,three}.pcapng \
+        "$work/big.pcap"
+    tell '3,000 recordings with bytes changed are read or refused' "$(
+        is_status 0
+        head -n 5 "$work/out"
+    )"
+    printf 'x' >"$work/short.pcap"
+    to_list "$work/short.pcap"
+    tell 'a recording of one byte' "$(is_fault 2 'is no recording')"
+    to_list "$work"
+    tell 'a folder is no recording' "$(is_fault 2 "can't be read: Is a directory")"
+    to_list "$work/"$'no\xff.pcap'
+    tell "a name that isn't UTF-8" "$(is_fault 2 "can't be read: No such file")"
+    "$python" -c 'print("a = " + "[" * 100000)' >"$work/nested.toml"
+    launch tools/afdx-capture list --config "$work/nested.toml" "$work/three.pcapng"
+    tell 'a configuration that nests too deep' "$(is_fault 2 'is no configuration')"
+}
+
+# ---- recordings that come otherwise than as plain files --------------------------------------
+
+pipe_tests() {
+    printf 'F 0 A 1 %s\nF 2500 B 1 %s\n' "$(frame_of A 0)" "$(frame_of B 0)" >"$work/two.list"
+    capture pcap "$work/two.list" "$work/two.pcap"
+    capture list --port 1 "$work/two.pcap" >"$work/wanted"
+    local name=$work/two.pcap.gz
+    gzip -k "$work/two.pcap"
+    to_list "$name"
+    tell 'a recording packed by gzip' "$(is_status 0; same "$work/wanted" "$work/out")"
+    head -c 60 "$name" >"$work/cut.pcap.gz"
+    to_list "$work/cut.pcap.gz"
+    tell 'one that is cut' "$(is_fault 2 'is cut or damaged')"
+    for name in two.pcap two.pcap.gz; do
+        status=0
+        tools/afdx-capture list --port 1 - <"$work/$name" >"$work/out" 2>"$work/err" || status=$?
+        tell "$name on standard input" "$(is_status 0; same "$work/wanted" "$work/out")"
+        (head -c 1 "$work/$name"; sleep 0.2; tail -c +2 "$work/$name") |
+            tools/afdx-capture list --port 1 /dev/stdin >"$work/out" 2>"$work/err"
+        tell "$name through a pipe, its first byte alone" "$(same "$work/wanted" "$work/out")"
+    done
+    to_list - -
+    tell 'standard input twice' "$(is_fault 2 'can be read once only')"
+    status=0
+    tools/afdx-capture list --port 1 - <&- >"$work/out" 2>"$work/err" || status=$?
+    tell 'standard input that is closed' "$(is_fault 2 'standard input is closed')"
+}
+
+# ---- where the output goes -------------------------------------------------------------------
+
+written_as() { # NAME WORD.. : each command, which is to write to the last of its words
+    local name=$1
+    shift
+    launch tools/afdx-capture list --port 1 -o "$@" "$work/two.pcap"
+    tell "list onto $name" "$(is_status 0; still_there "$@")"
+    launch tools/afdx-capture pcap "$work/two.list" "$@"
+    tell "pcap onto $name" "$(is_status 0; still_there "$@")"
+}
+
+still_there() { # PATH : it is what it was
+    if [[ $(stat -c %F "$1") != "$kind" ]]; then stat -c %F "$1"; fi
+    if compgen -G "$1*.part" >/dev/null; then echo 'a part was left'; fi
+}
+
+output_tests() {
+    local kind
+    echo old >"$work/behind"
+    ln -s behind "$work/link"
+    kind='symbolic link'
+    written_as 'a symbolic link' "$work/link"
+    tell 'what is behind a symbolic link is written' "$(cmp "$work/behind" "$work/two.pcap" 2>&1)"
+    mkfifo "$work/fifo"
+    kind='fifo'
+    cat "$work/fifo" >"$work/got" &
+    launch tools/afdx-capture pcap "$work/two.list" "$work/fifo"
+    wait $!
+    tell 'pcap onto a FIFO' "$(
+        is_status 0
+        still_there "$work/fifo"
+        cmp "$work/got" "$work/two.pcap" 2>&1
+    )"
+    if mknod "$work/null" c 1 3 2>/dev/null && { : >"$work/null"; } 2>/dev/null; then
+        kind='character special file'
+        written_as 'a device' "$work/null"
+    else
+        skip 'output onto a device' 'only root may make one'
+    fi
+    launch tools/afdx-capture pcap "$work/two.list" "$work"
+    tell 'pcap onto a folder' "$(is_fault 4 'Is a directory')"
+    launch tools/afdx-capture pcap "$work/two.list" "$work/none/x.pcap"
+    tell 'pcap into a folder that is not there' "$(is_fault 4 'No such file or directory')"
+}
+
+failing_output_tests() {
+    local row
+    for row in "list --port 1 $work/two.pcap" "pcap $work/two.list -" \
+        "annotate examples/base.toml $work/two.list -"; do
+        # shellcheck disable=SC2086
+        set -- $row
+        status=0
+        tools/afdx-capture "$@" >/dev/full 2>"$work/err" || status=$?
+        tell "$1: a full device" "$(is_fault 4 'standard output: No space left on device')"
+        status=0
+        tools/afdx-capture "$@" >&- 2>"$work/err" || status=$?
+        tell "$1: standard output is closed" "$(is_fault 4 'standard output: it is closed')"
+        status=0
+        tools/afdx-capture "$@" >"$work/wanted" 2>"$work/err" || status=$?
+        tools/afdx-capture "$@" >"$work/out" 2>&- || status=$?
+        tell "$1: standard error is closed" "$(is_status 0; same "$work/wanted" "$work/out")"
+    done
+    tests/sample_list.py examples/network.toml --ms 60 >"$work/sample.list"
+    { tools/afdx-capture pcap "$work/sample.list" - 2>"$work/err"; echo $? >"$work/status"; } |
+        head -c 1 >"$work/out"
+    status=$(<"$work/status")
+    tell 'a pipe that its reader closes' "$(is_fault 4 'standard output: Broken pipe')"
+}
+
+# ---- lists and words that are wrong ----------------------------------------------------------
+
+no_recording_tests() {
+    local row
+    echo old >"$work/old.pcap"
+    while IFS='|' read -r -a row; do
+        printf 'F 0 A 1 %s\n%s\n' "$(frame_of A 0)" "${row[0]}" >"$work/bad.list"
+        # shellcheck disable=SC2086
+        launch tools/afdx-capture pcap ${row[2]-} "$work/bad.list" "$work/old.pcap"
+        tell "no recording of: ${row[0]:-nothing} ${row[2]-}" "$(
+            is_fault 2 "${row[1]}"
+            if [[ $(<"$work/old.pcap") != old ]]; then echo 'the old recording is gone'; fi
+            if compgen -G "$work/*.part" >/dev/null; then echo 'a part was left'; fi
+        )"
+    done <<'ROWS'
+F 0 A 1|line 2 is no line of a frame list
+F 0 A 1 0x|line 2 has no hexadecimal digits
+F -1 A 1 00|the time of line 2 is -1 ns
+F 99999999999999999999 A 1 00|the time of line 2 is 99999999999999999999 ns
+|the time of line 1 is -5 ns since 1970|--origin -5
+|the time of line 1 is 99999999999999999999 ns|--origin 99999999999999999999
+ROWS
+    to_list --origin -99999999999999999999 "$work/two.pcap"
+    tell 'a list whose origin lies far back' "$(
+        is_status 2
+        says err 'more than 1000000000000000 ns after the origin'
+    )"
+    to_list --origin 99999999999999999999 "$work/two.pcap"
+    tell 'a list whose origin lies far ahead is empty' "$(
+        is_status 0
+        says err '2 left out: before the origin'
+        same /dev/null "$work/out"
+    )"
+}
+
+# ---- without check sequences, and clocks apart -----------------------------------------------
+
+sealed_by() { # HEX : with its check sequence
+    "$python" -c 'import sys, zlib; b = bytes.fromhex(sys.argv[1])
+print((b + zlib.crc32(b).to_bytes(4, "little")).hex())' "$1"
+}
+
+fcs_tests() {
+    {
+        printf 'F 0 A 1 %s\nB 5 A 1 %s\n' "$(frame_of A 0)" "$(frame_of A 1)"
+        printf 'R 9 A 1 %s\nR 11 A 1 0300\n' "$(sealed_by "$(frame_of A 2)")"
+    } >"$work/four.list"
+    launch tools/afdx-capture pcap --fcs no "$work/four.list" "$work/no.pcap"
+    tell 'frames without their check sequences' "$(
+        is_status 0
+        says err '2 frames written, without check sequence'
+        says err '2 left out: a wrong check sequence'
+    )"
+    to_list "$work/no.pcap"
+    tell 'they come back as F lines' "$(
+        is_status 0
+        says err 'without check sequences (as the recording'
+        printf 'F 0 A 1 %s\nF 9 A 1 %s\n' "$(frame_of A 0)" "$(frame_of A 2)" >"$work/wanted"
+        same "$work/wanted" "$work/out"
+    )"
+}
+
+shift_tests() {
+    tests/sample_list.py examples/network.toml --ms 60 --sound >"$work/sound.list"
+    capture pcap "$work/sound.list" "$work/sound.pcap"
+    local shift
+    for shift in B=2500 A=-40000000 B=700000000; do
+        capture list --port 1 --origin -50000000 --shift A=30000000 --shift "$shift" \
+            "$work/sound.pcap" >"$work/got"
+        tell "clocks that are $shift apart" "$(
+            awk -v side="${shift%=*}" -v ns="${shift#*=}" '
+                { $2 += 50000000 + ($3 == side ? ns : $3 == "A" ? 30000000 : 0); print $2, $3 }' \
+                "$work/sound.list" | sort -n -k 1,1 -k 2,2 >"$work/wanted"
+            cut -d ' ' -f 2,3 "$work/got" | sort -c -n -k 1,1 2>&1
+            cut -d ' ' -f 2,3 "$work/got" | sort -n -k 1,1 -k 2,2 >"$work/sorted"
+            same "$work/wanted" "$work/sorted"
+        )"
+    done
+    to_list --shift C=5 "$work/sound.pcap"
+    tell 'a shift of no side' "$(is_status 2; says err 'A=NS or B=NS is wanted')"
+    to_list --shift B=soon "$work/sound.pcap"
+    tell 'a shift by no number' "$(is_status 2; says err 'invalid')"
+}
+
+if [[ -n $dpkt ]]; then
+    broken_tests
+    pipe_tests
+    output_tests
+    if [[ -n $built ]]; then failing_output_tests; fi
+    no_recording_tests
+    fcs_tests
+    shift_tests
+fi
