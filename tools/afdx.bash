@@ -1,17 +1,33 @@
 # Completes the words of `afdx` and of its tools in bash. `bin/install` puts it where bash looks for
 # it; elsewhere:  source tools/afdx.bash
 
-_afdx_files() { # EXTENSION.. : folders, and the files with one of these extensions
+_afdx_files() { # EXTENSION.. : folders, and files with one of these extensions; else any
     local cur=${COMP_WORDS[COMP_CWORD]} end
     compopt -o filenames 2>/dev/null
     mapfile -t COMPREPLY < <(compgen -d -- "$cur")
     for end in "$@"; do
         mapfile -t -O "${#COMPREPLY[@]}" COMPREPLY < <(compgen -f -X "!*.$end" -- "$cur")
     done
+    if [[ ${#COMPREPLY[@]} -eq 0 ]]; then mapfile -t COMPREPLY < <(compgen -f -- "$cur"); fi
 }
+
+_afdx_folders() {
+    compopt -o filenames 2>/dev/null
+    mapfile -t COMPREPLY < <(compgen -d -- "${COMP_WORDS[COMP_CWORD]}")
+}
+
+_afdx_recordings() { _afdx_files pcap pcapng pcap.gz pcapng.gz; }
 
 _afdx_words() { # WORD.. : those that the word begins
     mapfile -t COMPREPLY < <(compgen -W "$*" -- "${COMP_WORDS[COMP_CWORD]}")
+}
+
+_afdx_commands() { # COMMAND.. : the first word
+    if [[ ${COMP_WORDS[COMP_CWORD]} == -* ]]; then
+        _afdx_words --help --version
+    else
+        _afdx_words "$@"
+    fi
 }
 
 _afdx_systems() { # CONFIG : the names of its systems
@@ -22,22 +38,34 @@ _afdx_systems() { # CONFIG : the names of its systems
     _afdx_words $names
 }
 
+# Takes apart what stands before the word: `given` are the words that belong to no option, `before`
+# is the option whose value the word is, if it is one.
+_afdx_read() { # FIRST OPTION.. : the place of the first word; the options that take a value
+    local place word
+    given=() before=
+    for ((place = $1; place < COMP_CWORD; place++)); do
+        word=${COMP_WORDS[place]}
+        if [[ -n $before ]]; then
+            before=
+        elif [[ $word != -?* ]]; then
+            given+=("$word")
+        elif [[ " ${*:2} " == *" $word "* ]]; then
+            before=$word
+        fi
+    done
+}
+
+_afdx_is_option() { [[ -z $before && ${COMP_WORDS[COMP_CWORD]} == -* ]]; }
+
 _afdx() {
-    local command=${COMP_WORDS[1]-} given=() word before=
+    local command=${COMP_WORDS[1]-} given before
     COMPREPLY=()
     if ((COMP_CWORD == 1)); then
-        _afdx_words check explain police replay send --help --version
+        _afdx_commands check explain police replay send
         return
     fi
-    for word in "${COMP_WORDS[@]:2:COMP_CWORD-2}"; do
-        [[ $word == --* || $before == --@(vl|port|lmin|policing) ]] || given+=("$word")
-        before=$word
-    done
-    if [[ $before == --policing ]]; then
-        _afdx_words byte frame
-        return
-    fi
-    if [[ ${COMP_WORDS[COMP_CWORD]} == -* ]]; then
+    _afdx_read 2 --vl --port --lmin --policing
+    if _afdx_is_option; then
         case $command in
             replay) _afdx_words --no-admission --explain --line-buffered --summary --help ;;
             send) _afdx_words --explain --line-buffered --summary --help ;;
@@ -49,6 +77,10 @@ _afdx() {
         esac
         return
     fi
+    if [[ -n $before ]]; then
+        if [[ $before == --policing ]]; then _afdx_words byte frame; fi
+        return
+    fi
     case $command.${#given[@]} in
         police.0) _afdx_words 1 2 4 8 16 32 64 128 ;;
         police.3 | replay.1) _afdx_files list ;;
@@ -58,33 +90,89 @@ _afdx() {
     esac
 }
 
-_afdx_tool() {
-    local tool=${1##*/} before=${COMP_WORDS[COMP_CWORD - 1]}
-    COMPREPLY=()
+_afdx_capture_list() {
+    _afdx_read 2 --config --port --origin --shift --fcs --side -o --out --split
+    if _afdx_is_option; then
+        _afdx_words --config --port --origin --shift --fcs --side --all --out --split --help
+        return
+    fi
     case $before in
-        --config) _afdx_files toml && return ;;
-        --side) _afdx_words A B && return ;;
-        --fcs) _afdx_words yes no auto && return ;;
+        '') _afdx_recordings ;;
+        --config) _afdx_files toml ;;
+        --fcs) _afdx_words yes no auto ;;
+        --side) _afdx_words A B auto ;;
+        -o | --out | --split) _afdx_files list ;;
     esac
-    if [[ ${COMP_WORDS[COMP_CWORD]} == -* ]]; then
-        case $tool in
-            afdx-capture)
-                _afdx_words --config --port --origin --fcs --side --all --out --split --help
-                ;;
-            afdx-report)
-                _afdx_words --out --no-admission --link --from --rows --title --json --help
-                ;;
-            afdx-campaign)
-                _afdx_words --out --no-admission --pages --jobs --resume --sshlogin --transfer \
-                    --help
-                ;;
-        esac
-    elif [[ $tool == afdx-capture ]] && ((COMP_CWORD == 1)); then
-        _afdx_words list pcap
-    else
-        _afdx_files toml list pcap pcapng
+}
+
+_afdx_capture_pcap() {
+    _afdx_read 2 --side --fcs --origin
+    if _afdx_is_option; then
+        _afdx_words --side --fcs --origin --help
+        return
+    fi
+    case $before.${#given[@]} in
+        .0) _afdx_files list ;;
+        .1) _afdx_recordings ;;
+        --side.*) _afdx_words A B ;;
+        --fcs.*) _afdx_words yes no ;;
+    esac
+}
+
+_afdx_capture_annotate() {
+    _afdx_read 2 --origin
+    if _afdx_is_option; then
+        _afdx_words --no-admission --origin --help
+        return
+    fi
+    case $before.${#given[@]} in
+        .0) _afdx_files toml ;;
+        .1) _afdx_files list ;;
+        .2) _afdx_recordings ;;
+    esac
+}
+
+_afdx_capture() {
+    local given before
+    COMPREPLY=()
+    if ((COMP_CWORD == 1)); then
+        _afdx_commands list pcap annotate
+    elif declare -F "_afdx_capture_${COMP_WORDS[1]}" >/dev/null; then
+        "_afdx_capture_${COMP_WORDS[1]}"
     fi
 }
 
+_afdx_report() {
+    local given before
+    COMPREPLY=()
+    _afdx_read 1 --out --link --from --rows --title
+    if _afdx_is_option; then
+        _afdx_words --out --no-admission --link --from --rows --title --json --help
+        return
+    fi
+    case $before.${#given[@]} in
+        .0) _afdx_files toml ;;
+        .1) _afdx_files list ;;
+        --out.*) _afdx_folders ;;
+    esac
+}
+
+_afdx_campaign() {
+    local given before
+    COMPREPLY=()
+    _afdx_read 1 --out -j --jobs -S --sshlogin
+    if _afdx_is_option; then
+        _afdx_words --out --no-admission --pages --jobs --resume --sshlogin --transfer --help
+        return
+    fi
+    case $before.${#given[@]} in
+        .0) _afdx_files toml ;;
+        .*) _afdx_files list ;;
+        --out.*) _afdx_folders ;;
+    esac
+}
+
 complete -F _afdx afdx
-complete -F _afdx_tool afdx-capture afdx-report afdx-campaign
+complete -F _afdx_capture afdx-capture
+complete -F _afdx_report afdx-report
+complete -F _afdx_campaign afdx-campaign

@@ -55,50 +55,7 @@ else
     skip 'campaigns' 'there is no GNU parallel (apt-get install parallel)'
 fi
 
-# ---- install, man page, completion ---------------------------------------------------------
-
-if has man; then
-    launch man --warnings=w -l docs/afdx.1
-    tell 'the man page has no warnings' "$(
-        is_status 0
-        if [[ -s $work/err ]]; then cat "$work/err"; fi
-        says out 'no-admission'
-    )"
-else
-    skip 'the man page' 'there is no man'
-fi
-
-completed() { # WORD.. : what bash would offer for the last of the words
-    COMP_WORDS=("$@") COMP_CWORD=$(($# - 1)) COMPREPLY=()
-    if [[ $1 == afdx ]]; then _afdx; else _afdx_tool "$1"; fi
-    printf '%s\n' "${COMPREPLY[@]}" | sort | tr '\n' ' '
-}
-
-completes() { # WANTED WORD..
-    local wanted=$1 got
-    shift
-    got=$(completed "$@")
-    if [[ $got != "$wanted " ]]; then echo "$* gives '$got', wanted '$wanted '"; fi
-}
-
-# shellcheck source=tools/afdx.bash
-source tools/afdx.bash
-tell 'words are completed' "$(
-    completes 'check' afdx ch
-    completes 'explain' afdx e
-    completes '--explain' afdx check --e
-    completes '--no-admission' afdx replay --n
-    completes 'examples/base.toml' afdx check examples/ba
-    completes 's1 s2 s3' afdx send examples/base.toml ''
-    completes 'eec1 eec2' afdx send examples/network.toml eec
-    completes '1 128 16' afdx police 1
-    completes '--policing --port' afdx police --po
-    completes 'byte frame' afdx police --policing ''
-    completes '1 128 16' afdx police --vl 501 --port 5 1
-    completes 'list pcap' afdx-capture ''
-    completes '--fcs' afdx-capture list --f
-    completes 'auto' afdx-capture list --fcs a
-)"
+# ---- install -------------------------------------------------------------------------------
 
 # The program in a folder that holds nothing but it, the C library that it was linked with, and two
 # files.
@@ -128,7 +85,10 @@ install_tests() {
     tell 'install' "$(
         is_status 0
         cmp "$program" "$prefix/bin/afdx" 2>&1
-        for file in share/man/man1/afdx.1 share/bash-completion/completions/afdx bin/afdx-report; do
+        for file in share/man/man1/afdx{,-capture,-report,-campaign}.1 bin/afdx-report \
+            share/bash-completion/completions/afdx{,-capture,-report,-campaign} \
+            share/zsh/site-functions/_afdx lib/wireshark/plugins/afdx.lua \
+            share/fish/vendor_completions.d/afdx{,-capture,-report,-campaign}.fish; do
             if [[ ! -s $prefix/$file ]]; then echo "no $file"; fi
         done
     )"
@@ -137,6 +97,19 @@ install_tests() {
         is_status 0
         wants_number "$work/out" 'r["totals"]["frames"]' 3
     )"
+    launch "$prefix/bin/afdx-capture" --version
+    tell 'an installed tool knows its version' "$(
+        is_status 0
+        "$top/tools/afdx-capture" --version >"$work/wanted"
+        same "$work/wanted" "$work/out"
+        if [[ $(<"$work/out") == *unknown* ]]; then cat "$work/out"; fi
+    )"
+    if has tshark; then
+        mkdir -p "$work/home/.local/lib"
+        cp -r "$prefix/lib/wireshark" "$work/home/.local/lib"
+        launch env HOME="$work/home" tshark -G protocols
+        tell 'below ~/.local Wireshark finds the fields of AFDX' "$(says out $'\tafdx')"
+    fi
     launch env AFDX=/nowhere bin/install "$work/none"
     tell 'nothing is installed without a program' "$(
         is_status 1

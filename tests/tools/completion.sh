@@ -1,0 +1,161 @@
+# Tests of the completion of words in bash, zsh and fish, of the tools' versions and of the man
+# pages: what they offer and name is what the program and the tools take. A part of tests/tools.sh.
+# shellcheck shell=bash
+# shellcheck disable=SC2154  # what it uses is set by tests/tools.sh, which sources it
+
+# ---- what each shell offers for the last word of a line ------------------------------------
+
+offered_by_bash() { # LINE
+    bash --norc -c '
+        source tools/afdx.bash
+        read -r -a COMP_WORDS <<<"$1"
+        if [[ $1 == *" " ]]; then COMP_WORDS+=(""); fi
+        COMP_CWORD=$((${#COMP_WORDS[@]} - 1)) COMPREPLY=()
+        function_of=$(complete -p "${COMP_WORDS[0]}" | sed "s/.*-F \([^ ]*\).*/\1/")
+        "$function_of" "${COMP_WORDS[0]}" 2>/dev/null
+        printf "%s\n" "${COMPREPLY[@]}"' bash "$1"
+}
+
+offered_by_zsh() { # LINE
+    mkdir -p "$work/zsh"
+    cp tools/afdx.zsh "$work/zsh/_afdx"
+    timeout 20 zsh -f tests/completed.zsh "$work/zsh" "$1"
+}
+
+offered_by_fish() { # LINE
+    HOME=$work XDG_CONFIG_HOME=$work fish --no-config \
+        -c 'source tools/afdx.fish; complete -C $argv[1]' -- "$1" | cut -f 1
+}
+
+offers() { # SHELL LINE WANTED.. : these words, folders aside; of a path the last part
+    local got wanted
+    got=$("offered_by_$1" "$2" | grep -v '/$' | sed 's|.*/||' | sort -u | paste -s -d ' ')
+    wanted=$(printf '%s\n' "${@:3}" | sort -u | paste -s -d ' ')
+    if [[ $got != "$wanted" ]]; then echo "'$2' gives '$got', wanted '$wanted'"; fi
+}
+
+offer_tests() { # SHELL
+    local files=$work/files
+    mkdir -p "$files"
+    touch "$files"/{one.toml,two.list,three.messages,four.pcap,five.pcapng.gz,six.html}
+    printf 'system = [\n  { name = "adc" },\n  { name = "fcc" },\n]\nlink = []\n' >"$files/one.toml"
+    tell "$1 completes words" "$(
+        offers "$1" 'afdx ch' check
+        offers "$1" 'afdx replay --n' --no-admission
+        offers "$1" 'afdx police --po' --policing --port
+        offers "$1" 'afdx police --policing ' byte frame
+        offers "$1" 'afdx police 1' 1 16 128
+        offers "$1" 'afdx police --vl 501 --port 5 1' 1 16 128
+        offers "$1" 'afdx-capture ' list pcap annotate
+        offers "$1" 'afdx-capture list --fc' --fcs
+        offers "$1" 'afdx-capture list --fcs a' auto
+        offers "$1" 'afdx-capture pcap --fcs ' yes no
+        offers "$1" 'afdx-capture list --side A --al' --all
+        offers "$1" "afdx send $files/one.toml " adc fcc
+    )"
+    tell "$1 completes files, each of the kind that is wanted there" "$(
+        offers "$1" "afdx check $files/" one.toml
+        offers "$1" "afdx replay --no-admission $files/" one.toml
+        offers "$1" "afdx replay $files/one.toml $files/" two.list
+        offers "$1" "afdx police --vl 7 1 64 500 $files/" two.list
+        offers "$1" "afdx send $files/one.toml adc $files/" two.list three.messages
+        offers "$1" "afdx-capture list --config $files/" one.toml
+        offers "$1" "afdx-capture list --config $files/one.toml $files/" four.pcap five.pcapng.gz
+        offers "$1" "afdx-capture pcap $files/" two.list
+        offers "$1" "afdx-capture pcap --side A $files/two.list $files/" four.pcap five.pcapng.gz
+        offers "$1" "afdx-capture annotate $files/" one.toml
+        offers "$1" "afdx-capture annotate $files/one.toml $files/" two.list
+        offers "$1" "afdx-report $files/" one.toml
+        offers "$1" "afdx-report --rows 7 $files/one.toml $files/" two.list
+        offers "$1" "afdx-report --out $files/"
+        offers "$1" "afdx-campaign $files/" one.toml
+        offers "$1" "afdx-campaign $files/one.toml $files/two.list $files/" two.list
+    )"
+    tell "$1 completes each option of --help" "$(each_help options_offered "$1")"
+}
+
+# ---- what is taken, by --help --------------------------------------------------------------
+
+options_of() { # WORD.. : the long options that its --help names
+    "$@" --help 2>/dev/null | grep -oE -- '--[a-z][a-z-]+' | sort -u
+}
+
+each_help() { # FUNCTION WORD.. : calls it with the words, a command's name and its options
+    local name
+    for name in afdx-report afdx-campaign 'afdx-capture list' 'afdx-capture pcap' \
+        'afdx-capture annotate'; do
+        # shellcheck disable=SC2086
+        options_of tools/$name >"$work/options"
+        "$@" "$name" "$work/options"
+    done
+    if ! options_of "$program" replay | grep -qx -- --summary; then return; fi
+    for name in check police replay send; do
+        options_of "$program" "$name" >"$work/options"
+        "$@" "afdx $name" "$work/options"
+    done
+}
+
+options_offered() { # SHELL NAME OPTIONS
+    "offered_by_$1" "$2 --" | grep -E '^--' | grep -vx -- --version | sort -u >"$work/offered"
+    if ! diff <(grep -vx -- --version "$3") "$work/offered" >"$work/diff"; then
+        echo "$2 --help and what is offered:"
+        cat "$work/diff"
+    fi
+}
+
+for shell in bash zsh fish; do
+    if has "$shell"; then
+        offer_tests "$shell"
+    else
+        skip "completion in $shell" "there is no $shell (apt-get install $shell)"
+    fi
+done
+
+# ---- versions and man pages ----------------------------------------------------------------
+
+version_tests() {
+    local wanted tool
+    wanted=$(sed -n 's/^const VERSION: &str = "\([^ ]*\) .*/\1/p' crates/afdx/src/words.rt)
+    for tool in afdx-capture; do
+        launch "tools/$tool" --version
+        tell "$tool --version" "$(
+            is_status 0
+            printf '%s %s\n' "$tool" "$wanted" >"$work/wanted"
+            same "$work/wanted" "$work/out"
+        )"
+    done
+    tell 'the newest section of CHANGELOG.md is that of the version, or of what is next' "$(
+        if ! grep -m 1 '^## ' CHANGELOG.md | grep -qE "^## (${wanted//./\\.}|Next)"; then
+            grep -m 1 '^## ' CHANGELOG.md
+        fi
+        if ! grep -q "^## ${wanted//./\\.}" CHANGELOG.md; then echo "no section $wanted"; fi
+    )"
+}
+
+options_named() { # NAME OPTIONS : in its man page
+    local page option
+    page=docs/${1%% *}.1
+    while IFS= read -r option; do
+        if ! grep -q -- "${option//-/\\\\-}" "$page"; then echo "$page doesn't name $option"; fi
+    done <"$2"
+}
+
+page_tests() {
+    local page
+    for page in docs/*.1; do
+        launch man --warnings=w -l "$page"
+        tell "the man page $page has no warnings" "$(
+            is_status 0
+            if [[ -s $work/err ]]; then cat "$work/err"; fi
+            says out 'SYNOPSIS'
+        )"
+    done
+    tell 'the man pages name each option of --help' "$(each_help options_named)"
+}
+
+version_tests
+if has man; then
+    page_tests
+else
+    skip 'the man pages' 'there is no man'
+fi

@@ -1,0 +1,97 @@
+# Tests of bin/package: the package is installed in a bare root, and what it brings is used there. A
+# part of tests/tools.sh.
+# shellcheck shell=bash
+# shellcheck disable=SC2154  # what it uses is set by tests/tools.sh, which sources it
+
+package_root() { # a root with an empty list of packages and the C library
+    local library
+    mkdir -p "$work/deb_root/var/lib/dpkg/"{info,updates,triggers}
+    : >"$work/deb_root/var/lib/dpkg/status"
+    while IFS= read -r library; do
+        mkdir -p "$work/deb_root$(dirname "$library")"
+        cp -L "$library" "$work/deb_root$library"
+    done < <(ldd "$program" | grep -o '/[^ ]*')
+}
+
+installed_tests() { # DEB
+    local root=$work/deb_root file
+    package_root
+    launch dpkg --root="$root" --force-not-root,depends,script-chrootless --log=/dev/null -i "$1"
+    tell 'the package is installed in a bare root' "$(
+        is_status 0
+        dpkg --root="$root" --status afdx 2>&1 | grep -q '^Status: install ok installed' ||
+            echo 'dpkg says that it is not'
+        cmp "$program" "$root/usr/bin/afdx" 2>&1
+        for file in share/man/man1/afdx{,-capture,-report,-campaign}.1.gz share/doc/afdx/TOOLS.md \
+            share/bash-completion/completions/afdx{,-capture} share/zsh/vendor-completions/_afdx \
+            share/fish/vendor_completions.d/afdx{,-report}.fish share/doc/afdx/changelog.gz \
+            "lib/$(dpkg-architecture_of)/wireshark/plugins/afdx.lua" bin/afdx-report; do
+            if [[ ! -s $root/usr/$file ]]; then echo "no $file"; fi
+        done
+        (cd "$root" && md5sum --quiet -c var/lib/dpkg/info/afdx.md5sums 2>&1)
+    )"
+    launch env -u AFDX "$root/usr/bin/afdx-report" examples/base.toml examples/one_link.list --json
+    tell 'a tool of the package finds its program' "$(
+        is_status 0
+        wants_number "$work/out" 'r["totals"]["frames"]' 3
+    )"
+    launch "$root/usr/bin/afdx-capture" --version
+    tell 'a tool of the package knows its version' "$(says out "$version")"
+    if [[ $(id -u) -eq 0 ]]; then
+        launch chroot "$root" /usr/bin/afdx check /usr/share/doc/afdx/examples/base.toml
+        tell 'the program of the package runs in the bare root' "$(is_status 0; says out ok)"
+    else
+        skip 'the program of the package in the bare root' 'only root may change the root folder'
+    fi
+}
+
+dpkg-architecture_of() { # the folder of this machine's libraries
+    case $(dpkg --print-architecture) in
+        amd64) echo x86_64-linux-gnu ;;
+        arm64) echo aarch64-linux-gnu ;;
+    esac
+}
+
+package_tests() {
+    local version deb
+    version=$(sed -n 's/^const VERSION: &str = "\([^ ]*\) .*/\1/p' crates/afdx/src/words.rt)
+    launch bin/package "$work/packages"
+    deb=$(tail -n 1 "$work/out")
+    tell 'a package is made' "$(
+        is_status 0
+        if [[ $deb != "$work/packages/afdx_${version}_"*.deb || ! -s $deb ]]; then
+            echo "it says '$deb'"
+        fi
+        launch dpkg-deb --field "$deb" Version
+        says out "$version"
+    )" "$(stat -c %s "$deb" 2>/dev/null) bytes"
+    installed_tests "$deb"
+    launch bin/package "$work/packages2"
+    tell 'the same files give the same package' "$(cmp "$deb" "$(tail -n 1 "$work/out")" 2>&1)"
+}
+
+refused_package_tests() {
+    launch env AFDX=/nowhere bin/package "$work/no_package"
+    tell 'no package without a program' "$(is_status 1; says err 'there is no program /nowhere')"
+    launch env AFDX=/bin/echo bin/package "$work/no_package"
+    tell 'no package of another version' "$(
+        is_status 1
+        says err 'the program says'
+        if [[ -e $work/no_package ]]; then echo 'there is a folder'; fi
+    )"
+    launch bin/package
+    tell 'package wants a folder' "$(is_status 2; says err 'bin/package FOLDER')"
+}
+
+if ! has dpkg-deb; then
+    skip 'the package' 'there is no dpkg-deb (apt-get install dpkg)'
+elif [[ -z $built ]]; then
+    skip 'the package' "there is no program $program"
+else
+    refused_package_tests
+    if [[ $("$program" --version 2>&1) == afdx\ * ]]; then
+        package_tests
+    else
+        skip 'the package' 'the program tells no version'
+    fi
+fi

@@ -1,0 +1,127 @@
+# Completes the words of `afdx` and of its tools in fish. `bin/install PREFIX` puts it below
+# PREFIX/share/fish/vendor_completions.d; elsewhere:  source tools/afdx.fish
+
+function __afdx_given --description 'Words behind the command that belong to no option'
+    set -l place 2 # VALUED options.. : those that take a value
+    set -l words (commandline -opc)
+    set -l given
+    while test $place -le (count $words)
+        if contains -- $words[$place] $argv
+            set place (math $place + 1)
+        else if not string match -q -- '-?*' $words[$place]
+            set -a given $words[$place]
+        end
+        set place (math $place + 1)
+    end
+    test (count $given) -gt 0; and printf '%s\n' $given
+end
+
+set -g __afdx_valued --vl --port --lmin --policing --config --origin --shift --fcs --side -o --out \
+    --split --link --from --rows --title -j --jobs -S --sshlogin
+
+function __afdx_at --description 'Is the word the one of that number behind COMMAND (- for none)?'
+    set -l given (__afdx_given $__afdx_valued)
+    set -l before (commandline -opc)[-1]
+    contains -- $before $__afdx_valued; and return 1
+    if test $argv[1] != -
+        test "$given[1]" = $argv[1]; or return 1
+        set -e given[1]
+    end
+    test (count $given) -ge $argv[2] -a (count $given) -le $argv[3]
+end
+
+function __afdx_in --description 'Is the command one of these?'
+    set -l given (__afdx_given $__afdx_valued)
+    contains -- "$given[1]" $argv
+end
+
+function __afdx_systems --description 'The names of the systems of the configuration'
+    set -l given (__afdx_given $__afdx_valued)
+    sed -n -e '/^ *\(\[\[link\]\]\|link *=\)/q' -e 's/.*\bname *= *"\([A-Za-z0-9]*\)".*/\1/p' \
+        $given[2] 2>/dev/null
+end
+
+function __afdx_files --description 'Folders, and files with one of these extensions'
+    for end in $argv
+        __fish_complete_suffix .$end | string match -r -- ".*(?:\.$end|/)(?:\t.*)?\$"
+    end
+end
+
+set -l pcaps pcap pcapng pcap.gz pcapng.gz
+
+# ---- afdx ----------------------------------------------------------------------------------------
+
+complete -c afdx -f
+complete -c afdx -l help -d 'Print help and leave'
+complete -c afdx -n '__afdx_at - 0 0' -l version -d 'Print the version and leave'
+complete -c afdx -n '__afdx_at - 0 0' -a check -d 'Is the network admitted?'
+complete -c afdx -n '__afdx_at - 0 0' -a explain -d 'What does a line mean?'
+complete -c afdx -n '__afdx_at - 0 0' -a police -d 'Judge the frames of one link'
+complete -c afdx -n '__afdx_at - 0 0' -a replay -d 'Replay a frame list'
+complete -c afdx -n '__afdx_at - 0 0' -a send -d 'Send the messages of a system'
+complete -c afdx -n '__afdx_in check police replay send' -l explain -d 'Explain a fault'
+complete -c afdx -n '__afdx_in police replay send' -l line-buffered -d 'Hand over each line at once'
+complete -c afdx -n '__afdx_in police replay send' -l summary -d 'Print the counts at the end'
+complete -c afdx -n '__afdx_in replay' -l no-admission -d 'Also where the network is refused'
+complete -c afdx -n '__afdx_in police' -x -l vl -d 'The identifier of the link'
+complete -c afdx -n '__afdx_in police' -x -l port -d 'The input port of its frames'
+complete -c afdx -n '__afdx_in police' -x -l lmin -d 'The least length of a frame'
+complete -c afdx -n '__afdx_in police' -x -l policing -a 'byte frame' -d 'What a frame is charged'
+complete -c afdx -n '__afdx_at police 0 0' -a '1 2 4 8 16 32 64 128'
+complete -c afdx -n '__afdx_at police 3 3' -a '(__afdx_files list)'
+for command in check replay send
+    complete -c afdx -n "__afdx_at $command 0 0" -a '(__afdx_files toml)'
+end
+complete -c afdx -n '__afdx_at replay 1 1' -a '(__afdx_files list)'
+complete -c afdx -n '__afdx_at send 1 1' -a '(__afdx_systems)'
+complete -c afdx -n '__afdx_at send 2 2' -a '(__afdx_files list messages)'
+
+# ---- afdx-capture --------------------------------------------------------------------------------
+
+set -l tool afdx-capture
+complete -c $tool -f
+complete -c $tool -l help -d 'Print help and leave'
+complete -c $tool -n '__afdx_at - 0 0' -l version -d 'Print the version and leave'
+complete -c $tool -n '__afdx_at - 0 0' -a list -d 'Recordings to a frame list'
+complete -c $tool -n '__afdx_at - 0 0' -a pcap -d 'A frame list to a recording'
+complete -c $tool -n '__afdx_at - 0 0' -a annotate -d 'A replay beside its frames'
+complete -c $tool -n '__afdx_in list' -x -l config -a '(__afdx_files toml)' -d 'Tells switch ports'
+complete -c $tool -n '__afdx_in list' -x -l port -d 'The switch port of all other frames'
+complete -c $tool -n '__afdx_in list pcap annotate' -x -l origin -d 'ns since 1970 of time 0'
+complete -c $tool -n '__afdx_in list' -x -l shift -a 'A= B=' -d 'Add to the times of a side'
+complete -c $tool -n '__afdx_in list' -x -l fcs -a 'yes no auto' -d 'Are there check sequences?'
+complete -c $tool -n '__afdx_in pcap' -x -l fcs -a 'yes no' -d 'With check sequences?'
+complete -c $tool -n '__afdx_in list' -x -l side -a 'A B auto' -d 'The network of all frames'
+complete -c $tool -n '__afdx_in pcap' -x -l side -a 'A B' -d 'Only frames of this network'
+complete -c $tool -n '__afdx_in list' -l all -d 'Keep frames that are no AFDX frames'
+complete -c $tool -n '__afdx_in list' -r -F -s o -l out -d 'The list'
+complete -c $tool -n '__afdx_in list' -r -F -l split -d 'Write several lists'
+complete -c $tool -n '__afdx_in annotate' -l no-admission -d 'Also where the network is refused'
+complete -c $tool -n '__afdx_at list 0 9' -a "(__afdx_files $pcaps)"
+complete -c $tool -n '__afdx_at pcap 0 0' -a '(__afdx_files list)'
+complete -c $tool -n '__afdx_at pcap 1 1' -a "(__afdx_files $pcaps)"
+complete -c $tool -n '__afdx_at annotate 0 0' -a '(__afdx_files toml)'
+complete -c $tool -n '__afdx_at annotate 1 1' -a '(__afdx_files list)'
+complete -c $tool -n '__afdx_at annotate 2 2' -a "(__afdx_files $pcaps)"
+
+# ---- afdx-report, afdx-campaign ------------------------------------------------------------------
+
+for tool in afdx-report afdx-campaign
+    complete -c $tool -f
+    complete -c $tool -l help -d 'Print help and leave'
+    complete -c $tool -l no-admission -d 'Also where the network is refused'
+    complete -c $tool -x -l out -a '(__fish_complete_directories)' -d 'The folder of the output'
+    complete -c $tool -n '__afdx_at - 0 0' -a '(__afdx_files toml)'
+end
+complete -c afdx-report -n '__afdx_at - 1 1' -a '(__afdx_files list)'
+complete -c afdx-report -x -l link -d 'The link of the time line'
+complete -c afdx-report -x -l from -d 'Where the time line begins, in ns'
+complete -c afdx-report -x -l rows -d 'Links in the picture of latencies'
+complete -c afdx-report -x -l title -d 'The title of the page'
+complete -c afdx-report -l json -d 'Print the JSON instead of the text'
+complete -c afdx-campaign -n '__afdx_at - 1 1000000' -a '(__afdx_files list)'
+complete -c afdx-campaign -l pages -d 'A page for each run too'
+complete -c afdx-campaign -x -s j -l jobs -d 'Runs at a time'
+complete -c afdx-campaign -l resume -d 'Only the lists that have not been run'
+complete -c afdx-campaign -x -s S -l sshlogin -d 'Run on this machine too'
+complete -c afdx-campaign -l transfer -d 'Copy lists and configuration there first'

@@ -1,0 +1,99 @@
+#compdef afdx afdx-capture afdx-report afdx-campaign
+# Completes the words of `afdx` and of its tools in zsh. `bin/install PREFIX` puts it at
+# PREFIX/share/zsh/site-functions/_afdx; where zsh doesn't look there, put that folder into `fpath`.
+
+local help='(- *)--help[print help and leave]'
+local version='(- *)--version[print the version and leave]'
+local config='configuration:_files -g "*.toml(-.)"'
+local list='frame list:_files -g "*.list(-.)"'
+local recording='recording:_files -g "*.(pcap|pcapng|pcap.gz|pcapng.gz)(-.)"'
+local -a told=(
+    '--explain[explain a fault behind its line]'
+    '--line-buffered[hand over each line at once]'
+    '--summary[print the counts of the run at its end]'
+)
+
+_afdx_systems() { # the names of the systems of the configuration that was given
+    local -a names=(${(f)"$(sed -n -e '/^ *\(\[\[link\]\]\|link *=\)/q' \
+        -e 's/.*\bname *= *"\([A-Za-z0-9]*\)".*/\1/p' "${(Q)line[1]}" 2>/dev/null)"})
+    compadd -a names
+}
+
+_afdx_program() {
+    case $1 in
+        check) _arguments $help $told[1] ":$config" ;;
+        explain) _arguments $help '*:text:' ;;
+        police)
+            _arguments $help $told '--vl[the identifier of the link]:number:' \
+                '--port[the input port of its frames]:number:' \
+                '--lmin[the least length of a frame]:bytes:' \
+                '--policing[what a frame is charged]:kind:(byte frame)' \
+                ':BAG in ms:(1 2 4 8 16 32 64 128)' ':Lmax in bytes:' ':jitter in us:' ":$list"
+            ;;
+        replay)
+            _arguments $help $told '--no-admission[also where the network is refused]' \
+                ":$config" ":$list"
+            ;;
+        send)
+            _arguments $help $told ":$config" ':system:_afdx_systems' \
+                ':submission list:_files -g "*.(list|messages)(-.)"'
+            ;;
+    esac
+}
+
+_afdx_capture() {
+    local origin='--origin[the time, in ns since 1970, that is 0 in the list]:ns:'
+    case $1 in
+        list)
+            _arguments $help $origin \
+                "--config[the switch port is that of the sender in it]:$config" \
+                '--port[the switch port of all other frames]:port:' \
+                '*--shift[add to the times of a side]:A=NS or B=NS:' \
+                '--fcs[do frames end with check sequences]:answer:(yes no auto)' \
+                '--side[the network of all frames]:side:(A B auto)' \
+                '--all[keep frames that are no AFDX frames]' \
+                "(-o --out --split)"{-o,--out}"[the list]:$list" \
+                '(-o --out)--split[write several lists]:prefix:_files' "*:$recording"
+            ;;
+        pcap)
+            _arguments $help $origin '--side[only the frames of this network]:side:(A B)' \
+                '--fcs[with check sequences]:answer:(yes no)' ":$list" ":$recording"
+            ;;
+        annotate)
+            _arguments $help $origin '--no-admission[also where the network is refused]' \
+                ":$config" ":$list" ":$recording"
+            ;;
+    esac
+}
+
+_afdx_of_commands() { # FUNCTION COMMAND.. : the first word is one of the commands
+    local function=$1 command line state
+    shift
+    _arguments -C $help $version "1:command:($*)" '*::word:->words'
+    if [[ $state == words ]]; then
+        command=$words[1]
+        $function $command
+    fi
+}
+
+case $service in
+    afdx) _afdx_of_commands _afdx_program check explain police replay send ;;
+    afdx-capture) _afdx_of_commands _afdx_capture list pcap annotate ;;
+    afdx-report)
+        _arguments $help '--out[the folder for page, CSV and JSON]:folder:_path_files -/' \
+            '--no-admission[also where the network is refused]' \
+            '--link[the link of the time line]:number:' \
+            '--from[where the time line begins]:ns:' \
+            '--rows[links in the picture of latencies]:number:' \
+            '--title[the title of the page]:title:' \
+            '--json[print the JSON instead of the text]' ":$config" ":$list"
+        ;;
+    afdx-campaign)
+        _arguments $help '--out[the folder of the campaign]:folder:_path_files -/' \
+            '--no-admission[also where the network is refused]' \
+            '--pages[a page for each run too]' {-j,--jobs}'[runs at a time]:number:' \
+            '--resume[only the lists that have not been run]' \
+            '*'{-S,--sshlogin}'[run on this machine too]:login:' \
+            '--transfer[copy lists and configuration there first]' ":$config" "*:$list"
+        ;;
+esac
