@@ -128,6 +128,7 @@ guide_tests() {
     HAS=
     if "$program" send --help >"$work/out" 2>&1; then HAS+=' send'; fi
     if [[ -n $dpkt ]]; then HAS+=' capture'; fi
+    if has tshark; then HAS+=' tshark'; fi
     export HAS
     env -u AFDX PATH="$work/prefix/bin:$PATH" "$python" tests/guide.py docs/GUIDE.md "$folder" \
         >"$work/guide.out" 2>&1

@@ -5,6 +5,7 @@
 
 # ---- what each shell offers for the last word of a line ------------------------------------
 
+# shellcheck disable=SC2016  # another shell expands it
 offered_by_bash() { # LINE
     bash --norc -c '
         source tools/afdx.bash
@@ -22,6 +23,7 @@ offered_by_zsh() { # LINE
     timeout 20 zsh -f tests/completed.zsh "$work/zsh" "$1"
 }
 
+# shellcheck disable=SC2016  # fish expands it
 offered_by_fish() { # LINE
     HOME=$work XDG_CONFIG_HOME=$work fish --no-config \
         -c 'source tools/afdx.fish; complete -C $argv[1]' -- "$1" | cut -f 1
@@ -114,9 +116,9 @@ done
 # ---- versions and man pages ----------------------------------------------------------------
 
 version_tests() {
-    local wanted tool
+    local wanted tool versioned=(afdx-capture)
     wanted=$(sed -n 's/^const VERSION: &str = "\([^ ]*\) .*/\1/p' crates/afdx/src/words.rt)
-    for tool in afdx-capture; do
+    for tool in "${versioned[@]}"; do
         launch "tools/$tool" --version
         tell "$tool --version" "$(
             is_status 0

@@ -152,13 +152,12 @@ comments_of() { # RECORDING : each frame's comments, one a line, behind the fram
         "$work/out"
 }
 
-# The lines of a replay, each behind the place of its frame among the V lines, messages left out.
-placed_lines() {
+placed_lines() { # the lines of a replay, each behind the place of its frame, without messages
     awk '$1 == "V" { place[$2] = ++count }
         $1 ~ /[VDTL]/ { last = $2 }
         $1 == "X" { last = $4 }
         $1 == "M" { NF = 4 }
-        { print place[last], $0 }' "$@" | sort -s -n -k 1,1
+        { print place[last], $0 }' | sort -s -n -k 1,1
 }
 
 annotated_tests() { # NAME CONFIG LIST [WORD..]
@@ -217,6 +216,14 @@ annotate_fault_tests() {
         is_status 0
         same "$work/one.pcapng" "$work/out"
     )"
+    launch timeout 20 tools/afdx-capture annotate <(cat examples/base.toml) \
+        <(cat examples/one_link.list) "$work/piped.pcapng"
+    tell 'annotate where both come by pipes' "$(
+        is_status 0
+        same "$work/one.pcapng" "$work/piped.pcapng"
+    )"
+    launch tools/afdx-capture annotate - examples/one_link.list "$work/no.png"
+    tell 'annotate where the configuration is not there' "$(is_status 4; says err 'device Config')"
 }
 
 if [[ -z $dpkt ]]; then
