@@ -25,7 +25,7 @@ def frames_of(path: str) -> dict[int, tuple[int, str, int, int]]:
 
 
 def departures(config: dict, frames: dict, path: str) -> tuple[dict, dict]:
-    """The latencies of each link at each port, and of each port when its frames came and began."""
+    """The latencies of each link, port and side; of each port when its frames came and began."""
     systems = {row["name"]: row for row in config["system"]}
     byte_ns = {row["port"]: 8000 // row["rate"] for row in config["system"]}
     links = {row["vl"]: row for row in config["link"]}
@@ -39,7 +39,7 @@ def departures(config: dict, frames: dict, path: str) -> tuple[dict, dict]:
             elif words[0] == "D":
                 line, end, side, port = int(words[1]), int(words[2]), words[3], int(words[4])
                 time, _, vl, length = frames[line]
-                seen[vl, port].append(end - time)
+                seen[vl, port, side].append(end - time)
                 stays[side, port][line][1] = end - (length + 20) * byte_ns[port]
     return seen, stays
 
@@ -47,7 +47,7 @@ def departures(config: dict, frames: dict, path: str) -> tuple[dict, dict]:
 def compare_latencies(rows: list[dict], seen: dict) -> None:
     """Prints what differs in the report's latencies."""
     for row in rows:
-        mine = seen.pop((row["link"], row["port"]))
+        mine = seen.pop((row["link"], row["port"], row["side"]))
         wanted = min(mine), statistics.median_low(mine), max(mine)
         if wanted != (row["least_ns"], row["median_ns"], row["greatest_ns"]):
             print(f"link {row['link']} at port {row['port']}: {wanted} and {row}")

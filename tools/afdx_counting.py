@@ -1,385 +1,208 @@
-"""Counts what `afdx replay` and `afdx check` write.
+"""Counts what a replay wrote: sums by link and side, latencies, backlogs, loads.
 
-Every number here is counted from the program's lines and the list, in one pass. What is kept grows
-with the links, the ports and the frames that are in a switch at one moment; only the latencies that
-were seen are kept one by one (eight bytes each), for their medians.
+Every number here is counted from the program's lines and the list. A latency runs from the arrival
+of a frame's last bit to the end of its slot. All columns of the run are held, about 60 bytes for
+each line of the list and 40 for each copy that left a port.
 """
 from __future__ import annotations
 
-import statistics
-from array import array
-from collections import Counter, defaultdict, deque
-from dataclasses import dataclass, field
-from typing import Iterable, Iterator
+from dataclasses import dataclass
 
-from afdx_tools import Config, Link, Listed, Refused
+import numpy as np
 
-NO_LINK = -1  # stands for frames that name no link of the configuration
-VERDICTS = (
-    "too-short",
-    "too-long",
-    "bad-fcs",
-    "bad-address",
-    "unknown-link",
-    "wrong-port",
-    "over-lmax",
-    "under-lmin",
-    "over-rate",
-)
-LOST, OLD = "lost", "too-old"
+from afdx_events import ACCEPT, FATES, LEFT, LOST, NOT_YET, OLD, Events
+from afdx_listing import NO_LINK, Listing
+from afdx_tools import Config
+
 WIRE_EXTRA = 20  # bytes that a frame takes on the wire beside its own
+MOST_PORTS = 32  # more than the ports of a switch
+MOST_LINK = 65_536
+SHARES = (50, 99, 99.9)  # percentiles of latencies
 
 
 @dataclass(frozen=True)
-class Bound:
-    """A P line of `check`: bounds in ns (low None where there is none), bytes of buffer."""
+class Path:
+    """The copies of a link that left one port of one side: their latencies in ns, ascending, and
+    the first copy (its place in the events) that had the greatest."""
 
-    high: int
-    low: int | None
-    buffer: int
+    link: int
+    port: int
+    side: int
+    latencies: np.ndarray
+    worst: int
+    late: int
 
-
-@dataclass
-class Checked:
-    """What `check` answered."""
-
-    bounds: dict[int, Bound] = field(default_factory=dict)
-    answer: str = ""
-
-    def bound_of(self, link: Link, port: int) -> int | None:
-        """The proved bound for frames of a link at a port."""
-        bound = self.bounds.get(port)
-        if bound is None:
-            return None
-        return bound.high if link.priority == "high" else bound.low
+    def rank(self, percent: float) -> int:
+        """The least latency that so many percent of the copies don't exceed."""
+        count = len(self.latencies)
+        return int(self.latencies[max(int(np.ceil(percent * count / 100)) - 1, 0)])
 
 
-def checked_of(lines: Iterable[str]) -> Checked:
-    """Reads the lines of `check`."""
-    checked = Checked()
-    for line in lines:
-        words = line.split()
-        if words[0] == "P":
-            port, high, low, buffer = words[1:]
-            checked.bounds[int(port)] = Bound(
-                int(high), None if low == "-" else int(low), int(buffer)
-            )
-        else:
-            checked.answer = line
-    return checked
+@dataclass(frozen=True)
+class Queue:
+    """One output port of one side: frames that left, the greatest backlog in bytes and its time,
+    the share of the line in use over the run, and in each step of time."""
 
-
-@dataclass
-class LinkCount:
-    """What became of a link's frames."""
-
-    frames: int = 0
-    accepted: int = 0
-    dropped: Counter = field(default_factory=Counter)
-    lost: int = 0
-    old: int = 0
-    departed: int = 0
-    delivered: int = 0
-    redundant: int = 0
-    refused: Counter = field(default_factory=Counter)  # at receivers, but for redundant
-
-    @property
-    def trouble(self) -> int:
-        """Frames and copies that did not come through, redundant ones apart."""
-        return sum(self.dropped.values()) + self.lost + self.old + sum(self.refused.values())
-
-
-@dataclass
-class PathCount:
-    """The latencies seen of a link at a port, in ns, both sides together."""
-
-    seen: array = field(default_factory=lambda: array("Q"))
-    greatest: int = -1
-    line: int = 0
-    side: str = ""
-
-    def add(self, latency: int, line: int, side: str) -> None:
-        """Takes one latency, and keeps where the greatest was."""
-        self.seen.append(latency)
-        if latency > self.greatest:
-            self.greatest, self.line, self.side = latency, line, side
-
-    @property
-    def least(self) -> int:
-        """The least latency."""
-        return min(self.seen)
-
-    @property
-    def median(self) -> int:
-        """The lower median, a latency that was seen."""
-        return statistics.median_low(self.seen)
-
-
-@dataclass
-class QueueCount:
-    """The bytes that wait in one output port of one side."""
-
-    waiting: int = 0
-    greatest: int = 0
-    time: int = 0
-    departed: int = 0
-    put: deque = field(default_factory=deque)  # (time, bytes) not yet counted into `waiting`
-
-    def take(self, start: int, length: int) -> None:
-        """A frame's turn came: until then, that moment's arrivals too, it waited."""
-        while self.put and self.put[0][0] <= start:
-            time, more = self.put.popleft()
-            self.waiting += more
-            if self.waiting > self.greatest:
-                self.greatest, self.time = self.waiting, time
-        self.waiting -= length
-
-
-class Series:
-    """Counts over time in at most `most` steps of one width, which grows (2, 10, 20, 100 us ..)."""
-
-    def __init__(self, most: int = 200) -> None:
-        self.most = most
-        self.start: int | None = None
-        self.last = 0
-        self.width = 1000
-        self.factor = 2
-        self.steps: Counter = Counter()  # (step, word)
-
-    def add(self, time: int, word: str | None) -> None:
-        """Takes an event; without a word it only stretches the time that is covered."""
-        if self.start is None:
-            self.start = time
-        self.last = max(self.last, time)
-        while (time - self.start) // self.width >= self.most:
-            self.grow()
-        if word is not None:
-            self.steps[(time - self.start) // self.width, word] += 1
-
-    def grow(self) -> None:
-        """Makes the steps two or five times as wide, in turn."""
-        steps, self.steps = self.steps, Counter()
-        for (step, word), count in steps.items():
-            self.steps[step // self.factor, word] += count
-        self.width *= self.factor
-        self.factor = 7 - self.factor
-
-
-@dataclass
-class Arrived:
-    """An arrival of a track: what became of the frame and of its copies."""
-
-    place: int
+    port: int
+    side: int
+    left: int
+    backlog: int
     time: int
-    line: int
-    side: str
-    verdict: str
-    troubled: bool
-    copies: list[tuple[str, int, int, str]] = field(default_factory=list)  # what, time, port, end
+    load: float
+    loads: np.ndarray
 
 
-class Track:
-    """Of a link's arrivals those that follow each other where most went wrong, else the first."""
+@dataclass(frozen=True)
+class Steps:
+    """A run's time in equal steps: where the first begins, how wide each is, how many there are."""
 
-    def __init__(self, each: int) -> None:
-        self.each = each
-        self.total = 0
-        self.count = 0  # of the window's arrivals, those with trouble
-        self.most = 0  # as many were in the best window
-        self.window: deque[Arrived] = deque(maxlen=each)
-        self.best: list[Arrived] | None = None
+    start: int
+    width: int
+    count: int
 
-    def add(self, time: int, line: int, side: str, verdict: str) -> Arrived:
-        """Takes an arrival."""
-        arrived = Arrived(self.total, time, line, side, verdict, verdict != "accept")
-        last = self.window[-1] if self.window else None
-        if len(self.window) == self.each:
-            if self.best is None:
-                self.best, self.most = list(self.window), self.count
-            self.count -= self.window[0].troubled
-        self.window.append(arrived)
-        self.total += 1
-        self.count += arrived.troubled
-        if self.best is not None and self.best[-1] is last and len(self.best) < self.each * 5 // 4:
-            self.best.append(arrived)
-        self.choose()
-        return arrived
-
-    def trouble(self, arrived: Arrived) -> None:
-        """A copy of an accepted frame was lost or too old."""
-        if not arrived.troubled:
-            arrived.troubled = True
-            self.count += arrived.place >= self.total - len(self.window)
-            self.choose()
-
-    def choose(self) -> None:
-        """Keeps the window if more went wrong in it than in any before."""
-        if self.best is not None and self.count > self.most:
-            self.best, self.most = list(self.window), self.count
-
-    def shown(self) -> list[Arrived]:
-        """The arrivals that are shown."""
-        return list(self.window) if self.best is None else self.best
+    def of(self, times: np.ndarray) -> np.ndarray:
+        """The step of each time."""
+        return np.minimum((times - self.start) // self.width, self.count - 1)
 
 
-class Tracks:
-    """The tracks of all links, or of one from a moment on."""
-
-    def __init__(self, only: int | None, begin: int, links: int) -> None:
-        self.only, self.begin = only, begin
-        self.each = 80 if only is not None else max(20, min(80, 60_000 // max(links, 1)))
-        self.links: dict[int, Track] = {}
-
-    def add(self, vl: int, row: Listed, verdict: str) -> Arrived | None:
-        """Takes an arrival; None where its link isn't kept."""
-        if (self.only is not None and vl != self.only) or row.time < self.begin:
-            return None
-        track = self.links.get(vl)
-        if track is None:
-            track = self.links[vl] = Track(self.each)
-        if self.begin and track.total == self.each:
-            return None
-        return track.add(row.time, row.line, row.side, verdict)
-
-
-@dataclass
-class Flight:
-    """An accepted frame, until its last copy has left."""
-
-    vl: int
-    time: int
-    side: str
-    length: int
-    copies: int
-    arrived: Arrived | None
+def steps_of(first: int, last: int, most: int) -> Steps:
+    """At most so many steps of 1, 2 or 5 times a power of ten, at least 1 us wide."""
+    widths = (digit * 10**power for power in range(3, 18) for digit in (1, 2, 5))
+    width = next(width for width in widths if (last - first) // width < most)
+    return Steps(first, width, (last - first) // width + 1)
 
 
 class Counting:
     """All that is counted of one replay."""
 
-    def __init__(self, config: Config, only: int | None, begin: int) -> None:
-        self.config = config
-        self.links: defaultdict[int, LinkCount] = defaultdict(LinkCount)
-        self.paths: defaultdict[tuple[int, int], PathCount] = defaultdict(PathCount)
-        self.queues: defaultdict[tuple[str, int], QueueCount] = defaultdict(QueueCount)
-        self.drops = Series()
-        self.tracks = Tracks(only, begin, len(config.links))
-        self.flights: dict[int, Flight] = {}
-        self.first: int | None = None
-        self.last = 0
+    def __init__(self, config: Config, listing: Listing, events: Events) -> None:
+        self.config, self.listing, self.events = config, listing, events
         self.by_port = config.by_port()
-        self.now: Listed | None = None
-        self.end: tuple[Flight, int] | None = None
+        self.order = sorted(config.links)  # the last place is that of frames of no link
+        self.vls = [*self.order, NO_LINK]
+        index = np.full(MOST_LINK + 1, len(self.order), np.int32)  # NO_LINK is the last one
+        index[self.order] = range(len(self.order))
+        self.place = index[listing.link]  # of each line its link's place in `vls`
+        self.arrived = np.flatnonzero(events.verdict != NOT_YET)
+        self.span()
+        configured = [config.links[vl].latency_ns for vl in self.order] + [0]
+        self.configured = np.array(configured, np.int64)
+        self.links = self.place[events.line]  # of each copy
+        self.sides = listing.side[events.line]
+        self.latency = events.time - listing.time[events.line]
+        self.left = events.fate == FATES.index(LEFT)
+        self.late = self.left & (self.latency > self.configured[self.links])
 
-    def run(self, lines: Iterable[str], listed: Iterator[Listed]) -> None:
-        """Takes the lines of `replay` beside those of the list."""
-        takes = {
-            "V": self.verdict,
-            "L": self.lost,
-            "D": self.departed,
-            "T": self.old,
-            "M": self.message,
-            "X": self.refusal,
-        }
-        for line in lines:
-            words = line.split()
-            if words[0] == "V":
-                self.now = self.listed_at(int(words[1]), listed)
-            takes[words[0]](words)
+    def span(self) -> None:
+        """The first and the last time of the run."""
+        times = self.listing.time[self.arrived]
+        self.first = int(times[0]) if len(times) else 0
+        ends = self.events.time
+        self.last = max(int(times[-1]) if len(times) else 0, int(ends.max(initial=0)))
 
-    @staticmethod
-    def listed_at(number: int, listed: Iterator[Listed]) -> Listed:
-        """The list's line of a V line."""
-        for row in listed:
-            if row.line == number:
-                return row
-        raise Refused(f"line {number} of the list is gone: did the list change meanwhile?")
+    def frames_by(self, keys: np.ndarray, count: int) -> np.ndarray:
+        """For each key the arrivals by verdict; `keys` has one for each line of the list."""
+        words = len(self.events.verdicts.names)
+        return tally(keys[self.arrived], self.events.verdict[self.arrived], count, words)
 
-    def verdict(self, words: list[str]) -> None:
-        """`V n side accept` or `V n side drop WORD`"""
-        row = self.now
-        assert row is not None
-        vl = row.vl if row.vl in self.config.links else NO_LINK
-        verdict = words[-1]
-        count = self.links[vl]
-        count.frames += 1
-        self.first = row.time if self.first is None else self.first
-        self.last = max(self.last, row.time)
-        arrived = self.tracks.add(vl, row, verdict)
-        if verdict != "accept":
-            count.dropped[verdict] += 1
-            self.drops.add(row.time, verdict)
-            return
-        self.drops.add(row.time, None)
-        count.accepted += 1
-        ports = self.config.links[vl].ports
-        self.flights[row.line] = Flight(vl, row.time, row.side, row.length, len(ports), arrived)
-        for port in ports:
-            self.queues[row.side, port].put.append((row.time, row.length))
+    def fates_by(self, keys: np.ndarray, count: int) -> np.ndarray:
+        """For each key the copies by fate; `keys` has one for each copy."""
+        return tally(keys, self.events.fate, count, len(FATES))
 
-    def landed(self, line: int) -> Flight:
-        """The frame of a copy that has come to its end."""
-        flight = self.flights[line]
-        flight.copies -= 1
-        if flight.copies == 0:
-            del self.flights[line]
-        return flight
+    def ends_by(self, keys: np.ndarray, count: int) -> np.ndarray:
+        """For each key the copies by what their receivers did."""
+        told = self.events.end != NOT_YET
+        return tally(keys[told], self.events.end[told], count, len(self.events.ends.names))
 
-    def lost(self, words: list[str]) -> None:
-        """`L n side port`: the copy was never put there."""
-        line, side, port = int(words[1]), words[2], int(words[3])
-        flight = self.landed(line)
-        self.queues[side, port].put.pop()
-        self.links[flight.vl].lost += 1
-        self.drops.add(flight.time, LOST)
-        if flight.arrived:
-            flight.arrived.copies.append((LOST, flight.time, port, ""))
-            self.tracks.links[flight.vl].trouble(flight.arrived)
+    def late_by(self, keys: np.ndarray, count: int) -> np.ndarray:
+        """For each key the copies that took longer than their link's configured latency."""
+        return np.bincount(keys[self.late], minlength=count)
 
-    def departed(self, words: list[str]) -> None:
-        """`D n time side port`"""
-        line, time, side, port = int(words[1]), int(words[2]), words[3], int(words[4])
-        flight = self.landed(line)
-        slot = (flight.length + WIRE_EXTRA) * self.by_port[port].byte_ns
-        queue = self.queues[side, port]
-        queue.take(time - slot, flight.length)
-        queue.departed += 1
-        self.links[flight.vl].departed += 1
-        self.paths[flight.vl, port].add(time - flight.time, line, side)
-        self.last = max(self.last, time)
-        self.end = flight, port
-        if flight.arrived:
-            flight.arrived.copies.append(("left", time, port, ""))
+    def paths(self) -> list[Path]:
+        """The latencies of each link at each port of each side, in that order."""
+        at = np.flatnonzero(self.left)
+        keys = (self.links[at].astype(np.int64) * MOST_PORTS + self.events.port[at]) * 2
+        keys += self.sides[at]
+        order = np.lexsort((self.latency[at], keys))
+        keys, at = keys[order], at[order]
+        bounds = np.flatnonzero(np.diff(keys, prepend=-1, append=-1))
+        latency, late = self.latency[at], self.late[at]
+        paths = []
+        for begin, end in zip(bounds[:-1], bounds[1:]):
+            seen = latency[begin:end]
+            key = int(keys[begin])
+            worst = int(at[begin + np.searchsorted(seen, seen[-1])])
+            link, port = self.vls[key // 2 // MOST_PORTS], key // 2 % MOST_PORTS
+            paths.append(Path(link, port, key % 2, seen, worst, int(late[begin:end].sum())))
+        return paths
 
-    def old(self, words: list[str]) -> None:
-        """`T n time side port`"""
-        line, time, side, port = int(words[1]), int(words[2]), words[3], int(words[4])
-        flight = self.landed(line)
-        self.queues[side, port].take(time, flight.length)
-        self.links[flight.vl].old += 1
-        self.drops.add(time, OLD)
-        if flight.arrived:
-            flight.arrived.copies.append((OLD, time, port, ""))
-            self.tracks.links[flight.vl].trouble(flight.arrived)
+    def queues(self, most: int = 120) -> tuple[Steps, list[Queue]]:
+        """Each output port of each side to which copies came, and the steps of its loads."""
+        steps = steps_of(self.first, max(self.last - 1, self.first), most)
+        keys = self.events.port.astype(np.int32) * 2 + self.sides
+        found = [self.queue(np.flatnonzero(keys == key), steps) for key in np.unique(keys)]
+        return steps, found
 
-    def ended(self, word: str) -> LinkCount:
-        """Says what the receiver did with the copy of the D line before."""
-        assert self.end is not None
-        flight, _ = self.end
-        if flight.arrived:
-            what, time, port, _ = flight.arrived.copies[-1]
-            flight.arrived.copies[-1] = (what, time, port, word)
-        return self.links[flight.vl]
+    def queue(self, at: np.ndarray, steps: Steps) -> Queue:
+        """One output port of one side; `at` are its copies."""
+        port, side = int(self.events.port[at[0]]), int(self.sides[at[0]])
+        left = self.left[at]
+        length = self.listing.length[self.events.line[at]].astype(np.int64)
+        slot = np.where(left, (length + WIRE_EXTRA) * self.by_port[port].byte_ns, 0)
+        put = self.events.fate[at] != FATES.index(LOST)
+        begun = self.events.time[at] - slot
+        backlog, time = most_waiting(self.listing.time[self.events.line[at]][put], begun[put],
+                                     length[put])
+        loads, load = loads_of(begun[left], slot[left], steps, self.last - self.first)
+        return Queue(port, side, int(left.sum()), backlog, time, load, loads)
 
-    def message(self, words: list[str]) -> None:
-        """`M time system vl hex`"""
-        self.ended("delivered").delivered += 1
+    def drops(self, most: int = 200) -> tuple[Steps, dict[str, np.ndarray]]:
+        """Drops by reason in each step of time: frames that were dropped by the time of their
+        arrival, copies that were lost or too old by that of their end."""
+        events, steps = self.events, steps_of(self.first, self.last, most)
+        found = {}
+        verdicts = events.verdict[self.arrived]
+        for code, word in enumerate(events.verdicts.names):
+            times = self.listing.time[self.arrived[verdicts == code]]
+            if word != ACCEPT and len(times):
+                found[word] = np.bincount(steps.of(times), minlength=steps.count)
+        for word in (LOST, OLD):
+            times = events.time[events.fate == FATES.index(word)]
+            if len(times):
+                found[word] = np.bincount(steps.of(times), minlength=steps.count)
+        return steps, found
 
-    def refusal(self, words: list[str]) -> None:
-        """`X time system n WORD`"""
-        word = words[4]
-        count = self.ended(word)
-        if word == "redundant":
-            count.redundant += 1
-        else:
-            count.refused[word] += 1
+
+def tally(keys: np.ndarray, kinds: np.ndarray, key_count: int, kind_count: int) -> np.ndarray:
+    """How often each kind comes with each key."""
+    both = keys.astype(np.int64) * kind_count + kinds
+    return np.bincount(both, minlength=key_count * kind_count).reshape(key_count, kind_count)
+
+
+def most_waiting(put: np.ndarray, begun: np.ndarray, length: np.ndarray) -> tuple[int, int]:
+    """The most bytes that wait at one moment, and the first such moment. A frame waits from when it
+    is put until it is begun, at both moments too."""
+    if not len(put):
+        return 0, 0
+    times = np.concatenate((put, begun))
+    change = np.concatenate((length, -length))
+    order = np.lexsort((change < 0, times))
+    waiting = np.cumsum(change[order])
+    most = int(np.argmax(waiting))
+    return int(waiting[most]), int(times[order][most])
+
+
+def loads_of(
+    begun: np.ndarray, slot: np.ndarray, steps: Steps, span: int
+) -> tuple[np.ndarray, float]:
+    """The share of the line in use in each step, and over the whole run."""
+    order = np.argsort(begun, kind="stable")
+    begun, slot = begun[order], slot[order]
+    used = np.cumsum(slot)
+    moments = np.stack((begun, begun + slot), axis=1).ravel() - steps.start
+    busy = np.stack((used - slot, used), axis=1).ravel()
+    edges = np.arange(steps.count + 1) * steps.width
+    if not len(busy):
+        return np.zeros(steps.count), 0.0
+    at_edges = np.interp(edges, moments, busy)
+    return np.diff(at_edges) / steps.width, float(used[-1]) / max(span, 1)

@@ -1,135 +1,83 @@
-"""The pictures of a report, as SVG by hand: latencies, drops over time, one link's time line."""
+"""The pictures of a report: latencies, their histogram, drops and loads over time."""
 from __future__ import annotations
 
 import math
-from html import escape
 from typing import Sequence
 
-from afdx_counting import Arrived, LOST, OLD, Series, VERDICTS
-
-WIDTH = 1000
-COLOURS = {
-    "over-rate": "#d1495b",
-    "bad-fcs": "#e08e45",
-    "too-short": "#c3a52f",
-    "too-long": "#8f9a3c",
-    "bad-address": "#4f8f5b",
-    "unknown-link": "#2f8f94",
-    "wrong-port": "#6470c2",
-    "over-lmax": "#a05fa8",
-    "under-lmin": "#b97a9c",
-    LOST: "#8a5a44",
-    OLD: "#7d8590",
-}
-REASONS = (*VERDICTS, LOST, OLD)
-
-
-def text(x: float, y: float, words: str, kind: str = "", anchor: str = "start") -> str:
-    """A text whose base line begins, has its middle or ends at x, y."""
-    return (
-        f'<text x="{x:.1f}" y="{y:.1f}" class="{kind}" text-anchor="{anchor}">'
-        f"{escape(words)}</text>"
-    )
-
-
-def line(x1: float, y1: float, x2: float, y2: float, kind: str) -> str:
-    """A straight line."""
-    return f'<line x1="{x1:.1f}" y1="{y1:.1f}" x2="{x2:.1f}" y2="{y2:.1f}" class="{kind}"/>'
-
-
-def titled(shape: str, words: str) -> str:
-    """A shape that tells words where the pointer rests on it."""
-    return f"<g><title>{escape(words)}</title>{shape}</g>"
-
-
-def picture(height: float, parts: Sequence[str], label: str) -> str:
-    """The parts as one picture, with a label for those who can't see it."""
-    return (
-        f'<svg viewBox="0 0 {WIDTH} {height:.0f}" role="img" aria-label="{escape(label)}">'
-        + "".join(parts)
-        + "</svg>"
-    )
-
-
-def in_us(ns: float) -> str:
-    """A time in us, as a person writes it."""
-    us = ns / 1000
-    return f"{us:,.0f}" if us >= 1000 or us == int(us) else f"{us:,.1f}"
-
-
-def in_unit(ns: float, unit: str) -> str:
-    """A time as a label of an axis."""
-    size = {"ns": 1, "us": 1e3, "ms": 1e6, "s": 1e9}[unit]
-    return f"{ns / size:,.10g}"
-
-
-def unit_for(span: float) -> str:
-    """The unit in which a span of ns is read best."""
-    for unit, size in (("s", 1e10), ("ms", 1e6), ("us", 1e3)):
-        if span >= size:
-            return unit
-    return "ns"
-
-
-def even_ticks(low: float, high: float, wanted: int = 8) -> list[float]:
-    """Round numbers from low to high, about as many as wanted."""
-    span = max(high - low, 1)
-    raw = span / wanted
-    power = 10 ** math.floor(math.log10(raw))
-    step = next(power * m for m in (1, 2, 5, 10) if power * m >= raw)
-    first = math.ceil(low / step)
-    return [n * step for n in range(first, math.floor(high / step) + 1)]
-
-
-def decade_ticks(low: float, high: float) -> list[float]:
-    """1, 2 and 5 times the powers of ten from low to high."""
-    ticks = []
-    for power in range(math.floor(math.log10(low)), math.ceil(math.log10(high)) + 1):
-        ticks += [m * 10**power for m in (1, 2, 5) if low <= m * 10**power <= high]
-    return ticks
-
+from afdx_svg import (
+    LATE,
+    REASONS,
+    WIDTH,
+    box,
+    decade_ticks,
+    diamond,
+    dot,
+    in_unit,
+    in_us,
+    line,
+    picture,
+    symbol,
+    text,
+    time_axis,
+    titled,
+    unit_for,
+)
+from afdx_tables import Row, percent
 
 # ---- latencies -----------------------------------------------------------------------------
 
-LEFT, RIGHT, ROW = 250, 150, 20
+LEFT, RIGHT, ROW = 250, 176, 30
 
 
-def latency_row(row: dict, y: float, place) -> list[str]:
-    """One link: least to greatest as a bar, median as a dot, bound, configured latency."""
-    least, greatest = place(row["least_ns"]), place(row["greatest_ns"])
-    share = f"{row['share']:.0%} of the bound" if row["share"] is not None else "no bound"
-    words = (
-        f"link {row['link']} at port {row['port']} ({row['system']}): seen {row['least_ns']:,} to "
-        f"{row['greatest_ns']:,} ns, median {row['median_ns']:,} ns; bound {row['bound_ns']}, "
-        f"configured {row['configured_ns']:,} ns"
+def told_latency(row: Row) -> str:
+    """A row of latencies in words."""
+    bound = "no bound" if row["bound_ns"] is None else f"bound {row['bound_ns']:,} ns"
+    return (
+        f"link {row['link']} at port {row['port']} ({row['system']}), side {row['side']}, "
+        f"{row['frames']:,} copies: {row['least_ns']:,} to {row['greatest_ns']:,} ns, median "
+        f"{row['median_ns']:,}, 99 percent within {row['p99_ns']:,} ns; {bound}, configured "
+        f"{row['configured_ns']:,} ns; {percent(row['share'])} of the configured"
+        + (f"; {row['late']:,} late" if row["late"] else "")
     )
+
+
+def side_bar(row: Row, y: float, place) -> str:
+    """One side's copies: least to greatest as a bar, median and 99 percent marked; what is over the
+    configured latency is thicker."""
+    least, greatest = place(row["least_ns"]), place(row["greatest_ns"])
+    shapes = box(least, y - 3.5, max(greatest - least, 2), 7, "replayed")
+    shapes += line(place(row["p99_ns"]), y - 3.5, place(row["p99_ns"]), y + 3.5, "nearly")
+    shapes += dot(place(row["median_ns"]), y, 2.8, "median")
+    if row["late"]:
+        over = place(max(row["configured_ns"], row["least_ns"]))
+        shapes += box(over - 1, y - 5, max(greatest - over, 0) + 6, 10, "late")
+    return titled(shapes, told_latency(row)) + text(LEFT - 10, y + 3.5, row["side"], "small")
+
+
+def latency_row(pair: Sequence[Row], y: float, place) -> list[str]:
+    """One link at one port: both sides, bound and configured latency, the margin between."""
+    row = max(pair, key=lambda one: one["share"])
     parts = [
         text(0, y + 4, f"VL {row['link']}", "strong"),
-        text(66, y + 4, f"{row['from']} to {row['system']}"),
-        text(LEFT - 14, y + 4, row["priority"], "muted", "end"),
+        text(70, y + 4, f"{row['from']} to {row['system']}"),
+        text(LEFT - 20, y + 4, row["priority"], "muted", "end"),
         line(LEFT, y, WIDTH - RIGHT, y, "rule"),
     ]
-    shapes = (
-        f'<rect x="{least:.1f}" y="{y - 4:.1f}" width="{max(greatest - least, 2):.1f}" '
-        f'height="8" rx="2" class="seen"/>'
-        f'<circle cx="{place(row["median_ns"]):.1f}" cy="{y:.1f}" r="3.2" class="median"/>'
-    )
-    parts.append(titled(shapes, words))
-    if row["bound_ns"] is not None:
-        parts.append(line(place(row["bound_ns"]), y - 7, place(row["bound_ns"]), y + 7, "bound"))
     x = place(row["configured_ns"])
-    parts.append(f'<path d="M{x:.1f} {y - 5:.1f}l5 5l-5 5l-5-5z" class="configured"/>')
-    parts.append(text(WIDTH - RIGHT + 12, y + 4, share, "muted"))
-    return parts
-
-
-def latency_axis(low: float, high: float, bottom: float, place) -> list[str]:
-    """The axis of the latencies."""
-    parts = []
-    for tick in decade_ticks(low, high):
-        parts.append(line(place(tick), 34, place(tick), bottom, "grid"))
-        parts.append(text(place(tick), bottom + 16, in_us(tick), "muted", "middle"))
-    parts.append(text(WIDTH - RIGHT + 12, bottom + 16, "us, logarithmic", "muted"))
+    if row["bound_ns"] is not None:
+        at = place(row["bound_ns"])
+        kind = "margin" if row["margin_ns"] >= 0 else "short"
+        told = f"margin from bound to configured: {row['margin_ns']:,} ns"
+        parts.append(titled(line(at, y, x, y, kind), told))
+        parts.append(line(at, y - 10, at, y + 10, "bound"))
+    parts += [side_bar(one, y - 6 if one["side"] == "A" else y + 6, place) for one in pair]
+    parts.append(diamond(x, y))
+    share = f"{percent(row['share'])} of configured"
+    if any(one["late"] for one in pair):
+        parts.append(symbol(WIDTH - RIGHT + 17, y, LATE))
+        parts.append(text(WIDTH - RIGHT + 28, y + 4, f"LATE, {percent(row['share'])}", "bad"))
+    else:
+        parts.append(text(WIDTH - RIGHT + 12, y + 4, share, "muted"))
     return parts
 
 
@@ -137,216 +85,195 @@ def latency_legend(bound: str) -> list[str]:
     """What the marks mean; `bound` names that of the bounds."""
     y = 12
     return [
-        f'<rect x="{LEFT}" y="{y - 4}" width="34" height="8" rx="2" class="seen"/>',
-        f'<circle cx="{LEFT + 14}" cy="{y}" r="3.2" class="median"/>',
-        text(LEFT + 42, y + 4, "seen: least, median, greatest"),
-        line(LEFT + 250, y - 7, LEFT + 250, y + 7, "bound"),
-        text(LEFT + 259, y + 4, bound),
-        f'<path d="M{LEFT + 372} {y - 5}l5 5l-5 5l-5-5z" class="configured"/>',
-        text(LEFT + 384, y + 4, "configured latency"),
+        box(LEFT, y - 3.5, 44, 7, "replayed"),
+        dot(LEFT + 14, y, 2.8, "median"),
+        line(LEFT + 36, y - 3.5, LEFT + 36, y + 3.5, "nearly"),
+        text(LEFT + 51, y + 4, "least, median, 99 %, greatest"),
+        line(LEFT + 251, y - 8, LEFT + 251, y + 8, "bound"),
+        text(LEFT + 260, y + 4, bound),
+        line(LEFT + 366, y, LEFT + 394, y, "margin"),
+        text(LEFT + 400, y + 4, "margin"),
+        diamond(LEFT + 462, y),
+        text(LEFT + 474, y + 4, "configured latency"),
+        box(LEFT + 606, y - 5, 24, 10, "late"),
+        text(LEFT + 636, y + 4, "over it"),
     ]
 
 
-def latencies(rows: Sequence[dict], bound: str) -> str:
-    """Latency seen against bound and configured latency, a row for each link."""
-    values = [
-        v
-        for row in rows
-        for v in (row["least_ns"], row["bound_ns"], row["configured_ns"], row["greatest_ns"])
-        if v
-    ]
+def latencies(pairs: Sequence[Sequence[Row]], bound: str) -> str:
+    """Latency in the replay against bound and configured latency: a row for each link at a port."""
+    keys = ("least_ns", "bound_ns", "configured_ns", "greatest_ns")
+    values = [row[key] for pair in pairs for row in pair for key in keys if row[key]]
     low, high = min(values) * 0.8, max(values) * 1.15
     span = math.log(high / low)
 
     def place(ns: float) -> float:
         return LEFT + (WIDTH - LEFT - RIGHT) * math.log(max(ns, low) / low) / span
 
-    bottom = 40 + ROW * len(rows)
-    parts = latency_legend(bound) + latency_axis(low, high, bottom, place)
-    for number, row in enumerate(rows):
-        parts += latency_row(row, 48 + ROW * number, place)
-    return picture(bottom + 24, parts, "Latency seen of each link beside its bound")
+    bottom = 40 + ROW * len(pairs)
+    parts = latency_legend(bound)
+    for tick in decade_ticks(low, high):
+        parts.append(line(place(tick), 34, place(tick), bottom, "grid"))
+        parts.append(text(place(tick), bottom + 16, in_us(tick), "muted", "middle"))
+    parts.append(text(WIDTH - RIGHT + 12, bottom + 16, "us, logarithmic", "muted"))
+    for number, pair in enumerate(pairs):
+        parts += latency_row(pair, 54 + ROW * number, place)
+    told = ". ".join(told_latency(row) for pair in pairs for row in pair)
+    label = "Latency in the replay of each link beside its bound and its configured latency"
+    return picture("latencies", bottom + 24, parts, label, told)
+
+
+# ---- histogram -----------------------------------------------------------------------------
+
+
+def steps_told(counts: Sequence[int]) -> str:
+    """The counts of a histogram in words."""
+    words = [
+        f"{5 * step} to {5 * step + 5} percent: {count:,}"
+        for step, count in enumerate(counts[:20])
+        if count
+    ]
+    return ", ".join(words + ([f"over 100 percent: {counts[20]:,}"] if counts[20] else []))
+
+
+def histogram(counts: dict[str, Sequence[int]]) -> str:
+    """For both sides the copies by share of the configured latency."""
+    most = max(max(series) for series in counts.values())
+    top, bottom, left, right = 30, 190, 66, WIDTH - 30
+    decades = max(math.ceil(math.log10(most)), 1) if most else 1
+    width = (right - left) / 21
+
+    def place(count: float) -> float:
+        return bottom - (bottom - top - 14) * (math.log10(count) + 0.35) / (decades + 0.35)
+
+    parts = [box(left, 4, 10, 10, "side-A"), text(left + 16, 14, "side A")]
+    parts += [box(left + 84, 4, 10, 10, "side-B"), text(left + 100, 14, "side B")]
+    for power in range(decades + 1):
+        parts.append(line(left, place(10**power), right, place(10**power), "grid"))
+        parts.append(text(left - 8, place(10**power) + 4, f"{10**power:,}", "muted", "end"))
+    for step in range(21):
+        x = left + width * step
+        name = f"{5 * step}" if step < 20 else "over 100 %"
+        parts.append(text(x + (0 if step < 20 else width / 2), bottom + 16, name, "muted",
+                          "middle"))
+        for place_of, side in enumerate("AB"):
+            count = counts[side][step]
+            if count:
+                y = place(count)
+                kind = "late" if step == 20 else f"side-{side}"
+                shape = box(x + 4 + place_of * 19, y, 16, bottom - y, kind)
+                parts.append(titled(shape, f"side {side}: {count:,}"))
+    parts.append(line(left, bottom, right, bottom, "axis"))
+    told = "share of the link's configured latency in %, steps of 5; number of copies, logarithmic"
+    parts.append(text(left, bottom + 36, told, "muted"))
+    words = ". ".join(f"Side {side}: {steps_told(counts[side])}" for side in "AB")
+    return picture("shares", bottom + 44, parts, "Copies by share of the configured latency", words)
 
 
 # ---- drops over time -----------------------------------------------------------------------
 
-
-def legend(words: Sequence[str], y: float, left: float) -> list[str]:
-    """Coloured squares with their words, in a row."""
-    parts, x = [], left
-    for word in words:
-        parts.append(
-            f'<rect x="{x:.1f}" y="{y - 9:.1f}" width="10" height="10" rx="2" '
-            f'fill="{COLOURS[word]}"/>'
-        )
-        parts.append(text(x + 15, y, word))
-        x += 32 + 7.2 * len(word)
-    return parts
+LANE, NAME = 34, 176
 
 
-def bar(series: Series, step: int, place_x, place_y, present: Sequence[str]) -> list[str]:
-    """The drops of one step of time, one upon the other."""
-    parts, below = [], 0
-    x1, x2 = place_x(step), place_x(step + 1)
-    for word in present:
-        count = series.steps.get((step, word), 0)
+def bars(series: Sequence[int], most: int, base: float, place_x, told) -> list[str]:
+    """One lane's bars."""
+    parts = []
+    for step, count in enumerate(series):
         if count:
-            top = place_y(below + count)
-            shape = (
-                f'<rect x="{x1 + 0.5:.1f}" y="{top:.1f}" width="{max(x2 - x1 - 1, 1):.1f}" '
-                f'height="{place_y(below) - top:.1f}" fill="{COLOURS[word]}"/>'
-            )
-            parts.append(titled(shape, f"{count} {word}"))
-            below += count
+            x1, x2, height = place_x(step), place_x(step + 1), 24 * count / most
+            shape = box(x1 + 0.4, base - max(height, 2), max(x2 - x1 - 0.8, 1.2), max(height, 2),
+                        "drop")
+            parts.append(titled(shape, told(step, count)))
     return parts
 
 
-def drops(series: Series) -> str:
-    """Drops by reason over time."""
-    present = [word for word in REASONS if any(kind == word for _, kind in series.steps)]
-    if not present or series.start is None:
+def drops(found: Row) -> str:
+    """Drops over time, a lane for each reason."""
+    present = [word for word in REASONS if word in found["reasons"]]
+    present += [word for word in found["reasons"] if word not in present]
+    if not present:
         return '<p class="muted">No frame was dropped.</p>'
-    count = (series.last - series.start) // series.width + 1
-    steps = max(count, 8)
-    totals = [sum(series.steps.get((step, word), 0) for word in present) for step in range(count)]
-    top, bottom, left, right = 34, 190, 56, WIDTH - 20
-    highest = max(totals)
+    start, width = found["start_ns"], found["step_ns"]
+    steps = max(len(found["reasons"][present[0]]), 8)
+    left, right, bottom = NAME, WIDTH - 90, 10 + LANE * len(present)
+    unit = unit_for(steps * width)
 
     def place_x(step: float) -> float:
         return left + (right - left) * step / steps
 
-    def place_y(value: float) -> float:
-        return bottom - (bottom - top) * value / highest
+    def told(step: int, count: int) -> str:
+        return f"{count:,} from {in_unit(start + step * width, unit)} {unit} on"
 
-    begin, end = series.start, series.start + steps * series.width
-    unit = unit_for(end - begin)
-    parts = legend(present, 14, left)
-    for tick in even_ticks(0, highest, 4):
-        if tick == int(tick):
-            parts.append(line(left, place_y(tick), right, place_y(tick), "grid"))
-            parts.append(text(left - 8, place_y(tick) + 4, f"{tick:,.0f}", "muted", "end"))
-    for tick in even_ticks(begin, end, 10):
-        x = place_x((tick - begin) / series.width)
-        parts.append(line(x, bottom, x, bottom + 4, "axis"))
-        parts.append(text(x, bottom + 18, in_unit(tick, unit), "muted", "middle"))
-    for step in range(count):
-        parts += bar(series, step, place_x, place_y, present)
-    parts.append(line(left, bottom, right, bottom, "axis"))
-    told = (
-        f"time of the list in {unit}; a bar is {in_unit(series.width, unit)} {unit} wide; "
-        "its height is a number of frames, or of copies for lost and too-old"
+    parts = time_axis(
+        start, start + steps * width, lambda tick: place_x((tick - start) / width), 4, bottom
     )
-    parts.append(text(left, bottom + 36, told, "muted"))
-    return picture(bottom + 44, parts, "Drops by reason over time")
+    words = []
+    for number, word in enumerate(present):
+        series, base = found["reasons"][word], LANE * (number + 1)
+        most = max(series)
+        at = told(list(series).index(most), most)
+        words.append(f"{word}: {sum(series):,} in all, most {at}")
+        parts.append(symbol(10, base - 7, word))
+        parts.append(text(24, base - 3, word, "strong"))
+        parts.append(text(left - 12, base - 3, f"{sum(series):,}", "", "end"))
+        parts.append(line(left, base, right, base, "axis"))
+        parts += bars(series, most, base, place_x, told)
+        parts.append(text(right + 8, base - 3, f"most {most:,}", "muted"))
+    size = f"{in_unit(width, unit)} {unit}"
+    note = f"time of the list in {unit}; a bar is {size} wide, each lane as high as its most"
+    parts.append(text(left, bottom + 34, note, "muted"))
+    return picture("drops", bottom + 42, parts, "Drops by reason over time", ". ".join(words))
 
 
-# ---- the time line of one link -------------------------------------------------------------
+# ---- loads over time -----------------------------------------------------------------------
 
 
-def lanes_of(track: Sequence[Arrived], ports: dict[int, str]) -> dict[tuple[str, int], float]:
-    """The height of each lane: arrivals of A and B (port 0), then each output port of each side."""
-    sides = sorted({arrived.side for arrived in track})
-    lanes: dict[tuple[str, int], float] = {}
-    y = 56.0
-    for side in sides:
-        lanes[side, 0] = y
-        for port in ports:
-            y += 22
-            lanes[side, port] = y
-        y += 38
-    return lanes
+def area(loads: Sequence[float], most: float, base: float, height: float, place_x) -> str:
+    """Loads as a filled line above the base (or below, where the height is negative)."""
+    points = []
+    for step, load in enumerate(loads):
+        y = base - height * load / most
+        points += [f"{place_x(step):.1f} {y:.1f}", f"{place_x(step + 1):.1f} {y:.1f}"]
+    ends = f"{place_x(len(loads)):.1f} {base:.1f}z"
+    return f"M{place_x(0):.1f} {base:.1f}L" + "L".join(points) + f"L{ends}"
 
 
-def arrival_mark(arrived: Arrived, x: float, y: float) -> str:
-    """A dot for an accepted frame, a cross for a dropped one."""
-    words = f"line {arrived.line}, {arrived.time:,} ns, side {arrived.side}: {arrived.verdict}"
-    if arrived.verdict == "accept":
-        return titled(f'<circle cx="{x:.1f}" cy="{y:.1f}" r="4" class="accepted"/>', words)
-    colour = COLOURS.get(arrived.verdict, "#888")
-    cross = (
-        f'<path d="M{x - 4:.1f} {y - 4:.1f}l8 8m0-8l-8 8" stroke="{colour}" '
-        'stroke-width="2.2" fill="none"/>'
+def loads(found: Row, rows: Sequence[Row]) -> str:
+    """The load of each port over time, A above its line and B below."""
+    ports = found["ports"]
+    steps = max(len(port["loads"]) for port in ports)
+    most = max(max((max(port["loads"], default=0) for port in ports), default=0), 1e-6)
+    of_row = {(row["port"], row["side"]): row for row in rows}
+    names = sorted({(port["port"], port["system"]) for port in ports})
+    left, right, bottom = NAME, WIDTH - 190, 12 + 40 * len(names)
+    start, width = found["start_ns"], found["step_ns"]
+
+    def place_x(step: float) -> float:
+        return left + (right - left) * step / steps
+
+    parts = time_axis(
+        start, start + steps * width, lambda tick: place_x((tick - start) / width), 4, bottom
     )
-    return titled(cross, words)
-
-
-def copy_mark(arrived: Arrived, copy: tuple[str, int, int, str], x: float, y: float) -> str:
-    """A tick where a copy left (hollow where it was not delivered), a square where it was lost."""
-    what, time, port, end = copy
-    words = (
-        f"line {arrived.line}: {what} at port {port}, {time:,} ns, "
-        f"{time - arrived.time:,} ns after its arrival"
+    words = []
+    for number, (port, system) in enumerate(names):
+        base = 26 + 40 * number
+        parts.append(text(left - 12, base + 4, f"port {port}, {system}", "", "end"))
+        for side, height in (("A", 17), ("B", -17)):
+            row = of_row.get((port, side))
+            series = next((p["loads"] for p in ports if (p["port"], p["side"]) == (port, side)), [])
+            if row is None:
+                continue
+            told = f"side {side}: {percent(row['load'])}, at most {percent(row['peak_load'])}"
+            words.append(f"port {port}, {told}")
+            shape = f'<path d="{area(series, most, base, height, place_x)}" class="side-{side}"/>'
+            parts.append(titled(shape, f"port {port}, {told}"))
+            short = f"{side} {percent(row['load'])}, most {percent(row['peak_load'])}"
+            parts.append(text(right + 10, base + (-3 if side == "A" else 11), short, "muted"))
+        parts.append(line(left, base, right, base, "axis"))
+    unit = unit_for(steps * width)
+    note = (
+        f"time of the list in {unit}, in steps of {in_unit(width, unit)} {unit}; A above the line, "
+        f"B below; the full height is {percent(most)} of the line's rate"
     )
-    words += f"; {end}" if end else ""
-    if what == "left":
-        kind = "delivered" if end == "delivered" else "passed"
-        return titled(
-            f'<rect x="{x - 2:.1f}" y="{y - 6:.1f}" width="4" height="12" rx="1" class="{kind}"/>',
-            words,
-        )
-    return titled(
-        f'<rect x="{x - 4:.1f}" y="{y - 4:.1f}" width="8" height="8" fill="{COLOURS[what]}"/>',
-        words,
-    )
-
-
-def track_legend(track: Sequence[Arrived], left: float) -> list[str]:
-    """What the marks of a time line mean; only words that come in it."""
-    parts = [
-        f'<circle cx="{left + 4}" cy="10" r="4" class="accepted"/>',
-        text(left + 14, 14, "accepted"),
-        f'<rect x="{left + 88}" y="4" width="4" height="12" rx="1" class="delivered"/>',
-        text(left + 98, 14, "left the port, delivered"),
-        f'<rect x="{left + 252}" y="4" width="4" height="12" rx="1" class="passed"/>',
-        text(left + 262, 14, "left, not delivered (as a redundant copy)"),
-    ]
-    seen = {arrived.verdict for arrived in track} | {copy[0] for a in track for copy in a.copies}
-    x = left + 530.0
-    for word in REASONS:
-        if word in seen:
-            parts.append(
-                f'<path d="M{x:.1f} 6l8 8m0-8l-8 8" stroke="{COLOURS[word]}" stroke-width="2.2"/>'
-            )
-            parts.append(text(x + 14, 14, word))
-            x += 30 + 7 * len(word)
-    return parts
-
-
-def track(arrivals: Sequence[Arrived], ports: dict[int, str]) -> str:
-    """The time line of one link: arrivals, verdicts, departures."""
-    lanes = lanes_of(arrivals, ports)
-    begin = arrivals[0].time
-    end = max([a.time for a in arrivals] + [copy[1] for a in arrivals for copy in a.copies])
-    pad = max((end - begin) * 0.02, 500)
-    left, right = 150, WIDTH - 20
-
-    def place(time: float) -> float:
-        return left + (right - left) * (time - begin + pad) / (end - begin + 2 * pad)
-
-    bottom = max(lanes.values()) + 24
-    unit = unit_for(end - begin)
-    parts = track_legend(arrivals, left)
-    for tick in even_ticks(begin - pad, end + pad, 10):
-        if tick >= 0:
-            parts.append(line(place(tick), 34, place(tick), bottom, "grid"))
-            parts.append(text(place(tick), bottom + 16, in_unit(tick, unit), "muted", "middle"))
-    for (side, port), y in lanes.items():
-        name = f"side {side}: arrivals" if port == 0 else f"port {port}, {ports[port]}"
-        parts.append(text(left - 12, y + 4, name, "strong" if port == 0 else "muted", "end"))
-        parts.append(line(left, y, right, y, "rule"))
-    for arrived in arrivals:
-        parts += one_arrival(arrived, lanes, place)
-    parts.append(text(left, bottom + 34, f"time of the list in {unit}", "muted"))
-    return picture(bottom + 42, parts, "Time line of one link")
-
-
-def one_arrival(arrived: Arrived, lanes: dict[tuple[str, int], float], place) -> list[str]:
-    """An arrival with its copies."""
-    x, y = place(arrived.time), lanes[arrived.side, 0]
-    parts = []
-    for copy in arrived.copies:
-        to_x, to_y = place(copy[1]), lanes[arrived.side, copy[2]]
-        parts.append(line(x, y, to_x, to_y, "way"))
-        parts.append(copy_mark(arrived, copy, to_x, to_y))
-    parts.append(arrival_mark(arrived, x, y))
-    return parts
+    parts.append(text(left, bottom + 34, note, "muted"))
+    return picture("loads", bottom + 42, parts, "Load of each port over time", ". ".join(words))

@@ -1,180 +1,276 @@
-"""The numbers of a report as rows, and the rows as text, CSV and JSON."""
+"""The numbers of a report as rows."""
 from __future__ import annotations
 
-import csv
-import json
-import os
 from typing import Sequence
 
-from afdx_counting import Checked, Counting, LinkCount, NO_LINK, VERDICTS
+import numpy as np
 
-Row = dict
-NAMES = {
-    "links": "Links: what became of their frames",
-    "latency": "Links and ports: latency in ns",
-    "ports": "Ports: greatest backlog in bytes, and frames that left",
-}
-PROVED = (
-    "Proved: each verdict (V), loss (L), departure with its time (D), drop for age (T), message "
-    "(M) and refusal at a receiver (X) is a line of the proved program, and so are the bounds of "
-    "the ports (P) and the answer of admission. On an admitted network no accepted frame is lost, "
-    "and each leaves its port within its link's configured latency; the bound of a port is the "
-    "least latency in ns that admission takes there."
-)
-UNPROMISED = "This network is not admitted, so nothing promises its bounds."
-COUNTED = (
-    "Counted by this report from those lines and the list, and not proved: all sums; latencies (a "
-    "departure less the arrival of its line) with least, median and greatest; backlogs (bytes of "
-    "frames that wait in an output port, without the one that is being sent); shares; and the "
-    "pictures."
+from afdx_checked import Checked
+from afdx_counting import SHARES, Counting, Path
+from afdx_events import ACCEPT, DELIVERED, FATES, LEFT, LOST, OLD, REDUNDANT, side_name
+from afdx_listing import NO_LINK
+from afdx_tables import Row
+from afdx_traffic import pairs_of, skews_at_inputs, skews_at_receivers, traffic_of
+
+MOST_TROUBLES = 10_000
+SUMS = (
+    "frames",
+    "accepted",
+    "dropped",
+    "lost",
+    "late",
+    "too_old",
+    "departed",
+    "delivered",
+    "redundant",
+    "refused",
 )
 
 
 def vl_text(vl: int) -> str | int:
     """A link's identifier, or what stands for frames that name no link."""
-    return "none" if vl == NO_LINK else vl
+    return "none" if vl == NO_LINK else int(vl)
 
 
-def link_row(vl: int, count: LinkCount) -> Row:
-    """What became of a link's frames."""
-    reasons = {word: count.dropped[word] for word in VERDICTS if count.dropped[word]}
+def words_of(counts: np.ndarray, names: Sequence[str], without: Sequence[str]) -> Row:
+    """The words that come, with their counts, in the order of the names."""
     return {
-        "link": vl_text(vl),
-        "frames": count.frames,
-        "accepted": count.accepted,
-        "dropped": sum(count.dropped.values()),
-        "reasons": reasons,
-        "lost": count.lost,
-        "too_old": count.old,
-        "departed": count.departed,
-        "delivered": count.delivered,
-        "redundant": count.redundant,
-        "refused": sum(count.refused.values()),
-        "refusals": dict(sorted(count.refused.items())),
+        name: int(count)
+        for name, count in zip(names, counts)
+        if count and name not in without
     }
 
 
-def link_rows(counting: Counting) -> list[Row]:
-    """A row for each link that has frames, by its identifier; frames of no link come last."""
-    order = sorted(counting.links, key=lambda vl: (vl == NO_LINK, vl))
-    return [link_row(vl, counting.links[vl]) for vl in order if counting.links[vl].frames]
-
-
-def latency_rows(counting: Counting, checked: Checked) -> list[Row]:
-    """A row for each link and port where a frame left."""
+def sums_row(counting: Counting, keys: np.ndarray, of_copies: np.ndarray, count: int) -> list[Row]:
+    """For each key the sums; `keys` has one for each line, `of_copies` one for each copy."""
+    frames = counting.frames_by(keys, count)
+    fates, ends = counting.fates_by(of_copies, count), counting.ends_by(of_copies, count)
+    late = counting.late_by(of_copies, count)
+    verdicts, ended = counting.events.verdicts.names, counting.events.ends.names
     rows = []
-    for (vl, port), path in sorted(counting.paths.items()):
-        link = counting.config.links[vl]
-        bound = checked.bound_of(link, port)
+    for key in range(count):
+        reasons = words_of(frames[key], verdicts, [ACCEPT])
+        refusals = words_of(ends[key], ended, [DELIVERED, REDUNDANT])
         rows.append(
             {
-                "link": vl,
-                "from": link.source,
-                "port": port,
-                "system": counting.by_port[port].name,
-                "priority": link.priority,
-                "frames": len(path.seen),
-                "least_ns": path.least,
-                "median_ns": path.median,
-                "greatest_ns": path.greatest,
-                "at_line": path.line,
-                "side": path.side,
-                "bound_ns": bound,
-                "configured_ns": link.latency_ns,
-                "share": path.greatest / bound if bound else None,
+                "frames": int(frames[key].sum()),
+                "accepted": int(frames[key][verdicts.index(ACCEPT)]),
+                "dropped": sum(reasons.values()),
+                "reasons": reasons,
+                "lost": int(fates[key][FATES.index(LOST)]),
+                "late": int(late[key]),
+                "too_old": int(fates[key][FATES.index(OLD)]),
+                "departed": int(fates[key][FATES.index(LEFT)]),
+                "delivered": int(ends[key][ended.index(DELIVERED)]),
+                "redundant": int(ends[key][ended.index(REDUNDANT)]),
+                "refused": sum(refusals.values()),
+                "refusals": dict(sorted(refusals.items())),
             }
         )
     return rows
 
 
-def port_rows(counting: Counting, checked: Checked) -> list[Row]:
-    """A row for each output port of each side that frames went to."""
+def link_rows(counting: Counting) -> list[Row]:
+    """A row for each link that has frames, by its identifier; frames of no link come last."""
+    rows = sums_row(counting, counting.place, counting.links, len(counting.vls))
+    return [{"link": vl_text(vl), **row} for vl, row in zip(counting.vls, rows) if row["frames"]]
+
+
+def side_rows(counting: Counting) -> list[Row]:
+    """A row for each link and side: sums, and what was measured of the arrivals there."""
+    keys = counting.place * 2 + counting.listing.side
+    of_copies = counting.links * 2 + counting.sides
+    sums = sums_row(counting, keys, of_copies, 2 * len(counting.vls))
+    traffic = traffic_of(counting)
     rows = []
-    for (side, port), queue in sorted(counting.queues.items(), key=lambda item: item[0][::-1]):
-        bound = checked.bounds.get(port)
+    for key, row in enumerate(sums):
+        vl = counting.vls[key // 2]
+        if not row["frames"] or vl == NO_LINK:
+            continue
+        link, measured = counting.config.links[vl], traffic.get((vl, key % 2))
         rows.append(
             {
-                "port": port,
-                "system": counting.by_port[port].name,
-                "side": side,
-                "left": queue.departed,
-                "backlog": queue.greatest,
+                "link": vl,
+                "side": side_name(key % 2),
+                **{name: row[name] for name in SUMS},
+                "missing": measured.missing if measured else None,
+                "least_gap_ns": measured.gap if measured else None,
+                "gap_line": measured.gap_line if measured else None,
+                "bag_ns": link.bag_ms * 1_000_000,
+                "jitter_ns": measured.jitter if measured else None,
+                "jitter_line": measured.jitter_line if measured else None,
+                "table_jitter_ns": link.jitter_ns,
+            }
+        )
+    return rows
+
+
+def skew_rows(counting: Counting) -> list[Row]:
+    """A row for each link of which a frame was accepted on both sides."""
+    other = pairs_of(counting)
+    inputs, receivers = skews_at_inputs(counting, other), skews_at_receivers(counting, other)
+    rows = []
+    for vl, skew in inputs.items():
+        there = receivers.get(vl)
+        rows.append(
+            {
+                "link": vl,
+                "pairs": skew.pairs,
+                "at_inputs_ns": skew.greatest,
+                "inputs_line": skew.line,
+                "at_receivers_ns": there.greatest if there else None,
+                "receivers_line": there.line if there else None,
+                "table_skew_ns": counting.config.links[vl].skew_ns,
+            }
+        )
+    return rows
+
+
+def latency_row(counting: Counting, checked: Checked, path: Path) -> Row:
+    """The latencies of a link at a port of one side."""
+    link, line = counting.config.links[path.link], int(counting.events.line[path.worst])
+    bound, greatest = checked.bound_of(link, path.port), int(path.latencies[-1])
+    half, most, nearly = (path.rank(percent) for percent in SHARES)
+    return {
+        "link": path.link,
+        "from": link.source,
+        "port": path.port,
+        "system": counting.by_port[path.port].name,
+        "side": side_name(path.side),
+        "priority": link.priority,
+        "frames": len(path.latencies),
+        "least_ns": int(path.latencies[0]),
+        "median_ns": half,
+        "p99_ns": most,
+        "p99.9_ns": nearly,
+        "greatest_ns": greatest,
+        "at_line": line,
+        "at_ns": int(counting.listing.time[line]),
+        "bound_ns": bound,
+        "configured_ns": link.latency_ns,
+        "margin_ns": None if bound is None else link.latency_ns - bound,
+        "share": greatest / link.latency_ns,
+        "late": path.late,
+    }
+
+
+def latency_rows(counting: Counting, checked: Checked) -> list[Row]:
+    """A row for each link, port and side where a frame left."""
+    return [latency_row(counting, checked, path) for path in counting.paths()]
+
+
+def port_rows(counting: Counting, checked: Checked) -> tuple[list[Row], Row]:
+    """A row for each output port of each side that frames went to; the loads over time."""
+    steps, queues = counting.queues()
+    rows = []
+    for queue in queues:
+        bound = checked.bounds.get(queue.port)
+        rows.append(
+            {
+                "port": queue.port,
+                "system": counting.by_port[queue.port].name,
+                "side": side_name(queue.side),
+                "left": queue.left,
+                "load": queue.load,
+                "peak_load": float(queue.loads.max(initial=0.0)),
+                "backlog": queue.backlog,
                 "at_ns": queue.time,
                 "bound": bound.buffer if bound else None,
                 "buffer": counting.config.buffer,
             }
         )
+    loads = [
+        {
+            "port": queue.port,
+            "system": counting.by_port[queue.port].name,
+            "side": side_name(queue.side),
+            "loads": [round(float(load), 6) for load in queue.loads],
+        }
+        for queue in queues
+    ]
+    return rows, {"start_ns": steps.start, "step_ns": steps.width, "ports": loads}
+
+
+def drops_of(counting: Counting) -> Row:
+    """The drops by reason in each step of time."""
+    steps, found = counting.drops()
+    counts = {word: [int(count) for count in series] for word, series in found.items()}
+    return {"start_ns": steps.start, "step_ns": steps.width, "reasons": counts}
+
+
+def histogram_of(counting: Counting) -> Row:
+    """For each side the copies by share of their link's configured latency, in steps of 5 %; the
+    last step is over 100 %."""
+    twentieths = -(-counting.latency * 20 // counting.configured[counting.links])
+    places = np.clip(twentieths - 1, 0, 20)
+    return {
+        side_name(side): np.bincount(
+            places[counting.left & (counting.sides == side)], minlength=21
+        ).tolist()
+        for side in (0, 1)
+    }
+
+
+def frame_rows(counting: Counting, checked: Checked, most: int) -> list[Row]:
+    """The copies whose latency was the greatest share of the configured one, the worst first."""
+    at = np.flatnonzero(counting.left)
+    shares = counting.latency[at] / np.maximum(counting.configured[counting.links[at]], 1)
+    order = np.lexsort((at, -shares))[:most] if len(at) <= 4 * most else largest(shares, most)
+    rows = []
+    for copy in at[order]:
+        line, port = int(counting.events.line[copy]), int(counting.events.port[copy])
+        link = counting.config.links[counting.vls[counting.links[copy]]]
+        rows.append(
+            {
+                **frame_key(counting, line),
+                "line": line,
+                "port": port,
+                "system": counting.by_port[port].name,
+                "latency_ns": int(counting.latency[copy]),
+                "bound_ns": checked.bound_of(link, port),
+                "configured_ns": link.latency_ns,
+                "share": int(counting.latency[copy]) / link.latency_ns,
+            }
+        )
     return rows
+
+
+def largest(values: np.ndarray, most: int) -> np.ndarray:
+    """The places of the greatest values, the greatest first, of equal ones the earlier first."""
+    least = np.partition(values, len(values) - most)[len(values) - most]
+    at = np.flatnonzero(values >= least)
+    return at[np.lexsort((at, -values[at]))][:most]
+
+
+def frame_key(counting: Counting, line: int) -> Row:
+    """What tells a frame from all others, whatever its line: link, side, number, time."""
+    listing = counting.listing
+    return {
+        "link": vl_text(counting.vls[counting.place[line]]),
+        "side": side_name(int(listing.side[line])),
+        "number": int(listing.number[line]),
+        "time_ns": int(listing.time[line]),
+    }
+
+
+def trouble_rows(counting: Counting, most: int = MOST_TROUBLES) -> list[Row]:
+    """The first frames, by their lines, that were dropped, lost, late, too old or refused."""
+    events, arrived = counting.events, counting.arrived
+    dropped = arrived[events.verdict[arrived] > 0]
+    refused = events.end > events.ends.names.index(REDUNDANT)
+    copies = np.flatnonzero(~counting.left | counting.late | refused)
+    found = [(int(line), 0, events.verdict_of(line)) for line in dropped[:most]]
+    for copy in copies[np.argsort(events.line[copies], kind="stable")][:most]:
+        fate = FATES[events.fate[copy]]
+        words = [fate] if fate != LEFT else ["late"] if counting.late[copy] else []
+        words += [events.end_of(copy)] if refused[copy] else []
+        found += [(int(events.line[copy]), int(events.port[copy]), word) for word in words]
+    return [
+        {**frame_key(counting, line), "line": line, "port": port or None, "what": what}
+        for line, port, what in sorted(found)[:most]
+    ]
 
 
 def totals(links: Sequence[Row]) -> Row:
     """The sums over all links."""
-    keys = (
-        "frames",
-        "accepted",
-        "dropped",
-        "lost",
-        "too_old",
-        "departed",
-        "delivered",
-        "redundant",
-        "refused",
-    )
-    return {key: sum(row[key] for row in links) for key in keys}
-
-
-def worst(latency: Sequence[Row]) -> Row | None:
-    """The row whose greatest latency is the greatest share of its bound."""
-    known = [row for row in latency if row["share"] is not None]
-    return max(known, key=lambda row: row["share"]) if known else None
-
-
-def cell(value: object) -> str:
-    """A value as it stands in a table."""
-    if value is None:
-        return "-"
-    if isinstance(value, float):
-        return f"{value:.1%}"
-    if isinstance(value, dict):
-        return ", ".join(f"{count} {word}" for word, count in value.items()) or "-"
-    return str(value)
-
-
-def heads(rows: Sequence[Row]) -> list[str]:
-    """The names of a table's columns."""
-    return list(rows[0]) if rows else []
-
-
-def as_text(rows: Sequence[Row]) -> str:
-    """Rows as a table of even columns; numbers stand to the right."""
-    if not rows:
-        return "(none)\n"
-    table = [heads(rows)] + [[cell(value) for value in row.values()] for row in rows]
-    widths = [max(len(line[n]) for line in table) for n in range(len(table[0]))]
-    is_number = [isinstance(value, (int, float)) or value is None for value in rows[0].values()]
-    lines = []
-    for line in table:
-        cells = (c.rjust(w) if n else c.ljust(w) for c, w, n in zip(line, widths, is_number))
-        lines.append("  ".join(cells).rstrip() + "\n")
-    return "".join(lines)
-
-
-def write_csv(path: str, rows: Sequence[Row]) -> None:
-    """Rows as a CSV file; shares are plain fractions."""
-    with open(path, "w", encoding="utf-8", newline="") as file:
-        writer = csv.writer(file, lineterminator="\n")
-        writer.writerow(heads(rows))
-        for row in rows:
-            plain = (
-                cell(v) if isinstance(v, dict) else "" if v is None else v for v in row.values()
-            )
-            writer.writerow(plain)
-
-
-def write_all(folder: str, report: Row) -> None:
-    """The tables as CSV files, and all of the report as JSON."""
-    for name in NAMES:
-        write_csv(os.path.join(folder, f"{name}.csv"), report[name])
-    with open(os.path.join(folder, "report.json"), "w", encoding="utf-8") as file:
-        json.dump(report, file, indent=1)
-        file.write("\n")
+    return {key: sum(row[key] for row in links) for key in SUMS}

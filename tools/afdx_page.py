@@ -1,188 +1,190 @@
 """The report as one HTML page that needs nothing beside it."""
 from __future__ import annotations
 
+import argparse
 from html import escape
 from typing import Sequence
 
 import afdx_figures as figures
-from afdx_counting import Counting, NO_LINK
-from afdx_numbers import COUNTED, NAMES, PROVED, UNPROMISED, Row, cell, heads, worst
+import afdx_tracks as tracks
+from afdx_compare import words_of
+from afdx_counting import Counting
+from afdx_ranking import FEWEST, nearest, ranked
+from afdx_style import SCRIPT, STYLE
+from afdx_tables import COUNTED, NAMES, PROVED, UNPROMISED, Row, cell, heads, percent
 
-STYLE = """
-:root { --ground: #f6f6f4; --sheet: #ffffff; --ink: #1d2126; --muted: #69717b; --rule: #ececea;
-  --grid: #e4e5e3; --axis: #9aa0a6; --seen: #a9c6e6; --median: #1f5f9e; --bound: #1d2126;
-  --configured: #b7791f; --good: #2c7a51; --bad: #b3362f; color-scheme: light dark; }
-@media (prefers-color-scheme: dark) {
-:root { --ground: #15171a; --sheet: #1d2024; --ink: #e4e6e8; --muted: #98a0a9; --rule: #2a2e33;
-  --grid: #2e3237; --axis: #6b737c; --seen: #35587c; --median: #8fc0f2; --bound: #f0f1f2;
-  --configured: #d9a441; --good: #63bd8d; --bad: #ec7a72; } }
-* { box-sizing: border-box; }
-body { margin: 0; background: var(--ground); color: var(--ink);
-  font: 14px/1.5 system-ui, -apple-system, "Segoe UI", Roboto, "DejaVu Sans", sans-serif; }
-main { max-width: 1080px; margin: 0 auto; padding: 28px 20px 48px; }
-h1 { font-size: 24px; margin: 0 0 2px; letter-spacing: -.01em; }
-h2 { font-size: 16px; margin: 0 0 2px; }
-p { margin: 0 0 10px; } .muted { color: var(--muted); fill: var(--muted); }
-header p { color: var(--muted); }
-section { background: var(--sheet); border: 1px solid var(--rule); border-radius: 8px;
-  padding: 16px 20px; margin-top: 16px; overflow-x: auto; }
-.answer { display: inline-block; padding: 2px 10px; border-radius: 999px; font-weight: 600;
-  border: 1px solid currentColor; }
-.good { color: var(--good); } .bad { color: var(--bad); }
-.cards { display: grid; grid-template-columns: repeat(auto-fit, minmax(98px, 1fr)); gap: 10px;
-  margin-top: 16px; }
-.card { background: var(--sheet); border: 1px solid var(--rule); border-radius: 8px;
-  padding: 10px 14px; }
-.card b { display: block; font-size: 21px; font-weight: 600; font-variant-numeric: tabular-nums; }
-.card span { color: var(--muted); font-size: 12.5px; }
-table { border-collapse: collapse; font-variant-numeric: tabular-nums; font-size: 13px;
-  width: 100%; }
-th { text-align: left; font-weight: 600; color: var(--muted);
-  border-bottom: 1px solid var(--axis); }
-th, td { padding: 3px 10px 3px 0; white-space: nowrap; }
-td { border-bottom: 1px solid var(--rule); }
-.number { text-align: right; } td.words { white-space: normal; }
-svg { display: block; width: 100%; min-width: 760px; height: auto; margin-top: 8px; }
-svg text { font-size: 12.5px; fill: var(--ink); } svg text.muted { fill: var(--muted); }
-svg text.strong { font-weight: 600; }
-.grid { stroke: var(--grid); } .rule { stroke: var(--rule); } .axis { stroke: var(--axis); }
-.seen { fill: var(--seen); } .median { fill: var(--median); }
-.bound { stroke: var(--bound); stroke-width: 2.4; }
-.configured { fill: var(--sheet); stroke: var(--configured); stroke-width: 1.8; }
-.accepted { fill: var(--median); } .delivered { fill: var(--good); }
-.passed { fill: var(--sheet); stroke: var(--axis); stroke-width: 1.2; }
-.way { stroke: var(--axis); stroke-width: .6; opacity: .6; }
-details summary { cursor: pointer; font-weight: 600; }
-footer { color: var(--muted); margin-top: 20px; font-size: 13px; }
-footer code { font-size: 12px; overflow-wrap: anywhere; }
-@media print { body { background: none; } section { break-inside: avoid; } }
-"""
-CARDS = (
-    ("frames", "frames in"),
-    ("accepted", "accepted"),
-    ("dropped", "dropped"),
-    ("lost", "lost copies"),
-    ("too_old", "too old"),
-    ("departed", "copies out"),
-    ("delivered", "delivered"),
-    ("redundant", "redundant"),
-    ("refused", "refused"),
-)
+CARDS = {
+    "frames": "frames in",
+    "accepted": "accepted",
+    "dropped": "dropped",
+    "lost": "lost copies",
+    "late": "late copies",
+    "too_old": "too old",
+    "departed": "copies out",
+    "delivered": "delivered",
+    "redundant": "redundant",
+    "refused": "refused",
+}
+PLAIN = ("link", "port", "number", "line", "at_line", "gap_line", "jitter_line", "inputs_line",
+         "receivers_line")
 
 
-def table(rows: Sequence[Row]) -> str:
+def kind_of(name: str, rows: Sequence[Row]) -> str:
+    """How a column stands: numbers to the right, long words broken."""
+    values = [row[name] for row in rows[:50] if row[name] is not None]
+    if any(isinstance(value, dict) for value in values):
+        return "words"
+    return "" if any(isinstance(value, str) for value in values) else "number"
+
+
+def body_row(row: Row, kinds: Sequence[str]) -> str:
+    """A row of a table; its first cell is its head."""
+    parts = ['<tr class="late">' if row.get("late") else "<tr>"]
+    for number, ((name, value), kind) in enumerate(zip(row.items(), kinds)):
+        shown = f"{value:,}" if isinstance(value, int) and name not in PLAIN else cell(value)
+        styled = f' class="{kind}"' if kind else ""
+        if number == 0:
+            parts.append(f'<th scope="row"{styled}>{escape(shown)}</th>')
+        else:
+            parts.append(f"<td{styled}>{escape(shown)}</td>")
+    return "".join(parts) + "</tr>\n"
+
+
+def table(rows: Sequence[Row], head: str) -> str:
     """Rows as a table."""
+    caption = f"<caption>{escape(head)}: {len(rows):,} rows</caption>"
     if not rows:
-        return '<p class="muted">None.</p>'
-    parts = ["<table><tr>"]
-    kinds = [
-        "number"
-        if isinstance(v, (int, float)) or v is None
-        else "words"
-        if isinstance(v, dict)
-        else ""
-        for v in rows[0].values()
-    ]
-    parts += [
-        f'<th class="{k}">{escape(h.replace("_", " "))}</th>' for h, k in zip(heads(rows), kinds)
-    ]
-    for row in rows:
-        cells = (
-            f"{v:,}" if isinstance(v, int) and key not in ("link", "port") else cell(v)
-            for key, v in row.items()
-        )
-        parts.append("</tr><tr>")
-        parts += [f'<td class="{k}">{escape(c)}</td>' for c, k in zip(cells, kinds)]
-    return "".join(parts) + "</tr></table>"
+        return f"<table>{caption}<tbody><tr><td>none</td></tr></tbody></table>"
+    kinds = [kind_of(name, rows) for name in heads(rows)]
+    names = "".join(
+        f'<th scope="col"{f" class={kind!r}" if kind else ""}>{escape(name.replace("_", " "))}</th>'
+        for name, kind in zip(heads(rows), kinds)
+    )
+    body = "".join(body_row(row, kinds) for row in rows)
+    return f"<table>{caption}<thead><tr>{names}</tr></thead><tbody>{body}</tbody></table>"
 
 
-def section(title: str, words: str, body: str) -> str:
+def section(name: str, title: str, words: str, body: str) -> str:
     """A part of the page."""
-    return f"<section><h2>{escape(title)}</h2><p class='muted'>{escape(words)}</p>{body}</section>"
+    return (
+        f'<section id="{name}"><h2>{escape(title)}</h2><p class="muted">{escape(words)}</p>{body}'
+        "</section>"
+    )
+
+
+def table_section(name: str, head: str, rows: Sequence[Row]) -> str:
+    """A table, in a box that rolls on a screen and is whole on paper."""
+    return (
+        f'<section id="{name}" class="table"><div class="box" tabindex="0" role="region" '
+        f'aria-label="{escape(head)}">{table(rows, head)}</div></section>'
+    )
 
 
 def cards(report: Row) -> str:
     """The sums, one a card."""
-    parts = [
-        f'<div class="card"><b>{report["totals"][key]:,}</b><span>{escape(words)}</span></div>'
-        for key, words in CARDS
-    ]
-    return f'<div class="cards">{"".join(parts)}</div>'
+    parts = []
+    for key, words in CARDS.items():
+        count = report["totals"][key]
+        bad = ' class="bad"' if count and key in ("lost", "late", "too_old") else ""
+        parts.append(f'<div class="card"><dt>{words}</dt><dd{bad}>{count:,}</dd></div>')
+    return f'<dl class="cards">{"".join(parts)}</dl>'
+
+
+def latency_words(row: Row) -> str:
+    """A row of latencies in words."""
+    return (
+        f"link {row['link']} at port {row['port']}, side {row['side']}, "
+        f"{row['greatest_ns']:,} of {row['configured_ns']:,} ns configured "
+        f"({percent(row['share'])})"
+    )
 
 
 def answer(report: Row) -> str:
-    """What admission said, and the run's fault if it has one."""
+    """What admission said, the run's fault, what is late, what criteria aren't met."""
     said = report["admission"]
-    parts = [
-        f'<span class="answer {"good" if said == "ok" else "bad"}">'
-        f'{"admitted" if said == "ok" else "not admitted: " + escape(said)}</span>'
-    ]
+    bad = []
     if report["fault"]:
-        parts.append(
-            f' <span class="answer bad">the run ended with: {escape(report["fault"])}</span>'
-        )
-    most = worst(report["latency"])
-    if most:
-        parts.append(
-            f' <span class="muted">Nearest to its bound: link {most["link"]} at port '
-            f'{most["port"]}, {most["greatest_ns"]:,} of {most["bound_ns"]:,} ns '
-            f'({most["share"]:.0%}).</span>'
-        )
+        bad.append(f"the run ended with: {report['fault']}")
+    late = [row for row in ranked(report["latency"]) if row["late"]]
+    if late:
+        links = len({row["link"] for row in late})
+        bad.append(f"{links} late link{'s' if links > 1 else ''}: {latency_words(late[0])}")
+    if report["unmet"]:
+        bad.append("failed: " + ", ".join(report["unmet"]))
+    kind, words = ("good", "admitted") if said == "ok" else ("bad", f"not admitted: {said}")
+    parts = [f'<span class="answer {kind}">{escape(words)}</span>']
+    parts += [f'<span class="answer bad">{escape(words)}</span>' for words in bad]
+    most = nearest(report["latency"])
+    if most and not late:
+        parts.append(f'<span class="muted">Nearest: {escape(latency_words(most))}.</span>')
     return f'<p style="margin-top:10px">{"".join(parts)}</p>'
 
 
-def one_each(latency: Sequence[Row]) -> list[Row]:
-    """Of each link the row at the port where it is nearest to its bound; the nearest link first."""
-    best: dict[int, Row] = {}
+def one_each(latency: Sequence[Row]) -> list[list[Row]]:
+    """Of each ranked link both sides at the port where it has the greatest share, in that order; of
+    a link that is late, each port where it is."""
+    of_place: dict[tuple[int, int], list[Row]] = {}
     for row in latency:
-        share = row["share"] or 0
-        if row["link"] not in best or share > (best[row["link"]]["share"] or 0):
-            best[row["link"]] = row
-    return sorted(best.values(), key=lambda row: (-(row["share"] or 0), row["link"]))
+        of_place.setdefault((row["link"], row["port"]), []).append(row)
+    seen: set[int] = set()
+    places: list[tuple[int, int]] = []
+    for row in ranked(latency):
+        place = row["link"], row["port"]
+        if place not in places and (row["link"] not in seen or row["late"]):
+            places.append(place)
+        seen.add(row["link"])
+    return [of_place[place] for place in places]
 
 
 def latency_section(report: Row, most: int) -> str:
     """The picture of latencies."""
-    rows = one_each(report["latency"])
-    if not rows:
-        return section("Latency", "No frame left a port.", "")
-    words = "Each link at the port where it came nearest to its bound, the nearest first. "
-    if len(rows) > most:
-        words += f"The first {most} of {len(rows)} links; the table below has all. "
+    pairs = one_each(report["latency"])
+    head = "Latency in the replay against the configured latency"
+    if not pairs:
+        words = f"No link has {FEWEST} copies at a port." if report["latency"] else "None left."
+        return section("picture", head, words, "")
+    words = (
+        "Each link at the port where it came nearest to its configured latency, the nearest first, "
+        f"late ones at each port; sides A and B apart; links with {FEWEST} copies there or more, "
+        "or a late one. "
+    )
+    if len(pairs) > most:
+        words += f"The first {most} of {len(pairs)}; the table below has all. "
     words += "From a frame's arrival to the end of its slot."
     name = "proved bound" if report["admission"] == "ok" else "bound of check"
     if report["admission"] != "ok":
         words += f" {UNPROMISED}"
-    return section(f"Latency seen against the {name}", words, figures.latencies(rows[:most], name))
+    return section("picture", head, words, figures.latencies(pairs[:most], name))
 
 
-def chosen_link(counting: Counting) -> int | None:
-    """The link of the time line: that with the most trouble, else that with the most frames."""
-    if counting.tracks.only is not None:
-        return counting.tracks.only if counting.tracks.only in counting.tracks.links else None
-    kept = [vl for vl in counting.tracks.links if vl != NO_LINK]
-    if not kept:
-        return None
-    return max(kept, key=lambda vl: (counting.links[vl].trouble, counting.links[vl].frames, -vl))
+def track_sections(counting: Counting, args: argparse.Namespace) -> str:
+    """The time lines of the links."""
+    wrong = tracks.troubled(counting)
+    first = tracks.chosen(counting, wrong)
+    parts = []
+    for vl in dict.fromkeys(args.link or ([] if first is None else [first])):
+        parts.append(track_section(counting, vl, wrong, args.begin))
+    return "".join(parts)
 
 
-def track_section(counting: Counting) -> str:
+def track_section(counting: Counting, vl: int, wrong, begin: int) -> str:
     """The time line of a link."""
-    vl = chosen_link(counting)
-    if vl is None:
-        only = counting.tracks.only
-        return "" if only is None else section(f"Time line of link {only}", "It has no frames.", "")
-    link, track = counting.config.links[vl], counting.tracks.links[vl]
-    shown = track.shown()
+    name, head = f"line-{vl}", f"Time line of link {vl}"
+    link = counting.config.links.get(vl)
+    lines = tracks.shown_lines(counting, vl, wrong, begin) if link else []
+    if link is None or not len(lines):
+        return section(name, head, "It has no frames there.", "")
     ports = {port: counting.by_port[port].name for port in link.ports}
     words = (
         f"From {link.source} to {', '.join(link.to)}; {link.priority} priority, "
         f"BAG {link.bag_ms} ms, Lmax {link.lmax} bytes. "
     )
-    if len(shown) < counting.links[vl].frames:
-        where = "" if counting.tracks.begin or not track.most else ", where most were dropped"
-        words += f"{len(shown)} of {counting.links[vl].frames:,} arrivals{where}. "
-    return section(f"Time line of link {vl}", words, figures.track(shown, ports))
+    frames = int((counting.place[counting.arrived] == counting.vls.index(vl)).sum())
+    if len(lines) < frames:
+        where = ", where most went wrong" if not begin and wrong[lines].any() else ""
+        words += f"{len(lines)} of {frames:,} arrivals{where}."
+    shown = tracks.arrivals_of(counting, lines)
+    return section(name, head, words, tracks.track(name, shown, ports))
 
 
 def foot(report: Row) -> str:
@@ -199,33 +201,65 @@ def foot(report: Row) -> str:
     )
 
 
-def page(report: Row, counting: Counting, rows: int) -> str:
+def pictures(report: Row, counting: Counting, args: argparse.Namespace) -> str:
+    """All pictures."""
+    parts = [latency_section(report, args.rows)]
+    if report["latency"]:
+        words = "How near the copies came to their link's configured latency, sides A and B apart."
+        shares = figures.histogram(report["histogram"])
+        parts.append(section("histogram", "Copies by share of latency", words, shares))
+    words = (
+        "At the switches, a lane for each reason, by the time of the arrival; copies that were too "
+        "old by that of their drop."
+    )
+    lanes = figures.drops(report["drops"])
+    parts.append(section("drops", "Drops by reason over time", words, lanes))
+    if report["ports"]:
+        words = "The share of each output port's line that slots take up."
+        shown = figures.loads(report["loads"], report["ports"])
+        parts.append(section("loads", "Load of each port over time", words, shown))
+    return "".join(parts) + track_sections(counting, args)
+
+
+def compared_sections(report: Row) -> str:
+    """Two runs beside one another."""
+    pair = report.get("compared")
+    if pair is None:
+        return ""
+    rows = (
+        table_section("compared", "Numbers that differ from the other run", pair["rows"])
+        + table_section("only-here", "Frames with trouble only in this run", pair["only_here"])
+        + table_section("only-there", "Frames with trouble only in the other", pair["only_there"])
+    )
+    return section("other", "Compared with another run", " ".join(words_of(pair)), "") + rows
+
+
+def links_to(names: dict[str, str]) -> str:
+    """Anchors to the parts of the page."""
+    parts = [f'<a href="#{name}">{escape(words)}</a>' for name, words in names.items()]
+    return f'<nav aria-label="Parts of the report">{" ".join(parts)}</nav>'
+
+
+def page(report: Row, counting: Counting, args: argparse.Namespace) -> str:
     """The whole page."""
     title = f"AFDX replay: {report['run']['title']}"
     span = report["run"]["span_ns"] / 1e6
     words = f"{report['totals']['frames']:,} frames over {span:,.3f} ms at both switches."
+    names = {"picture": "latency", "drops": "drops"}
+    names |= {name: f"table of {name}" for name in NAMES}
     parts = [
         "<!doctype html><html lang='en'><head><meta charset='utf-8'>",
         "<meta name='viewport' content='width=device-width, initial-scale=1'>",
         f"<title>{escape(title)}</title><style>{STYLE}</style></head><body><main>",
         f"<header><h1>{escape(title)}</h1><p>{escape(words)}</p></header>",
         answer(report),
+        links_to(names),
         cards(report),
-        latency_section(report, rows),
-        section(
-            "Drops by reason over time",
-            (
-                "At the switches, by the time of the arrival; "
-                "copies that were too old by that of their drop."
-            ),
-            figures.drops(counting.drops),
-        ),
-        track_section(counting),
+        pictures(report, counting, args),
+        compared_sections(report),
+        "<p class='find' hidden><label>Find rows <input id='find' type='search' "
+        "placeholder='numbers or names, as 304 A'></label> <span id='found' role='status'></span>"
+        "</p>",
     ]
-    for name, head in NAMES.items():
-        is_open = " open" if len(report[name]) <= 40 else ""
-        parts.append(
-            f"<section><details{is_open}><summary>{escape(head)} ({len(report[name])} rows)"
-            f"</summary>{table(report[name])}</details></section>"
-        )
-    return "".join(parts) + foot(report) + "</main></body></html>\n"
+    parts += [table_section(name, head, report[name]) for name, head in NAMES.items()]
+    return "".join(parts) + foot(report) + f"</main><script>{SCRIPT}</script></body></html>\n"

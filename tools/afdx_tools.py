@@ -77,6 +77,9 @@ class Link:
     lmax: int
     priority: str
     latency_ns: int
+    policing: str
+    jitter_ns: int
+    skew_ns: int
 
 
 @dataclass(frozen=True)
@@ -110,6 +113,9 @@ def link_of(row: dict, systems: dict[str, System]) -> Link:
         lmax=row["lmax"],
         priority=row["priority"],
         latency_ns=1000 * row["latency_us"],
+        policing=row["policing"],
+        jitter_ns=1000 * row["jitter_us"],
+        skew_ns=1000 * row["skew_us"],
     )
 
 

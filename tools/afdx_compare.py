@@ -1,0 +1,102 @@
+"""Two runs beside one another: rows by link, port and side, frames by link, side, number, time."""
+from __future__ import annotations
+
+import json
+from typing import Iterator
+
+from afdx_numbers import MOST_TROUBLES
+from afdx_tables import Row
+from afdx_tools import Refused
+from afdx_words import shown
+
+KEYS = {
+    "links": ("link",),
+    "latency": ("link", "port", "side"),
+    "sides": ("link", "side"),
+    "skews": ("link",),
+    "ports": ("port", "side"),
+}
+COMPARED = {
+    "links": ("frames", "accepted", "dropped", "lost", "late", "too_old", "delivered", "redundant",
+              "refused"),
+    "latency": ("frames", "median_ns", "p99_ns", "greatest_ns", "late", "bound_ns",
+                "configured_ns"),
+    "sides": ("missing", "least_gap_ns", "jitter_ns", "table_jitter_ns"),
+    "skews": ("at_inputs_ns", "at_receivers_ns", "table_skew_ns"),
+    "ports": ("left", "backlog", "bound"),
+}
+FRAME = ("link", "side", "number", "time_ns", "port", "what")
+
+
+def other_report(path: str) -> Row:
+    """The report of another run, as afdx-report wrote it."""
+    try:
+        with open(path, encoding="utf-8") as file:
+            report = json.load(file)
+        for name, key in KEYS.items():
+            for row in report[name]:
+                [row[word] for word in (*key, *COMPARED[name])]
+        [[row[word] for word in FRAME] for row in report["troubles"]]
+        return report if isinstance(report["totals"], dict) else {}[path]
+    except OSError:
+        raise
+    except (ValueError, KeyError, TypeError, RecursionError) as error:
+        raise Refused(f"{shown(path)} is no report.json of this afdx-report") from error
+
+
+def where(key: tuple[str, ...], row: Row) -> str:
+    """A row's key as words."""
+    return " ".join(f"{word} {row[word]}" for word in key)
+
+
+def differing(name: str, this: Row, other: Row) -> Iterator[Row]:
+    """What differs in one table, row by row; a row that one run hasn't counts as none."""
+    key = KEYS[name]
+    here = {tuple(str(row[word]) for word in key): row for row in this[name]}
+    there = {tuple(str(row[word]) for word in key): row for row in other[name]}
+    for place in [*here, *(place for place in there if place not in here)]:
+        mine, its = here.get(place, {}), there.get(place, {})
+        for word in COMPARED[name]:
+            now, before = mine.get(word), its.get(word)
+            if now != before:
+                both = isinstance(now, int) and isinstance(before, int)
+                yield {
+                    "table": name,
+                    "of": where(key, mine or its),
+                    "number": word,
+                    "other": before,
+                    "this": now,
+                    "change": now - before if both else None,
+                }
+
+
+def only_in(one: Row, two: Row) -> list[Row]:
+    """The frames with trouble of the first report that are none of the second's."""
+    known = {tuple(row[word] for word in FRAME) for row in two["troubles"]}
+    return [row for row in one["troubles"] if tuple(row[word] for word in FRAME) not in known]
+
+
+def compared(this: Row, other: Row, path: str) -> Row:
+    """Both reports beside one another."""
+    cut = max(len(this["troubles"]), len(other["troubles"])) >= MOST_TROUBLES
+    return {
+        "file": shown(path),
+        "title": str(other.get("run", {}).get("title", "")),
+        "rows": [row for name in KEYS for row in differing(name, this, other)],
+        "only_here": only_in(this, other),
+        "only_there": only_in(other, this),
+        "cut": cut,
+    }
+
+
+def words_of(pair: Row) -> list[str]:
+    """What was compared, in sentences."""
+    here, there = len(pair["only_here"]), len(pair["only_there"])
+    words = [
+        f"Compared with {pair['title'] or pair['file']}: {len(pair['rows'])} numbers differ.",
+        f"Frames that were dropped, lost, late, too old or refused, by link, side, number, time, "
+        f"port and reason: {here} only here, {there} only there.",
+    ]
+    if pair["cut"]:
+        words.append(f"Of each run only the first {MOST_TROUBLES:,} such frames were compared.")
+    return words

@@ -1,0 +1,87 @@
+"""Pass or fail of a run by criteria, each a count that has to be 0; as JUnit's XML too."""
+from __future__ import annotations
+
+import argparse
+from typing import Sequence
+from xml.etree import ElementTree as xml
+
+from afdx_tables import Row
+from afdx_words import shown
+
+FAILED = 6  # the status of a run that ended well and failed by a criterion
+CRITERIA = {
+    "dropped": "frames that a switch dropped",
+    "lost": "copies that were lost to a full buffer",
+    "late": "copies that left later than their link's configured latency",
+    "too-old": "copies that were dropped for their age",
+    "refused": "copies that a receiver dropped, redundant ones apart",
+}
+
+
+def criteria_of(text: str) -> list[str]:
+    """The type of the word of --fail-on: criteria with commas between them."""
+    words = text.split(",")
+    for word in words:
+        if word not in CRITERIA:
+            raise argparse.ArgumentTypeError(f"{word} is none of {', '.join(CRITERIA)}")
+    return [word for word in CRITERIA if word in words]
+
+
+def add_words(parser: argparse.ArgumentParser) -> None:
+    """Teaches a parser --fail-on and --junit."""
+    parser.add_argument(
+        "--fail-on",
+        type=criteria_of,
+        default=[],
+        metavar="WORDS",
+        help=f"status {FAILED} where one of these isn't 0, with commas: {', '.join(CRITERIA)}",
+    )
+    parser.add_argument(
+        "--junit", metavar="FILE", help="write the run and each criterion as a JUnit test case"
+    )
+
+
+def count_of(totals: Row, word: str) -> int:
+    """The count that a criterion speaks of."""
+    return totals[word.replace("-", "_")]
+
+
+def judged(totals: Row | None, words: Sequence[str]) -> list[str]:
+    """The criteria that aren't met, each with its count."""
+    if totals is None:
+        return []
+    found = [(word, count_of(totals, word)) for word in words]
+    return [f"{count} {word}" for word, count in found if count]
+
+
+def status_of(status: int, unmet: Sequence[str]) -> int:
+    """The status of a run with unmet criteria: that of the program, if it has one."""
+    return status or (FAILED if unmet else 0)
+
+
+def suite_of(name: str, fault: str, totals: Row | None, words: Sequence[str]) -> xml.Element:
+    """A run as a test suite: a case that it ended without a fault, and one for each criterion."""
+    suite = xml.Element("testsuite", name=shown(name), tests=str(1 + len(words)))
+    errors, failures = 0, 0
+    ended = xml.SubElement(suite, "testcase", classname=shown(name), name="run")
+    if fault:
+        errors = 1
+        xml.SubElement(ended, "error", message=shown(fault))
+    for word in words:
+        case = xml.SubElement(suite, "testcase", classname=shown(name), name=word)
+        if totals is None:
+            xml.SubElement(case, "skipped", message="the run gave no report")
+        elif count := count_of(totals, word):
+            failures += 1
+            xml.SubElement(case, "failure", message=f"{count} {CRITERIA[word]}")
+    suite.set("errors", str(errors))
+    suite.set("failures", str(failures))
+    return suite
+
+
+def write_junit(path: str, suites: Sequence[xml.Element]) -> None:
+    """Writes the runs of one file."""
+    root = xml.Element("testsuites")
+    root.extend(suites)
+    xml.indent(root)
+    xml.ElementTree(root).write(path, encoding="utf-8", xml_declaration=True)

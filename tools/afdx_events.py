@@ -1,0 +1,160 @@
+"""The lines of `afdx replay` as columns: verdicts by the list's line, and what became of copies."""
+from __future__ import annotations
+
+from typing import IO, Callable
+
+import numpy as np
+
+from afdx_lines import Block, blocks_of
+from afdx_listing import SIDES, Listing
+from afdx_tools import Refused
+
+ACCEPT = "accept"
+DELIVERED, REDUNDANT = "delivered", "redundant"
+LOST, OLD, LEFT = "lost", "too-old", "left"
+FATES = (LEFT, LOST, OLD)
+VERDICTS = (
+    "too-short",
+    "too-long",
+    "bad-fcs",
+    "bad-address",
+    "unknown-link",
+    "wrong-port",
+    "over-lmax",
+    "under-lmin",
+    "over-rate",
+)
+NOT_YET = -1  # stands for a line without a verdict, and for a departure without a receiver's line
+LETTERS = {letter: ord(letter) for letter in "VLDTMX"}
+
+
+class Words:
+    """Words by small numbers, in the order in which they came."""
+
+    def __init__(self, *first: str) -> None:
+        self.names = list(first)
+
+    def of(self, names: list[str]) -> np.ndarray:
+        """The numbers of some words; a new word gets the next number."""
+        self.names += [name for name in names if name not in self.names]
+        return np.array([self.names.index(name) for name in names], np.int8)
+
+
+class Events:
+    """What a replay wrote. Of each line of the list `verdict`, the place of its word in
+    `verdicts.names`; of each copy that came to its end, in the order of the lines, the list's line,
+    the output port, the time, the fate (the place in FATES), and what its receiver did with it (the
+    place in `ends.names`)."""
+
+    def __init__(self, listing: Listing) -> None:
+        self.listing = listing
+        self.verdicts = Words(ACCEPT, *VERDICTS)
+        self.ends = Words(DELIVERED, REDUNDANT)
+        self.verdict = np.full(listing.lines + 1, NOT_YET, np.int8)
+        self.parts: list[dict[str, np.ndarray]] = [none_at_all()]
+
+    def read(self, file: IO[bytes], told: Callable[[int], None] = lambda line: None) -> None:
+        """Takes the lines of `replay`, and joins them."""
+        rest = b""
+        for text in blocks_of(file):
+            rest = self.take(rest + text, told)
+        if rest:
+            self.take(rest, told, last=True)
+        joined = {name: np.concatenate([p[name] for p in self.parts]) for name in self.parts[0]}
+        self.parts = []
+        self.line, self.time, self.port = joined["line"], joined["time"], joined["port"]
+        self.fate, self.end = joined["fate"], joined["end"]
+
+    def take(self, text: bytes, told: Callable[[int], None], last: bool = False) -> bytes:
+        """Takes a block's lines. A departure at its end is handed back: the next line, which the
+        next block begins with, says what the receiver did."""
+        block = Block(text)
+        if block.heads[-1] == LETTERS["D"] and not last:
+            cut = int(block.starts[-1])
+            return self.take(text[:cut], told) + text[cut:] if cut else text
+        if not np.isin(block.heads, list(LETTERS.values())).all():
+            raise Refused("the program wrote a line that this tool doesn't know")
+        lines = self.judged(block)
+        if len(lines):
+            told(int(lines[-1]))
+        part = none_at_all()
+        found = [self.lost(block), self.departed(block), self.old(block)]
+        part = {name: np.concatenate([one[name] for one in found]) for name in part}
+        order = np.argsort(part.pop("at"), kind="stable")
+        self.listing.has(part["line"])
+        self.parts.append({name: column[order] for name, column in part.items()} | {"at": order})
+        return b""
+
+    def judged(self, block: Block) -> np.ndarray:
+        """`V n side accept` or `V n side drop WORD`"""
+        at = np.flatnonzero(block.heads == LETTERS["V"])
+        lines = block.numbers(at, 1)
+        self.listing.has(lines)
+        verdict = np.zeros(len(at), np.int8)
+        dropped = np.flatnonzero(block.fields[at] == 5)
+        names, places = block.words(at[dropped], 4)
+        verdict[dropped] = self.verdicts.of(names)[places]
+        self.verdict[lines] = verdict
+        return lines
+
+    def lost(self, block: Block) -> dict[str, np.ndarray]:
+        """`L n side port`: the time is that of the list's line."""
+        at = np.flatnonzero(block.heads == LETTERS["L"])
+        line = block.numbers(at, 1)
+        self.listing.has(line)
+        return copies(at, line, self.listing.time[line], block.numbers(at, 3), LOST)
+
+    def old(self, block: Block) -> dict[str, np.ndarray]:
+        """`T n time side port`"""
+        at = np.flatnonzero(block.heads == LETTERS["T"])
+        times, ports = block.numbers(at, 2), block.numbers(at, 4)
+        return copies(at, block.numbers(at, 1), times, ports, OLD)
+
+    def departed(self, block: Block) -> dict[str, np.ndarray]:
+        """`D n time side port`, and what the line behind it says: M, or X with its word."""
+        at = np.flatnonzero(block.heads == LETTERS["D"])
+        part = copies(at, block.numbers(at, 1), block.numbers(at, 2), block.numbers(at, 4), LEFT)
+        behind = np.minimum(at + 1, len(block.heads) - 1)
+        heads = block.heads[behind]
+        part["end"][heads == LETTERS["M"]] = 0
+        refused = np.flatnonzero(heads == LETTERS["X"])
+        names, places = block.words(behind[refused], 4)
+        part["end"][refused] = self.ends.of(names)[places]
+        return part
+
+    def side_of_copies(self) -> np.ndarray:
+        """The side of each copy: 0 for A, 1 for B."""
+        return self.listing.side[self.line]
+
+    def verdict_of(self, line: int) -> str:
+        """The verdict of a line, as a word."""
+        return self.verdicts.names[self.verdict[line]]
+
+    def end_of(self, copy: int) -> str:
+        """What the receiver did with a copy, as a word; nothing where no line says it."""
+        return "" if self.end[copy] == NOT_YET else self.ends.names[self.end[copy]]
+
+
+def side_name(side: int) -> str:
+    """A or B."""
+    return SIDES[side]
+
+
+def none_at_all() -> dict[str, np.ndarray]:
+    """The columns of no copies."""
+    none = np.zeros(0, np.int64)
+    return copies(none, none, none, none, LEFT)
+
+
+def copies(
+    at: np.ndarray, line: np.ndarray, time: np.ndarray, port: np.ndarray, fate: str
+) -> dict[str, np.ndarray]:
+    """The columns of copies with one fate; `at` is their place in the block."""
+    return {
+        "at": at,
+        "line": line.astype(np.int32),
+        "time": time,
+        "port": port.astype(np.int8),
+        "fate": np.full(len(at), FATES.index(fate), np.int8),
+        "end": np.full(len(at), NOT_YET, np.int8),
+    }

@@ -1,0 +1,111 @@
+"""A frame list as columns: of each line its time, side, link, length and sequence number."""
+from __future__ import annotations
+
+import hashlib
+from typing import IO, Callable, Iterable, Iterator
+
+import numpy as np
+
+from afdx_lines import RETURN, Block, blocks_of
+from afdx_tools import MOST_LINES, Refused
+
+NO_LINK = -1  # stands for frames that name no link of the configuration
+NO_NUMBER = -1  # stands for frames too short for a sequence number
+SIDES = "AB"
+CONSTANT = np.frombuffer(b"03000000", np.uint8)
+DIGIT = np.full(256, 0, np.int32)
+DIGIT[np.frombuffer(b"0123456789", np.uint8)] = range(10)
+DIGIT[np.frombuffer(b"abcdef", np.uint8)] = range(10, 16)
+DIGIT[np.frombuffer(b"ABCDEF", np.uint8)] = range(10, 16)
+
+
+class Listing:
+    """The columns of a list, by the number of the line; `sound` where it has a line's form."""
+
+    def __init__(self, file: IO[bytes], told: Callable[[int], None] = lambda count: None) -> None:
+        digest = hashlib.sha256()
+        parts: list[dict[str, np.ndarray]] = [columns_of_none()]
+        lines = 0
+        for text in hashed(blocks_of(file), digest.update):
+            if lines <= MOST_LINES:  # the program reads no further
+                part = columns_of(Block(text))
+                parts.append(part)
+                lines += len(part["time"])
+                told(lines)
+        self.lines = lines
+        self.digest = digest.hexdigest()
+        joined = {name: np.concatenate([part[name] for part in parts]) for name in parts[0]}
+        self.sound = joined["sound"]
+        self.time = joined["time"]
+        self.side = joined["side"]
+        self.link = joined["link"]
+        self.length = joined["length"]
+        self.number = joined["number"]
+
+    def has(self, lines: np.ndarray) -> None:
+        """Refused where one of these is no line of the list."""
+        known = lines <= self.lines
+        wrong = lines[~known] if not known.all() else lines[~self.sound[lines]]
+        if len(wrong):
+            raise Refused(f"line {wrong[0]} of the list is gone: did the list change meanwhile?")
+
+
+def hashed(texts: Iterable[bytes], update: Callable[[bytes], None]) -> Iterator[bytes]:
+    """The texts, each handed to `update` as well."""
+    for text in texts:
+        update(text)
+        yield text
+
+
+def columns_of_none() -> dict[str, np.ndarray]:
+    """The line of number 0, which no list has."""
+    return {
+        "sound": np.zeros(1, bool),
+        "time": np.zeros(1, np.int64),
+        "side": np.zeros(1, np.int8),
+        "link": np.full(1, NO_LINK, np.int32),
+        "length": np.zeros(1, np.int16),
+        "number": np.full(1, NO_NUMBER, np.int16),
+    }
+
+
+def columns_of(block: Block) -> dict[str, np.ndarray]:
+    """The columns of a block's lines; those of lines that aren't sound are of no use."""
+    count = len(block.ends)
+    columns = {name: np.repeat(column, count) for name, column in columns_of_none().items()}
+    lines = np.flatnonzero(block.fields == 5)
+    kind, side = block.letters(lines, 0), block.letters(lines, 2)
+    lines = lines[np.isin(kind, list(b"FBR")) & np.isin(side, list(b"AB"))]
+    begin, end = block.span(lines, 4)
+    end = end - (block.bytes[end - 1] == RETURN)
+    none = block.bytes[np.minimum(begin, len(block.bytes) - 1)] == ord("-")
+    size = np.where(none, 0, end - begin)
+    raw = block.letters(lines, 0) == ord("R")
+    columns["sound"][lines] = True
+    columns["time"][lines] = block.numbers(lines, 1)
+    columns["side"][lines] = block.letters(lines, 2) - ord("A")
+    columns["length"][lines] = size // 2 + np.where(raw, 0, 4)
+    columns["link"][lines] = links_of(block.bytes, begin, size)
+    behind = np.where(raw, 10, 2)  # digits from the sequence number on
+    columns["number"][lines] = pairs(block.bytes, begin + size - behind, size >= behind, NO_NUMBER)
+    return columns
+
+
+def pairs(text: np.ndarray, at: np.ndarray, there: np.ndarray, other: int) -> np.ndarray:
+    """The bytes that two digits at these places spell; `other` where they aren't there."""
+    at = np.where(there, at, 0)
+    most = len(text) - 1
+    value = DIGIT[text[at]] * 16 + DIGIT[text[np.minimum(at + 1, most)]]
+    return np.where(there, value, other)
+
+
+def links_of(text: np.ndarray, begin: np.ndarray, size: np.ndarray) -> np.ndarray:
+    """The links that the destination addresses name, NO_LINK where they are no link's."""
+    named = size >= 12
+    at = np.where(named, begin, 0)
+    most = len(text) - 1
+    for place, byte in enumerate(CONSTANT):
+        named &= text[np.minimum(at + place, most)] == byte
+    high = pairs(text, at + 8, named, 0)
+    low = pairs(text, at + 10, named, 0)
+    return np.where(named, high * 256 + low, NO_LINK)

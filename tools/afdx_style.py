@@ -1,0 +1,100 @@
+"""How a report looks on light and dark screens and on paper, and its search field."""
+
+STYLE = """
+:root { --ground: #f6f6f4; --sheet: #ffffff; --ink: #1d2126; --muted: #5f6771; --rule: #ececea;
+  --grid: #e4e5e3; --axis: #7d848b; --replayed: #6d9cc9; --median: #174a7c; --bound: #1d2126;
+  --configured: #a3690f; --good: #2c7a51; --bad: #b3362f; --second: #b07a2c;
+  color-scheme: light dark; }
+@media (prefers-color-scheme: dark) {
+:root { --ground: #15171a; --sheet: #1d2024; --ink: #e4e6e8; --muted: #a0a8b1; --rule: #2a2e33;
+  --grid: #2e3237; --axis: #7f8790; --replayed: #4f7fae; --median: #b9dafb; --bound: #f0f1f2;
+  --configured: #d9a441; --good: #63bd8d; --bad: #ec7a72; --second: #c9994e; } }
+* { box-sizing: border-box; }
+body { margin: 0; background: var(--ground); color: var(--ink);
+  font: 14px/1.5 system-ui, -apple-system, "Segoe UI", Roboto, "DejaVu Sans", sans-serif; }
+main { max-width: 1200px; margin: 0 auto; padding: 28px 20px 48px; }
+h1 { font-size: 24px; margin: 0 0 2px; letter-spacing: -.01em; overflow-wrap: anywhere; }
+h2 { font-size: 16px; margin: 0 0 2px; }
+p { margin: 0 0 10px; } .muted { color: var(--muted); fill: var(--muted); }
+header p { color: var(--muted); } nav { margin: 10px 0 0; } nav a { margin-right: 12px; }
+a { color: var(--median); }
+section { background: var(--sheet); border: 1px solid var(--rule); border-radius: 8px;
+  padding: 16px 20px; margin-top: 16px; overflow-x: auto; }
+.answer { display: inline-block; padding: 2px 10px; border-radius: 999px; font-weight: 600;
+  border: 1px solid currentColor; margin: 0 6px 4px 0; }
+.good { color: var(--good); } .bad { color: var(--bad); }
+.cards { display: grid; grid-template-columns: repeat(5, 1fr); gap: 10px; margin: 16px 0 0; }
+@media (max-width: 720px) { .cards { grid-template-columns: repeat(3, 1fr); } }
+.card { background: var(--sheet); border: 1px solid var(--rule); border-radius: 8px;
+  padding: 9px 12px; min-width: 0; display: flex; flex-direction: column-reverse;
+  justify-content: flex-end; }
+.card dd { margin: 0; font-size: 20px; font-weight: 600; font-variant-numeric: tabular-nums;
+  letter-spacing: -.02em; overflow-wrap: anywhere; }
+.card dt { color: var(--muted); font-size: 12.5px; }
+.find { margin-top: 16px; } .find input { font: inherit; padding: 4px 8px; width: 22em;
+  max-width: 100%; }
+.box { max-height: 560px; overflow: auto; }
+table { border-collapse: collapse; font-variant-numeric: tabular-nums; font-size: 12.5px;
+  width: 100%; }
+caption { text-align: left; font-size: 16px; font-weight: 600; padding-bottom: 4px; }
+thead th { text-align: left; font-weight: 600; color: var(--muted); background: var(--sheet);
+  position: sticky; top: 0; vertical-align: bottom; box-shadow: inset 0 -1px var(--axis); }
+th, td { padding: 3px 8px 3px 0; white-space: nowrap; }
+td, tbody th { border-bottom: 1px solid var(--rule); text-align: left; font-weight: 400; }
+thead th { white-space: normal; } td.words { white-space: normal; min-width: 11em; }
+.number, tbody th.number { text-align: right; } tr.late td, tr.late th { color: var(--bad);
+  font-weight: 600; }
+svg { display: block; width: 100%; min-width: 760px; height: auto; margin-top: 8px; }
+svg text { font-size: 12.5px; fill: var(--ink); } svg text.muted { fill: var(--muted); }
+svg text.strong { font-weight: 600; } svg text.bad { fill: var(--bad); font-weight: 600; }
+svg text.small { font-size: 10px; fill: var(--muted); }
+.grid { stroke: var(--grid); } .rule { stroke: var(--rule); } .axis { stroke: var(--axis); }
+.replayed { fill: var(--replayed); } .median { fill: var(--median); }
+.nearly { stroke: var(--median); stroke-width: 1.6; }
+.bound { stroke: var(--bound); stroke-width: 2.4; }
+.margin { stroke: var(--good); stroke-width: 2; stroke-dasharray: 2 3; }
+.short { stroke: var(--bad); stroke-width: 2; stroke-dasharray: 6 3; }
+.late { fill: var(--bad); } .drop { fill: var(--bad); }
+.side-A { fill: var(--replayed); } .side-B { fill: var(--second); }
+.configured { fill: var(--sheet); stroke: var(--configured); stroke-width: 1.8; }
+.reason { fill: none; stroke: var(--bad); stroke-width: 1.8; }
+.accepted { fill: var(--median); } .delivered { fill: var(--good); }
+.passed { fill: var(--sheet); stroke: var(--axis); stroke-width: 1.2; }
+.way { stroke: var(--axis); stroke-width: .6; opacity: .6; }
+footer { color: var(--muted); margin-top: 20px; font-size: 13px; }
+footer code { font-size: 12px; overflow-wrap: anywhere; }
+@page { size: A4 portrait; margin: 12mm; }
+@page wide { size: A4 landscape; margin: 10mm; }
+@media print {
+  :root { --ground: #ffffff; --sheet: #ffffff; --ink: #000000; --muted: #444a52; --rule: #dddddd;
+    --grid: #dddddd; --axis: #666c72; --replayed: #6d9cc9; --median: #174a7c; --bound: #000000;
+    --configured: #a3690f; --good: #2c7a51; --bad: #b3362f; --second: #b07a2c;
+    color-scheme: light; }
+  body { font-size: 11px; } main { max-width: none; padding: 0; }
+  section { overflow: visible; padding: 8px 0; border-width: 1px 0 0; border-radius: 0; }
+  svg { min-width: 0; break-inside: avoid; } h2, caption { break-after: avoid; }
+  nav, .find { display: none; } .box { max-height: none; overflow: visible; }
+  .cards { grid-template-columns: repeat(5, 1fr); gap: 5px; } .card { padding: 3px 8px; }
+  .table { page: wide; } table { font-size: 8.6px; } th, td { padding: 1px 5px 1px 0; }
+  thead th { position: static; } tr { break-inside: avoid; } tr[hidden] { display: table-row; } }
+"""
+
+# Shows of all tables the rows in which each word begins a cell; without it the page works as well.
+SCRIPT = """
+(() => {
+  const find = document.getElementById('find'), told = document.getElementById('found');
+  find.closest('p').hidden = false;
+  let waiting = 0;
+  const look = () => {
+    const words = find.value.toLowerCase().split(' ').filter(word => word);
+    let shown = 0;
+    for (const row of document.querySelectorAll('tbody tr')) {
+      const cells = [...row.cells].map(cell => cell.textContent.toLowerCase());
+      row.hidden = !words.every(word => cells.some(cell => cell.startsWith(word)));
+      shown += !row.hidden;
+    }
+    told.textContent = words.length ? shown + ' rows' : '';
+  };
+  find.addEventListener('input', () => { clearTimeout(waiting); waiting = setTimeout(look, 150); });
+})();
+"""

@@ -1,0 +1,103 @@
+"""Rows as text, CSV and JSON."""
+from __future__ import annotations
+
+import csv
+import json
+import math
+import os
+from typing import Sequence
+
+Row = dict
+NAMES = {
+    "links": "Links: what became of their frames",
+    "latency": "Links, ports and sides: latency in the replay, in ns",
+    "frames": "Frames nearest to their configured latency, or over it",
+    "sides": "Links and sides: sums, missing numbers, gaps and jitter of the arrivals",
+    "skews": "Links: greatest time between the two copies of a frame, in ns",
+    "ports": "Ports: load, greatest backlog in bytes, and frames that left",
+}
+PROVED = (
+    "Proved: each verdict (V), loss (L), departure with its time (D), drop for age (T), message "
+    "(M) and refusal at a receiver (X) is a line of the proved program, and so are the bounds of "
+    "the ports (P) and the answer of admission. On an admitted network no accepted frame is lost, "
+    "and each leaves its port within its link's configured latency; the bound of a port is the "
+    "least latency in ns that admission takes there."
+)
+UNPROMISED = "This network is not admitted, so nothing promises its bounds."
+COUNTED = (
+    "Counted by this report from those lines and the list, and not proved: all sums; latencies in "
+    "the replay (a departure less the arrival of its line) with their percentiles, and which are "
+    "late; backlogs (bytes of frames that wait in an output port, without the one that is being "
+    "sent); loads; gaps, jitter, missing numbers and skews; shares; and the pictures."
+)
+FORMULA = ("=", "+", "-", "@", "\t", "\r")
+
+
+def percent(share: float) -> str:
+    """A share to a tenth of a percent, away from 100 %: only all of it is 100.0%."""
+    tenths = share * 1000
+    if share < 1:
+        return f"{min(math.floor(tenths + 1e-6), 999) / 10:.1f}%"
+    return f"{max(math.ceil(tenths - 1e-6), 1000 + (share > 1)) / 10:.1f}%"
+
+
+def cell(value: object) -> str:
+    """A value as it stands in a table."""
+    if value is None:
+        return "-"
+    if isinstance(value, float):
+        return percent(value)
+    if isinstance(value, dict):
+        return ", ".join(f"{count} {word}" for word, count in value.items()) or "-"
+    return str(value)
+
+
+def heads(rows: Sequence[Row]) -> list[str]:
+    """The names of a table's columns."""
+    return list(rows[0]) if rows else []
+
+
+def as_text(rows: Sequence[Row]) -> str:
+    """Rows as a table of even columns; numbers stand to the right."""
+    if not rows:
+        return "(none)\n"
+    table = [heads(rows)] + [[cell(value) for value in row.values()] for row in rows]
+    widths = [max(len(line[n]) for line in table) for n in range(len(table[0]))]
+    is_number = [isinstance(value, (int, float)) or value is None for value in rows[0].values()]
+    lines = []
+    for line in table:
+        cells = (c.rjust(w) if n else c.ljust(w) for c, w, n in zip(line, widths, is_number))
+        lines.append("  ".join(cells).rstrip() + "\n")
+    return "".join(lines)
+
+
+def plain(value: object) -> object:
+    """A value as it stands in a CSV file: a text that a sheet would take for a formula gets an
+    apostrophe before it; shares are plain fractions."""
+    if value is None:
+        return ""
+    if isinstance(value, dict):
+        value = cell(value) if value else ""
+    if isinstance(value, str) and value.startswith(FORMULA):
+        return "'" + value
+    return value
+
+
+def write_csv(path: str, rows: Sequence[Row]) -> None:
+    """Rows as a CSV file."""
+    with open(path, "w", encoding="utf-8", newline="") as file:
+        writer = csv.writer(file, lineterminator="\n")
+        writer.writerow(heads(rows))
+        for row in rows:
+            writer.writerow([plain(value) for value in row.values()])
+
+
+def write_all(folder: str, report: Row) -> None:
+    """The tables as CSV files, and all of the report as JSON."""
+    for name in NAMES:
+        write_csv(os.path.join(folder, f"{name}.csv"), report[name])
+    if report.get("compared"):
+        write_csv(os.path.join(folder, "compared.csv"), report["compared"]["rows"])
+    with open(os.path.join(folder, "report.json"), "w", encoding="utf-8") as file:
+        json.dump(report, file, indent=1)
+        file.write("\n")
