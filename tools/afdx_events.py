@@ -57,33 +57,32 @@ class Events:
         """Takes the lines of `replay`, and joins them."""
         rest = b""
         for text in blocks_of(file):
-            rest = self.take(rest + text, told)
+            whole = rest + text if rest else text
+            cut = whole.rfind(b"\n", 0, -1) + 1
+            cut = cut if whole[cut] == LETTERS["D"] else len(whole)
+            rest = whole[cut:]  # a departure: the line behind it says what the receiver did
+            if cut:
+                self.take(whole[:cut] if rest else whole, told)
         if rest:
-            self.take(rest, told, last=True)
+            self.take(rest, told)
         joined = {name: np.concatenate([p[name] for p in self.parts]) for name in self.parts[0]}
         self.parts = []
         self.line, self.time, self.port = joined["line"], joined["time"], joined["port"]
         self.fate, self.end = joined["fate"], joined["end"]
 
-    def take(self, text: bytes, told: Callable[[int], None], last: bool = False) -> bytes:
-        """Takes a block's lines. A departure at its end is handed back: the next line, which the
-        next block begins with, says what the receiver did."""
+    def take(self, text: bytes, told: Callable[[int], None]) -> None:
+        """Takes a block's lines."""
         block = Block(text)
-        if block.heads[-1] == LETTERS["D"] and not last:
-            cut = int(block.starts[-1])
-            return self.take(text[:cut], told) + text[cut:] if cut else text
         if not np.isin(block.heads, list(LETTERS.values())).all():
             raise Refused("the program wrote a line that this tool doesn't know")
         lines = self.judged(block)
         if len(lines):
             told(int(lines[-1]))
-        part = none_at_all()
         found = [self.lost(block), self.departed(block), self.old(block)]
-        part = {name: np.concatenate([one[name] for one in found]) for name in part}
-        order = np.argsort(part.pop("at"), kind="stable")
+        part = {name: np.concatenate([one[name] for one in found]) for name in found[0]}
+        order = np.argsort(part["at"], kind="stable")
         self.listing.has(part["line"])
-        self.parts.append({name: column[order] for name, column in part.items()} | {"at": order})
-        return b""
+        self.parts.append({name: column[order] for name, column in part.items()})
 
     def judged(self, block: Block) -> np.ndarray:
         """`V n side accept` or `V n side drop WORD`"""

@@ -27,6 +27,7 @@ from afdx_tables import Row, percent
 # ---- latencies -----------------------------------------------------------------------------
 
 LEFT, RIGHT, ROW = 250, 176, 30
+FIRST, NEXT = 20, 35  # rows of the first picture, and of each behind it
 
 
 def told_latency(row: Row) -> str:
@@ -101,7 +102,8 @@ def latency_legend(bound: str) -> list[str]:
 
 
 def latencies(pairs: Sequence[Sequence[Row]], bound: str) -> str:
-    """Latency in the replay against bound and configured latency: a row for each link at a port."""
+    """Latency in the replay against bound and configured latency: a row for each link at a port. On
+    paper a picture isn't cut, so the first one leaves room for what stands above it."""
     keys = ("least_ns", "bound_ns", "configured_ns", "greatest_ns")
     values = [row[key] for pair in pairs for row in pair for key in keys if row[key]]
     low, high = min(values) * 0.8, max(values) * 1.15
@@ -110,17 +112,27 @@ def latencies(pairs: Sequence[Sequence[Row]], bound: str) -> str:
     def place(ns: float) -> float:
         return LEFT + (WIDTH - LEFT - RIGHT) * math.log(max(ns, low) / low) / span
 
+    ticks = decade_ticks(low, high)
+    shown = [pairs[:FIRST]] + [pairs[n : n + NEXT] for n in range(FIRST, len(pairs), NEXT)]
+    drawn = [latency_part(part, n, ticks, place, bound) for n, part in enumerate(shown)]
+    return "".join(drawn)
+
+
+def latency_part(
+    pairs: Sequence[Sequence[Row]], number: int, ticks: Sequence[float], place, bound: str
+) -> str:
+    """Some of the rows, with an axis of their own."""
     bottom = 40 + ROW * len(pairs)
     parts = latency_legend(bound)
-    for tick in decade_ticks(low, high):
+    for tick in ticks:
         parts.append(line(place(tick), 34, place(tick), bottom, "grid"))
         parts.append(text(place(tick), bottom + 16, in_us(tick), "muted", "middle"))
     parts.append(text(WIDTH - RIGHT + 12, bottom + 16, "us, logarithmic", "muted"))
-    for number, pair in enumerate(pairs):
-        parts += latency_row(pair, 54 + ROW * number, place)
+    for place_of, pair in enumerate(pairs):
+        parts += latency_row(pair, 54 + ROW * place_of, place)
     told = ". ".join(told_latency(row) for pair in pairs for row in pair)
     label = "Latency in the replay of each link beside its bound and its configured latency"
-    return picture("latencies", bottom + 24, parts, label, told)
+    return picture(f"latencies-{number + 1}", bottom + 24, parts, label, told)
 
 
 # ---- histogram -----------------------------------------------------------------------------
@@ -139,7 +151,7 @@ def steps_told(counts: Sequence[int]) -> str:
 def histogram(counts: dict[str, Sequence[int]]) -> str:
     """For both sides the copies by share of the configured latency."""
     most = max(max(series) for series in counts.values())
-    top, bottom, left, right = 30, 190, 66, WIDTH - 30
+    top, bottom, left, right = 30, 190, 84, WIDTH - 30
     decades = max(math.ceil(math.log10(most)), 1) if most else 1
     width = (right - left) / 21
 

@@ -19,7 +19,8 @@ class Block:
     def __init__(self, text: bytes) -> None:
         self.text = text
         self.bytes = np.frombuffer(text, np.uint8)
-        breaks = np.flatnonzero((self.bytes == SPACE) | (self.bytes == LINE_FEED))
+        ends = self.bytes <= SPACE  # a return is the only other one that a list has
+        breaks = np.flatnonzero(ends & (self.bytes != RETURN) if b"\r" in text else ends)
         last = np.flatnonzero(self.bytes[breaks] == LINE_FEED)
         self.breaks = breaks
         self.first = np.concatenate(([0], last[:-1] + 1))  # each line's first break

@@ -24,7 +24,7 @@ section { background: var(--sheet); border: 1px solid var(--rule); border-radius
   border: 1px solid currentColor; margin: 0 6px 4px 0; }
 .good { color: var(--good); } .bad { color: var(--bad); }
 .cards { display: grid; grid-template-columns: repeat(5, 1fr); gap: 10px; margin: 16px 0 0; }
-@media (max-width: 720px) { .cards { grid-template-columns: repeat(3, 1fr); } }
+@media (max-width: 720px) { .cards { grid-template-columns: repeat(2, 1fr); } }
 .card { background: var(--sheet); border: 1px solid var(--rule); border-radius: 8px;
   padding: 9px 12px; min-width: 0; display: flex; flex-direction: column-reverse;
   justify-content: flex-end; }
@@ -72,7 +72,7 @@ footer code { font-size: 12px; overflow-wrap: anywhere; }
     color-scheme: light; }
   body { font-size: 11px; } main { max-width: none; padding: 0; }
   section { overflow: visible; padding: 8px 0; border-width: 1px 0 0; border-radius: 0; }
-  svg { min-width: 0; break-inside: avoid; } h2, caption { break-after: avoid; }
+  svg { min-width: 0; break-inside: avoid; } h2, section > p, caption { break-after: avoid; }
   nav, .find { display: none; } .box { max-height: none; overflow: visible; }
   .cards { grid-template-columns: repeat(5, 1fr); gap: 5px; } .card { padding: 3px 8px; }
   .table { page: wide; } table { font-size: 8.6px; } th, td { padding: 1px 5px 1px 0; }

@@ -99,5 +99,5 @@ def write_all(folder: str, report: Row) -> None:
     if report.get("compared"):
         write_csv(os.path.join(folder, "compared.csv"), report["compared"]["rows"])
     with open(os.path.join(folder, "report.json"), "w", encoding="utf-8") as file:
-        json.dump(report, file, indent=1)
-        file.write("\n")
+        parts = (f"{json.dumps(name)}: {json.dumps(value)}" for name, value in report.items())
+        file.write("{" + ",\n".join(parts) + "}\n")
