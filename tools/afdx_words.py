@@ -9,7 +9,7 @@ import stat
 import sys
 import tempfile
 import time
-from typing import Callable, Iterator, NoReturn
+from typing import IO, Callable, Iterator, NoReturn
 
 from afdx_tools import Refused, leave
 
@@ -47,23 +47,28 @@ def as_file(path: str) -> str:
 
 
 @contextlib.contextmanager
-def at_hand(path: str, suffix: str) -> Iterator[str]:
-    """A file that can be read more than once: `-` is standard input; a copy where it is a pipe."""
-    if path != "-":
-        mode = os.stat(path).st_mode
-        if stat.S_ISDIR(mode):
-            raise Refused(f"{shown(path)} is a folder")
-        if stat.S_ISREG(mode):
-            yield as_file(path)
-            return
-    with tempfile.NamedTemporaryFile(suffix=suffix) as copy:
-        if path == "-":
-            shutil.copyfileobj(sys.stdin.buffer, copy)
+def at_hand(path: str, name: str) -> Iterator[str]:
+    """A file that can be read more than once, under a name that the program takes: `-` is standard
+    input; a copy where it is a pipe, a link where its name isn't UTF-8."""
+    regular = path != "-" and stat.S_ISREG(os.stat(path).st_mode)
+    if path != "-" and os.path.isdir(path):
+        raise Refused(f"{shown(path)} is a folder")
+    if regular and path.isprintable():
+        yield as_file(path)
+        return
+    with tempfile.TemporaryDirectory() as folder:
+        near = os.path.join(folder, name)
+        if regular:
+            os.symlink(os.path.abspath(path), near)
         else:
-            with open(path, "rb") as file:
+            with open(near, "wb") as copy, source_of(path) as file:
                 shutil.copyfileobj(file, copy)
-        copy.flush()
-        yield copy.name
+        yield near
+
+
+def source_of(path: str) -> IO[bytes]:
+    """A file, or standard input."""
+    return os.fdopen(os.dup(0), "rb") if path == "-" else open(path, "rb")
 
 
 class Progress:

@@ -5,6 +5,16 @@
 # ---- the report ----------------------------------------------------------------------------
 
 if [[ -x $program ]]; then built=1; else built=; fi
+reporting=$built
+if ! "$python" -c 'import numpy' 2>"$work/err"; then reporting=; fi
+
+wants_cases() { # JUNIT WANTED : how many test cases, errors, failures
+    local got
+    got=$("$python" -c 'import sys, xml.etree.ElementTree as xml
+root = xml.parse(sys.argv[1]).getroot()
+print(*(len(root.findall(".//" + name)) for name in ("testcase", "error", "failure")))' "$1")
+    if [[ $got != "$2" ]]; then echo "cases, errors and failures are $got, wanted $2"; fi
+}
 
 json_of() { # FILE EXPRESSION : a Python expression over the report `r`
     "$python" -c 'import json, sys; r = json.load(open(sys.argv[1])); print(eval(sys.argv[2]))' \
@@ -174,7 +184,7 @@ chromium_test() {
     )"
 }
 
-if [[ -n $built ]]; then
+if [[ -n $reporting ]]; then
     report_tests
     counted_tests
     time_line_tests
@@ -187,5 +197,5 @@ if [[ -n $built ]]; then
         skip 'a browser shows the page' 'there is no chromium'
     fi
 else
-    skip 'reports' "there is no program $program"
+    skip 'reports' "there is no program $program, or no numpy (apt-get install python3-numpy)"
 fi
