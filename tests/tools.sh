@@ -67,8 +67,8 @@ done
 launch env AFDX=/nowhere tools/afdx-report examples/base.toml examples/one_link.list
 tell 'a program that is not there' "$(is_status 4; says err '/nowhere')"
 
-parts="recordings report hardening capture_faults wireshark completion around campaigns package"
-for part in $parts; do
+parts="recordings report hardening criteria page capture_faults wireshark completion around"
+for part in $parts campaigns package; do
     # shellcheck source=/dev/null
     source "$top/tests/tools/$part.sh"
 done

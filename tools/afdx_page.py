@@ -258,7 +258,7 @@ def page(report: Row, counting: Counting, args: argparse.Namespace) -> str:
         pictures(report, counting, args),
         compared_sections(report),
         "<p class='find' hidden><label>Find rows <input id='find' type='search' "
-        "placeholder='numbers or names, as 304 A'></label> <span id='found' role='status'></span>"
+        "placeholder='links and names, as 304 A'></label> <span id='found' role='status'></span>"
         "</p>",
     ]
     parts += [table_section(name, head, report[name]) for name, head in NAMES.items()]

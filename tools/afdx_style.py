@@ -2,7 +2,7 @@
 
 STYLE = """
 :root { --ground: #f6f6f4; --sheet: #ffffff; --ink: #1d2126; --muted: #5f6771; --rule: #ececea;
-  --grid: #e4e5e3; --axis: #7d848b; --replayed: #6d9cc9; --median: #174a7c; --bound: #1d2126;
+  --grid: #e4e5e3; --axis: #7d848b; --replayed: #5f90bf; --median: #174a7c; --bound: #1d2126;
   --configured: #a3690f; --good: #2c7a51; --bad: #b3362f; --second: #b07a2c;
   color-scheme: light dark; }
 @media (prefers-color-scheme: dark) {
@@ -67,7 +67,7 @@ footer code { font-size: 12px; overflow-wrap: anywhere; }
 @page wide { size: A4 landscape; margin: 10mm; }
 @media print {
   :root { --ground: #ffffff; --sheet: #ffffff; --ink: #000000; --muted: #444a52; --rule: #dddddd;
-    --grid: #dddddd; --axis: #666c72; --replayed: #6d9cc9; --median: #174a7c; --bound: #000000;
+    --grid: #dddddd; --axis: #666c72; --replayed: #5f90bf; --median: #174a7c; --bound: #000000;
     --configured: #a3690f; --good: #2c7a51; --bad: #b3362f; --second: #b07a2c;
     color-scheme: light; }
   body { font-size: 11px; } main { max-width: none; padding: 0; }
@@ -79,7 +79,8 @@ footer code { font-size: 12px; overflow-wrap: anywhere; }
   thead th { position: static; } tr { break-inside: avoid; } tr[hidden] { display: table-row; } }
 """
 
-# Shows of all tables the rows in which each word begins a cell; without it the page works as well.
+# Shows of all tables the rows that have each word: a number as the row's head or another name, a
+# word at the begin of one. Without it the page works as well.
 SCRIPT = """
 (() => {
   const find = document.getElementById('find'), told = document.getElementById('found');
@@ -89,8 +90,10 @@ SCRIPT = """
     const words = find.value.toLowerCase().split(' ').filter(word => word);
     let shown = 0;
     for (const row of document.querySelectorAll('tbody tr')) {
-      const cells = [...row.cells].map(cell => cell.textContent.toLowerCase());
-      row.hidden = !words.every(word => cells.some(cell => cell.startsWith(word)));
+      const names = [...row.cells].filter(cell => cell.scope || cell.className !== 'number')
+        .map(cell => cell.textContent.toLowerCase());
+      row.hidden = !words.every(word => names.some(
+        name => /^[0-9]+$/.test(word) ? name === word : name.startsWith(word)));
       shown += !row.hidden;
     }
     told.textContent = words.length ? shown + ' rows' : '';

@@ -20,10 +20,6 @@ print(repr(list(csv.reader(open(sys.argv[1], newline="")))[int(sys.argv[2])][int
         "$1" "$2" "$3"
 }
 
-wants_text() { # GOT WANTED WHAT
-    if [[ $1 != "$2" ]]; then echo "$3: '$1', wanted '$2'"; fi
-}
-
 odd_name_tests() {
     mkdir -p "$odd"
     cp examples/base.toml "$odd/base {}.toml"

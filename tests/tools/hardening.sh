@@ -96,7 +96,8 @@ file_tests() {
     )"
     mkdir -p "$work/lacking"
     echo 'raise ModuleNotFoundError' >"$work/lacking/numpy.py"
-    launch env PYTHONPATH="$work/lacking" tools/afdx-report examples/base.toml examples/one_link.list
+    launch env PYTHONPATH="$work/lacking" tools/afdx-report examples/base.toml \
+        examples/one_link.list
     tell 'without numpy' "$(is_status 4; one_line; says err 'apt-get install python3-numpy')"
 }
 

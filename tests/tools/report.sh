@@ -8,6 +8,10 @@ if [[ -x $program ]]; then built=1; else built=; fi
 reporting=$built
 if ! "$python" -c 'import numpy' 2>"$work/err"; then reporting=; fi
 
+wants_text() { # GOT WANTED WHAT
+    if [[ $1 != "$2" ]]; then echo "$3: '$1', wanted '$2'"; fi
+}
+
 wants_cases() { # JUNIT WANTED : how many test cases, errors, failures
     local got
     got=$("$python" -c 'import sys, xml.etree.ElementTree as xml
@@ -89,6 +93,10 @@ counted_tests() { # the tool's sums against sums made another way
     tell 'latencies and backlogs, counted another way' "$(
         "$python" tests/counted_again.py examples/network.toml "$work/sample.list" \
             "$work/lines" "$json"
+    )"
+    tell 'gaps, jitter, missing numbers, skews and loads, counted another way' "$(
+        "$python" tests/traffic_again.py examples/network.toml "$work/sample.list" "$work/lines" \
+            "$json"
     )"
     tell 'no latency is over its bound, no backlog either' "$(
         wants_number "$json" 'max(l["greatest_ns"] - l["bound_ns"] for l in r["latency"]) <= 0' True

@@ -1,0 +1,66 @@
+# Tests of a report's page: for ears, on paper, in a browser; a part of tests/tools.sh.
+# shellcheck shell=bash
+# shellcheck disable=SC2154  # what it uses is set by tests/tools.sh, which sources it
+
+parts_tests() { # of the sample of counted_tests
+    launch tools/afdx-report examples/network.toml "$work/sample.list" --link 501 --link 101 \
+        --link 9 --out "$work/timelines"
+    tell 'time lines of several links' "$(
+        is_status 0
+        for words in 'Time line of link 501' 'Time line of link 101' 'It has no frames there'; do
+            if ! grep -q "$words" "$work/timelines/report.html"; then echo "no '$words'"; fi
+        done
+        "$python" tests/well_formed.py "$work/timelines/report.html"
+    )"
+    tell 'captions, heads, labels, anchors and colours' "$(
+        "$python" tests/page_parts.py "$work/timelines/report.html"
+        "$python" tests/page_parts.py "$work/late/report.html"
+    )"
+    tell 'no latency is called seen' "$(
+        grep -niE '\bseen\b' "$work/timelines/report.html" "$work/timelines"/*.csv README.md \
+            docs/TOOLS.md | head -n 3
+    )"
+}
+
+paper_test() {
+    launch chromium --headless --no-sandbox --disable-gpu --no-pdf-header-footer \
+        --print-to-pdf="$work/page.pdf" "file://$work/timelines/report.html"
+    pdftotext -layout "$work/page.pdf" "$work/page.txt"
+    tell 'on paper all rows stand, and all columns' "$(
+        for name in links latency sides ports; do
+            last=$(tail -n 1 "$work/timelines/$name.csv" | cut -d , -f 1)
+            if ! grep -qE "^ *$last " "$work/page.txt"; then echo "no row $last of $name"; fi
+        done
+        for words in 'share +late$' 'table jitter|jitter +ns$' 'bound +buffer$' 'of configured$'; do
+            if ! grep -qE "$words" "$work/page.txt"; then echo "no '$words'"; fi
+        done
+        pdftotext -f 1 -l 1 -layout "$work/page.pdf" "$work/first.txt"
+        if [[ $(grep -c 'of configured$' "$work/first.txt") -lt 10 ]]; then
+            echo 'page 1 is nearly empty'
+        fi
+    )"
+}
+
+find_test() { # the search field finds the rows of a link
+    local typed='const field = document.getElementById("find"); field.value = "501";'
+    typed+='field.dispatchEvent(new Event("input"))'
+    sed "s|</body>|<script>$typed</script></body>|" "$work/timelines/report.html" \
+        >"$work/find.html"
+    launch chromium --headless --no-sandbox --disable-gpu --virtual-time-budget=3000 --dump-dom \
+        "file://$work/find.html"
+    cat "$work/timelines"/{links,latency,frames,sides,skews}.csv | grep -c '^501,' >"$work/wanted"
+    grep -oE 'id="found"[^>]*>[^<]*' "$work/out" | grep -oE '[0-9]+ rows' >"$work/got"
+    tell 'the search field' "$(wants_text "$(<"$work/got")" "$(<"$work/wanted") rows" 'found')"
+}
+
+if [[ -n $reporting ]]; then
+    parts_tests
+    if has chromium && has pdftotext; then
+        paper_test
+        find_test
+    else
+        skip 'the page on paper' 'there is no chromium, or no pdftotext (poppler-utils)'
+    fi
+else
+    skip 'pages' "there is no program $program, or no numpy"
+fi
