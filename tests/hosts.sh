@@ -65,7 +65,8 @@ up() { # FOLDER HIDDEN
     done
     ip netns add "try.$$" 2>/dev/null || lacking 'network namespaces are not allowed here'
     ip netns del "try.$$"
-    mkdir -m 700 -p "$1"
+    mkdir -p "$1"
+    chmod 700 "$1"
     keys "$1"
     machine "$1" "$2" one 1
     machine "$1" "$2" two 2

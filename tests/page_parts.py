@@ -2,9 +2,9 @@
 
     tests/page_parts.py PAGE
 
-Each table has a caption and heads with a scope, each picture a label and its numbers, each anchor a
-place, each id one element; each colour of a picture stands out from the sheet by 3 to 1, each colour
-of a text by 4.5 to 1, on light and dark screens and on paper.
+Each table has a caption and heads with a scope, each picture a label and its numbers, each anchor
+a place, each id one element; each colour of a picture stands out from the sheet by 3 to 1, each
+colour of a text by 4.5 to 1, on light and dark screens and on paper.
 """
 import re
 import sys

@@ -123,7 +123,7 @@ class Counting:
         at = np.flatnonzero(self.left)
         keys = (self.links[at].astype(np.int64) * MOST_PORTS + self.events.port[at]) * 2
         keys += self.sides[at]
-        order = np.lexsort((self.latency[at], keys))
+        order = sorted_by(keys, self.latency[at])
         keys, at = keys[order], at[order]
         bounds = np.flatnonzero(np.diff(keys, prepend=-1, append=-1))
         latency, late = self.latency[at], self.late[at]
@@ -173,6 +173,13 @@ class Counting:
         return steps, found
 
 
+def sorted_by(keys: np.ndarray, values: np.ndarray) -> np.ndarray:
+    """The order by keys (below 2 ** 18), then by values; equal ones as they stand."""
+    if values.max(initial=0) < 1 << 44:
+        return np.argsort(keys << 44 | values, kind="stable")  # one sort, not two
+    return np.lexsort((values, keys))
+
+
 def tally(keys: np.ndarray, kinds: np.ndarray, key_count: int, kind_count: int) -> np.ndarray:
     """How often each kind comes with each key."""
     both = keys.astype(np.int64) * kind_count + kinds
@@ -184,12 +191,13 @@ def most_waiting(put: np.ndarray, begun: np.ndarray, length: np.ndarray) -> tupl
     is put until it is begun, at both moments too."""
     if not len(put):
         return 0, 0
-    times = np.concatenate((put, begun))
-    change = np.concatenate((length, -length))
-    order = np.lexsort((change < 0, times))
-    waiting = np.cumsum(change[order])
+    coming, going = np.argsort(put, kind="stable"), np.argsort(begun, kind="stable")
+    times = put[coming]
+    gone = np.concatenate(([0], np.cumsum(length[going])))
+    before = np.searchsorted(begun[going], times, side="left")  # how many were begun earlier
+    waiting = np.cumsum(length[coming]) - gone[before]
     most = int(np.argmax(waiting))
-    return int(waiting[most]), int(times[order][most])
+    return int(waiting[most]), int(times[most])
 
 
 def loads_of(

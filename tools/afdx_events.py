@@ -5,7 +5,7 @@ from typing import IO, Callable
 
 import numpy as np
 
-from afdx_lines import Block, blocks_of
+from afdx_lines import SPACE, Block, blocks_of
 from afdx_listing import SIDES, Listing
 from afdx_tools import Refused
 
@@ -26,6 +26,7 @@ VERDICTS = (
 )
 NOT_YET = -1  # stands for a line without a verdict, and for a departure without a receiver's line
 LETTERS = {letter: ord(letter) for letter in "VLDTMX"}
+KNOWN = np.isin(np.arange(256), list(LETTERS.values()))
 
 
 class Words:
@@ -73,7 +74,7 @@ class Events:
     def take(self, text: bytes, told: Callable[[int], None]) -> None:
         """Takes a block's lines."""
         block = Block(text)
-        if not np.isin(block.heads, list(LETTERS.values())).all():
+        if not KNOWN[block.heads].all():
             raise Refused("the program wrote a line that this tool doesn't know")
         lines = self.judged(block)
         if len(lines):
@@ -87,11 +88,12 @@ class Events:
     def judged(self, block: Block) -> np.ndarray:
         """`V n side accept` or `V n side drop WORD`"""
         at = np.flatnonzero(block.heads == LETTERS["V"])
-        lines = block.numbers(at, 1)
+        lines, _ = block.numbers(block.starts[at] + 2)
         self.listing.has(lines)
         verdict = np.zeros(len(at), np.int8)
-        dropped = np.flatnonzero(block.fields[at] == 5)
-        names, places = block.words(at[dropped], 4)
+        before = block.ends[at] - len(ACCEPT) - 1  # a space, where the word is as long as that
+        dropped = np.flatnonzero(block.bytes[before] != SPACE)
+        names, places = block.last_words(at[dropped])
         verdict[dropped] = self.verdicts.of(names)[places]
         self.verdict[lines] = verdict
         return lines
@@ -99,25 +101,23 @@ class Events:
     def lost(self, block: Block) -> dict[str, np.ndarray]:
         """`L n side port`: the time is that of the list's line."""
         at = np.flatnonzero(block.heads == LETTERS["L"])
-        line = block.numbers(at, 1)
+        line, end = block.numbers(block.starts[at] + 2)
         self.listing.has(line)
-        return copies(at, line, self.listing.time[line], block.numbers(at, 3), LOST)
+        port, _ = block.numbers(end + 3)
+        return copies(at, line, self.listing.time[line], port, LOST)
 
     def old(self, block: Block) -> dict[str, np.ndarray]:
         """`T n time side port`"""
-        at = np.flatnonzero(block.heads == LETTERS["T"])
-        times, ports = block.numbers(at, 2), block.numbers(at, 4)
-        return copies(at, block.numbers(at, 1), times, ports, OLD)
+        return ended(block, "T", OLD)
 
     def departed(self, block: Block) -> dict[str, np.ndarray]:
         """`D n time side port`, and what the line behind it says: M, or X with its word."""
-        at = np.flatnonzero(block.heads == LETTERS["D"])
-        part = copies(at, block.numbers(at, 1), block.numbers(at, 2), block.numbers(at, 4), LEFT)
-        behind = np.minimum(at + 1, len(block.heads) - 1)
+        part = ended(block, "D", LEFT)
+        behind = np.minimum(part["at"] + 1, len(block.heads) - 1)
         heads = block.heads[behind]
         part["end"][heads == LETTERS["M"]] = 0
         refused = np.flatnonzero(heads == LETTERS["X"])
-        names, places = block.words(behind[refused], 4)
+        names, places = block.last_words(behind[refused])
         part["end"][refused] = self.ends.of(names)[places]
         return part
 
@@ -137,6 +137,15 @@ class Events:
 def side_name(side: int) -> str:
     """A or B."""
     return SIDES[side]
+
+
+def ended(block: Block, letter: str, fate: str) -> dict[str, np.ndarray]:
+    """The copies of the lines `LETTER n time side port`."""
+    at = np.flatnonzero(block.heads == LETTERS[letter])
+    line, end = block.numbers(block.starts[at] + 2)
+    time, end = block.numbers(end + 1)
+    port, _ = block.numbers(end + 3)
+    return copies(at, line, time, port, fate)
 
 
 def none_at_all() -> dict[str, np.ndarray]:

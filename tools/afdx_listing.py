@@ -2,16 +2,17 @@
 from __future__ import annotations
 
 import hashlib
-from typing import IO, Callable, Iterable, Iterator
+from typing import IO, Callable
 
 import numpy as np
 
-from afdx_lines import RETURN, Block, blocks_of
+from afdx_lines import RETURN, SPACE, Block, blocks_of
 from afdx_tools import MOST_LINES, Refused
 
 NO_LINK = -1  # stands for frames that name no link of the configuration
 NO_NUMBER = -1  # stands for frames too short for a sequence number
 SIDES = "AB"
+KINDS = np.isin(np.arange(256), list(b"FBR"))
 CONSTANT = np.frombuffer(b"03000000", np.uint8)
 DIGIT = np.full(256, 0, np.int32)
 DIGIT[np.frombuffer(b"0123456789", np.uint8)] = range(10)
@@ -26,7 +27,7 @@ class Listing:
         digest = hashlib.sha256()
         parts: list[dict[str, np.ndarray]] = [columns_of_none()]
         lines = 0
-        for text in hashed(blocks_of(file), digest.update):
+        for text in blocks_of(Hashed(file, digest.update)):
             if lines <= MOST_LINES:  # the program reads no further
                 part = columns_of(Block(text))
                 parts.append(part)
@@ -50,11 +51,17 @@ class Listing:
             raise Refused(f"line {wrong[0]} of the list is gone: did the list change meanwhile?")
 
 
-def hashed(texts: Iterable[bytes], update: Callable[[bytes], None]) -> Iterator[bytes]:
-    """The texts, each handed to `update` as well."""
-    for text in texts:
-        update(text)
-        yield text
+class Hashed:
+    """A file whose bytes, as they are read, are handed to `update` as well."""
+
+    def __init__(self, file: IO[bytes], update: Callable[[bytes], None]) -> None:
+        self.file, self.update = file, update
+
+    def read(self, most: int) -> bytes:
+        """Some bytes of the file."""
+        part = self.file.read(most)
+        self.update(part)
+        return part
 
 
 def columns_of_none() -> dict[str, np.ndarray]:
@@ -73,17 +80,21 @@ def columns_of(block: Block) -> dict[str, np.ndarray]:
     """The columns of a block's lines; those of lines that aren't sound are of no use."""
     count = len(block.ends)
     columns = {name: np.repeat(column, count) for name, column in columns_of_none().items()}
-    lines = np.flatnonzero(block.fields == 5)
-    kind, side = block.letters(lines, 0), block.letters(lines, 2)
-    lines = lines[np.isin(kind, list(b"FBR")) & np.isin(side, list(b"AB"))]
-    begin, end = block.span(lines, 4)
+    lines = np.flatnonzero(KINDS[block.heads] & (block.at(block.starts + 1) == SPACE))
+    time, after = block.numbers(block.starts[lines] + 2)
+    side = block.at(after + 1) - np.uint8(ord("A"))
+    _, blank = block.numbers(after + 3)
+    begin, end = blank + 1, block.ends[lines]
     end = end - (block.bytes[end - 1] == RETURN)
-    none = block.bytes[np.minimum(begin, len(block.bytes) - 1)] == ord("-")
-    size = np.where(none, 0, end - begin)
-    raw = block.letters(lines, 0) == ord("R")
+    sound = (side <= 1) & (begin < end)
+    for place in (after, after + 2, blank):
+        sound &= block.at(place) == SPACE
+    lines, time, side, begin, end = (part[sound] for part in (lines, time, side, begin, end))
+    size = np.where(block.at(begin) == ord("-"), 0, end - begin)
+    raw = block.heads[lines] == ord("R")
     columns["sound"][lines] = True
-    columns["time"][lines] = block.numbers(lines, 1)
-    columns["side"][lines] = block.letters(lines, 2) - ord("A")
+    columns["time"][lines] = time
+    columns["side"][lines] = side
     columns["length"][lines] = size // 2 + np.where(raw, 0, 4)
     columns["link"][lines] = links_of(block.bytes, begin, size)
     behind = np.where(raw, 10, 2)  # digits from the sequence number on
