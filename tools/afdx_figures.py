@@ -158,8 +158,8 @@ def histogram(counts: dict[str, Sequence[int]]) -> str:
     def place(count: float) -> float:
         return bottom - (bottom - top - 14) * (math.log10(count) + 0.35) / (decades + 0.35)
 
-    parts = [box(left, 4, 10, 10, "side-A"), text(left + 16, 14, "side A")]
-    parts += [box(left + 84, 4, 10, 10, "side-B"), text(left + 100, 14, "side B")]
+    parts = [box(left, 4, 10, 10, "side-A"), text(left + 16, 14, "side A, left")]
+    parts += [box(left + 114, 4, 10, 10, "side-B"), text(left + 130, 14, "side B, right")]
     for power in range(decades + 1):
         parts.append(line(left, place(10**power), right, place(10**power), "grid"))
         parts.append(text(left - 8, place(10**power) + 4, f"{10**power:,}", "muted", "end"))

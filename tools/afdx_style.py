@@ -42,6 +42,7 @@ thead th { text-align: left; font-weight: 600; color: var(--muted); background: 
 th, td { padding: 3px 8px 3px 0; white-space: nowrap; }
 td, tbody th { border-bottom: 1px solid var(--rule); text-align: left; font-weight: 400; }
 thead th { white-space: normal; } td.words { white-space: normal; min-width: 11em; }
+th.words, td.words { padding-left: 10px; }
 .number, tbody th.number { text-align: right; } tr.late td, tr.late th { color: var(--bad);
   font-weight: 600; }
 svg { display: block; width: 100%; min-width: 760px; height: auto; margin-top: 8px; }
@@ -76,7 +77,8 @@ footer code { font-size: 12px; overflow-wrap: anywhere; }
   nav, .find { display: none; } .box { max-height: none; overflow: visible; }
   .cards { grid-template-columns: repeat(5, 1fr); gap: 5px; } .card { padding: 3px 8px; }
   .table { page: wide; } table { font-size: 8.6px; } th, td { padding: 1px 5px 1px 0; }
-  thead th { position: static; } tr { break-inside: avoid; } tr[hidden] { display: table-row; } }
+  thead th { position: static; box-shadow: none; border-bottom: 1px solid var(--axis); }
+  tr { break-inside: avoid; } tr[hidden] { display: table-row; } }
 """
 
 # Shows of all tables the rows that have each word: a number as the row's head or another name, a

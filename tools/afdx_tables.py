@@ -34,8 +34,10 @@ FORMULA = ("=", "+", "-", "@", "\t", "\r")
 
 
 def percent(share: float) -> str:
-    """A share to a tenth of a percent, away from 100 %: only all of it is 100.0%."""
+    """A share to a tenth of a percent, away from 0 and 100 %: only all of it is 100.0%."""
     tenths = share * 1000
+    if 0 < share < 0.001:
+        return "<0.1%"
     if share < 1:
         return f"{min(math.floor(tenths + 1e-6), 999) / 10:.1f}%"
     return f"{max(math.ceil(tenths - 1e-6), 1000 + (share > 1)) / 10:.1f}%"

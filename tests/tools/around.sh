@@ -47,8 +47,8 @@ campaign_tests() {
     )"
 }
 
-if [[ -z $built ]]; then
-    skip 'campaigns' "there is no program $program"
+if [[ -z $reporting ]]; then
+    skip 'campaigns' "there is no program $program, or no numpy"
 elif has parallel; then
     campaign_tests
 else
@@ -92,11 +92,14 @@ install_tests() {
             if [[ ! -s $prefix/$file ]]; then echo "no $file"; fi
         done
     )"
-    launch env -u AFDX "$prefix/bin/afdx-report" examples/base.toml examples/one_link.list --json
-    tell 'an installed tool finds the installed program' "$(
-        is_status 0
-        wants_number "$work/out" 'r["totals"]["frames"]' 3
-    )"
+    if [[ -n $reporting ]]; then
+        launch env -u AFDX "$prefix/bin/afdx-report" examples/base.toml examples/one_link.list \
+            --json
+        tell 'an installed tool finds the installed program' "$(
+            is_status 0
+            wants_number "$work/out" 'r["totals"]["frames"]' 3
+        )"
+    fi
     launch "$prefix/bin/afdx-capture" --version
     tell 'an installed tool knows its version' "$(
         is_status 0
@@ -129,6 +132,7 @@ guide_tests() {
     if "$program" send --help >"$work/out" 2>&1; then HAS+=' send'; fi
     if [[ -n $dpkt ]]; then HAS+=' capture'; fi
     if has tshark; then HAS+=' tshark'; fi
+    if [[ -n $reporting ]]; then HAS+=' report'; fi
     export HAS
     env -u AFDX PATH="$work/prefix/bin:$PATH" "$python" tests/guide.py docs/GUIDE.md "$folder" \
         >"$work/guide.out" 2>&1

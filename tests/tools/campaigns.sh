@@ -129,7 +129,7 @@ without_rsync_test() {
     tell 'transfer says that it wants rsync' "$(is_status 2; says err 'wants rsync')"
 }
 
-if [[ -n $built ]] && has parallel; then
+if [[ -n $reporting ]] && has parallel; then
     odd_name_tests
     criteria_campaign_tests
     without_rsync_test
@@ -139,5 +139,5 @@ if [[ -n $built ]] && has parallel; then
         skip 'campaigns on other machines' 'there is no rsync (apt-get install rsync)'
     fi
 else
-    skip 'more campaigns' 'there is no program, or no GNU parallel'
+    skip 'more campaigns' 'there is no program, no numpy, or no GNU parallel'
 fi
