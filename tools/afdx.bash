@@ -145,27 +145,34 @@ _afdx_capture() {
 _afdx_report() {
     local given before
     COMPREPLY=()
-    _afdx_read 1 --out --link --from --rows --title
+    _afdx_read 1 --out --link --from --rows --worst --compare --title --fail-on --junit
     if _afdx_is_option; then
-        _afdx_words --out --no-admission --link --from --rows --title --json --help
+        _afdx_words --out --no-admission --link --from --rows --worst --compare --title --json \
+            --fail-on --junit --help
         return
     fi
     case $before.${#given[@]} in
         .0) _afdx_files toml ;;
         .1) _afdx_files list ;;
         --out.*) _afdx_folders ;;
+        --compare.*) _afdx_files json ;;
+        --fail-on.*) _afdx_words dropped lost late too-old refused ;;
+        --junit.*) _afdx_files xml ;;
     esac
 }
 
 _afdx_campaign() {
     local given before
     COMPREPLY=()
-    _afdx_read 1 --out -j --jobs -S --sshlogin
+    _afdx_read 1 --out -j --jobs -S --sshlogin --fail-on --junit
     if _afdx_is_option; then
-        _afdx_words --out --no-admission --pages --jobs --resume --sshlogin --transfer --help
+        _afdx_words --out --no-admission --pages --jobs --resume --sshlogin --transfer --fail-on \
+            --junit --help
         return
     fi
     case $before.${#given[@]} in
+        --fail-on.*) _afdx_words dropped lost late too-old refused ;;
+        --junit.*) _afdx_files xml ;;
         .0) _afdx_files toml ;;
         .*) _afdx_files list ;;
         --out.*) _afdx_folders ;;

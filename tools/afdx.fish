@@ -110,6 +110,9 @@ for tool in afdx-report afdx-campaign
     complete -c $tool -f
     complete -c $tool -l help -d 'Print help and leave'
     complete -c $tool -l no-admission -d 'Also where the network is refused'
+    complete -c $tool -x -l fail-on -d 'Status 6 where one of these is not 0' \
+        -a 'dropped lost late too-old refused'
+    complete -c $tool -r -l junit -d 'Write each criterion as a JUnit test case'
     complete -c $tool -x -l out -a '(__fish_complete_directories)' -d 'The folder of the output'
     complete -c $tool -n '__afdx_at - 0 0' -a '(__afdx_files toml)'
 end
@@ -117,6 +120,8 @@ complete -c afdx-report -n '__afdx_at - 1 1' -a '(__afdx_files list)'
 complete -c afdx-report -x -l link -d 'The link of the time line'
 complete -c afdx-report -x -l from -d 'Where the time line begins, in ns'
 complete -c afdx-report -x -l rows -d 'Links in the picture of latencies'
+complete -c afdx-report -x -l worst -d 'Frames nearest to their latency'
+complete -c afdx-report -r -l compare -d 'The report.json of a run to compare with'
 complete -c afdx-report -x -l title -d 'The title of the page'
 complete -c afdx-report -l json -d 'Print the JSON instead of the text'
 complete -c afdx-campaign -n '__afdx_at - 1 1000000' -a '(__afdx_files list)'

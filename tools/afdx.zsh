@@ -85,7 +85,11 @@ case $service in
             '--link[the link of the time line]:number:' \
             '--from[where the time line begins]:ns:' \
             '--rows[links in the picture of latencies]:number:' \
+            '--worst[frames in the table of those nearest to their latency]:number:' \
+            '--compare[the report.json of a run to compare with]:file:_files' \
             '--title[the title of the page]:title:' \
+            '--fail-on[status 6 where one of these is not 0]:words:' \
+            '--junit[write each criterion as a JUnit test case]:file:_files' \
             '--json[print the JSON instead of the text]' ":$config" ":$list"
         ;;
     afdx-campaign)
@@ -94,6 +98,8 @@ case $service in
             '--pages[a page for each run too]' {-j,--jobs}'[runs at a time]:number:' \
             '--resume[only the lists that have not been run]' \
             '*'{-S,--sshlogin}'[run on this machine too]:login:' \
+            '--fail-on[status 6 where one of these is not 0]:words:' \
+            '--junit[write each criterion as a JUnit test case]:file:_files' \
             '--transfer[copy lists and configuration there first]' ":$config" "*:$list"
         ;;
 esac
