@@ -9,5 +9,5 @@ mod lines;
 mod sums;
 
 pub use admitted::{Admitted, admit};
-pub use bounds::{PortBounds, bounds_of};
+pub use bounds::{PortBounds, bounds_of, buffer_need, high_bound, low_bound};
 pub use fault::{AdmitFault, AdmitText};

@@ -32,7 +32,7 @@ use Rattle.afdx_promises.specs.Sent.{arrivals_at}
 use Rattle.afdx_promises.proofs.ExampleLemmas as base
 use Rattle.afdx_promises.proofs.PortLemmas.{its-turns}
 use Rattle.afdx_promises.proofs.PromiseLemmas.{goes-there}
-use Rattle.afdx_promises.proofs.StreamLemmas.{IsSendable, sendable-sound}
+use Rattle.afdx_switch.proofs.StreamLemmas.{IsSendable, sendable-sound}
 use Rattle.afdx_cascade.specs.Cables.{IsHop, GoesOn, Gives, rule_at, accepted_at, all_turns, brought, brought_by}
 use Rattle.afdx_cascade.specs.Examples.{link_before, tables_before, first_switch, second_switch, PremisesAreMet}
 use Rattle.afdx_cascade.specs.Ways.{IsWay}

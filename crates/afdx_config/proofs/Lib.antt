@@ -5,3 +5,4 @@ pub mod EntryLemmas
 pub mod GatheredLemmas
 pub mod GrownLemmas
 pub mod LookUpLemmas
+pub mod NumberLemmas

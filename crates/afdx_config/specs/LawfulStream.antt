@@ -1,5 +1,6 @@
 -- The lawful stream of a link: what its sender gives to both networks.
 use Rattle.std.specs.Prelude.{◌≡◌, ℕ, ◌+◌, ◌≤◌, List, length, slice_get, Some}
+use Rattle.afdx_frame.specs.declared.link.Side.{Side}
 use Rattle.afdx_frame.specs.declared.link.Side.TheVariants.{A, B}
 use Rattle.afdx_frame.specs.Grammar.{Built}
 use Rattle.afdx_frame.specs.Regulation.{bag, jitter}
@@ -13,6 +14,11 @@ pub record Sending : Type 0 where
   pub time : ℕ
   pub a : List ℕ
   pub b : List ℕ
+
+-- the frame of a sending on a network
+abbrev pub copy_on : Side → Sending → List ℕ
+copy_on A sending = sending.a
+copy_on B sending = sending.b
 
 -- the two frames are built of one message of the sent list, and of a length that the link may have
 pub record IsSent (s : SystemRow) (l : LinkRow) (x : Sent) (y : Sending) : Type 0 where

@@ -111,8 +111,8 @@ impl Network {
         ensures clock { IsUntil self.new time }
     {
         match side {
-            Side::A => self.a.arrive(time, port, tag, frame),
-            Side::B => self.b.arrive(time, port, tag, frame),
+            Side::A => self.a.arrive_checked(time, port, tag, frame),
+            Side::B => self.b.arrive_checked(time, port, tag, frame),
         }
     }
 

@@ -1,9 +1,10 @@
 -- A frame's faults and those of an arrival.
-use Rattle.std.proofs.Common.{◌≡◌, ℕ, Bool, true, false, List, [], ◌∷◌, length, refl, ap}
+use Rattle.std.proofs.Common.{◌≡◌, ℕ, ◌≤◌, ◌&&◌, Bool, true, false, List, [], ◌∷◌, length, refl, ap, ◌∙◌}
 use Rattle.std.specs.Prelude.{◌==◌}
 use Rattle.std.specs.Prelude.{not, nat_lt, is_none, find, option_map, Option, Some, None, Result, Ok, Err}
 use Rattle.std.specs.Prelude.{if◌then◌else◌}
 use Rattle.std.specs.Option.{option_map_or}
+use Rattle.std.proofs.lemmas.Bool.{eq-eqb, le-ltb}
 use Rattle.afdx_frame.specs.Lengths.{least_frame, greatest_frame}
 use Rattle.afdx_frame.specs.Layout.{link_named_by}
 use Rattle.afdx_frame.specs.Parts.{FrameParts, frame_of, frame_with}
@@ -14,11 +15,12 @@ use Rattle.afdx_frame.specs.declared.link.VlId.{VlId}
 use Rattle.afdx_police.specs.Arrival.{names}
 use Rattle.afdx_police.specs.Laws.{NoFrameIsRefused}
 use Rattle.afdx_police.specs.Rule.{Rule}
-use Rattle.afdx_police.specs.Shape.{fault_of, fault_by, reason_for, is_under_lmin}
+use Rattle.afdx_police.specs.Shape.{fault_of, fault_by, reason_for, is_byte_based, is_under_lmin, IsSound}
 use Rattle.afdx_police.specs.declared.shape.Reason.{Reason}
 use Rattle.afdx_police.specs.declared.shape.Reason.TheVariants.{TooShort, TooLong, BadFcs}
 use Rattle.afdx_police.specs.declared.shape.Reason.TheVariants.{BadAddress, UnknownLink, WrongPort}
 use Rattle.afdx_police.specs.declared.shape.Reason.TheVariants.{OverLmax, UnderLmin}
+use Rattle.afdx_police.proofs.ShapeLemmas.{faultless-is-sound}
 
 -- what is answered where a frame is read
 answered : List ℕ → Bool → Bool → Bool → Option VlId → Result FrameParts MacFault
@@ -131,3 +133,27 @@ no_frame rule port bytes fault h =
     (not (option_map_or (λ r. r.port == port) rule false), WrongPort) ∷
     (option_map_or (λ r. nat_lt r.lmax (length bytes)) rule false, OverLmax) ∷
     (option_map_or (λ r. is_under_lmin r bytes) rule false, UnderLmin) ∷ []) fault h
+
+-- the bytes are a frame of this link
+pub record IsFrameOn (vl : ℕ) (bytes : List ℕ) : Type 0 where
+  pub parts : FrameParts
+  pub is_frame : frame_of bytes ≡ Ok parts
+  pub named : parts.link.0 ≡ vl
+
+nothing : (rule : Rule) (port vl : ℕ) (bytes : List ℕ) → (vl == rule.vl) ≡ true
+    → (rule.port == port) ≡ true → nat_lt rule.lmax (length bytes) ≡ false
+    → nat_lt (length bytes) rule.lmin ≡ false → fault_by rule port vl bytes ≡ None
+nothing rule port vl bytes own here most least = rw (own, here, most, least) (by (is_byte_based rule.policing))
+  where
+    by : (b : Bool) → (if b && false then Some UnderLmin else None) ≡ None
+    by true = refl
+    by false = refl
+
+-- at the port of the link's rule, and of a length that it may have, nothing is wrong in it
+pub frame_sound : (rule : Rule) (port : ℕ) (bytes : List ℕ) → IsFrameOn rule.vl bytes
+    → rule.port ≡ port → rule.lmin ≤ length bytes → length bytes ≤ rule.lmax → IsSound rule port bytes
+frame_sound rule port bytes is here least most =
+    (faultless-is-sound rule port bytes).0
+    (judged rule port bytes is.parts is.is_frame
+    ∙ nothing rule port is.parts.link.0 bytes (eq-eqb is.parts.link.0 rule.vl is.named) (eq-eqb rule.port port here)
+    (le-ltb rule.lmax (length bytes) most) (le-ltb (length bytes) rule.lmin least))

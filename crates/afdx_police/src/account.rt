@@ -14,7 +14,7 @@ ghost use Rattle.afdx_police.specs.Verdicts.{reason_after, verdict_in};
 use crate::charge::{ByteCharge, FrameCharge};
 use crate::policer::Policer;
 use crate::rule::LinkRule;
-use crate::shape::{Reason, judge};
+use crate::shape::{Reason, judge_checked};
 use afdx_frame::{Checked, Policing};
 
 /// The account of one link at one switch, of the link's own kind of policing.
@@ -111,7 +111,7 @@ impl LinkAccount {
             fault_of (Some (account_of self.old).rule) port frame.entry.bytes.now ≡ Some fault →
             self.new ≡ self.old }
     {
-        match judge(Some(self.rule()), port, frame) {
+        match judge_checked(Some(self.rule()), port, frame) {
             None => {
                 if self.offer(time, frame.bytes.len() as u64) {
                     None

@@ -88,8 +88,23 @@ impl From<MacFault> for Reason {
 /// The first fault of an arrival, in the order of `Reason`, but for its link's rate.
 ///
 /// `rule` is that of the link that the frame names, if there is one; `port` is the input port at
-/// which it came.
-pub fn judge(rule: Option<&LinkRule>, port: u8, frame: Checked<'_>) -> Option<Reason>
+/// which it came. It reads the check sequence of the bytes.
+pub fn judge(rule: Option<&LinkRule>, port: u8, bytes: &[u8]) -> Option<Reason>
+    ensures reason { result ≡
+        fault_of (option_map rule_of (option_copied rule.entry)) port bytes.now }
+
+    // What has no fault may be offered to a policer.
+    ensures shortest { IfNone result (least_frame ≤ length bytes.now) }
+    ensures sealed { IfNone result (is_sealed bytes.now ≡ true) }
+    ensures longest { IfNone result (IfSome (option_copied rule.entry)
+        (λ r. length bytes.now ≤ r.lmax)) }
+{
+    judge_checked(rule, port, Checked::new(bytes))
+}
+
+/// The first fault of an arrival whose check sequence has been looked at, as `judge` finds it. It
+/// isn't read again.
+pub fn judge_checked(rule: Option<&LinkRule>, port: u8, frame: Checked<'_>) -> Option<Reason>
     ensures reason { result ≡
         fault_of (option_map rule_of (option_copied rule.entry)) port frame.entry.bytes.now }
 
@@ -99,7 +114,7 @@ pub fn judge(rule: Option<&LinkRule>, port: u8, frame: Checked<'_>) -> Option<Re
     ensures longest { IfNone result (IfSome (option_copied rule.entry)
         (λ r. length frame.entry.bytes.now ≤ r.lmax)) }
 {
-    let view = match MacView::parse(frame) {
+    let view = match MacView::of(frame) {
         Ok(view) => view,
         Err(fault) => return Some(fault.into()),
     };

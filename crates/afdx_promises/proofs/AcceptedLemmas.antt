@@ -15,13 +15,13 @@ use Rattle.afdx_switch.specs.Tables.{rule_of}
 use Rattle.afdx_network.specs.Order.{events_of, events_so_far}
 use Rattle.afdx_network.proofs.OrderedLemmas.{are-events, are-so-far}
 use Rattle.afdx_promises.specs.Lines.{Line, Judged, IsIn, judged_in}
-use Rattle.afdx_promises.specs.NetworkPromises.{IsStreamOf}
+use Rattle.afdx_switch.specs.Streams.{IsStreamOf}
 use Rattle.afdx_promises.specs.Promises.{StreamsAreAccepted, StreamsAreToldAccepted}
 use Rattle.afdx_promises.specs.Promises.{StreamsAreToldAcceptedSoFar, told, told_so_far}
-use Rattle.afdx_promises.specs.Streams.{at_own_port, AreFirstOf}
+use Rattle.afdx_switch.specs.Streams.{at_own_port, AreFirstOf}
 use Rattle.afdx_promises.proofs.LineLemmas.{in-filter, verdicts-told, verdicts-told-so-far}
 use Rattle.afdx_promises.proofs.RuleLemmas.{verdicts_of}
-use Rattle.afdx_promises.proofs.StreamLemmas.{stream-accepted}
+use Rattle.afdx_switch.proofs.StreamLemmas.{stream-accepted}
 
 -- what came before the newest arrival are the first frames too
 first-before : (t : Rows) (l : LinkRow) (side : Side) (stream : List Sending) (x : Arrival)

@@ -1,6 +1,6 @@
 -- The example's numbers.
 use Rattle.afdx_config.proofs.AmongOthersLemmas.{among-others, admitted-serving}
-use Rattle.afdx_promises.proofs.StreamLemmas.{accepted-stream}
+use Rattle.afdx_switch.proofs.StreamLemmas.{accepted-stream}
 use Rattle.afdx_switch.specs.Regular.{at_port}
 use Rattle.afdx_promises.proofs.PromiseLemmas.{goes-there}
 use Rattle.afdx_promises.proofs.PortLemmas.{slots-are-all}
@@ -42,8 +42,8 @@ use Rattle.afdx_switch.specs.Tables.{port_of, rule_of, goes_to, entries_at}
 use Rattle.afdx_promises.specs.Examples.{sender, receiver, link, tables, heard, unheard, first_on}
 use Rattle.afdx_promises.specs.Examples.{second_on, stream, arrivals, PremisesAreMet, link_with}
 use Rattle.afdx_promises.specs.Examples.{tables_with, one, AdmissionIsNeeded, TimesAreNeeded}
-use Rattle.afdx_promises.specs.NetworkPromises.{IsStreamOf, PortsKeepPromises}
-use Rattle.afdx_promises.specs.Streams.{at_own_port, AreFirstOf, IsFed, IsFrameAt}
+use Rattle.afdx_promises.specs.NetworkPromises.{PortsKeepPromises}
+use Rattle.afdx_switch.specs.Streams.{at_own_port, AreFirstOf, IsFed, IsFrameAt, IsStreamOf}
 use Rattle.afdx_promises.proofs.ToldLemmas.{told-once}
 use Rattle.afdx_promises.proofs.OnceLemmas.{messages-once}
 use Rattle.afdx_promises.proofs.ReceiverLemmas.{names-frame}

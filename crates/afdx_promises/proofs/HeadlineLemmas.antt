@@ -41,7 +41,8 @@ use Rattle.afdx_promises.proofs.LineLemmas.{left-among, frames-told, slots-back}
 use Rattle.afdx_promises.proofs.ListLemmas.{filter-reverse, map-reverse, same-reversed}
 use Rattle.afdx_promises.proofs.PortLemmas.{entries_back, in-reverse, in-time, left-are-accepted, left-back}
 use Rattle.afdx_promises.proofs.PromiseLemmas.{no-row, unknown-reason}
-use Rattle.afdx_promises.proofs.ReceiverLemmas.{IsFrameOn, accepted-frames, vl-is, none-is}
+use Rattle.afdx_police.proofs.FrameLemmas.{IsFrameOn}
+use Rattle.afdx_promises.proofs.ReceiverLemmas.{accepted-frames, vl-is, none-is}
 use Rattle.afdx_promises.proofs.RuleLemmas.{one-verdicts, verdicts_of, own_verdicts, own-verdicts}
 
 -- ---- verdicts

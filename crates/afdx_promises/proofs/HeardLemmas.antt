@@ -21,7 +21,8 @@ use Rattle.afdx_promises.specs.Lines.{answers_told, with_told, messages_told, le
 use Rattle.afdx_promises.specs.Lines.{with_reception, told_by}
 use Rattle.afdx_promises.specs.Promises.{IsHeard}
 use Rattle.afdx_promises.specs.Receptions.{brought, brought_by, with_answer_on, answers_on, messages_in}
-use Rattle.afdx_promises.proofs.ReceiverLemmas.{IsFrameOn, names-frame}
+use Rattle.afdx_police.proofs.FrameLemmas.{IsFrameOn}
+use Rattle.afdx_promises.proofs.ReceiverLemmas.{names-frame}
 
 -- ---- an M or X line is of a frame that left
 

@@ -4,7 +4,6 @@ pub mod MergeLemmas
 pub mod ReceiverLemmas
 pub mod PromiseLemmas
 pub mod RuleLemmas
-pub mod StreamLemmas
 pub mod OnceLemmas
 pub mod EventLemmas
 pub mod LineLemmas

@@ -19,7 +19,8 @@ use Rattle.afdx_config.proofs.EachRowLemmas.{all_at}
 use Rattle.afdx_police.specs.Arrival.{Arrival, own}
 use Rattle.afdx_port.specs.Schedule.{Entry, Turn, AreTurns}
 use Rattle.afdx_receive.specs.Arrivals.{Arrived, incoming, with_frame, frames_of}
-use Rattle.afdx_receive.specs.Copies.{copy_on, AreCopies}
+use Rattle.afdx_config.specs.LawfulStream.{copy_on}
+use Rattle.afdx_receive.specs.Copies.{AreCopies}
 use Rattle.afdx_receive.specs.Integrity.{Incoming}
 use Rattle.afdx_receive.specs.Redundancy.{newest}
 use Rattle.afdx_receive.specs.TwoStreams.{count_of}
@@ -33,14 +34,16 @@ use Rattle.afdx_switch.proofs.ListLemmas.{bool_cases}
 use Rattle.afdx_network.specs.Events.{turns_at}
 use Rattle.afdx_network.specs.Order.{side_number}
 use Rattle.afdx_promises.specs.Receptions.{brought, order_of, ComeInOrder, AreReceptions, answers_on, messages_in}
-use Rattle.afdx_promises.specs.Streams.{at_own_port, AreFirstOf}
-use Rattle.afdx_promises.specs.NetworkPromises.{IsStreamOf, MessagesComeSoFar, MessagesComeOnce}
+use Rattle.afdx_switch.specs.Streams.{at_own_port, AreFirstOf}
+use Rattle.afdx_switch.specs.Streams.{IsStreamOf}
+use Rattle.afdx_promises.specs.NetworkPromises.{MessagesComeSoFar, MessagesComeOnce}
 use Rattle.afdx_promises.proofs.ListLemmas.{all-imply, all-filter}
 use Rattle.afdx_promises.proofs.PortLemmas.{its-turns, in-time, left-back, entries_back}
 use Rattle.afdx_promises.proofs.PromiseLemmas.{goes-there}
-use Rattle.afdx_promises.proofs.ReceiverLemmas.{IsFrameOn, answers-own, messages-delivered}
+use Rattle.afdx_police.proofs.FrameLemmas.{IsFrameOn}
+use Rattle.afdx_promises.proofs.ReceiverLemmas.{answers-own, messages-delivered}
 use Rattle.afdx_promises.proofs.ReceiverLemmas.{frames-by-side, own-slot, other-slot}
-use Rattle.afdx_promises.proofs.StreamLemmas.{sending-is, accepted-stream}
+use Rattle.afdx_switch.proofs.StreamLemmas.{sending-is, accepted-stream}
 
 -- ---- the copies by one side
 

@@ -23,7 +23,8 @@ use Rattle.afdx_network.specs.Events.{turns_at}
 use Rattle.afdx_promises.specs.Receptions.{AreReceptions}
 use Rattle.afdx_promises.specs.NetworkPromises.{IsJudgedAlone, IsReceivedAlone, PortsAreAsPromised, LinksAreApart}
 use Rattle.afdx_promises.proofs.PortLemmas.{its-turns, in-time, left-are-accepted, left-back}
-use Rattle.afdx_promises.proofs.ReceiverLemmas.{IsFrameOn, answers-own, frames-by-side}
+use Rattle.afdx_police.proofs.FrameLemmas.{IsFrameOn}
+use Rattle.afdx_promises.proofs.ReceiverLemmas.{answers-own, frames-by-side}
 use Rattle.afdx_promises.proofs.ReceiverLemmas.{accepted-frames, bytes-of-slots, vl-is}
 
 -- ---- verdicts

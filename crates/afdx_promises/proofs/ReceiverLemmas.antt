@@ -1,10 +1,10 @@
 -- What a receiver makes of what comes from both sides.
-use Rattle.std.proofs.Common.{◌≡◌, ℕ, ◌*◌, ◌≤◌, ◌==◌, Bool, true, false, not, eqb, List, [], ◌∷◌}
+use Rattle.std.proofs.Common.{◌≡◌, ℕ, ◌*◌, ◌==◌, Bool, true, false, not, eqb, List, [], ◌∷◌}
 use Rattle.std.proofs.Common.{length, map, filter, refl, sym, ap, ◌∙◌, subst, inl, inr}
 use Rattle.std.specs.Prelude.{Option, Some, None, Result, Ok, Err, is_none, nat_lt, if◌then◌else◌, slice_get, ◌⊎◌}
 use Rattle.std.specs.List.{AllByRecursion}
 use Rattle.std.specs.Option.{option_map_or}
-use Rattle.std.proofs.lemmas.Bool.{eqb-true, eq-eqb, le-ltb, ltb-false}
+use Rattle.std.proofs.lemmas.Bool.{eqb-true, eq-eqb, le-ltb}
 use Rattle.afdx_frame.specs.Layout.{link_named_by}
 use Rattle.afdx_frame.specs.Parts.{FrameParts, frame_of, frame_with, type_of_frame, body_of_frame, number_of_frame}
 use Rattle.afdx_frame.specs.Sealing.{is_sealed}
@@ -21,6 +21,7 @@ use Rattle.afdx_police.specs.Rule.{Rule}
 use Rattle.afdx_police.specs.Shape.{IsSound}
 use Rattle.afdx_police.specs.Verdicts.{reason_after}
 use Rattle.afdx_police.specs.declared.shape.Reason.{Reason}
+use Rattle.afdx_police.proofs.FrameLemmas.{IsFrameOn}
 use Rattle.afdx_police.proofs.ShapeLemmas.{faultless-is-sound}
 use Rattle.afdx_police.proofs.VerdictLemmas.{verdict_decides}
 use Rattle.afdx_port.specs.Schedule.{Turn}
@@ -93,12 +94,6 @@ messages-delivered skew is_open (frame ∷ before) =
 
 -- ---- the frames of a link by one side
 
--- the bytes are a frame of this link
-pub record IsFrameOn (vl : ℕ) (bytes : List ℕ) : Type 0 where
-  pub parts : FrameParts
-  pub is_frame : frame_of bytes ≡ Ok parts
-  pub named : parts.link.0 ≡ vl
-
 side-kept : (vl : ℕ) (side : Side) (x : Arrived) (past : List Arrived)
     (r : Result FrameParts MacFault) (b : Bool) → is_from side x ≡ b →
     filter (λ f. is_side f.side side) (with_frame vl x r (frames_of vl past)) ≡
@@ -168,31 +163,6 @@ frame-parts bytes frame is =
     by false false true o h = absurd (cc h)
     by false false false None h = absurd (cc h)
     by false false false (Some v) h = ap (λ (r : Result FrameParts MacFault). link_in (Some v) r) h
-
--- what is known of a frame
-pub record IsSoundFrame (bytes : List ℕ) : Type 0 where
-  pub shortest : 64 ≤ length bytes
-  pub longest : length bytes ≤ 1518
-  pub sealed : is_sealed bytes ≡ true
-
-pub frame-sound : (bytes : List ℕ) (frame : FrameParts) → frame_of bytes ≡ Ok frame → IsSoundFrame bytes
-unfolding frame_of
-frame-sound bytes frame is =
-    by (nat_lt (length bytes) 64) (nat_lt 1518 (length bytes)) (is_sealed bytes) refl refl refl is
-  where
-    by : (a b c : Bool) → nat_lt (length bytes) 64 ≡ a → nat_lt 1518 (length bytes) ≡ b → is_sealed bytes ≡ c →
-        (if a then Err TooShort else
-        (if b then Err TooLong else (if not c then Err BadFcs else frame_with bytes
-        (link_named_by bytes)))) ≡ Ok frame → IsSoundFrame bytes
-    by true b c short long sealed h = absurd (cc h)
-    by false true c short long sealed h = absurd (cc h)
-    by false false false short long sealed h = absurd (cc h)
-    by false false true short long sealed h =
-        record {
-          shortest = ltb-false (length bytes) 64 short;
-          longest = ltb-false 1518 (length bytes) long;
-          sealed = sealed;
-        }
 
 pub names-frame : (vl : ℕ) (bytes : List ℕ) (frame : FrameParts) → frame_of bytes ≡ Ok frame
     → names vl bytes ≡ (frame.link.0 == vl)

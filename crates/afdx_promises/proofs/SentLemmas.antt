@@ -12,7 +12,7 @@ use Rattle.afdx_config.specs.Rows.{SystemRow, LinkRow, Rows}
 use Rattle.afdx_police.specs.Arrival.{Arrival, is_side, names, own}
 use Rattle.afdx_police.specs.Rule.{Rule}
 use Rattle.afdx_port.specs.Schedule.{Turn}
-use Rattle.afdx_receive.specs.Copies.{copy_on}
+use Rattle.afdx_config.specs.LawfulStream.{copy_on}
 use Rattle.afdx_send.specs.Emissions as send
 use Rattle.afdx_send.specs.Frames.{Frame, address_with}
 use Rattle.afdx_switch.specs.Tables.{rule_of}
@@ -22,7 +22,7 @@ use Rattle.afdx_promises.specs.Sent.{arrivals_at, SentIsFed, StreamIsOfSendings}
 use Rattle.afdx_promises.specs.Sent.{ReleasedAreToldOnce, IsMergedSoFar, ReleasedAreToldSoFar}
 use Rattle.afdx_promises.specs.Sent.{OneSideIsEnough}
 use Rattle.afdx_promises.specs.Promises.{most_come}
-use Rattle.afdx_promises.specs.Streams.{at_own_port, AreFirstOf, IsFed}
+use Rattle.afdx_switch.specs.Streams.{at_own_port, AreFirstOf, IsFed}
 use Rattle.afdx_promises.proofs.ReceiverLemmas.{names-frame}
 
 -- ---- frames

@@ -19,9 +19,10 @@ use Rattle.afdx_switch.specs.HeldFrames.{HeldFrame}
 use Rattle.afdx_switch.specs.Admitted.{IsAdmittedRun}
 use Rattle.afdx_promises.specs.Lines.{messages_told}
 use Rattle.afdx_promises.specs.Promises.{told}
-use Rattle.afdx_promises.specs.NetworkPromises.{IsStreamOf, PortsKeepPromises}
+use Rattle.afdx_switch.specs.Streams.{IsStreamOf}
+use Rattle.afdx_promises.specs.NetworkPromises.{PortsKeepPromises}
 use Rattle.afdx_promises.specs.Receptions.{AreReceptions, answers_on, messages_in}
-use Rattle.afdx_promises.specs.Streams.{IsFed}
+use Rattle.afdx_switch.specs.Streams.{IsFed}
 
 abbrev pub sender : SystemRow
 sender = record { name = codes "s1"; port = 1; id = 1; partition = 1; rate = 100 }

@@ -1,6 +1,5 @@
 pub mod Ports
 pub mod Receptions
-pub mod Streams
 pub mod NetworkPromises
 pub mod Lines
 pub mod ByDefinition

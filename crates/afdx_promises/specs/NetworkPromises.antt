@@ -5,7 +5,7 @@ use Rattle.afdx_frame.specs.declared.link.Side.{Side}
 use Rattle.afdx_frame.specs.declared.link.Side.TheVariants.{A, B}
 use Rattle.afdx_frame.specs.Sides.{is_side}
 use Rattle.afdx_frame.specs.Ports.{last_port}
-use Rattle.afdx_config.specs.LawfulStream.{Sending, IsLawfulStream}
+use Rattle.afdx_config.specs.LawfulStream.{Sending}
 use Rattle.afdx_config.specs.Lawful.{IsLawful, IsLawfulSwitch}
 use Rattle.afdx_config.specs.Reading.{has_port}
 use Rattle.afdx_config.specs.Rows.{SystemRow, LinkRow, Rows, is_to}
@@ -16,7 +16,6 @@ use Rattle.afdx_police.specs.Verdicts.{reason_after}
 use Rattle.afdx_port.specs.Schedule.{Turn, AreTurns}
 use Rattle.afdx_bounds.specs.Outputs.{AreTimed}
 use Rattle.afdx_switch.specs.Admitted.{IsAdmittedRun, Passing, accepted_on, accepted_frames, frames_left, AreInTime, IsInTime}
-use Rattle.afdx_switch.specs.Regular.{IsRegularAt}
 use Rattle.afdx_switch.specs.Switching.{taken_at}
 use Rattle.afdx_switch.specs.HeldFrames.{HeldFrame}
 use Rattle.afdx_switch.specs.Tables.{rule_of, goes_to, byte_ns_at, entries_at}
@@ -26,7 +25,7 @@ use Rattle.afdx_network.specs.Events.{Event, Came, Left, Admission, Departure, a
 use Rattle.afdx_promises.specs.Ports.{AreItsTurns}
 use Rattle.afdx_network.specs.Order.{IsAmong, AreEvents, AreEventsSoFar}
 use Rattle.afdx_promises.specs.Receptions.{AreReceptions, receptions_at, brought_by, answers_on, answers_by_rules, messages_in}
-use Rattle.afdx_promises.specs.Streams.{at_own_port, AreFirstOf, IsFed}
+use Rattle.afdx_switch.specs.Streams.{at_own_port, AreFirstOf, IsFed, IsStreamOf}
 
 -- an arrival after others is judged alone: a frame of a link by its shape and by the window rule
 -- over its link's own arrivals on its side; one that names no link by its shape; and where it is
@@ -116,29 +115,6 @@ LinksAreApart = (t : Rows) (arrivals others : List Arrival) (side : Side) (place
     (l : LinkRow) → IsAdmittedRun t arrivals → IsAdmittedRun t others → slice_get t.links place
     ≡ Some l →
     own l.vl side arrivals ≡ own l.vl side others → IsApart t arrivals others side l
-
--- a lawful stream of a link, with these messages
-pub record IsStreamOf (t : Rows) (l : LinkRow) (messages : List Message)
-    (stream : List Sending) : Type 0 where
-  pub sender : SystemRow
-  pub stands : slice_get t.systems l.from ≡ Some sender
-  pub lawful : IsLawfulStream sender l messages stream
-
--- where it comes to its sender's port, the link's own arrivals there keep the link's gap
-abbrev pub StreamIsRegular : Type 0
-StreamIsRegular = (t : Rows) (arrivals : List Arrival) (side : Side) (l : LinkRow)
-    (messages : List Message) (stream : List Sending) →
-    IsStreamOf t l messages stream → AreFirstOf side stream (at_own_port t l side arrivals) →
-    IsRegularAt (rule_of t l) (own l.vl side arrivals)
-
--- and it is accepted, whatever else comes, also under this link's name at other ports
-abbrev pub StreamIsAccepted : Type 0
-StreamIsAccepted = (t : Rows) (past : List Arrival) (x : Arrival) (place : ℕ) (l : LinkRow)
-    (messages : List Message) (stream : List Sending) → IsLawfulSwitch t →
-    slice_get t.links place ≡ Some l →
-    IsStreamOf t l messages stream → names l.vl x.bytes ≡ true → (rule_of t l).port ≡ x.port →
-    AreFirstOf x.side stream (at_own_port t l x.side (x ∷ past)) →
-    reason_of t past x ≡ None
 
 -- End to end, also where a network fails in the middle: where the arrivals on each side are the
 -- first frames of one lawful stream of a link, each receiver of the link delivers exactly the

@@ -24,9 +24,9 @@ use Rattle.afdx_switch.specs.Admitted.{IsAdmittedRun, Passing, passing}
 use Rattle.afdx_switch.specs.Tables.{rule_of, goes_to}
 use Rattle.afdx_network.specs.Order.{events_of, events_so_far}
 use Rattle.afdx_promises.specs.Lines.{Line, Verdict, Received, Judged, Leaving, IsIn, judged_in, arrivals_judged, verdicts_on, accepted_in, left_in, frames_at, came_at, answers_told, messages_told, told_by}
-use Rattle.afdx_promises.specs.NetworkPromises.{IsStreamOf}
+use Rattle.afdx_switch.specs.Streams.{IsStreamOf}
 use Rattle.afdx_promises.specs.Receptions.{ComeInOrder, answers_by_rules}
-use Rattle.afdx_promises.specs.Streams.{at_own_port, AreFirstOf, IsFed}
+use Rattle.afdx_switch.specs.Streams.{at_own_port, AreFirstOf, IsFed}
 use Rattle.afdx_promises.specs.WindowRule.{AreByWindowRule}
 
 -- ---- each virtual link's verdicts are the window rule's answer on that link's own arrivals alone

@@ -11,14 +11,14 @@ use Rattle.afdx_config.specs.Reading.{has_port}
 use Rattle.afdx_config.specs.Rows.{SystemRow, LinkRow, Rows, is_to}
 use Rattle.afdx_police.specs.Arrival.{Arrival, is_side}
 use Rattle.afdx_port.specs.Schedule.{Turn}
-use Rattle.afdx_receive.specs.Copies.{copy_on}
+use Rattle.afdx_config.specs.LawfulStream.{copy_on}
 use Rattle.afdx_send.specs.Emissions.{AreSendings, own, sent_list}
 use Rattle.afdx_send.specs.Frames.{Frame, address_with}
 use Rattle.afdx_send.specs.Laws.{EmitsLawfully}
 use Rattle.afdx_send.specs.Sender.{SenderHistory}
 use Rattle.afdx_promises.specs.Lines.{Line, messages_told}
 use Rattle.afdx_promises.specs.Promises.{EachIsToldOnce, EachIsToldOnceSoFar, most_come}
-use Rattle.afdx_promises.specs.Streams.{IsFed}
+use Rattle.afdx_switch.specs.Streams.{IsFed}
 
 -- a system's frame on a network, and what it sends in a slot
 abbrev pub frame_on : SystemRow → Side → Frame → List ℕ

@@ -2,7 +2,7 @@
 
 ghost use Rattle.afdx_promises.specs.ByDefinition.{EventsAreByDefinition, EventsSoFarAreByDefinition};
 ghost use Rattle.afdx_promises.specs.Examples.{PremisesAreMet, AdmissionIsNeeded, TimesAreNeeded};
-ghost use Rattle.afdx_promises.specs.NetworkPromises.{PortsAreAsPromised, LeftSoFarAreFirst, ReceptionsAreOne, ReceptionsExist, EventsBringReceptions, LinksAreApart, StreamIsRegular, StreamIsAccepted, MessagesComeSoFar, MessagesComeOnce, EventsAreAsPromised, EventsSoFarAreAsPromised};
+ghost use Rattle.afdx_promises.specs.NetworkPromises.{PortsAreAsPromised, LeftSoFarAreFirst, ReceptionsAreOne, ReceptionsExist, EventsBringReceptions, LinksAreApart, MessagesComeSoFar, MessagesComeOnce, EventsAreAsPromised, EventsSoFarAreAsPromised};
 ghost use Rattle.afdx_promises.specs.Sent.{SentIsFed, StreamIsOfSendings, ReleasedAreToldOnce};
 ghost use Rattle.afdx_promises.specs.Sent.{ReleasedAreToldSoFar, OneSideIsEnough};
 ghost use Rattle.afdx_promises.specs.Promises.{PromisesAreKept, PromisesAreKeptSoFar, MessagesAreToldOnce, MessagesAreToldOnceSoFar, StreamsAreToldAccepted, StreamsAreToldAcceptedSoFar};
@@ -76,14 +76,9 @@ pub fn links_are_apart()
     ensures { LinksAreApart }
 {}
 
-/// A link's lawful stream at its sender's port is what a switch's `arrive` accepts by its clause
-/// `regular`: it is sound and keeps the link's gap. So it is accepted, whatever else comes.
-///
-/// So, of the lines that tell all events, or those up to the last arrival, each verdict on it there
-/// is accept.
-pub fn stream_is_accepted()
-    ensures regular { StreamIsRegular }
-    ensures accepted { StreamIsAccepted }
+/// Of the lines that tell all events, or those up to the last arrival, each verdict on a link's
+/// lawful stream at its sender's port is accept.
+pub fn streams_are_accepted()
     ensures told { StreamsAreToldAccepted }
     ensures told_so_far { StreamsAreToldAcceptedSoFar }
 {

@@ -22,8 +22,9 @@ use Rattle.afdx_config.specs.LawfulStream.{Sending, IsSent, IsLawfulStream}
 use Rattle.afdx_receive.specs.Integrity.{Incoming}
 use Rattle.afdx_receive.specs.TwoStreams.{count_of, AreTwoStreams}
 use Rattle.afdx_receive.specs.Delivery.{delivered, CarriesSent, AllCarrySent}
-use Rattle.afdx_receive.specs.Copies.{copy_on, IsNextCopy, AreCopies}
-use Rattle.afdx_receive.proofs.StreamLemmas.{steps_low}
+use Rattle.afdx_config.specs.LawfulStream.{copy_on}
+use Rattle.afdx_receive.specs.Copies.{IsNextCopy, AreCopies}
+use Rattle.afdx_config.proofs.NumberLemmas.{steps_low}
 use Rattle.afdx_receive.proofs.CopyLemmas.{IsSpaced, near, soon}
 use Rattle.afdx_receive.proofs.DeliveryLemmas.{delivered_once}
 

@@ -10,6 +10,7 @@ use Rattle.afdx_frame.specs.declared.link.Side.TheVariants.{A, B}
 use Rattle.afdx_frame.specs.Sides.{is_side}
 use Rattle.afdx_frame.proofs.SideLemmas.{is_side-same}
 use Rattle.afdx_config.specs.Numbers.{next_number, after_steps}
+use Rattle.afdx_config.proofs.NumberLemmas.{steps_low}
 use Rattle.afdx_receive.specs.Steps.{is_within_steps}
 use Rattle.afdx_receive.specs.Integrity.{Incoming, previous, may_follow, is_valid}
 use Rattle.afdx_receive.specs.Redundancy.{newest, is_newer, wins, winners}
@@ -29,18 +30,6 @@ steps_add (suc m) n from = ap (λ k. after_steps k from) (more m n) ∙ ap next_
   where
     more : (m n : ℕ) → suc m + n ≡ suc (m + n)
     more m n = omega arith
-
-next-low : (n : ℕ) → n ≤ 255 → next_number n ≤ 255
-next-low n low = by (cases_lt n 255)
-  where
-    by : (n < 255) ⊎ (255 ≤ n) → next_number n ≤ 255
-    by (inl below) = grind arith
-    by (inr at) = grind arith
-
-pub steps_low : (k from : ℕ) → from ≤ 255 → after_steps k from ≤ 255
-unfolding after_steps
-steps_low zero from low = low
-steps_low (suc k) from low = next-low (after_steps k from) (steps_low k from low)
 
 -- 1 to 254 steps don't lead back
 no_return : (d from : ℕ) → from ≤ 255 → 1 ≤ d → d ≤ 254 → after_steps d from ≡ from → ⊥

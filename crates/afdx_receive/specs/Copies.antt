@@ -1,22 +1,16 @@
 -- Exactly once: the copies of a link's lawful stream that come to a receiver by the two networks.
 use Rattle.std.specs.Prelude.{◌≡◌, ℕ, ◌+◌, ◌*◌, ◌≤◌, Bool, max, Some, Ok, List, [], ◌∷◌, filter}
 use Rattle.std.specs.Prelude.{reverse, slice_get, take, IfSome}
-use Rattle.afdx_frame.specs.declared.link.Side.{Side}
 use Rattle.afdx_frame.specs.declared.link.Side.TheVariants.{A, B}
 use Rattle.afdx_frame.specs.Parts.{FrameParts, frame_of}
 use Rattle.afdx_config.specs.Rows.{SystemRow, LinkRow}
 use Rattle.afdx_config.specs.Lawful.{IsLink}
 use Rattle.afdx_config.specs.SentList.{Message}
-use Rattle.afdx_config.specs.LawfulStream.{Sending, IsLawfulStream}
+use Rattle.afdx_config.specs.LawfulStream.{Sending, IsLawfulStream, copy_on}
 use Rattle.afdx_receive.specs.Integrity.{Incoming}
 use Rattle.afdx_receive.specs.Redundancy.{newest}
 use Rattle.afdx_receive.specs.TwoStreams.{count_of}
 use Rattle.afdx_receive.specs.Delivery.{delivered}
-
--- the frame of a sending on a network
-abbrev pub copy_on : Side → Sending → List ℕ
-copy_on A sending = sending.a
-copy_on B sending = sending.b
 
 -- the frame is the copy of the next sending on its side: it comes after it was sent, at most the
 -- latency later, and not before those that came

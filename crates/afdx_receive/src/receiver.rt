@@ -102,16 +102,33 @@ impl Receiver {
     /// comes from the frames of the same link that arrived before, and from nothing else. Bytes
     /// that are no frame, and frames of links that don't go to the system, leave the receiver as it
     /// was. A frame that wins counts as the last winner also where its datagram or its UDP port is
-    /// refused. It takes no memory and doesn't read the check sequence again: a frame's link is
-    /// found by its identifier without a search, and a message costs one look-up of its UDP port.
-    pub fn receive<'a>(&mut self, time: u64, side: Side, frame: Checked<'a>) -> Reception<'a>
+    /// refused. It reads the check sequence and takes no memory: a frame's link is found by its
+    /// identifier without a search, and a message costs one look-up of its UDP port.
+    pub fn receive<'a>(&mut self, time: u64, side: Side, bytes: &'a [u8]) -> Reception<'a>
+        ensures received { (tables : Rows) (system : ℕ) (past : List Arrived) →
+            StandsFor tables system self.old past →
+            let x = arrived time side bytes.now in
+            Receives tables system past x (answer_of result) self.new }
+        ensures unchanged { IsTrue (is_ignored (answer_of result)) → self.new ≡ self.old }
+    {
+        self.receive_checked(time, side, Checked::new(bytes))
+    }
+
+    /// Takes in bytes whose check sequence has been looked at, as `receive` does. It isn't read
+    /// again.
+    pub fn receive_checked<'a>(
+        &mut self,
+        time: u64,
+        side: Side,
+        frame: Checked<'a>,
+    ) -> Reception<'a>
         ensures received { (tables : Rows) (system : ℕ) (past : List Arrived) →
             StandsFor tables system self.old past →
             let x = arrived time side frame.entry.bytes.now in
             Receives tables system past x (answer_of result) self.new }
         ensures unchanged { IsTrue (is_ignored (answer_of result)) → self.new ≡ self.old }
     {
-        let view = match MacView::parse(frame) {
+        let view = match MacView::of(frame) {
             Ok(view) => view,
             Err(fault) => return Reception::Dropped(DropReason::Mac(fault)),
         };

@@ -11,3 +11,4 @@ pub mod AdmittedLemmas
 pub mod RegularLemmas
 pub mod LinkFrameLemmas
 pub mod HopLemmas
+pub mod StreamLemmas

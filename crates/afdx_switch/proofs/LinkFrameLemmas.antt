@@ -1,12 +1,12 @@
 -- The frames of one link at one output port.
 use Rattle.std.proofs.Common.{◌≡◌, ℕ, ◌≤◌, ◌&&◌, Bool, true, false, not, List, [], ◌∷◌, ◌++◌, refl, sym, ap, ◌∙◌, subst}
-use Rattle.std.specs.Prelude.{Option, Some, None, is_none, filter, map, slice_get, if◌then◌else◌}
+use Rattle.std.specs.Prelude.{Option, Some, None, IfSome, is_none, filter, map, slice_get, if◌then◌else◌}
 use Rattle.std.specs.Option.{option_map_or}
 use Rattle.std.proofs.lemmas.List.{map_push, map-append, append-nil}
 use Rattle.std.proofs.lemmas.List.Elements.{filter-append}
 use Rattle.afdx_frame.specs.declared.link.Side.{Side}
 use Rattle.afdx_frame.proofs.SideLemmas.{is_side-same}
-use Rattle.afdx_config.specs.Lawful.{IsLawfulUpTo}
+use Rattle.afdx_config.specs.Lawful.{IsLawfulUpTo, IsLawfulSwitch}
 use Rattle.afdx_config.specs.Rows.{Rows}
 use Rattle.afdx_police.specs.Arrival.{Arrival, is_side, names}
 use Rattle.afdx_police.specs.declared.shape.Reason.{Reason}
@@ -17,8 +17,9 @@ use Rattle.afdx_bounds.specs.Outputs.{Row, entry_of, offers_at}
 use Rattle.afdx_bounds.proofs.VerdictLemmas.{one-name}
 use Rattle.afdx_switch.specs.HeldFrames.{HeldFrame}
 use Rattle.afdx_switch.specs.Laws.{EntriesStep, is_of}
-use Rattle.afdx_switch.specs.LinkFrames.{goes_on, enters, entered, frames_of, OthersGetNone}
-use Rattle.afdx_switch.specs.Switching.{SwitchHistory, StandsFor, IsDone, taken_at}
+use Rattle.afdx_switch.specs.LinkFrames.{goes_on, enters, entered, frames_of, AreFirstEntered, OthersGetNone}
+use Rattle.afdx_switch.specs.Switching.{SwitchHistory, StandsFor, IsDone, Gives, taken_at, with_take}
+use Rattle.afdx_switch.specs.declared.switch.Departure.{Departure}
 use Rattle.afdx_switch.specs.declared.working.Working.{Working}
 use Rattle.afdx_switch.specs.Tables.{rows_of, row_named, carried, byte_ns_at, entries_at}
 use Rattle.afdx_switch.specs.Verdicts.{reason_on, reason_of, is_lost_at}
@@ -152,6 +153,15 @@ frames-own t side w h port vl lawful st low high =
           ∙ map-append (λ (e : Entry HeldFrame). e.item) (filter (is_of vl) (entries_in turns))
           (filter (is_of vl) (without_turn turns 0 entries)),
     )
+
+-- so do those that a port gave with the turn that is given now
+pub given-own : (r : Option Departure) (t : Rows) (side : Side) (h : SwitchHistory) (until vl : ℕ)
+    (w : Working) → IsLawfulSwitch t
+    → IfSome r (λ d. (g : Gives t side h until d w) → AreFirstEntered t side vl h g.gone)
+given-own None t side h until vl w lawful = tt
+given-own (Some d) t side h until vl w lawful =
+    λ g. frames-own t side w (with_take h g.gone until) g.gone.port vl lawful g.stands
+    g.next.port_first g.next.port_last
 
 pub all-own : {greatest_jitter : ℕ → ℕ} (t : Rows) (side : Side) (h : SwitchHistory) (port vl : ℕ)
     → IsLawfulUpTo greatest_jitter t → IsDone t side h port

@@ -14,3 +14,4 @@ pub mod LinkFrames
 pub mod Admitted
 pub mod Regular
 pub mod Hops
+pub mod Streams

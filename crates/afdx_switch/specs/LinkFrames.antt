@@ -12,7 +12,7 @@ use Rattle.afdx_port.specs.Schedule.{Turn}
 use Rattle.afdx_bounds.specs.Outputs.{Row}
 use Rattle.afdx_switch.specs.HeldFrames.{HeldFrame}
 use Rattle.afdx_switch.specs.Laws.{is_of}
-use Rattle.afdx_switch.specs.Switching.{SwitchHistory, StandsFor, IsDone, taken_at}
+use Rattle.afdx_switch.specs.Switching.{PortTurn, SwitchHistory, StandsFor, IsDone, taken_at}
 use Rattle.afdx_switch.specs.Tables.{rows_of, row_named, carried}
 use Rattle.afdx_switch.specs.Verdicts.{reason_of, is_lost_at}
 use Rattle.afdx_switch.specs.declared.working.Working.{Working}
@@ -48,6 +48,13 @@ FramesAreOwn = (t : Rows) (side : Side) (w : Working) (h : SwitchHistory) (port 
     StandsFor t side w h → 1 ≤ port → port ≤ last_port →
     (waiting : List HeldFrame) ×
     (entered t side port vl h.arrivals ≡ frames_of vl (taken_at port h.taken) ++ waiting)
+
+-- so it is with one turn more at its port
+abbrev pub AreFirstEntered : Rows → Side → ℕ → SwitchHistory → PortTurn → Type 0
+AreFirstEntered t side vl h gone =
+    (waiting : List HeldFrame) ×
+    (entered t side gone.port vl h.arrivals
+    ≡ frames_of vl (taken_at gone.port (gone ∷ h.taken)) ++ waiting)
 
 -- and all of them where each entry of the port has had its turn
 abbrev pub AllFramesAreOwn : Type 0

@@ -6,6 +6,9 @@ ghost use Rattle.afdx_switch.specs.Hops.{CopiesAreAccepted, NoCopyIsDropped};
 ghost use Rattle.afdx_switch.specs.Laws.{VerdictsAreOwn, EntriesGrow, TakenAreTurns};
 ghost use Rattle.afdx_switch.specs.Laws.{LinksGoInOrder, OtherSideIsApart, LostPortsAreListed};
 ghost use Rattle.afdx_switch.specs.LinkFrames.{FramesAreOwn, AllFramesAreOwn, OthersGetNone};
+ghost use Rattle.afdx_switch.specs.Streams.{StreamIsRegular, StreamIsAccepted};
+
+use afdx_frame::laws::built_is_computed;
 
 /// A verdict comes from the own arrivals of the link that the frame names.
 pub fn verdicts_are_own()
@@ -67,3 +70,12 @@ pub fn copies_are_accepted()
     ensures accepted { CopiesAreAccepted }
     ensures by_tables { NoCopyIsDropped }
 {}
+
+/// A link's lawful stream at its sender's port is sound and keeps the link's gap. So on any lawful
+/// tables it is accepted, whatever else comes, also under the link's name at other ports.
+pub fn stream_is_accepted()
+    ensures regular { StreamIsRegular }
+    ensures accepted { StreamIsAccepted }
+{
+    built_is_computed()
+}

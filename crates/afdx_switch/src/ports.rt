@@ -32,9 +32,10 @@ impl PortSet {
         self.ports[port as usize] = true;
     }
 
-    /// Whether the port is one of them.
+    /// Whether the port is one of them. A number that is no port's, 0 or over 24, never is.
     pub fn holds(&self, port: u8) -> bool
-        ensures { result ≡ holds self.now port }
+        ensures held { result ≡ holds self.now port }
+        ensures ports_alone { IsTrue result → (1 ≤ port) × (port ≤ last_port) }
     {
         match self.ports.get(port as usize) {
             Some(held) => *held,
@@ -44,7 +45,9 @@ impl PortSet {
 
     /// Whether no port is.
     pub fn is_empty(&self) -> bool
-        ensures { IsTrue result ↔ ((p : ℕ) → holds self.now p ≡ false) }
+        ensures none { IsTrue result ↔ ((p : ℕ) → holds self.now p ≡ false) }
+        ensures no_port { IsTrue result
+            ↔ ((p : ℕ) → 1 ≤ p → p ≤ last_port → holds self.now p ≡ false) }
     {
         !any_held(self.ports.as_slice())
     }

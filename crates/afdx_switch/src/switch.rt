@@ -21,6 +21,7 @@ pub struct Departure {
 }
 
 impl Departure {
+    ghost use Rattle.afdx_frame.specs.Sealing.{is_sealed};
     ghost use Rattle.afdx_switch.specs.Departures.{as_given, giving_port};
 
     /// When its slot ended, in ns. For a frame that was dropped as too old, the moment of its turn.
@@ -44,11 +45,20 @@ impl Departure {
         self.left.item.tag()
     }
 
-    /// The frame. Its check sequence was right when it arrived, and is not read again.
+    /// All bytes of the frame, the check sequence with them.
+    pub fn bytes(&self) -> &[u8]
+        ensures bytes { result.now ≡ (as_given self.now).item.bytes }
+        ensures sealed { is_sealed result.now ≡ true }
+    {
+        self.left.item.bytes()
+    }
+
+    /// The same as a frame whose check sequence is right. It was read when the frame arrived, and
+    /// isn't read again.
     pub fn frame(&self) -> Checked<'_>
         ensures { result.bytes.now ≡ (as_given self.now).item.bytes }
     {
-        let bytes = self.left.item.bytes();
+        let bytes = self.bytes();
         Checked {
             bytes,
             sealed: true,
@@ -90,7 +100,7 @@ impl Model for Switch {
 }
 
 impl Switch {
-    ghost use Rattle.afdx_config.specs.Lawful.{IsLawful};
+    ghost use Rattle.afdx_config.specs.Lawful.{IsLawful, IsLawfulSwitch};
     ghost use Rattle.afdx_config.specs.Rows.{LinkRow, Rows};
     ghost use Rattle.afdx_frame.specs.declared.link.Side.{Side};
     ghost use Rattle.afdx_frame.specs.Ports.{last_port};
@@ -100,8 +110,10 @@ impl Switch {
     ghost use Rattle.afdx_port.specs.Schedule.{Turn};
     ghost use Rattle.afdx_switch.specs.HeldFrames.{HeldFrame};
     ghost use Rattle.afdx_switch.specs.Admitted.{IsAdmittedRun, LosesNothing, IsInTime, HaveLeft};
+    ghost use Rattle.afdx_switch.specs.LinkFrames.{AreFirstEntered};
     ghost use Rattle.afdx_switch.specs.Tables.{rule_of, entries_at};
     ghost use Rattle.afdx_switch.specs.Regular.{IsRegularAt, IsAccepted};
+    ghost use Rattle.afdx_switch.specs.Streams.{IsNextOfStream};
     ghost use Rattle.afdx_switch.specs.Verdicts.{IsVerdict, shape_fault};
     ghost use Rattle.afdx_switch.specs.Switching.{SwitchHistory, StandsFor, IsQuiet, IsNextAt};
     ghost use Rattle.afdx_switch.specs.Switching.{IsDue, IsDone, Gives, no_calls, with_arrival};
@@ -123,13 +135,58 @@ impl Switch {
     }
 
     /// Filters and polices a frame that arrives at `time`, in ns, at an input port, and offers it
-    /// to the output ports of its link.
+    /// to the output ports of its link. It reads the check sequence of the bytes.
     ///
     /// `time` isn't before the last time used and is at most 1,000,032,768,000,000; `take(time)`
     /// would give nothing. `tag` is handed back with the frame's departures. The error says that
     /// memory was refused: then nothing has changed. A frame that is dropped for its shape needs
     /// none.
     pub fn arrive(
+        &mut self,
+        time: u64,
+        port: u8,
+        tag: u64,
+        bytes: &[u8],
+    ) -> Result<Verdict, AllocError>
+        requires limit { time ≤ latest_put }
+        requires clock { last_time self.old ≤ time }
+        requires quiet { IsQuiet self.old time }
+        ensures verdict { (t : Rows) (side : Side) (h : SwitchHistory) →
+            StandsFor t side self.old h →
+            let arrival = arrival_with tag time side port bytes.now in
+            IfOk result (IsVerdict t h.arrivals arrival) }
+        ensures stands { (t : Rows) (side : Side) (h : SwitchHistory) →
+            StandsFor t side self.old h →
+            let arrival = arrival_with tag time side port bytes.now in
+            OnOk result (StandsFor t side self.new (with_arrival h arrival)) }
+        ensures kept { (t : Rows) (side : Side) (h : SwitchHistory) → StandsFor t side self.old h →
+            let arrival = arrival_with tag time side port bytes.now in
+            IsAdmittedRun t (arrival ∷ h.arrivals) → IfOk result LosesNothing }
+        ensures regular { (t : Rows) (side : Side) (h : SwitchHistory) (place : ℕ) (l : LinkRow) →
+            StandsFor t side self.old h → IsLawful t → slice_get t.links place ≡ Some l →
+            names l.vl bytes.now ≡ true →
+            (rule_of t l).port ≡ port →
+            let arrival = arrival_with tag time side port bytes.now in
+            let arrivals = own l.vl side (arrival ∷ h.arrivals) in
+            IsRegularAt (rule_of t l) arrivals → IfOk result IsAccepted }
+        ensures accepted { (t : Rows) (side : Side) (h : SwitchHistory) (place : ℕ) (l : LinkRow) →
+            StandsFor t side self.old h → IsLawfulSwitch t → slice_get t.links place ≡ Some l →
+            let arrival = arrival_with tag time side port bytes.now in
+            IsNextOfStream t l h.arrivals arrival → IfOk result IsAccepted }
+        ensures judged { (t : Rows) (side : Side) (h : SwitchHistory) →
+            StandsFor t side self.old h →
+            let arrival = arrival_with tag time side port bytes.now in
+            OnErr result (shape_fault t arrival ≡ None) }
+        ensures refused { OnErr result (self.new ≡ self.old) }
+        ensures quiet { IsQuiet self.new time }
+        ensures held { frames_held self.new ≤ frames_held self.old + last_port }
+        ensures clock { OnOk result (last_time self.new ≡ time) }
+    {
+        self.arrive_checked(time, port, tag, Checked::new(bytes))
+    }
+
+    /// A frame arrives whose check sequence has been looked at: as `arrive`, which reads it.
+    pub fn arrive_checked(
         &mut self,
         time: u64,
         port: u8,
@@ -157,6 +214,10 @@ impl Switch {
             let arrival = arrival_with tag time side port frame.entry.bytes.now in
             let arrivals = own l.vl side (arrival ∷ h.arrivals) in
             IsRegularAt (rule_of t l) arrivals → IfOk result IsAccepted }
+        ensures accepted { (t : Rows) (side : Side) (h : SwitchHistory) (place : ℕ) (l : LinkRow) →
+            StandsFor t side self.old h → IsLawfulSwitch t → slice_get t.links place ≡ Some l →
+            let arrival = arrival_with tag time side port frame.entry.bytes.now in
+            IsNextOfStream t l h.arrivals arrival → IfOk result IsAccepted }
         ensures judged { (t : Rows) (side : Side) (h : SwitchHistory) →
             StandsFor t side self.old h →
             let arrival = arrival_with tag time side port frame.entry.bytes.now in
@@ -192,6 +253,11 @@ impl Switch {
     /// or before `until`, or a drop whose moment is before `until`. They go by time, at one time
     /// those that leave before those too old, then by port. If `until` is 1.2e15 or later, None
     /// says that each frame that was accepted and not lost has had its turn at each port.
+    ///
+    /// What a port gave of a link's frames, those that left it and those too old, is a beginning of
+    /// the link's own arrivals that were accepted, less those that were lost there, in order, byte
+    /// for byte and with their tags; at a port that the link doesn't go to there is none
+    /// (`laws::frames_are_own`).
     #[inline(always)]
     pub fn take(&mut self, until: u64) -> Option<Departure>
         requires clock { last_time self.old ≤ until }
@@ -203,6 +269,9 @@ impl Switch {
             HeldFrame) →
             StandsFor t side self.old h → 1 ≤ port → port ≤ last_port → IsNextAt t side h port s →
             IfNone result (IsAfter until (due_at s)) }
+        ensures own { (t : Rows) (side : Side) (h : SwitchHistory) (vl : ℕ) → IsLawfulSwitch t →
+            IfSome result (λ d. (g : Gives t side h until d self.new) →
+            AreFirstEntered t side vl h g.gone) }
         ensures in_time { (t : Rows) (side : Side) (h : SwitchHistory) →
             IsAdmittedRun t h.arrivals →
             IfSome result (λ d. (g : Gives t side h until d self.new) → IsInTime t g.gone.turn) }

@@ -20,7 +20,7 @@ use crate::ports::PortSet;
 use crate::switch::Departure;
 use crate::verdict::Verdict;
 use afdx_frame::{Checked, Priority, vl_of};
-use afdx_police::{Reason, judge};
+use afdx_police::{Reason, judge_checked};
 use afdx_port::{Due, Port, Serving, first_due};
 use std::alloc::{AllocError, Global};
 
@@ -185,14 +185,14 @@ impl Working {
         ensures clock { OnOk result (last_time self.new ≡ time) }
     {
         let Some(place) = self.place_of(frame.bytes) else {
-            let Some(reason) = judge(None, port, frame) else {
+            let Some(reason) = judge_checked(None, port, frame) else {
                 unreachable!();
             };
             self.clock = time;
             return Ok(Verdict::Dropped(reason));
         };
         let line = &self.lines[place];
-        if let Some(reason) = judge(Some(line.account.rule()), port, frame) {
+        if let Some(reason) = judge_checked(Some(line.account.rule()), port, frame) {
             self.clock = time;
             return Ok(Verdict::Dropped(reason));
         }

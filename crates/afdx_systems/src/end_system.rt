@@ -129,7 +129,7 @@ impl EndSystem {
             ..
         } = handover;
         let name = self.name.as_str();
-        match self.receiver.receive(time, side, frame) {
+        match self.receiver.receive_checked(time, side, frame) {
             Reception::Dropped(why) => {
                 put_drop(text, time, name, line, why)?;
                 Ok(false)

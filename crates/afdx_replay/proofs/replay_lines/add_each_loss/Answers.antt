@@ -8,10 +8,10 @@ use Rattle.afdx_replay.proofs.replay_lines.add_each_loss.Goals as goal
 pub loop-place-preserved : goal.loop-place-preserved
 loop-place-preserved c = record {
   lines = lines-more c.args.n c.args.side (holds c.args.lost.now) c.loop-place.place c.holds.result
-      (text_bytes c.args.text.now) _ _ c.loop-place-test.true c.holds.ensures
+      (text_bytes c.args.text.now) _ _ c.loop-place-test.true c.holds.ensures.held
       c.loop-place.invariant.lines c.in_ok-more.ensures.lines;
   count = count-more (holds c.args.lost.now) c.loop-place.place c.holds.result c.loop-place.count
-      c.in_ok-more.more _ c.loop-place-test.true c.holds.ensures c.loop-place.invariant.count
+      c.in_ok-more.more _ c.loop-place-test.true c.holds.ensures.held c.loop-place.invariant.count
       c.in_ok-more.ensures.count refl;
   few = omega (arith, one-more c.holds.result c.in_ok-more.more c.in_ok-more.ensures.count, c.loop-place.invariant.few);
 }

@@ -1,5 +1,9 @@
 use Rattle.afdx_switch.proofs.AdmittedLemmas.{each-in-time, none-left}
+use Rattle.afdx_switch.proofs.LinkFrameLemmas.{given-own}
 use Rattle.afdx_switch.proofs.switch.Switch.take.Goals as goal
+
+pub returns-clause-own : goal.returns-clause-own
+returns-clause-own c t side h vl lawful = given-own c.take.result t side h c.args.until vl _ lawful
 
 pub returns-clause-in_time : goal.returns-clause-in_time
 returns-clause-in_time c t side h run = each-in-time c.take.result t side h c.args.until _ run

@@ -27,26 +27,26 @@ use Rattle.afdx_switch.proofs.working.Working.arrive.Goals as goal
 pub unreachable-requires : goal.unreachable-requires
 unreachable-requires c =
     let fault = unknown-fault c.args.port c.args.frame.bytes.now in
-    let both : None ≡ Some fault.0 = c.in_default-judge.ensures.reason ∙ fault.1 in
+    let both : None ≡ Some fault.0 = c.in_default-judge_checked.ensures.reason ∙ fault.1 in
     cc both
 
 pub returns-in_default-clause-verdict : goal.returns-in_default-clause-verdict
 returns-in_default-clause-verdict c t side h st =
     let x = arrival_with c.args.tag c.args.time side c.args.port c.args.frame.bytes.now in
-    unknown-reason t x c.args.self.now h st c.in-Some-judge.reason
-    (c.in_default.ensures.place t side h st) (sym c.in-Some-judge.ensures.reason)
+    unknown-reason t x c.args.self.now h st c.in-Some-judge_checked.reason
+    (c.in_default.ensures.place t side h st) (sym c.in-Some-judge_checked.ensures.reason)
 
 pub returns-in_default-clause-stands : goal.returns-in_default-clause-stands
 returns-in_default-clause-stands c t side h st =
     let x = arrival_with c.args.tag c.args.time side c.args.port c.args.frame.bytes.now in
     let none = c.in_default.ensures.place t side h st in
     stands-dropped t x c.args.self.now h st _ _ None none
-    (unknown-reason t x c.args.self.now h st c.in-Some-judge.reason none
-    (sym c.in-Some-judge.ensures.reason))
+    (unknown-reason t x c.args.self.now h st c.in-Some-judge_checked.reason none
+    (sym c.in-Some-judge_checked.ensures.reason))
     (lines-unknown t x c.args.self.now h st none) refl refl refl refl
 
-pub returns-in-Some-judge-2-clause-verdict : goal.returns-in-Some-judge-2-clause-verdict
-returns-in-Some-judge-2-clause-verdict c t side h st =
+pub returns-in-Some-judge_checked-2-clause-verdict : goal.returns-in-Some-judge_checked-2-clause-verdict
+returns-in-Some-judge_checked-2-clause-verdict c t side h st =
     let x = arrival_with c.args.tag c.args.time side c.args.port c.args.frame.bytes.now in
     let n : IsNamedAt (rows_of t) c.args.frame.bytes.now c.in-Some.place = c.in-Some.ensures.place t side h st in
     let at = slice_get_read c.args.self.now.lines.items _ c.in-Some.place c.index-line.result.now
@@ -54,14 +54,14 @@ returns-in-Some-judge-2-clause-verdict c t side h st =
     let is = line-is t x c.args.self.now h st c.in-Some.place n c.index-line.result.now at in
     let rule : rule_of c.rule.result.now ≡ n.row.rule = c.rule.ensures ∙ is.account.by_rule in
     let fault : fault_of (Some n.row.rule) c.args.port c.args.frame.bytes.now
-    ≡ Some c.in-Some-judge-2.reason =
+    ≡ Some c.in-Some-judge_checked-2.reason =
     ap (λ q. fault_of (Some q) c.args.port c.args.frame.bytes.now) (sym rule)
-    ∙ sym c.in-Some-judge-2.ensures.reason in
+    ∙ sym c.in-Some-judge_checked-2.ensures.reason in
     fault-reason t x c.args.self.now h st c.in-Some.place n c.index-line.result.now at
-    c.in-Some-judge-2.reason fault
+    c.in-Some-judge_checked-2.reason fault
 
-pub returns-in-Some-judge-2-clause-stands : goal.returns-in-Some-judge-2-clause-stands
-returns-in-Some-judge-2-clause-stands c t side h st =
+pub returns-in-Some-judge_checked-2-clause-stands : goal.returns-in-Some-judge_checked-2-clause-stands
+returns-in-Some-judge_checked-2-clause-stands c t side h st =
     let x = arrival_with c.args.tag c.args.time side c.args.port c.args.frame.bytes.now in
     let n : IsNamedAt (rows_of t) c.args.frame.bytes.now c.in-Some.place = c.in-Some.ensures.place t side h st in
     let at = slice_get_read c.args.self.now.lines.items _ c.in-Some.place c.index-line.result.now
@@ -69,14 +69,14 @@ returns-in-Some-judge-2-clause-stands c t side h st =
     let is = line-is t x c.args.self.now h st c.in-Some.place n c.index-line.result.now at in
     let rule : rule_of c.rule.result.now ≡ n.row.rule = c.rule.ensures ∙ is.account.by_rule in
     let fault : fault_of (Some n.row.rule) c.args.port c.args.frame.bytes.now
-    ≡ Some c.in-Some-judge-2.reason =
+    ≡ Some c.in-Some-judge_checked-2.reason =
     ap (λ q. fault_of (Some q) c.args.port c.args.frame.bytes.now) (sym rule)
-    ∙ sym c.in-Some-judge-2.ensures.reason in
-    stands-dropped t x c.args.self.now h st _ c.in-Some-judge-2.reason (Some c.in-Some.place) n
+    ∙ sym c.in-Some-judge_checked-2.ensures.reason in
+    stands-dropped t x c.args.self.now h st _ c.in-Some-judge_checked-2.reason (Some c.in-Some.place) n
     (fault-reason t x c.args.self.now h st c.in-Some.place n c.index-line.result.now at
-    c.in-Some-judge-2.reason fault)
+    c.in-Some-judge_checked-2.reason fault)
     (lines-faulted t x c.args.self.now h st c.in-Some.place n c.index-line.result.now at
-    c.in-Some-judge-2.reason fault) refl refl refl refl
+    c.in-Some-judge_checked-2.reason fault) refl refl refl refl
 
 pub returns-then-not-passes-clause-verdict : goal.returns-then-not-passes-clause-verdict
 returns-then-not-passes-clause-verdict c t side h st =
@@ -93,7 +93,7 @@ returns-then-not-passes-clause-verdict c t side h st =
     let is_line = line-is t x c.args.self.now h st c.in-Some.place n c.index_mut-line.result.now at_line in
     let sound : fault_of (Some n.row.rule) c.args.port c.args.frame.bytes.now ≡ None =
     ap (λ q. fault_of (Some q) c.args.port c.args.frame.bytes.now) (sym rule)
-    ∙ sym c.in_default-judge-2.ensures.reason in
+    ∙ sym c.in_default-judge_checked-2.ensures.reason in
     let answer : (if c.offer-passes.result then None else Some OverRate)
     ≡ reason_after n.row.rule (own n.row.rule.vl side h.arrivals) x =
     c.offer-passes.ensures.answer n.row.rule (own n.row.rule.vl side h.arrivals) x
@@ -115,7 +115,7 @@ returns-then-not-passes-clause-stands c t side h st =
     let is_line = line-is t x c.args.self.now h st c.in-Some.place n c.index_mut-line.result.now at_line in
     let sound : fault_of (Some n.row.rule) c.args.port c.args.frame.bytes.now ≡ None =
     ap (λ q. fault_of (Some q) c.args.port c.args.frame.bytes.now) (sym rule)
-    ∙ sym c.in_default-judge-2.ensures.reason in
+    ∙ sym c.in_default-judge_checked-2.ensures.reason in
     let answer : (if c.offer-passes.result then None else Some OverRate)
     ≡ reason_after n.row.rule (own n.row.rule.vl side h.arrivals) x =
     c.offer-passes.ensures.answer n.row.rule (own n.row.rule.vl side h.arrivals) x
@@ -142,7 +142,7 @@ returns-clause-verdict c t side h st =
     let is_line = line-is t x c.args.self.now h st c.in-Some.place n c.index_mut-line.result.now at_line in
     let sound : fault_of (Some n.row.rule) c.args.port c.args.frame.bytes.now ≡ None =
     ap (λ q. fault_of (Some q) c.args.port c.args.frame.bytes.now) (sym rule)
-    ∙ sym c.in_default-judge-2.ensures.reason in
+    ∙ sym c.in_default-judge_checked-2.ensures.reason in
     let answer : (if c.offer-passes.result then None else Some OverRate)
     ≡ reason_after n.row.rule (own n.row.rule.vl side h.arrivals) x =
     c.offer-passes.ensures.answer n.row.rule (own n.row.rule.vl side h.arrivals) x
@@ -151,7 +151,7 @@ returns-clause-verdict c t side h st =
     let small = (all-at (IsLineSound c.args.self.now.clock) c.args.self.now.lines.items
     c.in-Some.place c.index_mut-line.result.now c.requires.sound.lines at_line).wait in
     let longest : length c.args.frame.bytes.now ≤ 1518 =
-    omega (arith, c.in_default-judge-2.ensures.longest, c.rule.result.now.in_range.longest) in
+    omega (arith, c.in_default-judge_checked-2.ensures.longest, c.rule.result.now.in_range.longest) in
     let shared : AreShares (held_frame c.args.tag c.index-line.result.now.longest_wait
     c.args.frame.bytes.now) c.share_out.new.shares.items =
     subst (λ (f : HeldFrame). AreShares f c.share_out.new.shares.items) c.in_ok-copy.ensures
@@ -174,7 +174,7 @@ returns-clause-verdict c t side h st =
     omega (arith, c.args.self.now.ports.ok.0, c.requires.sound.port_count) in (
       accepted,
       lost-is t x c.args.self.now h st c.in-Some.place n c.index_mut-line.result.now at_line
-          accepted c.in_default-judge-2.ensures.shortest longest small
+          accepted c.in_default-judge_checked-2.ensures.shortest longest small
           c.forward-lost.new.ports c.forward-lost.result old_count c.forward-lost.ensures.count
           offered,
     )
@@ -194,7 +194,7 @@ returns-clause-stands c t side h st =
     let is_line = line-is t x c.args.self.now h st c.in-Some.place n c.index_mut-line.result.now at_line in
     let sound : fault_of (Some n.row.rule) c.args.port c.args.frame.bytes.now ≡ None =
     ap (λ q. fault_of (Some q) c.args.port c.args.frame.bytes.now) (sym rule)
-    ∙ sym c.in_default-judge-2.ensures.reason in
+    ∙ sym c.in_default-judge_checked-2.ensures.reason in
     let answer : (if c.offer-passes.result then None else Some OverRate)
     ≡ reason_after n.row.rule (own n.row.rule.vl side h.arrivals) x =
     c.offer-passes.ensures.answer n.row.rule (own n.row.rule.vl side h.arrivals) x
@@ -205,7 +205,7 @@ returns-clause-stands c t side h st =
     let small = (all-at (IsLineSound c.args.self.now.clock) c.args.self.now.lines.items
     c.in-Some.place c.index_mut-line.result.now c.requires.sound.lines at_line).wait in
     let longest : length c.args.frame.bytes.now ≤ 1518 =
-    omega (arith, c.in_default-judge-2.ensures.longest, c.rule.result.now.in_range.longest) in
+    omega (arith, c.in_default-judge_checked-2.ensures.longest, c.rule.result.now.in_range.longest) in
     let shared : AreShares (held_frame c.args.tag c.index-line.result.now.longest_wait
     c.args.frame.bytes.now) c.share_out.new.shares.items =
     subst (λ (f : HeldFrame). AreShares f c.share_out.new.shares.items) c.in_ok-copy.ensures
@@ -227,7 +227,7 @@ returns-clause-stands c t side h st =
     let old_count : length c.args.self.now.ports.items ≡ 24 =
     omega (arith, c.args.self.now.ports.ok.0, c.requires.sound.port_count) in
     stands-accepted t x c.args.self.now h st c.in-Some.place n c.index_mut-line.result.now at_line
-    accepted c.in_default-judge-2.ensures.shortest longest small
+    accepted c.in_default-judge_checked-2.ensures.shortest longest small
     c.forward-lost.new.ports c.forward-lost.result old_count c.forward-lost.ensures.count
     offered
     _ (lines-with t x c.args.self.now h st c.in-Some.place n c.index_mut-line.result.now at_line
@@ -382,7 +382,7 @@ returns-in_err-copy-clause-judged c t side h st =
     let rule : rule_of c.rule.result.now ≡ n.row.rule = c.rule.ensures ∙ is.account.by_rule in
     let sound : fault_of (Some n.row.rule) c.args.port c.args.frame.bytes.now ≡ None =
     ap (λ q. fault_of (Some q) c.args.port c.args.frame.bytes.now) (sym rule)
-    ∙ sym c.in_default-judge-2.ensures.reason in
+    ∙ sym c.in_default-judge_checked-2.ensures.reason in
     on-err c.from_residual.result (shape-named t x h.arrivals c.in-Some.place n ∙ sound)
 
 pub returns-in_err-share_out-clause-judged : goal.returns-in_err-share_out-clause-judged
@@ -395,7 +395,7 @@ returns-in_err-share_out-clause-judged c t side h st =
     let rule : rule_of c.rule.result.now ≡ n.row.rule = c.rule.ensures ∙ is.account.by_rule in
     let sound : fault_of (Some n.row.rule) c.args.port c.args.frame.bytes.now ≡ None =
     ap (λ q. fault_of (Some q) c.args.port c.args.frame.bytes.now) (sym rule)
-    ∙ sym c.in_default-judge-2.ensures.reason in
+    ∙ sym c.in_default-judge_checked-2.ensures.reason in
     on-err c.from_residual-in_err-share_out.result (shape-named t x h.arrivals c.in-Some.place n ∙ sound)
 
 pub returns-then-not-passes-clause-sound : goal.returns-then-not-passes-clause-sound

@@ -8,7 +8,7 @@ pub returns-in_err-put_drop-in-Dropped-clause-stands : goal.returns-in_err-put_d
 returns-in_err-put_drop-in-Dropped-clause-stands c = λ rows system past is.
     record {
       name = is.name;
-      receives = (c.receive.ensures.received rows system past is.receives).stands;
+      receives = (c.receive_checked.ensures.received rows system past is.receives).stands;
       read = is.read;
       found = is.found;
     }
@@ -17,7 +17,7 @@ pub returns-in_ok-put_drop-in-Dropped-clause-stands : goal.returns-in_ok-put_dro
 returns-in_ok-put_drop-in-Dropped-clause-stands c = λ rows system past is.
     record {
       name = is.name;
-      receives = (c.receive.ensures.received rows system past is.receives).stands;
+      receives = (c.receive_checked.ensures.received rows system past is.receives).stands;
       read = is.read;
       found = is.found;
     }
@@ -26,7 +26,7 @@ pub returns-in_default-clause-stands : goal.returns-in_default-clause-stands
 returns-in_default-clause-stands c = λ rows system past is.
     record {
       name = is.name;
-      receives = (c.receive.ensures.received rows system past is.receives).stands;
+      receives = (c.receive_checked.ensures.received rows system past is.receives).stands;
       read = is.read;
       found = is.found;
     }
@@ -34,7 +34,7 @@ returns-in_default-clause-stands c = λ rows system past is.
 pub returns-in_err-pass_on-in-Message-clause-stands : goal.returns-in_err-pass_on-in-Message-clause-stands
 returns-in_err-pass_on-in-Message-clause-stands c = λ rows system past is. record {
   name = is.name;
-  receives = (c.receive.ensures.received rows system past is.receives).stands;
+  receives = (c.receive_checked.ensures.received rows system past is.receives).stands;
   read = c.pass_on.ensures.read is.read;
   found = λ vl udp. ap is_some (c.pass_on.ensures.found vl udp) ∙ is.found vl udp;
 }
@@ -42,7 +42,7 @@ returns-in_err-pass_on-in-Message-clause-stands c = λ rows system past is. reco
 pub returns-in_ok-pass_on-in-Message-clause-stands : goal.returns-in_ok-pass_on-in-Message-clause-stands
 returns-in_ok-pass_on-in-Message-clause-stands c = λ rows system past is. record {
   name = is.name;
-  receives = (c.receive.ensures.received rows system past is.receives).stands;
+  receives = (c.receive_checked.ensures.received rows system past is.receives).stands;
   read = c.pass_on.ensures.read is.read;
   found = λ vl udp. ap is_some (c.pass_on.ensures.found vl udp) ∙ is.found vl udp;
 }

@@ -1,10 +1,10 @@
 -- A link's lawful stream at its sender's port is accepted, whatever else comes.
 use Rattle.std.proofs.Common.{◌≡◌, ℕ, suc, ◌+◌, ◌<◌, ◌≤◌, ◌-◌, ◌==◌, ◌^◌, Bool, true, false, List}
 use Rattle.std.proofs.Common.{[], ◌∷◌, length, map, refl, sym, ap, ◌∙◌, subst, arith}
-use Rattle.std.specs.Prelude.{Some, option_map, slice_get, if◌then◌else◌}
+use Rattle.std.specs.Prelude.{Result, IfOk, Some, option_map, slice_get, if◌then◌else◌}
 use Rattle.std.specs.List.{AllByRecursion}
 use Rattle.std.proofs.Math.ListN.{get_or}
-use Rattle.std.proofs.lemmas.Bool.{eqb-true, eq-eqb}
+use Rattle.std.proofs.lemmas.Bool.{eqb-true}
 use Rattle.std.proofs.lemmas.Option.{slice_get_within, slice_get-get_or, get_or_from_slice_get}
 use Rattle.afdx_frame.specs.declared.link.Side.{Side}
 use Rattle.afdx_frame.specs.declared.link.Side.TheVariants.{A, B}
@@ -12,8 +12,8 @@ use Rattle.afdx_frame.specs.Grammar.{Built, built_frame}
 use Rattle.afdx_frame.specs.Parts.{frame_of}
 use Rattle.afdx_frame.specs.Reading.{IsTheFrame, BuiltIsComputed}
 use Rattle.afdx_frame.specs.Regulation.{Regulation, bag}
-use Rattle.afdx_config.specs.Lawful.{IsWithin}
-use Rattle.afdx_config.specs.LawfulStream.{Sending, IsSent, IsLawfulStream}
+use Rattle.afdx_config.specs.Lawful.{IsWithin, IsLawfulSwitch}
+use Rattle.afdx_config.specs.LawfulStream.{Sending, IsSent, IsLawfulStream, copy_on}
 use Rattle.afdx_config.specs.Numbers.{after_steps}
 use Rattle.afdx_config.specs.Rows.{SystemRow, LinkRow, Rows}
 use Rattle.afdx_config.specs.SentList.{Message, Sent, address_of}
@@ -23,15 +23,15 @@ use Rattle.afdx_police.specs.Rule.{Rule, regulation_of}
 use Rattle.afdx_police.specs.Shape.{IsSound}
 use Rattle.afdx_police.specs.Stream.{IsRegular}
 use Rattle.afdx_police.specs.Verdicts.{charged_by}
+use Rattle.afdx_police.proofs.FrameLemmas.{IsFrameOn, frame_sound}
 use Rattle.afdx_police.proofs.ShapeLemmas.{sound-charged}
-use Rattle.afdx_receive.specs.Copies.{copy_on}
-use Rattle.afdx_receive.proofs.StreamLemmas.{steps_low}
-use Rattle.afdx_switch.specs.Regular.{at_port, AreSound}
-use Rattle.afdx_switch.proofs.RegularLemmas.{AreAccepted, accepted-at, regular-reason}
+use Rattle.afdx_config.proofs.NumberLemmas.{steps_low}
+use Rattle.afdx_switch.specs.Regular.{at_port, AreSound, IsAccepted}
+use Rattle.afdx_switch.proofs.RegularLemmas.{AreAccepted, accepted-at, regular-reason, verdict-accepted}
 use Rattle.afdx_switch.specs.Tables.{rule_of}
-use Rattle.afdx_promises.specs.NetworkPromises.{StreamIsRegular, StreamIsAccepted}
-use Rattle.afdx_promises.specs.Streams.{AreFirstOf}
-use Rattle.afdx_promises.proofs.ReceiverLemmas.{IsFrameOn, frame-sound, names-frame}
+use Rattle.afdx_switch.specs.Streams.{AreFirstOf, StreamIsRegular, StreamIsAccepted, IsNextOfStream}
+use Rattle.afdx_switch.specs.Verdicts.{IsVerdict}
+use Rattle.afdx_switch.specs.declared.verdict.Verdict.{Verdict}
 
 -- ---- frames of a stream
 
@@ -86,18 +86,7 @@ at-ports rule (x ∷ past) = by (rule.port == x.port) refl (at-ports rule past)
 pub sendable-sound : (t : Rows) (l : LinkRow) (port : ℕ) (bytes : List ℕ) → IsSendable l bytes
     → (rule_of t l).port ≡ port → IsSound (rule_of t l) port bytes
 unfolding rule_of
-sendable-sound t l port bytes is here =
-    let frame = frame-sound bytes is.frame.parts is.frame.is_frame in
-    record {
-      shortest = frame.shortest;
-      longest = frame.longest;
-      sealed = frame.sealed;
-      named = names-frame l.vl bytes is.frame.parts is.frame.is_frame
-          ∙ eq-eqb is.frame.parts.link.0 l.vl is.frame.named;
-      at_port = here;
-      within = is.long.1;
-      least = λ by_byte. is.long.0;
-    }
+sendable-sound t l port bytes is here = frame_sound (rule_of t l) port bytes is.frame here is.long.0 is.long.1
 
 regulated-as : (t : Rows) (l : LinkRow) → regulation_of (rule_of t l) ≡ regulation_of_link l
 unfolding rule_of
@@ -190,3 +179,11 @@ pub stream-accepted : BuiltIsComputed → StreamIsAccepted
 stream-accepted computed t past x place l messages stream lawful at is named port sendings =
     regular-reason t past x place l lawful at named port
     (stream-is-regular computed t (x ∷ past) x.side l messages stream is sendings)
+
+-- so is the next arrival of a stream
+pub next-accepted : {E : Type 0} → BuiltIsComputed → (r : Result Verdict E) (t : Rows)
+    (past : List Arrival) (x : Arrival) (place : ℕ) (l : LinkRow) → IsLawfulSwitch t → slice_get t.links place ≡ Some l
+    → IsNextOfStream t l past x → IfOk r (IsVerdict t past x) → IfOk r IsAccepted
+next-accepted computed r t past x place l lawful at is =
+    verdict-accepted r t past x
+    (stream-accepted computed t past x place l is.messages is.stream lawful at is.is is.named is.here is.first)

@@ -2,7 +2,7 @@ use Rattle.std.proofs.Common.{sym, ◌∙◌, ap, Some, arith}
 use Rattle.afdx_frame.specs.Parts.{parts_of}
 use Rattle.afdx_police.specs.RuleOf.{rule_of}
 use Rattle.afdx_police.proofs.FrameLemmas.{judged, judged_without, frame_is_sealed, no_frame}
-use Rattle.afdx_police.proofs.shape.judge.Goals as goal
+use Rattle.afdx_police.proofs.shape.judge_checked.Goals as goal
 
 pub returns-in-Err-clause-reason : goal.returns-in-Err-clause-reason
 returns-in-Err-clause-reason c =
