@@ -5,6 +5,7 @@ ghost use Rattle.afdx_port.specs.Times.{drain_end};
 ghost use Rattle.afdx_frame.specs.Ports.{last_port};
 ghost use Rattle.afdx_frame.specs.Times.{latest_listed};
 ghost use Rattle.afdx_lists.specs.Lines.{most_lines, most_reads};
+ghost use Rattle.afdx_config.specs.Lawful.{IsLawful};
 ghost use Rattle.afdx_config.specs.Rows.{Rows};
 ghost use Rattle.afdx_police.specs.Arrival.{Arrival};
 ghost use Rattle.afdx_police.specs.declared.shape.Reason.{Reason as DropReason};
@@ -15,6 +16,7 @@ ghost use Rattle.afdx_network.specs.Events.{Event, Departure, arrivals_in};
 ghost use Rattle.afdx_network.specs.Network as network;
 ghost use Rattle.afdx_lists.specs.FrameLines.{listed_frame};
 ghost use Rattle.afdx_lists.specs.Watching.{calls_of, device_of, has_ended, has_failed};
+ghost use Rattle.afdx_replay.specs.DefinedRun.{DefinedAnswers};
 ghost use Rattle.afdx_replay.specs.Listed.{arrival_at};
 ghost use Rattle.afdx_replay.specs.Replayed.{WritesSome, Answers, ToldAll, TellsDeparture, HasRoom};
 ghost use Rattle.afdx_replay.specs.Replayed.{IsOutputFault};
@@ -231,7 +233,10 @@ impl Machine<Heading> for Replay {
 /// Each line's events are handed to `output` before the next line is read: the frames that leave
 /// before its frame arrives, and then what became of that; at the end, all that is still to leave.
 /// A list that can't be read ends the run with its first fault; the text of the events up to the
-/// line before stands written. `RunFault::Read` and `RunFault::Write` come exactly where the
+/// line before stands written. The clause `defined`, of lawful tables (as all are; each reader of
+/// `Tables` says so), joins this to the definition: whether the tables are admitted or not, a copy
+/// is lost exactly where the one schedule of its port leaves no room, and the turns of each port
+/// are that schedule. `RunFault::Read` and `RunFault::Write` come exactly where the
 /// input's or the output's device failed; neither is tried again.
 pub fn run_unadmitted<R: Read, W: Write>(
     alloc: Global,
@@ -250,6 +255,11 @@ pub fn run_unadmitted<R: Read, W: Write>(
     // Where the input's bytes are known: what is answered and written for the list that they are.
     ensures answer { IfSome (R.remaining (device_of input.old)) (λ bytes.
         Answers tables.now bytes (R.remaining (device_of input.new))
+        (W.contents (device_of output.old)) (W.contents (device_of output.new)) result) }
+
+    // And what is written is the text of events that are those of the definition of an output port.
+    ensures defined { IsLawful tables.now → IfSome (R.remaining (device_of input.old)) (λ bytes.
+        DefinedAnswers tables.now bytes (R.remaining (device_of input.new))
         (W.contents (device_of output.old)) (W.contents (device_of output.new)) result) }
 {
     let mut replay = Replay::new(alloc, tables)?;

@@ -4,6 +4,7 @@ use Rattle.afdx_replay.specs.Items.{thing_of}
 use Rattle.afdx_replay.specs.Listed.{frames}
 use Rattle.afdx_replay.specs.Replayed.{WritesSoFar, WritesSome, ToldAll}
 use Rattle.afdx_replay.specs.ReplayTold.{TellsItems, BeginsItems, TellsAll}
+use Rattle.afdx_replay.proofs.DefinedLemmas.{if-defined}
 use Rattle.afdx_replay.proofs.ListRunLemmas.{answers-err, answers-ok}
 use Rattle.afdx_replay.proofs.ReplayLemmas.{are-some, are-so-far, told-done, stops-start}
 use Rattle.afdx_replay.proofs.replay_run.run_unadmitted.Goals as goal
@@ -43,3 +44,14 @@ returns-clause-answer g c =
     (BeginsItems t old new) (ToldAll t replay.counts old new) (g.R.Read.remaining c.args.input.now.inner)
     (g.R.Read.remaining c.run_list.new.input.inner) c.in_ok-lines.lines (λ past h. h)
     (c.in_ok-lines.ensures.answer t (c.in_ok-replay.ensures old))) (λ past h. h) refl
+
+pub returns-in_err-replay-clause-defined : goal.returns-in_err-replay-clause-defined
+returns-in_err-replay-clause-defined g c = λ lawful.
+    if-defined _ _ _ _ _ _ lawful (returns-in_err-replay-clause-answer g c)
+
+pub returns-in_err-lines-clause-defined : goal.returns-in_err-lines-clause-defined
+returns-in_err-lines-clause-defined g c = λ lawful.
+    if-defined _ _ _ _ _ _ lawful (returns-in_err-lines-clause-answer g c)
+
+pub returns-clause-defined : goal.returns-clause-defined
+returns-clause-defined g c = λ lawful. if-defined _ _ _ _ _ _ lawful (returns-clause-answer g c)
