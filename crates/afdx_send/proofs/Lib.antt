@@ -14,6 +14,7 @@ pub mod NewLemmas
 pub mod LawLemmas
 pub mod MessageLemmas
 pub mod StreamLemmas
+mod NumberLemmas
 mod DoneLemmas
 mod OrderLemmas
 mod CompleteLemmas

@@ -2,7 +2,10 @@
 use Rattle.std.specs.Prelude.{◌≡◌, ℕ, ◌+◌, ◌≤◌, ◌⊎◌, ◌++◌, All, List, [], ◌∷◌, Some, slice_get}
 use Rattle.afdx_config.specs.Admission.{byte_ns, fixed_jitter, sender_jitter}
 use Rattle.afdx_config.specs.LawfulStream.{Sending, IsLawfulStream}
-use Rattle.afdx_config.specs.Rows.{LinkRow}
+use Rattle.afdx_config.specs.Rows.{SystemRow, LinkRow}
+use Rattle.afdx_config.specs.SentList.{Message, address_of, CanBeSent}
+use Rattle.afdx_frame.specs.Grammar.{Built}
+use Rattle.afdx_frame.specs.declared.link.Side.TheVariants.{A, B}
 use Rattle.afdx_send.specs.declared.sender.Emission.{Emission}
 use Rattle.afdx_send.specs.declared.working.Working.{Working}
 use Rattle.afdx_send.specs.Emissions.{LinkRelease, own, AreAllReleases, AreSendings, sent_list, times_of}
@@ -44,6 +47,15 @@ GoesOn h e = (place : ℕ) (l : LinkRow) (stream : List Sending) → slice_get h
 
 abbrev pub EmissionsAreLawful : Type 0
 EmissionsAreLawful = (w : Working) (h : SenderHistory) → StandsFor w h → EachEmitsLawfully h
+
+-- Of a lawful stream only the first frames are built under the number 0: a sender that lets 0
+-- follow 255 has none.
+abbrev pub ZeroComesFirst : Type 0
+ZeroComesFirst = (s : SystemRow) (l : LinkRow) (messages : List Message) (stream : List Sending) →
+    IsLawfulStream s l messages stream → (k : ℕ) (y : Sending) → 1 ≤ k →
+    slice_get stream k ≡ Some y → (m : Message) → CanBeSent s l m →
+    (Built (address_of s l m) 0 A m.payload y.a → ⊥)
+    × (Built (address_of s l m) 0 B m.payload y.b → ⊥)
 
 -- of two lists of first releases one begins the other: so the releases before a time, and the
 -- entries of the port, are determined

@@ -1,10 +1,12 @@
 //! What is true of each sender that stands for calls, over definitions alone.
 
 ghost use Rattle.afdx_send.specs.Laws.{EmissionsAreInTime, EmissionsAreLawful, FirstReleasesAgree};
+ghost use Rattle.afdx_send.specs.Laws.{ZeroComesFirst};
 ghost use Rattle.afdx_send.specs.Complete.{AllIsSent, EmissionsAreOfTaken};
 
 use crate::released::Released;
 use afdx_bounds::laws::{sender_is_bounded, tables_are_served};
+use afdx_frame::laws::built_is_computed;
 use afdx_port::laws::taken_are_on_schedule;
 
 /// Each emission ends when one frame of each of the system's links could have been sent since its
@@ -17,6 +19,15 @@ pub fn emissions_are_lawful()
 {
     sender_is_bounded::<Released>();
     taken_are_on_schedule::<Released>()
+}
+
+/// Of a lawful stream only the first frames have the number 0. So where a link that has emitted
+/// goes on lawfully, as with what `Sender::emit` gives, the next frames aren't built under 0: 255
+/// is not followed by 0.
+pub fn zero_comes_first()
+    ensures { ZeroComesFirst }
+{
+    built_is_computed()
 }
 
 /// The releases of what a sender took are determined: of two lists of first releases one begins the
