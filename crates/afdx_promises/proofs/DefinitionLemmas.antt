@@ -17,7 +17,7 @@ use Rattle.afdx_switch.specs.Verdicts.{is_share_lost, is_lost_at, numbers, lost_
 use Rattle.afdx_network.specs.Events.{Came, Admission, turns_at}
 use Rattle.afdx_promises.specs.ByDefinition.{AreItsOnlyTurns, sender_to, IsLostBySchedule, Enters}
 use Rattle.afdx_promises.specs.ByDefinition.{EntriesGrow, IsByDefinition}
-use Rattle.afdx_promises.specs.ByDefinition.{EventsAreByDefinition, EventsSoFarAreByDefinition}
+use Rattle.afdx_promises.specs.ByDefinition.{LossesAreByDefinition, EventsAreByDefinition, EventsSoFarAreByDefinition}
 use Rattle.afdx_promises.specs.Lines.{IsIn}
 use Rattle.afdx_promises.proofs.EventLemmas.{IsAdmission, came-of, taken-at-port, taken-so-far}
 use Rattle.afdx_promises.proofs.LineLemmas.{in-filter, filter-in}
@@ -140,6 +140,9 @@ lost-by-schedule t past x timed port low high = (
   λ lost. filter-in (is_lost_at t past x) port numbers (in-numbers port low high)
       (lost-there t past x port timed lost),
 )
+
+pub losses-by-definition : LossesAreByDefinition
+losses-by-definition t past x port timed = (lost-at t past x port timed, lost-there t past x port timed)
 
 -- ---- events
 

@@ -15,9 +15,10 @@ use Rattle.afdx_port.specs.Schedule.{Turn}
 use Rattle.afdx_config.specs.LawfulStream.{copy_on}
 use Rattle.afdx_send.specs.Emissions as send
 use Rattle.afdx_send.specs.Frames.{Frame, address_with}
+use Rattle.afdx_send.specs.Laws.{IsBuildable}
 use Rattle.afdx_switch.specs.Tables.{rule_of}
 use Rattle.afdx_switch.proofs.NewLemmas.{rule-is}
-use Rattle.afdx_promises.specs.Sent.{frame_on, sent_in, stream_of, IsBuildable, IsSentAs, AreSentAs}
+use Rattle.afdx_promises.specs.Sent.{frame_on, sent_in, stream_of, IsSentAs, AreSentAs}
 use Rattle.afdx_promises.specs.Sent.{arrivals_at, SentIsFed, StreamIsOfSendings}
 use Rattle.afdx_promises.specs.Sent.{ReleasedAreToldOnce, IsMergedSoFar, ReleasedAreToldSoFar}
 use Rattle.afdx_promises.specs.Sent.{OneSideIsEnough}

@@ -1,6 +1,6 @@
 -- What becomes of arrivals by the definition of an output port, on tables that are admitted or not.
 -- A list of arrivals has the newest first, a list of turns the latest.
-use Rattle.std.specs.Prelude.{◌≡◌, ℕ, ◌≤◌, ◌↔◌, ◌⊎◌, Option, Some, None, List, [], ◌∷◌, ◌++◌, length, find}
+use Rattle.std.specs.Prelude.{◌≡◌, ℕ, ◌≤◌, ◌↔◌, ◌⊎◌, true, Option, Some, None, List, [], ◌∷◌, ◌++◌, length, find}
 use Rattle.afdx_frame.specs.declared.link.Side.{Side}
 use Rattle.afdx_frame.specs.Ports.{last_port}
 use Rattle.afdx_config.specs.Lawful.{IsLawfulSwitch}
@@ -11,7 +11,7 @@ use Rattle.afdx_bounds.specs.Outputs.{Row, AreTimed, sends, entry_of}
 use Rattle.afdx_switch.specs.HeldFrames.{HeldFrame}
 use Rattle.afdx_switch.specs.Switching.{taken_at}
 use Rattle.afdx_switch.specs.Tables.{rows_of, output_at, carried, entries_at}
-use Rattle.afdx_switch.specs.Verdicts.{reason_of}
+use Rattle.afdx_switch.specs.Verdicts.{reason_of, is_lost_at}
 use Rattle.afdx_network.specs.Events.{Event, Came, Admission, turns_on}
 use Rattle.afdx_network.specs.Order.{IsAmong, AreEvents, AreEventsSoFar}
 use Rattle.afdx_promises.specs.Lines.{IsIn}
@@ -86,6 +86,12 @@ pub record AreByDefinitionSoFar (t : Rows) (arrivals : List Arrival) (events : L
   pub turns : (side : Side) (port : ℕ) → 1 ≤ port → port ≤ last_port →
       (later : List (Turn HeldFrame))
       × AreItsOnlyTurns t side port arrivals (later ++ taken_at port (turns_on side events))
+
+-- so what a switch answers (`is_lost_at`) is lost by the definition, and nothing else is
+abbrev pub LossesAreByDefinition : Type 0
+LossesAreByDefinition = (t : Rows) (past : List Arrival) (x : Arrival) (port : ℕ) →
+    AreTimed past →
+    (is_lost_at t past x port ≡ true) ↔ IsLostBySchedule t x.side port past x
 
 abbrev pub EventsAreByDefinition : Type 0
 EventsAreByDefinition = (t : Rows) (arrivals : List Arrival) (events : List Event) →

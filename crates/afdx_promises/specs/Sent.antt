@@ -1,9 +1,8 @@
 -- What the systems of a network send, as what arrives at its switches. Lists of turns and of
 -- arrivals have the newest first.
-use Rattle.std.specs.Prelude.{◌≡◌, ℕ, ◌<◌, ◌^◌, ◌==◌, ◌&&◌, true, if◌then◌else◌, Some, List, [], ◌∷◌, ◌++◌, filter, reverse, slice_get, take}
+use Rattle.std.specs.Prelude.{◌≡◌, ℕ, ◌==◌, ◌&&◌, true, if◌then◌else◌, Some, List, [], ◌∷◌, ◌++◌, filter, reverse, slice_get, take}
 use Rattle.std.specs.List.{AllByRecursion}
-use Rattle.afdx_frame.specs.Grammar.{Buildable, built_frame}
-use Rattle.afdx_frame.specs.Sealing.{AreBytes}
+use Rattle.afdx_frame.specs.Grammar.{built_frame}
 use Rattle.afdx_frame.specs.declared.link.Side.{Side}
 use Rattle.afdx_frame.specs.declared.link.Side.TheVariants.{A, B}
 use Rattle.afdx_config.specs.LawfulStream.{Sending}
@@ -14,7 +13,7 @@ use Rattle.afdx_port.specs.Schedule.{Turn}
 use Rattle.afdx_config.specs.LawfulStream.{copy_on}
 use Rattle.afdx_send.specs.Emissions.{AreSendings, own, sent_list}
 use Rattle.afdx_send.specs.Frames.{Frame, address_with}
-use Rattle.afdx_send.specs.Laws.{EmitsLawfully}
+use Rattle.afdx_send.specs.Laws.{IsBuildable, EmitsLawfully}
 use Rattle.afdx_send.specs.Sender.{SenderHistory}
 use Rattle.afdx_promises.specs.Lines.{Line, messages_told}
 use Rattle.afdx_promises.specs.Promises.{EachIsToldOnce, EachIsToldOnceSoFar, most_come}
@@ -42,13 +41,6 @@ stream_of s vl [] = []
 stream_of s vl (turn ∷ earlier) =
     if turn.entry.item.vl == vl then with_sent (stream_of s vl earlier) (sent_in s turn)
     else stream_of s vl earlier
-
--- the builder takes each frame
-pub record IsBuildable (s : SystemRow) (turn : Turn Frame) : Type 0 where
-  pub buildable : Buildable
-      (address_with s.id s.partition turn.entry.item) turn.entry.item.message.payload
-  pub bytes : AreBytes turn.entry.item.message.payload
-  pub number : turn.entry.item.number < 2 ^ 8
 
 -- an arrival on a side is what was sent in a slot, when the slot ended
 pub record IsSentAs (s : SystemRow) (side : Side) (turn : Turn Frame) (x : Arrival) : Type 0 where

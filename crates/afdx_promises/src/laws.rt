@@ -1,6 +1,6 @@
 //! What a network whose tables are admitted promises, whatever arrives at its switches.
 
-ghost use Rattle.afdx_promises.specs.ByDefinition.{EventsAreByDefinition, EventsSoFarAreByDefinition};
+ghost use Rattle.afdx_promises.specs.ByDefinition.{LossesAreByDefinition, EventsAreByDefinition, EventsSoFarAreByDefinition};
 ghost use Rattle.afdx_promises.specs.Examples.{PremisesAreMet, AdmissionIsNeeded, TimesAreNeeded};
 ghost use Rattle.afdx_promises.specs.NetworkPromises.{PortsAreAsPromised, LeftSoFarAreFirst, ReceptionsAreOne, ReceptionsExist, EventsBringReceptions, LinksAreApart, MessagesComeSoFar, MessagesComeOnce, EventsAreAsPromised, EventsSoFarAreAsPromised};
 ghost use Rattle.afdx_promises.specs.Sent.{SentIsFed, StreamIsOfSendings, ReleasedAreToldOnce};
@@ -58,6 +58,7 @@ pub fn events_are_as_promised()
 ///
 /// And so are those up to the last arrival: the turns of each port so far begin its schedule.
 pub fn events_are_by_definition()
+    ensures losses { LossesAreByDefinition }
     ensures all { EventsAreByDefinition }
     ensures so_far { EventsSoFarAreByDefinition }
 {}

@@ -25,6 +25,7 @@ use Rattle.afdx_send.specs.Complete.{IsFor, HasSentAll, EmitsAll, IsOfTaken, All
 use Rattle.afdx_send.specs.Complete.{EmissionsAreOfTaken, submissions_of, AreReleasesOfAll}
 use Rattle.afdx_send.specs.Emissions.{own, own_submissions, sent_list}
 use Rattle.afdx_send.specs.Frames.{Frame, address_with}
+use Rattle.afdx_send.specs.Laws.{IsBuildable}
 use Rattle.afdx_send.specs.Releases.{Submission, Release, IsMessage}
 use Rattle.afdx_send.specs.Sender.{SenderHistory}
 use Rattle.afdx_send.proofs.MessageLemmas.{can_be_sent}
@@ -32,7 +33,7 @@ use Rattle.afdx_send.proofs.NewLemmas.{from_filter, distinct_links}
 use Rattle.afdx_send.proofs.NextLemmas.{split_last}
 use Rattle.afdx_promises.specs.Lines.{Line, messages_told}
 use Rattle.afdx_promises.specs.Promises.{EachIsToldOnce, EachIsToldOnceSoFar, most_come}
-use Rattle.afdx_promises.specs.Sent.{frame_on, stream_of, IsBuildable, AreSentAs, arrivals_at}
+use Rattle.afdx_promises.specs.Sent.{frame_on, stream_of, AreSentAs, arrivals_at}
 use Rattle.afdx_promises.specs.Sent.{StreamIsOfSendings, ReleasedAreToldOnce, IsMergedSoFar}
 use Rattle.afdx_promises.specs.Sent.{ReleasedAreToldSoFar, OneSideIsEnough}
 use Rattle.afdx_promises.proofs.ListLemmas.{all-imply}

@@ -15,6 +15,7 @@ pub mod LawLemmas
 pub mod MessageLemmas
 pub mod StreamLemmas
 mod NumberLemmas
+mod BuildableLemmas
 mod DoneLemmas
 mod OrderLemmas
 mod CompleteLemmas

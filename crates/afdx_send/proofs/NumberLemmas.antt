@@ -26,7 +26,7 @@ step-is n lt = by (nat_eq n 255) refl
     by true e = (omega arith, omega arith)
     by false e = (let ne : n ≢ 255 = grind (arith, nat_tests, e) in (omega arith, omega (arith, ne, lt)))
 
-number-small : (k : ℕ) → after_steps k 0 < 256
+pub number-small : (k : ℕ) → after_steps k 0 < 256
 unfolding after_steps
 number-small zero = omega arith
 number-small (suc k) = (step-is (after_steps k 0) (number-small k)).1

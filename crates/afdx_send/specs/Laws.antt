@@ -1,11 +1,15 @@
 -- What is true of each sender that stands for calls.
-use Rattle.std.specs.Prelude.{◌≡◌, ℕ, ◌+◌, ◌≤◌, ◌⊎◌, ◌++◌, All, List, [], ◌∷◌, Some, slice_get}
+use Rattle.std.specs.Prelude.{◌≡◌, ℕ, ◌+◌, ◌^◌, ◌<◌, ◌≤◌, ◌⊎◌, ◌++◌, All, List, [], ◌∷◌, Some, slice_get}
 use Rattle.afdx_config.specs.Admission.{byte_ns, fixed_jitter, sender_jitter}
 use Rattle.afdx_config.specs.LawfulStream.{Sending, IsLawfulStream}
 use Rattle.afdx_config.specs.Rows.{SystemRow, LinkRow}
 use Rattle.afdx_config.specs.SentList.{Message, address_of, CanBeSent}
-use Rattle.afdx_frame.specs.Grammar.{Built}
+use Rattle.afdx_frame.specs.Grammar.{Built, Buildable}
+use Rattle.afdx_frame.specs.Sealing.{AreBytes}
 use Rattle.afdx_frame.specs.declared.link.Side.TheVariants.{A, B}
+use Rattle.std.specs.List.{AllByRecursion}
+use Rattle.afdx_port.specs.Schedule.{Turn}
+use Rattle.afdx_send.specs.Frames.{Frame, address_with}
 use Rattle.afdx_send.specs.declared.sender.Emission.{Emission}
 use Rattle.afdx_send.specs.declared.working.Working.{Working}
 use Rattle.afdx_send.specs.Emissions.{LinkRelease, own, AreAllReleases, AreSendings, sent_list, times_of}
@@ -20,6 +24,20 @@ EachIsInTime h =
 
 abbrev pub EmissionsAreInTime : Type 0
 EmissionsAreInTime = (w : Working) (h : SenderHistory) → StandsFor w h → EachIsInTime h
+
+-- the builder takes what was sent in a slot, for each network
+pub record IsBuildable (s : SystemRow) (turn : Turn Frame) : Type 0 where
+  pub buildable : Buildable
+      (address_with s.id s.partition turn.entry.item) turn.entry.item.message.payload
+  pub bytes : AreBytes turn.entry.item.message.payload
+  pub number : turn.entry.item.number < 2 ^ 8
+
+-- so it takes each emission
+abbrev pub EachIsBuildable : SenderHistory → Type 0
+EachIsBuildable h = AllByRecursion (IsBuildable h.system) h.emitted
+
+abbrev pub EmissionsAreBuildable : Type 0
+EmissionsAreBuildable = (w : Working) (h : SenderHistory) → StandsFor w h → EachIsBuildable h
 
 -- what a link has emitted is a lawful stream of the beginning of its sent list, whose moments are
 -- those of the releases, and whose frames are in time

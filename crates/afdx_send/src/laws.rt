@@ -1,7 +1,7 @@
 //! What is true of each sender that stands for calls, over definitions alone.
 
 ghost use Rattle.afdx_send.specs.Laws.{EmissionsAreInTime, EmissionsAreLawful, FirstReleasesAgree};
-ghost use Rattle.afdx_send.specs.Laws.{ZeroComesFirst};
+ghost use Rattle.afdx_send.specs.Laws.{EmissionsAreBuildable, ZeroComesFirst};
 ghost use Rattle.afdx_send.specs.Complete.{AllIsSent, EmissionsAreOfTaken};
 
 use crate::released::Released;
@@ -12,9 +12,11 @@ use afdx_port::laws::taken_are_on_schedule;
 /// Each emission ends when one frame of each of the system's links could have been sent since its
 /// release.
 ///
-/// What a link has emitted is a lawful stream of the beginning of its sent list.
+/// The builder takes each. What a link has emitted is a lawful stream of the beginning of its sent
+/// list.
 pub fn emissions_are_lawful()
     ensures in_time { EmissionsAreInTime }
+    ensures buildable { EmissionsAreBuildable }
     ensures lawful { EmissionsAreLawful }
 {
     sender_is_bounded::<Released>();

@@ -47,7 +47,7 @@ impl Sender {
     ghost use Rattle.afdx_config.specs.Rows.{SystemRow};
     ghost use Rattle.afdx_port.specs.Schedule.{Turn};
     ghost use Rattle.afdx_send.specs.Frames.{Frame};
-    ghost use Rattle.afdx_send.specs.Laws.{EachIsInTime, EachEmitsLawfully, GoesOn};
+    ghost use Rattle.afdx_send.specs.Laws.{EachIsInTime, EachIsBuildable, EachEmitsLawfully, GoesOn};
     ghost use Rattle.afdx_send.specs.Releases.{Submission};
     ghost use Rattle.afdx_send.specs.Sender.{SenderHistory, no_calls, at, with_submission, IsNextIn};
     ghost use Rattle.afdx_send.specs.Sender.{IsQuiet, StandsFor, Emits, AreAllEmitted, IsTaken};
@@ -127,6 +127,7 @@ impl Sender {
             OnErr result (StandsFor self.new (at h until)) }
         ensures quiet { IfOk result (λ o. IfNone o (IsQuiet self.new until)) }
         ensures in_time { (h : SenderHistory) → StandsFor self.new h → EachIsInTime h }
+        ensures buildable { (h : SenderHistory) → StandsFor self.new h → EachIsBuildable h }
         ensures lawful { (h : SenderHistory) → StandsFor self.new h → EachEmitsLawfully h }
         ensures goes_on { (h : SenderHistory) → StandsFor self.old h →
             IfOk result (λ o. IfSome o (λ e. GoesOn h e)) }

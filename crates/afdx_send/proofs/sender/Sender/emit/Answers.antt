@@ -23,3 +23,6 @@ pub returns-clause-goes_on : goal.returns-clause-goes_on
 returns-clause-goes_on c =
     rw (← c.self.view_is) (λ h stands. of_given _ _ _ (λ e is.
     goes_on _ h c.args.until e c.emissions_are_lawful.ensures.lawful is) (c.emit.ensures.given h stands))
+
+pub returns-clause-buildable : goal.returns-clause-buildable
+returns-clause-buildable c = λ h stands. c.emissions_are_lawful.ensures.buildable _ h stands
