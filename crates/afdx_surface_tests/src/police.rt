@@ -1,0 +1,67 @@
+//! The items of `afdx_police`.
+
+use afdx_frame::{Policing, VlId};
+use afdx_police::{ByteCharge, Charge, FrameCharge, LinkRule, Policer, Reason, judge};
+use afdx_samples::{equal, hello};
+use std::test::Fail;
+
+/// The place of a reason in the order in which they are answered.
+fn place(reason: Reason) -> u8 {
+    match reason {
+        Reason::TooShort => 1,
+        Reason::TooLong => 2,
+        Reason::BadFcs => 3,
+        Reason::BadAddress => 4,
+        Reason::UnknownLink => 5,
+        Reason::WrongPort => 6,
+        Reason::OverLmax => 7,
+        Reason::UnderLmin => 8,
+        Reason::OverRate => 9,
+    }
+}
+
+/// The rule of link 1, at port 1.
+fn rule() -> Option<LinkRule> {
+    let (vl, port, policing): (VlId, u8, Policing) = (VlId(1), 1, Policing::Byte);
+    let (bag_ms, lmin, lmax, jitter_us): (u64, u64, u64, u64) = (1, 64, 64, 500);
+    let rule: Option<LinkRule> = LinkRule::new(vl, port, bag_ms, lmin, lmax, jitter_us, policing);
+    rule
+}
+
+/// What a frame of 84 bytes on the wire is charged.
+fn charged<C: Charge>() -> u64 {
+    let (smax, wire): (u64, u64) = (1538, 84);
+    let charge: u64 = C::charge(smax, wire);
+    charge
+}
+
+/// Whether a new account takes a frame of 64 bytes at time 0.
+fn is_taken<C: Charge>(rule: &LinkRule) -> bool {
+    if rule.lmax < 64 {
+        return false;
+    }
+    let mut policer: Policer<C> = Policer::new(rule);
+    let (time, length): (u64, u64) = (0, 64);
+    let passes: bool = policer.offer(time, length);
+    passes
+}
+
+#[test]
+fn verdicts() -> Result<(), Fail> {
+    let rule: LinkRule = rule().ok_or("a rule")?;
+    let policing: Policing = rule.policing();
+    let bytes: &[u8] = &hello(0);
+    let port: u8 = 2;
+    let wrong: Option<Reason> = judge(Some(&rule), port, bytes);
+    let unknown: Option<Reason> = judge(None, port, bytes);
+    equal(policing, Policing::Byte)?;
+    equal((wrong.map(place), unknown.map(place)), (Some(6), Some(5)))
+}
+
+#[test]
+fn accounts() -> Result<(), Fail> {
+    let rule: LinkRule = rule().ok_or("a rule")?;
+    equal((charged::<ByteCharge>(), charged::<FrameCharge>()), (84, 1538))?;
+    let taken = (is_taken::<ByteCharge>(&rule), is_taken::<FrameCharge>(&rule));
+    equal(taken, (true, true))
+}

@@ -1,0 +1,122 @@
+//! The items of `afdx_replay`.
+
+ghost use Rattle.std.specs.Prelude.{◌≡◌, ◌<◌, false, length};
+ghost use Rattle.afdx_lists.specs.Watching.{has_failed, has_ended};
+
+use afdx_admit::Admitted;
+use afdx_config::{SystemId, Tables};
+use afdx_frame::{Policing, VlId};
+use afdx_police::LinkRule;
+use afdx_replay::{RunFault, Summary, Watched, check};
+use afdx_replay::{run, run_police, run_send, run_unadmitted};
+use afdx_samples::{admitted, base, base_tables, equal};
+use std::alloc::Global;
+use std::test::Fail;
+
+/// What a run reads: an empty list.
+fn empty_list() -> Watched<&'static [u8]>
+    ensures sound { has_failed result ≡ false }
+    ensures unended { has_ended result ≡ false }
+{
+    let list: &[u8] = b"";
+    let input: Watched<&[u8]> = Watched::new(list);
+    input
+}
+
+/// The counts of a run, in their order.
+fn counts(summary: Summary) -> [u64; 7] {
+    let lines: u64 = summary.lines;
+    let accepted: u64 = summary.accepted;
+    let dropped: u64 = summary.dropped;
+    let lost: u64 = summary.lost;
+    let departed: u64 = summary.departed;
+    let too_old: u64 = summary.too_old;
+    let delivered: u64 = summary.delivered;
+    [lines, accepted, dropped, lost, departed, too_old, delivered]
+}
+
+/// What became of a device: whether a call failed, whether it ended, and how many calls there were.
+fn told<T>(device: &Watched<T>) -> (bool, bool, u64) {
+    let failed: bool = device.failed();
+    let ended: bool = device.ended();
+    let calls: u64 = device.calls();
+    (failed, ended, calls)
+}
+
+/// An output of a run.
+fn new_output(alloc: Global) -> Watched<Vec<u8>>
+    ensures { has_failed result ≡ false }
+{
+    let output: Watched<Vec<u8>> = Watched::new(Vec::new(alloc));
+    output
+}
+
+/// What `run` counts in an empty list, and what became of its devices.
+fn ran(alloc: Global, tables: &Admitted) -> Result<([u64; 7], (bool, bool), usize), RunFault> {
+    let mut input = empty_list();
+    let mut output = new_output(alloc);
+    let answer: Result<Summary, RunFault> = run(alloc, tables, &mut input, &mut output);
+    let (failed, ended, _) = told(&input);
+    let written: Vec<u8> = output.into_inner();
+    Ok((counts(answer?), (failed, ended), written.len()))
+}
+
+/// What `run_unadmitted` counts in an empty list.
+fn ran_unadmitted(alloc: Global, tables: &Tables) -> Result<[u64; 7], RunFault> {
+    let mut input = empty_list();
+    let mut output = new_output(alloc);
+    let answer: Result<Summary, RunFault> =
+        run_unadmitted(alloc, tables, &mut input, &mut output);
+    Ok(counts(answer?))
+}
+
+/// What `run_police` counts in an empty list.
+fn ran_police(alloc: Global, rule: &LinkRule) -> Result<[u64; 7], RunFault> {
+    let mut input = empty_list();
+    let mut output = new_output(alloc);
+    let answer: Result<Summary, RunFault> = run_police(alloc, rule, &mut input, &mut output);
+    Ok(counts(answer?))
+}
+
+/// What `run_send` counts in an empty list.
+fn ran_send(alloc: Global, tables: &Admitted, system: SystemId) -> Result<[u64; 7], RunFault>
+    requires { system.0 < length tables.now.systems }
+{
+    let mut input = empty_list();
+    let mut output = new_output(alloc);
+    let answer: Result<Summary, RunFault> =
+        run_send(alloc, tables, system, &mut input, &mut output);
+    Ok(counts(answer?))
+}
+
+/// The status of `check`, and how much it writes.
+fn checked(alloc: Global, config: &[u8]) -> (u8, usize) {
+    let mut output = new_output(alloc);
+    let mut errors = new_output(alloc);
+    let status: u8 = check(alloc, config, &mut output, &mut errors);
+    (status, output.into_inner().len())
+}
+
+#[test]
+fn runs(rt: HostRuntime) -> Result<(), Fail> {
+    let rule = LinkRule::new(VlId(1), 1, 1, 64, 64, 500, Policing::Byte).ok_or("a rule")?;
+    equal(ran_police(rt.alloc(), &rule)?, [0; 7])?;
+    let tables = base_tables(rt.alloc())?;
+    equal(ran_unadmitted(rt.alloc(), &tables)?, [0; 7])
+}
+
+#[test]
+fn admitted_runs(rt: HostRuntime) -> Result<(), Fail> {
+    let tables = admitted(rt.alloc(), base())?;
+    equal(ran(rt.alloc(), &tables)?, ([0; 7], (false, true), 0))?;
+    if tables.tables().system_count() < 1 {
+        return Err("a system".into());
+    }
+    equal(ran_send(rt.alloc(), &tables, SystemId(0))?, [0; 7])
+}
+
+#[test]
+fn checks(rt: HostRuntime) -> Result<(), Fail> {
+    let (status, _) = checked(rt.alloc(), base().as_bytes());
+    equal(status, 0)
+}
