@@ -7,6 +7,8 @@
 - Each crate has its row in README and in docs/ARCHITECTURE.md, which names each of its files of
   definitions.
 - Each must-fail edit finds the text that it changes, once.
+- Out of memory is made only where a growth was refused: in a `From`, or in the one function of a
+  crate that hands it on (MEMORY).
 - Each source file says at its head what it is; lines of definitions, of contracts, of code and of
   scripts have at most 100 columns, those of proofs at most 140; imports may be wider, and the
   tables of numbers in afdx_frame/src/tables.rt.
@@ -23,6 +25,15 @@ DOCUMENTS = ["README.md", "docs/PROMISES.md", "docs/ARCHITECTURE.md", "docs/DEVE
 COLUMNS = 100
 PROOF_COLUMNS = 140
 NUMBERS = CRATES / "afdx_frame/src/tables.rt"
+# the functions, beside each `from`, that may name an AllocError or a fault's Memory as a value
+MEMORY = {
+    "crates/afdx/src/main.rt": {"memory"},
+    "crates/afdx_config/src/read.rt": {"tree_of"},
+    "crates/afdx_replay/src/refusing.rt": {"want_memory"},
+    "crates/afdx_replay/src/send_run.rt": {"refusal_of"},
+    "crates/afdx_send/src/working.rt": {"accept"},
+    "crates/afdx_systems/src/end_system.rt": {"pass_on"},
+}
 SCRIPTS = ["tests/**/*.py", "tests/**/*.sh", "tests/*.c", "examples/*.py"]
 SCRIPTS += ["bench/*", "bin/*", "tools/*", ".ci/*"]
 
@@ -130,6 +141,31 @@ def wide_lines(most: int, *patterns: str) -> list[str]:
     return faults
 
 
+def makes_memory(line: str) -> bool:
+    """It has an AllocError or a fault's Memory as a value: not as a type, nor as a pattern."""
+    code = line.split("//")[0]
+    if re.match(r"\s*(pub |ghost )*(use|ensures|requires)\b", code):
+        return False
+    errors = re.search(r"(^\s*|[(,=>] ?)AllocError\b(?!\s*[>}])", code)
+    faults = re.search(r"(?<!\| )\b\w+(Fault|Error)::Memory\b(?!\)*\s*(=>|\||=[^=]))", code)
+    return errors is not None or faults is not None
+
+
+def made_up_memory() -> list[str]:
+    faults = []
+    for path in sources("crates/*/src/**/*.rt"):
+        name = str(path.relative_to(TOP))
+        if "_tests/" in name or "afdx_samples/" in name:
+            continue
+        function = ""
+        for number, line in enumerate(text_of(path).splitlines(), 1):
+            found = re.match(r"\s*(?:pub(?:\(crate\))? )?fn (\w+)", line)
+            function = found.group(1) if found else function
+            if makes_memory(line) and function not in MEMORY.get(name, set()) | {"from"}:
+                faults.append(f"{name}:{number}: {function} makes out of memory up")
+    return faults
+
+
 def headless() -> list[str]:
     return [
         f"{path.relative_to(TOP)} doesn't say what it is"
@@ -143,6 +179,7 @@ def main() -> int:
         "names in documents": wrong_names(),
         "rows of crates": missing_rows(),
         "must-fail edits": wrong_edits(),
+        "out of memory": made_up_memory(),
         "heads of source files": headless(),
         "columns of definitions": wide_lines(COLUMNS, "crates/*/specs/*.antt"),
         "columns of code": wide_lines(COLUMNS, "crates/*/src/**/*.rt"),

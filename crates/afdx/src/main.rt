@@ -10,7 +10,8 @@ use crate::explaining::{Cause, explain, is_asked, line_of, print_meaning};
 use afdx_explain::meaning_of;
 use afdx_replay::status::{DONE, NO_DEVICE_OR_MEMORY, WRONG_WORDS};
 use afdx_replay::{
-    Buffered, CommandedRule, Ended, Policing, Watched, check, finish, police, replay, send,
+    Buffered, CommandedRule, Ended, Policing, RunFault, Watched, check, finish, police_and_count,
+    replay_and_count, send_and_count,
 };
 use clap::error::ErrorKind;
 use clap::{ArgMatches, Error};
@@ -25,14 +26,20 @@ const OUTPUT_BUFFER: usize = 65_536;
 /// The most bytes of a configuration.
 const LARGEST_CONFIG: u64 = 4_194_304;
 
-/// A fault's one line on standard error. There is nothing to be done where that fails too.
+/// A line on standard error. There is nothing to be done where that fails too.
 fn complain(rt: &HostRuntime, line: &str) {
     let _ = rt.eprintln(line);
 }
 
+/// A fault's one line on standard error, and its exit status.
+fn end_with(rt: &HostRuntime, fault: RunFault) -> u8 {
+    let status = fault.status();
+    let _ = rt.eprintln(fault);
+    status
+}
+
 fn memory(rt: &HostRuntime) -> u8 {
-    complain(rt, "memory");
-    NO_DEVICE_OR_MEMORY
+    end_with(rt, RunFault::Memory)
 }
 
 /// What follows the line of a fault, if that is asked for.
@@ -179,7 +186,7 @@ fn police_from<R: Read + Drop>(rt: &HostRuntime, matches: &ArgMatches<'_>, input
     let mut input = Watched::new(Traced::new(input));
     let mut output = Watched::new(buffered);
     let mut errors = Watched::new(Heard::new(rt.stderr()));
-    let ended = police(rt.alloc(), &given, &mut input, &mut output, &mut errors);
+    let ended = police_and_count(rt.alloc(), &given, &mut input, &mut output, &mut errors);
     end_run(rt, matches, &[], ended, input, output, errors)
 }
 
@@ -210,7 +217,7 @@ fn replay_from<R: Read + Drop>(
     let mut input = Watched::new(Traced::new(input));
     let mut output = Watched::new(buffered);
     let mut errors = Watched::new(Heard::new(rt.stderr()));
-    let ended = replay(
+    let ended = replay_and_count(
         rt.alloc(),
         admission,
         config,
@@ -256,7 +263,7 @@ fn send_from<R: Read + Drop>(
     let mut input = Watched::new(Traced::new(input));
     let mut output = Watched::new(buffered);
     let mut errors = Watched::new(Heard::new(rt.stderr()));
-    let ended = send(
+    let ended = send_and_count(
         rt.alloc(),
         config,
         system,
@@ -298,8 +305,7 @@ fn explain_words(rt: &HostRuntime, matches: &ArgMatches<'_>) -> u8 {
         return WRONG_WORDS;
     };
     if print_meaning(rt, line, meaning).is_err() {
-        complain(rt, "device Write");
-        return NO_DEVICE_OR_MEMORY;
+        return end_with(rt, RunFault::Write);
     }
     DONE
 }
@@ -325,8 +331,7 @@ fn answer_refusal(rt: &HostRuntime, refusal: &Error) -> u8 {
         return WRONG_WORDS;
     }
     if printed.is_err() {
-        complain(rt, "device Write");
-        return NO_DEVICE_OR_MEMORY;
+        return end_with(rt, RunFault::Write);
     }
     DONE
 }

@@ -5,7 +5,7 @@ use Rattle.std.specs.Io.KnownBytes.{prepend_known, IsAtEnd}
 use Rattle.std.proofs.KnownBytes.{Consumes-trans}
 use Rattle.std.proofs.lemmas.List.{append-nil}
 use Rattle.std.proofs.lemmas.Grind.{common_steps}
-use Rattle.afdx_lists.specs.Lines.{lines_of, HasNoFeed, TakesLine, TakesBytes, longest_line}
+use Rattle.afdx_lists.specs.Lines.{lines_of, HasNoFeed, TakesLine, TakesBytes, BeginsTooLong, longest_line}
 use Rattle.afdx_lists.proofs.LineLemmas.{lines_of_feed, lines_of_last, lines_of_nothing, lines_of_some, lines_of_front}
 
 -- the input gave more
@@ -69,14 +69,18 @@ some_line_left (Some xs) (Some ys) u v some h =
     lines_of_some (u ++ xs) (rw all (grind (arith, common_steps)))
 
 -- the first line is long where it begins with so many bytes
+pub long_line_held : (v piece tail : List ℕ) → HasNoFeed piece → longest_line < length piece → v ≡ piece ++ tail
+    → BeginsTooLong v
+long_line_held v piece tail none long e =
+    let front = lines_of_front piece tail none (omega arith) in
+    (front.0, front.1, ap lines_of e ∙ front.2, omega (arith, front.3))
+
 pub long_line_left : (a b : Option (List ℕ)) (u v piece tail : List ℕ) → HasNoFeed piece
     → longest_line < length piece → v ≡ piece ++ tail → TakesBytes a b u v []
-    → IfSome (prepend_known u a) (λ bytes. (line : List ℕ) × (lines : List (List ℕ))
-    × (lines_of bytes ≡ line ∷ lines) × (longest_line < length line))
+    → IfSome (prepend_known u a) BeginsTooLong
 long_line_left None b u v piece tail none long e h = tt
 long_line_left (Some xs) None u v piece tail none long e h = absurd h.consumed
 long_line_left (Some xs) (Some ys) u v piece tail none long e h =
-    let front = lines_of_front piece (tail ++ ys) none (omega arith) in
-    let all = left_is xs ys u v [] h.given h.consumed h.parts
-    ∙ ap (λ (bytes : List ℕ). bytes ++ ys) e ∙ append_assoc piece tail ys in
-    (front.0, front.1, ap lines_of all ∙ front.2, omega (arith, front.3))
+    long_line_held (u ++ xs) piece (tail ++ ys) none long
+    (left_is xs ys u v [] h.given h.consumed h.parts ∙ ap (λ (bytes : List ℕ). bytes ++ ys) e
+    ∙ append_assoc piece tail ys)

@@ -1,23 +1,18 @@
 -- Whole lines of what was read, and how calls of the line reader compose.
 use Rattle.std.proofs.Common.{◌≡◌, ℕ, zero, suc, ◌+◌, ◌-◌, ◌<◌, ◌≤◌, Bool, true}
-use Rattle.std.proofs.Common.{false, List, [], ◌∷◌, ◌++◌, length, take, refl, ap, ◌∙◌, arith, eqb}
+use Rattle.std.proofs.Common.{false, List, [], ◌∷◌, ◌++◌, length, take, refl, ap, sym, ◌∙◌, arith, eqb}
 use Rattle.std.proofs.Common.{cond, Option, append_assoc, ◌⊎◌, inl, inr, length-append}
 use Rattle.std.specs.List.{count_by, slice_split}
 use Rattle.std.specs.Io.KnownBytes.{Consumes}
 use Rattle.std.proofs.KnownBytes.{Consumes-nil, Consumes-trans}
+use Rattle.std.proofs.lemmas.List.{append-nil}
 use Rattle.std.proofs.lemmas.List.Splits.{length-slice_split, slice_split_at, slice_split_none}
 use Rattle.std.proofs.lemmas.List.Elements.{All-append}
 use Rattle.std.proofs.lemmas.Bool.{eqb-true}
 use Rattle.std.proofs.lemmas.List.Sums.{sum_by-append}
 use Rattle.afdx_lists.specs.Lines.{lines_of, whole_lines_of, WholeLinesAreFirst, but_last}
-use Rattle.afdx_lists.specs.Lines.{between_feeds, HasNoFeed, TakesBytes, GaveWhole}
+use Rattle.afdx_lists.specs.Lines.{between_feeds, HasNoFeed, HasTaken, TakesBytes, GaveWhole}
 use Rattle.afdx_lists.proofs.LineLemmas.{lines_of_feed, HasFirst, slice_split-has_first}
-
--- of all that the input gave, n whole lines were taken, and the others are unread
-pub record HasTaken (old new : Option (List ℕ)) (unread : List ℕ) (n : ℕ) : Type 0 where
-  pub read : List ℕ
-  pub consumed : Consumes old new read
-  pub counted : length (whole_lines_of read) ≡ n + length (whole_lines_of unread)
 
 but_last-cons : (part : List ℕ) (parts : List (List ℕ)) → HasFirst parts → but_last (part ∷ parts)
     ≡ part ∷ but_last parts
@@ -124,7 +119,19 @@ HasTaken-start known unread n nothing none = record {
   read = [];
   consumed = Consumes-nil known;
   counted = rw (nothing, none) (omega arith);
+  lines = [];
+  many = sym none;
+  lines_are = λ more. rw nothing refl;
 }
+
+-- lines of what is read, where the input gives more
+lines_then : (read unread given taken after more : List ℕ) (lines : List (List ℕ))
+    → ((x : List ℕ) → lines_of (read ++ x) ≡ lines ++ lines_of (unread ++ x)) → unread ++ given ≡ taken ++ after
+    → lines_of ((read ++ given) ++ more) ≡ lines ++ lines_of (taken ++ (after ++ more))
+lines_then read unread given taken after more lines h e =
+    ap lines_of (append_assoc read given more) ∙ h (given ++ more)
+    ∙ ap (λ (x : List ℕ). lines ++ lines_of x)
+    (sym (append_assoc unread given more) ∙ ap (λ (x : List ℕ). x ++ more) e ∙ append_assoc taken after more)
 
 -- a line and its line feed are taken
 pub HasTaken-line : (a b c : Option (List ℕ)) (u v line : List ℕ) (n m : ℕ) → m ≡ n + 1
@@ -139,6 +146,12 @@ HasTaken-line a b c u v line n m next none h takes =
       read = h.read ++ given;
       consumed = Consumes-trans a b c h.read given h.consumed takes.consumed;
       counted = omega (arith, next, h.counted, rest, whole_lines_of-append h.read given, whole_lines_of-append u given);
+      lines = h.lines ++ line ∷ [];
+      many = omega (arith, next, h.many, length-append h.lines (line ∷ []));
+      lines_are = λ more. lines_then h.read u given (line ++ 10 ∷ []) v more h.lines h.lines_are takes.parts
+          ∙ ap (λ (x : List ℕ). h.lines ++ lines_of x) (append_assoc line (10 ∷ []) (v ++ more))
+          ∙ ap (λ (x : List (List ℕ)). h.lines ++ x) (lines_of_feed line (v ++ more) none)
+          ∙ sym (append_assoc h.lines (line ∷ []) (lines_of (v ++ more)));
     }
 
 -- a line is taken while the input hasn't given its end: what `next_line` ensures, from call to call
@@ -162,4 +175,25 @@ HasTaken-stop a b c u v n none h takes =
       read = h.read ++ given;
       consumed = Consumes-trans a b c h.read given h.consumed takes.consumed;
       counted = omega (arith, h.counted, rest, whole_lines_of-append h.read given, whole_lines_of-append u given);
+    }
+
+-- the lines of all that the input gave, where it gave more and no further line was taken
+pub record HasPart (old new : Option (List ℕ)) (unread : List ℕ) (n : ℕ) : Type 0 where
+  pub read : List ℕ
+  pub consumed : Consumes old new read
+  pub lines : List (List ℕ)
+  pub many : length lines ≡ n
+  pub lines_are : lines_of read ≡ lines ++ lines_of unread
+
+pub HasTaken-part : (a b c : Option (List ℕ)) (u v : List ℕ) (n : ℕ) → HasTaken a b u n
+    → TakesBytes b c u v [] → HasPart a c v n
+HasTaken-part a b c u v n h takes =
+    let all = lines_then h.read u takes.given [] v [] h.lines h.lines_are takes.parts in
+    record {
+      read = h.read ++ takes.given;
+      consumed = Consumes-trans a b c h.read takes.given h.consumed takes.consumed;
+      lines = h.lines;
+      many = h.many;
+      lines_are = ap lines_of (sym (append-nil (h.read ++ takes.given))) ∙ all
+          ∙ ap (λ (x : List ℕ). h.lines ++ lines_of x) (append-nil v);
     }

@@ -14,15 +14,25 @@ abbrev pub took_none : {E : Type 0} → Result ℕ E → ℕ → Bool
 took_none (Ok count) offered = count == 0 && nat_lt 0 offered
 took_none (Err error) offered = true
 
+-- the fault is that the reader failed
+abbrev pub is_read : RunFault → Bool
+is_read run.Read = true
+is_read _ = false
+
+-- or that the writer did
+abbrev pub is_write : RunFault → Bool
+is_write run.Write = true
+is_write _ = false
+
 -- the answer is that the reader failed
 abbrev pub is_failed_read : {A : Type 0} → Result A RunFault → Bool
-is_failed_read (Err run.Read) = true
-is_failed_read _ = false
+is_failed_read (Ok _) = false
+is_failed_read (Err fault) = is_read fault
 
 -- the answer is that the writer failed
 abbrev pub is_failed_write : {A : Type 0} → Result A RunFault → Bool
-is_failed_write (Err run.Write) = true
-is_failed_write _ = false
+is_failed_write (Ok _) = false
+is_failed_write (Err fault) = is_write fault
 
 -- known bytes grow by a beginning of this text
 abbrev pub AppendsFront : Option (List ℕ) → Option (List ℕ) → List ℕ → Type 0

@@ -1,5 +1,5 @@
 -- The lines of a list, and how a reader takes them from what it holds and what its input has left.
-use Rattle.std.specs.Prelude.{ℕ, ◌==◌, ◌≡◌, ◌<◌, ◌≤◌, ◌+◌, ◌*◌, true, false, List, [], ◌∷◌, ◌++◌, length}
+use Rattle.std.specs.Prelude.{ℕ, Bool, ◌==◌, ◌≡◌, ◌<◌, ◌≤◌, ◌+◌, ◌*◌, true, false, List, [], ◌∷◌, ◌++◌, length}
 use Rattle.std.specs.Prelude.{take, drop, Option, Some, None, ⊤, IfSome, slice_range}
 use Rattle.std.specs.List.{slice_split, All}
 use Rattle.std.specs.Io.KnownBytes.{Consumes, prepend_known, IsAtEnd}
@@ -105,12 +105,39 @@ pub record GaveWhole (old new : Option (List ℕ)) (n : ℕ) : Type 0 where
   pub consumed : Consumes old new read
   pub counted : n ≡ length (whole_lines_of read)
 
+-- of all that the input gave, n whole lines were taken, and the others are unread; so are the lines
+-- of whatever comes behind it
+pub record HasTaken (old new : Option (List ℕ)) (unread : List ℕ) (n : ℕ) : Type 0 where
+  pub read : List ℕ
+  pub consumed : Consumes old new read
+  pub counted : length (whole_lines_of read) ≡ n + length (whole_lines_of unread)
+  pub lines : List (List ℕ)
+  pub many : length lines ≡ n
+  pub lines_are : (more : List ℕ) → lines_of (read ++ more) ≡ lines ++ lines_of (unread ++ more)
+
+-- the first line of these bytes is longer than a line may be
+abbrev pub BeginsTooLong : List ℕ → Type 0
+BeginsTooLong bytes = (line : List ℕ) × (lines : List (List ℕ))
+    × (lines_of bytes ≡ line ∷ lines) × (longest_line < length line)
+
 -- the taking of a line from what is left, after n others, may stop with this fault
 abbrev pub CanStop : RunFault → ℕ → Option (List ℕ) → Type 0
 CanStop TooManyLines n left = (most_lines ≤ n) × IfSome left (λ bytes. 0 < length (lines_of bytes))
 CanStop (LineTooLong m) n left =
-    (m ≡ n + 1) × (n < most_lines)
-    × IfSome left (λ bytes. (line : List ℕ) × (lines : List (List ℕ))
-    × (lines_of bytes ≡ line ∷ lines) × (longest_line < length line))
+    (m ≡ n + 1) × (n < most_lines) × IfSome left BeginsTooLong
 CanStop Read n left = ⊤
 CanStop _ n left = ⊥
+
+-- what is unread shows this fault: a byte of a line too many, or more bytes than a line may have
+abbrev pub ShowsFault : RunFault → List ℕ → Type 0
+ShowsFault TooManyLines unread = 0 < length (lines_of unread)
+ShowsFault (LineTooLong m) unread = BeginsTooLong unread
+ShowsFault _ unread = ⊥
+
+-- the taking of a line stops with a fault of the reading, or with one that what is unread shows;
+-- then the input gave only what is unread now
+abbrev pub StopsBy : RunFault → (old_ended new_ended : Bool) → (old new : Option (List ℕ)) →
+    (before after : List ℕ) → Type 0
+StopsBy Read old_ended new_ended old new before after = ⊤
+StopsBy fault old_ended new_ended old new before after =
+    (new_ended ≡ old_ended) × TakesBytes old new before after [] × ShowsFault fault after

@@ -1,5 +1,5 @@
 -- What a device is told that may have failed before.
-use Rattle.std.specs.Prelude.{ℕ, ◌≡◌, false, true, List, Option}
+use Rattle.std.specs.Prelude.{ℕ, ◌≡◌, ◌++◌, false, true, List, Option, codes}
 use Rattle.std.specs.Io.KnownBytes.{Appends}
 use Rattle.afdx_lists.specs.Calls.{AppendsFront}
 use Rattle.afdx_lists.specs.declared.watched.Watched.{Watched}
@@ -13,3 +13,7 @@ pub record Tells {W : Type 0} (contents : W →
       Appends (contents (device_of old)) (contents (device_of new)) text
   pub begun : AppendsFront (contents (device_of old)) (contents (device_of new)) text
   pub unasked : has_failed old ≡ true → new ≡ old
+
+-- a text and a line feed were handed to it
+abbrev pub TellsLine : {W : Type 0} → (W → Option (List ℕ)) → Watched W → Watched W → Type 0
+TellsLine contents old new = (text : List ℕ) × Tells contents old new (text ++ codes "\n")

@@ -6,9 +6,13 @@ use Rattle.afdx_lists.specs.declared.watched.Watched.{Watched}
 abbrev pub device_of : {T : Type 0} → Watched T → T
 device_of watched = watched.inner
 
--- whether a call failed, or a write of some bytes took none of them
+-- whether a read or a write failed, or a write of some bytes took none of them
 abbrev pub has_failed : {T : Type 0} → Watched T → Bool
 has_failed watched = watched.failed
+
+-- whether a flush failed
+abbrev pub flush_has_failed : {T : Type 0} → Watched T → Bool
+flush_has_failed watched = watched.flush_failed
 
 -- whether a read into some room gave no byte
 abbrev pub has_ended : {T : Type 0} → Watched T → Bool

@@ -4,7 +4,7 @@ ghost use Rattle.std.specs.Prelude.{◌≡◌, ◌≤◌, ◌<◌, ◌+◌, ◌-
 ghost use Rattle.std.specs.Io.{WritesAtMost};
 ghost use Rattle.std.specs.Io.KnownBytes.{Appends, Keeps, WriteAppends};
 ghost use Rattle.afdx_lists.specs.Gathered.{gathered, held_bytes, inner_device, device_has_failed};
-ghost use Rattle.afdx_lists.specs.Watching.{device_of, has_failed};
+ghost use Rattle.afdx_lists.specs.Watching.{device_of, flush_has_failed, has_failed};
 
 use crate::watched::Watched;
 use std::alloc::{AllocError, Global};
@@ -27,6 +27,7 @@ fn hand_bytes<W: Write>(bytes: &[u8], device: &mut Watched<W>) -> usize
     requires { has_failed device.old ≡ false }
     ensures within { result ≤ length bytes.now }
     ensures whole { has_failed device.new ≡ false → result ≡ length bytes.now }
+    ensures flushed { flush_has_failed device.new ≡ flush_has_failed device.old }
     ensures taken { Appends (W.contents (device_of device.old)) (W.contents (device_of device.new))
         (take result bytes.now) }
 {
@@ -86,6 +87,14 @@ impl<W: Write + Drop> Buffered<W> {
         self.device.into_inner()
     }
 
+    /// Whether a write to the device, or its flush, has failed.
+    #[inline(always)]
+    fn device_failed(&self) -> bool
+        ensures { result ≡ device_has_failed self.now }
+    {
+        self.device.failed() || self.device.flush_failed()
+    }
+
     /// Hands all that is held to the device, which has not failed before.
     fn hand_over(&mut self) -> io::Result<()>
         requires { device_has_failed self.old ≡ false }
@@ -97,7 +106,7 @@ impl<W: Write + Drop> Buffered<W> {
     {
         let taken = hand_bytes(self.held.as_slice(), &mut self.device);
         remove_front(&mut self.held, taken);
-        if self.device.failed() {
+        if self.device_failed() {
             return Err(refusal());
         }
         Ok(())
@@ -112,7 +121,7 @@ impl<W: Write + Drop> Buffered<W> {
             (gathered W.contents self.new) result buf.now }
         ensures unasked { device_has_failed self.old ≡ true → self.new ≡ self.old }
     {
-        if self.device.failed() {
+        if self.device_failed() {
             return Err(refusal());
         }
         self.hand_over()?;
@@ -134,7 +143,7 @@ impl<W: Write + Drop> Write for Buffered<W> {
             (gathered W.contents self.new) result buf.now }
         ensures unasked { device_has_failed self.old ≡ true → self.new ≡ self.old }
     {
-        if buf.len() <= self.held.capacity() - self.held.len() && !self.device.failed() {
+        if buf.len() <= self.held.capacity() - self.held.len() && !self.device_failed() {
             append(&mut self.held, buf);
             return Ok(buf.len());
         }
@@ -147,7 +156,7 @@ impl<W: Write + Drop> Write for Buffered<W> {
         ensures failed { device_has_failed self.new ≡ is_err result }
         ensures unasked { device_has_failed self.old ≡ true → self.new ≡ self.old }
     {
-        if self.device.failed() {
+        if self.device_failed() {
             return Err(refusal());
         }
         self.hand_over()?;

@@ -1,10 +1,9 @@
 //! Why a line says nothing, and why a run ended before the end of its list.
 
-ghost use Rattle.std.specs.Prelude.{◌≡◌, ◌++◌, Some};
+ghost use Rattle.std.specs.Prelude.{◌≡◌};
 
 use std::alloc::AllocError;
-use std::error::Error;
-use std::fmt;
+use thiserror::Error;
 
 /// Why a line says nothing. The first check that is false, in the order below, is the one that is
 /// named.
@@ -22,35 +21,6 @@ pub enum LineFault {
     BadHex,
 }
 
-impl LineFault {
-    ghost use Rattle.afdx_lists.specs.Faults.{line_word};
-
-    /// It in a word: its name.
-    pub fn word(self) -> &'static str
-        ensures { result.now ≡ line_word self }
-    {
-        match self {
-            LineFault::BadLine => "BadLine",
-            LineFault::TimeTooLarge => "TimeTooLarge",
-            LineFault::TimeBack => "TimeBack",
-            LineFault::BadPort => "BadPort",
-            LineFault::BadHex => "BadHex",
-        }
-    }
-}
-
-impl fmt::Display for LineFault {
-    ghost use Rattle.afdx_lists.specs.Faults.{line_word};
-
-    ghost output = { λ fault. Some (line_word fault) };
-
-    fn fmt<W: fmt::Write>(&self, f: &mut fmt::Formatter<W>) -> fmt::Result {
-        f.write_str(self.word())
-    }
-}
-
-impl Error for LineFault {}
-
 /// Why a line wasn't read.
 #[derive(Clone, Copy, Debug, PartialEq, Eq)]
 pub enum LineError {
@@ -59,42 +29,6 @@ pub enum LineError {
     /// There was no memory for its bytes.
     Memory,
 }
-
-impl LineError {
-    ghost use Rattle.afdx_lists.specs.Faults.{error_word, fault_at};
-
-    /// It in a word: that of the line's fault, or `memory`.
-    pub fn word(self) -> &'static str
-        ensures { result.now ≡ error_word self }
-    {
-        match self {
-            LineError::Fault(fault) => fault.word(),
-            LineError::Memory => "memory",
-        }
-    }
-
-    /// The fault of a run whose line `n` wasn't read for it.
-    pub fn at_line(self, n: u64) -> RunFault
-        ensures { result ≡ fault_at n self }
-    {
-        match self {
-            LineError::Fault(fault) => RunFault::Line(n, fault),
-            LineError::Memory => RunFault::Memory,
-        }
-    }
-}
-
-impl fmt::Display for LineError {
-    ghost use Rattle.afdx_lists.specs.Faults.{error_word};
-
-    ghost output = { λ error. Some (error_word error) };
-
-    fn fmt<W: fmt::Write>(&self, f: &mut fmt::Formatter<W>) -> fmt::Result {
-        f.write_str(self.word())
-    }
-}
-
-impl Error for LineError {}
 
 impl From<AllocError> for LineError {
     ghost use Rattle.afdx_lists.specs.declared.fault.LineError.TheVariants.{Memory};
@@ -109,24 +43,43 @@ impl From<AllocError> for LineError {
 /// Why a run ended before the end of its list. Lines are counted from 1, all of them.
 ///
 /// Its text is the line of the fault on standard error, without its line feed.
-#[derive(Debug, Drop, PartialEq, Eq)]
+#[derive(Debug, Drop, PartialEq, Eq, Error)]
 pub enum RunFault {
-    /// The line of this number says nothing.
-    Line(u64, LineFault),
+    /// The line of this number has another number of fields, an empty field, or a field of another
+    /// form.
+    #[error("list BadLine {0}")]
+    BadLine(u64),
+    /// The bytes of the line of this number are not pairs of hexadecimal digits.
+    #[error("list BadHex {0}")]
+    BadHex(u64),
+    /// The time of the line of this number is before that of the last line that was read.
+    #[error("list TimeBack {0}")]
+    TimeBack(u64),
+    /// The time of the line of this number is over 10^15 ns.
+    #[error("list TimeTooLarge {0}")]
+    TimeTooLarge(u64),
+    /// The port of the line of this number is not one of 1 to 24.
+    #[error("list BadPort {0}")]
+    BadPort(u64),
     /// The line of this number has more than 4,200 bytes before its line feed.
+    #[error("list LineTooLong {0}")]
     LineTooLong(u64),
     /// There is a byte after 1,000,000 lines.
+    #[error("list TooManyLines")]
     TooManyLines,
     /// The list could not be read.
+    #[error("device Read")]
     Read,
     /// The text could not be written.
+    #[error("device Write")]
     Write,
     /// A growth of memory was refused.
+    #[error("memory")]
     Memory,
 }
 
 impl RunFault {
-    ghost use Rattle.afdx_lists.specs.Faults.{fault_text, number_text, status_of};
+    ghost use Rattle.afdx_lists.specs.Faults.{status_of};
 
     /// The exit status of a command that ends with this fault: 3 for a fault of the list, 4 for a
     /// device or memory.
@@ -138,38 +91,25 @@ impl RunFault {
             _ => 3,
         }
     }
+}
 
-    /// What it is a fault of, its word, and the number of its line where it has one. One after the
-    /// other, with a space before the number, they are its text.
-    pub fn parts(&self) -> (&'static str, &'static str, Option<u64>)
-        ensures { result.0.now ++ result.1.now ++ number_text result.2 ≡ fault_text self.now }
-    {
-        match self {
-            RunFault::Line(n, fault) => ("list ", fault.word(), Some(*n)),
-            RunFault::LineTooLong(n) => ("list ", "LineTooLong", Some(*n)),
-            RunFault::TooManyLines => ("list ", "TooManyLines", None),
-            RunFault::Read => ("device ", "Read", None),
-            RunFault::Write => ("device ", "Write", None),
-            RunFault::Memory => ("", "memory", None),
+impl From<(u64, LineError)> for RunFault {
+    ghost use Rattle.afdx_lists.specs.Faults.{fault_at};
+
+    ghost from_gives = { λ at fault. fault ≡ fault_at at.0 at.1 };
+
+    /// The fault of a run whose line of this number wasn't read for this error.
+    fn from((n, error): (u64, LineError)) -> RunFault {
+        match error {
+            LineError::Fault(LineFault::BadLine) => RunFault::BadLine(n),
+            LineError::Fault(LineFault::BadHex) => RunFault::BadHex(n),
+            LineError::Fault(LineFault::TimeBack) => RunFault::TimeBack(n),
+            LineError::Fault(LineFault::TimeTooLarge) => RunFault::TimeTooLarge(n),
+            LineError::Fault(LineFault::BadPort) => RunFault::BadPort(n),
+            LineError::Memory => RunFault::Memory,
         }
     }
 }
-
-impl fmt::Display for RunFault {
-    ghost use Rattle.afdx_lists.specs.Faults.{fault_text};
-
-    ghost output = { λ fault. Some (fault_text fault) };
-
-    fn fmt<W: fmt::Write>(&self, f: &mut fmt::Formatter<W>) -> fmt::Result {
-        let (of, word, number) = self.parts();
-        match number {
-            Some(n) => write!(f, "{of}{word} {n}"),
-            None => write!(f, "{of}{word}"),
-        }
-    }
-}
-
-impl Error for RunFault {}
 
 impl From<AllocError> for RunFault {
     ghost use Rattle.afdx_lists.specs.declared.fault.RunFault.TheVariants.{Memory};

@@ -46,7 +46,7 @@ fn new_chunk(alloc: Global) -> Result<Vec<u8>, AllocError>
 impl LineReader {
     ghost use Rattle.afdx_lists.specs.Lines.{unread, latest_line, lines_taken, left, IsHonest};
     ghost use Rattle.afdx_lists.specs.Lines.{HasNoFeed, IsFirstFeed, TakesLine, TakesBytes};
-    ghost use Rattle.afdx_lists.specs.Lines.{CanStop, most_lines, longest_line, reads_of_line};
+    ghost use Rattle.afdx_lists.specs.Lines.{CanStop, StopsBy, most_lines, longest_line, reads_of_line};
     ghost use Rattle.afdx_lists.specs.Watching.{calls_of, device_of, has_ended, has_failed};
 
     /// A reader that has taken nothing yet.
@@ -113,6 +113,9 @@ impl LineReader {
             (has_ended input.old ≡ false) × HasNoFeed (unread self.new)
             × TakesBytes (R.remaining (device_of input.old)) (R.remaining (device_of input.new))
             (unread self.old) (unread self.new) [] }
+        ensures part { IfErr result (λ fault. StopsBy fault
+            (has_ended input.old) (has_ended input.new) (R.remaining (device_of input.old))
+            (R.remaining (device_of input.new)) (unread self.old) (unread self.new)) }
 
         // How often the input is read.
         ensures calls { calls_of input.new ≤ calls_of input.old + reads_of_line }

@@ -317,10 +317,7 @@ impl Text {
         ensures bytes { text_bytes self.new ≡ text_bytes self.old }
         ensures room { OnOk result (self.new.end + more ≤ vec_len self.new.room) }
     {
-        let length = match self.end.checked_add(more) {
-            Some(least) => least.saturating_add(256),
-            None => return Err(AllocError),
-        };
-        self.room.resize(length, 0)
+        let least = self.end.saturating_add(more);
+        self.room.resize(least.saturating_add(256), 0)
     }
 }

@@ -23,7 +23,7 @@ use Rattle.afdx_promises.specs.Lines.{IsIn}
 use Rattle.afdx_replay.specs.PromisedRun.{WritesPromisedSoFar, WritesPromisedSome, PromisedAnswers}
 use Rattle.afdx_replay.specs.Replayed.{WritesSoFar, WritesSome, Answers}
 use Rattle.afdx_replay.specs.declared.summary.Summary.{Summary}
-use Rattle.afdx_replay.proofs.StopLemmas.{stops-as}
+use Rattle.afdx_replay.proofs.RunLemmas.{stops-more}
 use Rattle.afdx_replay.proofs.PromisedLemmas.{replay-promised, so-far-told, none-counted}
 
 -- ---- the times of a list's arrivals don't decrease
@@ -120,8 +120,8 @@ module _ (t : Rows) (bytes : List ℕ) (old new : Option (List ℕ)) (lawful : I
   pub promised-answers : (rest : Option (List ℕ)) (r : Result Summary RunFault)
       → Answers t bytes rest old new r → PromisedAnswers t bytes rest old new r
   promised-answers rest (Err fault) stops =
-      stops-as frames (WritesSoFar t old new) (WritesPromisedSoFar t old new) (WritesSome t old new)
-      (WritesPromisedSome t old new) bytes all-told some-told rest fault stops
+      stops-more frames (WritesSoFar t old new) (WritesSome t old new) (WritesPromisedSoFar t old new)
+      (WritesPromisedSome t old new) bytes rest all-told some-told fault stops
   promised-answers rest (Ok summary) all =
       let list = lines_of bytes in
       let told = replay-promised t (arrivals_of list (length list)) lawful (run-of (length list)) in

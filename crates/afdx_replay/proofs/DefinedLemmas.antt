@@ -15,7 +15,7 @@ use Rattle.afdx_replay.specs.Listed.{frames, arrivals_of}
 use Rattle.afdx_replay.specs.Replayed.{WritesSoFar, WritesSome, Answers}
 use Rattle.afdx_replay.specs.declared.summary.Summary.{Summary}
 use Rattle.afdx_replay.proofs.AdmittedRunLemmas.{arrivals-timed, arrivals-listed}
-use Rattle.afdx_replay.proofs.StopLemmas.{stops-as}
+use Rattle.afdx_replay.proofs.RunLemmas.{stops-more}
 
 module _ (t : Rows) (bytes : List ℕ) (old new : Option (List ℕ)) (lawful : IsLawful t) where
   all-defined : (n : ℕ) → WritesSoFar t old new (arrivals_of (lines_of bytes) n)
@@ -43,8 +43,8 @@ module _ (t : Rows) (bytes : List ℕ) (old new : Option (List ℕ)) (lawful : I
   pub defined-answers : (rest : Option (List ℕ)) (r : Result Summary RunFault)
       → Answers t bytes rest old new r → DefinedAnswers t bytes rest old new r
   defined-answers rest (Err fault) stops =
-      stops-as frames (WritesSoFar t old new) (WritesDefinedSoFar t old new) (WritesSome t old new)
-      (WritesDefinedSome t old new) bytes all-defined some-defined rest fault stops
+      stops-more frames (WritesSoFar t old new) (WritesSome t old new) (WritesDefinedSoFar t old new)
+      (WritesDefinedSome t old new) bytes rest all-defined some-defined fault stops
   defined-answers rest (Ok summary) all =
       let list = lines_of bytes in
       let past = arrivals_of list (length list) in

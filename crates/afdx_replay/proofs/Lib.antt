@@ -12,7 +12,6 @@ pub mod SendStartLemmas
 pub mod SentLineLemmas
 pub mod PromisedLemmas
 pub mod LossLemmas
-pub mod StopLemmas
 pub mod AdmittedRunLemmas
 pub mod DefinedLemmas
 mod SaidLemmas

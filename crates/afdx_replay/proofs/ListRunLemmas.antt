@@ -1,8 +1,7 @@
 -- What a run over a list answers, from what it hands from the list to its machine.
 use Rattle.std.proofs.Common.{◌≡◌, ℕ, zero, suc, ◌+◌, ◌≤◌, List, [], ◌∷◌, map, refl, sym, ◌∙◌, subst}
 use Rattle.std.proofs.Common.{Option, Some, None, Result, Ok, Err, IfSome, arith, true, false, ◌⊎◌, inl, inr}
-use Rattle.std.specs.Io.KnownBytes.{IsAtEnd}
-use Rattle.afdx_lists.specs.Calls.{is_failed_read}
+use Rattle.afdx_lists.specs.Calls.{is_read}
 use Rattle.afdx_lists.specs.Lines.{lines_of, lines_taken, most_reads}
 use Rattle.afdx_lists.specs.declared.fault.RunFault.{RunFault}
 use Rattle.afdx_lists.specs.declared.fault.RunFault.TheVariants as run
@@ -14,28 +13,13 @@ use Rattle.afdx_replay.specs.Lists.{Kind, items_of, item_said, with_item}
 use Rattle.afdx_replay.specs.ListSource.{GaveOf, EndedOf, StoppedOf}
 use Rattle.afdx_replay.specs.Progress.{HasRead, HasComeIn}
 use Rattle.afdx_replay.specs.Stops.{GaveLines, StopsIn}
-use Rattle.afdx_replay.proofs.RunLemmas.{GaveLines-taken, GaveLines-end, device}
+use Rattle.afdx_replay.proofs.RunLemmas.{GaveLines-taken, GaveLines-end, GaveLines-less, HasCome-done}
+use Rattle.afdx_replay.proofs.RunLemmas.{stops-at-start, stops-more, stops-output}
 use Rattle.afdx_replay.specs.ListRun.{Of, IsDone, ListAnswers}
-use Rattle.afdx_replay.proofs.RunLemmas.{HasCome-done, stops-at-start}
 
--- whether a read failed doesn't hang on what else might have been answered
-pub read-same : (A B : Type 0) (fault : RunFault)
-    → is_failed_read {A = A} (Err fault) ≡ is_failed_read {A = B} (Err fault)
-read-same A B run.Read = refl
-read-same A B run.Write = refl
-read-same A B run.Memory = refl
-read-same A B run.TooManyLines = refl
-read-same A B (run.LineTooLong m) = refl
-read-same A B (run.Line m f) = refl
-
-not_read : (fault : RunFault) → IsOfOutput fault → is_failed_read {A = ℕ} (Err fault) ≡ false
+not_read : (fault : RunFault) → IsOfOutput fault → is_read fault ≡ false
 not_read fault (inl e) = rw e refl
 not_read fault (inr e) = rw e refl
-
-GaveLines-less : (input after : Option (List ℕ)) (n m : ℕ) → m ≤ n → GaveLines input after n → GaveLines input after m
-unfolding GaveLines
-GaveLines-less input after n m less (inl end) = inl end
-GaveLines-less input after n m less (inr gave) = inr (gave.0, omega (arith, less, gave.1), gave.2)
 
 module _ {Y X : Type 0} (k : Kind Y X) where
   -- at some line before these all but the newest were said
@@ -54,52 +38,37 @@ module _ {Y X : Type 0} (k : Kind Y X) where
   shorter lines zero x xs e = cc
   shorter lines (suc n) x xs e = shorter-by lines n x xs (item_said k lines n) e (λ h. shorter lines n x xs h)
 
-  -- more may be said of a stop
-  stops-more : (all beginning all' beginning' : List X → Type 0) (bytes : List ℕ) (rest : Option (List ℕ))
-      (fault : RunFault) → ((xs : List X) → all xs → all' xs) → ((xs : List X) → beginning xs → beginning' xs)
-      → StopsIn k all beginning bytes rest fault → StopsIn k all' beginning' bytes rest fault
-  stops-more all beginning all' beginning' bytes rest run.Read f g (n, gave, told) =
-      (n, gave, record { within = told.within; sound = told.sound; are_told = f _ told.are_told })
-  stops-more all beginning all' beginning' bytes rest run.Write f g (n, gave, told) =
-      (n, gave, record { within = told.within; sound = told.sound; are_told = g _ told.are_told })
-  stops-more all beginning all' beginning' bytes rest run.Memory f g (n, gave, told) =
-      (n, gave, record { within = told.within; sound = told.sound; are_told = g _ told.are_told })
-  stops-more all beginning all' beginning' bytes rest run.TooManyLines f g (n, first, told) = (n, first, f _ told)
-  stops-more all beginning all' beginning' bytes rest (run.LineTooLong m) f g (n, first, told) = (n, first, f _ told)
-  stops-more all beginning all' beginning' bytes rest (run.Line m l) f g (n, gave, first, told) =
-      (n, gave, first, f _ told)
-
 module _ {H Y X : Type 0} (k : Kind Y X) (said : Item H → X) (all beginning : List X → Type 0)
     (begins : List (Item H) → Type 0)
     (begin : (past : List (Item H)) → begins past → beginning (map said past)) where
   -- of the items that were given, or all but the newest of them, a beginning is told
   device-read : (bytes rest : List ℕ) (after : Option (List ℕ)) (latest n : ℕ) (past : List (Item H))
       (fault : RunFault) → IsOfOutput fault
-      → HasRead k (λ xs. xs ≡ map said past) latest n (lines_of bytes) rest → GaveLines (Some bytes) after n
+      → HasRead k (map said past) latest n (lines_of bytes) rest → GaveLines (Some bytes) after n
       → begins past ⊎ begins (without_newest past) → StopsIn k all beginning bytes after fault
   device-read bytes rest after latest n past fault is h gave (inl b) =
-      device k all beginning bytes after fault is (
+      stops-output k all beginning bytes after fault is (
         n,
         gave,
         record {
           within = h.within;
           sound = h.sound;
-          are_told = subst beginning (sym h.are_told) (begin past b);
+          are_told = subst beginning (sym h.said) (begin past b);
         },
       )
   device-read bytes rest after latest n [] fault is h gave (inr b) =
-      device k all beginning bytes after fault is (
+      stops-output k all beginning bytes after fault is (
         n,
         gave,
         record {
           within = h.within;
           sound = h.sound;
-          are_told = subst beginning (sym h.are_told) (begin [] b);
+          are_told = subst beginning (sym h.said) (begin [] b);
         },
       )
   device-read bytes rest after latest n (x ∷ past) fault is h gave (inr b) =
-      let s = shorter k (lines_of bytes) n (said x) (map said past) h.are_told in
-      device k all beginning bytes after fault is (
+      let s = shorter k (lines_of bytes) n (said x) (map said past) h.said in
+      stops-output k all beginning bytes after fault is (
         s.0,
         GaveLines-less _ _ n s.0 s.1 gave,
         record {
@@ -110,7 +79,7 @@ module _ {H Y X : Type 0} (k : Kind Y X) (said : Item H → X) (all beginning : 
       )
 
   device-come : (input left after : Option (List ℕ)) (latest n : ℕ) (past : List (Item H)) (fault : RunFault)
-      → IsOfOutput fault → HasComeIn k (λ xs. xs ≡ map said past) latest n input left → GaveLines input after n
+      → IsOfOutput fault → HasComeIn k (map said past) latest n input left → GaveLines input after n
       → begins past ⊎ begins (without_newest past)
       → IfSome input (λ bytes. StopsIn k all beginning bytes after fault)
   device-come None left after latest n past fault is h gave b = tt
@@ -125,8 +94,8 @@ stopped-come : {H Y X : Type 0} (k : Kind Y X) (said : Item H → X) (all beginn
     → IfSome input (λ bytes. StopsIn k all beginning bytes after fault)
 stopped-come k said all beginning None after past fault a b h = tt
 stopped-come k said all beginning (Some bytes) after past fault a b h =
-    stops-more k _ _ all beginning bytes after fault (λ xs e. subst all (sym e) a)
-    (λ xs e. subst beginning (sym e) b) h
+    stops-more k (λ xs. xs ≡ map said past) (λ xs. xs ≡ map said past) all beginning bytes after
+    (λ n e. subst all (sym e) a) (λ n e. subst beginning (sym e) b) fault h
 
 module _ {H R Y X : Type 0} (k : Kind Y X) (said : Item H → X) (remaining : R → Option (List ℕ))
     (start input : Watched R) (reader : LineReader) (latest : ℕ)
@@ -138,7 +107,7 @@ module _ {H R Y X : Type 0} (k : Kind Y X) (said : Item H → X) (remaining : R 
       done so_far begins (StoppedOf k said remaining start input) result
 
   pub fault-read : (fault : RunFault) → RunsOver {A = ℕ} (Err fault)
-      → input.failed ≡ is_failed_read {A = ℕ} (Err fault)
+      → input.failed ≡ is_read fault
   fault-read fault (past, inl (stop, told)) = stop.failed
   fault-read fault (past, inr (is, inl gave, b)) = gave.sound ∙ sym (not_read fault is)
   fault-read fault (past, inr (is, inr end, b)) = end.sound ∙ sym (not_read fault is)
@@ -171,19 +140,11 @@ module _ {H R Y X : Type 0} (k : Kind Y X) (said : Item H → X) (remaining : R 
   pub done-calls : RunsOver {A = ℕ} (Ok 0) → input.calls ≤ start.calls + most_reads
   done-calls (past, end, told) = end.calls
 
-  come_done : (told : List X → Type 0) (bytes rest : Option (List ℕ)) (n : ℕ) (past : List (Item H))
-      → HasComeIn k (λ xs. xs ≡ map said past) latest n bytes rest → IsAtEnd rest → told (map said past)
-      → IfSome bytes (λ b. IsDone k told n (lines_of b))
-  come_done told None rest n past h end t = tt
-  come_done told (Some b) rest n past h end t =
-      let d = HasCome-done k (λ xs. xs ≡ map said past) latest n (Some b) rest h end in
-      record { all = d.all; sound = d.sound; are_told = subst told (sym d.are_told) t }
-
   pub done-done : (told : List X → Type 0) → RunsOver {A = ℕ} (Ok 0)
       → ((past : List (Item H)) → done past → told (map said past))
       → IfSome (remaining start.inner) (λ bytes. IsDone k told (lines_taken reader) (lines_of bytes))
   done-done told (past, end, d) f =
-      come_done told _ end.rest (lines_taken reader) past end.come end.done (f past d)
+      HasCome-done k told (map said past) latest (lines_taken reader) _ end.rest end.come end.done (f past d)
 
   -- the same as one answer
   abbrev pub AnswersOver : List ℕ → Result ℕ RunFault → Type 0
@@ -215,8 +176,8 @@ stop_more : {H Y X : Type 0} (k : Kind Y X) (said : Item H → X) (told begins :
     → StopsIn k (Of said told) (Of said (λ past. told past ⊎ begins past)) bytes rest fault
     → StopsIn k all beginning bytes rest fault
 stop_more {H} {Y} {X} k said told begins all beginning bytes rest fault f g h =
-    stops-more k (Of said told) (Of said (λ past. told past ⊎ begins past)) all beginning bytes rest fault
-    (λ xs t. subst all (sym t.1) (f t.0 t.2).0) (λ xs b. some-of xs b) h
+    stops-more k (Of said told) (Of said (λ past. told past ⊎ begins past)) all beginning bytes rest
+    (λ n t. subst all (sym t.1) (f t.0 t.2).0) (λ n b. some-of (items_of k (lines_of bytes) n) b) fault h
   where
     some-of : (xs : List X) → Of said (λ past. told past ⊎ begins past) xs → beginning xs
     some-of xs (past, e, inl t) = subst beginning (sym e) (f past t).1

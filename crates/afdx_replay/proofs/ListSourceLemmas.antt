@@ -1,15 +1,16 @@
 -- A list as a source: one call more.
-use Rattle.std.proofs.Common.{◌≡◌, ℕ, ◌+◌, ◌*◌, ◌≤◌, ◌<◌, List, [], ◌∷◌, ◌++◌, length, map, refl, ap, sym, ◌∙◌}
-use Rattle.std.proofs.Common.{Option, Some, None, Ok, Err, arith, true, false, ◌⊎◌, inl, inr}
+use Rattle.std.proofs.Common.{◌≡◌, ℕ, ◌+◌, ◌*◌, ◌≤◌, ◌<◌, List, [], ◌∷◌, ◌++◌, length, map, refl, ap, sym, ◌∙◌, subst}
+use Rattle.std.proofs.Common.{Option, Some, None, Ok, IfSome, arith, true, false, ◌⊎◌, inl, inr}
 use Rattle.afdx_frame.specs.Times.{latest_listed}
-use Rattle.afdx_lists.specs.Calls.{is_failed_read}
+use Rattle.afdx_lists.specs.Calls.{is_read}
 use Rattle.afdx_lists.specs.Faults.{fault_at, IsErrorOf}
-use Rattle.afdx_lists.specs.Lines.{CanStop, HasNoFeed, IsHonest, TakesBytes, TakesLine, latest_line, left}
+use Rattle.afdx_lists.specs.Lines.{CanStop, HasNoFeed, IsHonest, StopsBy, TakesBytes, TakesLine, latest_line, left}
 use Rattle.afdx_lists.specs.Lines.{lines_taken, longest_line, most_lines, most_reads, reads_of_line, unread}
 use Rattle.afdx_lists.specs.declared.fault.RunFault.{RunFault}
 use Rattle.afdx_lists.specs.declared.fault.RunFault.TheVariants as run
 use Rattle.afdx_lists.specs.declared.fault.LineError.{LineError}
 use Rattle.afdx_lists.specs.declared.fault.LineError.TheVariants as line
+use Rattle.afdx_lists.specs.declared.fault.LineFault.TheVariants as says
 use Rattle.std.proofs.lemmas.Bool.Decides.{leb_tells}
 use Rattle.std.proofs.Math.Dec.{leb}
 use Rattle.afdx_lists.specs.declared.line_reader.LineReader.{LineReader}
@@ -18,8 +19,9 @@ use Rattle.afdx_lists.proofs.WholeLemmas.{HasTaken-start, HasTaken-next, HasTake
 use Rattle.afdx_replay.specs.Engine.{Item}
 use Rattle.afdx_replay.specs.Lists.{Kind}
 use Rattle.afdx_replay.specs.ListSource.{GaveOf, StoppedOf, IsUnread}
-use Rattle.afdx_replay.proofs.RunLemmas.{IsTaken, HasCome-start, HasCome-skip, HasCome-item}
-use Rattle.afdx_replay.proofs.RunLemmas.{GaveLines-next, stops-line, stops-reader}
+use Rattle.afdx_replay.specs.Stops.{GaveLines, StopsIn}
+use Rattle.afdx_replay.proofs.RunLemmas.{IsTaken, HasCome-start, HasCome-next, GaveLines-taken}
+use Rattle.afdx_replay.proofs.RunLemmas.{stops-line, stops-reader}
 
 -- what `next_line` ensures where it took a line
 pub record TookLine {R : Type 0} (remaining : R → Option (List ℕ)) (before : LineReader) (old : Watched R)
@@ -35,10 +37,13 @@ pub record TookLine {R : Type 0} (remaining : R → Option (List ℕ)) (before :
   pub calls : new.calls ≤ old.calls + reads_of_line
 
 -- a line that can't be read is no failed read
-not_read : (n : ℕ) (error : LineError) (fault : RunFault) → fault ≡ fault_at n error
-    → is_failed_read {A = ℕ} (Err fault) ≡ false
-not_read n (line.Fault f) fault e = rw e refl
-not_read n line.Memory fault e = rw e refl
+not_read : (n : ℕ) (error : LineError) → is_read (fault_at n error) ≡ false
+not_read n line.Memory = refl
+not_read n (line.Fault says.BadLine) = refl
+not_read n (line.Fault says.BadHex) = refl
+not_read n (line.Fault says.TimeBack) = refl
+not_read n (line.Fault says.TimeTooLarge) = refl
+not_read n (line.Fault says.BadPort) = refl
 
 -- the calls up to one that gives no line
 calls_by : (first n old new : ℕ) → n ≤ most_lines → old ≤ first + reads_of_line * n
@@ -70,7 +75,7 @@ module _ {H R Y X : Type 0} (k : Kind Y X) (said : Item H → X) (remaining : R 
     latest_is = new.time;
     calls = omega arith;
     taken = λ e. HasTaken-start _ _ _ new.unread new.lines;
-    come = rw new.time (HasCome-start k (λ xs. xs ≡ []) _ _ _ new.lines new.unread refl);
+    come = rw new.time (HasCome-start k _ _ _ new.lines new.unread);
   }
 
   module _ (start old new : Watched R) (before after : LineReader) (latest : ℕ) (past : List (Item H))
@@ -94,7 +99,7 @@ module _ {H R Y X : Type 0} (k : Kind Y X) (said : Item H → X) (remaining : R 
       latest_is = gave.latest_is;
       calls = omega (arith, took.lines.0, took.calls, gave.calls);
       taken = HasTaken-next _ _ _ _ _ _ _ _ _ _ took.lines.0 gave.taken took.whole;
-      come = HasCome-skip k _ _ _ _ _ _ _ _ took.lines.0 is-taken gave.come none;
+      come = HasCome-next k (map said past) _ _ _ _ _ _ _ _ None took.lines.0 is-taken gave.come none gave.latest_is;
     }
 
     -- a line that says this item, of this time
@@ -110,38 +115,42 @@ module _ {H R Y X : Type 0} (k : Kind Y X) (said : Item H → X) (remaining : R 
       latest_is = time_is;
       calls = omega (arith, took.lines.0, took.calls, gave.calls);
       taken = HasTaken-next _ _ _ _ _ _ _ _ _ _ took.lines.0 gave.taken took.whole;
-      come = rw (time_is, same) (HasCome-item k (λ xs. xs ≡ map said past)
-          (λ xs. xs ≡ k.item (lines_taken after) y ∷ map said past) _ _ _ _ _ _ _ y took.lines.0
-          is-taken gave.come says
-          (λ xs e. ap (λ zs. k.item (lines_taken after) y ∷ zs) e));
+      come = rw same (HasCome-next k (map said past) _ _ _ _ _ _ _ _ (Some y) took.lines.0 is-taken
+          gave.come says (time_is ∙ ap k.time same));
     }
 
     -- a line that can't be read
-    pub stopped-line : (error : LineError) (fault : RunFault) → fault ≡ fault_at (lines_taken after) error
-        → IsErrorOf (k.says latest (latest_line after)) error
-        → StoppedOf k said remaining start new past fault
-    stopped-line error fault is says = record {
-      failed = took.sound ∙ sym (not_read (lines_taken after) error fault is);
-      calls = omega (arith, took.lines.0, took.lines.1, took.calls, gave.calls);
-      stops = stops-line k (λ xs. xs ≡ map said past) (λ xs. xs ≡ map said past)
-          (λ xs. xs ≡ map said past) _ _ _ _ _ _ _ _ error fault took.lines.0 is says is-taken gave.come
-          (GaveLines-next _ _ _ _ _ _ _ _ _ _ took.lines.0 gave.taken took.whole took.honest)
-          (λ xs e. e) (λ xs e. e);
-    }
+    pub stopped-line : (error : LineError) → IsErrorOf (k.says latest (latest_line after)) error
+        → StoppedOf k said remaining start new past (fault_at (lines_taken after) error)
+    stopped-line error says =
+        let gave_lines = GaveLines-taken _ _ _ _ _ (HasTaken-next _ _ _ _ _ _ _ _ _ _ took.lines.0 gave.taken took.whole)
+        took.honest in
+        let is = ap (λ (n : ℕ). fault_at n error) took.lines.0 in
+        record {
+          failed = took.sound ∙ sym (not_read (lines_taken after) error);
+          calls = omega (arith, took.lines.0, took.lines.1, took.calls, gave.calls);
+          stops = subst (λ (f : RunFault). IfSome (remaining start.inner)
+              (λ bytes. StopsIn k (λ xs. xs ≡ map said past) (λ xs. xs ≡ map said past) bytes (remaining new.inner) f)) (sym is)
+              (stops-line k (map said past) latest (lines_taken before) (λ xs. xs ≡ map said past)
+              (λ xs. xs ≡ map said past) _ _ _ _ _ error says
+              is-taken gave.come (subst (λ (n : ℕ). GaveLines (remaining start.inner) (remaining new.inner) n) took.lines.0 gave_lines) refl refl);
+        }
 
   module _ (start old new : Watched R) (before after : LineReader) (latest : ℕ) (past : List (Item H))
       (gave : GaveOf k said remaining start before latest old past) where
     -- the reader stopped
     pub stopped-reader : (fault : RunFault) → CanStop fault (lines_taken before) (left remaining before old)
-        → new.failed ≡ is_failed_read {A = ℕ} (Err fault)
+        → new.failed ≡ is_read fault
         → (fault ≡ run.Read → (old.ended ≡ false) × HasNoFeed (unread after)
         × TakesBytes (remaining old.inner) (remaining new.inner) (unread before) (unread after) [])
+        → IsHonest remaining new → StopsBy fault old.ended new.ended (remaining old.inner) (remaining new.inner)
+        (unread before) (unread after)
         → new.calls ≤ old.calls + reads_of_line → (most_lines ≤ lines_taken before → new.calls ≤ old.calls + 1)
         → StoppedOf k said remaining start new past fault
-    stopped-reader fault can failed read calls last = record {
+    stopped-reader fault can failed read honest by calls last = record {
       failed = failed;
       calls = calls-bound _ _ _ _ gave.few gave.calls calls last;
-      stops = stops-reader k (λ xs. xs ≡ map said past) (λ xs. xs ≡ map said past)
-          (λ xs. xs ≡ map said past) _ _ _ _ _ fault gave.come can
-          (λ e. let h = read e in HasTaken-stop _ _ _ _ _ _ h.1 (gave.taken h.0) h.2) (λ xs e. e);
+      stops = stops-reader k (map said past) latest (lines_taken before) (λ xs. xs ≡ map said past)
+          (λ xs. xs ≡ map said past) _ _ _ _ _ _ _ _ fault gave.come can
+          (λ e. let h = read e in HasTaken-stop _ _ _ _ _ _ h.1 (gave.taken h.0) h.2) gave.taken honest by refl;
     }

@@ -25,11 +25,12 @@ use Rattle.afdx_send.proofs.NextLemmas.{AllSubs, split_last}
 use Rattle.afdx_send.proofs.OneLemmas.{one-emission, no-turns, order-next, released-once, none-is-next}
 use Rattle.afdx_replay.specs.SendEvents.{Handed, Event, Emitted, Submitted, submissions_in}
 use Rattle.afdx_replay.specs.SendEvents.{turns_in, taken_by, calls_in, IsAnswered, EachFollows}
-use Rattle.afdx_replay.specs.SendEvents.{AreDone}
+use Rattle.afdx_replay.specs.SendEvents.{AreDone, IsAtSubmission}
 use Rattle.afdx_replay.specs.ReplayText.{with_lines}
 use Rattle.afdx_replay.specs.SendText.{send_text, send_counts}
 use Rattle.afdx_replay.specs.declared.summary.Summary.{Summary}
 use Rattle.afdx_replay.specs.SendLaws.{EventsAreOne, SendsAreOne}
+use Rattle.afdx_replay.specs.SendStops.{EventsSoFarAreOne, EventsSoFarBegin, StoppedSendsAreOne}
 use Rattle.afdx_replay.proofs.TakenLemmas.{same-place, same-row, taken-each, own-taken}
 
 -- ---- a submission has one answer
@@ -190,6 +191,10 @@ in-both [] c = refl
 in-both (Emitted turn ∷ m) c = in-both m c
 in-both (Submitted x fault ∷ m) c = ap (λ (z : List Handed). x ∷ z) (in-both m c)
 
+no-fewer : (e : Event) (c : List Event) → length (submissions_in c) ≤ length (submissions_in (e ∷ c))
+no-fewer (Emitted turn) c = omega arith
+no-fewer (Submitted x fault) c = omega arith
+
 no-fact : (xs : List Handed) → AllByRecursion (λ x. Unit {0}) xs
 no-fact [] = tt
 no-fact (x ∷ xs) = (tt, no-fact xs)
@@ -288,18 +293,31 @@ module _ (s : SystemRow) (links : List LinkRow) (distinct : AreDistinct (λ l. l
       let k = length-append (submissions_in m) (x ∷ submissions_in c) in
       omega (arith, n, k)
 
+  -- nor after the last of them, where that is the latest event
+  stops-there : (m c : List Event) (e : Event) → IsAtSubmission (m ++ e ∷ c)
+      → submissions_in (m ++ e ∷ c) ≡ submissions_in c → ⊥
+  stops-there [] c (Emitted turn) at is = at
+  stops-there [] c (Submitted x fault) at is = let n = ap length is in omega (arith, n)
+  stops-there (Emitted turn ∷ m) c e at is = at
+  stops-there (Submitted x fault ∷ m) c e at is =
+      let n = ap length is in
+      let k = ap length (in-both m (e ∷ c)) in
+      let j = length-append (submissions_in m) (submissions_in (e ∷ c)) in
+      let i = no-fewer e c in
+      omega (arith, n, k, j, i)
+
   -- the first of one's events are the first of the others
   begins-both : (ones others : List Event) → EachFollows s links ones → EachFollows s links others
-      → submissions_in ones ≡ submissions_in others → AreDone s links others →
+      → submissions_in ones ≡ submissions_in others
+      → ((m : List Event) (e : Event) → ones ≡ m ++ e ∷ others → ⊥) →
       (c m : List Event) → ones ≡ m ++ c → (n : List Event) × (others ≡ n ++ c)
-  begins-both ones others h k is done [] m e = (others, sym (append-nil others))
-  begins-both ones others h k is done (d ∷ c) m e =
-      let r = begins-both ones others h k is done c (m ++ d ∷ []) (e ∙ sym (append_assoc m (d ∷ []) c)) in
+  begins-both ones others h k is ends [] m e = (others, sym (append-nil others))
+  begins-both ones others h k is ends (d ∷ c) m e =
+      let r = begins-both ones others h k is ends c (m ++ d ∷ []) (e ∙ sym (append_assoc m (d ∷ []) c)) in
       let follow = subst (λ (z : List Event). EachFollows s links z) e h in
       elim (split_last r.0) [
         | inl none ↦ absurd (let all : others ≡ c = r.1 ∙ ap (λ (z : List Event). z ++ c) none in
-            ends-there m c d follow (sym (ap submissions_in e) ∙ is ∙ ap submissions_in all)
-            (subst (λ (z : List Event). AreDone s links z) all done))
+            ends m d (e ∙ ap (λ (z : List Event). m ++ d ∷ z) (sym all)))
         | inr some ↦ (let whole : others ≡ some.0 ++ some.1 ∷ c = r.1
             ∙ ap (λ (z : List Event). z ++ c) some.2 ∙ append_assoc some.0 (some.1 ∷ []) c in
             let same : d ≡ some.1 = same-event m some.0 c d some.1 follow
@@ -309,11 +327,12 @@ module _ (s : SystemRow) (links : List LinkRow) (distinct : AreDistinct (λ l. l
       ]
 
   pub one-run : (ones others : List Event) → EachFollows s links ones → EachFollows s links others
-      → submissions_in ones ≡ submissions_in others → AreDone s links ones → AreDone s links others
-      → ones ≡ others
-  one-run ones others h k is done_ones done_others =
-      let a = begins-both ones others h k is done_others ones [] refl in
-      let b = begins-both others ones k h (sym is) done_ones others [] refl in
+      → submissions_in ones ≡ submissions_in others
+      → ((m : List Event) (e : Event) → others ≡ m ++ e ∷ ones → ⊥)
+      → ((m : List Event) (e : Event) → ones ≡ m ++ e ∷ others → ⊥) → ones ≡ others
+  one-run ones others h k is ends_ones ends_others =
+      let a = begins-both ones others h k is ends_others ones [] refl in
+      let b = begins-both others ones k h (sym is) ends_ones others [] refl in
       let m = ap length a.1 ∙ length-append a.0 ones in
       let n = ap length b.1 ∙ length-append b.0 others in
       let none : length a.0 ≡ 0 = omega (arith, m, n) in
@@ -323,9 +342,93 @@ module _ (s : SystemRow) (links : List LinkRow) (distinct : AreDistinct (λ l. l
       empty [] e = refl
       empty (x ∷ xs) e = absurd (omega (arith, e))
 
+  pub done-once : (ones others : List Event) → EachFollows s links ones → EachFollows s links others
+      → submissions_in ones ≡ submissions_in others → AreDone s links ones → AreDone s links others
+      → ones ≡ others
+  done-once ones others h k is done_ones done_others =
+      one-run ones others h k is
+      (λ m e eq. ends-there m ones e (subst (λ (z : List Event). EachFollows s links z) eq k)
+      (sym (ap submissions_in eq) ∙ sym is) done_ones)
+      (λ m e eq. ends-there m others e (subst (λ (z : List Event). EachFollows s links z) eq h)
+      (sym (ap submissions_in eq) ∙ is) done_others)
+
+  -- up to a submission, too
+  pub stopped-once : (ones others : List Event) → EachFollows s links ones → EachFollows s links others
+      → submissions_in ones ≡ submissions_in others → IsAtSubmission ones → IsAtSubmission others
+      → ones ≡ others
+  stopped-once ones others h k is at_ones at_others =
+      one-run ones others h k is
+      (λ m e eq. stops-there m ones e (subst IsAtSubmission eq at_others) (sym (ap submissions_in eq) ∙ sym is))
+      (λ m e eq. stops-there m others e (subst IsAtSubmission eq at_ones) (sym (ap submissions_in eq) ∙ is))
+
+-- events up to the last of the older submissions
+pub record UpTo (past : List Handed) (events : List Event) : Type 0 where
+  pub later : List Event
+  pub first : List Event
+  pub parts : events ≡ later ++ first
+  pub submissions_are : submissions_in first ≡ past
+  pub at_submission : IsAtSubmission first
+
+up-to : (events : List Event) (more past : List Handed) → submissions_in events ≡ more ++ past → UpTo past events
+up-to [] more past is = record {
+  later = [];
+  first = [];
+  parts = refl;
+  submissions_are = no-past more past is;
+  at_submission = tt;
+}
+  where
+    no-past : (more past : List Handed) → [] ≡ more ++ past → [] ≡ past
+    no-past [] past is = is
+    no-past (x ∷ more) past is = absurd (cc is)
+up-to (Emitted turn ∷ before) more past is = let h = up-to before more past is in record {
+  later = Emitted turn ∷ h.later;
+  first = h.first;
+  parts = ap (λ (z : List Event). Emitted turn ∷ z) h.parts;
+  submissions_are = h.submissions_are;
+  at_submission = h.at_submission;
+}
+up-to (Submitted x fault ∷ before) [] past is = record {
+  later = [];
+  first = Submitted x fault ∷ before;
+  parts = refl;
+  submissions_are = is;
+  at_submission = tt;
+}
+up-to (Submitted x fault ∷ before) (y ∷ more) past is =
+    let rest : submissions_in before ≡ more ++ past = cc is in
+    let h = up-to before more past rest in record {
+      later = Submitted x fault ∷ h.later;
+      first = h.first;
+      parts = ap (λ (z : List Event). Submitted x fault ∷ z) h.parts;
+      submissions_are = h.submissions_are;
+      at_submission = h.at_submission;
+    }
+
+pub events-so-far-are-one : EventsSoFarAreOne
+events-so-far-are-one t sender s past ones others lawful a at_ones b at_others =
+    stopped-once s (links_from t.links sender) (distinct_links t.links sender lawful.links.identifiers)
+    ones others a.follow b.follow (a.submissions_are ∙ sym b.submissions_are) at_ones at_others
+
+pub events-so-far-begin : EventsSoFarBegin
+events-so-far-begin t sender s more past first all lawful a at_first b =
+    let links = links_from t.links sender in
+    let h = up-to all more past b.submissions_are in
+    let follow = rest-follows s links (distinct_links t.links sender lawful.links.identifiers) h.later h.first
+    (subst (λ (z : List Event). EachFollows s links z) h.parts b.follow) in
+    let same : h.first ≡ first = events-so-far-are-one t sender s past h.first first lawful
+    (record { submissions_are = h.submissions_are; follow = follow }) h.at_submission a at_first in
+    (h.later, h.parts ∙ ap (λ (z : List Event). h.later ++ z) same)
+
+pub stopped-sends-are-one : StoppedSendsAreOne
+stopped-sends-are-one t sender s past old one other lawful a b =
+    let same : a.events ≡ b.events = events-so-far-are-one t sender s past a.events b.events lawful
+    a.are_events a.at_submission b.are_events b.at_submission in
+    a.written ∙ ap (λ (z : List Event). old ++ send_text s z) same ∙ sym b.written
+
 pub events-are-one : EventsAreOne
 events-are-one t sender s past ones others lawful a done_ones b done_others =
-    one-run s (links_from t.links sender) (distinct_links t.links sender lawful.links.identifiers)
+    done-once s (links_from t.links sender) (distinct_links t.links sender lawful.links.identifiers)
     ones others a.follow b.follow (a.submissions_are ∙ sym b.submissions_are) done_ones done_others
 
 pub sends-are-one : SendsAreOne

@@ -13,9 +13,7 @@ use Rattle.afdx_admit.specs.FaultText.{fault_text}
 use Rattle.afdx_admit.specs.Known.{name_of}
 use Rattle.afdx_admit.specs.Lines.{high_bound_at, low_bound_at, buffer_need_at, first_false, lines}
 use Rattle.afdx_lists.specs.Calls.{AppendsFront}
-use Rattle.afdx_lists.specs.Faults.{fault_line}
-use Rattle.afdx_lists.specs.Telling.{Tells}
-use Rattle.afdx_lists.specs.declared.fault.RunFault.TheVariants.{Write}
+use Rattle.afdx_lists.specs.Telling.{TellsLine}
 use Rattle.afdx_lists.specs.declared.watched.Watched.{Watched}
 use Rattle.afdx_lists.specs.Watching.{device_of, has_failed}
 use Rattle.afdx_replay.specs.Refusals.{RefusesConfig, WantsMemory}
@@ -88,7 +86,7 @@ module _ {O E : Type 0} (bytes : O → Option (List ℕ)) (error_bytes : E →
     pub failed : has_failed new ≡ true
     pub tables : Rows
     pub begins : BeginsCheck config (bytes (device_of old)) (bytes (device_of new)) tables
-    pub told : Tells error_bytes old_errors new_errors (fault_line Write)
+    pub told : TellsLine error_bytes old_errors new_errors
 
   -- memory was refused, and nothing is written
   pub record IsUnchecked : Type 0 where

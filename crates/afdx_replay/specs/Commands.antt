@@ -1,13 +1,15 @@
 -- How a command ends that runs over a list, and what a command does that polices one link.
-use Rattle.std.specs.Prelude.{ℕ, ◌≡◌, ◌≤◌, List, [], ◌++◌, Option, Result, Ok, Err, OnOk, true, codes, decimal}
+use Rattle.std.specs.Prelude.{ℕ, ◌≡◌, ◌≤◌, List, ◌++◌, Option, Result, Ok, Err, OnOk, OnErr, true, codes, decimal}
 use Rattle.std.specs.Result.{result_ok}
+use Rattle.afdx_frame.specs.Lengths.{least_frame}
+use Rattle.afdx_frame.specs.declared.link.Policing.TheVariants.{Byte}
 use Rattle.afdx_police.specs.Rule.{IsRule, Rule, rule_with}
 use Rattle.afdx_lists.specs.declared.fault.RunFault.{RunFault}
 use Rattle.afdx_lists.specs.declared.watched.Watched.{Watched}
 use Rattle.afdx_lists.specs.Watching.{has_ended, has_failed}
 use Rattle.afdx_lists.specs.Calls.{is_failed_read, is_failed_write}
-use Rattle.afdx_lists.specs.Faults.{status_of, fault_line}
-use Rattle.afdx_lists.specs.Telling.{Tells}
+use Rattle.afdx_lists.specs.Faults.{status_of}
+use Rattle.afdx_lists.specs.Telling.{TellsLine}
 use Rattle.afdx_replay.specs.declared.ending.Ended.{Ended}
 use Rattle.afdx_replay.specs.declared.police_command.CommandedRule.{CommandedRule}
 use Rattle.afdx_replay.specs.declared.summary.Summary.{Summary}
@@ -16,6 +18,18 @@ use Rattle.afdx_replay.specs.declared.summary.Summary.{Summary}
 abbrev pub commanded_rule : CommandedRule → Rule
 commanded_rule given =
     rule_with given.vl given.port given.bag_ms given.lmin given.lmax given.jitter_us given.policing
+
+-- the rule of link 1 at port 1, with frames from the least one on, policed by bytes
+abbrev pub usual_rule : (bag_ms lmax jitter_us : ℕ) → CommandedRule
+usual_rule bag_ms lmax jitter_us = record {
+  vl = 1;
+  port = 1;
+  bag_ms = bag_ms;
+  lmin = least_frame;
+  lmax = lmax;
+  jitter_us = jitter_us;
+  policing = Byte;
+}
 
 -- each of its values is in its range, the link's identifier too
 pub record IsCommanded (given : CommandedRule) : Type 0 where
@@ -27,11 +41,6 @@ abbrev pub status_of_answer : Result Summary RunFault → ℕ
 status_of_answer (Ok summary) = 0
 status_of_answer (Err fault) = status_of fault
 
--- what is told of it on the error output: a fault's one line
-abbrev pub line_of_answer : Result Summary RunFault → List ℕ
-line_of_answer (Ok summary) = []
-line_of_answer (Err fault) = fault_line fault
-
 -- A command ends as its run answered: that decides the exit status, the counts that are handed out
 -- and what the error output is told, which a run that is done leaves alone, and says whether the
 -- input came to its end and which device failed.
@@ -41,7 +50,7 @@ pub record EndsAs {R O E : Type 0} (error_bytes : E →
     (answer : Result Summary RunFault) : Type 0 where
   pub status_is : ended_with.status ≡ status_of_answer answer
   pub summary_is : ended_with.summary ≡ result_ok answer
-  pub told : Tells error_bytes old_errors new_errors (line_of_answer answer)
+  pub told : OnErr answer (TellsLine error_bytes old_errors new_errors)
   pub silent : OnOk answer (new_errors ≡ old_errors)
   pub ended : OnOk answer (has_ended input ≡ true)
   pub read : has_failed input ≡ is_failed_read answer

@@ -27,6 +27,7 @@ pub mod SendProgress
 pub mod SendTold
 pub mod SendCommand
 pub mod SendLaws
+pub mod SendStops
 pub mod EndToEnd
 pub mod Merged
 pub mod OneSide

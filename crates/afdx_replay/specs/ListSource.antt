@@ -1,14 +1,13 @@
 -- What is known of a list as a source, from call to call, whatever kind of list it is.
-use Rattle.std.specs.Prelude.{ℕ, ◌≡◌, ◌≤◌, ◌+◌, ◌*◌, List, [], length, map, Option, IfSome, true, false, Err}
+use Rattle.std.specs.Prelude.{ℕ, ◌≡◌, ◌≤◌, ◌+◌, ◌*◌, List, [], length, map, Option, IfSome, true, false}
 use Rattle.std.specs.Io.KnownBytes.{IsAtEnd}
 use Rattle.afdx_frame.specs.Times.{latest_listed}
-use Rattle.afdx_lists.specs.Calls.{is_failed_read}
-use Rattle.afdx_lists.specs.Lines.{IsHonest, left, lines_taken, most_lines, most_reads, reads_of_line}
+use Rattle.afdx_lists.specs.Calls.{is_read}
+use Rattle.afdx_lists.specs.Lines.{HasTaken, IsHonest, left, lines_taken, most_lines, most_reads, reads_of_line}
 use Rattle.afdx_lists.specs.Lines.{unread}
 use Rattle.afdx_lists.specs.declared.fault.RunFault.{RunFault}
 use Rattle.afdx_lists.specs.declared.line_reader.LineReader.{LineReader}
 use Rattle.afdx_lists.specs.declared.watched.Watched.{Watched}
-use Rattle.afdx_lists.proofs.WholeLemmas.{HasTaken}
 use Rattle.afdx_replay.specs.Engine.{Item, item_of}
 use Rattle.afdx_replay.specs.Items.{thing_of}
 use Rattle.afdx_replay.specs.Lists.{Kind, latest_in}
@@ -37,7 +36,7 @@ module _ {H R Y X : Type 0} (k : Kind Y X) (said : Item H → X)
     pub taken : input.ended ≡ false
         → HasTaken (remaining start.inner) (remaining input.inner) (unread reader)
         (lines_taken reader)
-    pub come : HasComeIn k (λ xs. xs ≡ map said past) latest (lines_taken reader)
+    pub come : HasComeIn k (map said past) latest (lines_taken reader)
         (remaining start.inner) (left remaining reader input)
 
   -- and these are all
@@ -49,13 +48,13 @@ module _ {H R Y X : Type 0} (k : Kind Y X) (said : Item H → X)
     pub last : IsAtEnd (remaining input.inner)
     pub rest : Option (List ℕ)
     pub done : IsAtEnd rest
-    pub come : HasComeIn k (λ xs. xs ≡ map said past) latest (lines_taken reader)
+    pub come : HasComeIn k (map said past) latest (lines_taken reader)
         (remaining start.inner) rest
 
   -- or this fault stands behind them
   pub record StoppedOf (start : Watched R) (input : Watched R) (past : List (Item H))
       (fault : RunFault) : Type 0 where
-    pub failed : input.failed ≡ is_failed_read {A = ℕ} (Err fault)
+    pub failed : input.failed ≡ is_read fault
     pub calls : input.calls ≤ start.calls + most_reads
     pub stops : IfSome (remaining start.inner) (λ bytes.
         StopsIn k (λ xs. xs ≡ map said past) (λ xs. xs ≡ map said past) bytes

@@ -4,6 +4,7 @@ use Rattle.std.specs.Prelude.{ℕ, zero, suc, ◌+◌, ◌<◌, ◌≡◌, List,
 use Rattle.afdx_lists.specs.declared.fault.RunFault.{RunFault}
 use Rattle.afdx_lists.specs.declared.fault.RunFault.TheVariants as run
 use Rattle.afdx_lists.specs.declared.fault.LineFault.{LineFault}
+use Rattle.afdx_lists.specs.Faults.{fault_of_line}
 use Rattle.afdx_lists.specs.Lines.{most_lines, longest_line}
 
 -- a kind of list: what a line says that comes after one of the latest time, what that is as
@@ -15,7 +16,7 @@ pub record Kind (Y X : Type 0) : Type 0 where
 
 abbrev pub fault_said : {Y : Type 0} → ℕ → Result (Option Y) LineFault → Option RunFault
 fault_said n (Ok said) = None
-fault_said n (Err fault) = Some (run.Line n fault)
+fault_said n (Err fault) = Some (fault_of_line n fault)
 
 module _ {Y X : Type 0} (k : Kind Y X) where
   -- the time of the newest, or 0

@@ -9,9 +9,7 @@ use Rattle.afdx_admit.specs.FaultText as admit_fault
 use Rattle.afdx_admit.specs.Known.{name_of}
 use Rattle.afdx_admit.specs.Lines.{first_false, lines}
 use Rattle.afdx_admit.specs.declared.fault.AdmitFault.{AdmitFault}
-use Rattle.afdx_lists.specs.Faults.{fault_line}
-use Rattle.afdx_lists.specs.Telling.{Tells}
-use Rattle.afdx_lists.specs.declared.fault.RunFault.TheVariants.{Memory}
+use Rattle.afdx_lists.specs.Telling.{Tells, TellsLine}
 use Rattle.afdx_lists.specs.declared.watched.Watched.{Watched}
 
 -- the line of a configuration's fault
@@ -27,7 +25,7 @@ module _ {E : Type 0} (error_bytes : E → Option (List ℕ)) (old new : Watched
   -- memory was refused: status 4, and its line
   pub record WantsMemory (status : ℕ) : Type 0 where
     pub status_is : status ≡ 4
-    pub told : Tells error_bytes old new (fault_line Memory)
+    pub told : TellsLine error_bytes old new
 
   -- this line with status 1
   pub record IsToldRefused (status : ℕ) (line : List ℕ) : Type 0 where

@@ -1,5 +1,5 @@
 -- What a replay answers and writes, and how far it has come.
-use Rattle.std.specs.Prelude.{ℕ, ◌+◌, ◌*◌, ◌≡◌, ◌≤◌, ◌⊎◌, List, ◌∷◌, length, Option, Result, Ok, Err}
+use Rattle.std.specs.Prelude.{ℕ, ◌+◌, ◌*◌, ◌≡◌, ◌≤◌, List, ◌∷◌, length, Option, Result, Ok, Err}
 use Rattle.std.specs.Io.KnownBytes.{Appends}
 use Rattle.afdx_frame.specs.Ports.{last_port}
 use Rattle.afdx_config.specs.Rows.{Rows}
@@ -7,7 +7,6 @@ use Rattle.afdx_police.specs.Arrival.{Arrival}
 use Rattle.afdx_lists.specs.Lines.{lines_of}
 use Rattle.afdx_lists.specs.Calls.{AppendsFront}
 use Rattle.afdx_lists.specs.declared.fault.RunFault.{RunFault}
-use Rattle.afdx_lists.specs.declared.fault.RunFault.TheVariants as run
 use Rattle.afdx_systems.specs.StandsFor as systems
 use Rattle.afdx_systems.specs.declared.systems.Systems.{Systems}
 use Rattle.afdx_network.specs.Events.{Event, Left, Departure, arrivals_in}
@@ -112,7 +111,3 @@ TellsArrivals t replay old new past =
 
 abbrev pub HasRoomFor : Replay → ℕ → Type 0
 HasRoomFor replay n = HasRoom replay.counts (network.frames_held replay.network) n
-
--- the fault of a run that told a line: the output's, or want of memory
-abbrev pub IsOutputFault : RunFault → Type 0
-IsOutputFault fault = (fault ≡ run.Write) ⊎ (fault ≡ run.Memory)

@@ -6,8 +6,11 @@ use Rattle.afdx_config.specs.Rows.{SystemRow, Rows}
 use Rattle.afdx_lists.specs.Telling.{Tells}
 use Rattle.afdx_lists.specs.declared.fault.RunFault.{RunFault}
 use Rattle.afdx_lists.specs.declared.watched.Watched.{Watched}
+use Rattle.afdx_lists.specs.Watching.{device_of}
+use Rattle.afdx_replay.specs.Commands.{EndsAs}
 use Rattle.afdx_replay.specs.Refusals.{RefusesConfig, RefusesTables, WantsMemory}
 use Rattle.afdx_replay.specs.Sent.{source_at, Answers}
+use Rattle.afdx_replay.specs.declared.ending.Ended.{Ended}
 use Rattle.afdx_replay.specs.declared.summary.Summary.{Summary}
 
 -- A list is sent from the system of this name in the tables that the configuration spells, which
@@ -53,3 +56,16 @@ IsNotSent error_bytes config name old_errors new_errors status =
     ⊎ RefusesName error_bytes old_errors new_errors config name status
     ⊎ (NamesSystem config name × RefusesTables error_bytes old_errors new_errors config status)
     ⊎ WantsMemory error_bytes old_errors new_errors status
+
+-- the command ends as a run over the list answered, or nothing is read and nothing is written
+abbrev pub EndsSend : {R O E : Type 0} → (R → Option (List ℕ)) → (O → Option (List ℕ)) →
+    (E → Option (List ℕ)) → (config name : List ℕ) → (old_input new_input : Watched R) →
+    (old_output new_output : Watched O) → (old_errors new_errors : Watched E) → Ended → Type 0
+EndsSend remaining contents error_bytes config name old_input new_input
+    old_output new_output old_errors new_errors ended =
+    ((answer : Result Summary RunFault)
+    × EndsAs error_bytes new_input new_output old_errors new_errors ended answer
+    × Sends config name (remaining (device_of old_input)) (remaining (device_of new_input))
+    (contents (device_of old_output)) (contents (device_of new_output)) answer)
+    ⊎ (IsNotSent error_bytes config name old_errors new_errors ended.status
+    × (new_input ≡ old_input) × (new_output ≡ old_output))

@@ -1,13 +1,12 @@
 //! How a command ends that ran over a list.
 
-ghost use Rattle.std.specs.Prelude.{◌≡◌, ◌==◌, ◌&&◌, ◌⊎◌, ◌↔◌, if◌then◌else◌, [], IsSome, OnOk, false, true};
+ghost use Rattle.std.specs.Prelude.{◌≡◌, ◌==◌, ◌&&◌, ◌⊎◌, ◌↔◌, if◌then◌else◌, [], IsSome, OnOk, OnErr, false, true};
 ghost use Rattle.std.specs.Result.{result_ok};
 ghost use Rattle.std.specs.Io.KnownBytes.{Keeps};
-ghost use Rattle.afdx_lists.specs.Faults.{fault_line};
 ghost use Rattle.afdx_lists.specs.Gathered.{gathered, held_bytes, device_has_failed};
-ghost use Rattle.afdx_lists.specs.Telling.{Tells};
+ghost use Rattle.afdx_lists.specs.Telling.{TellsLine};
 ghost use Rattle.afdx_lists.specs.Watching.{device_of, has_failed};
-ghost use Rattle.afdx_replay.specs.Commands.{line_of_answer, status_of_answer};
+ghost use Rattle.afdx_replay.specs.Commands.{status_of_answer};
 
 use crate::status::DONE;
 use crate::summary::Summary;
@@ -39,7 +38,7 @@ pub fn end<E: Write>(answer: Result<Summary, RunFault>, errors: &mut Watched<E>)
     ensures status { result.status ≡ status_of_answer answer }
     ensures summary { result.summary ≡ result_ok answer }
     ensures counts { IsSome result.summary ↔ (result.status ≡ 0) }
-    ensures told { Tells E.contents errors.old errors.new (line_of_answer answer) }
+    ensures told { OnErr answer (TellsLine E.contents errors.old errors.new) }
     ensures silent { OnOk answer (errors.new ≡ errors.old) }
 {
     match answer {
@@ -73,7 +72,7 @@ pub fn finish<O: Write + Drop, E: Write>(
         (gathered O.contents (device_of output.new)) }
     ensures status { ((result ≡ status) × (errors.new ≡ errors.old))
         ⊎ ((status ≡ 0) × (result ≡ 4)
-        × Tells E.contents errors.old errors.new (fault_line RunFault.Write)) }
+        × TellsLine E.contents errors.old errors.new) }
 {
     if output.failed() {
         return status;

@@ -8,6 +8,8 @@ ghost use Rattle.afdx_replay.specs.OneSide.{TakenIsToldByOneSide, TakenIsToldSoF
 ghost use Rattle.afdx_replay.specs.ReplayPromises.{ArrivalsAreListed, NoneIsCounted};
 ghost use Rattle.afdx_replay.specs.ReplayPromises.{ReplayIsAsPromised, ReplaySoFarIsAsPromised};
 ghost use Rattle.afdx_replay.specs.SendLaws.{SentLinesAreArrivals, EventsAreOne, SendsAreOne};
+ghost use Rattle.afdx_replay.specs.SendStops.{EventsSoFarAreOne, EventsSoFarBegin};
+ghost use Rattle.afdx_replay.specs.SendStops.{StoppedSendsAreOne};
 
 use afdx_frame::laws::built_is_computed;
 use afdx_promises::laws::sent_is_told_once;
@@ -58,6 +60,14 @@ pub fn sent_lines_are_arrivals()
 pub fn events_are_one()
     ensures events { EventsAreOne }
     ensures texts { SendsAreOne }
+{}
+
+/// Of a run that sends and stops, what it told up to a submission is so determined, too, and begins
+/// what a run over a list tells that goes on.
+pub fn stopped_events_are_one()
+    ensures events { EventsSoFarAreOne }
+    ensures begin { EventsSoFarBegin }
+    ensures texts { StoppedSendsAreOne }
 {}
 
 /// Exactly once, end to end: where what `run_send` writes for a system is merged into a list that

@@ -23,13 +23,13 @@ mod verdict;
 
 pub use admitted_run::run;
 pub use afdx_frame::Policing;
-pub use afdx_lists::{Buffered, LineFault, RunFault, Watched};
+pub use afdx_lists::{Buffered, RunFault, Watched};
 pub use check_command::check;
 pub use ending::{Ended, finish};
-pub use police_command::{CommandedRule, police};
+pub use police_command::{CommandedRule, police, police_and_count};
 pub use police_run::run_police;
-pub use replay_command::replay;
+pub use replay_command::{replay, replay_and_count};
 pub use replay_run::run_unadmitted;
-pub use send_command::send;
+pub use send_command::{send, send_and_count};
 pub use send_run::run_send;
 pub use summary::{NO_COUNTS, Summary};

@@ -3,8 +3,9 @@
 ghost use Rattle.std.specs.Prelude.{◌≡◌, ◌≤◌, ◌+◌, ◌||◌, ◌⊎◌, ◌↔◌, ℕ, Result, IfSome, IsSome, codes, false, true};
 ghost use Rattle.afdx_lists.specs.Lines.{most_reads};
 ghost use Rattle.afdx_lists.specs.Telling.{Tells};
-ghost use Rattle.afdx_replay.specs.Commands.{commanded_rule, EndsAs, IsCommanded};
+ghost use Rattle.afdx_replay.specs.Commands.{commanded_rule, usual_rule, EndsAs, IsCommanded};
 ghost use Rattle.afdx_replay.specs.Policed.{Answers};
+ghost use Rattle.afdx_replay.specs.declared.ending.Ended.{Ended as End};
 ghost use Rattle.afdx_replay.specs.declared.summary.Summary.{Summary};
 ghost use Rattle.afdx_lists.specs.declared.fault.RunFault.{RunFault};
 ghost use Rattle.afdx_lists.specs.Watching.{calls_of, device_of, has_ended, has_failed};
@@ -12,7 +13,7 @@ ghost use Rattle.afdx_lists.specs.Watching.{calls_of, device_of, has_ended, has_
 use crate::ending::{Ended, end};
 use crate::police_run::run_police;
 use crate::status::WRONG_WORDS;
-use afdx_frame::{LAST_PORT, Policing, VlId};
+use afdx_frame::{LAST_PORT, LEAST_FRAME, Policing, VlId};
 use afdx_lists::{Watched, tell};
 use afdx_police::LinkRule;
 use std::alloc::Global;
@@ -60,9 +61,9 @@ impl CommandedRule {
 }
 
 /// Polices the frames of a list for one virtual link: verdicts go to `output`, a fault's one line
-/// to `errors`. The exit status is 0 done, 2 a value out of range, 3 a fault of the list, 4 a
-/// device or memory.
-pub fn police<R: Read, O: Write, E: Write>(
+/// to `errors`. It also gives what the run counted. The exit status is 0 done, 2 a value out of
+/// range, 3 a fault of the list, 4 a device or memory.
+pub fn police_and_count<R: Read, O: Write, E: Write>(
     alloc: Global,
     given: &CommandedRule,
     input: &mut Watched<R>,
@@ -106,4 +107,48 @@ pub fn police<R: Read, O: Write, E: Write>(
     };
     let answer = run_police(alloc, &rule, input, output);
     end(answer, errors)
+}
+
+/// Polices the frames of link 1 at port 1, of 64 to `lmax` bytes, by bytes, with a gap of `bag_ms`
+/// milliseconds and a jitter of `jitter_us` microseconds, as `police_and_count` does, and gives the
+/// exit status alone.
+pub fn police<R: Read, O: Write, E: Write>(
+    alloc: Global,
+    bag_ms: u64,
+    lmax: u64,
+    jitter_us: u64,
+    input: &mut Watched<R>,
+    output: &mut Watched<O>,
+    errors: &mut Watched<E>,
+) -> u8
+    requires sound_input { has_failed input.old ≡ false }
+    requires unended { has_ended input.old ≡ false }
+    requires sound_output { has_failed output.old ≡ false }
+    ensures statuses { (result ≡ 0) ⊎ (result ≡ 2) ⊎ (result ≡ 3) ⊎ (result ≡ 4) }
+    ensures done { result ≡ 0 → (has_ended input.new ≡ true) × (has_failed input.new ≡ false)
+        × (has_failed output.new ≡ false) }
+    ensures device { (has_failed input.new || has_failed output.new) ≡ true → result ≡ 4 }
+    ensures calls { calls_of input.new ≤ calls_of input.old + most_reads }
+    ensures out_of_range { (IsCommanded (usual_rule bag_ms lmax jitter_us) → ⊥) →
+        (result ≡ 2) × Tells E.contents errors.old errors.new (codes "words BadRule\n")
+        × (input.new ≡ input.old) × (output.new ≡ output.old) }
+    ensures polices { IsCommanded (usual_rule bag_ms lmax jitter_us) →
+        (ended : End) × (ended.status ≡ result) × ((answer : Result Summary RunFault)
+        × EndsAs E.contents input.new output.new errors.old errors.new ended answer
+        × IfSome (R.remaining (device_of input.old)) (λ bytes.
+        Answers (commanded_rule (usual_rule bag_ms lmax jitter_us)) bytes
+        (R.remaining (device_of input.new))
+        (O.contents (device_of output.old)) (O.contents (device_of output.new)) answer)) }
+{
+    let given = CommandedRule {
+        vl: 1,
+        port: 1,
+        bag_ms,
+        lmin: LEAST_FRAME as u64,
+        lmax,
+        jitter_us,
+        policing: Policing::Byte,
+    };
+    let ended = police_and_count(alloc, &given, input, output, errors);
+    ended.status
 }

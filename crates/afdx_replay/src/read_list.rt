@@ -107,7 +107,7 @@ impl<H: Listed, R: Read> Source<H, Watched<R>> for ReadList<H> {
                     return Ok(true);
                 }
                 Ok(None) => {}
-                Err(error) => return Err(error.at_line(n)),
+                Err(error) => return Err(RunFault::from((n, error))),
             }
         }
         Ok(false)

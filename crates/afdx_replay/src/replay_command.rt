@@ -1,12 +1,10 @@
 //! The command `replay`.
 
-ghost use Rattle.std.specs.Prelude.{◌≡◌, ◌≤◌, ◌+◌, ◌||◌, ◌⊎◌, ◌↔◌, IsSome, Result, false, true};
+ghost use Rattle.std.specs.Prelude.{◌≡◌, ◌≤◌, ◌+◌, ◌||◌, ◌⊎◌, ◌↔◌, IsSome, false, true};
 ghost use Rattle.afdx_lists.specs.Lines.{most_reads};
-ghost use Rattle.afdx_lists.specs.declared.fault.RunFault.{RunFault};
-ghost use Rattle.afdx_lists.specs.Watching.{calls_of, device_of, has_ended, has_failed};
-ghost use Rattle.afdx_replay.specs.Commands.{EndsAs};
-ghost use Rattle.afdx_replay.specs.ReplayCommand.{Replays, IsNotReplayed};
-ghost use Rattle.afdx_replay.specs.declared.summary.Summary.{Summary};
+ghost use Rattle.afdx_lists.specs.Watching.{calls_of, has_ended, has_failed};
+ghost use Rattle.afdx_replay.specs.ReplayCommand.{EndsReplay};
+ghost use Rattle.afdx_replay.specs.declared.ending.Ended.{Ended as End};
 
 use crate::admitted_run::run;
 use crate::ending::{Ended, end};
@@ -19,11 +17,11 @@ use std::alloc::Global;
 use std::io::{Read, Write};
 
 /// Replays a list of frames in the tables of a configuration: the lines of all events go to
-/// `output`, a fault's one line to `errors`.
+/// `output`, a fault's one line to `errors`. It also gives what the run counted.
 ///
 /// With `admission` the tables have to be admitted. The exit status is 0 done, 1 a fault of
 /// the configuration or tables that are not admitted, 3 a fault of the list, 4 a device or memory.
-pub fn replay<R: Read, O: Write, E: Write>(
+pub fn replay_and_count<R: Read, O: Write, E: Write>(
     alloc: Global,
     admission: bool,
     config: &[u8],
@@ -45,13 +43,8 @@ pub fn replay<R: Read, O: Write, E: Write>(
     ensures calls { calls_of input.new ≤ calls_of input.old + most_reads }
 
     // The command ends as a run over the list answered, or nothing is read and nothing is written.
-    ensures replays { ((answer : Result Summary RunFault)
-        × EndsAs E.contents input.new output.new errors.old errors.new result answer
-        × Replays config.now admission (R.remaining (device_of input.old))
-        (R.remaining (device_of input.new))
-        (O.contents (device_of output.old)) (O.contents (device_of output.new)) answer)
-        ⊎ (IsNotReplayed E.contents config.now admission errors.old errors.new result.status
-        × (input.new ≡ input.old) × (output.new ≡ output.old)) }
+    ensures replays { EndsReplay R.remaining O.contents E.contents config.now admission
+        input.old input.new output.old output.new errors.old errors.new result }
 {
     let tables = match read_tables(alloc, config) {
         Ok(tables) => tables,
@@ -70,4 +63,30 @@ pub fn replay<R: Read, O: Write, E: Write>(
             Ended::without_counts(refuse_tables(alloc, &tables, fault, errors))
         }
     }
+}
+
+/// Replays a list of frames in the tables of a configuration, as `replay_and_count` does, and gives
+/// the exit status alone.
+pub fn replay<R: Read, O: Write, E: Write>(
+    alloc: Global,
+    admission: bool,
+    config: &[u8],
+    input: &mut Watched<R>,
+    output: &mut Watched<O>,
+    errors: &mut Watched<E>,
+) -> u8
+    requires sound_input { has_failed input.old ≡ false }
+    requires unended { has_ended input.old ≡ false }
+    requires sound_output { has_failed output.old ≡ false }
+    ensures statuses { (result ≡ 0) ⊎ (result ≡ 1) ⊎ (result ≡ 3) ⊎ (result ≡ 4) }
+    ensures done { result ≡ 0 → (has_ended input.new ≡ true) × (has_failed input.new ≡ false)
+        × (has_failed output.new ≡ false) }
+    ensures device { (has_failed input.new || has_failed output.new) ≡ true → result ≡ 4 }
+    ensures calls { calls_of input.new ≤ calls_of input.old + most_reads }
+    ensures replays { (ended : End) × (ended.status ≡ result)
+        × EndsReplay R.remaining O.contents E.contents config.now admission
+        input.old input.new output.old output.new errors.old errors.new ended }
+{
+    let ended = replay_and_count(alloc, admission, config, input, output, errors);
+    ended.status
 }

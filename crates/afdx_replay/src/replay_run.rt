@@ -19,7 +19,7 @@ ghost use Rattle.afdx_lists.specs.Watching.{calls_of, device_of, has_ended, has_
 ghost use Rattle.afdx_replay.specs.DefinedRun.{DefinedAnswers};
 ghost use Rattle.afdx_replay.specs.Listed.{arrival_at};
 ghost use Rattle.afdx_replay.specs.Replayed.{WritesSome, Answers, ToldAll, TellsDeparture, HasRoom};
-ghost use Rattle.afdx_replay.specs.Replayed.{IsOutputFault};
+ghost use Rattle.afdx_replay.specs.Engine.{IsOfOutput};
 ghost use Rattle.afdx_replay.specs.ReplayText.{replay_counts, frames_left, with_admission};
 
 use crate::engine::Machine;
@@ -135,7 +135,7 @@ impl Replay {
         requires room { (n : ℕ) × (n ≤ most_lines) × HasRoomFor self.old n }
         requires sound { has_failed output.old ≡ false }
         ensures failed { has_failed output.new ≡ is_failed_write result }
-        ensures fault { IfErr result IsOutputFault }
+        ensures fault { IfErr result IsOfOutput }
         ensures clock { network.IsUntil self.new.network until }
         ensures quiet { OnOk result (network.IsQuiet self.new.network until) }
         ensures room { (n : ℕ) → HasRoomFor self.old n → OnOk result (HasRoomFor self.new n) }
@@ -172,7 +172,7 @@ impl Replay {
         requires room { (m : ℕ) × (m < most_lines) × HasRoomFor self.old m }
         requires sound { has_failed output.old ≡ false }
         ensures failed { has_failed output.new ≡ is_failed_write result }
-        ensures fault { IfErr result IsOutputFault }
+        ensures fault { IfErr result IsOfOutput }
         ensures clock { OnOk result (network.IsUntil self.new.network heading.now.time) }
         ensures room { (m : ℕ) → HasRoomFor self.old m → OnOk result (HasRoomFor self.new (m + 1)) }
         ensures told { (t : Rows) (start : Option (List ℕ)) (past : List Arrival) →

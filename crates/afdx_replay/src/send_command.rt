@@ -1,12 +1,10 @@
 //! The command `send`.
 
-ghost use Rattle.std.specs.Prelude.{◌≡◌, ◌≤◌, ◌+◌, ◌||◌, ◌⊎◌, ◌↔◌, IsSome, Result, false, true};
+ghost use Rattle.std.specs.Prelude.{◌≡◌, ◌≤◌, ◌+◌, ◌||◌, ◌⊎◌, ◌↔◌, IsSome, false, true};
 ghost use Rattle.afdx_lists.specs.Lines.{most_reads};
-ghost use Rattle.afdx_lists.specs.declared.fault.RunFault.{RunFault};
-ghost use Rattle.afdx_lists.specs.Watching.{calls_of, device_of, has_ended, has_failed};
-ghost use Rattle.afdx_replay.specs.Commands.{EndsAs};
-ghost use Rattle.afdx_replay.specs.SendCommand.{Sends, IsNotSent};
-ghost use Rattle.afdx_replay.specs.declared.summary.Summary.{Summary};
+ghost use Rattle.afdx_lists.specs.Watching.{calls_of, has_ended, has_failed};
+ghost use Rattle.afdx_replay.specs.SendCommand.{EndsSend};
+ghost use Rattle.afdx_replay.specs.declared.ending.Ended.{Ended as End};
 
 use crate::ending::{Ended, end};
 use crate::refusing::{refuse_config, refuse_name, refuse_tables};
@@ -20,11 +18,12 @@ use std::io::{Read, Write};
 /// Sends the messages of a list from the system of this name in the tables of a configuration.
 ///
 /// Its frames for both networks go to `output`, as a list that `replay` reads, with a remark for
-/// each message that was refused; a fault's one line goes to `errors`. The exit status is
+/// each message that was refused; a fault's one line goes to `errors`. It also gives what the run
+/// counted. The exit status is
 /// 0 done, 1 a fault of the configuration or tables that are not admitted, 2 no system has the
 /// name, 3 a fault of the list, 4 a device or memory. Of several causes the first is answered: a
 /// fault of the configuration, the system's name, admission, the list.
-pub fn send<R: Read, O: Write, E: Write>(
+pub fn send_and_count<R: Read, O: Write, E: Write>(
     alloc: Global,
     config: &[u8],
     system: &str,
@@ -47,13 +46,8 @@ pub fn send<R: Read, O: Write, E: Write>(
     ensures calls { calls_of input.new ≤ calls_of input.old + most_reads }
 
     // The command ends as a run over the list answered, or nothing is read and nothing is written.
-    ensures sends { ((answer : Result Summary RunFault)
-        × EndsAs E.contents input.new output.new errors.old errors.new result answer
-        × Sends config.now system.now (R.remaining (device_of input.old))
-        (R.remaining (device_of input.new)) (O.contents (device_of output.old))
-        (O.contents (device_of output.new)) answer)
-        ⊎ (IsNotSent E.contents config.now system.now errors.old errors.new result.status
-        × (input.new ≡ input.old) × (output.new ≡ output.old)) }
+    ensures sends { EndsSend R.remaining O.contents E.contents config.now system.now
+        input.old input.new output.old output.new errors.old errors.new result }
 {
     let tables = match read_tables(alloc, config) {
         Ok(tables) => tables,
@@ -71,4 +65,30 @@ pub fn send<R: Read, O: Write, E: Write>(
             Ended::without_counts(refuse_tables(alloc, &tables, fault, errors))
         }
     }
+}
+
+/// Sends the messages of a list from the system of this name, as `send_and_count` does, and gives
+/// the exit status alone.
+pub fn send<R: Read, O: Write, E: Write>(
+    alloc: Global,
+    config: &[u8],
+    system: &str,
+    input: &mut Watched<R>,
+    output: &mut Watched<O>,
+    errors: &mut Watched<E>,
+) -> u8
+    requires sound_input { has_failed input.old ≡ false }
+    requires unended { has_ended input.old ≡ false }
+    requires sound_output { has_failed output.old ≡ false }
+    ensures statuses { (result ≡ 0) ⊎ (result ≡ 1) ⊎ (result ≡ 2) ⊎ (result ≡ 3) ⊎ (result ≡ 4) }
+    ensures done { result ≡ 0 → (has_ended input.new ≡ true) × (has_failed input.new ≡ false)
+        × (has_failed output.new ≡ false) }
+    ensures device { (has_failed input.new || has_failed output.new) ≡ true → result ≡ 4 }
+    ensures calls { calls_of input.new ≤ calls_of input.old + most_reads }
+    ensures sends { (ended : End) × (ended.status ≡ result)
+        × EndsSend R.remaining O.contents E.contents config.now system.now
+        input.old input.new output.old output.new errors.old errors.new ended }
+{
+    let ended = send_and_count(alloc, config, system, input, output, errors);
+    ended.status
 }

@@ -10,6 +10,7 @@ ghost use Rattle.afdx_lists.specs.Watching.{calls_of, device_of, has_ended, has_
 ghost use Rattle.afdx_send.specs.Sender.{StandsFor, IsQuiet, frames_held, last_time, sending_of};
 ghost use Rattle.afdx_replay.specs.SendEvents.{Handed as HandedSubmission, Event, submissions_in, calls_in};
 ghost use Rattle.afdx_replay.specs.SendText.{sent_line, emission_lines, refusal_line, send_counts};
+ghost use Rattle.afdx_replay.specs.Engine.{IsOfOutput};
 ghost use Rattle.afdx_replay.specs.Sent.{Source, source_at, WritesSome, Answers};
 ghost use Rattle.afdx_replay.specs.SendProgress.{handed_at, HasTold, AreTold, ToldUntil, TellsSubmission, HasRoom};
 
@@ -61,17 +62,19 @@ fn put_emission(text: &mut Text, port: u8, emission: &Emission) -> Result<(), Al
     put_sent(text, time, Side::B, port, emission.b.as_slice())
 }
 
-/// Whether it isn't the message that was refused, but memory.
-fn is_memory(fault: SendFault) -> bool
-    ensures { IsTrue result ↔ (fault ≡ SendFault.Memory) }
+/// Why a message was refused, but where it is memory that was: that is handed on.
+fn refusal_of(fault: SendFault) -> Result<SendFault, AllocError>
+    ensures same { IfOk result (λ refusal. refusal ≡ fault) }
+    ensures message { OnOk result (fault ≡ SendFault.Memory → ⊥) }
+    ensures memory { OnErr result (fault ≡ SendFault.Memory) }
 {
     match fault {
-        SendFault::Memory => true,
+        SendFault::Memory => Err(AllocError),
         SendFault::NotMyLink
         | SendFault::NoSuchSub
         | SendFault::Empty
         | SendFault::TooLarge
-        | SendFault::QueueFull => false,
+        | SendFault::QueueFull => Ok(fault),
     }
 }
 
@@ -138,8 +141,7 @@ impl Sending {
             HasRoom self.old.counts (frames_held self.old.sender) n }
         requires sound { has_failed output.old ≡ false }
         ensures failed { has_failed output.new ≡ is_failed_write result }
-        ensures fault { IfErr result (λ fault.
-            (fault ≡ RunFault.Write) ⊎ (fault ≡ RunFault.Memory)) }
+        ensures fault { IfErr result IsOfOutput }
         ensures clock { OnOk result (last_time self.new.sender ≡ until) }
         ensures quiet { OnOk result (IsQuiet self.new.sender until) }
         ensures room { (n : ℕ) → HasRoom self.old.counts (frames_held self.old.sender) n →
@@ -192,11 +194,9 @@ impl Sending {
                 Ok(None)
             }
             Err(fault) => {
-                if is_memory(fault) {
-                    return Err(AllocError);
-                }
+                let refusal = refusal_of(fault)?;
                 self.counts.dropped += 1;
-                Ok(Some(fault))
+                Ok(Some(refusal))
             }
         }
     }
@@ -215,8 +215,7 @@ impl Sending {
             HasRoom self.old.counts (frames_held self.old.sender) m }
         requires sound { has_failed output.old ≡ false }
         ensures failed { has_failed output.new ≡ is_failed_write result }
-        ensures fault { IfErr result (λ fault.
-            (fault ≡ RunFault.Write) ⊎ (fault ≡ RunFault.Memory)) }
+        ensures fault { IfErr result IsOfOutput }
         ensures clock { OnOk result (last_time self.new.sender ≡ handed.now.time) }
         ensures room { (m : ℕ) → HasRoom self.old.counts (frames_held self.old.sender) m →
             OnOk result (HasRoom self.new.counts (frames_held self.new.sender) (m + 1)) }

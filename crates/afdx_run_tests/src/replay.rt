@@ -2,6 +2,7 @@
 //! and each fault of a list is tried at the program (tests/program/police.sh).
 
 mod checks;
+mod commands;
 mod end_to_end;
 mod premises;
 mod refusals;
@@ -13,7 +14,9 @@ mod weak;
 use crate::texts::short_text;
 use afdx_frame::{Policing, VlId};
 use afdx_police::LinkRule;
-use afdx_replay::{CommandedRule, NO_COUNTS, RunFault, Summary, Watched, police, run_police};
+use afdx_replay::{
+    CommandedRule, NO_COUNTS, RunFault, Summary, Watched, police_and_count, run_police,
+};
 use afdx_samples::{ShortText, all_right, spelled};
 use std::alloc::Global;
 use std::test::Fail;
@@ -132,7 +135,7 @@ fn police_with(alloc: Global, rule: &CommandedRule, list: &[u8]) -> Result<Comma
     let mut input = Watched::new(list);
     let mut output = Watched::new(Vec::new(alloc));
     let mut errors = Watched::new(Vec::new(alloc));
-    let ended = police(alloc, rule, &mut input, &mut output, &mut errors);
+    let ended = police_and_count(alloc, rule, &mut input, &mut output, &mut errors);
     let text = short_text(output.into_inner().as_slice())?;
     let line = short_text(errors.into_inner().as_slice())?;
     Ok((ended.status, ended.summary.is_some(), text, line))

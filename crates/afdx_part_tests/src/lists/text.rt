@@ -4,7 +4,7 @@ use afdx_lists::{
     Buffered, LineError, LineFault, RunFault, Text, Watched, read_frame_line, tell_fault,
     write_text,
 };
-use afdx_samples::{Break, WeakWriter, equal};
+use afdx_samples::{Break, WeakWriter, all_right, equal};
 use std::alloc::{AllocError, Global};
 use std::test::Fail;
 
@@ -79,13 +79,38 @@ fn told(alloc: Global, fault: &RunFault) -> Vec<u8> {
     errors.into_inner()
 }
 
+/// Each fault of a run, what is told of it, and its exit status.
+const FAULTS: [(RunFault, &str, u8); 11] = [
+    (RunFault::BadLine(20), "list BadLine 20\n", 3),
+    (RunFault::BadHex(1), "list BadHex 1\n", 3),
+    (RunFault::TimeBack(2), "list TimeBack 2\n", 3),
+    (RunFault::TimeTooLarge(3), "list TimeTooLarge 3\n", 3),
+    (
+        RunFault::TimeTooLarge(u64::MAX),
+        "list TimeTooLarge 18446744073709551615\n",
+        3,
+    ),
+    (RunFault::BadPort(1_000_000), "list BadPort 1000000\n", 3),
+    (RunFault::LineTooLong(4), "list LineTooLong 4\n", 3),
+    (RunFault::TooManyLines, "list TooManyLines\n", 3),
+    (RunFault::Read, "device Read\n", 4),
+    (RunFault::Write, "device Write\n", 4),
+    (RunFault::Memory, "memory\n", 4),
+];
+
+/// The text of the first of the faults that is told otherwise.
+fn wrongly_told(alloc: Global) -> Option<&'static str> {
+    for (fault, text, status) in FAULTS.as_slice() {
+        if told(alloc, fault).as_slice() != text.as_bytes() || fault.status() != *status {
+            return Some(text);
+        }
+    }
+    None
+}
+
 #[test]
-fn a_fault_is_told(rt: HostRuntime) -> Result<(), Fail> {
-    let fault = LineError::Fault(LineFault::BadLine).at_line(20);
-    equal(
-        (told(rt.alloc(), &fault).as_slice(), fault.status()),
-        (b"list BadLine 20\n".as_slice(), 3),
-    )
+fn each_fault_is_told(rt: HostRuntime) -> Result<(), Fail> {
+    all_right(wrongly_told(rt.alloc()))
 }
 
 /// A piece of a text.

@@ -4,7 +4,7 @@ use super::Answer;
 use super::sends::sent;
 use crate::texts::{push_line, short_text, shown};
 use afdx_admit::Admitted;
-use afdx_replay::{LineFault, RunFault, Watched, run};
+use afdx_replay::{RunFault, Watched, run};
 use afdx_samples::{ShortText, admitted, base, equal, spelled};
 use std::alloc::{AllocError, Global};
 use std::test::Fail;
@@ -154,5 +154,5 @@ fn frames_after_the_last_time_are_no_list(rt: HostRuntime) -> Result<(), Fail> {
     let text = sent_alone(rt.alloc(), "1000000000000000 1 1 1000 61\n")?;
     assert!(rt; text.as_str().starts_with("R 1000000000006720 A 1 "));
     let (result, _) = replayed(rt.alloc(), text.as_str())?;
-    equal(result, Err(RunFault::Line(1, LineFault::TimeTooLarge)))
+    equal(result, Err(RunFault::TimeTooLarge(1)))
 }

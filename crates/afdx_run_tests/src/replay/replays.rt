@@ -3,7 +3,7 @@
 use super::Answer;
 use crate::texts::short_text;
 use afdx_config::Tables;
-use afdx_replay::{LineFault, NO_COUNTS, RunFault, Summary, Watched, run_unadmitted};
+use afdx_replay::{NO_COUNTS, RunFault, Summary, Watched, run_unadmitted};
 use afdx_samples::{ShortText, base, changed, equal, read, spelled};
 use std::alloc::Global;
 use std::test::Fail;
@@ -34,7 +34,7 @@ fn config_with(profile: &str, buffer: &str, latency: &str) -> Result<ShortText, 
 fn a_list_with_a_fault(rt: HostRuntime) -> Result<(), Fail> {
     let list = "F 0 A 1 H1\nF 20000 A 2 H2\nF 19999 A 2 H2\n";
     let (result, written) = replayed(rt.alloc(), base(), list)?;
-    let want = Err(RunFault::Line(3, LineFault::TimeBack));
+    let want = Err(RunFault::TimeBack(3));
     let text = "V 1 A accept\nD 1 6720 A 3\nM 6720 s3 1 68656c6c6f\nV 2 A accept\n";
     equal((result, written.as_str()), (want, text))
 }

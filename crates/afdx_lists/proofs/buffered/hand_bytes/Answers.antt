@@ -1,11 +1,16 @@
-use Rattle.std.proofs.Common.{rules, ◌-◌, ◌++◌, length, take, drop, sym, ap, subst, ◌∙◌, arith, length-take}
+use Rattle.std.proofs.Common.{rules, ◌-◌, ◌++◌, length, take, drop, sym, ap, refl, subst, ◌∙◌, arith, length-take}
 use lib.Seq.{take-add, take-take}
 use Rattle.std.specs.Io.KnownBytes.{Appends}
 use Rattle.std.proofs.KnownBytes.{Appends-trans, Appends-nil}
 use Rattle.afdx_lists.proofs.buffered.hand_bytes.Goals as goal
 
 pub loop-taken-init : goal.loop-taken-init
-loop-taken-init g c = record { within = omega arith; sound = search rules; taken = Appends-nil _ }
+loop-taken-init g c = record {
+  within = omega arith;
+  sound = search rules;
+  flushed = refl;
+  taken = Appends-nil _;
+}
 
 pub loop-taken-preserved : goal.loop-taken-preserved
 loop-taken-preserved g c =
@@ -20,5 +25,6 @@ loop-taken-preserved g c =
     record {
       within = omega arith;
       sound = search rules;
+      flushed = search rules;
       taken = subst (Appends _ _) joined (Appends-trans _ _ _ _ _ before.taken c.in-Ok.ensures.bytes);
     }

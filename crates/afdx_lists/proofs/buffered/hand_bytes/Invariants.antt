@@ -6,6 +6,7 @@ abbrev pub invariant-loop-taken : goal.invariant-loop-taken
 invariant-loop-taken g l = record {
   within : l.taken ≤ length l.bytes;
   sound : l.device.failed ≡ false;
+  flushed : l.device.flush_failed ≡ l.fn.device.flush_failed;
   taken : Appends (g.W.Write.contents l.fn.device.inner) (g.W.Write.contents l.device.inner) (take l.taken l.bytes);
 }
 

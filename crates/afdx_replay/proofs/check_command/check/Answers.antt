@@ -17,5 +17,5 @@ returns-clause-stopped g c =
       failed = rw c.in-Err-write_text.ensures.fault at c.in-Err-write_text.ensures.failed;
       tables = c.in-Ok.tables;
       begins = record { spelled = c.in-Ok.ensures.ok; written = rw text at c.in-Err-write_text.ensures.front };
-      told = rw c.in-Err-write_text.ensures.fault at c.tell_fault.ensures;
+      told = c.tell_fault.ensures;
     })

@@ -5,7 +5,8 @@ use Rattle.afdx_lists.specs.Lines.{unread, latest_line, HasNoFeed}
 use Rattle.afdx_lists.proofs.ReaderLemmas.{unread_length, unread_nothing, few_lines, all_taken, none_after}
 use Rattle.afdx_lists.proofs.TakingLemmas.{TakesBytes-then, TakesBytes-part, TakesLine-feed}
 use Rattle.afdx_lists.proofs.TakingLemmas.{TakesLine-last, IsAtEnd-left, some_line_left}
-use Rattle.afdx_lists.proofs.TakingLemmas.{long_line_left}
+use Rattle.afdx_lists.proofs.LineLemmas.{lines_of_some}
+use Rattle.afdx_lists.proofs.TakingLemmas.{long_line_held, long_line_left}
 use Rattle.afdx_lists.proofs.line_reader.LineReader.next_line.Goals as goal
 
 pub returns-then-holds_too_many-clause-fault : goal.returns-then-holds_too_many-clause-fault
@@ -15,6 +16,36 @@ returns-then-holds_too_many-clause-fault g c =
       some_line_left _ _ _ (unread c.reads.self)
           (omega (arith, unread_length c.reads.self, over.1)) c.reads.invariant.taken,
     )
+
+pub returns-then-holds_too_many-clause-part : goal.returns-then-holds_too_many-clause-part
+returns-then-holds_too_many-clause-part g c =
+    let over = c.if-holds_too_many.ensures.yes refl in (
+      c.reads.invariant.ended,
+      c.reads.invariant.taken,
+      lines_of_some (unread c.reads.self) (omega (arith, unread_length c.reads.self, over.1)),
+    )
+
+pub returns-then-length-gt-LONGEST_LINE-clause-part :
+    goal.returns-then-length-gt-LONGEST_LINE-clause-part
+returns-then-length-gt-LONGEST_LINE-clause-part g c =
+    let feed = c.in-Some.ensures.found in
+    let size : length (take c.in-Some.length (unread c.reads.self)) ≡ c.in-Some.length =
+    length-take-le c.in-Some.length (unread c.reads.self) (omega (arith, feed.within)) in (
+      c.reads.invariant.ended,
+      c.reads.invariant.taken,
+      long_line_held (unread c.reads.self) (take c.in-Some.length (unread c.reads.self)) _ feed.no_feed
+          (omega (arith, size, c.if-length-gt-LONGEST_LINE.true)) feed.parts,
+    )
+
+pub returns-then-searched-gt-LONGEST_LINE-clause-part :
+    goal.returns-then-searched-gt-LONGEST_LINE-clause-part
+returns-then-searched-gt-LONGEST_LINE-clause-part g c = (
+  c.reads.invariant.ended,
+  c.reads.invariant.taken,
+  long_line_held (unread c.reads.self) (unread c.reads.self) [] (search rules)
+      (omega (arith, unread_length c.reads.self, c.if-searched-gt-LONGEST_LINE.true))
+      (sym (append-nil (unread c.reads.self))),
+)
 
 pub returns-then-length-gt-LONGEST_LINE-clause-fault :
     goal.returns-then-length-gt-LONGEST_LINE-clause-fault

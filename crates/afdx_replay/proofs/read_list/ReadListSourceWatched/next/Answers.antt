@@ -13,7 +13,8 @@ returns-in_err-next_line-clause-stop g c start past h =
     c.next_line.new.input c.loop-self.self.reader c.next_line.new.self
     (g.H.Listed.time_of c.loop-self.self.head) past gave
     c.in_err-next_line.field-0.0 c.in_err-next_line.ensures.fault c.in_err-next_line.ensures.failed
-    (λ e. c.in_err-next_line.ensures.read (ap Err e)) c.next_line.ensures.calls c.next_line.ensures.last_call)
+    (λ e. c.in_err-next_line.ensures.read (ap Err e)) c.next_line.ensures.honest c.in_err-next_line.ensures.part
+    c.next_line.ensures.calls c.next_line.ensures.last_call)
 
 pub returns-in-Ok-Some-clause-item : goal.returns-in-Ok-Some-clause-item
 returns-in-Ok-Some-clause-item g c start past h ok =
@@ -84,8 +85,8 @@ returns-in-Err-clause-stop g c start past h =
       calls = c.next_line.ensures.calls;
     } in
     let gave = c.loop-self.invariant.gave start past h in
-    stopped-line k (thing_of k g.H.Listed.says_of) g.R.Read.remaining start c.loop-self.input
+    let stopped = stopped-line k (thing_of k g.H.Listed.says_of) g.R.Read.remaining start c.loop-self.input
     c.next_line.new.input c.loop-self.self.reader c.next_line.new.self
     (g.H.Listed.time_of c.loop-self.self.head) past gave took
-    c.in-Err.error c.at_line.result (rw c.lines-n.ensures at c.at_line.ensures)
-    (rw (c.line.ensures, c.time.ensures) at c.in-Err.ensures.err)
+    c.in-Err.error (rw (c.line.ensures, c.time.ensures) at c.in-Err.ensures.err) in
+    rw (c.from.ensures, c.lines-n.ensures) stopped

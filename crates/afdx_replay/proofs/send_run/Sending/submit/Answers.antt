@@ -10,9 +10,9 @@ returns-in-Ok-clause-told c s before n stands counted =
     tells-taken s c.args.self.now.sender _ _ _ before
     (handed_at n c.args.handed.now c.args.payload.now) _ k.0 stands k.1 k.2 counted refl
 
-pub returns-else-is_memory-clause-told : goal.returns-else-is_memory-clause-told
-returns-else-is_memory-clause-told c s before n stands counted =
-    tells-refused s c.args.self.now.sender _ _ _ before
+pub returns-in_ok-refusal-in-Err-clause-told : goal.returns-in_ok-refusal-in-Err-clause-told
+returns-in_ok-refusal-in-Err-clause-told c s before n stands counted =
+    rw c.in_ok-refusal-in-Err.ensures.same (tells-refused s c.args.self.now.sender _ _ _ before
     (handed_at n c.args.handed.now c.args.payload.now) (last_time c.args.self.now.sender) _
-    (c.in-Err.ensures.unchanged _ stands)
-    (λ is. cc (c.is_memory.ensures.1 is, c.if-is_memory.false)) (c.in-Err.ensures.refused _ stands) counted refl
+    (c.in-Err.ensures.unchanged _ stands) c.in_ok-refusal-in-Err.ensures.message
+    (c.in-Err.ensures.refused _ stands) counted refl)

@@ -3,7 +3,7 @@ use Rattle.afdx_config.specs.Admission.{IsAdmitted}
 use Rattle.afdx_config.specs.Reading.{Spells, system_named}
 use Rattle.afdx_replay.proofs.RefusalLemmas.{config-refused, tables-refused, config-not-sent, tables-not-sent}
 use Rattle.afdx_replay.proofs.SendLemmas.{sends-in, not-ok, is-ok}
-use Rattle.afdx_replay.proofs.send_command.send.Goals as goal
+use Rattle.afdx_replay.proofs.send_command.send_and_count.Goals as goal
 
 pub returns-in-Err-clause-sends : goal.returns-in-Err-clause-sends
 returns-in-Err-clause-sends g c =

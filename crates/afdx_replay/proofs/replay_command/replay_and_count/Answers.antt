@@ -1,6 +1,6 @@
 use Rattle.std.proofs.Common.{refl, inl, inr}
 use Rattle.afdx_replay.proofs.RefusalLemmas.{config-refused, tables-refused, config-not-replayed, tables-not-replayed}
-use Rattle.afdx_replay.proofs.replay_command.replay.Goals as goal
+use Rattle.afdx_replay.proofs.replay_command.replay_and_count.Goals as goal
 
 pub returns-in-Err-clause-replays : goal.returns-in-Err-clause-replays
 returns-in-Err-clause-replays g c =
