@@ -46,12 +46,14 @@ afdx.prefs.fcs = Pref.enum("Frames end with a check sequence", AUTO,
 
 local CONSTANT = "\3\0\0\0"    -- a destination address of a virtual link begins with it
 local SIDES = { [0x20] = "A", [0x40] = "B" }
-local LOOKED_AT = 10           -- frames of a link and network whose check sequence is computed
+local LOOKED_AT = 10           -- frames in which check sequences are looked for
 local SHORTEST = 60            -- bytes of the shortest frame without its check sequence
 
 -- Of each link on each network: true once a right check sequence was found, frames whose check
 -- sequence was computed, time and number of the frame before.
 local sealed, looked, last_time, last_seq
+-- Of all frames: was a right check sequence found, of how many frames was it computed?
+local found, tried
 -- Of each frame, by its number: what the frame before it tells.
 local gaps, steps, begins
 
@@ -66,16 +68,20 @@ function afdx.init()
     fcs = afdx.prefs.fcs
     sealed, looked, last_time, last_seq = {}, {}, {}, {}
     gaps, steps, begins = {}, {}, {}
+    found, tried = false, 0
 end
 
 -- ---- does a frame end with a check sequence? -------------------------------------------------
+
+-- Operations on bits: bit32 is Lua 5.2's; Wireshark brings the other, whose numbers may be negative.
+local bits = bit32 or bit
 
 local crc_table = {}
 for byte = 0, 255 do
     local rest = byte
     for _ = 1, 8 do
-        local half = bit32.rshift(rest, 1)
-        rest = rest % 2 == 1 and bit32.bxor(half, 0xEDB88320) or half
+        local half = bits.rshift(rest, 1)
+        rest = rest % 2 == 1 and bits.bxor(half, 0xEDB88320) or half
     end
     crc_table[byte] = rest
 end
@@ -86,11 +92,10 @@ local function is_sealed(bytes)
     local rest = 0xFFFFFFFF
     for place = 1, #bytes - 4 do
         local byte = bytes:byte(place)
-        rest = bit32.bxor(bit32.rshift(rest, 8), crc_table[bit32.bxor(rest % 256, byte)])
+        rest = bits.bxor(bits.rshift(rest, 8), crc_table[bits.bxor(rest % 256, byte)])
     end
-    rest = bit32.bnot(rest)
     local a, b, c, d = bytes:byte(-4, -1)
-    return rest == a + b * 0x100 + c * 0x10000 + d * 0x1000000
+    return bits.bnot(rest) % 0x100000000 == a + b * 0x100 + c * 0x10000 + d * 0x1000000
 end
 
 -- By its form alone: behind the datagram stand padding, which is zero, and the sequence number; so
@@ -103,19 +108,20 @@ local function looks_sealed(tvb, length)
 end
 
 -- One right check sequence tells it for all frames of the link on that network, which were recorded
--- at one place; until then each frame tells it for itself.
+-- at one place; until then each frame tells it for itself. Where none of the first is right, there
+-- are none, and padding isn't zero.
 local function has_check_sequence(tvb, length, key)
     if fcs ~= AUTO then return fcs == YES end
     if sealed[key] then return true end
     local count = looked[key] or 0
     if count < LOOKED_AT then
-        looked[key] = count + 1
+        looked[key], tried = count + 1, tried + 1
         if is_sealed(tvb:raw(0, length)) then
-            sealed[key] = true
+            sealed[key], found = true, true
             return true
         end
     end
-    return looks_sealed(tvb, length)
+    return (found or tried < LOOKED_AT) and looks_sealed(tvb, length)
 end
 
 -- ---- what came before on a link --------------------------------------------------------------

@@ -6,8 +6,10 @@
 
 AFDX_FIELDS=(vl side system partition seq step gap_ms)
 
+plugin=tools/afdx.lua
+
 shark() { # WORD.. : tshark with the fields of AFDX, without the user's own settings
-    launch env HOME="$work" tshark -X lua_script:tools/afdx.lua "$@"
+    launch env HOME="$work" tshark -X "lua_script:$plugin" "$@"
 }
 
 fields_told() { # RECORDING [WORD..] : the fields of AFDX, the gap in ns
@@ -73,6 +75,30 @@ field_tests() {
     fields_are_right 'the same in two passes' "$work/odd.list" "$work/with_unsaid.pcap" -2
     fields_are_right 'the preference is heeded' "$work/odd.list" "$work/with.pcap" \
         -o afdx.fcs:Yes
+}
+
+padding_tests() { # frames without check sequences, whose padding isn't zero
+    local number
+    for number in {0..13}; do
+        printf 'F %d0 A 1 %s\n' "$number" \
+            "$(padded_frame_of A "$number" | sed 's/00\(..\)$/a5\1/; s/0000/5aa5/5g')"
+    done >"$work/grey.list"
+    capture pcap --fcs no "$work/grey.list" "$work/grey.pcap"
+    without_note "$work/grey.pcap" "$work/grey_unsaid.pcap"
+    "$python" tests/afdx_fields_of_list.py "$work/grey.list" | tail -n +12 >"$work/wanted"
+    fields_told "$work/grey_unsaid.pcap" | tail -n +12 >"$work/got"
+    tell 'fields of AFDX: padding that is not zero, from the twelfth frame on' "$(
+        is_status 0
+        if [[ $(wc -l <"$work/wanted") -ne 3 ]]; then echo 'the list is too short'; fi
+        same "$work/wanted" "$work/got"
+    )"
+    plugin=$work/other.lua
+    sed 's/= bit32 or bit$/= bit/' tools/afdx.lua >"$plugin"
+    capture pcap "$work/grey.list" "$work/with.pcap"
+    without_note "$work/with.pcap" "$work/with_unsaid.pcap"
+    fields_are_right 'check sequences behind it, with the other library of bits' \
+        "$work/grey.list" "$work/with_unsaid.pcap"
+    plugin=tools/afdx.lua
 }
 
 interface_tests() { # side A with check sequences, side B without, in one file
@@ -230,6 +256,7 @@ if [[ -z $dpkt ]]; then
     :
 elif has tshark && has mergecap; then
     field_tests
+    padding_tests
     interface_tests
     expert_tests
     speed_tests
