@@ -73,7 +73,7 @@ end
 
 -- ---- does a frame end with a check sequence? -------------------------------------------------
 
--- Operations on bits: bit32 is Lua 5.2's; Wireshark brings the other, whose numbers may be negative.
+-- Operations on bits: bit32 is Lua 5.2's; Wireshark brings the other, with numbers below zero too.
 local bits = bit32 or bit
 
 local crc_table = {}

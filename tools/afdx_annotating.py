@@ -93,7 +93,11 @@ def replayed(
     config: str, path: str, no_admission: bool, listed: Iterator[Listed]
 ) -> Iterator[Followed]:
     """Replays a list and follows its frames; Failed where the program had a fault."""
-    words = [program(), "replay", *(["--no-admission"] if no_admission else []), config, path]
+    afdx = program()
+    # Asked first, with standard error seen: the program of a checkout may have to be built, which
+    # is said there.
+    subprocess.run([afdx, "--version"], stdout=subprocess.DEVNULL, check=False)
+    words = [afdx, "replay", *(["--no-admission"] if no_admission else []), config, path]
     with tempfile.TemporaryFile("w+", encoding="utf-8", errors="replace") as errors:
         with subprocess.Popen(
             words, stdout=subprocess.PIPE, stderr=errors, encoding="ascii", errors="replace"
@@ -101,6 +105,9 @@ def replayed(
             assert run.stdout is not None
             yield from follow(config, listed, run.stdout)
         errors.seek(0)
-        fault = errors.read().strip()
-        if run.returncode or fault:
-            raise Failed(fault or f"the program ended with status {run.returncode}", run.returncode)
+        fault, status = errors.read().strip(), run.returncode
+    if status:
+        raise Failed(
+            fault or f"the program ended with status {status}",
+            status if status > 0 else 128 - status,
+        )

@@ -157,6 +157,22 @@ failing_output_tests() {
     tell 'a pipe that its reader closes' "$(is_fault 4 'standard output: Broken pipe')"
 }
 
+# ---- how far it is, on a terminal ------------------------------------------------------------
+
+progress_tests() { # a list that comes slowly
+    { seq 1500 | sed 's/.*/F & A 1 0300/'; sleep 2.5; seq 1501 3000 | sed 's/.*/F & A 1 0300/'; } \
+        >"$work/slow.fifo" &
+    script -qec "tools/afdx-capture pcap $work/slow.fifo $work/slow.pcap" /dev/null \
+        >"$work/out" 2>&1 </dev/null
+    wait $!
+    tell 'progress on a terminal' "$(
+        says out '2,000 lines'
+        says out '3000 frames written'
+    )"
+    launch tools/afdx-capture pcap "$work/two.list" "$work/two.pcap"
+    tell 'and none elsewhere' "$(if [[ $(wc -l <"$work/err") -ne 1 ]]; then cat "$work/err"; fi)"
+}
+
 # ---- lists and words that are wrong ----------------------------------------------------------
 
 no_recording_tests() {
@@ -246,6 +262,12 @@ if [[ -n $dpkt ]]; then
     pipe_tests
     output_tests
     if [[ -n $built ]]; then failing_output_tests; fi
+    if has script; then
+        mkfifo "$work/slow.fifo"
+        progress_tests
+    else
+        skip 'progress on a terminal' 'there is no script (apt-get install bsdutils)'
+    fi
     no_recording_tests
     fcs_tests
     shift_tests

@@ -234,6 +234,11 @@ annotate_fault_tests() {
     launch env AFDX=/bin/echo tools/afdx-capture annotate examples/base.toml \
         examples/one_link.list "$work/no.png"
     tell 'annotate with another program' "$(is_status 2; says err 'is none of this replay')"
+    printf '#!/bin/sh\nkill -9 $$\n' >"$work/killed"
+    chmod +x "$work/killed"
+    launch env AFDX="$work/killed" tools/afdx-capture annotate examples/base.toml \
+        examples/one_link.list "$work/no.png"
+    tell 'annotate where the program is killed' "$(is_status 137; says err 'ended with status -9')"
     launch tools/afdx-capture annotate examples/base.toml examples/one_link.list "$work/one.pcapng"
     status=0
     tools/afdx-capture annotate examples/base.toml - - <examples/one_link.list >"$work/out" \
