@@ -106,8 +106,7 @@ def replayed(
             yield from follow(config, listed, run.stdout)
         errors.seek(0)
         fault, status = errors.read().strip(), run.returncode
+    if status < 0:
+        raise Failed(fault or f"signal {-status} ended the program", 128 - status)
     if status:
-        raise Failed(
-            fault or f"the program ended with status {status}",
-            status if status > 0 else 128 - status,
-        )
+        raise Failed(fault or f"the program ended with status {status}", status)
