@@ -238,7 +238,10 @@ annotate_fault_tests() {
     chmod +x "$work/killed"
     launch env AFDX="$work/killed" tools/afdx-capture annotate examples/base.toml \
         examples/one_link.list "$work/no.png"
-    tell 'annotate where the program is killed' "$(is_status 137; says err 'signal 9 ended the program')"
+    tell 'annotate where the program is killed' "$(
+        is_status 137
+        says err 'signal 9 ended the program'
+    )"
     launch tools/afdx-capture annotate examples/base.toml examples/one_link.list "$work/one.pcapng"
     status=0
     tools/afdx-capture annotate examples/base.toml - - <examples/one_link.list >"$work/out" \
