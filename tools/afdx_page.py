@@ -13,6 +13,7 @@ from afdx_ranking import FEWEST, nearest, ranked
 from afdx_style import SCRIPT, STYLE
 from afdx_tables import COUNTED, NAMES, PROVED, UNPROMISED, Row, cell, heads, percent
 
+MOST_ROWS = 10_000  # of a table on a page
 CARDS = {
     "frames": "frames in",
     "accepted": "accepted",
@@ -50,9 +51,21 @@ def body_row(row: Row, kinds: Sequence[str]) -> str:
     return "".join(parts) + "</tr>\n"
 
 
-def table(rows: Sequence[Row], head: str) -> str:
+def most_shown(rows: Sequence[Row]) -> Sequence[Row]:
+    """The rows that a page shows: all, or of too many those with the greatest share."""
+    if len(rows) <= MOST_ROWS:
+        return rows
+    order = sorted(range(len(rows)), key=lambda n: (-rows[n].get("share", 0), n))
+    return [rows[n] for n in sorted(order[:MOST_ROWS])]
+
+
+def table(all_rows: Sequence[Row], head: str) -> str:
     """Rows as a table."""
-    caption = f"<caption>{escape(head)}: {len(rows):,} rows</caption>"
+    rows = most_shown(all_rows)
+    count = f"{len(all_rows):,} rows"
+    if len(rows) < len(all_rows):
+        count = f"the {len(rows):,} with the greatest share of {count}; the CSV file has all"
+    caption = f"<caption>{escape(head)}: {count}</caption>"
     if not rows:
         return f"<table>{caption}<tbody><tr><td>none</td></tr></tbody></table>"
     kinds = [kind_of(name, rows) for name in heads(rows)]
@@ -127,11 +140,11 @@ def one_each(latency: Sequence[Row]) -> list[list[Row]]:
     for row in latency:
         of_place.setdefault((row["link"], row["port"]), []).append(row)
     seen: set[int] = set()
-    places: list[tuple[int, int]] = []
+    places: dict[tuple[int, int], None] = {}
     for row in ranked(latency):
         place = row["link"], row["port"]
-        if place not in places and (row["link"] not in seen or row["late"]):
-            places.append(place)
+        if row["link"] not in seen or row["late"]:
+            places[place] = None
         seen.add(row["link"])
     return [of_place[place] for place in places]
 

@@ -115,7 +115,7 @@ def pairs_of(counting: Counting) -> np.ndarray:
         return other
     listing, place = counting.listing, counting.place
     keys = place[lines].astype(np.int64) * 256 + listing.number[lines]
-    order = np.lexsort((listing.time[lines], keys))
+    order = np.argsort(keys, kind="stable")  # the lines stand by time already
     lines, keys = lines[order], keys[order]
     apart, side = np.diff(listing.time[lines]), listing.side[lines]
     bags = np.array([counting.config.links[vl].bag_ms for vl in counting.order] + [0], np.int64)
@@ -157,11 +157,12 @@ def skews_at_receivers(counting: Counting, other: np.ndarray) -> dict[int, Skew]
     keys = events.line[at].astype(np.int64) * MOST_PORTS + events.port[at]
     order = np.argsort(keys, kind="stable")
     at, keys = at[order], keys[order]
-    wanted = other[events.line[at]].astype(np.int64) * MOST_PORTS + events.port[at]
+    partner = other[events.line[at]]
+    second = np.flatnonzero((partner > 0) & (partner < events.line[at]))
+    wanted = partner[second].astype(np.int64) * MOST_PORTS + events.port[at[second]]
     place = np.minimum(np.searchsorted(keys, wanted), max(len(keys) - 1, 0))
     there = keys[place] == wanted if len(keys) else np.zeros(0, bool)
-    mine, its = at[there], at[place[there]]
+    mine, its = at[second[there]], at[place[there]]
     apart = events.time[mine] - events.time[its]
-    later = apart >= 0
-    both = counting.links[mine[later]], apart[later], events.line[mine[later]]
-    return greatest_by_link(counting, *both)
+    lines = events.line[np.where(apart >= 0, mine, its)]
+    return greatest_by_link(counting, counting.links[mine], np.abs(apart), lines)

@@ -16,6 +16,17 @@ parts_tests() { # of the sample of counted_tests
         "$python" tests/page_parts.py "$work/timelines/report.html"
         "$python" tests/page_parts.py "$work/late/report.html"
     )"
+    tell 'of too many rows a page has those with the greatest share' "$(
+        cd tools && "$python" -B -c '
+from afdx_page import table
+rows = [{"link": n, "share": n / 20_000} for n in range(10_001)]
+page = table(rows, "Links")
+for words in ("the 10,000 with the greatest share of 10,001 rows", ">10000<", ">1<"):
+    if words not in page:
+        print("no", words)
+if page.count("<tr") != 10_001 or ">0</th>" in page:
+    print("the least is there")'
+    )"
     tell 'no latency is called seen' "$(
         grep -niE '\bseen\b' "$work/timelines/report.html" "$work/timelines"/*.csv README.md \
             docs/TOOLS.md | head -n 3
