@@ -55,9 +55,9 @@ class Events:
         self.parts: list[dict[str, np.ndarray]] = [none_at_all()]
 
     def read(self, file: IO[bytes], told: Callable[[int], None] = lambda line: None) -> None:
-        """Takes the lines of `replay`, and joins them."""
+        """Takes the lines of `replay`, and joins them. A last line that was cut doesn't count."""
         rest = b""
-        for text in blocks_of(file):
+        for text in blocks_of(file, ended=True):
             whole = rest + text if rest else text
             cut = whole.rfind(b"\n", 0, -1) + 1
             cut = cut if whole[cut] == LETTERS["D"] else len(whole)

@@ -67,9 +67,10 @@ class Block:
         return [word.decode("ascii", "replace") for word in found], places
 
 
-def blocks_of(file: Readable, each: int = EACH) -> Iterator[bytes]:
-    """The text of a file in pieces of whole lines; the last gets a line feed where it has none, and
-    so does a piece that no line ends in: such a line is too long for the program."""
+def blocks_of(file: Readable, each: int = EACH, ended: bool = False) -> Iterator[bytes]:
+    """The text of a file in pieces of whole lines. A last line without a line feed gets one, or is
+    left out where all lines should be `ended`. A piece that no line ends in gets one too: such a
+    line is too long for the program."""
     rest = b""
     while part := file.read(each):
         cut = part.rfind(b"\n") + 1
@@ -79,5 +80,5 @@ def blocks_of(file: Readable, each: int = EACH) -> Iterator[bytes]:
         else:
             yield rest + part + b"\n"
             rest = b""
-    if rest:
+    if rest and not ended:
         yield rest + b"\n"

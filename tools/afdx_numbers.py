@@ -271,6 +271,7 @@ def trouble_rows(counting: Counting, most: int = MOST_TROUBLES) -> list[Row]:
     ]
 
 
-def totals(links: Sequence[Row]) -> Row:
-    """The sums over all links."""
-    return {key: sum(row[key] for row in links) for key in SUMS}
+def totals(links: Sequence[Row], sides: Sequence[Row]) -> Row:
+    """The sums over all links, and the missing numbers of both sides."""
+    sums = {key: sum(row[key] for row in links) for key in SUMS}
+    return {**sums, "missing": sum(row["missing"] or 0 for row in sides)}

@@ -25,6 +25,7 @@ CARDS = {
     "delivered": "delivered",
     "redundant": "redundant",
     "refused": "refused",
+    "missing": "missing numbers",
 }
 PLAIN = ("link", "port", "number", "line", "at_line", "gap_line", "jitter_line", "inputs_line",
          "receivers_line")
@@ -38,9 +39,16 @@ def kind_of(name: str, rows: Sequence[Row]) -> str:
     return "" if any(isinstance(value, str) for value in values) else "number"
 
 
+def is_over(row: Row) -> bool:
+    """Is something in the row over what the tables say?"""
+    pairs = (("jitter_ns", "table_jitter_ns"), ("at_receivers_ns", "table_skew_ns"))
+    over = any((row.get(name) or 0) > row.get(table, 0) for name, table in pairs if table in row)
+    return over or bool(row.get("late")) or ("latency_ns" in row and row["share"] > 1)
+
+
 def body_row(row: Row, kinds: Sequence[str]) -> str:
     """A row of a table; its first cell is its head."""
-    parts = ['<tr class="late">' if row.get("late") else "<tr>"]
+    parts = ['<tr class="over">' if is_over(row) else "<tr>"]
     for number, ((name, value), kind) in enumerate(zip(row.items(), kinds)):
         shown = f"{value:,}" if isinstance(value, int) and name not in PLAIN else cell(value)
         styled = f' class="{kind}"' if kind else ""

@@ -23,7 +23,7 @@ section { background: var(--sheet); border: 1px solid var(--rule); border-radius
 .answer { display: inline-block; padding: 2px 10px; border-radius: 999px; font-weight: 600;
   border: 1px solid currentColor; margin: 0 6px 4px 0; }
 .good { color: var(--good); } .bad { color: var(--bad); }
-.cards { display: grid; grid-template-columns: repeat(5, 1fr); gap: 10px; margin: 16px 0 0; }
+.cards { display: grid; grid-template-columns: repeat(6, 1fr); gap: 10px; margin: 16px 0 0; }
 @media (max-width: 720px) { .cards { grid-template-columns: repeat(2, 1fr); } }
 .card { background: var(--sheet); border: 1px solid var(--rule); border-radius: 8px;
   padding: 9px 12px; min-width: 0; display: flex; flex-direction: column-reverse;
@@ -43,8 +43,8 @@ th, td { padding: 3px 8px 3px 0; white-space: nowrap; }
 td, tbody th { border-bottom: 1px solid var(--rule); text-align: left; font-weight: 400; }
 thead th { white-space: normal; } td.words { white-space: normal; min-width: 11em; }
 th.words, td.words { padding-left: 10px; }
-.number, tbody th.number { text-align: right; } tr.late td, tr.late th { color: var(--bad);
-  font-weight: 600; }
+.number, tbody th.number { text-align: right; } tr.over td, tr.over th { color: var(--bad);
+  font-weight: 600; } tr.over th::before { content: "! "; }
 svg { display: block; width: 100%; min-width: 760px; height: auto; margin-top: 8px; }
 svg text { font-size: 12.5px; fill: var(--ink); } svg text.muted { fill: var(--muted); }
 svg text.strong { font-weight: 600; } svg text.bad { fill: var(--bad); font-weight: 600; }
@@ -75,7 +75,7 @@ footer code { font-size: 12px; overflow-wrap: anywhere; }
   section { overflow: visible; padding: 8px 0; border-width: 1px 0 0; border-radius: 0; }
   svg { min-width: 0; break-inside: avoid; } h2, section > p, caption { break-after: avoid; }
   nav, .find { display: none; } .box { max-height: none; overflow: visible; }
-  .cards { grid-template-columns: repeat(5, 1fr); gap: 5px; } .card { padding: 3px 8px; }
+  .cards { grid-template-columns: repeat(6, 1fr); gap: 5px; } .card { padding: 3px 8px; }
   .table { page: wide; } table { font-size: 8.6px; } th, td { padding: 1px 5px 1px 0; }
   thead th { position: static; box-shadow: none; border-bottom: 1px solid var(--axis); }
   tr { break-inside: avoid; } tr[hidden] { display: table-row; } }

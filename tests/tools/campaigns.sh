@@ -58,7 +58,7 @@ criteria_campaign_tests() {
     tell 'a campaign with criteria' "$(
         is_status 6
         says out 'not met: 1 dropped'
-        wants_text "$(column_of "$work/criteria/campaign.csv" 15)" '0 6' 'statuses'
+        wants_text "$(column_of "$work/criteria/campaign.csv" 16)" '0 6' 'statuses'
         wants_cases "$work/criteria.xml" '6 0 1'
     )"
     launch tools/afdx-campaign examples/base.toml "$work/dropping.list" --out "$work/criteria"

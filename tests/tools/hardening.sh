@@ -101,6 +101,24 @@ file_tests() {
     tell 'without numpy' "$(is_status 4; one_line; says err 'apt-get install python3-numpy')"
 }
 
+cut_tests() { # a program that is killed in the middle of a line
+    cat >"$work/killed" <<END_OF_FILE
+#!/bin/bash
+if [[ \$1 != replay ]]; then exec "$program" "\$@"; fi
+"$program" "\$@" | head -c 40
+kill -9 \$\$
+END_OF_FILE
+    chmod +x "$work/killed"
+    launch env AFDX="$work/killed" tools/afdx-report examples/base.toml examples/one_link.list \
+        --json
+    tell 'a program that is killed in the middle of a line' "$(
+        is_status 137
+        one_line
+        says err 'ended by signal 9'
+        wants_number "$work/out" 'r["totals"]["departed"], r["totals"]["delivered"]' '(1, 0)'
+    )"
+}
+
 progress_tests() { # standard error as a terminal
     if ! has script; then
         skip 'progress on a terminal' 'there is no script (apt-get install bsdutils)'
@@ -132,6 +150,7 @@ if [[ -n $reporting ]]; then
     name_tests
     output_tests
     file_tests
+    cut_tests
     progress_tests
 else
     skip 'reports of odd files' "there is no program $program, or no numpy"
