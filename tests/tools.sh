@@ -60,12 +60,17 @@ if [[ ! -x $python ]]; then
     exit 0
 fi
 
-for tool in afdx-capture afdx-report afdx-campaign; do
+if "$python" -c 'import numpy' 2>"$work/err"; then numpy=1; else numpy=; fi
+for tool in afdx-capture ${numpy:+afdx-report} afdx-campaign; do
     launch "tools/$tool" --help
     tell "$tool --help" "$(is_status 0; says out usage)"
 done
-launch env AFDX=/nowhere tools/afdx-report examples/base.toml examples/one_link.list
-tell 'a program that is not there' "$(is_status 4; says err '/nowhere')"
+if [[ -n $numpy ]]; then
+    launch env AFDX=/nowhere tools/afdx-report examples/base.toml examples/one_link.list
+    tell 'a program that is not there' "$(is_status 4; says err '/nowhere')"
+else
+    skip 'afdx-report' 'there is no package numpy (apt-get install python3-numpy)'
+fi
 
 parts="recordings report hardening criteria page capture_faults wireshark completion around"
 for part in $parts campaigns package; do

@@ -5,8 +5,7 @@
 # ---- the report ----------------------------------------------------------------------------
 
 if [[ -x $program ]]; then built=1; else built=; fi
-reporting=$built
-if ! "$python" -c 'import numpy' 2>"$work/err"; then reporting=; fi
+reporting=${numpy:+$built}
 
 wants_text() { # GOT WANTED WHAT
     if [[ $1 != "$2" ]]; then echo "$3: '$1', wanted '$2'"; fi
