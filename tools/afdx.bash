@@ -148,7 +148,7 @@ _afdx_report() {
     _afdx_read 1 --out --link --from --rows --worst --compare --title --fail-on --junit
     if _afdx_is_option; then
         _afdx_words --out --no-admission --link --from --rows --worst --compare --title --json \
-            --fail-on --junit --help
+            --fail-on --junit --help --version
         return
     fi
     case $before.${#given[@]} in
@@ -167,7 +167,7 @@ _afdx_campaign() {
     _afdx_read 1 --out -j --jobs -S --sshlogin --fail-on --junit
     if _afdx_is_option; then
         _afdx_words --out --no-admission --pages --jobs --resume --sshlogin --transfer --fail-on \
-            --junit --help
+            --junit --help --version
         return
     fi
     case $before.${#given[@]} in

@@ -109,6 +109,7 @@ complete -c $tool -n '__afdx_at annotate 2 2' -a "(__afdx_files $pcaps)"
 for tool in afdx-report afdx-campaign
     complete -c $tool -f
     complete -c $tool -l help -d 'Print help and leave'
+    complete -c $tool -l version -d 'Print the version and leave'
     complete -c $tool -l no-admission -d 'Also where the network is refused'
     complete -c $tool -x -l fail-on -d 'Status 6 where one of these is not 0' \
         -a 'dropped lost late too-old refused'

@@ -80,7 +80,7 @@ case $service in
     afdx) _afdx_of_commands _afdx_program check explain police replay send ;;
     afdx-capture) _afdx_of_commands _afdx_capture list pcap annotate ;;
     afdx-report)
-        _arguments $help '--out[the folder for page, CSV and JSON]:folder:_path_files -/' \
+        _arguments $help $version '--out[the folder for page, CSV and JSON]:folder:_path_files -/' \
             '--no-admission[also where the network is refused]' \
             '--link[the link of the time line]:number:' \
             '--from[where the time line begins]:ns:' \
@@ -93,7 +93,7 @@ case $service in
             '--json[print the JSON instead of the text]' ":$config" ":$list"
         ;;
     afdx-campaign)
-        _arguments $help '--out[the folder of the campaign]:folder:_path_files -/' \
+        _arguments $help $version '--out[the folder of the campaign]:folder:_path_files -/' \
             '--no-admission[also where the network is refused]' \
             '--pages[a page for each run too]' {-j,--jobs}'[runs at a time]:number:' \
             '--resume[only the lists that have not been run]' \

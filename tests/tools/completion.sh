@@ -116,9 +116,9 @@ done
 # ---- versions and man pages ----------------------------------------------------------------
 
 version_tests() {
-    local wanted tool versioned=(afdx-capture)
+    local wanted tool
     wanted=$(sed -n 's/^const VERSION: &str = "\([^ ]*\) .*/\1/p' crates/afdx/src/words.rt)
-    for tool in "${versioned[@]}"; do
+    for tool in afdx-capture afdx-report afdx-campaign; do
         launch "tools/$tool" --version
         tell "$tool --version" "$(
             is_status 0
