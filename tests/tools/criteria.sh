@@ -21,6 +21,16 @@ late_tests() {
         if ! grep -q 'LATE, 128.0%' "$work/late/report.html"; then echo 'no mark on the page'; fi
         "$python" tests/well_formed.py "$work/late/report.html"
     )"
+    grep -v '^#' examples/gigabit.list | grep . >"$work/gigabit.list"
+    "$program" replay --no-admission examples/gigabit.toml "$work/gigabit.list" \
+        >"$work/gigabit.lines"
+    launch tools/afdx-report --no-admission examples/gigabit.toml "$work/gigabit.list" \
+        --out "$work/gigabit"
+    tell 'late copies and the worst frames, counted another way' "$(
+        is_status 0
+        "$python" tests/traffic_again.py examples/gigabit.toml "$work/gigabit.list" \
+            "$work/gigabit.lines" "$work/gigabit/report.json"
+    )"
     tell 'a share is 100 % only where all of it is' "$(
         cd tools && "$python" -B -c '
 from afdx_tables import percent
