@@ -3,7 +3,9 @@
 //!
 //! Each reading that lacks memory is made again, so the tests pass where any one growth is refused.
 
-use afdx_admit::{AdmitFault, AdmitText, Admitted, admit, bounds_of};
+use afdx_admit::{
+    AdmitFault, AdmitText, Admitted, admit, bounds_of, buffer_need, high_bound, low_bound,
+};
 use afdx_config::Tables;
 use afdx_frame::VlId;
 use afdx_samples::{ShortText, base, changed, equal, read};
@@ -33,20 +35,31 @@ fn judged(alloc: Global, text: &str) -> Result<(Option<AdmitFault>, usize), Fail
 
 /// The high and the low bound, and the bytes needed.
 fn bounds(tables: &Tables, port: u8) -> (u64, Option<u64>, u64) {
+    (
+        high_bound(tables, port),
+        low_bound(tables, port),
+        buffer_need(tables, port),
+    )
+}
+
+/// Whether they are told so all at once, where a system is.
+fn are_told_at_once(tables: &Tables, port: u8) -> bool {
     match bounds_of(tables, port) {
-        Some(found) => (found.high, found.low, found.buffer),
-        None => (0, Some(0), 0),
+        Some(found) => (found.high, found.low, found.buffer) == bounds(tables, port),
+        None => false,
     }
 }
 
-/// Whether no port but the third has traffic, and those without a system have no bounds.
+/// Whether no port but the third has traffic, and only those with a system are told at once.
 fn others_are_idle(tables: &Tables) -> bool {
     for port in [0, 1, 2, 4, 24, 255] {
         if bounds(tables, port) != (0, Some(0), 0) {
             return false;
         }
     }
-    bounds_of(tables, 1).is_some() && bounds_of(tables, 4).is_none()
+    are_told_at_once(tables, 1)
+        && are_told_at_once(tables, 3)
+        && !are_told_at_once(tables, 4)
 }
 
 /// The bounds of port 3, which alone has traffic.

@@ -32,7 +32,7 @@ enum Answer {
 }
 
 fn answer_to(bytes: &[u8]) -> Answer {
-    let view = match MacView::parse(Checked::new(bytes)) {
+    let view = match MacView::parse(bytes) {
         Ok(view) => view,
         Err(fault) => return Answer::Mac(fault),
     };
@@ -52,7 +52,7 @@ fn payload_of(frame: Checked<'_>) -> Option<&[u8]>
         (vl from_port to_port number : ℕ)
         × Read frame.entry.bytes.now vl from_port to_port payload.now number) }
 {
-    let Ok(view) = MacView::parse(frame) else {
+    let Ok(view) = MacView::of(frame) else {
         return None;
     };
     match Datagram::parse(view) {
@@ -242,7 +242,7 @@ fn builds_each_length(rt: HostRuntime) -> Result<(), Fail> {
 
 /// The link, the length, the number, the type and the length of the body that a view tells.
 fn head_of(frame: Checked<'_>) -> Result<(VlId, u64, u8, u16, usize), MacFault> {
-    let view = MacView::parse(frame)?;
+    let view = MacView::of(frame)?;
     Ok((
         view.vl(),
         view.length(),

@@ -166,7 +166,7 @@ fn charges() -> Result<(), Fail> {
 
 /// The verdict on a frame by a rule alone.
 fn verdict(rule: &LinkRule, port: u8, frame: &[u8]) -> Option<Reason> {
-    judge(Some(rule), port, Checked::new(frame))
+    judge(Some(rule), port, frame)
 }
 
 /// The place of the first of the arrivals that is judged otherwise.
@@ -198,7 +198,7 @@ fn order_of_faults(rt: HostRuntime) -> Result<(), Fail> {
 
 #[test]
 fn no_rule_has_no_link() -> Result<(), Fail> {
-    let verdict = judge(None, 1, Checked::new(&hello(0)));
+    let verdict = judge(None, 1, &hello(0));
     equal(verdict, Some(Reason::UnknownLink))
 }
 
