@@ -43,6 +43,15 @@ pub found-at : {X : Type 0} (xs : List X) (i : ℕ) → i < length xs → (x : X
 found-at xs i below = elim (slice_get_cases xs i).1
     [ inl found ↦ (found.0, found.2) | inr past ↦ absurd (omega (arith, below, past.0)) ]
 
+-- the line that was charged is otherwise as it was
+pub line-charged : (old new : List Line) (place : ℕ) (line : Line) (account : LinkAccount)
+    → slice_get old place ≡ Some line → new ≡ set old place (record line { account = account })
+    → (found : Line) → slice_get new place ≡ Some found → found ≡ record line { account = account }
+line-charged old new place line account at is found at_new =
+    let here = slice_get-set_here old place (record line { account = account }) (slice_get_within old place line at) in
+    let there = ap (λ ls. slice_get ls place) (sym is) ∙ at_new in
+    cc
+
 -- each line is the one that its own arrivals leave, with one more
 abbrev pub LinesAfter : Rows → Arrival → SwitchHistory → List Line → Type 0
 LinesAfter t x h lines = (i : ℕ) (r : Row) (line : Line) → slice_get (rows_of t) i ≡ Some r

@@ -1,7 +1,9 @@
 //! What a switch does with its accounts and its ports.
 
 ghost use Rattle.std.specs.Prelude.{[], ◌≢◌, ◌≡◌, ◌↔◌, ℕ, ◌≤◌, ◌<◌, ◌+◌, List, Option, None, Some, IfOk, OnOk, OnErr, IfSome, IfNone, MatchOption, length, slice_get, true, false, not, All, vec_len};
+ghost use Rattle.afdx_frame.specs.Lengths.{least_frame};
 ghost use Rattle.afdx_frame.specs.Ports.{last_port};
+ghost use Rattle.afdx_police.specs.LinkAccounts as accounts;
 ghost use Rattle.afdx_port.specs.Times.{drain_end, latest_put};
 ghost use Rattle.afdx_frame.specs.declared.link.Priority.{Priority};
 ghost use Rattle.afdx_port.specs.Serving.{IsServing};
@@ -11,7 +13,8 @@ ghost use Rattle.afdx_port.specs.Held as held;
 ghost use Rattle.afdx_switch.specs.Ports.{holds};
 ghost use Rattle.afdx_switch.specs.HeldFrames.{HeldFrame, held_frame, facts};
 ghost use Rattle.afdx_switch.specs.Sound.{IsPortSound};
-ghost use Rattle.afdx_switch.specs.Lines.{ArePlaces, is_among};
+ghost use Rattle.afdx_switch.specs.Lines.{ArePlaces, IsCharged, is_among};
+ghost use Rattle.afdx_switch.specs.declared.line.Line.{Line};
 ghost use Rattle.afdx_switch.specs.Shares.{AreKept, AreShares, IsOffered, share_of};
 
 use crate::frame::Frame;
@@ -54,6 +57,23 @@ impl Drop for Working {
             first,
         } = self;
     }
+}
+
+/// Offers a frame of `size` bytes to the account of the line at this place. Answers whether it is
+/// accepted.
+fn charge(lines: &mut Vec<Line>, place: usize, time: u64, size: u64) -> bool
+    requires within { place < vec_len lines.old }
+    requires in_time { (line : Line) → slice_get lines.old.items place ≡ Some line →
+        accounts.last_time line.account ≤ time }
+    requires shortest { least_frame ≤ size }
+    requires longest { (line : Line) → slice_get lines.old.items place ≡ Some line →
+        size ≤ (accounts.account_of line.account).rule.lmax }
+    ensures count { vec_len lines.new ≡ vec_len lines.old }
+    ensures charged { (line : Line) → slice_get lines.old.items place ≡ Some line →
+        IsCharged time size place line result lines.old.items lines.new.items }
+{
+    let line = &mut lines[place];
+    line.account.offer(time, size)
 }
 
 /// Makes so many shares of a frame.
@@ -196,14 +216,15 @@ impl Working {
             self.clock = time;
             return Ok(Verdict::Dropped(reason));
         }
+        let count = line.goes.len();
         let copy = Frame::copy(self.alloc, tag, line.longest_wait, frame.bytes)?;
-        share_out(&copy, line.goes.len(), shares)?;
+        share_out(&copy, count, shares)?;
         self.clock = time;
-        let line = &mut self.lines[place];
-        let passes = line.account.offer(time, frame.bytes.len() as u64);
+        let passes = charge(&mut self.lines, place, time, frame.bytes.len() as u64);
         if !passes {
             return Ok(Verdict::Dropped(Reason::OverRate));
         }
+        let line = &self.lines[place];
         let places = line.goes.as_slice();
         let lost = forward(&mut self.ports, places, shares, time, line.priority);
         renew(&mut self.serving, &self.ports, places);

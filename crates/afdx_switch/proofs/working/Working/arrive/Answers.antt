@@ -1,5 +1,5 @@
 use Rattle.std.proofs.Common.{◌≡◌, ◌≤◌, sym, ◌∙◌, arith, ap, refl, subst, Some, None, length, ℕ, ◌+◌, List}
-use Rattle.std.specs.Prelude.{slice_get, if◌then◌else◌}
+use Rattle.std.specs.Prelude.{All, slice_get, if◌then◌else◌}
 use Rattle.std.proofs.lemmas.Option.{slice_get_read, slice_get_within}
 use Rattle.afdx_police.specs.Arrival.{arrival_with, own}
 use Rattle.afdx_police.specs.RuleOf.{rule_of}
@@ -12,13 +12,13 @@ use Rattle.afdx_switch.specs.Ports.{holds}
 use Rattle.afdx_port.specs.declared.pending.Pending.{Pending}
 use Rattle.afdx_switch.specs.declared.line.Line.{Line}
 use Rattle.afdx_switch.specs.Tables.{rows_of}
-use Rattle.afdx_switch.specs.Lines.{IsNamedAt, is_among}
+use Rattle.afdx_switch.specs.Lines.{ArePlaces, IsNamedAt, is_among}
 use Rattle.afdx_switch.specs.Sound.{IsLineSound}
 use Rattle.afdx_switch.specs.Shares.{AreKept, AreShares, IsOffered, share_of}
 use Rattle.afdx_switch.proofs.ArrivalLemmas.{unknown-fault, reason-named, shape-named, on-err}
 use Rattle.afdx_switch.proofs.ListLemmas.{all-at, all-set, items-are}
 use Rattle.afdx_switch.proofs.TakeLemmas.{lines-later, ports-later}
-use Rattle.afdx_switch.proofs.StandsLemmas.{unknown-reason, stands-dropped, lines-unknown}
+use Rattle.afdx_switch.proofs.StandsLemmas.{LinesAfter, unknown-reason, stands-dropped, lines-unknown, line-charged}
 use Rattle.afdx_switch.proofs.StandsLemmas.{lines-faulted, lines-with, line-is, fault-reason}
 use Rattle.afdx_switch.proofs.StandsLemmas.{stands-accepted, lost-is, ports-sound, ports-quiet}
 use Rattle.afdx_switch.proofs.StandsLemmas.{ports-held}
@@ -86,18 +86,14 @@ returns-then-not-passes-clause-verdict c t side h st =
     c.args.self.now.lines.ok.0 c.in-Some.ensures.within c.index-line.ensures in
     let is = line-is t x c.args.self.now h st c.in-Some.place n c.index-line.result.now at in
     let rule : rule_of c.rule.result.now ≡ n.row.rule = c.rule.ensures ∙ is.account.by_rule in
-    let at_line = slice_get_read c.args.self.now.lines.items _ c.in-Some.place
-    c.index_mut-line.result.now c.args.self.now.lines.ok.0 c.in-Some.ensures.within
-    c.index_mut-line.ensures.value in
-    let same_line : c.index-line.result.now ≡ c.index_mut-line.result.now = cc in
-    let is_line = line-is t x c.args.self.now h st c.in-Some.place n c.index_mut-line.result.now at_line in
+    let charged = c.charge-passes.ensures.charged c.index-line.result.now at in
     let sound : fault_of (Some n.row.rule) c.args.port c.args.frame.bytes.now ≡ None =
     ap (λ q. fault_of (Some q) c.args.port c.args.frame.bytes.now) (sym rule)
     ∙ sym c.in_default-judge_checked-2.ensures.reason in
-    let answer : (if c.offer-passes.result then None else Some OverRate)
+    let answer : (if c.charge-passes.result then None else Some OverRate)
     ≡ reason_after n.row.rule (own n.row.rule.vl side h.arrivals) x =
-    c.offer-passes.ensures.answer n.row.rule (own n.row.rule.vl side h.arrivals) x
-    is_line.account (record { sound = sound; same = refl }) in
+    charged.answer n.row.rule (own n.row.rule.vl side h.arrivals) x
+    is.account (record { sound = sound; same = refl }) in
     reason-named t x h.arrivals c.in-Some.place n ∙ sym (rw c.if-not-passes.true at answer)
 
 pub returns-then-not-passes-clause-stands : goal.returns-then-not-passes-clause-stands
@@ -108,24 +104,21 @@ returns-then-not-passes-clause-stands c t side h st =
     c.args.self.now.lines.ok.0 c.in-Some.ensures.within c.index-line.ensures in
     let is = line-is t x c.args.self.now h st c.in-Some.place n c.index-line.result.now at in
     let rule : rule_of c.rule.result.now ≡ n.row.rule = c.rule.ensures ∙ is.account.by_rule in
-    let at_line = slice_get_read c.args.self.now.lines.items _ c.in-Some.place
-    c.index_mut-line.result.now c.args.self.now.lines.ok.0 c.in-Some.ensures.within
-    c.index_mut-line.ensures.value in
-    let same_line : c.index-line.result.now ≡ c.index_mut-line.result.now = cc in
-    let is_line = line-is t x c.args.self.now h st c.in-Some.place n c.index_mut-line.result.now at_line in
+    let charged = c.charge-passes.ensures.charged c.index-line.result.now at in
     let sound : fault_of (Some n.row.rule) c.args.port c.args.frame.bytes.now ≡ None =
     ap (λ q. fault_of (Some q) c.args.port c.args.frame.bytes.now) (sym rule)
     ∙ sym c.in_default-judge_checked-2.ensures.reason in
-    let answer : (if c.offer-passes.result then None else Some OverRate)
+    let answer : (if c.charge-passes.result then None else Some OverRate)
     ≡ reason_after n.row.rule (own n.row.rule.vl side h.arrivals) x =
-    c.offer-passes.ensures.answer n.row.rule (own n.row.rule.vl side h.arrivals) x
-    is_line.account (record { sound = sound; same = refl }) in
-    let account = c.offer-passes.ensures.stands n.row.rule (own n.row.rule.vl side h.arrivals) x
-    is_line.account (record { sound = sound; same = refl }) in
+    charged.answer n.row.rule (own n.row.rule.vl side h.arrivals) x
+    is.account (record { sound = sound; same = refl }) in
+    let account = charged.stands n.row.rule (own n.row.rule.vl side h.arrivals) x
+    is.account (record { sound = sound; same = refl }) in
     stands-dropped t x c.args.self.now h st _ OverRate (Some c.in-Some.place) n
     (reason-named t x h.arrivals c.in-Some.place n ∙ sym (rw c.if-not-passes.true at answer))
-    (lines-with t x c.args.self.now h st c.in-Some.place n c.index_mut-line.result.now at_line
-    c.offer-passes.new.self account) refl refl refl refl
+    (subst (LinesAfter t x h) (sym charged.set)
+    (lines-with t x c.args.self.now h st c.in-Some.place n c.index-line.result.now at charged.account
+    account)) refl c.charge-passes.ensures.count refl refl
 
 pub returns-clause-verdict : goal.returns-clause-verdict
 returns-clause-verdict c t side h st =
@@ -135,45 +128,46 @@ returns-clause-verdict c t side h st =
     c.args.self.now.lines.ok.0 c.in-Some.ensures.within c.index-line.ensures in
     let is = line-is t x c.args.self.now h st c.in-Some.place n c.index-line.result.now at in
     let rule : rule_of c.rule.result.now ≡ n.row.rule = c.rule.ensures ∙ is.account.by_rule in
-    let at_line = slice_get_read c.args.self.now.lines.items _ c.in-Some.place
-    c.index_mut-line.result.now c.args.self.now.lines.ok.0 c.in-Some.ensures.within
-    c.index_mut-line.ensures.value in
-    let same_line : c.index-line.result.now ≡ c.index_mut-line.result.now = cc in
-    let is_line = line-is t x c.args.self.now h st c.in-Some.place n c.index_mut-line.result.now at_line in
+    let charged = c.charge-passes.ensures.charged c.index-line.result.now at in
     let sound : fault_of (Some n.row.rule) c.args.port c.args.frame.bytes.now ≡ None =
     ap (λ q. fault_of (Some q) c.args.port c.args.frame.bytes.now) (sym rule)
     ∙ sym c.in_default-judge_checked-2.ensures.reason in
-    let answer : (if c.offer-passes.result then None else Some OverRate)
+    let answer : (if c.charge-passes.result then None else Some OverRate)
     ≡ reason_after n.row.rule (own n.row.rule.vl side h.arrivals) x =
-    c.offer-passes.ensures.answer n.row.rule (own n.row.rule.vl side h.arrivals) x
-    is_line.account (record { sound = sound; same = refl }) in
+    charged.answer n.row.rule (own n.row.rule.vl side h.arrivals) x
+    is.account (record { sound = sound; same = refl }) in
     let accepted = reason-named t x h.arrivals c.in-Some.place n ∙ sym (rw c.if-not-passes.false at answer) in
     let small = (all-at (IsLineSound c.args.self.now.clock) c.args.self.now.lines.items
-    c.in-Some.place c.index_mut-line.result.now c.requires.sound.lines at_line).wait in
+    c.in-Some.place c.index-line.result.now c.requires.sound.lines at).wait in
     let longest : length c.args.frame.bytes.now ≤ 1518 =
     omega (arith, c.in_default-judge_checked-2.ensures.longest, c.rule.result.now.in_range.longest) in
     let shared : AreShares (held_frame c.args.tag c.index-line.result.now.longest_wait
     c.args.frame.bytes.now) c.share_out.new.shares.items =
     subst (λ (f : HeldFrame). AreShares f c.share_out.new.shares.items) c.in_ok-copy.ensures
     c.in_ok-share_out.ensures.each in
-    let shared_line = subst (λ (l : Line).
-    AreShares (held_frame c.args.tag l.longest_wait c.args.frame.bytes.now)
-    c.share_out.new.shares.items) same_line shared in
-    let of_line = c.index_mut-line.result.now in
+    let of_line = c.index-line.result.now in
+    let same_line = line-charged c.args.self.now.lines.items c.charge-passes.new.lines.items
+    c.in-Some.place of_line charged.account at charged.set c.index-line-2.result.now
+    (slice_get_read c.charge-passes.new.lines.items _ c.in-Some.place c.index-line-2.result.now
+    c.charge-passes.new.lines.ok.0 (omega (arith, c.in-Some.ensures.within, c.charge-passes.ensures.count))
+    c.index-line-2.ensures) in
     let carried : HeldFrame = held_frame c.args.tag of_line.longest_wait c.args.frame.bytes.now in
     let offered : (i : ℕ) (o p : Pending HeldFrame) → slice_get c.args.self.now.ports.items i ≡ Some o
     → slice_get c.forward-lost.new.ports i ≡ Some p →
     IsOffered c.args.time of_line.priority (share_of carried (is_among i of_line.goes.items)) o p
     (holds c.forward-lost.result (i + 1)) =
     λ i o p at_o at_p. subst
-    (λ (ps : List ℕ). IsOffered c.args.time of_line.priority (share_of carried (is_among i ps))
-    o p (holds c.forward-lost.result (i + 1))) c.as_slice-places.ensures.value
-    (c.forward-lost.ensures.offered carried i o p shared_line
-    (ap (λ ps. slice_get ps i) c.deref_mut.ensures.value ∙ at_o) at_p) in
+    (λ (l : Line). IsOffered c.args.time l.priority (share_of carried (is_among i l.goes.items)) o p
+    (holds c.forward-lost.result (i + 1))) same_line
+    (subst (λ (ps : List ℕ). IsOffered c.args.time c.index-line-2.result.now.priority
+    (share_of carried (is_among i ps)) o p (holds c.forward-lost.result (i + 1)))
+    c.as_slice-places.ensures.value
+    (c.forward-lost.ensures.offered carried i o p shared
+    (ap (λ ps. slice_get ps i) c.deref_mut.ensures.value ∙ at_o) at_p)) in
     let old_count : length c.args.self.now.ports.items ≡ 24 =
     omega (arith, c.args.self.now.ports.ok.0, c.requires.sound.port_count) in (
       accepted,
-      lost-is t x c.args.self.now h st c.in-Some.place n c.index_mut-line.result.now at_line
+      lost-is t x c.args.self.now h st c.in-Some.place n c.index-line.result.now at
           accepted c.in_default-judge_checked-2.ensures.shortest longest small
           c.forward-lost.new.ports c.forward-lost.result old_count c.forward-lost.ensures.count
           offered,
@@ -187,51 +181,53 @@ returns-clause-stands c t side h st =
     c.args.self.now.lines.ok.0 c.in-Some.ensures.within c.index-line.ensures in
     let is = line-is t x c.args.self.now h st c.in-Some.place n c.index-line.result.now at in
     let rule : rule_of c.rule.result.now ≡ n.row.rule = c.rule.ensures ∙ is.account.by_rule in
-    let at_line = slice_get_read c.args.self.now.lines.items _ c.in-Some.place
-    c.index_mut-line.result.now c.args.self.now.lines.ok.0 c.in-Some.ensures.within
-    c.index_mut-line.ensures.value in
-    let same_line : c.index-line.result.now ≡ c.index_mut-line.result.now = cc in
-    let is_line = line-is t x c.args.self.now h st c.in-Some.place n c.index_mut-line.result.now at_line in
+    let charged = c.charge-passes.ensures.charged c.index-line.result.now at in
     let sound : fault_of (Some n.row.rule) c.args.port c.args.frame.bytes.now ≡ None =
     ap (λ q. fault_of (Some q) c.args.port c.args.frame.bytes.now) (sym rule)
     ∙ sym c.in_default-judge_checked-2.ensures.reason in
-    let answer : (if c.offer-passes.result then None else Some OverRate)
+    let answer : (if c.charge-passes.result then None else Some OverRate)
     ≡ reason_after n.row.rule (own n.row.rule.vl side h.arrivals) x =
-    c.offer-passes.ensures.answer n.row.rule (own n.row.rule.vl side h.arrivals) x
-    is_line.account (record { sound = sound; same = refl }) in
-    let account = c.offer-passes.ensures.stands n.row.rule (own n.row.rule.vl side h.arrivals) x
-    is_line.account (record { sound = sound; same = refl }) in
+    charged.answer n.row.rule (own n.row.rule.vl side h.arrivals) x
+    is.account (record { sound = sound; same = refl }) in
+    let account = charged.stands n.row.rule (own n.row.rule.vl side h.arrivals) x
+    is.account (record { sound = sound; same = refl }) in
     let accepted = reason-named t x h.arrivals c.in-Some.place n ∙ sym (rw c.if-not-passes.false at answer) in
     let small = (all-at (IsLineSound c.args.self.now.clock) c.args.self.now.lines.items
-    c.in-Some.place c.index_mut-line.result.now c.requires.sound.lines at_line).wait in
+    c.in-Some.place c.index-line.result.now c.requires.sound.lines at).wait in
     let longest : length c.args.frame.bytes.now ≤ 1518 =
     omega (arith, c.in_default-judge_checked-2.ensures.longest, c.rule.result.now.in_range.longest) in
     let shared : AreShares (held_frame c.args.tag c.index-line.result.now.longest_wait
     c.args.frame.bytes.now) c.share_out.new.shares.items =
     subst (λ (f : HeldFrame). AreShares f c.share_out.new.shares.items) c.in_ok-copy.ensures
     c.in_ok-share_out.ensures.each in
-    let shared_line = subst (λ (l : Line).
-    AreShares (held_frame c.args.tag l.longest_wait c.args.frame.bytes.now)
-    c.share_out.new.shares.items) same_line shared in
-    let of_line = c.index_mut-line.result.now in
+    let of_line = c.index-line.result.now in
+    let same_line = line-charged c.args.self.now.lines.items c.charge-passes.new.lines.items
+    c.in-Some.place of_line charged.account at charged.set c.index-line-2.result.now
+    (slice_get_read c.charge-passes.new.lines.items _ c.in-Some.place c.index-line-2.result.now
+    c.charge-passes.new.lines.ok.0 (omega (arith, c.in-Some.ensures.within, c.charge-passes.ensures.count))
+    c.index-line-2.ensures) in
     let carried : HeldFrame = held_frame c.args.tag of_line.longest_wait c.args.frame.bytes.now in
     let offered : (i : ℕ) (o p : Pending HeldFrame) → slice_get c.args.self.now.ports.items i ≡ Some o
     → slice_get c.forward-lost.new.ports i ≡ Some p →
     IsOffered c.args.time of_line.priority (share_of carried (is_among i of_line.goes.items)) o p
     (holds c.forward-lost.result (i + 1)) =
     λ i o p at_o at_p. subst
-    (λ (ps : List ℕ). IsOffered c.args.time of_line.priority (share_of carried (is_among i ps))
-    o p (holds c.forward-lost.result (i + 1))) c.as_slice-places.ensures.value
-    (c.forward-lost.ensures.offered carried i o p shared_line
-    (ap (λ ps. slice_get ps i) c.deref_mut.ensures.value ∙ at_o) at_p) in
+    (λ (l : Line). IsOffered c.args.time l.priority (share_of carried (is_among i l.goes.items)) o p
+    (holds c.forward-lost.result (i + 1))) same_line
+    (subst (λ (ps : List ℕ). IsOffered c.args.time c.index-line-2.result.now.priority
+    (share_of carried (is_among i ps)) o p (holds c.forward-lost.result (i + 1)))
+    c.as_slice-places.ensures.value
+    (c.forward-lost.ensures.offered carried i o p shared
+    (ap (λ ps. slice_get ps i) c.deref_mut.ensures.value ∙ at_o) at_p)) in
     let old_count : length c.args.self.now.ports.items ≡ 24 =
     omega (arith, c.args.self.now.ports.ok.0, c.requires.sound.port_count) in
-    stands-accepted t x c.args.self.now h st c.in-Some.place n c.index_mut-line.result.now at_line
+    stands-accepted t x c.args.self.now h st c.in-Some.place n c.index-line.result.now at
     accepted c.in_default-judge_checked-2.ensures.shortest longest small
     c.forward-lost.new.ports c.forward-lost.result old_count c.forward-lost.ensures.count
     offered
-    _ (lines-with t x c.args.self.now h st c.in-Some.place n c.index_mut-line.result.now at_line
-    c.offer-passes.new.self account) refl refl refl
+    _ (subst (LinesAfter t x h) (sym charged.set)
+    (lines-with t x c.args.self.now h st c.in-Some.place n c.index-line.result.now at charged.account
+    account)) refl c.charge-passes.ensures.count refl
     (items-are c.args.self.now.ports.len c.forward-lost.new.ports c.args.self.now.ports.items
     (omega (arith, c.forward-lost.ensures.count, c.requires.sound.port_count)))
 
@@ -239,32 +235,34 @@ pub returns-clause-sound : goal.returns-clause-sound
 returns-clause-sound c =
     let at = slice_get_read c.args.self.now.lines.items _ c.in-Some.place c.index-line.result.now
     c.args.self.now.lines.ok.0 c.in-Some.ensures.within c.index-line.ensures in
-    let at_line = slice_get_read c.args.self.now.lines.items _ c.in-Some.place
-    c.index_mut-line.result.now c.args.self.now.lines.ok.0 c.in-Some.ensures.within
-    c.index_mut-line.ensures.value in
-    let same_line : c.index-line.result.now ≡ c.index_mut-line.result.now = cc in
+    let charged = c.charge-passes.ensures.charged c.index-line.result.now at in
     let old_count : length c.args.self.now.ports.items ≡ 24 =
     omega (arith, c.args.self.now.ports.ok.0, c.requires.sound.port_count) in
     let line_sound = all-at (IsLineSound c.args.self.now.clock) c.args.self.now.lines.items
-    c.in-Some.place c.index_mut-line.result.now c.requires.sound.lines at_line in
+    c.in-Some.place c.index-line.result.now c.requires.sound.lines at in
     let shared : AreShares (held_frame c.args.tag c.index-line.result.now.longest_wait
     c.args.frame.bytes.now) c.share_out.new.shares.items =
     subst (λ (f : HeldFrame). AreShares f c.share_out.new.shares.items) c.in_ok-copy.ensures
     c.in_ok-share_out.ensures.each in
-    let shared_line = subst (λ (l : Line).
-    AreShares (held_frame c.args.tag l.longest_wait c.args.frame.bytes.now)
-    c.share_out.new.shares.items) same_line shared in
-    let of_line = c.index_mut-line.result.now in
+    let of_line = c.index-line.result.now in
+    let same_line = line-charged c.args.self.now.lines.items c.charge-passes.new.lines.items
+    c.in-Some.place of_line charged.account at charged.set c.index-line-2.result.now
+    (slice_get_read c.charge-passes.new.lines.items _ c.in-Some.place c.index-line-2.result.now
+    c.charge-passes.new.lines.ok.0 (omega (arith, c.in-Some.ensures.within, c.charge-passes.ensures.count))
+    c.index-line-2.ensures) in
     let carried : HeldFrame = held_frame c.args.tag of_line.longest_wait c.args.frame.bytes.now in
     let offered : (i : ℕ) (o p : Pending HeldFrame) → slice_get c.args.self.now.ports.items i ≡ Some o
     → slice_get c.forward-lost.new.ports i ≡ Some p →
     IsOffered c.args.time of_line.priority (share_of carried (is_among i of_line.goes.items)) o p
     (holds c.forward-lost.result (i + 1)) =
     λ i o p at_o at_p. subst
-    (λ (ps : List ℕ). IsOffered c.args.time of_line.priority (share_of carried (is_among i ps))
-    o p (holds c.forward-lost.result (i + 1))) c.as_slice-places.ensures.value
-    (c.forward-lost.ensures.offered carried i o p shared_line
-    (ap (λ ps. slice_get ps i) c.deref_mut.ensures.value ∙ at_o) at_p) in
+    (λ (l : Line). IsOffered c.args.time l.priority (share_of carried (is_among i l.goes.items)) o p
+    (holds c.forward-lost.result (i + 1))) same_line
+    (subst (λ (ps : List ℕ). IsOffered c.args.time c.index-line-2.result.now.priority
+    (share_of carried (is_among i ps)) o p (holds c.forward-lost.result (i + 1)))
+    c.as_slice-places.ensures.value
+    (c.forward-lost.ensures.offered carried i o p shared
+    (ap (λ ps. slice_get ps i) c.deref_mut.ensures.value ∙ at_o) at_p)) in
     let same_ports = items-are c.args.self.now.ports.len c.forward-lost.new.ports
     c.args.self.now.ports.items (omega
     (arith, c.forward-lost.ensures.count, c.requires.sound.port_count)) in
@@ -275,21 +273,23 @@ returns-clause-sound c =
     let serving = subst (λ ps. IsServing facts ps c.renew.new.serving) c.deref.ensures.value
     (c.renew.ensures c.args.self.now.ports.items c.requires.sound.serving kept) in
     record {
-      lines = all-set (IsLineSound c.args.time) c.args.self.now.lines.items c.in-Some.place _
-          (slice_get_within c.args.self.now.lines.items c.in-Some.place c.index_mut-line.result.now
-          at_line)
+      lines = subst (All (IsLineSound c.args.time)) (sym charged.set)
+          (all-set (IsLineSound c.args.time) c.args.self.now.lines.items c.in-Some.place _
+          (slice_get_within c.args.self.now.lines.items c.in-Some.place c.index-line.result.now
+          at)
           (lines-later c.args.self.now.lines.items c.args.self.now.clock c.args.time
           c.requires.clock c.requires.sound.lines)
           (record {
-            in_time = omega (arith, c.offer-passes.ensures.time);
+            in_time = omega (arith, charged.time_is);
             wait = line_sound.wait;
             goes = line_sound.goes;
-          });
+          }));
       place_count = c.requires.sound.place_count;
-      places = c.requires.sound.places;
+      places = λ vl place is_at.
+          omega (arith, c.requires.sound.places vl place is_at, c.charge-passes.ensures.count);
       port_count = c.requires.sound.port_count;
       ports = rw same_ports (ports-sound c.args.time c.args.self.now.clock
-          c.index_mut-line.result.now.priority c.args.self.now.ports.items c.forward-lost.new.ports
+          c.index-line.result.now.priority c.args.self.now.ports.items c.forward-lost.new.ports
           (λ i. share_of carried (is_among i of_line.goes.items)) c.forward-lost.result old_count
           c.forward-lost.ensures.count
           offered
@@ -304,33 +304,35 @@ returns-clause-quiet c =
     c.args.self.now.lines.ok.0 c.in-Some.ensures.within c.index-line.ensures in
     let old_count : length c.args.self.now.ports.items ≡ 24 =
     omega (arith, c.args.self.now.ports.ok.0, c.requires.sound.port_count) in
-    let at_line = slice_get_read c.args.self.now.lines.items _ c.in-Some.place
-    c.index_mut-line.result.now c.args.self.now.lines.ok.0 c.in-Some.ensures.within
-    c.index_mut-line.ensures.value in
-    let same_line : c.index-line.result.now ≡ c.index_mut-line.result.now = cc in
+    let charged = c.charge-passes.ensures.charged c.index-line.result.now at in
     let shared : AreShares (held_frame c.args.tag c.index-line.result.now.longest_wait
     c.args.frame.bytes.now) c.share_out.new.shares.items =
     subst (λ (f : HeldFrame). AreShares f c.share_out.new.shares.items) c.in_ok-copy.ensures
     c.in_ok-share_out.ensures.each in
-    let shared_line = subst (λ (l : Line).
-    AreShares (held_frame c.args.tag l.longest_wait c.args.frame.bytes.now)
-    c.share_out.new.shares.items) same_line shared in
-    let of_line = c.index_mut-line.result.now in
+    let of_line = c.index-line.result.now in
+    let same_line = line-charged c.args.self.now.lines.items c.charge-passes.new.lines.items
+    c.in-Some.place of_line charged.account at charged.set c.index-line-2.result.now
+    (slice_get_read c.charge-passes.new.lines.items _ c.in-Some.place c.index-line-2.result.now
+    c.charge-passes.new.lines.ok.0 (omega (arith, c.in-Some.ensures.within, c.charge-passes.ensures.count))
+    c.index-line-2.ensures) in
     let carried : HeldFrame = held_frame c.args.tag of_line.longest_wait c.args.frame.bytes.now in
     let offered : (i : ℕ) (o p : Pending HeldFrame) → slice_get c.args.self.now.ports.items i ≡ Some o
     → slice_get c.forward-lost.new.ports i ≡ Some p →
     IsOffered c.args.time of_line.priority (share_of carried (is_among i of_line.goes.items)) o p
     (holds c.forward-lost.result (i + 1)) =
     λ i o p at_o at_p. subst
-    (λ (ps : List ℕ). IsOffered c.args.time of_line.priority (share_of carried (is_among i ps))
-    o p (holds c.forward-lost.result (i + 1))) c.as_slice-places.ensures.value
-    (c.forward-lost.ensures.offered carried i o p shared_line
-    (ap (λ ps. slice_get ps i) c.deref_mut.ensures.value ∙ at_o) at_p) in
+    (λ (l : Line). IsOffered c.args.time l.priority (share_of carried (is_among i l.goes.items)) o p
+    (holds c.forward-lost.result (i + 1))) same_line
+    (subst (λ (ps : List ℕ). IsOffered c.args.time c.index-line-2.result.now.priority
+    (share_of carried (is_among i ps)) o p (holds c.forward-lost.result (i + 1)))
+    c.as_slice-places.ensures.value
+    (c.forward-lost.ensures.offered carried i o p shared
+    (ap (λ ps. slice_get ps i) c.deref_mut.ensures.value ∙ at_o) at_p)) in
     let same_ports = items-are c.args.self.now.ports.len c.forward-lost.new.ports
     c.args.self.now.ports.items (omega
     (arith, c.forward-lost.ensures.count, c.requires.sound.port_count)) in
     rw same_ports (ports-quiet c.args.time c.args.self.now.clock
-    c.index_mut-line.result.now.priority c.args.self.now.ports.items c.forward-lost.new.ports
+    c.index-line.result.now.priority c.args.self.now.ports.items c.forward-lost.new.ports
     (λ i. share_of carried (is_among i of_line.goes.items)) c.forward-lost.result old_count
     c.forward-lost.ensures.count
     offered)
@@ -341,32 +343,34 @@ returns-clause-held c =
     c.args.self.now.lines.ok.0 c.in-Some.ensures.within c.index-line.ensures in
     let old_count : length c.args.self.now.ports.items ≡ 24 =
     omega (arith, c.args.self.now.ports.ok.0, c.requires.sound.port_count) in
-    let at_line = slice_get_read c.args.self.now.lines.items _ c.in-Some.place
-    c.index_mut-line.result.now c.args.self.now.lines.ok.0 c.in-Some.ensures.within
-    c.index_mut-line.ensures.value in
-    let same_line : c.index-line.result.now ≡ c.index_mut-line.result.now = cc in
+    let charged = c.charge-passes.ensures.charged c.index-line.result.now at in
     let shared : AreShares (held_frame c.args.tag c.index-line.result.now.longest_wait
     c.args.frame.bytes.now) c.share_out.new.shares.items =
     subst (λ (f : HeldFrame). AreShares f c.share_out.new.shares.items) c.in_ok-copy.ensures
     c.in_ok-share_out.ensures.each in
-    let shared_line = subst (λ (l : Line).
-    AreShares (held_frame c.args.tag l.longest_wait c.args.frame.bytes.now)
-    c.share_out.new.shares.items) same_line shared in
-    let of_line = c.index_mut-line.result.now in
+    let of_line = c.index-line.result.now in
+    let same_line = line-charged c.args.self.now.lines.items c.charge-passes.new.lines.items
+    c.in-Some.place of_line charged.account at charged.set c.index-line-2.result.now
+    (slice_get_read c.charge-passes.new.lines.items _ c.in-Some.place c.index-line-2.result.now
+    c.charge-passes.new.lines.ok.0 (omega (arith, c.in-Some.ensures.within, c.charge-passes.ensures.count))
+    c.index-line-2.ensures) in
     let carried : HeldFrame = held_frame c.args.tag of_line.longest_wait c.args.frame.bytes.now in
     let offered : (i : ℕ) (o p : Pending HeldFrame) → slice_get c.args.self.now.ports.items i ≡ Some o
     → slice_get c.forward-lost.new.ports i ≡ Some p →
     IsOffered c.args.time of_line.priority (share_of carried (is_among i of_line.goes.items)) o p
     (holds c.forward-lost.result (i + 1)) =
     λ i o p at_o at_p. subst
-    (λ (ps : List ℕ). IsOffered c.args.time of_line.priority (share_of carried (is_among i ps))
-    o p (holds c.forward-lost.result (i + 1))) c.as_slice-places.ensures.value
-    (c.forward-lost.ensures.offered carried i o p shared_line
-    (ap (λ ps. slice_get ps i) c.deref_mut.ensures.value ∙ at_o) at_p) in
+    (λ (l : Line). IsOffered c.args.time l.priority (share_of carried (is_among i l.goes.items)) o p
+    (holds c.forward-lost.result (i + 1))) same_line
+    (subst (λ (ps : List ℕ). IsOffered c.args.time c.index-line-2.result.now.priority
+    (share_of carried (is_among i ps)) o p (holds c.forward-lost.result (i + 1)))
+    c.as_slice-places.ensures.value
+    (c.forward-lost.ensures.offered carried i o p shared
+    (ap (λ ps. slice_get ps i) c.deref_mut.ensures.value ∙ at_o) at_p)) in
     let same_ports = items-are c.args.self.now.ports.len c.forward-lost.new.ports
     c.args.self.now.ports.items (omega
     (arith, c.forward-lost.ensures.count, c.requires.sound.port_count)) in
-    rw same_ports (ports-held c.args.time c.args.self.now.clock c.index_mut-line.result.now.priority
+    rw same_ports (ports-held c.args.time c.args.self.now.clock c.index-line.result.now.priority
     c.args.self.now.ports.items c.forward-lost.new.ports
     (λ i. share_of carried (is_among i of_line.goes.items)) c.forward-lost.result old_count
     c.forward-lost.ensures.count
@@ -400,27 +404,72 @@ returns-in_err-share_out-clause-judged c t side h st =
 
 pub returns-then-not-passes-clause-sound : goal.returns-then-not-passes-clause-sound
 returns-then-not-passes-clause-sound c =
-    let at_line = slice_get_read c.args.self.now.lines.items _ c.in-Some.place
-    c.index_mut-line.result.now c.args.self.now.lines.ok.0 c.in-Some.ensures.within
-    c.index_mut-line.ensures.value in
+    let at = slice_get_read c.args.self.now.lines.items _ c.in-Some.place c.index-line.result.now
+    c.args.self.now.lines.ok.0 c.in-Some.ensures.within c.index-line.ensures in
+    let charged = c.charge-passes.ensures.charged c.index-line.result.now at in
     let line_sound = all-at (IsLineSound c.args.self.now.clock) c.args.self.now.lines.items
-    c.in-Some.place c.index_mut-line.result.now c.requires.sound.lines at_line in
+    c.in-Some.place c.index-line.result.now c.requires.sound.lines at in
     record {
-      lines = all-set (IsLineSound c.args.time) c.args.self.now.lines.items c.in-Some.place _
-          (slice_get_within c.args.self.now.lines.items c.in-Some.place c.index_mut-line.result.now
-          at_line)
+      lines = subst (All (IsLineSound c.args.time)) (sym charged.set)
+          (all-set (IsLineSound c.args.time) c.args.self.now.lines.items c.in-Some.place _
+          (slice_get_within c.args.self.now.lines.items c.in-Some.place c.index-line.result.now
+          at)
           (lines-later c.args.self.now.lines.items c.args.self.now.clock c.args.time
           c.requires.clock c.requires.sound.lines)
           (record {
-            in_time = omega (arith, c.offer-passes.ensures.time);
+            in_time = omega (arith, charged.time_is);
             wait = line_sound.wait;
             goes = line_sound.goes;
-          });
+          }));
       place_count = c.requires.sound.place_count;
-      places = c.requires.sound.places;
+      places = λ vl place is_at.
+          omega (arith, c.requires.sound.places vl place is_at, c.charge-passes.ensures.count);
       port_count = c.requires.sound.port_count;
       ports = ports-later c.args.self.now.ports.items c.args.self.now.clock c.args.time
           c.requires.clock c.requires.sound.ports;
       serving = c.requires.sound.serving;
       served = c.requires.sound.served;
     }
+
+pub forward-lost-requires-clause-places : goal.forward-lost-requires-clause-places
+forward-lost-requires-clause-places c =
+    let at = slice_get_read c.args.self.now.lines.items _ c.in-Some.place c.index-line.result.now
+    c.args.self.now.lines.ok.0 c.in-Some.ensures.within c.index-line.ensures in
+    let charged = c.charge-passes.ensures.charged c.index-line.result.now at in
+    let same_line = line-charged c.args.self.now.lines.items c.charge-passes.new.lines.items
+    c.in-Some.place c.index-line.result.now charged.account at charged.set c.index-line-2.result.now
+    (slice_get_read c.charge-passes.new.lines.items _ c.in-Some.place c.index-line-2.result.now
+    c.charge-passes.new.lines.ok.0 (omega (arith, c.in-Some.ensures.within, c.charge-passes.ensures.count))
+    c.index-line-2.ensures) in
+    let goes = (all-at (IsLineSound c.args.self.now.clock) c.args.self.now.lines.items
+    c.in-Some.place c.index-line.result.now c.requires.sound.lines at).goes in
+    subst ArePlaces (sym c.as_slice-places.ensures.value)
+    (subst (λ (l : Line). ArePlaces l.goes.items) (sym same_line) goes)
+
+pub renew-requires-clause-places : goal.renew-requires-clause-places
+renew-requires-clause-places c =
+    let at = slice_get_read c.args.self.now.lines.items _ c.in-Some.place c.index-line.result.now
+    c.args.self.now.lines.ok.0 c.in-Some.ensures.within c.index-line.ensures in
+    let charged = c.charge-passes.ensures.charged c.index-line.result.now at in
+    let same_line = line-charged c.args.self.now.lines.items c.charge-passes.new.lines.items
+    c.in-Some.place c.index-line.result.now charged.account at charged.set c.index-line-2.result.now
+    (slice_get_read c.charge-passes.new.lines.items _ c.in-Some.place c.index-line-2.result.now
+    c.charge-passes.new.lines.ok.0 (omega (arith, c.in-Some.ensures.within, c.charge-passes.ensures.count))
+    c.index-line-2.ensures) in
+    let goes = (all-at (IsLineSound c.args.self.now.clock) c.args.self.now.lines.items
+    c.in-Some.place c.index-line.result.now c.requires.sound.lines at).goes in
+    subst ArePlaces (sym c.as_slice-places.ensures.value)
+    (subst (λ (l : Line). ArePlaces l.goes.items) (sym same_line) goes)
+
+pub forward-lost-requires-clause-share_count : goal.forward-lost-requires-clause-share_count
+forward-lost-requires-clause-share_count c =
+    let at = slice_get_read c.args.self.now.lines.items _ c.in-Some.place c.index-line.result.now
+    c.args.self.now.lines.ok.0 c.in-Some.ensures.within c.index-line.ensures in
+    let charged = c.charge-passes.ensures.charged c.index-line.result.now at in
+    let same_line = line-charged c.args.self.now.lines.items c.charge-passes.new.lines.items
+    c.in-Some.place c.index-line.result.now charged.account at charged.set c.index-line-2.result.now
+    (slice_get_read c.charge-passes.new.lines.items _ c.in-Some.place c.index-line-2.result.now
+    c.charge-passes.new.lines.ok.0 (omega (arith, c.in-Some.ensures.within, c.charge-passes.ensures.count))
+    c.index-line-2.ensures) in
+    let count = ap (λ (l : Line). length l.goes.items) same_line in
+    omega (arith, c.in_ok-share_out.ensures.count, c.len-count.ensures, ap length c.as_slice-places.ensures.value, count)
