@@ -57,9 +57,7 @@ fn others_are_idle(tables: &Tables) -> bool {
             return false;
         }
     }
-    are_told_at_once(tables, 1)
-        && are_told_at_once(tables, 3)
-        && !are_told_at_once(tables, 4)
+    are_told_at_once(tables, 1) && are_told_at_once(tables, 3) && !are_told_at_once(tables, 4)
 }
 
 /// The bounds of port 3, which alone has traffic.

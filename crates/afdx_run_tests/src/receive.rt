@@ -63,7 +63,7 @@ fn answers(
     bytes: &[u8],
     wanted: Option<DropReason>,
 ) -> bool {
-    is_answer(receiver.receive(time, side, Checked::new(bytes)), wanted)
+    is_answer(receiver.receive(time, side, bytes), wanted)
 }
 
 /// A frame `hello`: when and by which network it comes, its number, and why it is dropped, if it
@@ -251,7 +251,7 @@ fn built_frames(rt: HostRuntime) -> Result<(), Fail> {
     let first = build_world(rt.alloc(), Side::B)?;
     let copy = build_world(rt.alloc(), Side::A)?;
     let mut receiver = base_receiver(rt.alloc(), THIRD)?;
-    let is_received = is_world(receiver.receive(6720, Side::B, Checked::new(first.as_slice())));
+    let is_received = is_world(receiver.receive(6720, Side::B, first.as_slice()));
     let late = Some(DropReason::Redundant);
     let is_late = answers(&mut receiver, 6721, Side::A, copy.as_slice(), late);
     equal((is_received, is_late), (true, true))
@@ -268,7 +268,8 @@ fn largest_receivers(alloc: Global) -> Result<(Receiver, Receiver), Fail> {
 /// Whether the message of this link is the second system's, and the third has no port for it.
 fn has_one_port(second: &mut Receiver, third: &mut Receiver, vl: u16) -> bool {
     let bytes = of_link(vl);
-    let is_there = is_hello(second.receive(6720, Side::A, Checked::new(&bytes)), vl);
+    let frame = Checked::new(&bytes);
+    let is_there = is_hello(second.receive_checked(6720, Side::A, frame), vl);
     is_there && answers(third, 6720, Side::A, &bytes, Some(DropReason::NoPort))
 }
 

@@ -125,6 +125,12 @@ fn datagrams(rt: HostRuntime) -> Result<(), Fail> {
 #[test]
 fn words_of_a_frame(rt: HostRuntime) -> Result<(), Fail> {
     equal(seals(rt.alloc())?, true)?;
-    equal((mac_place(MacFault::BadAddress), ip_place(IpFault::BadUdpLength)), (4, 5))?;
+    equal(
+        (
+            mac_place(MacFault::BadAddress),
+            ip_place(IpFault::BadUdpLength),
+        ),
+        (4, 5),
+    )?;
     equal(numbers(Side::B, Policing::Frame, Priority::Low), (2, 2, 2))
 }

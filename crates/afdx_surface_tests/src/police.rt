@@ -61,7 +61,13 @@ fn verdicts() -> Result<(), Fail> {
 #[test]
 fn accounts() -> Result<(), Fail> {
     let rule: LinkRule = rule().ok_or("a rule")?;
-    equal((charged::<ByteCharge>(), charged::<FrameCharge>()), (84, 1538))?;
-    let taken = (is_taken::<ByteCharge>(&rule), is_taken::<FrameCharge>(&rule));
+    equal(
+        (charged::<ByteCharge>(), charged::<FrameCharge>()),
+        (84, 1538),
+    )?;
+    let taken = (
+        is_taken::<ByteCharge>(&rule),
+        is_taken::<FrameCharge>(&rule),
+    );
     equal(taken, (true, true))
 }

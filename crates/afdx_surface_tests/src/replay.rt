@@ -7,8 +7,7 @@ use afdx_admit::Admitted;
 use afdx_config::{SystemId, Tables};
 use afdx_frame::{Policing, VlId};
 use afdx_police::LinkRule;
-use afdx_replay::{RunFault, Summary, Watched, check};
-use afdx_replay::{run, run_police, run_send, run_unadmitted};
+use afdx_replay::{RunFault, Summary, Watched, check, run, run_police, run_send, run_unadmitted};
 use afdx_samples::{admitted, base, base_tables, equal};
 use std::alloc::Global;
 use std::test::Fail;
@@ -65,8 +64,7 @@ fn ran(alloc: Global, tables: &Admitted) -> Result<([u64; 7], (bool, bool), usiz
 fn ran_unadmitted(alloc: Global, tables: &Tables) -> Result<[u64; 7], RunFault> {
     let mut input = empty_list();
     let mut output = new_output(alloc);
-    let answer: Result<Summary, RunFault> =
-        run_unadmitted(alloc, tables, &mut input, &mut output);
+    let answer: Result<Summary, RunFault> = run_unadmitted(alloc, tables, &mut input, &mut output);
     Ok(counts(answer?))
 }
 
@@ -84,8 +82,13 @@ fn ran_send(alloc: Global, tables: &Admitted, system: SystemId) -> Result<[u64; 
 {
     let mut input = empty_list();
     let mut output = new_output(alloc);
-    let answer: Result<Summary, RunFault> =
-        run_send(alloc, tables, system, &mut input, &mut output);
+    let answer: Result<Summary, RunFault> = run_send(
+        alloc,
+        tables,
+        system,
+        &mut input,
+        &mut output,
+    );
     Ok(counts(answer?))
 }
 

@@ -5,7 +5,6 @@ ghost use Rattle.afdx_port.specs.Times.{latest_put};
 ghost use Rattle.afdx_switch.specs.Switching.{IsQuiet, last_time};
 
 use afdx_config::Tables;
-use afdx_frame::Checked;
 use afdx_police::Reason;
 use afdx_samples::read;
 use afdx_switch::{PortSet, Switch, Verdict};
@@ -55,7 +54,7 @@ fn arrive(
     ensures clock { last_time switch.new ≤ time }
     ensures quiet { IsQuiet switch.new time }
 {
-    switch.arrive(time, port, tag, Checked::new(frame))
+    switch.arrive(time, port, tag, frame)
 }
 
 /// A frame arrives. Where memory is refused, it arrives again: a refused arrival has changed
@@ -170,9 +169,7 @@ fn brings(switch: &mut Switch, until: u64, left: (u64, u64, u8), frame: &[u8]) -
     ensures { last_time switch.new ≡ until }
 {
     match switch.take(until) {
-        Some(gone) => {
-            (gone.tag(), gone.time(), gone.port()) == left && gone.frame().bytes == frame
-        }
+        Some(gone) => { (gone.tag(), gone.time(), gone.port()) == left && gone.bytes() == frame }
         None => false,
     }
 }
