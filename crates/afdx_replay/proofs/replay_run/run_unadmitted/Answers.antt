@@ -1,8 +1,9 @@
-use Rattle.std.proofs.Common.{rules, refl}
+use Rattle.std.proofs.Common.{rules, refl, Ok}
 use Rattle.afdx_lists.specs.FrameLines.{listed_frame}
 use Rattle.afdx_replay.specs.Items.{thing_of}
 use Rattle.afdx_replay.specs.Listed.{frames}
 use Rattle.afdx_replay.specs.Replayed.{WritesSoFar, WritesSome, ToldAll}
+use Rattle.afdx_replay.specs.ReplayText.{with_lines}
 use Rattle.afdx_replay.specs.ReplayTold.{TellsItems, BeginsItems, TellsAll}
 use Rattle.afdx_replay.proofs.DefinedLemmas.{if-defined}
 use Rattle.afdx_replay.proofs.ListRunLemmas.{answers-err, answers-ok}
@@ -54,4 +55,8 @@ returns-in_err-lines-clause-defined g c = λ lawful.
     if-defined _ _ _ _ _ _ lawful (returns-in_err-lines-clause-answer g c)
 
 pub returns-clause-defined : goal.returns-clause-defined
-returns-clause-defined g c = λ lawful. if-defined _ _ _ _ _ _ lawful (returns-clause-answer g c)
+returns-clause-defined g c = λ lawful.
+    if-defined c.args.tables.now (g.R.Read.remaining c.args.input.now.inner)
+    (g.R.Read.remaining c.run_list.new.input.inner) (g.W.Write.contents c.args.output.now.inner)
+    (g.W.Write.contents c.run_list.new.output.inner)
+    (Ok (with_lines c.run_list.new.machine.counts c.in_ok-lines.lines)) lawful (returns-clause-answer g c)
