@@ -133,8 +133,9 @@ module _ {H R Y X : Type 0} (k : Kind Y X) (said : Item H → X) (remaining : R 
               (λ bytes. StopsIn k (λ xs. xs ≡ map said past) (λ xs. xs ≡ map said past) bytes (remaining new.inner) f)) (sym is)
               (stops-line k (map said past) latest (lines_taken before) (λ xs. xs ≡ map said past)
               (λ xs. xs ≡ map said past) _ _ _ _ _ error says
-              is-taken gave.come (subst (λ (n : ℕ). GaveLines (remaining start.inner) (remaining new.inner) n)
-              took.lines.0 gave_lines) refl refl);
+              is-taken gave.come
+              (subst (λ (n : ℕ). GaveLines (remaining start.inner) (remaining new.inner) n) took.lines.0 gave_lines)
+              refl refl);
         }
 
   module _ (start old new : Watched R) (before after : LineReader) (latest : ℕ) (past : List (Item H))
