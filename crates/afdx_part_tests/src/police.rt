@@ -6,7 +6,8 @@ ghost use Rattle.afdx_police.specs.LinkAccounts.{last_time};
 use crate::frame::wrongly_sealed;
 use afdx_frame::{Checked, Policing, VlId};
 use afdx_police::{
-    ByteCharge, Charge, FrameCharge, LinkAccount, LinkRule, Policer, Reason, judge, laws,
+    ByteCharge, Charge, FrameCharge, LinkAccount, LinkRule, Policer, Reason, judge, judge_checked,
+    laws,
 };
 use afdx_samples::{HELLO, all_right, equal, hello, longer_hello, sealed, world};
 use std::test::Fail;
@@ -198,7 +199,7 @@ fn order_of_faults(rt: HostRuntime) -> Result<(), Fail> {
 
 #[test]
 fn no_rule_has_no_link() -> Result<(), Fail> {
-    let verdict = judge(None, 1, &hello(0));
+    let verdict = judge_checked(None, 1, Checked::new(&hello(0)));
     equal(verdict, Some(Reason::UnknownLink))
 }
 

@@ -7,7 +7,10 @@ use afdx_admit::Admitted;
 use afdx_config::{SystemId, Tables};
 use afdx_frame::{Policing, VlId};
 use afdx_police::LinkRule;
-use afdx_replay::{RunFault, Summary, Watched, check, run, run_police, run_send, run_unadmitted};
+use afdx_replay::{
+    RunFault, Summary, Watched, check, police, replay, run, run_police, run_send, run_unadmitted,
+    send,
+};
 use afdx_samples::{admitted, base, base_tables, equal};
 use std::alloc::Global;
 use std::test::Fail;
@@ -98,6 +101,83 @@ fn checked(alloc: Global, config: &[u8]) -> (u8, usize) {
     let mut errors = new_output(alloc);
     let status: u8 = check(alloc, config, &mut output, &mut errors);
     (status, output.into_inner().len())
+}
+
+/// The status of `police` for the words of a rule and an empty list.
+fn policed(alloc: Global, bag_ms: u64) -> u8 {
+    let mut input = empty_list();
+    let mut output = new_output(alloc);
+    let mut errors = new_output(alloc);
+    let (lmax, jitter_us): (u64, u64) = (64, 500);
+    let status: u8 = police(
+        alloc,
+        bag_ms,
+        lmax,
+        jitter_us,
+        &mut input,
+        &mut output,
+        &mut errors,
+    );
+    status
+}
+
+/// That of `replay` for a configuration and an empty list.
+fn replayed(alloc: Global, admission: bool, config: &[u8]) -> u8 {
+    let mut input = empty_list();
+    let mut output = new_output(alloc);
+    let mut errors = new_output(alloc);
+    let status: u8 = replay(
+        alloc,
+        admission,
+        config,
+        &mut input,
+        &mut output,
+        &mut errors,
+    );
+    status
+}
+
+/// That of `send`.
+fn sent(alloc: Global, config: &[u8], system: &str) -> u8 {
+    let mut input = empty_list();
+    let mut output = new_output(alloc);
+    let mut errors = new_output(alloc);
+    let status: u8 = send(alloc, config, system, &mut input, &mut output, &mut errors);
+    status
+}
+
+/// Whether the fault is one of a list, with the number of its line.
+fn line_of(fault: &RunFault) -> Option<u64> {
+    match fault {
+        RunFault::BadLine(n) => Some(*n),
+        RunFault::BadHex(n) => Some(*n),
+        RunFault::TimeBack(n) => Some(*n),
+        RunFault::TimeTooLarge(n) => Some(*n),
+        RunFault::BadPort(n) => Some(*n),
+        RunFault::LineTooLong(n) => Some(*n),
+        RunFault::TooManyLines | RunFault::Read | RunFault::Write | RunFault::Memory => None,
+    }
+}
+
+#[test]
+fn faults(_rt: HostRuntime) -> Result<(), Fail> {
+    equal(line_of(&RunFault::BadPort(7)), Some(7))?;
+    equal(line_of(&RunFault::TooManyLines), None)
+}
+
+#[test]
+fn commands(rt: HostRuntime) -> Result<(), Fail> {
+    let alloc = rt.alloc();
+    equal((policed(alloc, 1), policed(alloc, 3)), (0, 2))?;
+    let config = base().as_bytes();
+    equal(
+        (replayed(alloc, true, config), replayed(alloc, false, b"")),
+        (0, 1),
+    )?;
+    equal(
+        (sent(alloc, config, "s1"), sent(alloc, config, "s9")),
+        (0, 2),
+    )
 }
 
 #[test]
