@@ -118,7 +118,7 @@ fn wrongly_refused(alloc: Global, rows: &[Refused]) -> Result<Option<&'static st
 }
 
 #[test]
-fn messages_are_refused(rt: HostRuntime) -> Result<(), Fail> {
+fn messages_that_are_not_taken(rt: HostRuntime) -> Result<(), Fail> {
     let rows = [
         ("", "", [0, 0, 0, 0]),
         (
