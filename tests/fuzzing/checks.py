@@ -1,4 +1,4 @@
-"""What must hold of whatever the program answers, for tests/fuzz.py.
+"""What must hold of whatever the program answers, for tests/run/fuzz.py.
 
 No rule is computed a second time here: no schedule, no account, no reception. What is looked at is
 the form of each line, the order of lines, and what must be so by the promises.

@@ -1,4 +1,4 @@
-"""What tests/fuzz.py tries: configurations and lists, made at random and changed at random."""
+"""What tests/run/fuzz.py tries: configurations and lists, made at random and changed at random."""
 import os
 import sys
 
@@ -10,7 +10,7 @@ except ImportError:
 
 TOP = os.path.dirname(os.path.dirname(os.path.dirname(os.path.abspath(__file__))))
 EXAMPLES = os.path.join(TOP, "examples")
-sys.path[:0] = [EXAMPLES, os.path.join(TOP, "tests", "calling")]
+sys.path[:0] = [EXAMPLES, os.path.join(TOP, "tests", "lib")]
 from make_bench import frame_of, sealed  # noqa: E402
 from tables import text_of  # noqa: E402
 

@@ -1,4 +1,4 @@
-# Cases of `check`; tests/program.sh reads this file.
+# Cases of `check`; tests/run/program.sh reads this file.
 
 check_with() { # NAME STATUS OUT ERR SED_SCRIPT : `check` on base.toml as the script changes it
     sed -E "$5" examples/base.toml >"$work/changed.toml"

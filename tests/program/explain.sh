@@ -1,4 +1,4 @@
-# Cases of `explain` and of the option --explain; tests/program.sh reads this file.
+# Cases of `explain` and of the option --explain; tests/run/program.sh reads this file.
 
 # The fault's one line comes first and as ever, then text that has these words.
 explained_case() { # NAME STATUS OUT FAULT WORDS WORD..
@@ -16,7 +16,7 @@ explained_case() { # NAME STATUS OUT FAULT WORDS WORD..
 }
 
 tell 'each row of FORMATS is explained in its words' \
-    "$(python3 "$top/tests/explain.py" "$program" 2>&1 || true)"
+    "$(python3 "$top/tests/program/explained_formats.py" "$program" 2>&1 || true)"
 
 text_case 'a key by its number' 0 out 'Key 7 of a link is jitter_us: 0 to 1000 times bag_ms.' \
     explain 'config Missing link 1 key 7'

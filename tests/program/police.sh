@@ -1,4 +1,4 @@
-# Cases of `police`; tests/program.sh reads this file.
+# Cases of `police`; tests/run/program.sh reads this file.
 
 # ---- police: the examples ------------------------------------------------------------------
 

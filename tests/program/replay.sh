@@ -1,4 +1,4 @@
-# Cases of `replay`; tests/program.sh reads this file.
+# Cases of `replay`; tests/run/program.sh reads this file.
 #
 # Lists and outputs are written with ` / ` between lines. In a list H1 is the frame of link 1 with
 # the message `hello`, H2 that of link 2 with `world`, both with number 0; H1(05) is H1 with number

@@ -1,4 +1,4 @@
-# Cases of `send`; tests/program.sh reads this file.
+# Cases of `send`; tests/run/program.sh reads this file.
 #
 # Lists and outputs are written with ` / ` between lines, as for `replay`.
 

@@ -1,4 +1,4 @@
-# Cases of words, help and the version; tests/program.sh reads this file.
+# Cases of words, help and the version; tests/run/program.sh reads this file.
 
 text_case 'help' 0 out police --help
 text_case 'version' 0 out afdx --version

@@ -1,7 +1,7 @@
 # Tests of campaigns, of what bin/install installs, and of the commands of the guide; a part of
-# tests/tools.sh.
+# tests/run/tools.sh.
 # shellcheck shell=bash
-# shellcheck disable=SC2154  # what it uses is set by tests/tools.sh, which sources it
+# shellcheck disable=SC2154  # what it uses is set by tests/run/tools.sh, which sources it
 
 # ---- campaigns -----------------------------------------------------------------------------
 
@@ -134,8 +134,8 @@ guide_tests() {
     if has tshark; then HAS+=' tshark'; fi
     if [[ -n $reporting ]]; then HAS+=' report'; fi
     export HAS
-    env -u AFDX PATH="$work/prefix/bin:$PATH" "$python" tests/guide.py docs/GUIDE.md "$folder" \
-        >"$work/guide.out" 2>&1
+    env -u AFDX PATH="$work/prefix/bin:$PATH" "$python" tests/tools/document_commands.py \
+        docs/GUIDE.md "$folder" >"$work/guide.out" 2>&1
     passed=$((passed + $(grep -c '^ok ' "$work/guide.out")))
     failed=$((failed + $(grep -c '^FAILED ' "$work/guide.out")))
     skipped=$((skipped + $(grep -c '^skipped ' "$work/guide.out")))

@@ -1,6 +1,6 @@
-# Tests of campaigns: odd names, criteria, other machines; a part of tests/tools.sh.
+# Tests of campaigns: odd names, criteria, other machines; a part of tests/run/tools.sh.
 # shellcheck shell=bash
-# shellcheck disable=SC2154  # what it uses is set by tests/tools.sh, which sources it
+# shellcheck disable=SC2154  # what it uses is set by tests/run/tools.sh, which sources it
 
 odd=$work/'odd {} {#} names'
 
@@ -92,8 +92,8 @@ ran_there() { # FOLDER
 machine_tests() {
     mkdir -p "$work/machines/hidden" "$work/shared"
     status=0
-    tests/hosts.sh up "$work/machines" "$work/machines/hidden" >"$work/out" 2>"$work/err" ||
-        status=$?
+    tests/tools/two_hosts.sh up "$work/machines" "$work/machines/hidden" \
+        >"$work/out" 2>"$work/err" || status=$?
     if [[ $status -eq 3 ]]; then
         skip 'campaigns on other machines' "$(tail -n 1 "$work/err")"
         return
@@ -117,7 +117,7 @@ machine_tests() {
         is_status 0
         wants_text "$(column_of "$work/machines/hidden/out/campaign.csv" 1)" '3 1' 'frames'
     )"
-    tests/hosts.sh down "$work/machines" >>"$work/out" 2>&1
+    tests/tools/two_hosts.sh down "$work/machines" >>"$work/out" 2>&1
 }
 
 without_rsync_test() {

@@ -1,7 +1,7 @@
 # Tests of what afdx-capture does with input that is odd or broken, and with output that fails; a
-# part of tests/tools.sh.
+# part of tests/run/tools.sh.
 # shellcheck shell=bash
-# shellcheck disable=SC2154  # what it uses is set by tests/tools.sh, which sources it
+# shellcheck disable=SC2154  # what it uses is set by tests/run/tools.sh, which sources it
 
 is_fault() { # STATUS WORDS : one line that says them, and no more
     is_status "$1"
@@ -19,7 +19,7 @@ to_list() { # WORD.. : a list of a recording whose frames come at port 1
 
 broken_tests() {
     local row
-    "$python" tests/odd_recordings.py "$work" "$(frame_of A 0)5d0b5f3c"
+    "$python" tests/tools/odd_recordings.py "$work" "$(frame_of A 0)5d0b5f3c"
     while IFS='|' read -r -a row; do
         to_list "$work/${row[0]}"
         tell "a recording with ${row[2]}" "$(is_fault 2 "${row[1]}")"
@@ -42,7 +42,7 @@ ROWS
         printf '%d A 1\n' 0 1000 2000 >"$work/wanted"
         same "$work/wanted" "$work/got"
     )"
-    launch "$python" tests/mutated_recordings.py 3000 "$work"/{big,comment,three}.pcapng \
+    launch "$python" tests/tools/mutated_recordings.py 3000 "$work"/{big,comment,three}.pcapng \
         "$work/big.pcap"
     tell '3,000 recordings with bytes changed are read or refused' "$(
         is_status 0
@@ -150,7 +150,7 @@ failing_output_tests() {
         tools/afdx-capture "$@" >"$work/out" 2>&- || status=$?
         tell "$1: standard error is closed" "$(is_status 0; same "$work/wanted" "$work/out")"
     done
-    tests/sample_list.py examples/network.toml --ms 60 >"$work/sample.list"
+    tests/tools/sample_list.py examples/network.toml --ms 60 >"$work/sample.list"
     { tools/afdx-capture pcap "$work/sample.list" - 2>"$work/err"; echo $? >"$work/status"; } |
         head -c 1 >"$work/out"
     status=$(<"$work/status")
@@ -236,7 +236,7 @@ fcs_tests() {
 }
 
 shift_tests() {
-    tests/sample_list.py examples/network.toml --ms 60 --sound >"$work/sound.list"
+    tests/tools/sample_list.py examples/network.toml --ms 60 --sound >"$work/sound.list"
     capture pcap "$work/sound.list" "$work/sound.pcap"
     local shift
     for shift in B=2500 A=-40000000 B=700000000; do

@@ -1,7 +1,8 @@
 # Tests of the completion of words in bash, zsh and fish, of the tools' versions and of the man
-# pages: what they offer and name is what the program and the tools take. A part of tests/tools.sh.
+# pages: what they offer and name is what the program and the tools take. A part of
+# tests/run/tools.sh.
 # shellcheck shell=bash
-# shellcheck disable=SC2154  # what it uses is set by tests/tools.sh, which sources it
+# shellcheck disable=SC2154  # what it uses is set by tests/run/tools.sh, which sources it
 
 # ---- what each shell offers for the last word of a line ------------------------------------
 
@@ -20,7 +21,7 @@ offered_by_bash() { # LINE
 offered_by_zsh() { # LINE
     mkdir -p "$work/zsh"
     cp tools/afdx.zsh "$work/zsh/_afdx"
-    timeout 20 zsh -f tests/completed.zsh "$work/zsh" "$1"
+    timeout 20 zsh -f tests/tools/zsh_offers.zsh "$work/zsh" "$1"
 }
 
 # shellcheck disable=SC2016  # fish expands it

@@ -1,7 +1,7 @@
 # Tests of what afdx-report says of late links, of criteria, and of two runs beside one another; a
-# part of tests/tools.sh.
+# part of tests/run/tools.sh.
 # shellcheck shell=bash
-# shellcheck disable=SC2154  # what it uses is set by tests/tools.sh, which sources it
+# shellcheck disable=SC2154  # what it uses is set by tests/run/tools.sh, which sources it
 
 gigabit() { # WORD.. : the report of the network that isn't admitted, in which a link is late
     launch tools/afdx-report --no-admission examples/gigabit.toml examples/gigabit.list "$@"
@@ -19,7 +19,7 @@ late_tests() {
         wants_number "$work/late/report.json" \
             '[sum(row["late"] for row in r["latency"] if row["side"] == s) for s in "AB"]' '[4, 4]'
         if ! grep -q 'LATE, 128.0%' "$work/late/report.html"; then echo 'no mark on the page'; fi
-        "$python" tests/well_formed.py "$work/late/report.html"
+        "$python" tests/tools/html_tags.py "$work/late/report.html"
     )"
     grep -v '^#' examples/gigabit.list | grep . >"$work/gigabit.list"
     "$program" replay --no-admission examples/gigabit.toml "$work/gigabit.list" \
@@ -28,7 +28,7 @@ late_tests() {
         --out "$work/gigabit"
     tell 'late copies and the worst frames, counted another way' "$(
         is_status 0
-        "$python" tests/traffic_again.py examples/gigabit.toml "$work/gigabit.list" \
+        "$python" tests/tools/recount_traffic.py examples/gigabit.toml "$work/gigabit.list" \
             "$work/gigabit.lines" "$work/gigabit/report.json"
     )"
     tell 'a share is 100 % only where all of it is' "$(
@@ -93,8 +93,8 @@ compare_tests() { # of the sample of counted_tests, and of the same without its 
         wants_number "$work/again/report.json" \
             'len(r["compared"]["only_here"]) + len(r["compared"]["only_there"]) < 3' True
         if [[ ! -s $work/again/compared.csv ]]; then echo 'no compared.csv'; fi
-        "$python" tests/well_formed.py "$work/again/report.html"
-        "$python" tests/page_parts.py "$work/again/report.html"
+        "$python" tests/tools/html_tags.py "$work/again/report.html"
+        "$python" tests/tools/html_access.py "$work/again/report.html"
     )"
     for other in examples/base.toml "$work/nowhere.json"; do
         launch tools/afdx-report examples/base.toml examples/one_link.list --json \

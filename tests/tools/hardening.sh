@@ -1,6 +1,6 @@
-# Tests of afdx-report with odd words, names, files and outputs; a part of tests/tools.sh.
+# Tests of afdx-report with odd words, names, files and outputs; a part of tests/run/tools.sh.
 # shellcheck shell=bash
-# shellcheck disable=SC2154  # what it uses is set by tests/tools.sh, which sources it
+# shellcheck disable=SC2154  # what it uses is set by tests/run/tools.sh, which sources it
 
 one_line() { # the stream err has one line, and no traceback
     if [[ $(wc -l <"$work/err") -ne 1 ]]; then
@@ -38,7 +38,7 @@ name_tests() {
     tell 'names that are not UTF-8' "$(
         is_status 0
         says out 'T \xfe'
-        "$python" tests/well_formed.py "$odd"/$'\xfd/report.html'
+        "$python" tests/tools/html_tags.py "$odd"/$'\xfd/report.html'
         wants_number "$odd"/$'\xfd/report.json' 'r["run"]["files"][1][1][-14:]' \
             '\xff <b>&.list'
         wants_cases "$odd/junit.xml" '1 0 0'

@@ -1,7 +1,7 @@
 # Tests of bin/package: the package is installed in a bare root, and what it brings is used there. A
-# part of tests/tools.sh.
+# part of tests/run/tools.sh.
 # shellcheck shell=bash
-# shellcheck disable=SC2154  # what it uses is set by tests/tools.sh, which sources it
+# shellcheck disable=SC2154  # what it uses is set by tests/run/tools.sh, which sources it
 
 package_root() { # a root with an empty list of packages and the C library
     local library

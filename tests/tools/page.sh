@@ -1,6 +1,6 @@
-# Tests of a report's page: for ears, on paper, in a browser; a part of tests/tools.sh.
+# Tests of a report's page: for ears, on paper, in a browser; a part of tests/run/tools.sh.
 # shellcheck shell=bash
-# shellcheck disable=SC2154  # what it uses is set by tests/tools.sh, which sources it
+# shellcheck disable=SC2154  # what it uses is set by tests/run/tools.sh, which sources it
 
 parts_tests() { # of the sample of counted_tests
     launch tools/afdx-report examples/network.toml "$work/sample.list" --link 501 --link 101 \
@@ -10,11 +10,11 @@ parts_tests() { # of the sample of counted_tests
         for words in 'Time line of link 501' 'Time line of link 101' 'It has no frames there'; do
             if ! grep -q "$words" "$work/timelines/report.html"; then echo "no '$words'"; fi
         done
-        "$python" tests/well_formed.py "$work/timelines/report.html"
+        "$python" tests/tools/html_tags.py "$work/timelines/report.html"
     )"
     tell 'captions, heads, labels, anchors and colours' "$(
-        "$python" tests/page_parts.py "$work/timelines/report.html"
-        "$python" tests/page_parts.py "$work/late/report.html"
+        "$python" tests/tools/html_access.py "$work/timelines/report.html"
+        "$python" tests/tools/html_access.py "$work/late/report.html"
     )"
     tell 'of too many rows a page has those with the greatest share' "$(
         cd tools && "$python" -B -c '

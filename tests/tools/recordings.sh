@@ -1,6 +1,6 @@
-# Tests of tools/afdx-capture; a part of tests/tools.sh.
+# Tests of tools/afdx-capture; a part of tests/run/tools.sh.
 # shellcheck shell=bash
-# shellcheck disable=SC2154  # what it uses is set by tests/tools.sh, which sources it
+# shellcheck disable=SC2154  # what it uses is set by tests/run/tools.sh, which sources it
 
 # ---- recordings ----------------------------------------------------------------------------
 
@@ -102,7 +102,7 @@ capture_tests() {
 odd_tests() { # what few programs write
     local frame
     frame=$(cut -d ' ' -f 5 "$work/back.list" | head -n 1)
-    "$python" tests/odd_recordings.py "$work" "$frame"
+    "$python" tests/tools/odd_recordings.py "$work" "$frame"
     launch tools/afdx-capture list --port 1 "$work/big.pcapng"
     tell 'pcapng with the high byte first, two units of time, an offset' "$(
         is_status 0
@@ -172,14 +172,14 @@ list_as_wanted() { # NAME WORDS : the list is that of $work/wanted, and WORDS ar
 }
 
 wireshark_tests() {
-    tests/sample_list.py examples/network.toml --ms 60 --sound >"$work/sound.list"
+    tests/tools/sample_list.py examples/network.toml --ms 60 --sound >"$work/sound.list"
     launch tools/afdx-capture pcap "$work/sound.list" "$work/sound.pcap"
     launch tshark -r "$work/sound.pcap" -o eth.check_fcs:TRUE -o ip.check_checksum:TRUE -T fields \
         -e frame.time_epoch -e eth.dst -e eth.src -e eth.fcs.status -e ip.checksum.status \
         -e ip.src -e ip.dst -e udp.srcport -e udp.dstport -e data.data
     tell 'tshark reads what a list gave: times, addresses, payloads, both checksums good' "$(
         is_status 0
-        "$python" tests/fields_of_list.py "$work/sound.list" >"$work/wanted"
+        "$python" tests/tools/expected_tshark_fields.py "$work/sound.list" >"$work/wanted"
         if [[ $(wc -l <"$work/wanted") -lt 100 ]]; then echo 'the sample is too small'; fi
         same "$work/wanted" "$work/out"
     )"

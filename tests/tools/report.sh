@@ -1,6 +1,6 @@
-# Tests of tools/afdx-report; a part of tests/tools.sh.
+# Tests of tools/afdx-report; a part of tests/run/tools.sh.
 # shellcheck shell=bash
-# shellcheck disable=SC2154  # what it uses is set by tests/tools.sh, which sources it
+# shellcheck disable=SC2154  # what it uses is set by tests/run/tools.sh, which sources it
 
 # ---- the report ----------------------------------------------------------------------------
 
@@ -52,7 +52,7 @@ report_tests() {
         if grep -qE 'src=|href="[^#]|@import|url\(' "$work/one/report.html"; then
             echo 'it refers to something'
         fi
-        "$python" tests/well_formed.py "$work/one/report.html"
+        "$python" tests/tools/html_tags.py "$work/one/report.html"
     )"
     launch tools/afdx-report examples/base.toml - --json <examples/one_link.list
     tell 'nothing on standard input is an empty list' "$(
@@ -69,7 +69,7 @@ report_tests() {
 }
 
 counted_tests() { # the tool's sums against sums made another way
-    tests/sample_list.py examples/network.toml --ms 120 >"$work/sample.list"
+    tests/tools/sample_list.py examples/network.toml --ms 120 >"$work/sample.list"
     "$program" replay examples/network.toml "$work/sample.list" >"$work/lines"
     launch tools/afdx-report examples/network.toml "$work/sample.list" --out "$work/sample"
     local json=$work/sample/report.json
@@ -90,12 +90,12 @@ counted_tests() { # the tool's sums against sums made another way
         fi
     )"
     tell 'latencies and backlogs, counted another way' "$(
-        "$python" tests/counted_again.py examples/network.toml "$work/sample.list" \
+        "$python" tests/tools/recount_latencies.py examples/network.toml "$work/sample.list" \
             "$work/lines" "$json"
     )"
     tell 'gaps, jitter, missing numbers, skews and loads, counted another way' "$(
-        "$python" tests/traffic_again.py examples/network.toml "$work/sample.list" "$work/lines" \
-            "$json"
+        "$python" tests/tools/recount_traffic.py examples/network.toml "$work/sample.list" \
+            "$work/lines" "$json"
     )"
     tell 'no latency is over its bound, no backlog either' "$(
         wants_number "$json" 'max(l["greatest_ns"] - l["bound_ns"] for l in r["latency"]) <= 0' True
@@ -105,7 +105,7 @@ counted_tests() { # the tool's sums against sums made another way
         wants_number "$json" 'len(r["latency"]) + 1' "$(wc -l <"$work/sample/latency.csv")"
         wants_number "$json" 'len(r["links"]) + 1' "$(wc -l <"$work/sample/links.csv")"
         wants_number "$json" 'len(r["ports"]) + 1' "$(wc -l <"$work/sample/ports.csv")"
-        "$python" tests/well_formed.py "$work/sample/report.html"
+        "$python" tests/tools/html_tags.py "$work/sample/report.html"
     )"
 }
 
@@ -176,7 +176,7 @@ old_tests() { # profile 2: a low frame that waits for longer than its latency
         is_status 0
         wants_number "$work/old/report.json" 'r["totals"]["too_old"], r["totals"]["departed"]' \
             '(1, 1)'
-        "$python" tests/well_formed.py "$work/old/report.html"
+        "$python" tests/tools/html_tags.py "$work/old/report.html"
     )"
 }
 

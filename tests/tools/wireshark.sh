@@ -1,6 +1,6 @@
-# Tests of tools/afdx.lua and of annotated recordings, by tshark; a part of tests/tools.sh.
+# Tests of tools/afdx.lua and of annotated recordings, by tshark; a part of tests/run/tools.sh.
 # shellcheck shell=bash
-# shellcheck disable=SC2154  # what it uses is set by tests/tools.sh, which sources it
+# shellcheck disable=SC2154  # what it uses is set by tests/run/tools.sh, which sources it
 
 # ---- the fields of AFDX frames -------------------------------------------------------------
 
@@ -21,7 +21,7 @@ fields_told() { # RECORDING [WORD..] : the fields of AFDX, the gap in ns
 }
 
 fields_are_right() { # NAME LIST RECORDING [WORD..]
-    "$python" tests/afdx_fields_of_list.py "$2" >"$work/wanted"
+    "$python" tests/tools/expected_afdx_fields.py "$2" >"$work/wanted"
     fields_told "${@:3}" >"$work/got"
     tell "fields of AFDX: $1" "$(is_status 0; same "$work/wanted" "$work/got")"
 }
@@ -40,7 +40,7 @@ padded_frame_of() { # SIDE NUMBER
 }
 
 lists_for_fields() { # writes $work/sound.list, $work/padded.list, $work/odd.list
-    tests/sample_list.py examples/network.toml --ms 60 --sound >"$work/sound.list"
+    tests/tools/sample_list.py examples/network.toml --ms 60 --sound >"$work/sound.list"
     printf 'F %d A 1 %s\n' 5 "$(padded_frame_of A 0)" 1000005 "$(padded_frame_of A 7)" \
         2000005 "$(padded_frame_of A 8)" >"$work/padded.list"
     { # wrong check sequences at first, numbers that go round, come again, begin anew
@@ -85,7 +85,7 @@ padding_tests() { # frames without check sequences, whose padding isn't zero
     done >"$work/grey.list"
     capture pcap --fcs no "$work/grey.list" "$work/grey.pcap"
     without_note "$work/grey.pcap" "$work/grey_unsaid.pcap"
-    "$python" tests/afdx_fields_of_list.py "$work/grey.list" | tail -n +12 >"$work/wanted"
+    "$python" tests/tools/expected_afdx_fields.py "$work/grey.list" | tail -n +12 >"$work/wanted"
     fields_told "$work/grey_unsaid.pcap" | tail -n +12 >"$work/got"
     tell 'fields of AFDX: padding that is not zero, from the twelfth frame on' "$(
         is_status 0
@@ -137,7 +137,7 @@ expert_tests() {
         numbers_found afdx.no_side '2'
         numbers_found afdx.side ''
     )"
-    "$python" tests/odd_recordings.py "$work" "$(frame_of A 0)5d0b5f3c"
+    "$python" tests/tools/odd_recordings.py "$work" "$(frame_of A 0)5d0b5f3c"
     shark -r "$work/cut.pcap" -Y afdx.cut -T fields -e frame.number -e afdx.seq
     tell 'a cut frame has no number' "$(
         is_status 0
@@ -154,7 +154,7 @@ hundredths_of() { # WORD.. : processor time of tshark, in hundredths of a second
 
 speed_tests() { # 30,000 frames; more of a recording takes as much longer
     local alone with tries
-    tests/sample_list.py examples/network.toml --ms 2050 >"$work/long.list"
+    tests/tools/sample_list.py examples/network.toml --ms 2050 >"$work/long.list"
     capture pcap "$work/long.list" "$work/long.pcap"
     for tries in 1 2 3; do
         alone=$(hundredths_of -r "$work/long.pcap" -Y 'udp.port == 1')

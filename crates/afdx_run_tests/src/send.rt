@@ -1,5 +1,5 @@
 //! Steps with known answers, on one sender. Frames of every length and numbers that go round are in
-//! tests/streams.py.
+//! tests/run/streams.py.
 
 use afdx_samples::{all_right, equal};
 use afdx_send::SendFault;

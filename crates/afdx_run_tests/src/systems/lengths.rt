@@ -1,4 +1,4 @@
-//! Messages of some lengths, the least and the greatest among them; all are in tests/streams.py.
+//! Messages of some lengths, the least and the greatest; all are in tests/run/streams.py.
 
 use super::receive;
 use afdx_config::Tables;

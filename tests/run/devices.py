@@ -1,12 +1,12 @@
 #!/usr/bin/env python3
 """Runs the built program on devices that move little at a time and fail, at each call in turn.
 
-    tests/devices.py PROGRAM
+    tests/run/devices.py PROGRAM
 
-tests/devices.c, which `cc` compiles, makes the devices weak: at most 16 bytes a call, and the first
-call broken, then the second, and so on. A call is broken by an error that stays, by an error that
-is gone at the next call, by an interruption, or by moving no byte. `police`, `replay`, with
-admission and without, and `send` are run on lists of a few lines, read by path or as standard
+tests/lib/weak_devices.c, which `cc` compiles, makes the devices weak: at most 16 bytes a call, and
+the first call broken, then the second, and so on. A call is broken by an error that stays, by an
+error that is gone at the next call, by an interruption, or by moving no byte. `police`, `replay`,
+with admission and without, and `send` are run on lists of a few lines, read by path or as standard
 input, and `check` on configurations. Each run must write a beginning of the undisturbed text,
 exactly as far as it has to, and end with the status and the one line of the device that failed; and
 a device that failed, or has ended, must not be asked again, nor the other one be asked for more
@@ -24,7 +24,7 @@ from collections.abc import Iterator
 from typing import NamedTuple
 
 sys.dont_write_bytecode = True
-sys.path.insert(0, os.path.join(os.path.dirname(os.path.abspath(__file__)), "calling"))
+sys.path.insert(0, os.path.join(os.path.dirname(os.path.abspath(__file__)), "..", "lib"))
 import tables as made  # noqa: E402
 from frames import HELLO, frame_of  # noqa: E402
 from program import TOP, Answer, Cases, Program, answers, main_of, must  # noqa: E402
@@ -321,12 +321,12 @@ MESSAGES = {
 
 def compile_devices(program: Program) -> None:
     """Compiles the weak devices, to be loaded before the C library."""
-    source = os.path.join(TOP, "tests", "devices.c")
+    source = os.path.join(TOP, "tests", "lib", "weak_devices.c")
     shim = os.path.join(program.folder, "devices.so")
     try:
         subprocess.run(["cc", "-shared", "-fPIC", "-O1", "-o", shim, source, "-ldl"], check=True)
     except (OSError, subprocess.CalledProcessError) as fault:
-        raise SystemExit(f"tests/devices.c can't be compiled: {fault}") from None
+        raise SystemExit(f"tests/lib/weak_devices.c can't be compiled: {fault}") from None
 
 
 def short_lists(program: Program, config: str) -> Iterator[tuple]:

@@ -1,6 +1,6 @@
 """Counts latencies and backlogs from the lines of a replay in a slower way, and compares a report.
 
-    tests/counted_again.py CONFIG LIST LINES REPORT.JSON
+    tests/tools/recount_latencies.py CONFIG LIST LINES REPORT.JSON
 
 Prints what differs. All lines are held; a port's backlog is taken anew at each arrival, as the
 bytes of the frames that have come to it and whose slots have not begun before. Nothing of tools/ is

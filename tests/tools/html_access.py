@@ -1,6 +1,6 @@
 """Says what a report's page lacks for those who read it by ear, by keys or without colours.
 
-    tests/page_parts.py PAGE
+    tests/tools/html_access.py PAGE
 
 Each table has a caption and heads with a scope, each picture a label and its numbers, each anchor
 a place, each id one element; each colour of a picture stands out from the sheet by 3 to 1, each

@@ -1,8 +1,8 @@
 #!/usr/bin/env bash
 # Refuses requests for memory, and looks at what the program, or a test, makes of it.
 #
-#     tests/refused_growths.sh PROGRAM             the built program, as crates/afdx/out/afdx
-#     tests/refused_growths.sh --tests RUNNER..    built test runners, as afdx_part_tests_tests
+#     tests/run/refused_growths.sh PROGRAM             the built program, as crates/afdx/out/afdx
+#     tests/run/refused_growths.sh --tests RUNNER..    built test runners, as afdx_part_tests_tests
 #
 # PROGRAM polices examples/one_link.list on standard input, checks examples/base.toml, explains a
 # line, replays a frame and its copy in examples/base.toml, replays examples/gigabit.list, and sends
@@ -17,15 +17,15 @@
 # must pass where one request was refused. Where all later ones are refused too it may fail, but
 # only by want of memory: the failure has to name it.
 #
-# The requests are refused by tests/refuse.c, which `cc` compiles. Prints `ok NAME` or `FAILED NAME`
-# for each case (a program's whole row of runs, or one test's), then `N passed, M failed`. Ends with
-# status 1 if a case failed, or met no request at all, or if there was none.
+# The requests are refused by tests/lib/refuse_memory.c, which `cc` compiles. Prints `ok NAME` or
+# `FAILED NAME` for each case (a program's whole row of runs, or one test's), then `N passed, M
+# failed`. Ends with status 1 if a case failed, or met no request at all, or if there was none.
 set -euo pipefail
 export LC_ALL=C
 
 most=100000 # the last request in one case, after which something is wrong
 none='no request came by malloc or realloc, so nothing was tried'
-top=$(dirname "$(dirname "$(readlink -f "${BASH_SOURCE[0]}")")")
+top=$(cd "$(dirname "$(readlink -f "${BASH_SOURCE[0]}")")/../.." && pwd)
 
 usage() {
     sed -n '2,/^set /{/^set /d; s/^# \{0,1\}//; p}' "${BASH_SOURCE[0]}" >&2
@@ -47,10 +47,10 @@ done
 
 work=$(mktemp -d "${TMPDIR:-/tmp}/afdx-refused.XXXXXX")
 trap 'rm -rf "$work"' EXIT
-cc -shared -fPIC -O1 -o "$work/refuse.so" "$top/tests/refuse.c" -ldl
+cc -shared -fPIC -O1 -o "$work/refuse.so" "$top/tests/lib/refuse_memory.c" -ldl
 
-# shellcheck source=tests/telling.sh
-source "$top/tests/telling.sh"
+# shellcheck source=tests/lib/cases.sh
+source "$top/tests/lib/cases.sh"
 
 # Runs WORD.. with request number N refused (HOW is REFUSE_AT), or all from that one on
 # (REFUSE_FROM). Leaves what it wrote in `out` and, without the shim's own line, in `err`, its

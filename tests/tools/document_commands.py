@@ -1,12 +1,12 @@
 #!/usr/bin/python3
 """Runs the commands of a document, and compares what they print with what stands there.
 
-    tests/guide.py DOCUMENT FOLDER
+    tests/tools/document_commands.py DOCUMENT FOLDER
 
 Each block ```sh is run by bash in FOLDER, in the order of the document. A block ```text right after
 it is what it prints on standard output, in which a line `..` stands for any lines. Words after `sh`
 say what the block wants: `status=N` (0), and names of what it needs; a block that needs what is not
-in the environment variable HAS is skipped. Prints a line for each block as tests/tools.sh does.
+in the environment variable HAS is skipped. Prints a line for each block as tests/run/tools.sh does.
 """
 from __future__ import annotations
 

@@ -1,8 +1,8 @@
 #!/usr/bin/env bash
 # Two machines for tests: network namespaces, each with an sshd and with a folder of its own hidden.
 #
-#     tests/hosts.sh up FOLDER HIDDEN
-#     tests/hosts.sh down FOLDER
+#     tests/tools/two_hosts.sh up FOLDER HIDDEN
+#     tests/tools/two_hosts.sh down FOLDER
 #
 # `up` makes the machines one and two, and writes into FOLDER what belongs to them. From then on
 # `ssh -F FOLDER/config one` works. On the machines the folder HIDDEN is empty, and so they have a

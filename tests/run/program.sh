@@ -1,7 +1,7 @@
 #!/usr/bin/env bash
 # Checks the built program as its user sees it: what it writes on both streams, and its status.
 #
-#     tests/program.sh PROGRAM
+#     tests/run/program.sh PROGRAM
 #
 # Prints `ok NAME` or `FAILED NAME` for each case and, at the end, `N passed, M failed`. Ends with
 # status 1 if a case failed. Standard output and standard error are compared byte for byte, but for
@@ -10,17 +10,17 @@ set -euo pipefail
 export LC_ALL=C
 
 if [[ $# -ne 1 || ! -x $1 ]]; then
-    echo 'usage: tests/program.sh PROGRAM   (a program that was built, as crates/afdx/out/afdx)' >&2
+    echo 'usage: tests/run/program.sh PROGRAM   (a built one, as crates/afdx/out/afdx)' >&2
     exit 2
 fi
 program=$(readlink -f "$1")
-top=$(dirname "$(dirname "$(readlink -f "${BASH_SOURCE[0]}")")")
+top=$(cd "$(dirname "$(readlink -f "${BASH_SOURCE[0]}")")/../.." && pwd)
 work=$(mktemp -d "${TMPDIR:-/tmp}/afdx-program.XXXXXX")
 trap 'rm -rf "$work"' EXIT
 cd "$top"
 
-# shellcheck source=tests/telling.sh
-source "$top/tests/telling.sh"
+# shellcheck source=tests/lib/cases.sh
+source "$top/tests/lib/cases.sh"
 input=/dev/null # what the next cases read on standard input
 
 launch() { # WORD.. : runs the program, and leaves both streams in files and the status in `status`

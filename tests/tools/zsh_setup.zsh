@@ -1,5 +1,5 @@
-# Sourced by the zsh that tests/completed.zsh starts: completion as it is set up for a user, but that
-# the words are printed.
+# Sourced by the zsh that tests/tools/zsh_offers.zsh starts: completion as it is set up for a user,
+# but that the words are printed.
 unsetopt zle_bracketed_paste 2>/dev/null
 PROMPT=
 fpath=($1 $fpath)

@@ -1,7 +1,7 @@
 #!/usr/bin/env python3
 """Checks what can be read off the repository without proving anything; it takes a second.
 
-    tests/house.py
+    tests/run/house.py
 
 - Each name that README, PROMISES, ARCHITECTURE and DEVELOPING set in code occurs in the sources.
 - Each crate has its row in README and in docs/ARCHITECTURE.md, which names each of its files of
@@ -19,7 +19,7 @@ import pathlib
 import re
 import sys
 
-TOP = pathlib.Path(__file__).resolve().parent.parent
+TOP = pathlib.Path(__file__).resolve().parent.parent.parent
 CRATES = TOP / "crates"
 DOCUMENTS = ["README.md", "docs/PROMISES.md", "docs/ARCHITECTURE.md", "docs/DEVELOPING.md"]
 COLUMNS = 100
@@ -34,7 +34,7 @@ MEMORY = {
     "crates/afdx_send/src/working.rt": {"accept"},
     "crates/afdx_systems/src/end_system.rt": {"pass_on"},
 }
-SCRIPTS = ["tests/**/*.py", "tests/**/*.sh", "tests/*.c", "examples/*.py"]
+SCRIPTS = ["tests/**/*.py", "tests/**/*.sh", "tests/**/*.c", "examples/*.py"]
 SCRIPTS += ["bench/*", "bin/*", "tools/*", ".ci/*"]
 
 
@@ -59,8 +59,8 @@ def crate_names() -> list[str]:
 def known_words() -> set[str]:
     """All words of the sources, and the names of files and folders."""
     words: set[str] = set()
-    named = ["crates/**/*.rt", "crates/**/*.antt", "crates/*/must-fail/*", "tests/*", "bench/*"]
-    for path in sources(*named, "tools/*", "bin/*", "examples/*.toml"):
+    named = ["crates/**/*.rt", "crates/**/*.antt", "crates/*/must-fail/*", "tests/**/*"]
+    for path in sources(*named, "bench/*", "tools/*", "bin/*", "examples/*.toml"):
         if path.is_file():
             words.update(re.findall(r"\w+", text_of(path)))
             words.update(re.findall(r"\w+", str(path.relative_to(TOP))))

@@ -1,7 +1,8 @@
 /* Makes a program's input and its standard output weak: they move little at a time, and fail.
  *
- *     cc -shared -fPIC -O1 -o devices.so devices.c -ldl
- *     DEVICE_LOG=calls DEVICE_MOST=16 DEVICE_READ=3:fails LD_PRELOAD=$PWD/devices.so PROGRAM WORD..
+ *     cc -shared -fPIC -O1 -o weak_devices.so weak_devices.c -ldl
+ *     DEVICE_LOG=calls DEVICE_MOST=16 DEVICE_READ=3:fails \
+ *         LD_PRELOAD=$PWD/weak_devices.so PROGRAM WORD..
  *
  * Loaded before the C library, it looks at the calls of read on standard input, or on the file that
  * DEVICE_LIST names once it is opened, and at those of write on standard output. Each moves at most

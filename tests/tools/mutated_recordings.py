@@ -1,6 +1,6 @@
 """Reads recordings with bytes changed, left out or cut off: they are read, or refused in a line.
 
-    tests/mutated_recordings.py N RECORDING..
+    tests/tools/mutated_recordings.py N RECORDING..
 
 Reads N such recordings in all. Prints what was neither, and nothing else. The same words try the
 same recordings.
@@ -10,7 +10,7 @@ import random
 import sys
 import tempfile
 
-sys.path.insert(0, os.path.join(os.path.dirname(os.path.realpath(__file__)), "..", "tools"))
+sys.path.insert(0, os.path.join(os.path.dirname(os.path.realpath(__file__)), "..", "..", "tools"))
 sys.dont_write_bytecode = True
 from afdx_recordings import Recording  # noqa: E402
 from afdx_tools import Refused  # noqa: E402

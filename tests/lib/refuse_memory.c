@@ -1,8 +1,8 @@
 /* Refuses requests for memory of a program, to see what it answers.
  *
- *     cc -shared -fPIC -O1 -o refuse.so refuse.c -ldl
- *     REFUSE_AT=3 LD_PRELOAD=$PWD/refuse.so PROGRAM WORD..
- *     REFUSE_FROM=3 LD_PRELOAD=$PWD/refuse.so PROGRAM WORD..
+ *     cc -shared -fPIC -O1 -o refuse_memory.so refuse_memory.c -ldl
+ *     REFUSE_AT=3 LD_PRELOAD=$PWD/refuse_memory.so PROGRAM WORD..
+ *     REFUSE_FROM=3 LD_PRELOAD=$PWD/refuse_memory.so PROGRAM WORD..
  *
  * Loaded before the C library, it counts the calls of malloc and realloc together. The call whose
  * number REFUSE_AT names answers "no memory", and so does each call from that one on whose number

@@ -1,7 +1,7 @@
 #!/usr/bin/env python3
 """Tries the program on configurations and lists that are made and changed at random.
 
-    tests/fuzz.py [PROGRAM] [--seconds S] [--seed N] [--first K] [--keep DIR]
+    tests/run/fuzz.py [PROGRAM] [--seconds S] [--seed N] [--first K] [--keep DIR]
 
 PROGRAM is the built program, crates/afdx/out/afdx where it isn't given. For S seconds (20 where it
 isn't given) it tries one case after the other: `check` and `replay` of a configuration and a list,
@@ -29,7 +29,7 @@ import tempfile
 import time
 
 sys.dont_write_bytecode = True
-sys.path.insert(0, os.path.join(os.path.dirname(os.path.abspath(__file__)), "fuzzing"))
+sys.path.insert(0, os.path.join(os.path.dirname(os.path.abspath(__file__)), "..", "fuzzing"))
 import checks  # noqa: E402
 import made  # noqa: E402
 import sending  # noqa: E402

@@ -2,12 +2,12 @@
 # Tests bin/afdx, which proves, builds and starts the program, with an `rt` of its own that writes a
 # program of one line in place of proving anything.
 #
-#     tests/launcher.sh
+#     tests/run/launcher.sh
 #
 # Prints a line for each fault, then `N passed, M failed`; ends with status 1 if there is one.
 set -uo pipefail
 
-top=$(cd "$(dirname "$(readlink -f "$0")")/.." && pwd)
+top=$(cd "$(dirname "$(readlink -f "$0")")/../.." && pwd)
 room=$(mktemp -d)
 trap 'rm -rf "$room"' EXIT
 passed=0
@@ -57,6 +57,7 @@ expect() { # NAME, TEST.. : passes where the test holds
 }
 
 called() { [[ $(tr '\n' ';' <"$CALLS") == "$1" ]]; }
+
 both='afdx: all;afdx: run;'
 
 launch police --help

@@ -1,13 +1,13 @@
 #!/usr/bin/env python3
 """Gives the built program what breaks off, is malicious, or is as large as it may be.
 
-    tests/hostile.py PROGRAM
+    tests/run/hostile.py PROGRAM
 
 Tried are all beginnings of a configuration, of frame lists, of a submission list and of frames;
 lines as long as they may be and one byte longer; fields that are nearly right; numbers of up to
 5,000 digits; as many lines as there may be and one more; configurations of 4 MB. Each run must end
 at once with the status and the one line of the first fault, by the orders of docs/FORMATS.md, which
-tests/calling/first_fault.py follows apart from the program, and with the output of the lines before
+tests/lib/first_fault.py follows apart from the program, and with the output of the lines before
 it. Prints `ok NAME` or `FAILED NAME` for each case, then `N passed, M failed`; ends with status 1
 if a case failed. Needs Python 3, and for the beginnings of a configuration Python 3.11.
 """
@@ -19,7 +19,7 @@ import time
 from collections.abc import Iterator
 
 sys.dont_write_bytecode = True
-sys.path.insert(0, os.path.join(os.path.dirname(os.path.abspath(__file__)), "calling"))
+sys.path.insert(0, os.path.join(os.path.dirname(os.path.abspath(__file__)), "..", "lib"))
 import tables as made  # noqa: E402
 from first_fault import config_fault, list_fault, list_lines  # noqa: E402
 from frames import HELLO, frame_of, sealed  # noqa: E402

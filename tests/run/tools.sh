@@ -1,7 +1,7 @@
 #!/usr/bin/env bash
 # Checks what stands around the built program: tools/, bin/install, the guide's commands.
 #
-#     tests/tools.sh [PROGRAM]
+#     tests/run/tools.sh [PROGRAM]
 #
 # PROGRAM is the built program, crates/afdx/out/afdx where it isn't given. Prints `ok NAME`, `FAILED
 # NAME` or `skipped NAME: why` for each case and, at the end, `N passed, M failed, K skipped`. A
@@ -10,15 +10,15 @@
 set -uo pipefail
 export LC_ALL=C TZ=UTC
 
-top=$(dirname "$(dirname "$(readlink -f "${BASH_SOURCE[0]}")")")
+top=$(cd "$(dirname "$(readlink -f "${BASH_SOURCE[0]}")")/../.." && pwd)
 program=$(readlink -f "${1:-$top/crates/afdx/out/afdx}")
 work=$(mktemp -d "${TMPDIR:-/tmp}/afdx-tools.XXXXXX")
 trap 'rm -rf "$work"' EXIT
 export AFDX=$program
 cd "$top" || exit 1
 
-# shellcheck source=tests/telling.sh
-source "$top/tests/telling.sh"
+# shellcheck source=tests/lib/cases.sh
+source "$top/tests/lib/cases.sh"
 skipped=0
 
 skip() { # NAME WHY

@@ -1,6 +1,6 @@
 """Writes what tshark should tell of the frames of a sound list, field by field, one frame a line.
 
-    tests/fields_of_list.py LIST
+    tests/tools/expected_tshark_fields.py LIST
 
 The fields stand at their offsets in the line's digits; nothing of tools/ is used.
 """

@@ -2,7 +2,7 @@
 """Checks that the program explains each line and word of docs/FORMATS.md in the words of its
 tables.
 
-    tests/explain.py PROGRAM
+    tests/program/explained_formats.py PROGRAM
 
 For each row an example of its line is given to `afdx explain`; the answer must have what the row
 says of it, and for a key of a configuration its name and its range. What has no row (`ok`, the
@@ -15,7 +15,7 @@ import re
 import subprocess
 import sys
 
-FORMATS = pathlib.Path(__file__).resolve().parent.parent / "docs" / "FORMATS.md"
+FORMATS = pathlib.Path(__file__).resolve().parent.parent.parent / "docs" / "FORMATS.md"
 KEY_FAULTS = ["Missing", "WrongKind", "OutOfRange", "Twice", "NoSuchSystem"]
 EXAMPLES = {
     "n": "7", "port": "3", "side": "A", "time": "6720", "system": "s3", "name": "s3", "vl": "101",

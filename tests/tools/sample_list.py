@@ -1,7 +1,7 @@
 #!/usr/bin/python3
 """Writes a frame list as a test bench would record it: all links of a network, and some faults.
 
-    tests/sample_list.py CONFIG [--ms N] [--seed N] [--sound] >sample.list
+    tests/tools/sample_list.py CONFIG [--ms N] [--seed N] [--sound] >sample.list
 
 Each system sends on each of its links about once in a BAG, at most one frame at a time on its line,
 on both sides; side B is a little late. Unless --sound is given, a link babbles for a while, some
@@ -17,7 +17,7 @@ import sys
 from typing import Iterator, NamedTuple
 
 sys.dont_write_bytecode = True
-sys.path.insert(0, os.path.join(os.path.dirname(os.path.realpath(__file__)), "..", "tools"))
+sys.path.insert(0, os.path.join(os.path.dirname(os.path.realpath(__file__)), "..", "..", "tools"))
 from afdx_tools import Config, Link, read_config  # noqa: E402
 
 MS = 1_000_000

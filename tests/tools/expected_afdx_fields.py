@@ -1,6 +1,6 @@
 """Writes what Wireshark should tell of the AFDX fields of a list's frames, one frame a line.
 
-    tests/afdx_fields_of_list.py LIST
+    tests/tools/expected_afdx_fields.py LIST
 
 Link, side, system, partition, sequence number, steps since the number before, gap in ns. The
 fields stand at their offsets in the line's digits; nothing of tools/ is used. A frame that is

@@ -1,9 +1,9 @@
 #!/usr/bin/env python3
 """Sends and replays whole streams with the built program, and compares with what is computed here.
 
-    tests/streams.py PROGRAM
+    tests/run/streams.py PROGRAM
 
-What `send` writes is compared byte for byte with frames and times that tests/calling computes apart
+What `send` writes is compared byte for byte with frames and times that tests/lib computes apart
 from the program. Its replay must accept every frame, lose none, and deliver each message once and
 in order to each system that has a port for it. Tried are messages of every length, numbers that go
 round, all systems of examples/network.toml at once, strangers under the links' names, a side that
@@ -18,7 +18,7 @@ import random
 import sys
 
 sys.dont_write_bytecode = True
-sys.path.insert(0, os.path.join(os.path.dirname(os.path.abspath(__file__)), "calling"))
+sys.path.insert(0, os.path.join(os.path.dirname(os.path.abspath(__file__)), "..", "lib"))
 import tables as made  # noqa: E402
 from delivery import bounds_of, check_all_accepted, check_delivered  # noqa: E402
 from delivery import lines_to, renumbered, told_pairs  # noqa: E402

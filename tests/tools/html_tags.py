@@ -1,6 +1,6 @@
 """Says what is wrong with the tags of an HTML page, and nothing where they are all closed in order.
 
-    tests/well_formed.py PAGE
+    tests/tools/html_tags.py PAGE
 """
 import sys
 from html.parser import HTMLParser

@@ -1,6 +1,6 @@
 """Counts what a report says of the traffic in a slower way, and compares.
 
-    tests/traffic_again.py CONFIG LIST LINES REPORT.JSON
+    tests/tools/recount_traffic.py CONFIG LIST LINES REPORT.JSON
 
 Prints what differs: gaps, jitter, missing numbers, skews, late copies, loads, worst frames. All
 lines are held, the account of a link is stepped as a fraction, and pairs of copies are looked for

@@ -1,6 +1,6 @@
 """Writes recordings as few programs write them, all with the same two frames a microsecond apart.
 
-    tests/odd_recordings.py FOLDER HEX
+    tests/tools/odd_recordings.py FOLDER HEX
 
 FOLDER/big.pcapng   high byte first, two interfaces with times in ns and in 2^-20 s, an offset of
                     5 s on both, 4 bytes of check sequence said by one
