@@ -58,6 +58,9 @@ expect() { # NAME, TEST.. : passes where the test holds
 
 called() { [[ $(tr '\n' ';' <"$CALLS") == "$1" ]]; }
 
+# A function that is written a second time silently takes the place of the first.
+written_once() { [[ -z $(sed -n 's/^\(\w*\)() {.*/\1/p' "$top/bin/afdx" | sort | uniq -d) ]]; }
+
 both='afdx: all;afdx: run;'
 
 launch police --help
@@ -83,6 +86,7 @@ expect 'what rt said is told' grep -q 'not proved' "$room/err"
 rm "$BROKEN"
 launch check
 expect 'it is built once that is mended' [ "$status" = 3 ]
+expect 'each function of the launcher is written once' written_once
 
 printf '%d passed, %d failed\n' "$passed" "$failed"
 [[ $failed == 0 ]]
