@@ -19,7 +19,7 @@ import sys
 HERE = os.path.dirname(os.path.abspath(__file__))
 sys.dont_write_bytecode = True
 sys.path.insert(0, os.path.join(HERE, "..", "examples"))
-from make_bench import frame_of, sealed  # noqa: E402
+from frame_builder import frame_of, sealed  # noqa: E402
 
 FRAME = frame_of(1, 1, 1, b"hello", 0, "A", 1000)
 STEP_NS = 1_000_000

@@ -28,7 +28,7 @@ import sys
 HERE = os.path.dirname(os.path.abspath(__file__))
 sys.dont_write_bytecode = True
 sys.path.insert(0, os.path.join(HERE, "..", "examples"))
-from make_bench import frame_of  # noqa: E402
+from frame_builder import frame_of  # noqa: E402
 
 MOST_LINES = 1_000_000
 SYSTEMS = 24

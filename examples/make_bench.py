@@ -9,7 +9,9 @@ are the same each time.
 """
 import os
 import sys
-import zlib
+
+sys.dont_write_bytecode = True
+from frame_builder import frame_of, sealed  # noqa: E402
 
 US = 1_000
 MS = 1_000_000
@@ -32,49 +34,12 @@ SYSTEMS = {
 }
 
 
-def two(number):
-    """A number as two bytes, high byte first."""
-    return number.to_bytes(2, "big")
-
-
-def header_checksum(header):
-    """The ones' complement of the ones' complement sum of the header's 16-bit words."""
-    total = sum(int.from_bytes(header[at : at + 2], "big") for at in range(0, len(header), 2))
-    while total > 0xFFFF:
-        total = (total & 0xFFFF) + (total >> 16)
-    return total ^ 0xFFFF
-
-
-def frame_of(ident, partition, vl, payload, number, side, udp, least=64, **changes):
-    """A frame without its check sequence, as a sender builds it, but for the changes.
-
-    The changes are values of fields: ether_type, flags, protocol, checksum (added to the right
-    one), udp_length, address.
-    """
-    address = changes.get("address", b"\x03\x00\x00\x00" + two(vl))
-    source = b"\x02\x00\x00" + two(ident) + (b"\x20" if side == "A" else b"\x40")
-    header = b"\x45\x00" + two(28 + len(payload)) + two(0) + two(changes.get("flags", 0)) + b"\x01"
-    header += bytes([changes.get("protocol", 17)]) + two(0)
-    header += b"\x0a" + two(ident) + bytes([partition]) + b"\xe0\xe0" + two(vl)
-    checksum = header_checksum(header) + changes.get("checksum", 0)
-    header = header[:10] + two(checksum & 0xFFFF) + header[12:]
-    ports = two(udp) + two(udp)
-    datagram = header + ports + two(changes.get("udp_length", 8 + len(payload))) + two(0) + payload
-    frame = address + source + two(changes.get("ether_type", 0x0800)) + datagram
-    return frame + bytes(max(least - 5 - len(frame), 0)) + bytes([number])
-
-
 def built(system, vl, text, number, side="A", udp=None, least=64, **changes):
     """The frame of a system of the lists with a text as its message."""
     _, ident, partition = SYSTEMS[system]
     port = 20000 + vl if udp is None else udp
     payload = text.encode("ascii")
     return frame_of(ident, partition, vl, payload, number, side, port, least, **changes)
-
-
-def sealed(frame):
-    """A frame with its check sequence."""
-    return frame + zlib.crc32(frame).to_bytes(4, "little")
 
 
 class Frames:

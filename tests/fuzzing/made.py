@@ -11,7 +11,7 @@ except ImportError:
 TOP = os.path.dirname(os.path.dirname(os.path.dirname(os.path.abspath(__file__))))
 EXAMPLES = os.path.join(TOP, "examples")
 sys.path[:0] = [EXAMPLES, os.path.join(TOP, "tests", "lib")]
-from make_bench import frame_of, sealed  # noqa: E402
+from frame_builder import frame_of, sealed  # noqa: E402
 from tables import text_of  # noqa: E402
 
 BAGS = [1, 2, 4, 8, 16, 32, 64, 128]

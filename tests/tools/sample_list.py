@@ -17,7 +17,9 @@ import sys
 from typing import Iterator, NamedTuple
 
 sys.dont_write_bytecode = True
-sys.path.insert(0, os.path.join(os.path.dirname(os.path.realpath(__file__)), "..", "..", "tools"))
+TOP = os.path.join(os.path.dirname(os.path.realpath(__file__)), "..", "..")
+sys.path[:0] = [os.path.join(TOP, "tools"), os.path.join(TOP, "examples")]
+from frame_builder import AROUND, frame_of  # noqa: E402
 from afdx_tools import Config, Link, read_config  # noqa: E402
 
 MS = 1_000_000
@@ -34,26 +36,9 @@ class Sent(NamedTuple):
 
 def body(link: Link, system_id: int, side: str, length: int, number: int) -> bytes:
     """A frame without its check sequence; link's identifier + 20,000 is its UDP port."""
-    payload = bytes((number + n) % 251 for n in range(max(length - 47, 1)))
+    payload = bytes((number + n) % 251 for n in range(max(length - AROUND, 1)))
     udp = (20_000 + link.vl) % 65_536
-    head = bytes.fromhex("45000000000000000111") + b"\0\0"
-    head = head[:2] + (28 + len(payload)).to_bytes(2, "big") + head[4:]
-    head += (
-        b"\x0a" + system_id.to_bytes(2, "big") + b"\x01" + b"\xe0\xe0" + link.vl.to_bytes(2, "big")
-    )
-    total = sum(int.from_bytes(head[n : n + 2], "big") for n in range(0, 20, 2))
-    while total > 0xFFFF:
-        total = (total & 0xFFFF) + (total >> 16)
-    head = head[:10] + (0xFFFF - total).to_bytes(2, "big") + head[12:]
-    datagram = (
-        udp.to_bytes(2, "big") * 2 + (8 + len(payload)).to_bytes(2, "big") + b"\0\0" + payload
-    )
-    address = (
-        b"\x03\0\0\0" + link.vl.to_bytes(2, "big") + b"\x02\0\0" + system_id.to_bytes(2, "big")
-    )
-    network = b"\x20" if side == "A" else b"\x40"
-    frame = address + network + b"\x08\0" + head + datagram
-    return frame.ljust(max(length, 64) - 5, b"\0") + bytes([number])
+    return frame_of(system_id, 1, link.vl, payload, number, side, udp, length)
 
 
 def releases(link: Link, end: int, dice: random.Random) -> Iterator[Sent]:
