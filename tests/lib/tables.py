@@ -2,13 +2,9 @@
 from __future__ import annotations
 
 import os
+import tomllib
 
 from program import TOP
-
-try:
-    import tomllib
-except ImportError:  # before Python 3.11
-    tomllib = None
 
 EXAMPLES = os.path.join(TOP, "examples")
 
@@ -19,39 +15,41 @@ def example(name: str) -> bytes:
         return file.read()
 
 
+def example_tables(name: str) -> dict:
+    """The tables of an example."""
+    return tomllib.loads(example(name).decode())
+
+
 def system_of(port: int, rate: int = 100) -> dict:
     """The system sN on port N."""
     return {"name": f"s{port}", "port": port, "id": port, "partition": 1, "rate": rate}
 
 
+def changed(rows: list[dict], **values: object) -> list[dict]:
+    """The rows, each with these values for these keys."""
+    return [row | values for row in rows]
+
+
 def base_tables(profile: int = 1, rate: int = 100) -> dict:
-    """The tables of examples/base.toml: link 1 of s1, high, and link 2 of s2, low, both to s3."""
-    link = {"bag_ms": 1, "lmin": 64, "lmax": 64, "jitter_us": 500, "policing": "frame"}
-    link |= {"skew_us": 1000}
-    first = {"vl": 1, "from": "s1", "to": ["s3"], **link, "priority": "high"}
-    first |= {"latency_us": 17, "subs": 2}
-    second = {"vl": 2, "from": "s2", "to": ["s3"], **link, "priority": "low"}
-    second |= {"latency_us": 21, "subs": 1}
-    return {
-        "profile": profile,
-        "buffer": 252,
-        "system": [system_of(port, rate) for port in (1, 2, 3)],
-        "link": [first, second],
-        "port": [
-            {"system": "s3", "link": 1, "udp": 1000, "kind": "sampling", "depth": 1},
-            {"system": "s3", "link": 2, "udp": 2000, "kind": "queuing", "depth": 4},
-        ],
-    }
+    """The tables of examples/base.toml in a profile, with all systems at a rate: link 1 of s1,
+    high, and link 2 of s2, low, both to s3."""
+    tables = example_tables("base.toml")
+    return tables | {"profile": profile, "system": changed(tables["system"], rate=rate)}
 
 
 def long_tables(profile: int = 1, rate: int = 100) -> dict:
     """The base tables, where the frames of link 1 have up to 1,518 bytes."""
     tables = base_tables(profile, rate)
-    tables["buffer"] = 4096
+    tables |= {"buffer": 4096, "link": changed(tables["link"], latency_us=1000)}
     tables["link"][0]["lmax"] = 1518
-    for link in tables["link"]:
-        link["latency_us"] = 1000
     return tables
+
+
+def one_link_tables(bag_ms: int, lmax: int, jitter_us: int) -> dict:
+    """The base tables with link 1 alone, as `police` judges it where no option says otherwise."""
+    tables = base_tables()
+    link = tables["link"][0] | {"bag_ms": bag_ms, "lmax": lmax, "jitter_us": jitter_us}
+    return tables | {"buffer": 65536, "link": [link | {"policing": "byte"}], "port": []}
 
 
 def largest_tables() -> dict:

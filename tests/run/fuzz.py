@@ -17,8 +17,8 @@ holds what must be so of any output. Beside that
 - what `send` writes is replayed without a loss, and each message is read once and in order.
 
 The first case that is wrong is written to DIR (a new folder where it isn't given), its seed and
-number are printed, and the status is 1. `--seed N --first K` begins with that case. Needs Python 3,
-no packages.
+number are printed, and the status is 1. `--seed N --first K` begins with that case. Needs Python
+3.11, no packages.
 """
 import argparse
 import os
@@ -34,6 +34,7 @@ import checks  # noqa: E402
 import made  # noqa: E402
 import sending  # noqa: E402
 from checks import Wrong, must  # noqa: E402
+from tables import one_link_tables  # noqa: E402
 
 PROGRAM = os.path.join(made.TOP, "crates", "afdx", "out", "afdx")
 LONGEST = 60  # seconds of one run
@@ -155,37 +156,6 @@ def try_replay(runs, case, checked):
         try_alone(runs, free, case, answer, events, "VD")
 
 
-def one_link(bag, lmax, jitter):
-    """Tables with the one link that `police` judges."""
-    system = {"port": 1, "id": 1, "partition": 1, "rate": 100}
-    return {
-        "profile": 1,
-        "buffer": 65536,
-        "system": [system | {"name": "s1"}, system | {"name": "s2", "port": 2, "id": 2}],
-        "link": [
-            {
-                **{
-                    "vl": 1,
-                    "from": "s1",
-                    "to": ["s2"],
-                    "bag_ms": bag,
-                    "lmin": 64,
-                    "lmax": lmax,
-                    "jitter_us": jitter,
-                },
-                **{
-                    "priority": "low",
-                    "policing": "byte",
-                    "latency_us": 1000,
-                    "skew_us": 1000,
-                    "subs": 1,
-                },
-            }
-        ],
-        "port": [],
-    }
-
-
 def try_police(runs, case, chance):
     bag = chance.choice(made.BAGS)
     rule = [bag, chance.choice([64, 80, 200, 1518]), chance.choice([0, 500, 1000 * bag])]
@@ -193,7 +163,7 @@ def try_police(runs, case, chance):
     answer = runs.run_twice(words, case.text)
     checks.check_police(case.text, *answer)
     try_prefix(runs, words, case.text, answer)
-    runs.write("one.toml", made.text_of(one_link(*rule)))
+    runs.write("one.toml", made.text_of(one_link_tables(*rule)))
     status, out, err = runs.run(["replay", "--no-admission", "one.toml", "list"])
     verdicts = "".join(f"{line}\n" for line in out.split("\n") if line.startswith("V"))
     must((status, verdicts, err) == answer, "police and replay give other verdicts of one link")

@@ -9,7 +9,7 @@ lines as long as they may be and one byte longer; fields that are nearly right; 
 at once with the status and the one line of the first fault, by the orders of docs/FORMATS.md, which
 tests/lib/first_fault.py follows apart from the program, and with the output of the lines before
 it. Prints `ok NAME` or `FAILED NAME` for each case, then `N passed, M failed`; ends with status 1
-if a case failed. Needs Python 3, and for the beginnings of a configuration Python 3.11.
+if a case failed. Needs Python 3.11.
 """
 from __future__ import annotations
 
@@ -383,9 +383,7 @@ def try_all(cases: Cases, program: Program) -> None:
     """All cases."""
     base = made.example("base.toml")
     all_cases: list[tuple] = [("beginnings of a frame", frame_beginnings, program.apart())]
-    if made.tomllib is None:
-        print("skipped the beginnings of a configuration: they need Python 3.11")
-    for part in range(4) if made.tomllib else ():
+    for part in range(4):
         name = f"beginnings of a configuration, {part + 1} of 4"
         all_cases.append((name, config_beginnings, program, base, part, 4))
     for name, command in commands_of(program).items():

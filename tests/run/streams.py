@@ -9,7 +9,7 @@ in order to each system that has a port for it. Tried are messages of every leng
 round, all systems of examples/network.toml at once, strangers under the links' names, a side that
 dies or is late, long lists, how much memory they take, and the largest tables. Prints `ok NAME` or
 `FAILED NAME` for each case, then `N passed, M failed`; ends with status 1 if a case failed. Needs
-Python 3, and for examples/network.toml Python 3.11.
+Python 3.11.
 """
 from __future__ import annotations
 
@@ -343,11 +343,8 @@ def try_all(cases: Cases, program: Program) -> None:
             MS,
         )
     cases.try_case("a side whose switch is busy", late_in_the_switch, program)
-    if made.tomllib is None:
-        print("skipped network.toml: it needs Python 3.11")
-    else:
-        network = made.tomllib.loads(made.example("network.toml").decode())
-        cases.try_case("every system of network.toml", every_system, program, network, 12)
+    network = made.example_tables("network.toml")
+    cases.try_case("every system of network.toml", every_system, program, network, 12)
     cases.try_case("5,000 accepted frames policed", long_police, program, 5000)
     cases.try_case("5,000 messages sent and replayed", long_stream, program, 5000)
     cases.try_case("memory that doesn't grow with the list", bounded_memory, program, 100_000)
