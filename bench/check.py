@@ -60,8 +60,8 @@ def main():
                 timed([given.program, "check", path], None, nothing, note, statuses=(1,))
                 for _ in range(given.times)
             ]
-    seconds = min(run[0] for run in runs)
-    memory = max(run[1] for run in runs)
+    seconds = min(run.seconds for run in runs)
+    memory = max(run.memory for run in runs)
     print(
         f"check of {len(text):,} bytes, {LINKS:,} links   "
         f"{seconds:.3f} s   {memory / 1024:.1f} MiB peak"

@@ -13,9 +13,14 @@ which is the most a list may have), F lines on both sides. KIND is one of
     lost        C links (64) to one system at 10 Mbit/s, which they overload, profile 1: frames
                 are lost
     old         the same in profile 2: frames are dropped as too old
+    wide        24 systems at 1000 Mbit/s with C links (4,096) of 64 bytes to all 23 others each,
+                profile 2; admitted
+    one         one link of 64 bytes to one system at 100 Mbit/s, profile 1; admitted
+    copies      the same link to 23 systems, so that each frame has 22 further copies; admitted
 
-Of the links 57 % have frames of up to 150 bytes, 21 % up to 300, 12 % up to 600, 6 % up to 900 and
-4 % more. BAGs are 2 to 128 ms, four fifths of them 16 and more. Each link sends a frame each BAG,
+Of the links of the first four kinds 57 % have frames of up to 150 bytes, 21 % up to 300, 12 % up to
+600, 6 % up to 900 and 4 % more; BAGs are 2 to 128 ms, four fifths of them 16 and more. Links of 64
+bytes have a BAG of 128 ms in `wide`, else of 1 ms. Each link sends a frame each BAG,
 at most 10 us late, with a message of random bytes; side B has its copy 5 us later. The same words
 give the same files.
 """
@@ -33,6 +38,8 @@ from frame_builder import frame_of  # noqa: E402
 MOST_LINES = 1_000_000
 SYSTEMS = 24
 KINDS = {"aircraft": 400, "gigabit": 4096, "lost": 64, "old": 64}
+KINDS |= {"wide": 4096, "one": 1, "copies": 1}
+EVEN = ("wide", "one", "copies")  # the kinds whose links are all alike
 MS = 1_000_000
 
 
@@ -72,14 +79,25 @@ def links_of(kind, count):
     return links
 
 
+def even_links(kind, count):
+    """Links of 64 bytes, each system's in turn."""
+    links = []
+    for vl in range(count):
+        sender = vl % SYSTEMS + 1
+        others = [place for place in range(1, SYSTEMS + 1) if place != sender]
+        to = others[:1] if kind == "one" else others
+        links.append(Link(vl, sender, to, 128 if kind == "wide" else 1, 64))
+    return links
+
+
 def write_config(path, kind, links):
-    profile = 2 if kind in ("gigabit", "old") else 1
-    buffer = {"aircraft": 65536, "gigabit": 524288}.get(kind, 65536)
+    profile = 2 if kind in ("gigabit", "old", "wide") else 1
+    buffer = 524288 if kind in ("gigabit", "wide") else 65536
     latency = 5000 if kind == "old" else 100000
     parts = [f"profile = {profile}\nbuffer = {buffer}\n"]
     for place in range(1, SYSTEMS + 1):
         is_overloaded = kind in ("lost", "old") and place == SYSTEMS
-        rate = 1000 if kind == "gigabit" else 10 if is_overloaded else 100
+        rate = 1000 if kind in ("gigabit", "wide") else 10 if is_overloaded else 100
         parts.append(
             f'[[system]]\nname = "s{place}"\nport = {place}\nid = {place}\n'
             f"partition = 1\nrate = {rate}\n"
@@ -139,7 +157,8 @@ def write_list(path, links, count):
 
 
 def write_network(kind, config, listing, count=MOST_LINES, links=None):
-    made = links_of(kind, links or KINDS[kind])
+    make = even_links if kind in EVEN else links_of
+    made = make(kind, links or KINDS[kind])
     write_config(config, kind, made)
     write_list(listing, made, count)
 

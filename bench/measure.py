@@ -7,14 +7,23 @@ import re
 import shutil
 import subprocess
 import sys
+from typing import NamedTuple
 
 HERE = os.path.dirname(os.path.abspath(__file__))
 PROGRAM = os.path.join(HERE, "..", "crates", "afdx", "out", "afdx")
 STARTER = "/usr/bin/time"
 
 
+class Run(NamedTuple):
+    """What a run took: user and system seconds together, user seconds alone, peak memory in KiB."""
+
+    seconds: float
+    user: float
+    memory: int
+
+
 def timed(words, given, taken, note, statuses=(0,)):
-    """Runs it once: its user and system seconds together, and its peak memory in KiB."""
+    """Runs it once."""
     # Linux counts the memory of the process that starts a program to that program's peak, so a
     # small starter is put between. Without it the figure is at least what Python itself takes.
     has_starter = os.access(STARTER, os.X_OK)
@@ -24,11 +33,11 @@ def timed(words, given, taken, note, statuses=(0,)):
     child.returncode = os.waitstatus_to_exitcode(status)
     if child.returncode not in statuses:
         sys.exit(f"{' '.join(words)} ended with status {child.returncode}")
-    seconds = usage.ru_utime + usage.ru_stime
-    if not has_starter:
-        return seconds, usage.ru_maxrss
-    with open(note, encoding="ascii") as text:
-        return seconds, int(text.read().split()[-1])
+    memory = usage.ru_maxrss
+    if has_starter:
+        with open(note, encoding="ascii") as text:
+            memory = int(text.read().split()[-1])
+    return Run(usage.ru_utime + usage.ru_stime, usage.ru_utime, memory)
 
 
 def instructions(words, folder):

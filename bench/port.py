@@ -24,8 +24,8 @@ def main():
         note = os.path.join(folder, "note")
         with open(os.devnull, "w", encoding="ascii") as nothing:
             for name, word in RUNS:
-                seconds, memory = timed([program, word], None, nothing, note)
-                print(f"{name}   {seconds:.3f} s   {memory / 1024:.1f} MiB peak")
+                run = timed([program, word], None, nothing, note)
+                print(f"{name}   {run.seconds:.3f} s   {run.memory / 1024:.1f} MiB peak")
 
 
 if __name__ == "__main__":

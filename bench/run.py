@@ -1,4 +1,3 @@
-#!/usr/bin/env python3
 """Measures `afdx police`, `afdx replay` and `afdx send` on long lists.
 
     bench/run.py [PROGRAM] [--lines N] [--times T] [--only TEXT] [--baseline] [--scaling]
@@ -10,14 +9,19 @@ where it isn't given) from a file into /dev/null. One table in Markdown is print
 
     seconds        user and system seconds together, the least of the runs
     peak memory    the greatest of the runs
-    instructions   for each line, by valgrind's callgrind, the run of 4,000 lines less that of
-                   2,000; `-` where valgrind isn't installed
+    instructions   for each line, by valgrind's callgrind, the run of 20,000 lines less that of
+                   none; `-` where valgrind isn't installed
 
-MB are 1,000,000 bytes of the list. With --baseline the hand-written C program
-bench/handwritten/police_baseline.c is compiled by `cc -O2`, must print the same as `police`, and
-stands in the table beside it. With --only the rows whose name has TEXT in it are measured. With
---scaling another table is printed: how time and memory grow with the lines of a list and with the
-links of a network.
+MB are 1,000,000 bytes of the list. A line below the table says what each further copy of a frame
+takes: the run in which a link goes to 23 ports less that in which it goes to one.
+
+With --baseline the hand-written C program bench/handwritten/police_baseline.c is compiled by
+`cc -O2`, must print the same as `police`, and stands in the table beside it. Both run by turns, and
+two more columns say how the program compares with it: the ratio of the instructions, and that of
+the user seconds, the median of the T turns. A ratio below 1 means that the program takes less.
+
+With --only the rows whose name has TEXT in it are measured. With --scaling another table is
+printed: how time and memory grow with the lines of a list and with the links of a network.
 
 Needs Linux and Python 3, no packages; with /usr/bin/time the figure for memory is the program's
 alone. It is a measurement and no test: it fails only where a run fails or the two programs differ.
@@ -25,19 +29,21 @@ alone. It is a measurement and no test: it fails only where a run fails or the t
 import argparse
 import filecmp
 import os
+import statistics
 import subprocess
 import sys
 import tempfile
+from typing import NamedTuple, Optional
 
 sys.dont_write_bytecode = True
 from make_list import MOST_LINES, write_list  # noqa: E402
 from make_messages import write_messages  # noqa: E402
 from make_network import write_network  # noqa: E402
-from measure import HERE, PROGRAM, instructions, timed  # noqa: E402
+from measure import HERE, PROGRAM, Run, instructions, timed  # noqa: E402
 
 BASELINE = os.path.join(HERE, "handwritten", "police_baseline.c")
 MOST_BYTES = 500_000_000
-FEW = 2_000  # lines of the shorter list for callgrind
+FEW = 20_000  # lines of the list for callgrind
 
 POLICE = [
     ("police, one frame of 64 bytes, N times", {}),
@@ -49,10 +55,15 @@ POLICE = [
 REPLAY = [
     ("replay, 24 systems, 400 links, 100 Mbit/s", "aircraft", True),
     ("replay, 24 systems, 4,096 links, 1 Gbit/s, profile 2", "gigabit", True),
+    ("replay, 4,096 links to 23 ports each, 1 Gbit/s, profile 2", "wide", True),
+    ("replay, one link to 1 port", "one", True),
+    ("replay, one link to 23 ports: 22 further copies of each frame", "copies", True),
     ("replay, an overloaded port, frames lost", "lost", False),
     ("replay, an overloaded port, frames too old, profile 2", "old", False),
 ]
+FURTHER = 22  # copies of a frame in the row `copies` beyond that in the row `one`
 SEND = "send, 20 links of one system"
+BY_HAND = "the same by hand-written C"
 HEAD = [
     "run",
     "lines",
@@ -63,6 +74,7 @@ HEAD = [
     "peak memory",
     "instructions a line",
 ]
+RATIOS = ["instructions to C", "user CPU to C"]
 GROWTH_HEAD = [
     "links",
     "lines",
@@ -73,6 +85,41 @@ GROWTH_HEAD = [
 ]
 
 
+class Row(NamedTuple):
+    """What a list took: its runs, and the instructions of a line where they are known."""
+
+    name: str
+    lines: int
+    size: int
+    runs: list[Run]
+    instructions: Optional[float]
+
+    @property
+    def seconds(self):
+        return min(run.seconds for run in self.runs)
+
+    def cells(self):
+        memory = max(run.memory for run in self.runs)
+        return [
+            self.name,
+            f"{self.lines:,}",
+            f"{self.size / 1e6:,.0f}",
+            f"{self.seconds:.2f}",
+            f"{self.lines / self.seconds:,.0f}",
+            f"{self.size / self.seconds / 1e6:,.0f}",
+            f"{memory / 1024:.1f} MiB",
+            "-" if self.instructions is None else f"{self.instructions:,.0f}",
+        ]
+
+    def ratios(self, other):
+        """How it compares with another program's row, whose runs took turns with these."""
+        turns = [one.user / two.user for one, two in zip(self.runs, other.runs)]
+        told = f"{statistics.median(turns):.2f}"
+        if None in (self.instructions, other.instructions):
+            return ["-", told]
+        return [f"{self.instructions / other.instructions:.2f}", told]
+
+
 class Bench:
     def __init__(self, given, folder):
         self.program, self.times, self.folder = os.path.abspath(given.program), given.times, folder
@@ -80,58 +127,62 @@ class Bench:
     def path(self, name):
         return os.path.join(self.folder, name)
 
+    def by_turns(self, *programs):
+        """The runs of each of these words on a list, by turns."""
+        runs = [[] for _ in programs]
+        with open(os.devnull, "w", encoding="ascii") as nothing:
+            for _ in range(self.times):
+                for own, words in zip(runs, programs):
+                    own.append(timed(words, subprocess.DEVNULL, nothing, self.path("note")))
+        return runs
+
     def best(self, words):
         """The least seconds and the greatest memory of some runs."""
-        with open(os.devnull, "w", encoding="ascii") as nothing:
-            runs = [
-                timed(words, subprocess.DEVNULL, nothing, self.path("note"))
-                for _ in range(self.times)
-            ]
-        return min(seconds for seconds, _ in runs), max(memory for _, memory in runs)
+        runs = self.by_turns(words)[0]
+        return min(run.seconds for run in runs), max(run.memory for run in runs)
 
     def a_line(self, make, words):
-        """Instructions for each line: a longer list less a shorter one.
+        """Instructions for each line: a list less one of no lines.
 
         `make` writes a list of so many lines.
         """
         counts = []
-        for count in (FEW, 2 * FEW):
+        for count in (0, FEW):
             make(self.path("few.list"), count)
             counts.append(instructions([*words, self.path("few.list")], self.folder))
         return None if None in counts else (counts[1] - counts[0]) / FEW
 
-    def row(self, name, words, count, make):
+    def rows(self, programs, count, make):
+        """A row for each program, a name and its words, on the long list of so many lines."""
         listing = self.path("long.list")
         size = os.path.getsize(listing)
-        seconds, memory = self.best([*words, listing])
-        each = self.a_line(make, words)
+        all_runs = self.by_turns(*([*words, listing] for _, words in programs))
         return [
-            name,
-            f"{count:,}",
-            f"{size / 1e6:,.0f}",
-            f"{seconds:.2f}",
-            f"{count / seconds:,.0f}",
-            f"{size / seconds / 1e6:,.0f}",
-            f"{memory / 1024:.1f} MiB",
-            "-" if each is None else f"{each:,.0f}",
+            Row(name, count, size, runs, self.a_line(make, words))
+            for (name, words), runs in zip(programs, all_runs)
         ]
 
     def police(self, name, options, lines, baseline):
+        """The row of `police`, and where there is a baseline its row too."""
         length = options.get("length", 64)
         count = min(lines, MOST_BYTES // (2 * length + 20))
         make = lambda path, count: write_list(path, count, **options)
         make(self.path("long.list"), count)
         rule = ["1", str(max(length, 64)), "500"]
-        words = [self.program, "police", *rule]
-        yield self.row(name, words, count, make)
+        programs = [(name, [self.program, "police", *rule])]
         if baseline:
-            other = [baseline, *rule]
-            for program, copy in ((words, "ours"), (other, "theirs")):
-                with open(self.path(copy), "w", encoding="ascii") as out:
-                    subprocess.run([*program, self.path("long.list")], stdout=out, check=True)
-            if not filecmp.cmp(self.path("ours"), self.path("theirs"), shallow=False):
-                sys.exit("the two programs print different verdicts")
-            yield self.row("the same by hand-written C", other, count, make)
+            programs.append((BY_HAND, [baseline, *rule]))
+            self.compare([words for _, words in programs])
+        return self.rows(programs, count, make)
+
+    def compare(self, both):
+        """Both programs must print the same of the long list."""
+        copies = [self.path("ours"), self.path("theirs")]
+        for words, copy in zip(both, copies):
+            with open(copy, "w", encoding="ascii") as out:
+                subprocess.run([*words, self.path("long.list")], stdout=out, check=True)
+        if not filecmp.cmp(*copies, shallow=False):
+            sys.exit("the two programs print different verdicts")
 
     def network(self, kind, is_admitted, lines, links=None):
         """Writes a network and its list; gives the words that replay it."""
@@ -144,13 +195,13 @@ class Bench:
     def replay(self, name, kind, is_admitted, lines):
         words = self.network(kind, is_admitted, lines)
         make = lambda path, count: write_network(kind, self.path("few.toml"), path, count)
-        yield self.row(name, words, lines, make)
+        return self.rows([(name, words)], lines, make)[0]
 
     def send(self, lines):
         config = self.path("send.toml")
         write_messages(config, self.path("long.list"), lines)
         make = lambda path, count: write_messages(self.path("few.toml"), path, count)
-        return self.row(SEND, [self.program, "send", config, "s1"], lines, make)
+        return self.rows([(SEND, [self.program, "send", config, "s1"])], lines, make)[0]
 
     def scaling(self, kind, lines, links):
         words = self.network(kind, True, lines, links)
@@ -204,33 +255,64 @@ def read_words():
     return given
 
 
+def show_growth(bench, lines):
+    """The table of growth, with the lines and then with the links."""
+    head(GROWTH_HEAD)
+    sizes = [lines // 100, lines // 10, lines]
+    for count in sizes:
+        show(bench.scaling("gigabit", max(1, count), 400))
+    for links in (1, 64, 1024, 4096):
+        show(bench.scaling("gigabit", max(1, sizes[1]), links))
+
+
+def show_police(bench, given, baseline):
+    """The rows of `police`, with the ratios where there is a baseline."""
+    for name, options in POLICE:
+        if given.only in name:
+            ours, *others = bench.police(name, options, given.lines, baseline)
+            ratios = ours.ratios(others[0]) if others else []
+            show([*ours.cells(), *ratios])
+            for theirs in others:
+                show([*theirs.cells(), *("" for _ in ratios)])
+
+
+def show_replay(bench, given, empty):
+    """The rows of `replay`, and what a further copy takes."""
+    by_kind = {}
+    for name, kind, is_admitted in REPLAY:
+        if given.only in name:
+            by_kind[kind] = bench.replay(name, kind, is_admitted, given.lines)
+            show([*by_kind[kind].cells(), *empty])
+    return by_kind
+
+
+def show_copies(one, copies):
+    """What each further copy of a frame takes."""
+    ns = (copies.seconds - one.seconds) / copies.lines / FURTHER * 1e9
+    told = f"Each further copy of a frame: {ns:,.0f} ns"
+    if one.instructions is not None:
+        told += f", {(copies.instructions - one.instructions) / FURTHER:,.0f} instructions"
+    print(f"\n{told}")
+
+
 def main():
     given = read_words()
     with tempfile.TemporaryDirectory(prefix="afdx-bench-") as folder:
         bench = Bench(given, folder)
         if given.scaling:
-            head(GROWTH_HEAD)
-            sizes = [given.lines // 100, given.lines // 10, given.lines]
-            for lines in sizes:
-                show(bench.scaling("gigabit", max(1, lines), 400))
-            for links in (1, 64, 1024, 4096):
-                show(bench.scaling("gigabit", max(1, sizes[1]), links))
+            show_growth(bench, given.lines)
             return
-        built = None
+        built, empty = None, []
         if given.baseline:
-            built = bench.path("police_baseline")
+            built, empty = bench.path("police_baseline"), ["" for _ in RATIOS]
             subprocess.run(["cc", "-O2", "-o", built, BASELINE], check=True)
-        head(HEAD)
-        for name, options in POLICE:
-            if given.only in name:
-                for cells in bench.police(name, options, given.lines, built):
-                    show(cells)
-        for name, kind, is_admitted in REPLAY:
-            if given.only in name:
-                for cells in bench.replay(name, kind, is_admitted, given.lines):
-                    show(cells)
+        head([*HEAD, *(RATIOS if built else [])])
+        show_police(bench, given, built)
+        by_kind = show_replay(bench, given, empty)
         if given.only in SEND:
-            show(bench.send(given.lines))
+            show([*bench.send(given.lines).cells(), *empty])
+        if {"one", "copies"} <= set(by_kind):
+            show_copies(by_kind["one"], by_kind["copies"])
 
 
 if __name__ == "__main__":
