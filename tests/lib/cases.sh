@@ -1,4 +1,5 @@
 # Sourced by the tests in bash: counts cases, and tells each.
+# shellcheck shell=bash
 
 passed=0
 failed=0
