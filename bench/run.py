@@ -105,19 +105,19 @@ class Row(NamedTuple):
             f"{self.lines:,}",
             f"{self.size / 1e6:,.0f}",
             f"{self.seconds:.2f}",
-            f"{self.lines / self.seconds:,.0f}",
-            f"{self.size / self.seconds / 1e6:,.0f}",
+            f"{self.lines / self.seconds:,.0f}" if self.seconds else "-",
+            f"{self.size / self.seconds / 1e6:,.0f}" if self.seconds else "-",
             f"{memory / 1024:.1f} MiB",
             "-" if self.instructions is None else f"{self.instructions:,.0f}",
         ]
 
     def ratios(self, other):
         """How it compares with another program's row, whose runs took turns with these."""
-        turns = [one.user / two.user for one, two in zip(self.runs, other.runs)]
-        told = f"{statistics.median(turns):.2f}"
-        if None in (self.instructions, other.instructions):
-            return ["-", told]
-        return [f"{self.instructions / other.instructions:.2f}", told]
+        turns = [one.user / two.user for one, two in zip(self.runs, other.runs) if two.user]
+        return [
+            f"{self.instructions / other.instructions:.2f}" if self.instructions else "-",
+            f"{statistics.median(turns):.2f}" if turns else "-",
+        ]
 
 
 class Bench:

@@ -7,11 +7,13 @@
  * account per side, and print one V line per frame. Faults of the list are the same lines on
  * standard error with the same statuses.
  *
- * It is made for speed, in plain C that `cc -O2` compiles well. A line is read once, as if it were
- * sound; only one that isn't is looked at again, for its first fault. Digits are decoded in blocks
- * by arithmetic without branches, which the compiler turns into vectors. The check sequence takes
- * 16 bytes a step. Of what is printed the line's number is kept as digits and counted up in place,
- * and the verdicts are texts of one size, which are copied whole.
+ * It is made for speed, in plain C that `cc -O2` compiles well:
+ *
+ * - a line is read once, as if it were sound; one that isn't is looked at again for its first fault
+ * - digits are decoded in blocks by arithmetic without branches, which the compiler makes vectors
+ * - the check sequence takes 16 bytes a step, by 16 tables
+ * - the line's number is kept as digits, which are counted up in place
+ * - what is printed is copied from texts of one size, without a loop
  */
 #include <fcntl.h>
 #include <stdint.h>
@@ -51,9 +53,11 @@ static inline uint32_t folded(uint32_t four, int after) {
 
 static uint32_t check_sequence(const uint8_t *p, size_t n) {
     uint32_t r = 0xffffffffu;
-    for (; n >= 16; n -= 16, p += 16)
-        r = folded(four_bytes(p) ^ r, 12) ^ folded(four_bytes(p + 4), 8)
-          ^ folded(four_bytes(p + 8), 4) ^ folded(four_bytes(p + 12), 0);
+    for (; n >= 16; n -= 16, p += 16) {
+        r = folded(four_bytes(p) ^ r, 12);
+#pragma GCC unroll 12
+        for (int i = 4; i < 16; i++) r ^= table[15 - i][p[i]];
+    }
     for (; n >= 4; n -= 4, p += 4) r = folded(four_bytes(p) ^ r, 0);
     while (n--) r = r >> 8 ^ table[0][(r ^ *p++) & 255];
     return ~r;
@@ -63,23 +67,32 @@ static uint32_t check_sequence(const uint8_t *p, size_t n) {
 
 enum { BLOCK = 32 }; /* hexadecimal digits that are decoded at a time */
 
+/* The value of a hexadecimal digit. */
+static inline uint8_t value_of(uint8_t digit) {
+    uint8_t low = digit - '0', high = (digit | 32) - 'a' + 10;
+    return low < high ? low : high;
+}
+
+/* 0 if it is a hexadecimal digit. */
+static inline uint8_t wrong_in(uint8_t digit) {
+    uint8_t low = digit - '0', letter = (digit | 32) - 'a';
+    uint8_t not_low = low > 9 ? low - 9 : 0, not_letter = letter > 5 ? letter - 5 : 0;
+    return not_low < not_letter ? not_low : not_letter;
+}
+
 /* Decodes an even number of digits, a block or more; the answer is 0 where one is no digit. The
  * last block ends with the last digit, and so overlaps the one before it. */
 static int decode_blocks(const uint8_t *restrict digits, size_t n, uint8_t *restrict bytes) {
-    uint8_t value[BLOCK], wrong[BLOCK] = {0}, any = 0;
+    uint8_t wrong[BLOCK / 2] = {0}, any = 0;
     for (size_t at = 0;; at = at + 2 * BLOCK <= n ? at + BLOCK : n - BLOCK) {
-        for (int i = 0; i < BLOCK; i++) {
-            uint8_t low = digits[at + i] - '0', letter = (digits[at + i] | 32) - 'a';
-            uint8_t high = letter + 10;
-            uint8_t not_low = low > 9 ? low - 9 : 0, not_high = letter > 5 ? letter - 5 : 0;
-            value[i] = low < high ? low : high;
-            wrong[i] |= not_low < not_high ? not_low : not_high; /* 0 if it is one of them */
+        for (int i = 0; i < BLOCK / 2; i++) {
+            uint8_t first = digits[at + 2 * i], second = digits[at + 2 * i + 1];
+            bytes[at / 2 + i] = value_of(first) << 4 | value_of(second);
+            wrong[i] |= wrong_in(first) | wrong_in(second);
         }
-        for (int i = 0; i < BLOCK / 2; i++)
-            bytes[at / 2 + i] = value[2 * i] << 4 | value[2 * i + 1];
         if (at + BLOCK == n) break;
     }
-    for (int i = 0; i < BLOCK; i++) any |= wrong[i];
+    for (int i = 0; i < BLOCK / 2; i++) any |= wrong[i];
     return !any;
 }
 
