@@ -1,7 +1,3 @@
-pub mod EngineLemmas
-pub mod ListSourceLemmas
-pub mod ListRunLemmas
-pub mod RunLemmas
 pub mod TextLemmas
 pub mod ToldLemmas
 pub mod CheckLemmas

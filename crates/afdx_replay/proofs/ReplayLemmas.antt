@@ -31,10 +31,10 @@ use Rattle.afdx_replay.specs.ReplayText.{no_counts, with_admission, with_departu
 use Rattle.afdx_replay.specs.ReplayText.{with_lines}
 use Rattle.afdx_replay.specs.Replayed.{WritesSoFar, WritesSome, WritesAll, HasTold, AreTold}
 use Rattle.afdx_replay.specs.Replayed.{ToldAll, TellsDeparture, HasRoom}
-use Rattle.afdx_replay.specs.Listed.{frames, arrivals_of}
+use Rattle.afdx_run.specs.Listed.{frames, arrivals_of}
 use Rattle.afdx_replay.specs.declared.summary.Summary.{Summary}
-use Rattle.afdx_replay.specs.Stops.{StopsAt}
-use Rattle.afdx_replay.proofs.RunLemmas.{IsDone, GaveLines-start}
+use Rattle.afdx_run.specs.Stops.{StopsAt}
+use Rattle.afdx_run.proofs.RunLemmas.{IsDone, GaveLines-start}
 use Rattle.afdx_replay.proofs.TextLemmas.{front-whole, front-more}
 
 abbrev pub hand : Side → ℕ → ℕ → ℕ → List ℕ → HandedOver

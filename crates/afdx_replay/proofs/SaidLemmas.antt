@@ -20,8 +20,8 @@ use Rattle.afdx_lists.specs.SubmissionLines.{submission_form, submission_said}
 use Rattle.afdx_lists.proofs.FormLemmas.{says-from}
 use Rattle.afdx_lists.specs.declared.fault.LineFault.{LineFault}
 use Rattle.afdx_lists.specs.Lines.{most_lines}
-use Rattle.afdx_replay.specs.Lists.{with_item, item_said, items_of, fault_in, HaveNoFault}
-use Rattle.afdx_replay.specs.SendEvents.{Handed, submissions}
+use Rattle.afdx_run.specs.Lists.{with_item, item_said, items_of, fault_in, HaveNoFault}
+use Rattle.afdx_run.specs.Listed.{Handed, submissions}
 
 -- ---- bytes and UDP ports
 

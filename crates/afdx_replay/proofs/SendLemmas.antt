@@ -25,7 +25,8 @@ use Rattle.afdx_send.specs.declared.fault.SendFault.TheVariants.{TooLarge, Queue
 use Rattle.afdx_send.specs.declared.sender.Emission.{Emission}
 use Rattle.afdx_send.specs.declared.working.Working.{Working}
 use Rattle.afdx_replay.specs.ReplayText.{no_counts, with_lines}
-use Rattle.afdx_replay.specs.SendEvents.{Handed, submissions, message_of, Event, Emitted, Submitted}
+use Rattle.afdx_run.specs.Listed.{Handed, submissions}
+use Rattle.afdx_replay.specs.SendEvents.{message_of, Event, Emitted, Submitted}
 use Rattle.afdx_replay.specs.SendEvents.{submissions_in, turns_in, taken_by, calls_in, EachFollows}
 use Rattle.afdx_replay.specs.SendEvents.{AreDone}
 use Rattle.afdx_replay.specs.SendText.{emission_lines, event_lines, send_text, with_event, send_counts}
@@ -33,7 +34,7 @@ use Rattle.afdx_replay.specs.Sent.{Source, source_at, WritesSoFar, WritesSome, W
 use Rattle.afdx_replay.specs.SendCommand.{Sends}
 use Rattle.afdx_replay.specs.SendProgress.{HasTold, AreTold, ToldUntil, TellsSubmission, HasRoom}
 use Rattle.afdx_replay.specs.declared.summary.Summary.{Summary}
-use Rattle.afdx_replay.proofs.RunLemmas.{IsDone}
+use Rattle.afdx_run.proofs.RunLemmas.{IsDone}
 use Rattle.afdx_replay.proofs.TextLemmas.{front-whole, front-more}
 
 pub text-none : (s : SystemRow) → send_text s [] ≡ []

@@ -18,7 +18,8 @@ use Rattle.afdx_send.specs.Releases.{Submission}
 use Rattle.afdx_send.specs.Sender.{SenderHistory, IsNextIn}
 use Rattle.afdx_send.proofs.NewLemmas.{from_filter, distinct_links}
 use Rattle.afdx_send.specs.Laws.{IsBuildable}
-use Rattle.afdx_replay.specs.SendEvents.{Handed, Event, Emitted, Submitted, submissions_in}
+use Rattle.afdx_run.specs.Listed.{Handed}
+use Rattle.afdx_replay.specs.SendEvents.{Event, Emitted, Submitted, submissions_in}
 use Rattle.afdx_replay.specs.SendEvents.{turns_in, taken_by, calls_in, EachFollows}
 use Rattle.afdx_replay.specs.SendLaws.{IsTold, SentLinesAreArrivals}
 use Rattle.afdx_replay.proofs.EndToEndLemmas.{IsGood, taken-good, turn-buildable, of-frame}

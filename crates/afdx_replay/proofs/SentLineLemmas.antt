@@ -34,8 +34,8 @@ use Rattle.afdx_lists.proofs.FieldLemmas.{number_of_digits}
 use Rattle.afdx_lists.proofs.FormLemmas.{says_item}
 use Rattle.afdx_lists.proofs.LineLemmas.{lines_of_feed, lines_of_nothing}
 use Rattle.afdx_port.proofs.TurnLemmas.{eqb-other}
-use Rattle.afdx_replay.specs.Lists.{with_item, items_of, fault_in, fault_said, HaveNoFault}
-use Rattle.afdx_replay.specs.Listed.{frames, arrivals_of}
+use Rattle.afdx_run.specs.Lists.{with_item, items_of, fault_in, fault_said, HaveNoFault}
+use Rattle.afdx_run.specs.Listed.{frames, arrivals_of}
 use Rattle.afdx_replay.specs.PoliceText.{side_text}
 use Rattle.afdx_replay.specs.SendLaws.{IsArrival}
 use Rattle.afdx_replay.specs.SendText.{sent_line}

@@ -1,11 +1,3 @@
-pub mod Engine
-pub mod Items
-pub mod Lists
-pub mod Listed
-pub mod Stops
-pub mod Progress
-pub mod ListSource
-pub mod ListRun
 pub mod PoliceText
 pub mod Policed
 pub mod Policers

@@ -3,10 +3,10 @@ use Rattle.std.specs.Prelude.{ℕ, ◌≡◌, ◌≤◌, ◌+◌, List, length, 
 use Rattle.afdx_police.specs.Arrival.{Arrival}
 use Rattle.afdx_police.specs.Rule.{Rule}
 use Rattle.afdx_lists.specs.declared.frame_line.Heading.{Heading}
-use Rattle.afdx_replay.specs.Engine.{Item}
-use Rattle.afdx_replay.specs.Items.{arrivals}
-use Rattle.afdx_replay.specs.Listed.{frames}
-use Rattle.afdx_replay.specs.Lists.{latest_in}
+use Rattle.afdx_run.specs.Engine.{Item}
+use Rattle.afdx_run.specs.Items.{arrivals}
+use Rattle.afdx_run.specs.Listed.{frames}
+use Rattle.afdx_run.specs.Lists.{latest_in}
 use Rattle.afdx_replay.specs.PoliceText.{count_judged}
 use Rattle.afdx_replay.specs.Policed.{WritesText, WritesBeginning}
 use Rattle.afdx_replay.specs.Policers.{HaveSeen, AreUntil}

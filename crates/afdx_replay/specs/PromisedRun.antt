@@ -9,9 +9,9 @@ use Rattle.afdx_lists.specs.Calls.{AppendsFront}
 use Rattle.afdx_lists.specs.declared.fault.RunFault.{RunFault}
 use Rattle.afdx_promises.specs.Lines.{Line}
 use Rattle.afdx_promises.specs.Promises.{KeepsPromises, KeepsPromisesSoFar, EachIsToldOnce, EachIsToldOnceSoFar, StreamsAreAccepted}
-use Rattle.afdx_replay.specs.Listed.{AreSound, arrivals_of}
+use Rattle.afdx_run.specs.Listed.{AreSound, arrivals_of}
 use Rattle.afdx_replay.specs.ReplayPromises.{text_of, AreListed}
-use Rattle.afdx_replay.specs.Stops.{StopsAt}
+use Rattle.afdx_run.specs.Stops.{StopsAt}
 use Rattle.afdx_replay.specs.declared.summary.Summary.{Summary}
 
 -- all lines of the list were read, none has a fault, and of its arrivals and of all that leaves

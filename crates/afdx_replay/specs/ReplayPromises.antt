@@ -10,7 +10,7 @@ use Rattle.afdx_promises.specs.Lines.{Line, Verdict, Departed, Received, IsIn}
 use Rattle.afdx_promises.specs.Promises.{KeepsPromises, KeepsPromisesSoFar, EachIsToldOnce, EachIsToldOnceSoFar, StreamsAreAccepted}
 use Rattle.afdx_lists.specs.FrameLines.{ListedFrame}
 use Rattle.afdx_systems.specs.Receptions.{name_of, answer_line}
-use Rattle.afdx_replay.specs.Listed.{arrival_at, arrivals_of, said_after}
+use Rattle.afdx_run.specs.Listed.{arrival_at, arrivals_of, said_after}
 use Rattle.afdx_replay.specs.PoliceText.{verdict_line}
 use Rattle.afdx_replay.specs.ReplayText.{departure_line, replay_text, replay_counts}
 

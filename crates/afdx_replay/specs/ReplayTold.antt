@@ -5,10 +5,10 @@ use Rattle.afdx_config.specs.Rows.{Rows}
 use Rattle.afdx_lists.specs.Lines.{most_lines}
 use Rattle.afdx_lists.specs.declared.frame_line.Heading.{Heading}
 use Rattle.afdx_network.specs.Network as network
-use Rattle.afdx_replay.specs.Engine.{Item}
-use Rattle.afdx_replay.specs.Items.{arrivals}
-use Rattle.afdx_replay.specs.Listed.{frames}
-use Rattle.afdx_replay.specs.Lists.{latest_in}
+use Rattle.afdx_run.specs.Engine.{Item}
+use Rattle.afdx_run.specs.Items.{arrivals}
+use Rattle.afdx_run.specs.Listed.{frames}
+use Rattle.afdx_run.specs.Lists.{latest_in}
 use Rattle.afdx_replay.specs.Replayed.{Known, TellsArrivals, HasRoomFor, WritesSome, ToldAll}
 use Rattle.afdx_replay.specs.declared.replay_run.Replay.{Replay}
 

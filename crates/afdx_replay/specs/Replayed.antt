@@ -13,9 +13,9 @@ use Rattle.afdx_network.specs.Events.{Event, Left, Departure, arrivals_in}
 use Rattle.afdx_network.specs.Order.{IsAtArrival, events_of, events_so_far}
 use Rattle.afdx_network.specs.Network as network
 use Rattle.afdx_network.specs.declared.network.Network.{Network}
-use Rattle.afdx_replay.specs.Listed.{AreSound, arrivals_of}
+use Rattle.afdx_run.specs.Listed.{AreSound, arrivals_of}
 use Rattle.afdx_replay.specs.ReplayText.{replay_text, replay_counts, frames_left, lines_after, with_lines}
-use Rattle.afdx_replay.specs.Stops.{StopsAt}
+use Rattle.afdx_run.specs.Stops.{StopsAt}
 use Rattle.afdx_replay.specs.declared.replay_run.Replay.{Replay}
 use Rattle.afdx_replay.specs.declared.summary.Summary.{Summary}
 

@@ -3,27 +3,14 @@
 use Rattle.std.specs.Prelude.{ℕ, ◌<◌, ◌≤◌, ◌≡◌, ◌==◌, if◌then◌else◌, List, [], ◌∷◌, ◌++◌, length, map, Option, Some, None}
 use Rattle.afdx_port.specs.Times.{drain_end}
 use Rattle.afdx_config.specs.Rows.{SystemRow, LinkRow}
-use Rattle.afdx_lists.specs.SubmissionLines.{Submission, submission_said}
+use Rattle.afdx_lists.specs.SubmissionLines.{Submission}
 use Rattle.afdx_port.specs.Schedule.{Turn, end_of}
 use Rattle.afdx_send.specs.Frames.{Frame}
 use Rattle.afdx_send.specs.Releases as send
 use Rattle.afdx_send.specs.Sender.{SenderHistory, submission, IsNextIn, IsTaken, IsRefused, AreAllEmitted}
 use Rattle.afdx_send.specs.declared.fault.SendFault.{SendFault}
 use Rattle.afdx_send.specs.declared.fault.SendFault.TheVariants.{Memory}
-use Rattle.afdx_replay.specs.Lists.{Kind}
-
--- the submission of a line
-pub record Handed : Type 0 where
-  pub line : ℕ
-  pub submission : Submission
-
--- lists of submissions
-abbrev pub submissions : Kind Submission Handed
-submissions = record {
-  says = submission_said;
-  item = λ n s. record { line = n; submission = s };
-  time = λ x. x.submission.time;
-}
+use Rattle.afdx_run.specs.Listed.{Handed}
 
 -- an emission, in its slot of the system's port; or a submission, and why it was refused, if it was
 pub data Event : Type 0 where

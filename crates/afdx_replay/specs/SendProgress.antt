@@ -9,7 +9,8 @@ use Rattle.afdx_send.specs.Frames.{Frame}
 use Rattle.afdx_send.specs.Sender.{StandsFor, IsNextIn, last_time}
 use Rattle.afdx_send.specs.declared.fault.SendFault.{SendFault}
 use Rattle.afdx_send.specs.declared.working.Working.{Working}
-use Rattle.afdx_replay.specs.SendEvents.{Handed, Event, Submitted, submissions_in, turns_in, calls_in, EachFollows, IsAnswered, IsAtSubmission, AreDone}
+use Rattle.afdx_run.specs.Listed.{Handed}
+use Rattle.afdx_replay.specs.SendEvents.{Event, Submitted, submissions_in, turns_in, calls_in, EachFollows, IsAnswered, IsAtSubmission, AreDone}
 use Rattle.afdx_replay.specs.SendText.{send_text, send_counts}
 use Rattle.afdx_replay.specs.Sent.{Source}
 use Rattle.afdx_replay.specs.declared.summary.Summary.{Summary}

@@ -4,7 +4,8 @@ use Rattle.std.specs.Prelude.{ℕ, ◌≡◌, List, ◌++◌, Some}
 use Rattle.afdx_config.specs.Admission.{links_from}
 use Rattle.afdx_config.specs.Lawful.{IsLawful}
 use Rattle.afdx_config.specs.Rows.{SystemRow, Rows}
-use Rattle.afdx_replay.specs.SendEvents.{Handed, Event, AreEventsOf, IsAtSubmission}
+use Rattle.afdx_run.specs.Listed.{Handed}
+use Rattle.afdx_replay.specs.SendEvents.{Event, AreEventsOf, IsAtSubmission}
 use Rattle.afdx_replay.specs.Sent.{source_at, WritesSoFar}
 
 -- Events of the same submissions, up to the last of them, are the same.

@@ -6,10 +6,11 @@ use Rattle.afdx_config.specs.Rows.{SystemRow, LinkRow, Rows}
 use Rattle.afdx_lists.specs.Lines.{lines_of}
 use Rattle.afdx_lists.specs.Calls.{AppendsFront}
 use Rattle.afdx_lists.specs.declared.fault.RunFault.{RunFault}
-use Rattle.afdx_replay.specs.Lists.{items_of, HaveNoFault}
-use Rattle.afdx_replay.specs.Stops.{StopsIn}
+use Rattle.afdx_run.specs.Lists.{items_of, HaveNoFault}
+use Rattle.afdx_run.specs.Stops.{StopsIn}
 use Rattle.afdx_replay.specs.ReplayText.{with_lines}
-use Rattle.afdx_replay.specs.SendEvents.{Handed, submissions, Event, AreEventsOf, IsAtSubmission, AreDone}
+use Rattle.afdx_run.specs.Listed.{Handed, submissions}
+use Rattle.afdx_replay.specs.SendEvents.{Event, AreEventsOf, IsAtSubmission, AreDone}
 use Rattle.afdx_replay.specs.SendText.{send_text, send_counts}
 use Rattle.afdx_replay.specs.declared.summary.Summary.{Summary}
 

@@ -4,13 +4,9 @@
 mod admitted_run;
 mod check_command;
 mod ending;
-mod engine;
 pub mod laws;
-mod list_run;
-mod listed;
 mod police_command;
 mod police_run;
-mod read_list;
 mod refusing;
 mod replay_command;
 mod replay_lines;

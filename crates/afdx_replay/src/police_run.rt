@@ -9,16 +9,15 @@ ghost use Rattle.afdx_police.specs.Verdicts.{verdict_in};
 ghost use Rattle.afdx_lists.specs.Calls.{is_failed_read, is_failed_write};
 ghost use Rattle.afdx_lists.specs.FrameLines.{listed_frame};
 ghost use Rattle.afdx_lists.specs.Watching.{calls_of, device_of, has_ended, has_failed};
-ghost use Rattle.afdx_replay.specs.Listed.{arrival_at};
+ghost use Rattle.afdx_run.specs.Listed.{arrival_at};
 ghost use Rattle.afdx_replay.specs.Policed.{Answers};
 
-use crate::engine::Machine;
-use crate::list_run::run_list;
 use crate::summary::{NO_COUNTS, Summary};
 use crate::verdict::put_verdict;
 use afdx_frame::{Checked, Side};
 use afdx_lists::{Heading, RunFault, Text, Watched, write_text};
 use afdx_police::{LinkAccount, LinkRule, Reason};
+use afdx_run::{Machine, run_list};
 use std::alloc::{AllocError, Global};
 use std::io::{Read, Write};
 

@@ -17,13 +17,11 @@ ghost use Rattle.afdx_network.specs.Network as network;
 ghost use Rattle.afdx_lists.specs.FrameLines.{listed_frame};
 ghost use Rattle.afdx_lists.specs.Watching.{calls_of, device_of, has_ended, has_failed};
 ghost use Rattle.afdx_replay.specs.DefinedRun.{DefinedAnswers};
-ghost use Rattle.afdx_replay.specs.Listed.{arrival_at};
+ghost use Rattle.afdx_run.specs.Listed.{arrival_at};
 ghost use Rattle.afdx_replay.specs.Replayed.{WritesSome, Answers, ToldAll, TellsDeparture, HasRoom};
-ghost use Rattle.afdx_replay.specs.Engine.{IsOfOutput};
+ghost use Rattle.afdx_run.specs.Engine.{IsOfOutput};
 ghost use Rattle.afdx_replay.specs.ReplayText.{replay_counts, frames_left, with_admission};
 
-use crate::engine::Machine;
-use crate::list_run::run_list;
 use crate::replay_lines::{put_admission, put_departure, reason_of};
 use crate::summary::{NO_COUNTS, Summary};
 use afdx_config::Tables;
@@ -32,6 +30,7 @@ use afdx_lists::{Heading, RunFault, Text, Watched, write_text};
 use afdx_network::{Departed, Network};
 use afdx_police::Reason;
 use afdx_systems::{Handover, Systems};
+use afdx_run::{Machine, run_list};
 use std::alloc::{AllocError, Global};
 use std::io::{Read, Write};
 

@@ -8,14 +8,13 @@ ghost use Rattle.afdx_lists.specs.Texts.{text_bytes};
 ghost use Rattle.afdx_lists.specs.Calls.{is_failed_read, is_failed_write};
 ghost use Rattle.afdx_lists.specs.Watching.{calls_of, device_of, has_ended, has_failed};
 ghost use Rattle.afdx_send.specs.Sender.{StandsFor, IsQuiet, frames_held, last_time, sending_of};
-ghost use Rattle.afdx_replay.specs.SendEvents.{Handed as HandedSubmission, Event, submissions_in, calls_in};
+ghost use Rattle.afdx_run.specs.Listed.{Handed as HandedSubmission};
+ghost use Rattle.afdx_replay.specs.SendEvents.{Event, submissions_in, calls_in};
 ghost use Rattle.afdx_replay.specs.SendText.{sent_line, emission_lines, refusal_line, send_counts};
-ghost use Rattle.afdx_replay.specs.Engine.{IsOfOutput};
+ghost use Rattle.afdx_run.specs.Engine.{IsOfOutput};
 ghost use Rattle.afdx_replay.specs.Sent.{Source, source_at, WritesSome, Answers};
 ghost use Rattle.afdx_replay.specs.SendProgress.{handed_at, HasTold, AreTold, ToldUntil, TellsSubmission, HasRoom};
 
-use crate::engine::Machine;
-use crate::list_run::run_list;
 use crate::summary::{NO_COUNTS, Summary};
 use crate::verdict::side_letter;
 use afdx_admit::Admitted;
@@ -23,6 +22,7 @@ use afdx_config::SystemId;
 use afdx_frame::{Side, VlId};
 use afdx_lists::{Handed, RunFault, Text, Watched, write_text};
 use afdx_send::{Emission, SendFault, Sender};
+use afdx_run::{Machine, run_list};
 use std::alloc::{AllocError, Global};
 use std::io::{Read, Write};
 

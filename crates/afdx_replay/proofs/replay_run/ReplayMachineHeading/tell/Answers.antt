@@ -1,5 +1,5 @@
 use Rattle.std.proofs.Common.{arith, add-one, length}
-use Rattle.afdx_replay.specs.Items.{arrivals}
+use Rattle.afdx_run.specs.Items.{arrivals}
 use Rattle.afdx_replay.proofs.replay_run.ReplayMachineHeading.tell.Goals as goal
 
 pub returns-clause-told : goal.returns-clause-told

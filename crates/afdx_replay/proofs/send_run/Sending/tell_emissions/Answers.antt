@@ -1,6 +1,7 @@
 use Rattle.std.proofs.Common.{◌∙◌, ◌∷◌, List, subst, refl, arith}
 use Rattle.afdx_replay.specs.Sent.{WritesSome}
-use Rattle.afdx_replay.specs.SendEvents.{Handed, Emitted}
+use Rattle.afdx_run.specs.Listed.{Handed}
+use Rattle.afdx_replay.specs.SendEvents.{Emitted}
 use Rattle.afdx_replay.proofs.ReplayLemmas.{on-err}
 use Rattle.afdx_replay.proofs.SendLemmas.{told-emitted, told-later, told-some, begun-emitted, done-at, if-none}
 use Rattle.afdx_replay.proofs.send_run.Sending.tell_emissions.Goals as goal

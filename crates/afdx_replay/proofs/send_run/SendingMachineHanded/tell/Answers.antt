@@ -1,5 +1,5 @@
 use Rattle.std.proofs.Common.{arith, add-one, length}
-use Rattle.afdx_replay.specs.Items.{handed}
+use Rattle.afdx_run.specs.Items.{handed}
 use Rattle.afdx_replay.proofs.send_run.SendingMachineHanded.tell.Goals as goal
 
 pub returns-clause-told : goal.returns-clause-told

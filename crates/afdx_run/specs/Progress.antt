@@ -1,7 +1,7 @@
 -- How far a run has read its list, whatever kind of list it is.
 use Rattle.std.specs.Prelude.{ℕ, ◌≡◌, ◌≤◌, List, length, drop, Option, Some, None, ⊤}
 use Rattle.afdx_lists.specs.Lines.{lines_of}
-use Rattle.afdx_replay.specs.Lists.{Kind, HaveNoFault, items_of, latest_in}
+use Rattle.afdx_run.specs.Lists.{Kind, HaveNoFault, items_of, latest_in}
 
 module _ {Y X : Type 0} (k : Kind Y X) where
   -- the first n of these lines were read, they say these things, and `rest` is left

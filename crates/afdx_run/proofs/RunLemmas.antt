@@ -18,12 +18,12 @@ use Rattle.afdx_lists.specs.Lines.{HasTaken, TakesBytes, GaveWhole, most_lines, 
 use Rattle.afdx_lists.proofs.WholeLemmas.{HasTaken-part}
 use Rattle.afdx_lists.proofs.LineLemmas.{lines_of_nothing}
 use Rattle.afdx_lists.specs.Faults.{fault_at, fault_of_line, IsErrorOf}
-use Rattle.afdx_replay.specs.Engine.{IsOfOutput}
-use Rattle.afdx_replay.specs.Lists.{Kind, latest_in, with_item, items_of, item_said, fault_in}
-use Rattle.afdx_replay.specs.Lists.{fault_said, HaveFirstFault}
-use Rattle.afdx_replay.specs.Stops.{GaveLines, GavePart, GaveFault, IsToldOf, StopsAtFault, StopsIn}
-pub use Rattle.afdx_replay.specs.ListRun.{IsDone}
-use Rattle.afdx_replay.specs.Progress.{HasRead, HasComeIn}
+use Rattle.afdx_run.specs.Engine.{IsOfOutput}
+use Rattle.afdx_run.specs.Lists.{Kind, latest_in, with_item, items_of, item_said, fault_in}
+use Rattle.afdx_run.specs.Lists.{fault_said, HaveFirstFault}
+use Rattle.afdx_run.specs.Stops.{GaveLines, GavePart, GaveFault, IsToldOf, StopsAtFault, StopsIn}
+pub use Rattle.afdx_run.specs.ListRun.{IsDone}
+use Rattle.afdx_run.specs.Progress.{HasRead, HasComeIn}
 
 items_of_next : {Y X : Type 0} (k : Kind Y X) (lines : List (List ℕ)) (n : ℕ)
     → items_of k lines (n + 1) ≡ with_item k (n + 1) (item_said k lines n) (items_of k lines n)

@@ -4,19 +4,19 @@ ghost use Rattle.std.specs.Prelude.{◌≡◌, ◌<◌, ◌⊎◌, ◌∷◌, []
 ghost use Rattle.afdx_lists.specs.Calls.{is_failed_write};
 ghost use Rattle.afdx_lists.specs.Watching.{device_of, has_failed};
 ghost use Rattle.afdx_lists.specs.declared.fault.RunFault.{RunFault as Fault};
-ghost use Rattle.afdx_replay.specs.Engine.{Bytes, Item, item_of, IsOfOutput, Runs};
+ghost use Rattle.afdx_run.specs.Engine.{Bytes, Item, item_of, IsOfOutput, Runs};
 
 use afdx_lists::{RunFault, Watched};
 use std::io::Write;
 
 /// What is said of an item beside its bytes.
-pub(crate) trait Head: Copy {
+pub trait Head: Copy {
     /// Such an item may come after these.
     ghost can_follow: { List (Item Self) → Item Self → Type 0 };
 }
 
 /// What gives items one after another, from an input `I`.
-pub(crate) trait Source<H: Head, I> {
+pub trait Source<H: Head, I> {
     /// The item that was given last.
     ghost current: { Self → Item H };
 
@@ -59,7 +59,7 @@ pub(crate) trait Source<H: Head, I> {
 }
 
 /// What tells of each item.
-pub(crate) trait Machine<H: Head> {
+pub trait Machine<H: Head> {
     /// What it works by.
     ghost Rules: { Type 0 };
 
@@ -118,7 +118,7 @@ pub(crate) trait Machine<H: Head> {
 /// The text of an item is handed to `output` before the next one is asked for. The first fault ends
 /// the run: behind one of the source all items before it are told, behind one of the output, or
 /// want of memory, a beginning of that.
-pub(crate) fn drive<H: Head, I, S: Source<H, I>, M: Machine<H>, W: Write>(
+pub fn drive<H: Head, I, S: Source<H, I>, M: Machine<H>, W: Write>(
     source: &mut S,
     input: &mut I,
     machine: &mut M,

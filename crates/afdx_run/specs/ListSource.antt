@@ -8,12 +8,12 @@ use Rattle.afdx_lists.specs.Lines.{unread}
 use Rattle.afdx_lists.specs.declared.fault.RunFault.{RunFault}
 use Rattle.afdx_lists.specs.declared.line_reader.LineReader.{LineReader}
 use Rattle.afdx_lists.specs.declared.watched.Watched.{Watched}
-use Rattle.afdx_replay.specs.Engine.{Item, item_of}
-use Rattle.afdx_replay.specs.Items.{thing_of}
-use Rattle.afdx_replay.specs.Lists.{Kind, latest_in}
-use Rattle.afdx_replay.specs.Progress.{HasComeIn}
-use Rattle.afdx_replay.specs.Stops.{StopsIn}
-use Rattle.afdx_replay.specs.declared.read_list.ReadList.{ReadList}
+use Rattle.afdx_run.specs.Engine.{Item, item_of}
+use Rattle.afdx_run.specs.Items.{thing_of}
+use Rattle.afdx_run.specs.Lists.{Kind, latest_in}
+use Rattle.afdx_run.specs.Progress.{HasComeIn}
+use Rattle.afdx_run.specs.Stops.{StopsIn}
+use Rattle.afdx_run.specs.declared.read_list.ReadList.{ReadList}
 
 -- nothing was read yet
 pub record IsUnread (reader : LineReader) (latest : ℕ) : Type 0 where

@@ -1,6 +1,6 @@
 use Rattle.std.proofs.Common.{rules, ◌≡◌, ◌∷◌, [], Ok, Err, inl, inr, ap, sym, subst}
-use Rattle.afdx_replay.proofs.EngineLemmas.{told-some, runs-ended, same-item}
-use Rattle.afdx_replay.proofs.engine.drive.Goals as goal
+use Rattle.afdx_run.proofs.EngineLemmas.{told-some, runs-ended, same-item}
+use Rattle.afdx_run.proofs.engine.drive.Goals as goal
 
 pub loop-source-init : goal.loop-source-init
 loop-source-init g c = ([], search rules, c.requires.gave, λ law told. told)

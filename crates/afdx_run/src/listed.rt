@@ -4,10 +4,10 @@ ghost use Rattle.std.specs.Prelude.{refl};
 ghost use Rattle.afdx_lists.specs.FrameLines.{ListedFrame, listed_frame};
 ghost use Rattle.afdx_lists.specs.SubmissionLines.{Submission, submission_of};
 ghost use Rattle.afdx_police.specs.Arrival.{Arrival};
-ghost use Rattle.afdx_replay.specs.Items.{CanFollow, CanBeHanded};
-ghost use Rattle.afdx_replay.specs.Listed.{frames};
-ghost use Rattle.afdx_replay.specs.SendEvents.{submissions};
-ghost use Rattle.afdx_replay.specs.SendEvents as send;
+ghost use Rattle.afdx_run.specs.Items.{CanFollow, CanBeHanded};
+ghost use Rattle.afdx_run.specs.Listed.{frames};
+ghost use Rattle.afdx_run.specs.Listed.{submissions};
+ghost use Rattle.afdx_run.specs.Listed as listed;
 
 use crate::engine::Head;
 use crate::read_list::Listed;
@@ -60,7 +60,7 @@ impl Head for Handed {
 impl Listed for Handed {
     ghost Said = { Submission };
 
-    ghost Thing = { send.Handed };
+    ghost Thing = { listed.Handed };
 
     ghost kind = { submissions };
 

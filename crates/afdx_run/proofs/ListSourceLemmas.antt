@@ -16,12 +16,12 @@ use Rattle.std.proofs.Math.Dec.{leb}
 use Rattle.afdx_lists.specs.declared.line_reader.LineReader.{LineReader}
 use Rattle.afdx_lists.specs.declared.watched.Watched.{Watched}
 use Rattle.afdx_lists.proofs.WholeLemmas.{HasTaken-start, HasTaken-next, HasTaken-stop}
-use Rattle.afdx_replay.specs.Engine.{Item}
-use Rattle.afdx_replay.specs.Lists.{Kind}
-use Rattle.afdx_replay.specs.ListSource.{GaveOf, StoppedOf, IsUnread}
-use Rattle.afdx_replay.specs.Stops.{GaveLines, StopsIn}
-use Rattle.afdx_replay.proofs.RunLemmas.{IsTaken, HasCome-start, HasCome-next, GaveLines-taken}
-use Rattle.afdx_replay.proofs.RunLemmas.{stops-line, stops-reader}
+use Rattle.afdx_run.specs.Engine.{Item}
+use Rattle.afdx_run.specs.Lists.{Kind}
+use Rattle.afdx_run.specs.ListSource.{GaveOf, StoppedOf, IsUnread}
+use Rattle.afdx_run.specs.Stops.{GaveLines, StopsIn}
+use Rattle.afdx_run.proofs.RunLemmas.{IsTaken, HasCome-start, HasCome-next, GaveLines-taken}
+use Rattle.afdx_run.proofs.RunLemmas.{stops-line, stops-reader}
 
 -- what `next_line` ensures where it took a line
 pub record TookLine {R : Type 0} (remaining : R → Option (List ℕ)) (before : LineReader) (old : Watched R)

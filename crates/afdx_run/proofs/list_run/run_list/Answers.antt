@@ -1,9 +1,9 @@
 use Rattle.std.proofs.Common.{rules, ◌≡◌, Err}
-use Rattle.afdx_replay.specs.Items.{thing_of}
-use Rattle.afdx_replay.proofs.ListSourceLemmas.{gave-start}
-use Rattle.afdx_replay.proofs.ListRunLemmas.{fault-read, fault-calls, fault-answers, start-answers}
-use Rattle.afdx_replay.proofs.ListRunLemmas.{done-read, done-ended, done-calls, done-answers}
-use Rattle.afdx_replay.proofs.list_run.run_list.Goals as goal
+use Rattle.afdx_run.specs.Items.{thing_of}
+use Rattle.afdx_run.proofs.ListSourceLemmas.{gave-start}
+use Rattle.afdx_run.proofs.ListRunLemmas.{fault-read, fault-calls, fault-answers, start-answers}
+use Rattle.afdx_run.proofs.ListRunLemmas.{done-read, done-ended, done-calls, done-answers}
+use Rattle.afdx_run.proofs.list_run.run_list.Goals as goal
 
 pub returns-in_err-list-clause-answer : goal.returns-in_err-list-clause-answer
 returns-in_err-list-clause-answer g c law start =

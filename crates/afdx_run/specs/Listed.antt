@@ -1,10 +1,11 @@
--- The arrivals that the lines of a frame list say.
--- A list of arrivals has the newest first.
+-- What the lines of a list say: the arrivals of a list of frames, the submissions of a list of
+-- messages. A list of them has the newest first.
 use Rattle.std.specs.Prelude.{ℕ, List, Option, Result}
 use Rattle.afdx_police.specs.Arrival.{Arrival}
 use Rattle.afdx_lists.specs.FrameLines.{ListedFrame, line_says}
+use Rattle.afdx_lists.specs.SubmissionLines.{Submission, submission_said}
 use Rattle.afdx_lists.specs.declared.fault.LineFault.{LineFault}
-use Rattle.afdx_replay.specs.Lists.{Kind, item_after, items_of, HaveNoFault}
+use Rattle.afdx_run.specs.Lists.{Kind, item_after, items_of, HaveNoFault}
 
 -- the arrival of the frame of line n
 abbrev pub arrival_at : ℕ → ListedFrame → Arrival
@@ -26,3 +27,16 @@ arrivals_of lines n = items_of frames lines n
 -- none of the first n lines has a fault
 abbrev pub AreSound : List (List ℕ) → ℕ → Type 0
 AreSound lines n = HaveNoFault frames lines n
+
+-- the submission of a line
+pub record Handed : Type 0 where
+  pub line : ℕ
+  pub submission : Submission
+
+-- lists of submissions
+abbrev pub submissions : Kind Submission Handed
+submissions = record {
+  says = submission_said;
+  item = λ n s. record { line = n; submission = s };
+  time = λ x. x.submission.time;
+}

@@ -1,8 +1,8 @@
 use Rattle.std.proofs.Common.{rules, arith, ◌≡◌, ◌∙◌, sym, ap, Ok, Err, true, refl}
-use Rattle.afdx_replay.specs.Engine.{item_of}
-use Rattle.afdx_replay.specs.Items.{thing_of}
-use Rattle.afdx_replay.proofs.ListSourceLemmas.{TookLine, gave-skip, gave-item, stopped-line, stopped-reader}
-use Rattle.afdx_replay.proofs.read_list.ReadListSourceWatched.next.Goals as goal
+use Rattle.afdx_run.specs.Engine.{item_of}
+use Rattle.afdx_run.specs.Items.{thing_of}
+use Rattle.afdx_run.proofs.ListSourceLemmas.{TookLine, gave-skip, gave-item, stopped-line, stopped-reader}
+use Rattle.afdx_run.proofs.read_list.ReadListSourceWatched.next.Goals as goal
 
 pub returns-in_err-next_line-clause-stop : goal.returns-in_err-next_line-clause-stop
 returns-in_err-next_line-clause-stop g c start past h =

@@ -1,6 +1,6 @@
 use Rattle.std.proofs.Common.{◌≡◌, [], List, false}
-use Rattle.afdx_replay.specs.Engine.{Item}
-use Rattle.afdx_replay.proofs.engine.drive.Given as goal
+use Rattle.afdx_run.specs.Engine.{Item}
+use Rattle.afdx_run.proofs.engine.drive.Given as goal
 
 abbrev pub invariant-loop-source : goal.invariant-loop-source
 invariant-loop-source g l =

@@ -1,9 +1,9 @@
 use Rattle.std.proofs.Common.{◌≤◌, ◌-◌, List}
 use Rattle.afdx_lists.specs.Lines.{lines_taken, most_lines}
 use Rattle.afdx_lists.specs.declared.watched.Watched.{Watched}
-use Rattle.afdx_replay.specs.Engine.{Item}
-use Rattle.afdx_replay.specs.ListSource.{HasGiven}
-use Rattle.afdx_replay.proofs.read_list.ReadListSourceWatched.next.Given as goal
+use Rattle.afdx_run.specs.Engine.{Item}
+use Rattle.afdx_run.specs.ListSource.{HasGiven}
+use Rattle.afdx_run.proofs.read_list.ReadListSourceWatched.next.Given as goal
 
 abbrev pub invariant-loop-self : goal.invariant-loop-self
 invariant-loop-self g l = record {

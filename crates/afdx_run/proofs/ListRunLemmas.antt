@@ -8,14 +8,14 @@ use Rattle.afdx_lists.specs.declared.fault.RunFault.TheVariants as run
 use Rattle.afdx_lists.specs.declared.fault.LineFault.{LineFault}
 use Rattle.afdx_lists.specs.declared.line_reader.LineReader.{LineReader}
 use Rattle.afdx_lists.specs.declared.watched.Watched.{Watched}
-use Rattle.afdx_replay.specs.Engine.{Item, IsOfOutput, Runs, without_newest}
-use Rattle.afdx_replay.specs.Lists.{Kind, items_of, item_said, with_item}
-use Rattle.afdx_replay.specs.ListSource.{GaveOf, EndedOf, StoppedOf}
-use Rattle.afdx_replay.specs.Progress.{HasRead, HasComeIn}
-use Rattle.afdx_replay.specs.Stops.{GaveLines, StopsIn}
-use Rattle.afdx_replay.proofs.RunLemmas.{GaveLines-taken, GaveLines-end, GaveLines-less, HasCome-done}
-use Rattle.afdx_replay.proofs.RunLemmas.{stops-at-start, stops-more, stops-output}
-use Rattle.afdx_replay.specs.ListRun.{Of, IsDone, ListAnswers}
+use Rattle.afdx_run.specs.Engine.{Item, IsOfOutput, Runs, without_newest}
+use Rattle.afdx_run.specs.Lists.{Kind, items_of, item_said, with_item}
+use Rattle.afdx_run.specs.ListSource.{GaveOf, EndedOf, StoppedOf}
+use Rattle.afdx_run.specs.Progress.{HasRead, HasComeIn}
+use Rattle.afdx_run.specs.Stops.{GaveLines, StopsIn}
+use Rattle.afdx_run.proofs.RunLemmas.{GaveLines-taken, GaveLines-end, GaveLines-less, HasCome-done}
+use Rattle.afdx_run.proofs.RunLemmas.{stops-at-start, stops-more, stops-output}
+use Rattle.afdx_run.specs.ListRun.{Of, IsDone, ListAnswers}
 
 not_read : (fault : RunFault) → IsOfOutput fault → is_read fault ≡ false
 not_read fault (inl e) = rw e refl

@@ -4,8 +4,8 @@ ghost use Rattle.std.specs.Prelude.{◌≡◌, ◌+◌, ◌≤◌, [], IfSome, O
 ghost use Rattle.afdx_lists.specs.Calls.{is_failed_read, is_failed_write};
 ghost use Rattle.afdx_lists.specs.Lines.{most_reads};
 ghost use Rattle.afdx_lists.specs.Watching.{calls_of, device_of, has_ended, has_failed};
-ghost use Rattle.afdx_replay.specs.Items.{thing_of};
-ghost use Rattle.afdx_replay.specs.ListRun.{ListAnswers};
+ghost use Rattle.afdx_run.specs.Items.{thing_of};
+ghost use Rattle.afdx_run.specs.ListRun.{ListAnswers};
 
 use crate::engine::{Machine, drive};
 use crate::read_list::{Listed, ReadList};
@@ -19,7 +19,7 @@ use std::io::{Read, Write};
 /// be read ends the run with its first fault; the text of the lines before it stands written.
 /// `RunFault::Read` and `RunFault::Write` come exactly where the input's or the output's device
 /// failed; neither is tried again.
-pub(crate) fn run_list<H: Listed, R: Read, M: Machine<H>, W: Write>(
+pub fn run_list<H: Listed, R: Read, M: Machine<H>, W: Write>(
     alloc: Global,
     machine: &mut M,
     input: &mut Watched<R>,

@@ -4,9 +4,9 @@ ghost use Rattle.std.specs.Prelude.{◌≡◌, ◌≤◌, ◌<◌, ◌-◌, ℕ,
 ghost use Rattle.afdx_frame.specs.Times.{latest_listed};
 ghost use Rattle.afdx_lists.specs.Faults.{IsErrorOf};
 ghost use Rattle.afdx_lists.specs.Lines.{lines_taken, most_lines};
-ghost use Rattle.afdx_replay.specs.Engine.{Item, item_of};
-ghost use Rattle.afdx_replay.specs.Items.{thing_of};
-ghost use Rattle.afdx_replay.specs.Lists.{Kind, latest_in};
+ghost use Rattle.afdx_run.specs.Engine.{Item, item_of};
+ghost use Rattle.afdx_run.specs.Items.{thing_of};
+ghost use Rattle.afdx_run.specs.Lists.{Kind, latest_in};
 
 use crate::engine::{Head, Source};
 use afdx_lists::{LineError, LineReader, RunFault, Watched};
@@ -14,7 +14,7 @@ use std::alloc::{AllocError, Global};
 use std::io::Read;
 
 /// What a line of a list says beside its bytes.
-pub(crate) trait Listed: Head {
+pub trait Listed: Head {
     /// What a line says.
     ghost Said: { Type 0 };
 
@@ -57,17 +57,17 @@ pub(crate) trait Listed: Head {
 
 /// A list, and what its last line says of those that were read.
 #[derive(Drop)]
-pub(crate) struct ReadList<H> {
+pub struct ReadList<H> {
     reader: LineReader,
     head: H,
     bytes: Vec<u8>,
 }
 
 impl<H: Listed> ReadList<H> {
-    ghost use Rattle.afdx_replay.specs.ListSource.{IsUnread};
+    ghost use Rattle.afdx_run.specs.ListSource.{IsUnread};
 
     /// A list of which nothing was read yet.
-    pub(crate) fn new(alloc: Global) -> Result<ReadList<H>, AllocError>
+    pub fn new(alloc: Global) -> Result<ReadList<H>, AllocError>
         ensures { IfOk result (λ list. IsUnread list.reader (H.time_of list.head)) }
     {
         Ok(ReadList {
@@ -78,7 +78,7 @@ impl<H: Listed> ReadList<H> {
     }
 
     /// The number of lines that were read.
-    pub(crate) fn lines(&self) -> u64
+    pub fn lines(&self) -> u64
         ensures { result ≡ lines_taken self.now.reader }
     {
         self.reader.lines()
@@ -86,7 +86,7 @@ impl<H: Listed> ReadList<H> {
 }
 
 impl<H: Listed, R: Read> Source<H, Watched<R>> for ReadList<H> {
-    ghost use Rattle.afdx_replay.specs.ListSource.{item_given, HasGiven, HasEnded, HasStopped};
+    ghost use Rattle.afdx_run.specs.ListSource.{item_given, HasGiven, HasEnded, HasStopped};
 
     ghost current = { item_given };
 

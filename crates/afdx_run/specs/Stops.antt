@@ -6,8 +6,8 @@ use Rattle.afdx_lists.specs.Lines.{lines_of, longest_line, GaveWhole}
 use Rattle.afdx_lists.specs.declared.fault.RunFault.{RunFault}
 use Rattle.afdx_lists.specs.declared.fault.RunFault.TheVariants.{Read, Write, Memory}
 use Rattle.afdx_lists.specs.declared.fault.RunFault.TheVariants.{TooManyLines, LineTooLong}
-use Rattle.afdx_replay.specs.Lists.{Kind, items_of, HaveNoFault, HaveFirstFault}
-use Rattle.afdx_replay.specs.Listed.{frames}
+use Rattle.afdx_run.specs.Lists.{Kind, items_of, HaveNoFault, HaveFirstFault}
+use Rattle.afdx_run.specs.Listed.{frames}
 
 -- the first n lines were read: the input gave at least n whole ones; or nothing of it is left, so
 -- that its last line was read too, which may have no line feed

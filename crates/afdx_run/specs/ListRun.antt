@@ -2,9 +2,9 @@
 use Rattle.std.specs.Prelude.{ℕ, ◌≡◌, ◌⊎◌, List, length, map, Option, Result, Ok, Err}
 use Rattle.afdx_lists.specs.Lines.{lines_of}
 use Rattle.afdx_lists.specs.declared.fault.RunFault.{RunFault}
-use Rattle.afdx_replay.specs.Engine.{Item}
-use Rattle.afdx_replay.specs.Lists.{Kind, items_of, HaveNoFault}
-use Rattle.afdx_replay.specs.Stops.{StopsIn}
+use Rattle.afdx_run.specs.Engine.{Item}
+use Rattle.afdx_run.specs.Lists.{Kind, items_of, HaveNoFault}
+use Rattle.afdx_run.specs.Stops.{StopsIn}
 
 -- these are what some items say of which this is told
 abbrev pub Of : {H X : Type 0} → (Item H → X) → (List (Item H) → Type 0) → List X → Type 0

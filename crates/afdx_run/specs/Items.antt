@@ -8,11 +8,11 @@ use Rattle.afdx_lists.specs.Lines.{most_lines}
 use Rattle.afdx_lists.specs.SubmissionLines.{submission_of}
 use Rattle.afdx_lists.specs.declared.frame_line.Heading.{Heading}
 use Rattle.afdx_lists.specs.declared.submission_line.Handed.{Handed}
-use Rattle.afdx_replay.specs.Engine.{Item}
-use Rattle.afdx_replay.specs.Lists.{Kind, latest_in}
-use Rattle.afdx_replay.specs.Listed.{frames}
-use Rattle.afdx_replay.specs.SendEvents.{submissions}
-use Rattle.afdx_replay.specs.SendEvents as send
+use Rattle.afdx_run.specs.Engine.{Item}
+use Rattle.afdx_run.specs.Lists.{Kind, latest_in}
+use Rattle.afdx_run.specs.Listed.{frames}
+use Rattle.afdx_run.specs.Listed.{submissions}
+use Rattle.afdx_run.specs.Listed as listed
 
 -- what an item says: its line says `says_of` its head and its bytes
 abbrev pub thing_of : {H Y X : Type 0} → Kind Y X → (H → List ℕ → Y) → Item H → X
@@ -23,7 +23,7 @@ abbrev pub arrivals : List (Item Heading) → List Arrival
 arrivals past = map (thing_of frames listed_frame) past
 
 -- the submissions of those of a list of messages
-abbrev pub handed : List (Item Handed) → List send.Handed
+abbrev pub handed : List (Item Handed) → List listed.Handed
 handed past = map (thing_of submissions submission_of) past
 
 -- the limits of a list: an item may come after these, no earlier than they, not too late, and there

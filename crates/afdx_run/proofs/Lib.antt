@@ -1,0 +1,4 @@
+pub mod EngineLemmas
+pub mod ListSourceLemmas
+pub mod ListRunLemmas
+pub mod RunLemmas

@@ -1,0 +1,12 @@
+//! One run: a source gives items, one after another, and a machine tells each before the next is
+//! asked for. The source here is a list that is read line by line.
+#![tactic(auto)]
+
+mod engine;
+mod list_run;
+mod listed;
+mod read_list;
+
+pub use engine::{Head, Machine, Source, drive};
+pub use list_run::run_list;
+pub use read_list::{Listed, ReadList};
