@@ -8,6 +8,7 @@ bench/make_list.py, bench/make_network.py and bench/make_messages.py. Each list 
 where it isn't given) from a file into /dev/null. One table in Markdown is printed:
 
     seconds        user and system seconds together, the least of the runs
+    user seconds   the least of the runs
     peak memory    the greatest of the runs
     instructions   for each line, by valgrind's callgrind, the run of 20,000 lines less that of
                    none; `-` where valgrind isn't installed
@@ -69,6 +70,7 @@ HEAD = [
     "lines",
     "MB",
     "seconds",
+    "user seconds",
     "lines a second",
     "MB a second",
     "peak memory",
@@ -105,6 +107,7 @@ class Row(NamedTuple):
             f"{self.lines:,}",
             f"{self.size / 1e6:,.0f}",
             f"{self.seconds:.2f}",
+            f"{min(run.user for run in self.runs):.2f}",
             f"{self.lines / self.seconds:,.0f}" if self.seconds else "-",
             f"{self.size / self.seconds / 1e6:,.0f}" if self.seconds else "-",
             f"{memory / 1024:.1f} MiB",
