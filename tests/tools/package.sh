@@ -30,11 +30,16 @@ installed_tests() { # DEB
         done
         (cd "$root" && md5sum --quiet -c var/lib/dpkg/info/afdx.md5sums 2>&1)
     )"
-    launch env -u AFDX "$root/usr/bin/afdx-report" examples/base.toml examples/one_link.list --json
-    tell 'a tool of the package finds its program' "$(
-        is_status 0
-        wants_number "$work/out" 'r["totals"]["frames"]' 3
-    )"
+    if [[ -n $numpy ]]; then
+        launch env -u AFDX "$root/usr/bin/afdx-report" examples/base.toml \
+            examples/one_link.list --json
+        tell 'a tool of the package finds its program' "$(
+            is_status 0
+            wants_number "$work/out" 'r["totals"]["frames"]' 3
+        )"
+    else
+        skip 'a tool of the package finds its program' 'there is no package numpy'
+    fi
     launch "$root/usr/bin/afdx-capture" --version
     tell 'a tool of the package knows its version' "$(says out "$version")"
     if [[ $(id -u) -eq 0 ]]; then
