@@ -15,7 +15,7 @@ use Rattle.afdx_switch.specs.HeldFrames.{HeldFrame}
 use Rattle.afdx_switch.specs.Switching as switch
 use Rattle.afdx_switch.specs.Switching.{SwitchHistory, IsDone, taken_at}
 use Rattle.afdx_switch.specs.Tables.{byte_ns_at, entries_at}
-use Rattle.afdx_switch.specs.declared.working.Working.{Working}
+use Rattle.afdx_switch.specs.declared.switch_state.SwitchState.{SwitchState}
 use Rattle.afdx_switch.proofs.LawLemmas.{taken-turns}
 use Rattle.afdx_switch.proofs.StandsLemmas.{found-at}
 use Rattle.afdx_network.specs.Events.{Event, Came, Left, turns_at, departures_of, all_events}
@@ -29,7 +29,7 @@ use Rattle.afdx_network.proofs.EventLemmas.{at-port-of, is-departure, is-admissi
 use Rattle.afdx_network.proofs.EventLemmas.{came-all, came-own, left-all, left-own}
 use Rattle.afdx_network.proofs.TurnLemmas.{IsLater, split-later, join-later, later-after}
 
-entries-timed : (t : Rows) (side : Side) (w : Working) (h : SwitchHistory) (port : ℕ)
+entries-timed : (t : Rows) (side : Side) (w : SwitchState) (h : SwitchHistory) (port : ℕ)
     → switch.StandsFor t side w h → 1 ≤ port → port ≤ 24 → AreTimed (entries_at t side port h.arrivals)
 entries-timed t side w h zero st low high = absurd (omega (arith, low))
 entries-timed t side w h (suc i) st low high =
@@ -43,7 +43,7 @@ record Splits (t : Rows) (events : List Event) (side : Side) (port : ℕ) : Type
   are : AreTurns (byte_ns_at t port) (entries_at t side port (arrivals_in events))
       (more ++ taken_at port (turns_on side events))
 
-splits-on : (t : Rows) (side : Side) (w : Working) (events : List Event) (time port : ℕ)
+splits-on : (t : Rows) (side : Side) (w : SwitchState) (events : List Event) (time port : ℕ)
     → switch.StandsFor t side w (calls_on side events time) → 1 ≤ port → port ≤ 24
     → Splits t events side port
 unfolding turns_at
@@ -59,7 +59,7 @@ splits-on t side w events time port st low high =
           (entries_at t side port (arrivals_in events)) ts) r.1 all.each_next;
     }
 
-done-on : (t : Rows) (side : Side) (w : Working) (events : List Event) (time port : ℕ)
+done-on : (t : Rows) (side : Side) (w : SwitchState) (events : List Event) (time port : ℕ)
     → switch.StandsFor t side w (calls_on side events time) → 1 ≤ port → port ≤ 24
     → IsDone t side (calls_on side events time) port →
     turns_at t side port (arrivals_in events) ≡ taken_at port (turns_on side events)

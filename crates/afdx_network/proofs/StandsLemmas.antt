@@ -20,7 +20,7 @@ use Rattle.afdx_switch.specs.Switching.{SwitchHistory, PortTurn, IsNextAt, IsNex
 use Rattle.afdx_switch.specs.Switching.{GoesBefore, taken_at, with_arrival, with_take}
 use Rattle.afdx_switch.specs.Tables.{byte_ns_at, entries_at}
 use Rattle.afdx_switch.specs.declared.switch.Departure as switch_departure
-use Rattle.afdx_switch.specs.declared.working.Working.{Working}
+use Rattle.afdx_switch.specs.declared.switch_state.SwitchState.{SwitchState}
 use Rattle.afdx_switch.proofs.LawLemmas.{other-side-apart}
 use Rattle.afdx_switch.proofs.TakeLemmas.{quiet-next}
 use Rattle.afdx_network.specs.Events.{Event, Came, Left, departure_with, admission_after}
@@ -171,7 +171,7 @@ module _ (t : Rows) (n : Network) (events : List Event) (st : StandsFor t n even
     ]
 
   -- side A gives the next departure
-  pub stands-left-a : (a : Working) (until port : ℕ) (s : Turn HeldFrame) → 1 ≤ port → port ≤ 24
+  pub stands-left-a : (a : SwitchState) (until port : ℕ) (s : Turn HeldFrame) → 1 ≤ port → port ≤ 24
       → IsNextOn t events A port s → IsFirstTurn t events A port s → IsBy until (due_at s)
       → switch.last_time n.a ≤ until →
       switch.StandsFor t A a (with_take (calls_on A events (switch.last_time n.a))
@@ -194,7 +194,7 @@ module _ (t : Rows) (n : Network) (events : List Event) (st : StandsFor t n even
     next = next-stays A port s low high next first;
   }
 
-  pub stands-left-b : (b : Working) (until port : ℕ) (s : Turn HeldFrame) → 1 ≤ port → port ≤ 24
+  pub stands-left-b : (b : SwitchState) (until port : ℕ) (s : Turn HeldFrame) → 1 ≤ port → port ≤ 24
       → IsNextOn t events B port s → IsFirstTurn t events B port s → IsBy until (due_at s)
       → switch.last_time n.b ≤ until →
       switch.StandsFor t B b (with_take (calls_on B events (switch.last_time n.b))
@@ -301,7 +301,7 @@ module _ (t : Rows) (n : Network) (events : List Event) (st : StandsFor t n even
   if-more None m k le h = tt
   if-more (Some d) m k le h = omega (arith, le, h)
 
-  pub gives-a : (a : Working) (until : ℕ) (value : switch_departure.Departure)
+  pub gives-a : (a : SwitchState) (until : ℕ) (value : switch_departure.Departure)
       (due_a due_b : Option Due) → IsAFirst until due_a due_b → switch.last_time n.a ≤ until →
       IfSome due_a (λ d. IsDue t A (calls_on A events (switch.last_time n.a)) d)
       → IfSome due_b (λ d. IsDue t B (calls_on B events (switch.last_time n.b)) d) →
@@ -325,7 +325,7 @@ module _ (t : Rows) (n : Network) (events : List Event) (st : StandsFor t n even
             g.in_time clock g.stands;
       }
 
-  pub gives-b : (b : Working) (until : ℕ) (value : switch_departure.Departure)
+  pub gives-b : (b : SwitchState) (until : ℕ) (value : switch_departure.Departure)
       (due_a due_b : Option Due) → IsBFirst until due_a due_b → switch.last_time n.b ≤ until →
       IfSome due_b (λ d. IsDue t B (calls_on B events (switch.last_time n.b)) d)
       → IfSome due_a (λ d. IsDue t A (calls_on A events (switch.last_time n.a)) d) →
@@ -394,7 +394,7 @@ module _ (t : Rows) (n : Network) (events : List Event) (st : StandsFor t n even
               (Left (departure_after came side port s)) (came-after e old) up
         ]
 
-  pub stands-came-a : (a : Working) (tag time port : ℕ) (bytes : List ℕ) → IsUntil n time
+  pub stands-came-a : (a : SwitchState) (tag time port : ℕ) (bytes : List ℕ) → IsUntil n time
       → switch.StandsFor t A a (with_arrival (calls_on A events (switch.last_time n.a))
       (arrival_with tag time A port bytes)) →
       switch.IsQuiet a time → switch.IsQuiet n.b time
@@ -442,7 +442,7 @@ module _ (t : Rows) (n : Network) (events : List Event) (st : StandsFor t n even
           (Came (admission_after t (arrivals_in events) (arrival_with tag time A port bytes))
           ∷ events) (switch.last_time n.b)) on_b time quiet_b number s low high next
 
-  pub stands-came-b : (b : Working) (tag time port : ℕ) (bytes : List ℕ) → IsUntil n time
+  pub stands-came-b : (b : SwitchState) (tag time port : ℕ) (bytes : List ℕ) → IsUntil n time
       → switch.StandsFor t B b (with_arrival (calls_on B events (switch.last_time n.b))
       (arrival_with tag time B port bytes)) →
       switch.IsQuiet n.a time → switch.IsQuiet b time

@@ -5,7 +5,7 @@ use Rattle.std.proofs.Common.{arith, ◌∙◌}
 use Rattle.std.specs.List.{slice_get}
 use Rattle.std.proofs.lemmas.Bool.{cases_lt}
 use Rattle.afdx_port.specs.declared.left.Due.{Due}
-use Rattle.afdx_port.specs.declared.pending.Pending.{Pending}
+use Rattle.afdx_port.specs.declared.port_state.PortState.{PortState}
 use Rattle.afdx_port.specs.Facts.{Facts}
 use Rattle.afdx_port.specs.Due.{given_at, IsBy, IsAfter, order_of}
 use Rattle.afdx_port.specs.Held.{due_of, IsQuiet}
@@ -43,8 +43,8 @@ by-then until (Some d) loud = elim (cases_lt until (given_at d)) [
 pub order-is : (o : Option Due) (d : Due) → o ≡ Some d → order_at o ≡ order_of d
 order-is o d is = ap order_at is
 
-module _ {X : Type 0} (facts : X → Facts) (ports : List (Pending X)) where
-  pub limit-step : (n : ℕ) (q : Pending X) → slice_get ports n ≡ Some q
+module _ {X : Type 0} (facts : X → Facts) (ports : List (PortState X)) where
+  pub limit-step : (n : ℕ) (q : PortState X) → slice_get ports n ≡ Some q
       → IfSome (due_of facts q) (λ d. given_at d ≤ 1200000000000000) →
       AreLimited facts ports n → AreLimited facts ports (n + 1)
   limit-step n q here within h = λ j r d lt stands due. elim (cases_lt j n) [
@@ -58,12 +58,12 @@ module _ {X : Type 0} (facts : X → Facts) (ports : List (Pending X)) where
         subst P some within)
   ]
 
-  module _ (place until : ℕ) (served : AreServed facts ports place) (p : Pending X)
+  module _ (place until : ℕ) (served : AreServed facts ports place) (p : PortState X)
       (at : slice_get ports place ≡ Some p) where
     same-first : served.first.p ≡ p
     same-first = let there = served.first.stands in cc
 
-    before-each : (j : ℕ) (q : Pending X) → j < length ports → slice_get ports j ≡ Some q
+    before-each : (j : ℕ) (q : PortState X) → j < length ports → slice_get ports j ≡ Some q
         → order_at (due_of facts p) ≤ order_at (due_of facts q)
     before-each j q below there = subst (λ z. order_at (due_of facts z) ≤ order_at (due_of facts q))
         same-first (served.first.least j q below there)

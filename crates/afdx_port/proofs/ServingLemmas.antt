@@ -9,7 +9,7 @@ use Rattle.std.proofs.lemmas.Bool.{cases_lt, cases_eq}
 use Rattle.std.proofs.lemmas.List.{length-set}
 use Rattle.std.proofs.lemmas.Option.{slice_get_within}
 use Rattle.circular_buffer.proofs.Places.{slice_get-set_same, slice_get-set_other, slice_get-some}
-use Rattle.afdx_port.specs.declared.pending.Pending.{Pending}
+use Rattle.afdx_port.specs.declared.port_state.PortState.{PortState}
 use Rattle.afdx_port.specs.declared.left.Due.{Due}
 use Rattle.afdx_port.specs.declared.serving.Serving.{Serving}
 use Rattle.afdx_port.specs.Facts.{Facts}
@@ -156,7 +156,7 @@ are-ranked keys least h group key at = least-found keys (4 * group) 4 key (∥�
 
 module _ {X : Type 0} (facts : X → Facts) where
   -- the least of all keys tells the port
-  pub first-served : (ports : List (Pending X)) (s : Serving) (key : ℕ) → length s.least ≡ 6
+  pub first-served : (ports : List (PortState X)) (s : Serving) (key : ℕ) → length s.least ≡ 6
       → IsServing facts ports s → IsLeastIn s.least 0 6 key → (place : ℕ) → place ≡ key % 32
       → AreServed facts ports place
   first-served ports s key groups serving h place is =
@@ -169,7 +169,7 @@ module _ {X : Type 0} (facts : X → Facts) where
       let own : key ≡ key_of (order_at (due_of facts p.0)) at =
       (let k = serving.keys at p.0 p.1 in let o = in_group.own in cc) in
       let here : place ≡ at = omega (arith, is, own, within, serving.port_count) in
-      let below : (j : ℕ) (q : Pending X) → j < length ports → slice_get ports j ≡ Some q
+      let below : (j : ℕ) (q : PortState X) → j < length ports → slice_get ports j ≡ Some q
       → key ≤ key_of (order_at (due_of facts q)) j = λ j q under there. under-all j q under there in
       record {
         first = record {
@@ -182,7 +182,7 @@ module _ {X : Type 0} (facts : X → Facts) where
         limit = serving.limit;
       }
     where
-      under-all : (j : ℕ) (q : Pending X) → j < length ports → slice_get ports j ≡ Some q
+      under-all : (j : ℕ) (q : PortState X) → j < length ports → slice_get ports j ≡ Some q
           → key ≤ key_of (order_at (due_of facts q)) j
       under-all j q under there =
           let g : ℕ = j / 4 in
@@ -196,7 +196,7 @@ module _ {X : Type 0} (facts : X → Facts) where
           omega (arith, lower, lowest)
 
   -- what is due at each port is limited, when it is at a new one
-  limit-set : (ports : List (Pending X)) (place : ℕ) (p : Pending X) → place < length ports
+  limit-set : (ports : List (PortState X)) (place : ℕ) (p : PortState X) → place < length ports
       → AreLimited facts ports (length ports)
       → IfSome (due_of facts p) (λ d. given_at d ≤ 1200000000000000) →
       AreLimited facts (set ports place p) (length (set ports place p))
@@ -213,11 +213,11 @@ module _ {X : Type 0} (facts : X → Facts) where
         (sym (slice_get-set_other ports place j p other) ∙ at) due
   ]
 
-  keys-set : (ports : List (Pending X)) (keys : List ℕ) (place key : ℕ) (p : Pending X)
+  keys-set : (ports : List (PortState X)) (keys : List ℕ) (place key : ℕ) (p : PortState X)
       → place < length ports → place < length keys → key ≡ key_of (order_at (due_of facts p)) place →
-      ((j : ℕ) (q : Pending X) → slice_get ports j ≡ Some q
+      ((j : ℕ) (q : PortState X) → slice_get ports j ≡ Some q
       → slice_get keys j ≡ Some (key_of (order_at (due_of facts q)) j)) →
-      (j : ℕ) (q : Pending X) → slice_get (set ports place p) j ≡ Some q
+      (j : ℕ) (q : PortState X) → slice_get (set ports place p) j ≡ Some q
       → slice_get (set keys place key) j ≡ Some (key_of (order_at (due_of facts q)) j)
   keys-set ports keys place key p within key_within is old j q at = elim (cases_eq j place) [
     | inl same ↦ (
@@ -233,7 +233,7 @@ module _ {X : Type 0} (facts : X → Facts) where
   ]
 
   -- one port has changed
-  pub serving-set : (ports : List (Pending X)) (old new : Serving) (place order : ℕ) (p : Pending X)
+  pub serving-set : (ports : List (PortState X)) (old new : Serving) (place order : ℕ) (p : PortState X)
       → IsServing facts ports old → place < 24 → order ≡ order_at (due_of facts p) →
       IfSome (due_of facts p) (λ d. given_at d ≤ 1200000000000000)
       → length old.keys ≡ 24 → new.keys ≡ set old.keys place (key_of order place)
@@ -250,13 +250,13 @@ module _ {X : Type 0} (facts : X → Facts) where
       }
 
   -- the ports seen so far have their keys
-  pub record HaveKeys (ports : List (Pending X)) (all : List ℕ) (n : ℕ) : Type 0 where
+  pub record HaveKeys (ports : List (PortState X)) (all : List ℕ) (n : ℕ) : Type 0 where
     pub key_count : length all ≡ 24
-    pub keys : (place : ℕ) (p : Pending X) → place < n → slice_get ports place ≡ Some p
+    pub keys : (place : ℕ) (p : PortState X) → place < n → slice_get ports place ≡ Some p
         → slice_get all place ≡ Some (key_of (order_at (due_of facts p)) place)
     pub limit : AreLimited facts ports n
 
-  pub no-keys : (ports : List (Pending X)) → HaveKeys ports (replicate 24 0) 0
+  pub no-keys : (ports : List (PortState X)) → HaveKeys ports (replicate 24 0) 0
   no-keys ports = record {
     key_count = refl;
     keys = λ place p below. absurd (omega (arith, below));
@@ -264,8 +264,8 @@ module _ {X : Type 0} (facts : X → Facts) where
   }
 
   -- one more port's key
-  pub keys-next : (ports : List (Pending X)) (all keys : List ℕ) (n order : ℕ)
-      (p : Pending X) → n < 24 → slice_get ports n ≡ Some p → HaveKeys ports all n
+  pub keys-next : (ports : List (PortState X)) (all keys : List ℕ) (n order : ℕ)
+      (p : PortState X) → n < 24 → slice_get ports n ≡ Some p → HaveKeys ports all n
       → order ≡ order_at (due_of facts p) →
       IfSome (due_of facts p) (λ d. given_at d ≤ 1200000000000000)
       → keys ≡ set all n (key_of order n) → HaveKeys ports keys (n + 1)
@@ -275,7 +275,7 @@ module _ {X : Type 0} (facts : X → Facts) where
     limit = limit-step facts ports n p at limit h.limit;
   }
     where
-      key : (j : ℕ) (q : Pending X) → j < n + 1 → slice_get ports j ≡ Some q
+      key : (j : ℕ) (q : PortState X) → j < n + 1 → slice_get ports j ≡ Some q
           → slice_get (set all n (key_of order n)) j ≡ Some (key_of (order_at (due_of facts q)) j)
       key j q below there = elim (cases_lt j n) [
         | inl before ↦ slice_get-set_other all n j (key_of order n)
@@ -291,7 +291,7 @@ module _ {X : Type 0} (facts : X → Facts) where
             (set_n ∙ ap Some (ap (λ z. key_of z n) is ∙ ap (λ z. key_of (order_at (due_of facts z)) n) e)))
       ]
 
-  pub all-keys : (ports : List (Pending X)) (s : Serving) (n : ℕ) → n ≡ length ports
+  pub all-keys : (ports : List (PortState X)) (s : Serving) (n : ℕ) → n ≡ length ports
       → length ports ≡ 24 → HaveKeys ports s.keys n → IsServing facts ports s
   all-keys ports s n all count h = record {
     port_count = count;
@@ -300,7 +300,7 @@ module _ {X : Type 0} (facts : X → Facts) where
   }
 
   -- it is said of what stands at each place
-  pub serving-same : (old ports : List (Pending X)) (s : Serving) → IsServing facts old s
+  pub serving-same : (old ports : List (PortState X)) (s : Serving) → IsServing facts old s
       → length ports ≡ 24 → ((i : ℕ) → slice_get old i ≡ slice_get ports i) → IsServing facts ports s
   serving-same old ports s serving count same = record {
     port_count = count;

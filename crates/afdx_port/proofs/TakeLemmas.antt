@@ -9,8 +9,8 @@ use Rattle.afdx_frame.specs.declared.link.Priority.{Priority}
 use Rattle.afdx_frame.specs.declared.link.Priority.TheVariants.{High, Low}
 use Rattle.afdx_port.specs.declared.left.Left.{Left}
 use Rattle.afdx_port.specs.declared.left.Due.{Due}
-use Rattle.afdx_port.specs.declared.pending.Waiting.{Waiting}
-use Rattle.afdx_port.specs.declared.pending.Pending.{Pending}
+use Rattle.afdx_port.specs.declared.port_state.Waiting.{Waiting}
+use Rattle.afdx_port.specs.declared.port_state.PortState.{PortState}
 use Rattle.afdx_port.specs.Facts.{Facts, AreLawful}
 use Rattle.afdx_port.specs.Schedule.{Entry, Turn, has_turn, end_of, lasting, IsWithoutTurn, IsNext}
 use Rattle.afdx_port.specs.Schedule.{AreTurns, IsSchedule}
@@ -36,7 +36,7 @@ choice_some_low (Some h) n e = choice_some_high h (Some n) e
 
 module _ {X : Type 0} where
   -- the frame of the turn that has begun is taken
-  pub take_gives : (facts : X → Facts) (p : Pending X) (h : PortHistory X) (until : ℕ) (l : Left X)
+  pub take_gives : (facts : X → Facts) (p : PortState X) (h : PortHistory X) (until : ℕ) (l : Left X)
       → StandsFor facts p (at h until) → p.sending ≡ Some l → p.free ≤ until
       → Gives facts h until l (record p { sending = None })
   take_gives facts p h until l st is le =
@@ -75,7 +75,7 @@ module _ {X : Type 0} where
       by_kind false moment end bytes lasts before le = omega arith
 
   -- the clauses of a take, by what was being sent
-  pub take_some : (facts : X → Facts) (p : Pending X) (h : PortHistory X) (until : ℕ)
+  pub take_some : (facts : X → Facts) (p : PortState X) (h : PortHistory X) (until : ℕ)
       (o after : Option (Left X)) → StandsFor facts p (at h until) → p.free ≤ until → o ≡ p.sending
       → after ≡ None →
       IfSome o (λ l. Gives facts h until l (record p { sending = after }))
@@ -84,7 +84,7 @@ module _ {X : Type 0} where
       let P : Option (Left X) → Type 0 = λ a. Gives facts h until l (record p { sending = a }) in
       subst P (sym gone) (take_gives facts p h until l st (sym is) le)
 
-  pub take_kept : (facts : X → Facts) (p : Pending X) (h : PortHistory X) (until : ℕ)
+  pub take_kept : (facts : X → Facts) (p : PortState X) (h : PortHistory X) (until : ℕ)
       (o after : Option (Left X)) → StandsFor facts p (at h until) → o ≡ p.sending → after ≡ None →
       IfNone o (StandsFor facts (record p { sending = after }) (at h until))
   take_kept facts p h until None after st is gone =
@@ -93,7 +93,7 @@ module _ {X : Type 0} where
   take_kept facts p h until (Some l) after st is gone = tt
 
   -- nor where the line is busy at t
-  pub busy_quiet : (facts : X → Facts) (p : Pending X) (t : ℕ) → 1 ≤ p.byte_ns → t < p.free
+  pub busy_quiet : (facts : X → Facts) (p : PortState X) (t : ℕ) → 1 ≤ p.byte_ns → t < p.free
       → ((c : Priority) (moment : ℕ) → p.sending ≡ None → choice_of p ≡ Some (c, moment)
       → t ≤ moment) → IsQuiet facts p t
   busy_quiet facts p t rate busy late = by_sending p.sending refl
@@ -104,7 +104,7 @@ module _ {X : Type 0} where
           let P : Option Due → Type 0 = λ o. IfSome o (λ d. IsAfter t d) in
           subst P (sym (due_busy facts p l e)) (omega arith)
 
-  pub take_quiet : (facts : X → Facts) (p : Pending X) (t : ℕ) (o after : Option (Left X))
+  pub take_quiet : (facts : X → Facts) (p : PortState X) (t : ℕ) (o after : Option (Left X))
       → 1 ≤ p.byte_ns → o ≡ p.sending → after ≡ None →
       ((c : Priority) (moment : ℕ) → p.sending ≡ None → choice_of p ≡ Some (c, moment) → t ≤ moment)
       → IfNone o (IsQuiet facts (record p { sending = after }) t)
@@ -113,7 +113,7 @@ module _ {X : Type 0} where
       subst P (sym is ∙ sym gone) (idle_quiet facts p t rate (sym is) late)
   take_quiet facts p t (Some l) after rate is gone late = tt
 
-  pub take_no_more : (facts : X → Facts) (p : Pending X) (h : PortHistory X) (t : ℕ) (s : Turn X)
+  pub take_no_more : (facts : X → Facts) (p : PortState X) (h : PortHistory X) (t : ℕ) (s : Turn X)
       (o : Option (Left X)) → 1 ≤ p.byte_ns → StandsFor facts p (at h t) → o ≡ p.sending →
       ((c : Priority) (moment : ℕ) → p.sending ≡ None → choice_of p ≡ Some (c, moment) → t ≤ moment)
       → IsNext h.byte_ns h.entries h.taken s → IfNone o (IsAfter t (due_at s))
@@ -122,7 +122,7 @@ module _ {X : Type 0} where
   take_no_more facts p h t s (Some l) rate st is late n = tt
 
   -- nothing is due only where nothing is held
-  nothing_held : (facts : X → Facts) (p : Pending X) → due_of facts p ≡ None → (p.sending ≡ None)
+  nothing_held : (facts : X → Facts) (p : PortState X) → due_of facts p ≡ None → (p.sending ≡ None)
       × (p.high.items ≡ []) × (p.low.items ≡ [])
   nothing_held facts p none = by_parts p.sending p.high.items p.low.items refl refl refl
     where
@@ -148,7 +148,7 @@ module _ {X : Type 0} where
           (subst P k (by_choice (choice_of p) refl e)))
 
   -- all that is held has its turn by this time
-  due_bounded : (facts : X → Facts) (p : Pending X) (d : Due) → ((x : X) → AreLawful (facts x))
+  due_bounded : (facts : X → Facts) (p : PortState X) (d : Due) → ((x : X) → AreLawful (facts x))
       → IsPortSound facts p → due_of facts p ≡ Some d → given_at d ≤ 1200000000000000
   due_bounded facts p d lawful s is = by_sending p.sending refl
     where
@@ -182,7 +182,7 @@ module _ {X : Type 0} where
           (by_kind l.too_old p.free (omega arith))
 
   -- where nothing is held, no entry is without a turn
-  none_left : (facts : X → Facts) (p : Pending X) (h : PortHistory X) (place : ℕ) (e : Entry X)
+  none_left : (facts : X → Facts) (p : PortState X) (h : PortHistory X) (place : ℕ) (e : Entry X)
       → StandsFor facts p h → due_of facts p ≡ None → slice_get h.entries place ≡ Some e
       → has_turn h.taken place ≡ false → ⊥
   none_left facts p h place e st none stands without =
@@ -199,7 +199,7 @@ module _ {X : Type 0} where
       ]
 
   -- nothing is due where no further turn is given by then
-  none_due : (facts : X → Facts) (p : Pending X) (t : ℕ) → ((x : X) → AreLawful (facts x))
+  none_due : (facts : X → Facts) (p : PortState X) (t : ℕ) → ((x : X) → AreLawful (facts x))
       → IsPortSound facts p → 1200000000000000 ≤ t → IsQuiet facts p t → due_of facts p ≡ None
   none_due facts p t lawful s late quiet = by_due (due_of facts p) refl
     where
@@ -212,7 +212,7 @@ module _ {X : Type 0} where
           absurd (omega (arith, after, soon))
 
   -- where nothing is due, each entry has had its turn
-  pub all_done : (facts : X → Facts) (p : Pending X) (h : PortHistory X) → StandsFor facts p h
+  pub all_done : (facts : X → Facts) (p : PortState X) (h : PortHistory X) → StandsFor facts p h
       → due_of facts p ≡ None → IsSchedule h.byte_ns h.entries h.taken
   all_done facts p h st none = record {
     each_next = taken_turns facts p h st;
@@ -227,18 +227,18 @@ module _ {X : Type 0} where
       has place e stands true is = is
       has place e stands false is = absurd (none_left facts p h place e st none stands is)
 
-  pub if_all_done : (facts : X → Facts) (p : Pending X) (h : PortHistory X) (o : Option Due)
+  pub if_all_done : (facts : X → Facts) (p : PortState X) (h : PortHistory X) (o : Option Due)
       → StandsFor facts p h → o ≡ due_of facts p → IfNone o (IsSchedule h.byte_ns h.entries h.taken)
   if_all_done facts p h None st is = all_done facts p h st (sym is)
   if_all_done facts p h (Some d) st is = tt
 
   -- nor is one left where no turn is given by then
-  pub quiet_all_done : (facts : X → Facts) (p : Pending X) (h : PortHistory X) (t : ℕ)
+  pub quiet_all_done : (facts : X → Facts) (p : PortState X) (h : PortHistory X) (t : ℕ)
       → ((x : X) → AreLawful (facts x)) → IsPortSound facts p → StandsFor facts p h
       → 1200000000000000 ≤ t → IsQuiet facts p t → IsSchedule h.byte_ns h.entries h.taken
   quiet_all_done facts p h t lawful s st late quiet = all_done facts p h st (none_due facts p t lawful s late quiet)
 
-  pub take_all_done : (facts : X → Facts) (p : Pending X) (h : PortHistory X) (t : ℕ)
+  pub take_all_done : (facts : X → Facts) (p : PortState X) (h : PortHistory X) (t : ℕ)
       (o : Option (Left X)) → ((x : X) → AreLawful (facts x)) → IsPortSound facts p
       → StandsFor facts p (at h t) → o ≡ p.sending → 1200000000000000 ≤ t →
       ((c : Priority) (moment : ℕ) → p.sending ≡ None → choice_of p ≡ Some (c, moment) → t ≤ moment)

@@ -4,8 +4,8 @@
 mod has_length;
 pub mod laws;
 mod left;
-mod pending;
 mod port;
+mod port_state;
 mod ports;
 mod serving;
 

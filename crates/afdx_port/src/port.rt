@@ -12,7 +12,7 @@ ghost use Rattle.afdx_port.specs.Ports.{order_at};
 
 use crate::has_length::HasLength;
 use crate::left::{Due, Left};
-use crate::pending::Pending;
+use crate::port_state::PortState;
 use afdx_frame::Priority;
 use std::alloc::{AllocError, Global};
 use std::marker::Model;
@@ -26,7 +26,7 @@ const ORDER_WITHOUT_TURN: u64 = 1 << 52;
 /// moment. It keeps the frames that still have a turn to come, and nothing of those that left.
 #[derive(Drop)]
 pub struct Port<T: HasLength> {
-    pending: Pending<T>,
+    state: PortState<T>,
     /// The next turn.
     due: Option<Due>,
     /// Its place in the order in which ports are served together.
@@ -45,20 +45,20 @@ fn order(due: Option<Due>) -> u64
 }
 
 impl<T: HasLength> Model for Port<T> {
-    ghost use Rattle.afdx_port.specs.declared.pending.Pending.{Pending};
+    ghost use Rattle.afdx_port.specs.declared.port_state.PortState.{PortState};
 
-    ghost Value = { Pending T };
+    ghost Value = { PortState T };
 
     ghost use Rattle.std.specs.Prelude.{◌≡◌};
     ghost use Rattle.afdx_port.specs.Held.{due_of};
     ghost use Rattle.afdx_port.specs.Sound.{IsPortSound};
 
-    ghost view = { λ p. p.pending };
+    ghost view = { λ p. p.state };
 
     ghost use Rattle.afdx_port.specs.Ports.{order_at};
 
-    ghost invariant = { λ p. IsPortSound T.facts p.pending × (p.due ≡ due_of T.facts p.pending)
-        × (p.order ≡ order_at (due_of T.facts p.pending)) };
+    ghost invariant = { λ p. IsPortSound T.facts p.state × (p.due ≡ due_of T.facts p.state)
+        × (p.order ≡ order_at (due_of T.facts p.state)) };
 }
 
 impl<T: HasLength> Port<T> {
@@ -80,7 +80,7 @@ impl<T: HasLength> Port<T> {
         ensures clock { IfOk result (λ p. last_time p ≡ 0) }
     {
         Ok(Port {
-            pending: Pending::new(alloc, byte_ns, buffer)?,
+            state: PortState::new(alloc, byte_ns, buffer)?,
             due: None,
             order: order(None),
         })
@@ -112,9 +112,9 @@ impl<T: HasLength> Port<T> {
             (λ _. frames_held self.new ≡ frames_held self.old) }
         ensures clock { last_time self.new ≡ time }
     {
-        let taken = self.pending.put(time, priority, item);
-        if !self.pending.is_sending() {
-            self.due = self.pending.due();
+        let taken = self.state.put(time, priority, item);
+        if !self.state.is_sending() {
+            self.due = self.state.due();
             self.order = order(self.due);
         }
         taken
@@ -172,11 +172,11 @@ impl<T: HasLength> Port<T> {
         ensures clock { last_time self.new ≡ until }
     {
         if self.is_quiet(until) {
-            self.pending.wait(until);
+            self.state.wait(until);
             return None;
         }
-        let left = self.pending.take(until);
-        self.due = self.pending.due();
+        let left = self.state.take(until);
+        self.due = self.state.due();
         self.order = order(self.due);
         left
     }

@@ -15,7 +15,7 @@ use Rattle.afdx_police.specs.declared.shape.Reason.{Reason}
 use Rattle.afdx_police.proofs.VerdictLemmas.{fault_changes_nothing}
 use Rattle.afdx_port.specs.Held as held
 use Rattle.afdx_port.specs.History as queue
-use Rattle.afdx_port.specs.declared.pending.Pending.{Pending}
+use Rattle.afdx_port.specs.declared.port_state.PortState.{PortState}
 use Rattle.afdx_bounds.specs.Outputs.{Row}
 use Rattle.afdx_switch.specs.HeldFrames.{HeldFrame, held_frame, facts}
 use Rattle.afdx_switch.specs.Ports.{holds}
@@ -27,7 +27,7 @@ use Rattle.afdx_switch.specs.Sound.{IsPortSound}
 use Rattle.afdx_switch.specs.Shares.{IsOffered, calls_after, share_of}
 use Rattle.afdx_switch.specs.declared.line.Line.{Line}
 use Rattle.afdx_switch.specs.declared.ports.PortSet.{PortSet}
-use Rattle.afdx_switch.specs.declared.working.Working.{Working}
+use Rattle.afdx_switch.specs.declared.switch_state.SwitchState.{SwitchState}
 use Rattle.afdx_switch.proofs.ArrivalLemmas.{own-other, own-named, reason-unknown, reason-named}
 use Rattle.afdx_switch.proofs.ArrivalLemmas.{dropped-sent, entries-kept, with-share-is}
 use Rattle.afdx_switch.proofs.ArrivalLemmas.{loses-share-is}
@@ -57,7 +57,7 @@ abbrev pub LinesAfter : Rows → Arrival → SwitchHistory → List Line → Typ
 LinesAfter t x h lines = (i : ℕ) (r : Row) (line : Line) → slice_get (rows_of t) i ≡ Some r
     → slice_get lines i ≡ Some line → IsLine x.side (x ∷ h.arrivals) r line
 
-module _ (t : Rows) (x : Arrival) (w : Working) (h : SwitchHistory) (st : StandsFor t x.side w h) where
+module _ (t : Rows) (x : Arrival) (w : SwitchState) (h : SwitchHistory) (st : StandsFor t x.side w h) where
   line-other : (r : Row) (line : Line) → IsLine x.side h.arrivals r line → names r.rule.vl x.bytes
       ≡ false → IsLine x.side (x ∷ h.arrivals) r line
   line-other r line is other = record {
@@ -166,7 +166,7 @@ module _ (t : Rows) (x : Arrival) (w : Working) (h : SwitchHistory) (st : Stands
   unknown-reason reason none is = reason-unknown t x h.arrivals none ∙ is
 
   -- a switch that dropped the arrival
-  pub stands-dropped : (new : Working) (reason : Reason) (place : Option ℕ)
+  pub stands-dropped : (new : SwitchState) (reason : Reason) (place : Option ℕ)
       → IsNamed (rows_of t) x.bytes place → reason_of t h.arrivals x ≡ Some reason
       → LinesAfter t x h new.lines.items →
       new.clock ≡ x.time → vec_len new.lines ≡ vec_len w.lines → new.places ≡ w.places
@@ -196,16 +196,16 @@ module _ (t : Rows) (x : Arrival) (w : Working) (h : SwitchHistory) (st : Stands
       (at : slice_get w.lines.items place ≡ Some line)
       (accepted : reason_of t h.arrivals x ≡ None) (shortest : 64 ≤ length x.bytes)
       (longest : length x.bytes ≤ 1518) (small : IfSome line.longest_wait (λ wait. wait ≤ 100000000))
-      (ports : List (Pending HeldFrame)) (lost : PortSet) (old_count : length w.ports.items ≡ 24)
+      (ports : List (PortState HeldFrame)) (lost : PortSet) (old_count : length w.ports.items ≡ 24)
       (new_count : length ports ≡ 24)
-      (offered : (i : ℕ) (o p : Pending HeldFrame) → slice_get w.ports.items i ≡ Some o → slice_get ports i ≡ Some p →
+      (offered : (i : ℕ) (o p : PortState HeldFrame) → slice_get w.ports.items i ≡ Some o → slice_get ports i ≡ Some p →
       IsOffered x.time line.priority
       (share_of (held_frame x.tag line.longest_wait x.bytes) (is_among i line.goes.items)) o p
       (holds lost (i + 1))) where
     line-of : IsLine x.side h.arrivals n.row line
     line-of = st.lines place n.row line n.stands at
 
-    offered-at : (i : ℕ) (o p : Pending HeldFrame) → i < 24 → slice_get w.ports.items i ≡ Some o
+    offered-at : (i : ℕ) (o p : PortState HeldFrame) → i < 24 → slice_get w.ports.items i ≡ Some o
         → slice_get ports i ≡ Some p →
         IsOffered x.time line.priority
         (share_of (held_frame x.tag line.longest_wait x.bytes) (n.row.goes_to (i + 1))) o p
@@ -215,7 +215,7 @@ module _ (t : Rows) (x : Arrival) (w : Working) (h : SwitchHistory) (st : Stands
         (share_of (held_frame x.tag line.longest_wait x.bytes) b) o p (holds lost (i + 1)))
         (line-of.goes i below) (offered i o p at_o at_p)
 
-    port-after : (i : ℕ) (p : Pending HeldFrame) → slice_get ports i ≡ Some p
+    port-after : (i : ℕ) (p : PortState HeldFrame) → slice_get ports i ≡ Some p
         → queue.StandsFor facts p (calls_at t x.side (i + 1) (with_arrival h x) p.clock)
     port-after i p at_p =
         let below : i < 24 = omega (arith, slice_get_within ports i p at_p, new_count) in
@@ -248,7 +248,7 @@ module _ (t : Rows) (x : Arrival) (w : Working) (h : SwitchHistory) (st : Stands
         longest small line-of.priority line-of.longest_wait (i + 1) (buffer_at t (i + 1))
         (buffer-is t place n.row (i + 1) n.stands))
 
-    pub stands-accepted : (new : Working) → LinesAfter t x h new.lines.items → new.clock ≡ x.time
+    pub stands-accepted : (new : SwitchState) → LinesAfter t x h new.lines.items → new.clock ≡ x.time
         → vec_len new.lines ≡ vec_len w.lines → new.places ≡ w.places → new.ports.items ≡ ports →
         StandsFor t x.side new (with_arrival h x)
     stands-accepted new lines clock count places is_ports = record {
@@ -272,12 +272,12 @@ sum-grows f (x ∷ xs) (y ∷ ys) same each =
     omega (arith, first, rest, sum_by-cons f x xs, sum_by-cons f y ys)
 
 -- ports through the offers of shares are sound and quiet, and hold at most one frame more each
-module _ (time clock : ℕ) (priority : Priority) (old ports : List (Pending HeldFrame))
+module _ (time clock : ℕ) (priority : Priority) (old ports : List (PortState HeldFrame))
     (share : ℕ → Option HeldFrame) (lost : PortSet) (old_count : length old ≡ 24)
     (new_count : length ports ≡ 24)
-    (offered : (i : ℕ) (o p : Pending HeldFrame) → slice_get old i ≡ Some o
+    (offered : (i : ℕ) (o p : PortState HeldFrame) → slice_get old i ≡ Some o
     → slice_get ports i ≡ Some p → IsOffered time priority (share i) o p (holds lost (i + 1))) where
-  old-at : (i : ℕ) (p : Pending HeldFrame) → slice_get ports i ≡ Some p → (o : Pending HeldFrame)
+  old-at : (i : ℕ) (p : PortState HeldFrame) → slice_get ports i ≡ Some p → (o : PortState HeldFrame)
       × (slice_get old i ≡ Some o)
   old-at i p at_p = found-at old i (omega (arith, slice_get_within ports i p at_p, new_count, old_count))
 

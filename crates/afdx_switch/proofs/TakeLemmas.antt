@@ -15,7 +15,7 @@ use Rattle.afdx_port.specs.Ports.{IsFirstAt, AreQuiet, AreLimited}
 use Rattle.afdx_port.specs.Schedule.{Turn, IsNext}
 use Rattle.afdx_port.specs.declared.left.Due.{Due}
 use Rattle.afdx_port.specs.declared.left.Left.{Left}
-use Rattle.afdx_port.specs.declared.pending.Pending.{Pending}
+use Rattle.afdx_port.specs.declared.port_state.PortState.{PortState}
 use Rattle.afdx_port.proofs.DueLemmas.{next_due, quiet_after, after_quiet}
 use Rattle.afdx_port.proofs.TakeLemmas as port
 use Rattle.afdx_port.proofs.TurnLemmas.{eqb-same}
@@ -25,7 +25,7 @@ use Rattle.afdx_switch.specs.Switching.{IsDone, GoesBefore, calls_at, taken_at, 
 use Rattle.afdx_switch.specs.Sound.{IsPortSound, IsLineSound}
 use Rattle.afdx_switch.specs.Tables.{byte_ns_at, buffer_at, entries_at}
 use Rattle.afdx_switch.specs.declared.line.Line.{Line}
-use Rattle.afdx_switch.specs.declared.working.Working.{Working}
+use Rattle.afdx_switch.specs.declared.switch_state.SwitchState.{SwitchState}
 use Rattle.afdx_switch.proofs.ListLemmas.{slice_get-set_here, slice_get-set_there, all-set, all-at}
 use Rattle.afdx_switch.proofs.StandsLemmas.{all-from}
 
@@ -40,7 +40,7 @@ unfolding taken_at
 taken-there n port s earlier other = rw (ne_eqb n port (λ same. other (sym same))) refl
 
 -- a port that gives its turn by then gives it
-pub must-give : (ports : List (Pending HeldFrame)) (until n place : ℕ) (d : Due) (p : Pending HeldFrame)
+pub must-give : (ports : List (PortState HeldFrame)) (until n place : ℕ) (d : Due) (p : PortState HeldFrame)
     (r : Option (Left HeldFrame)) (calls : queue.PortHistory HeldFrame) →
     IsFirstAt facts ports until n place d → slice_get ports place ≡ Some p → queue.StandsFor facts p calls → r ≡ None →
     ((h : queue.PortHistory HeldFrame) (s : Turn HeldFrame) → queue.StandsFor facts p h
@@ -55,7 +55,7 @@ must-give ports until n place d p r calls first at stands none no_more =
     omega (arith, late, first.by)
 
 -- late enough, a port that gives no turn by then has none to come
-nothing-due : (ports : List (Pending HeldFrame)) (until n i : ℕ) (p : Pending HeldFrame)
+nothing-due : (ports : List (PortState HeldFrame)) (until n i : ℕ) (p : PortState HeldFrame)
     → AreQuiet facts ports until n → AreLimited facts ports n → 1200000000000000 ≤ until → i < n
     → slice_get ports i ≡ Some p →
     held.due_of facts p ≡ None
@@ -68,7 +68,7 @@ nothing-due ports until n i p quiet limited late below at = by (held.due_of fact
         absurd (omega (arith, after, late, limited i p d below at e))
 
 -- then none gives a turn at any time
-pub quiet-ever : (ports : List (Pending HeldFrame)) (until time : ℕ)
+pub quiet-ever : (ports : List (PortState HeldFrame)) (until time : ℕ)
     → AreQuiet facts ports until (length ports) → AreLimited facts ports (length ports)
     → 1200000000000000 ≤ until → All (λ p. held.IsQuiet facts p time) ports
 quiet-ever ports until time quiet limited late = all-from (λ p. held.IsQuiet facts p time) ports (λ i p at.
@@ -77,7 +77,7 @@ quiet-ever ports until time quiet limited late = all-from (λ p. held.IsQuiet fa
     (slice_get_within ports i p at) at)) tt)
 
 -- where the turn that goes first is given by a time, it isn't so that none is given by then
-pub unquiet-first : (ports : List (Pending HeldFrame)) (until place time : ℕ) (d : Due)
+pub unquiet-first : (ports : List (PortState HeldFrame)) (until place time : ℕ) (d : Due)
     → IsFirstAt facts ports until (length ports) place d
     → All (λ p. held.IsQuiet facts p time) ports → IsAfter time d
 unquiet-first ports until place time d first quiet =
@@ -93,13 +93,13 @@ before-given time m n false true le lt = omega arith
 before-given time m n false false le lt = omega arith
 
 -- where the turn that goes first is given after a time, none is given by then
-pub quiet-first : (ports : List (Pending HeldFrame)) (until place time : ℕ) (d : Due)
+pub quiet-first : (ports : List (PortState HeldFrame)) (until place time : ℕ) (d : Due)
     → IsFirstAt facts ports until (length ports) place d → IsAfter time d
     → All (λ p. held.IsQuiet facts p time) ports
 quiet-first ports until place time d first after =
     all-from (λ p. held.IsQuiet facts p time) ports (λ i p at. by i p at (held.due_of facts p) refl)
   where
-    by : (i : ℕ) (p : Pending HeldFrame) → slice_get ports i ≡ Some p → (o : Option Due)
+    by : (i : ℕ) (p : PortState HeldFrame) → slice_get ports i ≡ Some p → (o : Option Due)
         → held.due_of facts p ≡ o → held.IsQuiet facts p time
     by i p at None e = subst (λ z. IfSome z (λ x. IsAfter time x)) (sym e) tt
     by i p at (Some f) e =
@@ -108,8 +108,8 @@ quiet-first ports until place time d first after =
         subst (λ z. IfSome z (λ x. IsAfter time x)) (sym e) later
 
 -- what is due at the port that gives its turn first
-pub due-of-first : (ports : List (Pending HeldFrame)) (until n place : ℕ) (d : Due)
-    (p : Pending HeldFrame) → IsFirstAt facts ports until n place d → slice_get ports place ≡ Some p
+pub due-of-first : (ports : List (PortState HeldFrame)) (until n place : ℕ) (d : Due)
+    (p : PortState HeldFrame) → IsFirstAt facts ports until n place d → slice_get ports place ≡ Some p
     → held.due_of facts p ≡ Some d
 due-of-first ports until n place d p first at =
     let stands = first.stands in
@@ -117,7 +117,7 @@ due-of-first ports until n place d p first at =
     subst (λ q. held.due_of facts q ≡ Some d) (sym same) first.due
 
 -- so no port gives a turn by a time exactly where that one is given after it
-pub quiet-iff : (ports : List (Pending HeldFrame)) (until place time : ℕ) (d : Due) (o : Option Due)
+pub quiet-iff : (ports : List (PortState HeldFrame)) (until place time : ℕ) (d : Due) (o : Option Due)
     → IsFirstAt facts ports until (length ports) place d → o ≡ Some d →
     (All (λ p. held.IsQuiet facts p time) ports → IfSome o (λ e. IsAfter time e))
     × (IfSome o (λ e. IsAfter time e) → All (λ p. held.IsQuiet facts p time) ports)
@@ -126,13 +126,13 @@ quiet-iff ports until place time d o first is = (
   λ after. quiet-first ports until place time d first (subst (λ z. IfSome z (λ e. IsAfter time e)) is after),
 )
 
-module _ (t : Rows) (side : Side) (w : Working) (h : SwitchHistory) (st : StandsFor t side w h) where
+module _ (t : Rows) (side : Side) (w : SwitchState) (h : SwitchHistory) (st : StandsFor t side w h) where
   -- the turn that is due at a port
-  due-at : (i : ℕ) (p : Pending HeldFrame) (s : Turn HeldFrame) → slice_get w.ports.items i ≡ Some p
+  due-at : (i : ℕ) (p : PortState HeldFrame) (s : Turn HeldFrame) → slice_get w.ports.items i ≡ Some p
       → IsNextAt t side h (i + 1) s → held.due_of facts p ≡ Some (queue.due_at s)
   due-at i p s at next = next_due facts p (calls_at t side (i + 1) h p.clock) s (st.ports i p at) next
 
-  port-at : (i : ℕ) → i < length w.ports.items → (p : Pending HeldFrame) × (slice_get w.ports.items i ≡ Some p)
+  port-at : (i : ℕ) → i < length w.ports.items → (p : PortState HeldFrame) × (slice_get w.ports.items i ≡ Some p)
   port-at i below = elim (slice_get_cases w.ports.items i).1 [
     | inl found ↦ (found.0, found.2)
     | inr past ↦ absurd (omega (arith, below, past.0))
@@ -177,7 +177,7 @@ module _ (t : Rows) (side : Side) (w : Working) (h : SwitchHistory) (st : Stands
       (st.ports i found.0 found.1) none)
 
   -- the turn of the port that gives its turn first is the next one
-  module _ (until place : ℕ) (d : Due) (p : Pending HeldFrame) (turn : Turn HeldFrame) (count : length w.ports.items ≡ 24)
+  module _ (until place : ℕ) (d : Due) (p : PortState HeldFrame) (turn : Turn HeldFrame) (count : length w.ports.items ≡ 24)
       (first : IsFirstAt facts w.ports.items until (length w.ports.items) place d)
       (at : slice_get w.ports.items place ≡ Some p)
       (next : IsNextAt t side h (place + 1) turn) where
@@ -217,7 +217,7 @@ module _ (t : Rows) (side : Side) (w : Working) (h : SwitchHistory) (st : Stands
     }
 
   -- what is due there is due at the switch
-  pub due-comes : (until place : ℕ) (d : Due) (p : Pending HeldFrame) (o : Option Due)
+  pub due-comes : (until place : ℕ) (d : Due) (p : PortState HeldFrame) (o : Option Due)
       → length w.ports.items ≡ 24 → IsFirstAt facts w.ports.items until (length w.ports.items) place
       d → slice_get w.ports.items place ≡ Some p →
       IfSome o (λ e. (s : Turn HeldFrame) × IsNextAt t side h (place + 1) s × (e ≡ queue.due_at s))
@@ -230,7 +230,7 @@ module _ (t : Rows) (side : Side) (w : Working) (h : SwitchHistory) (st : Stands
         is = comes.2;
       }
 
-  module _ (until place : ℕ) (d : Due) (p new : Pending HeldFrame) (left : Left HeldFrame)
+  module _ (until place : ℕ) (d : Due) (p new : PortState HeldFrame) (left : Left HeldFrame)
       (count : length w.ports.items ≡ 24)
       (first : IsFirstAt facts w.ports.items until (length w.ports.items) place d)
       (at : slice_get w.ports.items place ≡ Some p)
@@ -238,7 +238,7 @@ module _ (t : Rows) (side : Side) (w : Working) (h : SwitchHistory) (st : Stands
     abbrev pub gone : PortTurn
     gone = record { port = place + 1; turn = gives.turn }
 
-    port-after : (i : ℕ) (q : Pending HeldFrame) → slice_get (set w.ports.items place new) i ≡ Some q
+    port-after : (i : ℕ) (q : PortState HeldFrame) → slice_get (set w.ports.items place new) i ≡ Some q
         → (i ≡ place) ⊎ (i ≢ place) →
         queue.StandsFor facts q (calls_at t side (i + 1) (with_take h gone until) q.clock)
     port-after i q at_q (inl same) =
@@ -277,7 +277,7 @@ module _ (t : Rows) (side : Side) (w : Working) (h : SwitchHistory) (st : Stands
         }))
         (sym (taken-there (place + 1) (i + 1) gives.turn h.taken (λ same. other (omega (arith, same))))) stands
 
-    pub stands-after : (after : Working) → after.clock ≡ until → after.lines ≡ w.lines
+    pub stands-after : (after : SwitchState) → after.clock ≡ until → after.lines ≡ w.lines
         → after.places ≡ w.places → after.ports.items ≡ set w.ports.items place new →
         StandsFor t side after (with_take h gone until)
     stands-after after clock lines places ports = record {
@@ -290,7 +290,7 @@ module _ (t : Rows) (side : Side) (w : Working) (h : SwitchHistory) (st : Stands
     }
 
 -- a port that gave its turn is sound still
-pub taken-sound : (ports : List (Pending HeldFrame)) (time until place : ℕ) (p new : Pending HeldFrame)
+pub taken-sound : (ports : List (PortState HeldFrame)) (time until place : ℕ) (p new : PortState HeldFrame)
     (left : Left HeldFrame) →
     All (IsPortSound time) ports → time ≤ until → place < length ports
     → slice_get ports place ≡ Some p → held.last_time new ≡ until →
@@ -313,7 +313,7 @@ pub lines-later : (lines : List Line) (time until : ℕ) → time ≤ until → 
 lines-later lines time until later all k d lt = let s = all k d lt in
     record { in_time = omega (arith, s.in_time, later); wait = s.wait; goes = s.goes }
 
-pub ports-later : (ports : List (Pending HeldFrame)) (time until : ℕ) → time ≤ until
+pub ports-later : (ports : List (PortState HeldFrame)) (time until : ℕ) → time ≤ until
     → All (IsPortSound time) ports → All (IsPortSound until) ports
 ports-later ports time until later all k d lt = let s = all k d lt in
     record { in_time = omega (arith, s.in_time, later); calls = s.calls; stands = s.stands }

@@ -6,7 +6,7 @@ ghost use Rattle.afdx_port.specs.Times.{drain_end, latest_put};
 use crate::build::build;
 use crate::frame::Frame;
 use crate::verdict::Verdict;
-use crate::working::Working;
+use crate::switch_state::SwitchState;
 use afdx_config::Tables;
 use afdx_frame::Checked;
 use afdx_port::{Due, Left};
@@ -75,7 +75,7 @@ impl Departure {
 
 /// One switch. It keeps an account for each link, and the frames that still have a turn to come.
 pub struct Switch {
-    working: Working,
+    state: SwitchState,
     /// Room for the shares of a frame. Between calls it is empty.
     shares: Vec<Frame>,
 }
@@ -83,20 +83,20 @@ pub struct Switch {
 impl Drop for Switch {
     // (written out, it is one call wherever a value is let go)
     fn drop(self) {
-        let Self { working, shares } = self;
+        let Self { state, shares } = self;
     }
 }
 
 impl Model for Switch {
-    ghost use Rattle.afdx_switch.specs.declared.working.Working.{Working};
+    ghost use Rattle.afdx_switch.specs.declared.switch_state.SwitchState.{SwitchState};
     ghost use Rattle.std.specs.Prelude.{◌≡◌, []};
     ghost use Rattle.afdx_switch.specs.Sound.{IsSwitchSound};
 
-    ghost Value = { Working };
+    ghost Value = { SwitchState };
 
-    ghost view = { λ s. s.working };
+    ghost view = { λ s. s.state };
 
-    ghost invariant = { λ s. IsSwitchSound s.working × (s.shares.items ≡ []) };
+    ghost invariant = { λ s. IsSwitchSound s.state × (s.shares.items ≡ []) };
 }
 
 impl Switch {
@@ -129,7 +129,7 @@ impl Switch {
         ensures held { IfOk result (λ w. frames_held w ≡ 0) }
     {
         Ok(Switch {
-            working: build(alloc, tables)?,
+            state: build(alloc, tables)?,
             shares: Vec::with_capacity(alloc, 24)?,
         })
     }
@@ -228,7 +228,7 @@ impl Switch {
         ensures clock { OnOk result (last_time self.new ≡ time) }
     {
         let arrived = self
-            .working
+            .state
             .arrive(time, port, tag, frame, &mut self.shares);
         self.shares.clear();
         arrived
@@ -246,7 +246,7 @@ impl Switch {
             IfSome result (λ due. IsAfter time due) }
         ensures limit { IfSome result (λ due. given_at due ≤ drain_end) }
     {
-        self.working.due()
+        self.state.due()
     }
 
     /// The next frame that leaves, or is dropped as too old, by `until`, in ns: a slot that ends at
@@ -289,6 +289,6 @@ impl Switch {
             (λ _. frames_held self.new + 1 ≡ frames_held self.old) }
         ensures clock { last_time self.new ≡ until }
     {
-        self.working.take(until)
+        self.state.take(until)
     }
 }

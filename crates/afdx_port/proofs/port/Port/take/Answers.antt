@@ -9,7 +9,7 @@ pub returns-then-is_quiet-clause-none : goal.returns-then-is_quiet-clause-none
 returns-then-is_quiet-clause-none g c = λ h st.
     let clock : last_time c.args.self.now ≤ c.args.until = c.requires.clock in
     let time : last_time c.args.self.now ≡ h.time = st.clock in
-    waited_stands g.T.HasLength.facts c.self.inside.pending c.wait.new.self h c.args.until
+    waited_stands g.T.HasLength.facts c.self.inside.state c.wait.new.self h c.args.until
     c.wait.ensures (rw (← c.self.view_is) at st) (omega arith)
 
 pub returns-then-is_quiet-clause-no_more : goal.returns-then-is_quiet-clause-no_more
@@ -20,5 +20,5 @@ returns-then-is_quiet-clause-no_more g c =
 pub returns-then-is_quiet-clause-all_done : goal.returns-then-is_quiet-clause-all_done
 returns-then-is_quiet-clause-all_done g c = λ h st late.
     let quiet : IsQuiet g.T.HasLength.facts c.args.self.now c.args.until = c.is_quiet.ensures.0 c.if-is_quiet.true in
-    quiet_all_done g.T.HasLength.facts c.self.inside.pending h c.args.until g.met.T.HasLength.lawful
+    quiet_all_done g.T.HasLength.facts c.self.inside.state h c.args.until g.met.T.HasLength.lawful
     c.self.invariant.0 (rw (← c.self.view_is) at st) late (rw (← c.self.view_is) at quiet)

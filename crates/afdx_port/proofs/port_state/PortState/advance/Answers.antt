@@ -4,7 +4,7 @@ use Rattle.afdx_port.proofs.HistoryLemmas.{idle_stands}
 use Rattle.afdx_port.proofs.BeginLemmas.{begun_sound, begun_stands, begun_held, begun_due}
 use Rattle.afdx_port.proofs.DueLemmas.{clock_due}
 use Rattle.afdx_port.proofs.SoundLemmas.{clock_sound, none_from_test}
-use Rattle.afdx_port.proofs.pending.Pending.advance.Goals as goal
+use Rattle.afdx_port.proofs.port_state.PortState.advance.Goals as goal
 
 pub returns-then-is_some-clause-stands : goal.returns-then-is_some-clause-stands
 returns-then-is_some-clause-stands g c =

@@ -2,7 +2,7 @@ use Rattle.std.proofs.Common.{arith, refl, ◌∙◌}
 use Rattle.afdx_port.proofs.PutLemmas.{has_room, pushed_sound, pushed_stands, pushed_quiet, pushed_held, pushed_due}
 use Rattle.afdx_port.proofs.DueLemmas.{quiet_stays}
 use Rattle.afdx_port.proofs.HistoryLemmas.{lost_from, not_lost}
-use Rattle.afdx_port.proofs.pending.Pending.put.Goals as goal
+use Rattle.afdx_port.proofs.port_state.PortState.put.Goals as goal
 
 pub push-requires : goal.push-requires
 push-requires g c = has_room g.T.HasLength.facts c.advance.new.self c.args.priority

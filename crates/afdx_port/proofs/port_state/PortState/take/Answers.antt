@@ -3,7 +3,7 @@ use Rattle.afdx_port.proofs.DueLemmas.{quiet_after}
 use Rattle.afdx_port.proofs.TakeLemmas.{take_some, take_kept, busy_quiet, take_quiet, take_no_more}
 use Rattle.afdx_port.proofs.TakeLemmas.{quiet_all_done, take_all_done}
 use Rattle.afdx_port.specs.History.{at}
-use Rattle.afdx_port.proofs.pending.Pending.take.Goals as goal
+use Rattle.afdx_port.proofs.port_state.PortState.take.Goals as goal
 
 pub returns-clause-given : goal.returns-clause-given
 returns-clause-given g c = λ h st. take_some g.T.HasLength.facts c.advance.new.self h c.args.until

@@ -7,7 +7,7 @@ ghost use Rattle.afdx_police.specs.LinkAccounts as accounts;
 ghost use Rattle.afdx_port.specs.Times.{drain_end, latest_put};
 ghost use Rattle.afdx_frame.specs.declared.link.Priority.{Priority};
 ghost use Rattle.afdx_port.specs.Serving.{IsServing};
-ghost use Rattle.afdx_port.specs.declared.pending.Pending.{Pending};
+ghost use Rattle.afdx_port.specs.declared.port_state.PortState.{PortState};
 ghost use Rattle.afdx_port.specs.History as queue;
 ghost use Rattle.afdx_port.specs.Held as held;
 ghost use Rattle.afdx_switch.specs.Ports.{holds};
@@ -28,7 +28,7 @@ use afdx_port::{Due, Port, Serving, first_due};
 use std::alloc::{AllocError, Global};
 
 /// What a switch works with.
-pub(crate) struct Working {
+pub(crate) struct SwitchState {
     pub(crate) alloc: Global,
     /// The last time used.
     pub(crate) clock: u64,
@@ -44,7 +44,7 @@ pub(crate) struct Working {
     pub(crate) first: usize,
 }
 
-impl Drop for Working {
+impl Drop for SwitchState {
     // (written out, it is one call wherever a value is let go)
     fn drop(self) {
         let Self {
@@ -113,7 +113,7 @@ fn forward(
     requires clocks { All (λ p. held.last_time p ≤ time) ports.old }
     requires quiet { All (λ p. held.IsQuiet facts p time) ports.old }
     ensures count { length ports.new ≡ last_port }
-    ensures offered { (c : HeldFrame) (i : ℕ) (o n : Pending HeldFrame) →
+    ensures offered { (c : HeldFrame) (i : ℕ) (o n : PortState HeldFrame) →
         AreShares c shares.old.items →
         slice_get ports.old i ≡ Some o → slice_get ports.new i ≡ Some n →
         IsOffered time priority (share_of c (is_among i places.now)) o n (holds result (i + 1)) }
@@ -135,7 +135,7 @@ fn forward(
 fn renew(serving: &mut Serving, ports: &[Port<Frame>], places: &[u8])
     requires port_count { length ports.now ≡ last_port }
     requires places { ArePlaces places.now }
-    ensures { (old : List (Pending HeldFrame)) → IsServing facts old serving.old →
+    ensures { (old : List (PortState HeldFrame)) → IsServing facts old serving.old →
         AreKept places.now old ports.now → IsServing facts ports.now serving.new }
 {
     for place in places {
@@ -143,7 +143,7 @@ fn renew(serving: &mut Serving, ports: &[Port<Frame>], places: &[u8])
     }
 }
 
-impl Working {
+impl SwitchState {
     ghost use Rattle.afdx_config.specs.Rows.{Rows};
     ghost use Rattle.afdx_frame.specs.declared.link.Side.{Side};
     ghost use Rattle.afdx_frame.specs.Layout.{link_named_by};

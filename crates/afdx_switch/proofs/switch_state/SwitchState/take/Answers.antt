@@ -7,7 +7,7 @@ use Rattle.afdx_switch.specs.Switching.{calls_at}
 use Rattle.afdx_switch.proofs.ListLemmas.{all-at}
 use Rattle.afdx_switch.proofs.TakeLemmas.{must-give, none-next, all-done, next-of, stands-after}
 use Rattle.afdx_switch.proofs.TakeLemmas.{taken-sound, lines-later, gone}
-use Rattle.afdx_switch.proofs.working.Working.take.Goals as goal
+use Rattle.afdx_switch.proofs.switch_state.SwitchState.take.Goals as goal
 
 pub returns-in_err-place-clause-no_more : goal.returns-in_err-place-clause-no_more
 returns-in_err-place-clause-no_more c t side h port s st low high next =

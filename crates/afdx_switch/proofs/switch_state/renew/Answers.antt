@@ -1,7 +1,7 @@
 use Rattle.std.proofs.Common.{◌<◌, ℕ, arith, refl, slice_index_or}
 use Rattle.std.proofs.lemmas.Option.{slice_get_read, slice_get-get_or}
 use Rattle.afdx_switch.proofs.ForwardLemmas.{none-renewed, renewed-next, all-renewed}
-use Rattle.afdx_switch.proofs.working.renew.Goals as goal
+use Rattle.afdx_switch.proofs.switch_state.renew.Goals as goal
 
 pub loop-place-init : goal.loop-place-init
 loop-place-init c = λ old is.

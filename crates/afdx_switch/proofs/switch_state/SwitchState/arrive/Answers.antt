@@ -9,7 +9,7 @@ use Rattle.afdx_police.specs.declared.shape.Reason.TheVariants.{OverRate}
 use Rattle.afdx_port.specs.Serving.{IsServing}
 use Rattle.afdx_switch.specs.HeldFrames.{HeldFrame, held_frame, facts}
 use Rattle.afdx_switch.specs.Ports.{holds}
-use Rattle.afdx_port.specs.declared.pending.Pending.{Pending}
+use Rattle.afdx_port.specs.declared.port_state.PortState.{PortState}
 use Rattle.afdx_switch.specs.declared.line.Line.{Line}
 use Rattle.afdx_switch.specs.Tables.{rows_of}
 use Rattle.afdx_switch.specs.Lines.{ArePlaces, IsNamedAt, is_among}
@@ -22,7 +22,7 @@ use Rattle.afdx_switch.proofs.StandsLemmas.{LinesAfter, unknown-reason, stands-d
 use Rattle.afdx_switch.proofs.StandsLemmas.{lines-faulted, lines-with, line-is, fault-reason}
 use Rattle.afdx_switch.proofs.StandsLemmas.{stands-accepted, lost-is, ports-sound, ports-quiet}
 use Rattle.afdx_switch.proofs.StandsLemmas.{ports-held}
-use Rattle.afdx_switch.proofs.working.Working.arrive.Goals as goal
+use Rattle.afdx_switch.proofs.switch_state.SwitchState.arrive.Goals as goal
 
 pub unreachable-requires : goal.unreachable-requires
 unreachable-requires c =
@@ -152,7 +152,7 @@ returns-clause-verdict c t side h st =
     c.charge-passes.new.lines.ok.0 (omega (arith, c.in-Some.ensures.within, c.charge-passes.ensures.count))
     c.index-line-2.ensures) in
     let carried : HeldFrame = held_frame c.args.tag of_line.longest_wait c.args.frame.bytes.now in
-    let offered : (i : ℕ) (o p : Pending HeldFrame) → slice_get c.args.self.now.ports.items i ≡ Some o
+    let offered : (i : ℕ) (o p : PortState HeldFrame) → slice_get c.args.self.now.ports.items i ≡ Some o
     → slice_get c.forward-lost.new.ports i ≡ Some p →
     IsOffered c.args.time of_line.priority (share_of carried (is_among i of_line.goes.items)) o p
     (holds c.forward-lost.result (i + 1)) =
@@ -207,7 +207,7 @@ returns-clause-stands c t side h st =
     c.charge-passes.new.lines.ok.0 (omega (arith, c.in-Some.ensures.within, c.charge-passes.ensures.count))
     c.index-line-2.ensures) in
     let carried : HeldFrame = held_frame c.args.tag of_line.longest_wait c.args.frame.bytes.now in
-    let offered : (i : ℕ) (o p : Pending HeldFrame) → slice_get c.args.self.now.ports.items i ≡ Some o
+    let offered : (i : ℕ) (o p : PortState HeldFrame) → slice_get c.args.self.now.ports.items i ≡ Some o
     → slice_get c.forward-lost.new.ports i ≡ Some p →
     IsOffered c.args.time of_line.priority (share_of carried (is_among i of_line.goes.items)) o p
     (holds c.forward-lost.result (i + 1)) =
@@ -251,7 +251,7 @@ returns-clause-sound c =
     c.charge-passes.new.lines.ok.0 (omega (arith, c.in-Some.ensures.within, c.charge-passes.ensures.count))
     c.index-line-2.ensures) in
     let carried : HeldFrame = held_frame c.args.tag of_line.longest_wait c.args.frame.bytes.now in
-    let offered : (i : ℕ) (o p : Pending HeldFrame) → slice_get c.args.self.now.ports.items i ≡ Some o
+    let offered : (i : ℕ) (o p : PortState HeldFrame) → slice_get c.args.self.now.ports.items i ≡ Some o
     → slice_get c.forward-lost.new.ports i ≡ Some p →
     IsOffered c.args.time of_line.priority (share_of carried (is_among i of_line.goes.items)) o p
     (holds c.forward-lost.result (i + 1)) =
@@ -316,7 +316,7 @@ returns-clause-quiet c =
     c.charge-passes.new.lines.ok.0 (omega (arith, c.in-Some.ensures.within, c.charge-passes.ensures.count))
     c.index-line-2.ensures) in
     let carried : HeldFrame = held_frame c.args.tag of_line.longest_wait c.args.frame.bytes.now in
-    let offered : (i : ℕ) (o p : Pending HeldFrame) → slice_get c.args.self.now.ports.items i ≡ Some o
+    let offered : (i : ℕ) (o p : PortState HeldFrame) → slice_get c.args.self.now.ports.items i ≡ Some o
     → slice_get c.forward-lost.new.ports i ≡ Some p →
     IsOffered c.args.time of_line.priority (share_of carried (is_among i of_line.goes.items)) o p
     (holds c.forward-lost.result (i + 1)) =
@@ -355,7 +355,7 @@ returns-clause-held c =
     c.charge-passes.new.lines.ok.0 (omega (arith, c.in-Some.ensures.within, c.charge-passes.ensures.count))
     c.index-line-2.ensures) in
     let carried : HeldFrame = held_frame c.args.tag of_line.longest_wait c.args.frame.bytes.now in
-    let offered : (i : ℕ) (o p : Pending HeldFrame) → slice_get c.args.self.now.ports.items i ≡ Some o
+    let offered : (i : ℕ) (o p : PortState HeldFrame) → slice_get c.args.self.now.ports.items i ≡ Some o
     → slice_get c.forward-lost.new.ports i ≡ Some p →
     IsOffered c.args.time of_line.priority (share_of carried (is_among i of_line.goes.items)) o p
     (holds c.forward-lost.result (i + 1)) =

@@ -1,8 +1,8 @@
 use Rattle.std.proofs.Common.{◌<◌, ℕ, sym, ◌∙◌, arith, ap, refl, Some, slice_index_or}
 use Rattle.std.proofs.lemmas.Option.{slice_get_read, slice_get-get_or}
 use Rattle.afdx_switch.proofs.ForwardLemmas.{forwarded-step, adds-none, all-forwarded, kept-elsewhere}
-use Rattle.afdx_switch.proofs.working.forward.Goals.{then-offer, else-offer}
-use Rattle.afdx_switch.proofs.working.forward.Goals as goal
+use Rattle.afdx_switch.proofs.switch_state.forward.Goals.{then-offer, else-offer}
+use Rattle.afdx_switch.proofs.switch_state.forward.Goals as goal
 
 pub loop-place-preserved : goal.loop-place-preserved
 loop-place-preserved c =

@@ -4,7 +4,7 @@ use Rattle.afdx_port.specs.Ports.{IsFirstDue, AreQuiet}
 use Rattle.afdx_switch.specs.HeldFrames.{facts}
 use Rattle.afdx_switch.specs.Switching.{calls_at}
 use Rattle.afdx_switch.proofs.TakeLemmas.{all-done, quiet-ever, due-of-first, quiet-iff, due-comes}
-use Rattle.afdx_switch.proofs.working.Working.due.Goals as goal
+use Rattle.afdx_switch.proofs.switch_state.SwitchState.due.Goals as goal
 
 pub returns-in_err-place-clause-all_done : goal.returns-in_err-place-clause-all_done
 returns-in_err-place-clause-all_done c t side h port st low high =

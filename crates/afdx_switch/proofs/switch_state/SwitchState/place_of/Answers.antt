@@ -2,7 +2,7 @@ use Rattle.std.proofs.Common.{◌<◌, sym, ◌∙◌, arith, ap, Some, None}
 use Rattle.std.proofs.lemmas.Option.{slice_get_read}
 use Rattle.afdx_switch.specs.Tables.{rows_of}
 use Rattle.afdx_switch.proofs.NamedLemmas.{unnamed, no-row, row-at}
-use Rattle.afdx_switch.proofs.working.Working.place_of.Goals as goal
+use Rattle.afdx_switch.proofs.switch_state.SwitchState.place_of.Goals as goal
 
 pub returns-in_err-vl-clause-place : goal.returns-in_err-vl-clause-place
 returns-in_err-vl-clause-place c t side h st =

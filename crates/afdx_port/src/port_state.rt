@@ -25,7 +25,7 @@ pub(crate) struct Waiting<T> {
 
 /// What a port still has to do.
 #[derive(Drop)]
-pub(crate) struct Pending<T> {
+pub(crate) struct PortState<T> {
     byte_ns: u64,
     buffer: u64,
     /// The last time used.
@@ -51,7 +51,7 @@ fn is_too_old(longest_wait: Option<u64>, time: u64, moment: u64) -> bool
     }
 }
 
-impl<T: HasLength> Pending<T> {
+impl<T: HasLength> PortState<T> {
     ghost use Rattle.afdx_port.specs.Due.{given_at, IsAfter};
     ghost use Rattle.afdx_port.specs.Held.{IsByteTime, choice_of, queue_of, due_from, due_of};
     ghost use Rattle.afdx_port.specs.Held.{IsQuiet, frames_held};
@@ -59,7 +59,7 @@ impl<T: HasLength> Pending<T> {
     ghost use Rattle.afdx_port.specs.History.{PortHistory, no_calls, at, with_put, entry_of, due_at};
     ghost use Rattle.afdx_port.specs.History.{StandsFor, Gives};
 
-    pub(crate) fn new(alloc: Global, byte_ns: u64, buffer: u64) -> Result<Pending<T>, AllocError>
+    pub(crate) fn new(alloc: Global, byte_ns: u64, buffer: u64) -> Result<PortState<T>, AllocError>
         requires rate { IsByteTime byte_ns }
         requires buffer { (least_frame ≤ buffer) × (buffer ≤ greatest_buffer) }
         ensures sound { IfOk result (λ p. IsPortSound T.facts p) }
@@ -71,7 +71,7 @@ impl<T: HasLength> Pending<T> {
         let places = buffer as usize / LEAST_FRAME;
         let high = HeapCircularBuffer::with_capacity(alloc, places)?;
         let low = HeapCircularBuffer::with_capacity(alloc, places)?;
-        Ok(Pending {
+        Ok(PortState {
             byte_ns,
             buffer,
             clock: 0,

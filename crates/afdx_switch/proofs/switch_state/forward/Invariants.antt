@@ -1,5 +1,5 @@
 use Rattle.afdx_switch.proofs.ForwardLemmas.{Forwarded}
-use Rattle.afdx_switch.proofs.working.forward.Given as goal
+use Rattle.afdx_switch.proofs.switch_state.forward.Given as goal
 
 abbrev pub invariant-loop-place : goal.invariant-loop-place
 invariant-loop-place l = Forwarded l.time l.priority l.places l.initial.shares.items l.initial.ports

@@ -3,7 +3,7 @@ use Rattle.std.specs.Prelude.{slice_set}
 use Rattle.std.proofs.lemmas.Option.{slice_get_read}
 use Rattle.afdx_police.specs.LinkAccounts.{StandsForOwn}
 use Rattle.afdx_switch.specs.declared.line.Line.{Line}
-use Rattle.afdx_switch.proofs.working.charge.Goals as goal
+use Rattle.afdx_switch.proofs.switch_state.charge.Goals as goal
 
 pub returns-clause-charged : goal.returns-clause-charged
 returns-clause-charged c line at =
