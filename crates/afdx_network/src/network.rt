@@ -132,25 +132,11 @@ impl Network {
             (λ _. frames_held self.new + 1 ≡ frames_held self.old) }
         ensures clock { IsUntil self.new until }
     {
-        match first_side(self.a.due(), self.b.due(), until)? {
-            Side::A => {
-                let Some(departure) = self.a.take(until) else {
-                    unreachable!();
-                };
-                Some(Departed {
-                    side: Side::A,
-                    departure,
-                })
-            }
-            Side::B => {
-                let Some(departure) = self.b.take(until) else {
-                    unreachable!();
-                };
-                Some(Departed {
-                    side: Side::B,
-                    departure,
-                })
-            }
-        }
+        let side = first_side(self.a.due(), self.b.due(), until)?;
+        let departure = match side {
+            Side::A => self.a.take(until)?,
+            Side::B => self.b.take(until)?,
+        };
+        Some(Departed { side, departure })
     }
 }

@@ -92,6 +92,14 @@ module _ {X : Type 0} where
       subst P (sym is ∙ sym gone) st
   take_kept facts p h until (Some l) after st is gone = tt
 
+  pub take_due : (facts : X → Facts) (old p : PortState X) (o after : Option (Left X))
+      → due_of facts p ≡ due_of facts old → o ≡ p.sending → after ≡ None →
+      IfNone o (due_of facts (record p { sending = after }) ≡ due_of facts old)
+  take_due facts old p None after due is gone =
+      let P : Option (Left X) → Type 0 = λ a. due_of facts (record p { sending = a }) ≡ due_of facts old in
+      subst P (sym is ∙ sym gone) due
+  take_due facts old p (Some l) after due is gone = tt
+
   -- nor where the line is busy at t
   pub busy_quiet : (facts : X → Facts) (p : PortState X) (t : ℕ) → 1 ≤ p.byte_ns → t < p.free
       → ((c : Priority) (moment : ℕ) → p.sending ≡ None → choice_of p ≡ Some (c, moment)

@@ -1,10 +1,10 @@
 -- Which of several ports gives its turn first.
-use Rattle.std.specs.Prelude.{◌≡◌, ℕ, ◌<◌, ◌≤◌, List, length, Option, Some, None, slice_get}
+use Rattle.std.specs.Prelude.{All, ◌≡◌, ℕ, ◌<◌, ◌≤◌, List, length, Option, Some, None, slice_get}
 use Rattle.afdx_port.specs.Times.{drain_end}
 use Rattle.afdx_port.specs.declared.left.Due.{Due}
 use Rattle.afdx_port.specs.declared.port_state.PortState.{PortState}
 use Rattle.afdx_port.specs.Facts.{Facts}
-use Rattle.afdx_port.specs.Due.{given_at, IsBy, order_of}
+use Rattle.afdx_port.specs.Due.{given_at, order_of}
 use Rattle.afdx_port.specs.Held.{due_of, IsQuiet}
 
 -- the order of a port that has no turn to come: 2^52, which is after that of each turn
@@ -17,12 +17,6 @@ order_at None = order_without_turn
 order_at (Some d) = order_of d
 
 module _ {X : Type 0} where
-  -- none of the first n ports gives a further turn by then
-  abbrev pub AreQuiet : (X → Facts) → List (PortState X) → ℕ → ℕ → Type 0
-  AreQuiet facts ports until n =
-      (place : ℕ) (p : PortState X) → place < n → slice_get ports place ≡ Some p →
-      IsQuiet facts p until
-
   -- what is due at the first n ports is given by 1.2e15 ns
   abbrev pub AreLimited : (X → Facts) → List (PortState X) → ℕ → Type 0
   AreLimited facts ports n = (place : ℕ) (p : PortState X) (d : Due) → place < n →
@@ -43,18 +37,8 @@ module _ {X : Type 0} where
     pub first : IsFirst facts ports place
     pub limit : AreLimited facts ports (length ports)
 
-  -- of the first n ports this one gives its turn first, and by then
-  pub record IsFirstAt (facts : X → Facts) (ports : List (PortState X)) (until n place : ℕ)
-      (d : Due) : Type 0 where
-    pub below : place < n
-    pub p : PortState X
-    pub stands : slice_get ports place ≡ Some p
-    pub due : due_of facts p ≡ Some d
-    pub by : IsBy until d
-    pub least : (j : ℕ) (q : PortState X) (e : Due) → j < n → slice_get ports j ≡ Some q →
-        due_of facts q ≡ Some e → order_of d ≤ order_of e
-    pub first : (j : ℕ) (q : PortState X) (e : Due) → j < n → slice_get ports j ≡ Some q →
-        due_of facts q ≡ Some e → order_of d ≡ order_of e → place ≤ j
-
-  abbrev pub IsFirstDue : (X → Facts) → List (PortState X) → ℕ → ℕ → ℕ → Type 0
-  IsFirstDue facts ports until n place = (d : Due) × IsFirstAt facts ports until n place d
+  -- so where that port gives no further turn by a time, no port does
+  abbrev pub FirstIsQuiet : (X → Facts) → Type 0
+  FirstIsQuiet facts = (ports : List (PortState X)) (place until : ℕ) (p : PortState X) →
+      AreServed facts ports place → slice_get ports place ≡ Some p → IsQuiet facts p until →
+      All (λ q. IsQuiet facts q until) ports

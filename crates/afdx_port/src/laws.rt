@@ -7,6 +7,7 @@ ghost use Rattle.afdx_port.specs.Classes.{entries_in, AreOfOneClass, GoInOrder};
 ghost use Rattle.afdx_port.specs.Due.{IsAfter};
 ghost use Rattle.afdx_port.specs.Held.{due_of, IsQuiet, last_time, frames_held};
 ghost use Rattle.afdx_port.specs.History.{PortHistory, due_at, StandsFor};
+ghost use Rattle.afdx_port.specs.Ports.{FirstIsQuiet};
 ghost use Rattle.afdx_port.specs.declared.port_state.PortState.{PortState};
 
 use crate::HasLength;
@@ -59,4 +60,10 @@ pub fn due_is_next<T: HasLength>()
     ensures all_done { (p : PortState T) (h : PortHistory T) → StandsFor T.facts p h →
         due_of T.facts p ≡ None → IsSchedule h.byte_ns h.entries h.taken }
     ensures empty { (p : PortState T) (t : ℕ) → frames_held p ≡ 0 → IsQuiet T.facts p t }
+{}
+
+/// Of ports that are served together, the one whose turn goes first tells of all: where it gives
+/// nothing by a time, none does.
+pub fn first_tells_of_all<T: HasLength>()
+    ensures { FirstIsQuiet T.facts }
 {}

@@ -6,11 +6,9 @@ pub mod laws;
 mod left;
 mod port;
 mod port_state;
-mod ports;
 mod serving;
 
 pub use has_length::HasLength;
 pub use left::{Due, Left};
 pub use port::Port;
-pub use ports::first_due;
 pub use serving::Serving;

@@ -154,8 +154,9 @@ impl<T: HasLength> Port<T> {
     }
 
     /// The next turn, if it is over by `until`, in ns: a slot that ends at or before `until`, or a
-    /// drop whose moment is before `until`. `until` isn't before the last time used. If it is
-    /// 1.2e15 or later, None says that each frame that was put and not lost has had its turn.
+    /// drop whose moment is before `until`. `until` isn't before the last time used. None leaves
+    /// what is due as it was. If `until` is 1.2e15 or later, None says that each frame that was put
+    /// and not lost has had its turn.
     pub fn take(&mut self, until: u64) -> Option<Left<T>>
         requires clock { last_time self.old ≤ until }
         ensures given { (h : PortHistory T) → StandsFor T.facts self.old h →
@@ -167,6 +168,7 @@ impl<T: HasLength> Port<T> {
         ensures all_done { (h : PortHistory T) → StandsFor T.facts self.old h →
             drain_end ≤ until → IfNone result (IsSchedule h.byte_ns h.entries h.taken) }
         ensures quiet { IfNone result (IsQuiet T.facts self.new until) }
+        ensures due { IfNone result (due_of T.facts self.new ≡ due_of T.facts self.old) }
         ensures held { MatchOption result (frames_held self.new ≡ frames_held self.old)
             (λ _. frames_held self.new + 1 ≡ frames_held self.old) }
         ensures clock { last_time self.new ≡ until }

@@ -264,6 +264,7 @@ impl<T: HasLength> PortState<T> {
         ensures sound { IsPortSound T.facts self.new }
         ensures clock { self.new.clock ≡ until }
         ensures quiet { IfNone result (IsQuiet T.facts self.new until) }
+        ensures due { IfNone result (due_of T.facts self.new ≡ due_of T.facts self.old) }
         ensures held { MatchOption result (frames_held self.new ≡ frames_held self.old)
             (λ _. frames_held self.new + 1 ≡ frames_held self.old) }
         ensures given { (h : PortHistory T) → StandsFor T.facts self.old h →

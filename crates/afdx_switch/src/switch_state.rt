@@ -24,7 +24,7 @@ use crate::switch::Departure;
 use crate::verdict::Verdict;
 use afdx_frame::{Checked, Priority, vl_of};
 use afdx_police::{Reason, judge_checked};
-use afdx_port::{Due, Port, Serving, first_due};
+use afdx_port::{Due, Port, Serving};
 use std::alloc::{AllocError, Global};
 
 /// What a switch works with.
@@ -244,8 +244,7 @@ impl SwitchState {
             IfSome result (λ due. IsAfter time due) }
         ensures limit { IfSome result (λ due. given_at due ≤ drain_end) }
     {
-        let place = first_due(&self.ports, self.first, u64::MAX)?;
-        self.ports[place].due()
+        self.ports[self.first].due()
     }
 
     #[inline(always)]
@@ -271,11 +270,9 @@ impl SwitchState {
         ensures clock { last_time self.new ≡ until }
     {
         self.clock = until;
-        let place = first_due(&self.ports, self.first, until)?;
+        let place = self.first;
         let port = &mut self.ports[place];
-        let Some(left) = port.take(until) else {
-            unreachable!();
-        };
+        let left = port.take(until)?;
         self.serving.renew(place, port);
         self.first = self.serving.first::<Frame>();
         Some(Departure {

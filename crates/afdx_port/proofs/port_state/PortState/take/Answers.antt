@@ -1,6 +1,6 @@
 use Rattle.std.proofs.Common.{arith}
 use Rattle.afdx_port.proofs.DueLemmas.{quiet_after}
-use Rattle.afdx_port.proofs.TakeLemmas.{take_some, take_kept, busy_quiet, take_quiet, take_no_more}
+use Rattle.afdx_port.proofs.TakeLemmas.{take_some, take_kept, take_due, busy_quiet, take_quiet, take_no_more}
 use Rattle.afdx_port.proofs.TakeLemmas.{quiet_all_done, take_all_done}
 use Rattle.afdx_port.specs.History.{at}
 use Rattle.afdx_port.proofs.port_state.PortState.take.Goals as goal
@@ -14,6 +14,10 @@ pub returns-clause-none : goal.returns-clause-none
 returns-clause-none g c = λ h st. take_kept g.T.HasLength.facts c.advance.new.self h c.args.until
     c.take.result c.take.new.self (c.advance.ensures.stands h st) c.take.ensures.value
     c.take.ensures.after
+
+pub returns-clause-due : goal.returns-clause-due
+returns-clause-due g c = take_due g.T.HasLength.facts c.args.self.now c.advance.new.self c.take.result
+    c.take.new.self c.advance.ensures.due c.take.ensures.value c.take.ensures.after
 
 pub returns-then-not-is_over-clause-quiet : goal.returns-then-not-is_over-clause-quiet
 returns-then-not-is_over-clause-quiet g c =
