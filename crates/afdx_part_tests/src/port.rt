@@ -311,8 +311,7 @@ fn add_ports(ports: &mut Vec<Port<Frame>>, alloc: Global) -> Result<(), Fail> {
     Ok(())
 }
 
-/// The first of 24 ports, and the one whose turn is given by each of two times, if there is one.
-/// None: they aren't 24.
+/// The first of 24 ports, and whether it gives nothing by each of two times. None: they aren't 24.
 fn first_of(
     ports: &[Port<Frame>],
     early: u64,

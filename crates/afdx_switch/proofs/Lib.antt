@@ -4,6 +4,7 @@ pub mod NamedLemmas
 pub mod TakeLemmas
 pub mod ArrivalLemmas
 pub mod StandsLemmas
+pub mod FoundLemmas
 pub mod NewLemmas
 pub mod PlaceLemmas
 pub mod LawLemmas

@@ -8,6 +8,9 @@ use Rattle.afdx_port.specs.declared.port_state.PortState.{PortState}
 use Rattle.afdx_bounds.specs.Offered as offered
 use Rattle.afdx_switch.specs.HeldFrames.{HeldFrame, facts}
 use Rattle.afdx_switch.specs.Lines.{is_among}
+use Rattle.afdx_switch.specs.Ports.{holds}
+use Rattle.afdx_switch.specs.declared.line.Line.{Line}
+use Rattle.afdx_switch.specs.declared.ports.PortSet.{PortSet}
 
 -- the share of a frame at a port that its link goes to
 abbrev pub share_of : HeldFrame → Bool → Option HeldFrame
@@ -62,3 +65,10 @@ pub record IsOffered (time : ℕ) (priority : Priority) (share : Option HeldFram
       queue.StandsFor facts n (calls_after time priority share h n.clock)
   pub lost : (h : queue.PortHistory HeldFrame) → queue.StandsFor facts o h →
       is_lost ≡ loses_share time priority h.byte_ns h.buffer h.entries share
+
+-- the ports before and after a line's ports were offered shares of a frame, and which lost theirs
+abbrev pub AreOffered : ℕ → Line → HeldFrame → List (PortState HeldFrame) →
+    List (PortState HeldFrame) → PortSet → Type 0
+AreOffered time line c old new lost = (i : ℕ) (o n : PortState HeldFrame) →
+    slice_get old i ≡ Some o → slice_get new i ≡ Some n →
+    IsOffered time line.priority (share_of c (is_among i line.goes.items)) o n (holds lost (i + 1))

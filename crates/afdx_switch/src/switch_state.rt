@@ -1,7 +1,7 @@
 //! What a switch does with its accounts and its ports.
 
-ghost use Rattle.std.specs.Prelude.{[], ◌≢◌, ◌≡◌, ◌↔◌, ℕ, ◌≤◌, ◌<◌, ◌+◌, List, Option, None, Some, IfOk, OnOk, OnErr, IfSome, IfNone, MatchOption, length, slice_get, true, false, not, All, vec_len};
-ghost use Rattle.afdx_frame.specs.Lengths.{least_frame};
+ghost use Rattle.std.specs.Prelude.{[], ◌≢◌, ◌≡◌, ◌↔◌, ℕ, ◌≤◌, ◌<◌, ◌+◌, List, Option, None, Some, IfOk, IfErr, OnOk, OnErr, IfSome, IfNone, MatchOption, length, slice_get, true, false, not, All, vec_len};
+ghost use Rattle.afdx_frame.specs.Lengths.{least_frame, greatest_frame};
 ghost use Rattle.afdx_frame.specs.Ports.{last_port};
 ghost use Rattle.afdx_police.specs.LinkAccounts as accounts;
 ghost use Rattle.afdx_port.specs.Times.{drain_end, latest_put};
@@ -22,8 +22,8 @@ use crate::line::Line;
 use crate::ports::PortSet;
 use crate::switch::Departure;
 use crate::verdict::Verdict;
-use afdx_frame::{Checked, Priority, vl_of};
-use afdx_police::{Reason, judge_checked};
+use afdx_frame::{Checked, MacView, Priority, VlId};
+use afdx_police::Reason;
 use afdx_port::{Due, Port, Serving};
 use std::alloc::{AllocError, Global};
 
@@ -59,9 +59,9 @@ impl Drop for SwitchState {
     }
 }
 
-/// Offers a frame of `size` bytes to the account of the line at this place. Answers whether it is
-/// accepted.
-fn charge(lines: &mut Vec<Line>, place: usize, time: u64, size: u64) -> bool
+/// Offers a frame of `size` bytes to the account of the line at this place. Answers why it is
+/// dropped, if it is.
+fn charge(lines: &mut Vec<Line>, place: usize, time: u64, size: u64) -> Option<Reason>
     requires within { place < vec_len lines.old }
     requires in_time { (line : Line) → slice_get lines.old.items place ≡ Some line →
         accounts.last_time line.account ≤ time }
@@ -146,7 +146,7 @@ fn renew(serving: &mut Serving, ports: &[Port<Frame>], places: &[u8])
 impl SwitchState {
     ghost use Rattle.afdx_config.specs.Rows.{Rows};
     ghost use Rattle.afdx_frame.specs.declared.link.Side.{Side};
-    ghost use Rattle.afdx_frame.specs.Layout.{link_named_by};
+    ghost use Rattle.afdx_frame.specs.Sealing.{is_sealed};
     ghost use Rattle.afdx_police.specs.Arrival.{arrival_with};
     ghost use Rattle.afdx_port.specs.Due.{given_at, IsAfter};
     ghost use Rattle.afdx_port.specs.Schedule.{Turn};
@@ -156,20 +156,85 @@ impl SwitchState {
     ghost use Rattle.afdx_switch.specs.Switching.{IsDue, IsDone, Gives, with_arrival, at};
     ghost use Rattle.afdx_switch.specs.Switching.{frames_held, last_time};
     ghost use Rattle.afdx_switch.specs.Sound.{IsSwitchSound};
+    ghost use Rattle.afdx_switch.specs.Found.{Found, IsFaulted};
+    ghost use Rattle.afdx_switch.specs.Lines.{IsPlaceOf};
+    ghost use Rattle.afdx_switch.specs.Shares.{AreOffered};
     ghost use Rattle.afdx_switch.specs.Lines.{IsNamed};
 
-    /// The place of the link that the bytes name.
-    fn place_of(&self, bytes: &[u8]) -> Option<usize>
+    /// The place of the link of this identifier.
+    fn place_of(&self, vl: VlId) -> Option<usize>
         requires { IsSwitchSound self.now }
         ensures within { IfSome result (λ i. i < vec_len self.now.lines) }
         ensures place { (t : Rows) (side : Side) (h : SwitchHistory) → StandsFor t side self.now h →
-            IsNamed (rows_of t) bytes.now result }
+            IsPlaceOf (rows_of t) vl.0 result }
     {
-        let vl = vl_of(bytes)?;
         match self.places[vl.0 as usize] {
             Some(place) => Some(place as usize),
             None => None,
         }
+    }
+
+    /// The place of the link that a frame names, if nothing is wrong in the frame's shape; else its
+    /// first fault.
+    fn judged(&self, port: u8, frame: Checked<'_>) -> Result<usize, Reason>
+        requires { IsSwitchSound self.now }
+        ensures found { (t : Rows) (side : Side) (h : SwitchHistory) (tag time : ℕ) →
+            StandsFor t side self.now h →
+            let arrival = arrival_with tag time side port frame.entry.bytes.now in
+            IfOk result (Found t arrival self.now h) }
+        ensures faulted { (t : Rows) (side : Side) (h : SwitchHistory) (tag time : ℕ) →
+            StandsFor t side self.now h →
+            let arrival = arrival_with tag time side port frame.entry.bytes.now in
+            IfErr result (IsFaulted t arrival) }
+        ensures within { IfOk result (λ place. place < vec_len self.now.lines) }
+        ensures at_most { IfOk result (λ place. (line : Line) →
+            slice_get self.now.lines.items place ≡ Some line →
+            length frame.entry.bytes.now ≤ (accounts.account_of line.account).rule.lmax) }
+        ensures shortest { OnOk result (least_frame ≤ length frame.entry.bytes.now) }
+        ensures longest { OnOk result (length frame.entry.bytes.now ≤ greatest_frame) }
+        ensures sealed { OnOk result (is_sealed frame.entry.bytes.now ≡ true) }
+    {
+        let view = match MacView::of(frame) {
+            Ok(view) => view,
+            Err(fault) => return Err(fault.into()),
+        };
+        let Some(place) = self.place_of(view.vl()) else {
+            return Err(Reason::UnknownLink);
+        };
+        match self.lines[place].account.fault(port, &view, frame.bytes) {
+            Some(reason) => Err(reason),
+            None => Ok(place),
+        }
+    }
+
+    /// Offers the ports that the line at this place goes to their shares of a frame. Answers those
+    /// that lost theirs.
+    fn send_on(&mut self, place: usize, shares: &mut Vec<Frame>) -> PortSet
+        requires limit { self.old.clock ≤ latest_put }
+        requires sound { IsSwitchSound self.old }
+        requires quiet { IsQuiet self.old self.old.clock }
+        requires alike { (c : HeldFrame) × AreShares c shares.old.items }
+        requires within { place < vec_len self.old.lines }
+        requires share_count { (line : Line) → slice_get self.old.lines.items place ≡ Some line →
+            length shares.old.items ≡ length line.goes.items }
+        ensures offered { (line : Line) (c : HeldFrame) →
+            slice_get self.old.lines.items place ≡ Some line → AreShares c shares.old.items →
+            AreOffered self.old.clock line c self.old.ports.items self.new.ports.items result }
+        ensures sound { IsSwitchSound self.new }
+        ensures quiet { IsQuiet self.new self.old.clock }
+        ensures held { frames_held self.new ≤ frames_held self.old + last_port }
+        ensures rest { self.new ≡ record self.old {
+          ports = self.new.ports;
+          serving = self.new.serving;
+          first = self.new.first;
+        } }
+    {
+        let line = &self.lines[place];
+        let places = line.goes.as_slice();
+        let lost = forward(&mut self.ports, places, shares, self.clock, line.priority);
+        renew(&mut self.serving, &self.ports, places);
+        self.first = self.serving.first::<Frame>();
+        lost
     }
 
     /// `shares` is room for the shares of the frame: what is left there is of no use.
@@ -204,31 +269,22 @@ impl SwitchState {
         ensures held { frames_held self.new ≤ frames_held self.old + last_port }
         ensures clock { OnOk result (last_time self.new ≡ time) }
     {
-        let Some(place) = self.place_of(frame.bytes) else {
-            let Some(reason) = judge_checked(None, port, frame) else {
-                unreachable!();
-            };
-            self.clock = time;
-            return Ok(Verdict::Dropped(reason));
+        let place = match self.judged(port, frame) {
+            Ok(place) => place,
+            Err(reason) => {
+                self.clock = time;
+                return Ok(Verdict::Dropped(reason));
+            }
         };
         let line = &self.lines[place];
-        if let Some(reason) = judge_checked(Some(line.account.rule()), port, frame) {
-            self.clock = time;
-            return Ok(Verdict::Dropped(reason));
-        }
         let count = line.goes.len();
         let copy = Frame::copy(self.alloc, tag, line.longest_wait, frame.bytes)?;
         share_out(&copy, count, shares)?;
         self.clock = time;
-        let passes = charge(&mut self.lines, place, time, frame.bytes.len() as u64);
-        if !passes {
-            return Ok(Verdict::Dropped(Reason::OverRate));
+        if let Some(reason) = charge(&mut self.lines, place, time, frame.bytes.len() as u64) {
+            return Ok(Verdict::Dropped(reason));
         }
-        let line = &self.lines[place];
-        let places = line.goes.as_slice();
-        let lost = forward(&mut self.ports, places, shares, time, line.priority);
-        renew(&mut self.serving, &self.ports, places);
-        self.first = self.serving.first::<Frame>();
+        let lost = self.send_on(place, shares);
         Ok(Verdict::Accepted { lost })
     }
 

@@ -7,7 +7,7 @@ use Rattle.afdx_police.specs.Offers.{offers_of}
 use Rattle.afdx_police.specs.Policer.{StandsFor}
 use Rattle.afdx_police.specs.declared.account.LinkAccount.TheVariants.{ByByte, ByFrame}
 use Rattle.afdx_police.proofs.VerdictLemmas.{answer-reason, offered-stands}
-use Rattle.afdx_police.proofs.account.LinkAccount.offer.Goals as goal
+use Rattle.afdx_police.proofs.account.LinkAccount.passes.Goals as goal
 
 pub returns-in-ByByte-clause-answer : goal.returns-in-ByByte-clause-answer
 returns-in-ByByte-clause-answer c rule past x stands offered =
