@@ -66,7 +66,8 @@ impl<T: HasLength> Port<T> {
     ghost use Rattle.afdx_port.specs.Ports.{order_at, order_without_turn};
     ghost use Rattle.afdx_port.specs.Held.{IsByteTime, due_of, IsQuiet, last_time, frames_held};
     ghost use Rattle.afdx_port.specs.History.{PortHistory, no_calls, at, with_put, entry_of, due_at};
-    ghost use Rattle.afdx_port.specs.History.{StandsFor, Gives};
+    ghost use Rattle.afdx_port.specs.History.{StandsFor};
+    ghost use Rattle.afdx_port.specs.Takes.{Takes};
 
     /// An idle port at time 0, whose line takes `byte_ns` for a byte: 8, 80 or 800 ns.
     /// The frames that wait may have `buffer` bytes together, 64 to 4,194,304; there is room for
@@ -159,19 +160,7 @@ impl<T: HasLength> Port<T> {
     /// and not lost has had its turn.
     pub fn take(&mut self, until: u64) -> Option<Left<T>>
         requires clock { last_time self.old ≤ until }
-        ensures given { (h : PortHistory T) → StandsFor T.facts self.old h →
-            IfSome result (λ left. Gives T.facts h until left self.new) }
-        ensures none { (h : PortHistory T) → StandsFor T.facts self.old h →
-            IfNone result (StandsFor T.facts self.new (at h until)) }
-        ensures no_more { (h : PortHistory T) (s : Turn T) → StandsFor T.facts self.old h →
-            IsNext h.byte_ns h.entries h.taken s → IfNone result (IsAfter until (due_at s)) }
-        ensures all_done { (h : PortHistory T) → StandsFor T.facts self.old h →
-            drain_end ≤ until → IfNone result (IsSchedule h.byte_ns h.entries h.taken) }
-        ensures quiet { IfNone result (IsQuiet T.facts self.new until) }
-        ensures due { IfNone result (due_of T.facts self.new ≡ due_of T.facts self.old) }
-        ensures held { MatchOption result (frames_held self.new ≡ frames_held self.old)
-            (λ _. frames_held self.new + 1 ≡ frames_held self.old) }
-        ensures clock { last_time self.new ≡ until }
+        ensures { Takes T.facts self.old self.new until result }
     {
         if self.is_quiet(until) {
             self.state.wait(until);

@@ -57,7 +57,8 @@ impl<T: HasLength> PortState<T> {
     ghost use Rattle.afdx_port.specs.Held.{IsQuiet, frames_held};
     ghost use Rattle.afdx_port.specs.Sound.{ChangesQueue, HasRoom, IsPortSound};
     ghost use Rattle.afdx_port.specs.History.{PortHistory, no_calls, at, with_put, entry_of, due_at};
-    ghost use Rattle.afdx_port.specs.History.{StandsFor, Gives};
+    ghost use Rattle.afdx_port.specs.History.{StandsFor};
+    ghost use Rattle.afdx_port.specs.Takes.{Takes};
 
     pub(crate) fn new(alloc: Global, byte_ns: u64, buffer: u64) -> Result<PortState<T>, AllocError>
         requires rate { IsByteTime byte_ns }
@@ -262,19 +263,7 @@ impl<T: HasLength> PortState<T> {
         requires clock { self.old.clock ≤ until }
         requires sound { IsPortSound T.facts self.old }
         ensures sound { IsPortSound T.facts self.new }
-        ensures clock { self.new.clock ≡ until }
-        ensures quiet { IfNone result (IsQuiet T.facts self.new until) }
-        ensures due { IfNone result (due_of T.facts self.new ≡ due_of T.facts self.old) }
-        ensures held { MatchOption result (frames_held self.new ≡ frames_held self.old)
-            (λ _. frames_held self.new + 1 ≡ frames_held self.old) }
-        ensures given { (h : PortHistory T) → StandsFor T.facts self.old h →
-            IfSome result (λ left. Gives T.facts h until left self.new) }
-        ensures none { (h : PortHistory T) → StandsFor T.facts self.old h →
-            IfNone result (StandsFor T.facts self.new (at h until)) }
-        ensures no_more { (h : PortHistory T) (s : Turn T) → StandsFor T.facts self.old h →
-            IsNext h.byte_ns h.entries h.taken s → IfNone result (IsAfter until (due_at s)) }
-        ensures all_done { (h : PortHistory T) → StandsFor T.facts self.old h →
-            drain_end ≤ until → IfNone result (IsSchedule h.byte_ns h.entries h.taken) }
+        ensures takes { Takes T.facts self.old self.new until result }
     {
         self.advance(until);
         let is_over = self.free <= until;
