@@ -13,3 +13,4 @@ pub mod RegularLemmas
 pub mod LinkFrameLemmas
 pub mod HopLemmas
 pub mod StreamLemmas
+pub mod CallLemmas

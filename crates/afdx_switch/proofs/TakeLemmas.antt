@@ -2,10 +2,11 @@
 use Rattle.std.proofs.Common.{◌≡◌, ◌≢◌, ℕ, zero, suc, ◌<◌, ◌≤◌, ◌+◌, List, ◌∷◌, length, set, refl}
 use Rattle.std.proofs.Common.{sym, ap, ◌∙◌, arith, subst, inl, inr}
 use Rattle.std.specs.Prelude.{Option, Some, None, IfSome, IfNone, Bool, true, false, if◌then◌else◌}
-use Rattle.std.specs.Prelude.{slice_get, All, ◌⊎◌, ◌*◌}
+use Rattle.std.specs.Prelude.{slice_get, All, sum_by, get_or, ◌⊎◌, ◌*◌}
 use Rattle.std.proofs.lemmas.Bool.{cases_eq, ne_eqb}
 use Rattle.std.proofs.lemmas.List.{length-set}
-use Rattle.std.proofs.lemmas.Option.{slice_get_cases, slice_get_within}
+use Rattle.std.proofs.lemmas.List.Sums.{sum_by-set}
+use Rattle.std.proofs.lemmas.Option.{slice_get_cases, slice_get_within, slice_get-get_or}
 use Rattle.afdx_frame.specs.declared.link.Side.{Side}
 use Rattle.afdx_config.specs.Rows.{Rows}
 use Rattle.afdx_port.specs.Due.{given_at, IsAfter, order_of}
@@ -221,6 +222,19 @@ module _ (t : Rows) (side : Side) (w : SwitchState) (h : SwitchHistory) (st : St
           (λ i q other at_q. subst (λ ts. queue.StandsFor facts q (calls-with (i + 1) ts q.clock))
           (sym (taken-there (w.first + 1) (i + 1) gives.turn h.taken (λ same. other (omega (arith, same)))))
           (st.ports i q at_q)) after clock lines places ports
+
+-- what the ports hold, where one is another
+pub held-set : (ports : List (PortState HeldFrame)) (place : ℕ) (p new : PortState HeldFrame)
+    → slice_get ports place ≡ Some p →
+    sum_by (λ q. held.frames_held q) (set ports place new) + held.frames_held p
+    ≡ sum_by (λ q. held.frames_held q) ports + held.frames_held new
+held-set ports place p new at =
+    let below = slice_get_within ports place p at in
+    let here : slice_get ports place ≡ Some (get_or ports place p) = slice_get-get_or ports place p below in
+    let same : get_or ports place p ≡ p = cc in
+    subst (λ (q : PortState HeldFrame). sum_by (λ q. held.frames_held q) (set ports place new) + held.frames_held q
+    ≡ sum_by (λ q. held.frames_held q) ports + held.frames_held new) same
+    (sum_by-set (λ q. held.frames_held q) ports place new p below)
 
 -- a port that gave its turn, or had none to give, is sound still
 pub taken-sound : (ports : List (PortState HeldFrame)) (time until place : ℕ) (p new : PortState HeldFrame) →

@@ -16,3 +16,4 @@ pub mod Admitted
 pub mod Regular
 pub mod Hops
 pub mod Streams
+pub mod Calls

@@ -1,18 +1,17 @@
 //! What a switch does with its accounts and its ports.
 
-ghost use Rattle.std.specs.Prelude.{[], ◌≢◌, ◌≡◌, ◌↔◌, ℕ, ◌≤◌, ◌<◌, ◌+◌, List, Option, None, Some, IfOk, IfErr, OnOk, OnErr, IfSome, IfNone, MatchOption, length, slice_get, true, false, not, All, vec_len};
+ghost use Rattle.std.specs.Prelude.{[], ◌≡◌, ℕ, ◌≤◌, ◌<◌, ◌+◌, List, Some, IfOk, IfErr, OnOk, IfSome};
+ghost use Rattle.std.specs.Prelude.{length, slice_get, true, All, vec_len};
 ghost use Rattle.afdx_frame.specs.Lengths.{least_frame, greatest_frame};
 ghost use Rattle.afdx_frame.specs.Ports.{last_port};
 ghost use Rattle.afdx_police.specs.LinkAccounts as accounts;
-ghost use Rattle.afdx_port.specs.Times.{drain_end, latest_put};
+ghost use Rattle.afdx_port.specs.Times.{latest_put};
 ghost use Rattle.afdx_frame.specs.declared.link.Priority.{Priority};
 ghost use Rattle.afdx_port.specs.Serving.{IsServing};
 ghost use Rattle.afdx_port.specs.declared.port_state.PortState.{PortState};
-ghost use Rattle.afdx_port.specs.History as queue;
 ghost use Rattle.afdx_port.specs.Held as held;
 ghost use Rattle.afdx_switch.specs.Ports.{holds};
-ghost use Rattle.afdx_switch.specs.HeldFrames.{HeldFrame, held_frame, facts};
-ghost use Rattle.afdx_switch.specs.Sound.{IsPortSound};
+ghost use Rattle.afdx_switch.specs.HeldFrames.{HeldFrame, facts};
 ghost use Rattle.afdx_switch.specs.Lines.{ArePlaces, IsCharged, is_among};
 ghost use Rattle.afdx_switch.specs.declared.line.Line.{Line};
 ghost use Rattle.afdx_switch.specs.Shares.{AreKept, AreShares, IsOffered, share_of};
@@ -148,18 +147,14 @@ impl SwitchState {
     ghost use Rattle.afdx_frame.specs.declared.link.Side.{Side};
     ghost use Rattle.afdx_frame.specs.Sealing.{is_sealed};
     ghost use Rattle.afdx_police.specs.Arrival.{arrival_with};
-    ghost use Rattle.afdx_port.specs.Due.{given_at, IsAfter};
-    ghost use Rattle.afdx_port.specs.Schedule.{Turn};
-    ghost use Rattle.afdx_switch.specs.Verdicts.{IsVerdict, shape_fault};
-    ghost use Rattle.afdx_switch.specs.Tables.{rows_of};
-    ghost use Rattle.afdx_switch.specs.Switching.{SwitchHistory, StandsFor, IsQuiet, IsNextAt};
-    ghost use Rattle.afdx_switch.specs.Switching.{IsDue, IsDone, Gives, with_arrival, at};
-    ghost use Rattle.afdx_switch.specs.Switching.{frames_held, last_time};
-    ghost use Rattle.afdx_switch.specs.Sound.{IsSwitchSound};
+    ghost use Rattle.afdx_switch.specs.Calls.{Arrives, TellsDue, Takes};
     ghost use Rattle.afdx_switch.specs.Found.{Found, IsFaulted};
     ghost use Rattle.afdx_switch.specs.Lines.{IsPlaceOf};
     ghost use Rattle.afdx_switch.specs.Shares.{AreOffered};
-    ghost use Rattle.afdx_switch.specs.Lines.{IsNamed};
+    ghost use Rattle.afdx_switch.specs.Sound.{IsSwitchSound};
+    ghost use Rattle.afdx_switch.specs.Switching.{SwitchHistory, StandsFor, IsQuiet};
+    ghost use Rattle.afdx_switch.specs.Switching.{frames_held, last_time};
+    ghost use Rattle.afdx_switch.specs.Tables.{rows_of};
 
     /// The place of the link of this identifier.
     fn place_of(&self, vl: VlId) -> Option<usize>
@@ -251,23 +246,8 @@ impl SwitchState {
         requires sound { IsSwitchSound self.old }
         requires clock { last_time self.old ≤ time }
         requires quiet { IsQuiet self.old time }
-        ensures verdict { (t : Rows) (side : Side) (h : SwitchHistory) →
-            StandsFor t side self.old h →
-            let arrival = arrival_with tag time side port frame.entry.bytes.now in
-            IfOk result (IsVerdict t h.arrivals arrival) }
-        ensures stands { (t : Rows) (side : Side) (h : SwitchHistory) →
-            StandsFor t side self.old h →
-            let arrival = arrival_with tag time side port frame.entry.bytes.now in
-            OnOk result (StandsFor t side self.new (with_arrival h arrival)) }
-        ensures judged { (t : Rows) (side : Side) (h : SwitchHistory) →
-            StandsFor t side self.old h →
-            let arrival = arrival_with tag time side port frame.entry.bytes.now in
-            OnErr result (shape_fault t arrival ≡ None) }
-        ensures refused { OnErr result (self.new ≡ self.old) }
+        ensures arrives { Arrives self.old self.new tag time port frame.entry.bytes.now result }
         ensures sound { IsSwitchSound self.new }
-        ensures quiet { IsQuiet self.new time }
-        ensures held { frames_held self.new ≤ frames_held self.old + last_port }
-        ensures clock { OnOk result (last_time self.new ≡ time) }
     {
         let place = match self.judged(port, frame) {
             Ok(place) => place,
@@ -291,14 +271,7 @@ impl SwitchState {
     /// When the next turn is over.
     pub(crate) fn due(&self) -> Option<Due>
         requires { IsSwitchSound self.now }
-        ensures comes { (t : Rows) (side : Side) (h : SwitchHistory) → StandsFor t side self.now h →
-            IfSome result (λ due. IsDue t side h due) }
-        ensures all_done { (t : Rows) (side : Side) (h : SwitchHistory) (port : ℕ) →
-            StandsFor t side self.now h → 1 ≤ port → port ≤ last_port →
-            IfNone result (IsDone t side h port) }
-        ensures quiet { (time : ℕ) → IsQuiet self.now time ↔
-            IfSome result (λ due. IsAfter time due) }
-        ensures limit { IfSome result (λ due. given_at due ≤ drain_end) }
+        ensures { TellsDue self.now result }
     {
         self.ports[self.first].due()
     }
@@ -307,23 +280,8 @@ impl SwitchState {
     pub(crate) fn take(&mut self, until: u64) -> Option<Departure>
         requires sound { IsSwitchSound self.old }
         requires clock { last_time self.old ≤ until }
+        ensures takes { Takes self.old self.new until result }
         ensures sound { IsSwitchSound self.new }
-        ensures given { (t : Rows) (side : Side) (h : SwitchHistory) → StandsFor t side self.old h →
-            IfSome result (λ d. Gives t side h until d self.new) }
-        ensures none { (t : Rows) (side : Side) (h : SwitchHistory) → StandsFor t side self.old h →
-            IfNone result (StandsFor t side self.new (at h until)) }
-        ensures no_more { (t : Rows) (side : Side) (h : SwitchHistory) (port : ℕ) (s : Turn
-            HeldFrame) →
-            StandsFor t side self.old h → 1 ≤ port → port ≤ last_port → IsNextAt t side h port s →
-            IfNone result (IsAfter until (queue.due_at s)) }
-        ensures all_done { (t : Rows) (side : Side) (h : SwitchHistory) (port : ℕ) →
-            StandsFor t side self.old h → drain_end ≤ until → 1 ≤ port → port ≤ last_port →
-            IfNone result (IsDone t side h port) }
-        ensures gives { IfNone result (IsQuiet self.old until) }
-        ensures quiet { IfNone result (IsQuiet self.new until) }
-        ensures held { MatchOption result (frames_held self.new ≡ frames_held self.old)
-            (λ _. frames_held self.new + 1 ≡ frames_held self.old) }
-        ensures clock { last_time self.new ≡ until }
     {
         self.clock = until;
         let place = self.first;
