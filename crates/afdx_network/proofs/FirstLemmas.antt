@@ -76,8 +76,8 @@ some-later side port e (x ∷ more) turns h = omega arith
 
 module _ (t : Rows) (n : Network) (events : List Event) (st : StandsFor t n events) where
   splits : (side : Side) (port : ℕ) → 1 ≤ port → port ≤ 24 → Splits t events side port
-  splits A port low high = splits-on t A n.a events (switch.last_time n.a) port st.on_a low high
-  splits B port low high = splits-on t B n.b events (switch.last_time n.b) port st.on_b low high
+  splits A port low high = splits-on t A n.switches.a events (switch.last_time n.switches.a) port st.on_a low high
+  splits B port low high = splits-on t B n.switches.b events (switch.last_time n.switches.b) port st.on_b low high
 
   own : (e : Event) → IsAmong e events → IsAmong e (all_events t (arrivals_in events))
   own (Came c) among = is-admission t (arrivals_in events) (Came c) (came-own t events st.follows c among)
@@ -125,16 +125,16 @@ module _ (t : Rows) (n : Network) (events : List Event) (st : StandsFor t n even
 
   -- where each port has given all its turns, these are all events
   pub are-all : ((port : ℕ) → 1 ≤ port → port ≤ 24
-      → IsDone t A (calls_on A events (switch.last_time n.a)) port)
-      → ((port : ℕ) → 1 ≤ port → port ≤ 24 → IsDone t B (calls_on B events (switch.last_time n.b)) port) →
+      → IsDone t A (calls_on A events (switch.last_time n.switches.a)) port)
+      → ((port : ℕ) → 1 ≤ port → port ≤ 24 → IsDone t B (calls_on B events (switch.last_time n.switches.b)) port) →
       AreEvents t (arrivals_in events) events
   are-all done_a done_b = record { in_order = st.in_order; own = own; all = all }
     where
       turns-are : (side : Side) (port : ℕ) → 1 ≤ port → port ≤ 24
           → turns_at t side port (arrivals_in events) ≡ taken_at port (turns_on side events)
-      turns-are A port low high = done-on t A n.a events (switch.last_time n.a) port st.on_a low
+      turns-are A port low high = done-on t A n.switches.a events (switch.last_time n.switches.a) port st.on_a low
           high (done_a port low high)
-      turns-are B port low high = done-on t B n.b events (switch.last_time n.b) port st.on_b low
+      turns-are B port low high = done-on t B n.switches.b events (switch.last_time n.switches.b) port st.on_b low
           high (done_b port low high)
 
       all : (e : Event) → IsAmong e (all_events t (arrivals_in events)) → IsAmong e events

@@ -312,11 +312,7 @@ fn add_ports(ports: &mut Vec<Port<Frame>>, alloc: Global) -> Result<(), Fail> {
 }
 
 /// The first of 24 ports, and whether it gives nothing by each of two times. None: they aren't 24.
-fn first_of(
-    ports: &[Port<Frame>],
-    early: u64,
-    late: u64,
-) -> Option<(usize, bool, bool)> {
+fn first_of(ports: &[Port<Frame>], early: u64, late: u64) -> Option<(usize, bool, bool)> {
     if ports.len() != 24 {
         return None;
     }

@@ -173,9 +173,9 @@ module _ (t : Rows) (side : Side) (w : SwitchState) (h : SwitchHistory) (st : St
         port_count = ap length ports ∙ length-set w.ports.items w.first new ∙ st.port_count;
         ports = λ i q at_q. elim (set-cases w.ports.items w.first new i q served.first.below
             (sym (ap (λ ps. slice_get ps i) ports) ∙ at_q)) [
-          | inl here ↦ here-stands i q here.0 here.1
-          | inr there ↦ others i q there.0 there.1
-        ];
+              | inl here ↦ here-stands i q here.0 here.1
+              | inr there ↦ others i q there.0 there.1
+            ];
       }
         where
           here-stands : (i : ℕ) (q : PortState HeldFrame) → i ≡ w.first → q ≡ new

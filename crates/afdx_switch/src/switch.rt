@@ -5,8 +5,8 @@ ghost use Rattle.afdx_port.specs.Times.{latest_put};
 
 use crate::build::build;
 use crate::frame::Frame;
-use crate::verdict::Verdict;
 use crate::switch_state::SwitchState;
+use crate::verdict::Verdict;
 use afdx_config::Tables;
 use afdx_frame::Checked;
 use afdx_port::{Due, Left};
@@ -156,9 +156,7 @@ impl Switch {
         requires quiet { IsQuiet self.old time }
         ensures { Arrives self.old self.new tag time port frame.entry.bytes.now result }
     {
-        let arrived = self
-            .state
-            .arrive(time, port, tag, frame, &mut self.shares);
+        let arrived = self.state.arrive(time, port, tag, frame, &mut self.shares);
         self.shares.clear();
         arrived
     }

@@ -61,13 +61,13 @@ returns-in-Some-clause-arrives c =
     charged-reason t (arrival_with c.args.tag c.args.time side c.args.port bytes) w h st c.in-Ok.place f (Some reason) _
     (c.in-Some.ensures.charged f.line f.stands)))
     (λ t side h st. (
-      let x = arrival_with c.args.tag c.args.time side c.args.port bytes in
-      let f = c.in-Ok.ensures.found t side h c.args.tag c.args.time st in
-      let charged = c.in-Some.ensures.charged f.line f.stands in
-      let dropped = charged-reason t x w h st c.in-Ok.place f (Some reason) _ charged in
-      stands-dropped t x w h st _
-      (λ port. dropped-sent t x h.arrivals (Some c.in-Ok.place) (output_at t x.side port) reason f.named dropped)
-      (charged-lines t x w h st c.in-Ok.place f (Some reason) _ charged) refl c.in-Some.ensures.count refl refl))
+    let x = arrival_with c.args.tag c.args.time side c.args.port bytes in
+    let f = c.in-Ok.ensures.found t side h c.args.tag c.args.time st in
+    let charged = c.in-Some.ensures.charged f.line f.stands in
+    let dropped = charged-reason t x w h st c.in-Ok.place f (Some reason) _ charged in
+    stands-dropped t x w h st _
+    (λ port. dropped-sent t x h.arrivals (Some c.in-Ok.place) (output_at t x.side port) reason f.named dropped)
+    (charged-lines t x w h st c.in-Ok.place f (Some reason) _ charged) refl c.in-Some.ensures.count refl refl))
     c.requires.quiet (omega arith) refl
 
 pub returns-in-Some-clause-sound : goal.returns-in-Some-clause-sound
@@ -140,24 +140,23 @@ returns-clause-arrives c =
     (charged-at c.args.time _ c.in-Ok.place mine _ w.lines.items _ charged at) shared in
     arrived w new c.args.tag c.args.time c.args.port bytes (Accepted c.send_on-lost.result)
     (λ t side h st. (
-      let x = arrival_with c.args.tag c.args.time side c.args.port bytes in
-      let f = c.in-Ok.ensures.found t side h c.args.tag c.args.time st in
-      let accepted = charged-reason t x w h st c.in-Ok.place f None _ (c.in_default.ensures.charged f.line f.stands) in
-      (
-        accepted,
-        lost-is t x w h st c.in-Ok.place f.named mine at accepted c.in-Ok.ensures.shortest
-            c.in-Ok.ensures.longest small new.ports.items c.send_on-lost.result old_count new_count offered,
-      )))
+    let x = arrival_with c.args.tag c.args.time side c.args.port bytes in
+    let f = c.in-Ok.ensures.found t side h c.args.tag c.args.time st in
+    let accepted = charged-reason t x w h st c.in-Ok.place f None _ (c.in_default.ensures.charged f.line f.stands) in (
+      accepted,
+      lost-is t x w h st c.in-Ok.place f.named mine at accepted c.in-Ok.ensures.shortest
+          c.in-Ok.ensures.longest small new.ports.items c.send_on-lost.result old_count new_count offered,
+    )))
     (λ t side h st. (
-      let x = arrival_with c.args.tag c.args.time side c.args.port bytes in
-      let f = c.in-Ok.ensures.found t side h c.args.tag c.args.time st in
-      let of_line = c.in_default.ensures.charged f.line f.stands in
-      let accepted = charged-reason t x w h st c.in-Ok.place f None _ of_line in
-      stands-accepted t x w h st c.in-Ok.place f.named mine at accepted c.in-Ok.ensures.shortest
-      c.in-Ok.ensures.longest small new.ports.items c.send_on-lost.result old_count new_count offered new
-      (subst (λ (s : SwitchState). LinesAfter t x h s.lines.items) (sym rest)
-      (charged-lines t x w h st c.in-Ok.place f None _ of_line))
-      (ap (λ (s : SwitchState). s.clock) rest)
-      (ap (λ (s : SwitchState). vec_len s.lines) rest ∙ c.in_default.ensures.count)
-      (ap (λ (s : SwitchState). s.places) rest) refl))
+    let x = arrival_with c.args.tag c.args.time side c.args.port bytes in
+    let f = c.in-Ok.ensures.found t side h c.args.tag c.args.time st in
+    let of_line = c.in_default.ensures.charged f.line f.stands in
+    let accepted = charged-reason t x w h st c.in-Ok.place f None _ of_line in
+    stands-accepted t x w h st c.in-Ok.place f.named mine at accepted c.in-Ok.ensures.shortest
+    c.in-Ok.ensures.longest small new.ports.items c.send_on-lost.result old_count new_count offered new
+    (subst (λ (s : SwitchState). LinesAfter t x h s.lines.items) (sym rest)
+    (charged-lines t x w h st c.in-Ok.place f None _ of_line))
+    (ap (λ (s : SwitchState). s.clock) rest)
+    (ap (λ (s : SwitchState). vec_len s.lines) rest ∙ c.in_default.ensures.count)
+    (ap (λ (s : SwitchState). s.places) rest) refl))
     c.send_on-lost.ensures.quiet c.send_on-lost.ensures.held (ap (λ (s : SwitchState). s.clock) rest)

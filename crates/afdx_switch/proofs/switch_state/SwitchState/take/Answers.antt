@@ -77,13 +77,13 @@ returns-clause-takes c =
     let at = slice_get_read w.ports.items _ w.first p refl served.first.below c.index_mut-port.ensures.value in
     given w _ c.args.until _
     (λ t side h st. (
-      let gives = c.in_ok-left.ensures.given (calls_at t side (w.first + 1) h p.clock) (st.ports w.first p at) in
-      record {
-        gone = gone t side w h st served p at c.args.until new c.in_ok-left.left gives;
-        next = next-of t side w h st served p at gives.turn gives.next;
-        in_time = gives.in_time;
-        hands = record { port = refl; left = gives.is };
-        stands = stands-after t side w h st served p at c.args.until new c.in_ok-left.left gives
-            _ refl refl refl refl;
-      }))
+    let gives = c.in_ok-left.ensures.given (calls_at t side (w.first + 1) h p.clock) (st.ports w.first p at) in
+    record {
+      gone = gone t side w h st served p at c.args.until new c.in_ok-left.left gives;
+      next = next-of t side w h st served p at gives.turn gives.next;
+      in_time = gives.in_time;
+      hands = record { port = refl; left = gives.is };
+      stands = stands-after t side w h st served p at c.args.until new c.in_ok-left.left gives
+          _ refl refl refl refl;
+    }))
     (omega (arith, held-set w.ports.items w.first p new at, c.in_ok-left.ensures.held)) refl
