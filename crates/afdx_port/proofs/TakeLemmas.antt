@@ -1,5 +1,5 @@
 -- A frame is taken, or none.
-use Rattle.std.proofs.Common.{IfSome, IfNone, Bool, true, false, if◌then◌else◌, ◌≡◌, ℕ, ◌+◌, ◌<◌, length}
+use Rattle.std.proofs.Common.{IfSome, IfNone, Bool, true, false, if◌then◌else◌, ◌≡◌, ℕ, ◌+◌, ◌<◌}
 use Rattle.std.proofs.Common.{◌≤◌, List, [], ◌∷◌, Option, Some, None, inl, inr, refl, sym, ap}
 use Rattle.std.proofs.Common.{subst, arith, ◌∙◌, max}
 use Rattle.std.specs.Prelude.{MatchOption}

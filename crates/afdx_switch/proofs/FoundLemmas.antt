@@ -1,5 +1,5 @@
 -- An arrival once the switch has judged the frame's shape.
-use Rattle.std.proofs.Common.{◌≡◌, ℕ, ◌≤◌, ◌&&◌, true, false, List, [], ◌∷◌, length, refl, sym, ap, ◌∙◌}
+use Rattle.std.proofs.Common.{◌≡◌, ℕ, ◌≤◌, ◌&&◌, List, [], length, refl, sym, ap, ◌∙◌}
 use Rattle.std.proofs.Common.{arith, subst, inl, inr}
 use Rattle.std.specs.Prelude.{Option, Some, None, All, find, slice_get}
 use Rattle.std.proofs.lemmas.Option.{slice_get_within}
@@ -21,7 +21,7 @@ use Rattle.afdx_switch.specs.Verdicts.{fault_on, shape_fault, reason_on, reason_
 use Rattle.afdx_switch.specs.declared.line.Line.{Line}
 use Rattle.afdx_switch.specs.declared.switch_state.SwitchState.{SwitchState}
 use Rattle.afdx_switch.proofs.ArrivalLemmas.{no-row-named, shape-named, reason-named, sends-named}
-use Rattle.afdx_switch.proofs.ArrivalLemmas.{not-accepted, dropped-sent}
+use Rattle.afdx_switch.proofs.ArrivalLemmas.{not-accepted}
 use Rattle.afdx_switch.proofs.ListLemmas.{all-at, all-set, bool_cases, find-none, slice_get-set_here}
 use Rattle.afdx_switch.proofs.StandsLemmas.{LinesAfter, line-other, line-named, lines-with, stands-dropped}
 use Rattle.afdx_switch.proofs.TakeLemmas.{lines-later}

@@ -1,8 +1,8 @@
 -- The next turn of the switch, as the port whose turn is given first gives it.
 use Rattle.std.proofs.Common.{◌≡◌, ◌≢◌, ℕ, zero, suc, ◌<◌, ◌≤◌, ◌+◌, List, ◌∷◌, length, set, refl}
 use Rattle.std.proofs.Common.{sym, ap, ◌∙◌, arith, subst, inl, inr}
-use Rattle.std.specs.Prelude.{Option, Some, None, IfSome, IfNone, Bool, true, false, if◌then◌else◌}
-use Rattle.std.specs.Prelude.{slice_get, All, sum_by, get_or, ◌⊎◌, ◌*◌}
+use Rattle.std.specs.Prelude.{Option, Some, None, IfSome, IfNone}
+use Rattle.std.specs.Prelude.{slice_get, All, sum_by, get_or}
 use Rattle.std.proofs.lemmas.Bool.{cases_eq, ne_eqb}
 use Rattle.std.proofs.lemmas.List.{length-set}
 use Rattle.std.proofs.lemmas.List.Sums.{sum_by-set}

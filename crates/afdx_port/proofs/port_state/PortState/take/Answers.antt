@@ -1,5 +1,5 @@
 use Rattle.std.proofs.Common.{arith}
-use Rattle.afdx_port.proofs.TakeLemmas.{Advances, busy_takes, over_takes}
+use Rattle.afdx_port.proofs.TakeLemmas.{busy_takes, over_takes}
 use Rattle.afdx_port.proofs.port_state.PortState.take.Goals as goal
 
 pub returns-then-not-is_over-clause-takes : goal.returns-then-not-is_over-clause-takes

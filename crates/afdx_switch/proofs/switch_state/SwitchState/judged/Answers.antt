@@ -1,4 +1,4 @@
-use Rattle.std.proofs.Common.{◌≡◌, ◌≤◌, sym, ◌∙◌, ap, subst, arith, length, Some, None}
+use Rattle.std.proofs.Common.{◌≡◌, ◌≤◌, sym, ◌∙◌, ap, subst, length, Some}
 use Rattle.std.proofs.lemmas.Option.{slice_get_read}
 use Rattle.afdx_frame.specs.Parts.{parts_of}
 use Rattle.afdx_police.specs.Arrival.{arrival_with}

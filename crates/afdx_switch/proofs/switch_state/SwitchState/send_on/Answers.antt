@@ -1,12 +1,11 @@
-use Rattle.std.proofs.Common.{◌≡◌, ◌≤◌, ◌∙◌, sym, ap, subst, arith, length, ℕ, ◌+◌, List, Some}
+use Rattle.std.proofs.Common.{◌≡◌, ◌∙◌, sym, ap, subst, arith, length, ℕ, ◌+◌, List}
 use Rattle.std.specs.Prelude.{slice_get}
 use Rattle.std.proofs.lemmas.Option.{slice_get_read}
 use Rattle.afdx_port.specs.Serving.{IsServing}
-use Rattle.afdx_port.specs.declared.port_state.PortState.{PortState}
-use Rattle.afdx_switch.specs.HeldFrames.{HeldFrame, facts}
+use Rattle.afdx_switch.specs.HeldFrames.{facts}
 use Rattle.afdx_switch.specs.Lines.{ArePlaces, is_among}
 use Rattle.afdx_switch.specs.Ports.{holds}
-use Rattle.afdx_switch.specs.Shares.{AreKept, AreShares, AreOffered, IsOffered, share_of}
+use Rattle.afdx_switch.specs.Shares.{AreKept, AreOffered, IsOffered, share_of}
 use Rattle.afdx_switch.specs.Sound.{IsLineSound}
 use Rattle.afdx_switch.specs.declared.line.Line.{Line}
 use Rattle.afdx_switch.proofs.ListLemmas.{all-at, items-are}

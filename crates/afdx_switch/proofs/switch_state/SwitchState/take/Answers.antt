@@ -1,4 +1,4 @@
-use Rattle.std.proofs.Common.{◌≡◌, ◌+◌, arith, refl, sym, length}
+use Rattle.std.proofs.Common.{◌+◌, arith, refl, sym}
 use Rattle.std.proofs.lemmas.Option.{slice_get_read}
 use Rattle.afdx_port.specs.History as queue
 use Rattle.afdx_port.proofs.DueLemmas.{quiet_stays}
