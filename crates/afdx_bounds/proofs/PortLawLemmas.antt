@@ -1,6 +1,6 @@
 -- A port that stands for calls, where its entries regulate it.
 use Rattle.std.proofs.Common.{ℕ, ◌↔◌}
-use Rattle.afdx_port.specs.declared.pending.Pending.{Pending}
+use Rattle.afdx_port.specs.declared.port_state.PortState.{PortState}
 use Rattle.afdx_port.specs.Due.{IsAfter}
 use Rattle.afdx_port.specs.Facts.{Facts}
 use Rattle.afdx_port.specs.Held.{IsQuiet}
@@ -16,11 +16,11 @@ use Rattle.afdx_bounds.proofs.LeftLemmas.{each-left}
 module _ {X : Type 0} where
   -- the turns that were taken are each next after those before it
   abbrev TakenAreTurns : (X → Facts) → Type 0
-  TakenAreTurns facts = (p : Pending X) (h : PortHistory X) → StandsFor facts p h → AreTurns h.byte_ns h.entries h.taken
+  TakenAreTurns facts = (p : PortState X) (h : PortHistory X) → StandsFor facts p h → AreTurns h.byte_ns h.entries h.taken
 
   -- a port is quiet where its next turn is given later
   abbrev QuietIsNext : (X → Facts) → Type 0
-  QuietIsNext facts = (p : Pending X) (h : PortHistory X) (t : ℕ) → StandsFor facts p h →
+  QuietIsNext facts = (p : PortState X) (h : PortHistory X) (t : ℕ) → StandsFor facts p h →
       (IsQuiet facts p t ↔ ((s : Turn X) → IsNext h.byte_ns h.entries h.taken s → IsAfter t (due_at s)))
 
   pub put-kept : EachAccountMoves → (facts : X → Facts) → PutIsKept facts

@@ -2,7 +2,7 @@
 use Rattle.std.specs.Prelude.{◌≡◌, ℕ, ◌+◌, ◌≤◌, true, false, All, Contains, List, [], ◌∷◌, ◌++◌}
 use Rattle.std.specs.Prelude.{Some, slice_get}
 use Rattle.afdx_frame.specs.Flows.{Flow}
-use Rattle.afdx_port.specs.declared.pending.Pending.{Pending}
+use Rattle.afdx_port.specs.declared.port_state.PortState.{PortState}
 use Rattle.afdx_port.specs.Facts.{Facts}
 use Rattle.afdx_port.specs.Held.{IsQuiet}
 use Rattle.afdx_port.specs.History.{PortHistory, StandsFor}
@@ -12,7 +12,7 @@ use Rattle.afdx_bounds.specs.Policed.{MayWait, IsRegulated}
 
 module _ {X : Type 0} where
   -- the port stands for these calls, and is regulated by what was put
-  pub record StandsRegulated (facts : X → Facts) (p : Pending X) (h : PortHistory X)
+  pub record StandsRegulated (facts : X → Facts) (p : PortState X) (h : PortHistory X)
       (flows : List Flow)
       (vl_of : X → ℕ)
       (charge_of : Entry X → ℕ) : Type 0 where
@@ -22,7 +22,7 @@ module _ {X : Type 0} where
   -- a frame that leaves it so isn't lost
   abbrev pub PutIsKept : (X → Facts) → Type 0
   PutIsKept facts =
-      (p : Pending X) (h : PortHistory X) (flows : List Flow) (vl_of : X → ℕ)
+      (p : PortState X) (h : PortHistory X) (flows : List Flow) (vl_of : X → ℕ)
       (charge_of : Entry X → ℕ)
       (new : Entry X) →
       StandsRegulated facts p h flows vl_of charge_of →
@@ -32,14 +32,14 @@ module _ {X : Type 0} where
 
   -- each frame that was taken was taken in time
   abbrev pub TakenAreInTime : (X → Facts) → Type 0
-  TakenAreInTime facts = (p : Pending X) (h : PortHistory X) (flows : List Flow) (vl_of : X → ℕ)
+  TakenAreInTime facts = (p : PortState X) (h : PortHistory X) (flows : List Flow) (vl_of : X → ℕ)
       (charge_of : Entry X → ℕ) (f : Flow) →
       StandsRegulated facts p h flows vl_of charge_of → Contains flows f →
       All (λ s. vl_of s.entry.item ≡ f.vl → s.end ≤ s.entry.time + f.latency) h.taken
 
   -- none of them was dropped for its age that may wait as long as its link's latency
   abbrev pub TakenAreNotOld : (X → Facts) → Type 0
-  TakenAreNotOld facts = (p : Pending X) (h : PortHistory X) (flows : List Flow) (vl_of : X → ℕ)
+  TakenAreNotOld facts = (p : PortState X) (h : PortHistory X) (flows : List Flow) (vl_of : X → ℕ)
       (charge_of : Entry X → ℕ) (f : Flow) →
       StandsRegulated facts p h flows vl_of charge_of → Contains flows f →
       All (λ s. vl_of s.entry.item ≡ f.vl → MayWait f.latency s.entry → s.too_old ≡ false) h.taken
@@ -47,7 +47,7 @@ module _ {X : Type 0} where
   -- and where the port gives nothing at t, each such frame whose latency is over by then was taken
   abbrev pub AllWereTaken : (X → Facts) → Type 0
   AllWereTaken facts =
-      (p : Pending X) (h : PortHistory X) (flows : List Flow) (vl_of : X → ℕ)
+      (p : PortState X) (h : PortHistory X) (flows : List Flow) (vl_of : X → ℕ)
       (charge_of : Entry X → ℕ)
       (f : Flow) (t place : ℕ) (e : Entry X) →
       StandsRegulated facts p h flows vl_of charge_of → Contains flows f → IsQuiet facts p t →

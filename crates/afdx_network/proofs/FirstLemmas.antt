@@ -15,7 +15,7 @@ use Rattle.afdx_switch.specs.HeldFrames.{HeldFrame}
 use Rattle.afdx_switch.specs.Switching as switch
 use Rattle.afdx_switch.specs.Switching.{SwitchHistory, IsDone, taken_at}
 use Rattle.afdx_switch.specs.Tables.{byte_ns_at, entries_at}
-use Rattle.afdx_switch.specs.declared.working.Working.{Working}
+use Rattle.afdx_switch.specs.declared.switch_state.SwitchState.{SwitchState}
 use Rattle.afdx_switch.proofs.LawLemmas.{taken-turns}
 use Rattle.afdx_switch.proofs.StandsLemmas.{found-at}
 use Rattle.afdx_network.specs.Events.{Event, Came, Left, turns_at, departures_of, all_events}
@@ -29,7 +29,7 @@ use Rattle.afdx_network.proofs.EventLemmas.{at-port-of, is-departure, is-admissi
 use Rattle.afdx_network.proofs.EventLemmas.{came-all, came-own, left-all, left-own}
 use Rattle.afdx_network.proofs.TurnLemmas.{IsLater, split-later, join-later, later-after}
 
-entries-timed : (t : Rows) (side : Side) (w : Working) (h : SwitchHistory) (port : ℕ)
+entries-timed : (t : Rows) (side : Side) (w : SwitchState) (h : SwitchHistory) (port : ℕ)
     → switch.StandsFor t side w h → 1 ≤ port → port ≤ 24 → AreTimed (entries_at t side port h.arrivals)
 entries-timed t side w h zero st low high = absurd (omega (arith, low))
 entries-timed t side w h (suc i) st low high =
@@ -43,7 +43,7 @@ record Splits (t : Rows) (events : List Event) (side : Side) (port : ℕ) : Type
   are : AreTurns (byte_ns_at t port) (entries_at t side port (arrivals_in events))
       (more ++ taken_at port (turns_on side events))
 
-splits-on : (t : Rows) (side : Side) (w : Working) (events : List Event) (time port : ℕ)
+splits-on : (t : Rows) (side : Side) (w : SwitchState) (events : List Event) (time port : ℕ)
     → switch.StandsFor t side w (calls_on side events time) → 1 ≤ port → port ≤ 24
     → Splits t events side port
 unfolding turns_at
@@ -59,7 +59,7 @@ splits-on t side w events time port st low high =
           (entries_at t side port (arrivals_in events)) ts) r.1 all.each_next;
     }
 
-done-on : (t : Rows) (side : Side) (w : Working) (events : List Event) (time port : ℕ)
+done-on : (t : Rows) (side : Side) (w : SwitchState) (events : List Event) (time port : ℕ)
     → switch.StandsFor t side w (calls_on side events time) → 1 ≤ port → port ≤ 24
     → IsDone t side (calls_on side events time) port →
     turns_at t side port (arrivals_in events) ≡ taken_at port (turns_on side events)
@@ -76,8 +76,8 @@ some-later side port e (x ∷ more) turns h = omega arith
 
 module _ (t : Rows) (n : Network) (events : List Event) (st : StandsFor t n events) where
   splits : (side : Side) (port : ℕ) → 1 ≤ port → port ≤ 24 → Splits t events side port
-  splits A port low high = splits-on t A n.a events (switch.last_time n.a) port st.on_a low high
-  splits B port low high = splits-on t B n.b events (switch.last_time n.b) port st.on_b low high
+  splits A port low high = splits-on t A n.switches.a events (switch.last_time n.switches.a) port st.on_a low high
+  splits B port low high = splits-on t B n.switches.b events (switch.last_time n.switches.b) port st.on_b low high
 
   own : (e : Event) → IsAmong e events → IsAmong e (all_events t (arrivals_in events))
   own (Came c) among = is-admission t (arrivals_in events) (Came c) (came-own t events st.follows c among)
@@ -125,16 +125,16 @@ module _ (t : Rows) (n : Network) (events : List Event) (st : StandsFor t n even
 
   -- where each port has given all its turns, these are all events
   pub are-all : ((port : ℕ) → 1 ≤ port → port ≤ 24
-      → IsDone t A (calls_on A events (switch.last_time n.a)) port)
-      → ((port : ℕ) → 1 ≤ port → port ≤ 24 → IsDone t B (calls_on B events (switch.last_time n.b)) port) →
+      → IsDone t A (calls_on A events (switch.last_time n.switches.a)) port)
+      → ((port : ℕ) → 1 ≤ port → port ≤ 24 → IsDone t B (calls_on B events (switch.last_time n.switches.b)) port) →
       AreEvents t (arrivals_in events) events
   are-all done_a done_b = record { in_order = st.in_order; own = own; all = all }
     where
       turns-are : (side : Side) (port : ℕ) → 1 ≤ port → port ≤ 24
           → turns_at t side port (arrivals_in events) ≡ taken_at port (turns_on side events)
-      turns-are A port low high = done-on t A n.a events (switch.last_time n.a) port st.on_a low
+      turns-are A port low high = done-on t A n.switches.a events (switch.last_time n.switches.a) port st.on_a low
           high (done_a port low high)
-      turns-are B port low high = done-on t B n.b events (switch.last_time n.b) port st.on_b low
+      turns-are B port low high = done-on t B n.switches.b events (switch.last_time n.switches.b) port st.on_b low
           high (done_b port low high)
 
       all : (e : Event) → IsAmong e (all_events t (arrivals_in events)) → IsAmong e events

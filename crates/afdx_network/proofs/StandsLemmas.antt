@@ -1,9 +1,10 @@
 -- The switches of both sides through one event more.
 use Rattle.std.proofs.Common.{◌≡◌, ℕ, ◌+◌, ◌*◌, ◌<◌, ◌≤◌, List, [], ◌∷◌, length, refl, ap, sym}
 use Rattle.std.proofs.Common.{subst, Bool, true, false, IsTrue, arith, ◌⊎◌, inl, inr, if◌then◌else◌}
-use Rattle.std.specs.Prelude.{Option, Some, None, IfSome, IfNone, Result, Ok, Err, OnOk}
+use Rattle.std.specs.Prelude.{Option, Some, None, IfSome, IfNone, Result, Ok, Err, OnOk, ◌↔◌}
 use Rattle.std.proofs.lemmas.Bool.{cases_eq}
 use Rattle.std.proofs.lemmas.Option.{slice_get_within}
+use Rattle.afdx_frame.specs.BySide.{on, with_on}
 use Rattle.afdx_frame.specs.declared.link.Side.{Side}
 use Rattle.afdx_frame.specs.declared.link.Side.TheVariants.{A, B}
 use Rattle.afdx_config.specs.Lawful.{IsLawful}
@@ -20,14 +21,14 @@ use Rattle.afdx_switch.specs.Switching.{SwitchHistory, PortTurn, IsNextAt, IsNex
 use Rattle.afdx_switch.specs.Switching.{GoesBefore, taken_at, with_arrival, with_take}
 use Rattle.afdx_switch.specs.Tables.{byte_ns_at, entries_at}
 use Rattle.afdx_switch.specs.declared.switch.Departure as switch_departure
-use Rattle.afdx_switch.specs.declared.working.Working.{Working}
+use Rattle.afdx_switch.specs.declared.switch_state.SwitchState.{SwitchState}
 use Rattle.afdx_switch.proofs.LawLemmas.{other-side-apart}
 use Rattle.afdx_switch.proofs.TakeLemmas.{quiet-next}
 use Rattle.afdx_network.specs.Events.{Event, Came, Left, departure_with, admission_after}
 use Rattle.afdx_network.specs.Events.{arrivals_in, turns_on, calls_on}
 use Rattle.afdx_network.specs.Order.{phase_of, side_number, key, is_below, is_before, IsAmong}
-use Rattle.afdx_network.specs.First.{IsAFirst, IsBFirst}
-use Rattle.afdx_network.specs.Network.{IsUntil, departure_after, IsNextOn, StandsFor, Gives}
+use Rattle.afdx_network.specs.First.{IsAFirst, IsBFirst, IsFirstSide}
+use Rattle.afdx_network.specs.Network.{IsUntil, IsQuiet, departure_after, IsNextOn, StandsFor, Gives}
 use Rattle.afdx_network.specs.declared.network.Network.{Network}
 use Rattle.afdx_network.proofs.OrderLemmas.{below_first, below_next, below_trans, before_trans, all_from}
 use Rattle.afdx_network.proofs.EventLemmas.{ports-same, taken-same, taken-other}
@@ -42,7 +43,7 @@ late-none (Some d) until late limit after = absurd (omega (arith, late, limit, a
 pub if-none : (o : Option Due) (P : Type 0) → o ≡ None → IfNone o P → P
 if-none o P e h = subst (λ z. IfNone z P) e h
 
-pub not-late : (o : Option Due) (until : ℕ) (d : Due) → o ≡ Some d → IsBy until d → IfSome o (λ e. IsAfter until e) → ⊥
+not-late : (o : Option Due) (until : ℕ) (d : Due) → o ≡ Some d → IsBy until d → IfSome o (λ e. IsAfter until e) → ⊥
 not-late o until d e by after = let a : IsAfter until d =
     subst (λ z. IfSome z (λ x. IsAfter until x)) e after in omega (arith, by, a)
 
@@ -171,12 +172,12 @@ module _ (t : Rows) (n : Network) (events : List Event) (st : StandsFor t n even
     ]
 
   -- side A gives the next departure
-  pub stands-left-a : (a : Working) (until port : ℕ) (s : Turn HeldFrame) → 1 ≤ port → port ≤ 24
+  pub stands-left-a : (a : SwitchState) (until port : ℕ) (s : Turn HeldFrame) → 1 ≤ port → port ≤ 24
       → IsNextOn t events A port s → IsFirstTurn t events A port s → IsBy until (due_at s)
-      → switch.last_time n.a ≤ until →
-      switch.StandsFor t A a (with_take (calls_on A events (switch.last_time n.a))
+      → switch.last_time n.switches.a ≤ until →
+      switch.StandsFor t A a (with_take (calls_on A events (switch.last_time n.switches.a))
       (record { port = port; turn = s }) until) →
-      StandsFor t (record { a = a; b = n.b }) (Left (departure_after events A port s) ∷ events)
+      StandsFor t (record { switches = record { a = a; b = n.switches.b } }) (Left (departure_after events A port s) ∷ events)
   stands-left-a a until port s low high next first by later is = record {
     lawful = st.lawful;
     on_a = subst (λ time. switch.StandsFor t A a
@@ -194,12 +195,12 @@ module _ (t : Rows) (n : Network) (events : List Event) (st : StandsFor t n even
     next = next-stays A port s low high next first;
   }
 
-  pub stands-left-b : (b : Working) (until port : ℕ) (s : Turn HeldFrame) → 1 ≤ port → port ≤ 24
+  pub stands-left-b : (b : SwitchState) (until port : ℕ) (s : Turn HeldFrame) → 1 ≤ port → port ≤ 24
       → IsNextOn t events B port s → IsFirstTurn t events B port s → IsBy until (due_at s)
-      → switch.last_time n.b ≤ until →
-      switch.StandsFor t B b (with_take (calls_on B events (switch.last_time n.b))
+      → switch.last_time n.switches.b ≤ until →
+      switch.StandsFor t B b (with_take (calls_on B events (switch.last_time n.switches.b))
       (record { port = port; turn = s }) until) →
-      StandsFor t (record { a = n.a; b = b }) (Left (departure_after events B port s) ∷ events)
+      StandsFor t (record { switches = record { a = n.switches.a; b = b } }) (Left (departure_after events B port s) ∷ events)
   stands-left-b b until port s low high next first by later is = record {
     lawful = st.lawful;
     on_a = st.on_a;
@@ -301,19 +302,19 @@ module _ (t : Rows) (n : Network) (events : List Event) (st : StandsFor t n even
   if-more None m k le h = tt
   if-more (Some d) m k le h = omega (arith, le, h)
 
-  pub gives-a : (a : Working) (until : ℕ) (value : switch_departure.Departure)
-      (due_a due_b : Option Due) → IsAFirst until due_a due_b → switch.last_time n.a ≤ until →
-      IfSome due_a (λ d. IsDue t A (calls_on A events (switch.last_time n.a)) d)
-      → IfSome due_b (λ d. IsDue t B (calls_on B events (switch.last_time n.b)) d) →
-      ((port : ℕ) → 1 ≤ port → port ≤ 24 → IfNone due_b (IsDone t B (calls_on B events (switch.last_time n.b)) port)) →
-      switch.Gives t A (calls_on A events (switch.last_time n.a)) until value a
-      → Gives t events until (record { side = A; departure = value }) (record { a = a; b = n.b })
+  gives-a : (a : SwitchState) (until : ℕ) (value : switch_departure.Departure)
+      (due_a due_b : Option Due) → IsAFirst until due_a due_b → switch.last_time n.switches.a ≤ until →
+      IfSome due_a (λ d. IsDue t A (calls_on A events (switch.last_time n.switches.a)) d)
+      → IfSome due_b (λ d. IsDue t B (calls_on B events (switch.last_time n.switches.b)) d) →
+      ((port : ℕ) → 1 ≤ port → port ≤ 24 → IfNone due_b (IsDone t B (calls_on B events (switch.last_time n.switches.b)) port)) →
+      switch.Gives t A (calls_on A events (switch.last_time n.switches.a)) until value a
+      → Gives t events until (record { side = A; departure = value }) (record { switches = record { a = a; b = n.switches.b } })
   gives-a a until value due_a due_b first clock comes_a comes_b done_b g =
-      let due : IsDue t A (calls_on A events (switch.last_time n.a)) first.due =
-      subst (λ z. IfSome z (λ d. IsDue t A (calls_on A events (switch.last_time n.a)) d))
+      let due : IsDue t A (calls_on A events (switch.last_time n.switches.a)) first.due =
+      subst (λ z. IfSome z (λ d. IsDue t A (calls_on A events (switch.last_time n.switches.a)) d))
       first.is comes_a in
-      let least = gone-least A (calls_on A events (switch.last_time n.a)) g.gone first.due g.next due in
-      let others = due-least B (calls_on B events (switch.last_time n.b)) due_b
+      let least = gone-least A (calls_on A events (switch.last_time n.switches.a)) g.gone first.due g.next due in
+      let others = due-least B (calls_on B events (switch.last_time n.switches.b)) due_b
       (order_of (due_at g.gone.turn)) comes_b done_b
       (if-more due_b (order_of (due_at g.gone.turn)) (order_of first.due) least first.first) in
       record {
@@ -321,23 +322,23 @@ module _ (t : Rows) (n : Network) (events : List Event) (st : StandsFor t n even
         in_time = g.in_time;
         hands = record { side = refl; port = g.hands.port; left = g.hands.left };
         stands = stands-left-a a until g.gone.port g.gone.turn g.next.port_first g.next.port_last
-            g.next.next (first-a (switch.last_time n.a) g.gone.port g.gone.turn g.next others)
+            g.next.next (first-a (switch.last_time n.switches.a) g.gone.port g.gone.turn g.next others)
             g.in_time clock g.stands;
       }
 
-  pub gives-b : (b : Working) (until : ℕ) (value : switch_departure.Departure)
-      (due_a due_b : Option Due) → IsBFirst until due_a due_b → switch.last_time n.b ≤ until →
-      IfSome due_b (λ d. IsDue t B (calls_on B events (switch.last_time n.b)) d)
-      → IfSome due_a (λ d. IsDue t A (calls_on A events (switch.last_time n.a)) d) →
-      ((port : ℕ) → 1 ≤ port → port ≤ 24 → IfNone due_a (IsDone t A (calls_on A events (switch.last_time n.a)) port)) →
-      switch.Gives t B (calls_on B events (switch.last_time n.b)) until value b
-      → Gives t events until (record { side = B; departure = value }) (record { a = n.a; b = b })
+  gives-b : (b : SwitchState) (until : ℕ) (value : switch_departure.Departure)
+      (due_a due_b : Option Due) → IsBFirst until due_a due_b → switch.last_time n.switches.b ≤ until →
+      IfSome due_b (λ d. IsDue t B (calls_on B events (switch.last_time n.switches.b)) d)
+      → IfSome due_a (λ d. IsDue t A (calls_on A events (switch.last_time n.switches.a)) d) →
+      ((port : ℕ) → 1 ≤ port → port ≤ 24 → IfNone due_a (IsDone t A (calls_on A events (switch.last_time n.switches.a)) port)) →
+      switch.Gives t B (calls_on B events (switch.last_time n.switches.b)) until value b
+      → Gives t events until (record { side = B; departure = value }) (record { switches = record { a = n.switches.a; b = b } })
   gives-b b until value due_a due_b first clock comes_b comes_a done_a g =
-      let due : IsDue t B (calls_on B events (switch.last_time n.b)) first.due =
-      subst (λ z. IfSome z (λ d. IsDue t B (calls_on B events (switch.last_time n.b)) d))
+      let due : IsDue t B (calls_on B events (switch.last_time n.switches.b)) first.due =
+      subst (λ z. IfSome z (λ d. IsDue t B (calls_on B events (switch.last_time n.switches.b)) d))
       first.is comes_b in
-      let least = gone-least B (calls_on B events (switch.last_time n.b)) g.gone first.due g.next due in
-      let others = due-least A (calls_on A events (switch.last_time n.a)) due_a
+      let least = gone-least B (calls_on B events (switch.last_time n.switches.b)) g.gone first.due g.next due in
+      let others = due-least A (calls_on A events (switch.last_time n.switches.a)) due_a
       (order_of (due_at g.gone.turn) + 1) comes_a done_a
       (if-more due_a (order_of (due_at g.gone.turn) + 1) (order_of first.due + 1)
       (omega (arith, least)) (if-less due_a (order_of first.due) first.first)) in
@@ -346,7 +347,7 @@ module _ (t : Rows) (n : Network) (events : List Event) (st : StandsFor t n even
         in_time = g.in_time;
         hands = record { side = refl; port = g.hands.port; left = g.hands.left };
         stands = stands-left-b b until g.gone.port g.gone.turn g.next.port_first g.next.port_last
-            g.next.next (first-b (switch.last_time n.b) g.gone.port g.gone.turn g.next others)
+            g.next.next (first-b (switch.last_time n.switches.b) g.gone.port g.gone.turn g.next others)
             g.in_time clock g.stands;
       }
 
@@ -394,11 +395,11 @@ module _ (t : Rows) (n : Network) (events : List Event) (st : StandsFor t n even
               (Left (departure_after came side port s)) (came-after e old) up
         ]
 
-  pub stands-came-a : (a : Working) (tag time port : ℕ) (bytes : List ℕ) → IsUntil n time
-      → switch.StandsFor t A a (with_arrival (calls_on A events (switch.last_time n.a))
+  stands-came-a : (a : SwitchState) (tag time port : ℕ) (bytes : List ℕ) → IsUntil n time
+      → switch.StandsFor t A a (with_arrival (calls_on A events (switch.last_time n.switches.a))
       (arrival_with tag time A port bytes)) →
-      switch.IsQuiet a time → switch.IsQuiet n.b time
-      → StandsFor t (record { a = a; b = n.b })
+      switch.IsQuiet a time → switch.IsQuiet n.switches.b time
+      → StandsFor t (record { switches = record { a = a; b = n.switches.b } })
       (Came (admission_after t (arrivals_in events) (arrival_with tag time A port bytes)) ∷ events)
   stands-came-a a tag time port bytes until is quiet_a quiet_b = record {
     lawful = st.lawful;
@@ -410,22 +411,24 @@ module _ (t : Rows) (n : Network) (events : List Event) (st : StandsFor t n even
       all_from (λ e.
           IsTrue (is_before e (Came (admission_after t (arrivals_in events)
           (arrival_with tag time A port bytes))))) events
-          (came-after time until (arrival_with tag time A port bytes) refl (record { a = a; b = n.b })
+          (came-after time until (arrival_with tag time A port bytes) refl (record { switches = record { a = a; b = n.switches.b } })
           later quiet),
       st.in_order,
     );
     follows = (refl, st.follows);
-    past = came-past time until (arrival_with tag time A port bytes) refl (record { a = a; b = n.b }) later quiet;
-    next = came-next time until (arrival_with tag time A port bytes) refl (record { a = a; b = n.b }) later quiet;
+    past = came-past time until (arrival_with tag time A port bytes) refl
+        (record { switches = record { a = a; b = n.switches.b } }) later quiet;
+    next = came-next time until (arrival_with tag time A port bytes) refl
+        (record { switches = record { a = a; b = n.switches.b } }) later quiet;
   }
     where
-      on_b : switch.StandsFor t B n.b
+      on_b : switch.StandsFor t B n.switches.b
           (calls_on B (Came (admission_after t (arrivals_in events)
-          (arrival_with tag time A port bytes)) ∷ events) (switch.last_time n.b))
-      on_b = other-side-apart t B n.b (calls_on B events (switch.last_time n.b))
+          (arrival_with tag time A port bytes)) ∷ events) (switch.last_time n.switches.b))
+      on_b = other-side-apart t B n.switches.b (calls_on B events (switch.last_time n.switches.b))
           (arrival_with tag time A port bytes) st.on_b refl
 
-      later : (u : ℕ) → IsUntil (record { a = a; b = n.b }) u → (time ≤ u) × IsUntil n u
+      later : (u : ℕ) → IsUntil (record { switches = record { a = a; b = n.switches.b } }) u → (time ≤ u) × IsUntil n u
       later u h = let clock = is.time in (
         omega (arith, clock, h.on_a),
         record { on_a = omega (arith, clock, h.on_a, until.on_a); on_b = h.on_b },
@@ -435,18 +438,18 @@ module _ (t : Rows) (n : Network) (events : List Event) (st : StandsFor t n even
           → IsNextOn t (Came (admission_after t (arrivals_in events)
           (arrival_with tag time A port bytes)) ∷ events) side number s → IsAfter time (due_at s)
       quiet A number s low high next =
-          quiet-next t A a (with_arrival (calls_on A events (switch.last_time n.a))
+          quiet-next t A a (with_arrival (calls_on A events (switch.last_time n.switches.a))
           (arrival_with tag time A port bytes)) is time quiet_a number s low high next
       quiet B number s low high next =
-          quiet-next t B n.b (calls_on B
+          quiet-next t B n.switches.b (calls_on B
           (Came (admission_after t (arrivals_in events) (arrival_with tag time A port bytes))
-          ∷ events) (switch.last_time n.b)) on_b time quiet_b number s low high next
+          ∷ events) (switch.last_time n.switches.b)) on_b time quiet_b number s low high next
 
-  pub stands-came-b : (b : Working) (tag time port : ℕ) (bytes : List ℕ) → IsUntil n time
-      → switch.StandsFor t B b (with_arrival (calls_on B events (switch.last_time n.b))
+  stands-came-b : (b : SwitchState) (tag time port : ℕ) (bytes : List ℕ) → IsUntil n time
+      → switch.StandsFor t B b (with_arrival (calls_on B events (switch.last_time n.switches.b))
       (arrival_with tag time B port bytes)) →
-      switch.IsQuiet n.a time → switch.IsQuiet b time
-      → StandsFor t (record { a = n.a; b = b })
+      switch.IsQuiet n.switches.a time → switch.IsQuiet b time
+      → StandsFor t (record { switches = record { a = n.switches.a; b = b } })
       (Came (admission_after t (arrivals_in events) (arrival_with tag time B port bytes)) ∷ events)
   stands-came-b b tag time port bytes until is quiet_a quiet_b = record {
     lawful = st.lawful;
@@ -458,22 +461,24 @@ module _ (t : Rows) (n : Network) (events : List Event) (st : StandsFor t n even
       all_from (λ e.
           IsTrue (is_before e (Came (admission_after t (arrivals_in events)
           (arrival_with tag time B port bytes))))) events
-          (came-after time until (arrival_with tag time B port bytes) refl (record { a = n.a; b = b })
+          (came-after time until (arrival_with tag time B port bytes) refl (record { switches = record { a = n.switches.a; b = b } })
           later quiet),
       st.in_order,
     );
     follows = (refl, st.follows);
-    past = came-past time until (arrival_with tag time B port bytes) refl (record { a = n.a; b = b }) later quiet;
-    next = came-next time until (arrival_with tag time B port bytes) refl (record { a = n.a; b = b }) later quiet;
+    past = came-past time until (arrival_with tag time B port bytes) refl
+        (record { switches = record { a = n.switches.a; b = b } }) later quiet;
+    next = came-next time until (arrival_with tag time B port bytes) refl
+        (record { switches = record { a = n.switches.a; b = b } }) later quiet;
   }
     where
-      on_a : switch.StandsFor t A n.a
+      on_a : switch.StandsFor t A n.switches.a
           (calls_on A (Came (admission_after t (arrivals_in events)
-          (arrival_with tag time B port bytes)) ∷ events) (switch.last_time n.a))
-      on_a = other-side-apart t A n.a (calls_on A events (switch.last_time n.a))
+          (arrival_with tag time B port bytes)) ∷ events) (switch.last_time n.switches.a))
+      on_a = other-side-apart t A n.switches.a (calls_on A events (switch.last_time n.switches.a))
           (arrival_with tag time B port bytes) st.on_a refl
 
-      later : (u : ℕ) → IsUntil (record { a = n.a; b = b }) u → (time ≤ u) × IsUntil n u
+      later : (u : ℕ) → IsUntil (record { switches = record { a = n.switches.a; b = b } }) u → (time ≤ u) × IsUntil n u
       later u h = let clock = is.time in (
         omega (arith, clock, h.on_b),
         record { on_a = h.on_a; on_b = omega (arith, clock, h.on_b, until.on_b) },
@@ -483,20 +488,63 @@ module _ (t : Rows) (n : Network) (events : List Event) (st : StandsFor t n even
           → IsNextOn t (Came (admission_after t (arrivals_in events)
           (arrival_with tag time B port bytes)) ∷ events) side number s → IsAfter time (due_at s)
       quiet A number s low high next =
-          quiet-next t A n.a (calls_on A
+          quiet-next t A n.switches.a (calls_on A
           (Came (admission_after t (arrivals_in events) (arrival_with tag time B port bytes))
-          ∷ events) (switch.last_time n.a)) on_a time quiet_a number s low high next
+          ∷ events) (switch.last_time n.switches.a)) on_a time quiet_a number s low high next
       quiet B number s low high next =
-          quiet-next t B b (with_arrival (calls_on B events (switch.last_time n.b))
+          quiet-next t B b (with_arrival (calls_on B events (switch.last_time n.switches.b))
           (arrival_with tag time B port bytes)) is time quiet_b number s low high next
 
+  -- the switch of a side
+  pub stands-on : (side : Side) → switch.StandsFor t side (on side n.switches)
+      (calls_on side events (switch.last_time (on side n.switches)))
+  stands-on A = st.on_a
+  stands-on B = st.on_b
+
+  -- a frame arrived there
+  pub stands-came : (side : Side) (new : SwitchState) (tag time port : ℕ) (bytes : List ℕ) → IsUntil n time
+      → switch.StandsFor t side new (with_arrival (calls_on side events (switch.last_time (on side n.switches)))
+      (arrival_with tag time side port bytes)) →
+      switch.IsQuiet new time → IsQuiet n time
+      → StandsFor t (record { switches = with_on side n.switches new })
+      (Came (admission_after t (arrivals_in events) (arrival_with tag time side port bytes)) ∷ events)
+  stands-came A new tag time port bytes until is quiet old =
+      stands-came-a new tag time port bytes until is quiet old.on_b
+  stands-came B new tag time port bytes until is quiet old =
+      stands-came-b new tag time port bytes until is old.on_a quiet
+
+  -- its turn goes first, and is given
+  pub gives-at : (side : Side) (new : SwitchState) (until : ℕ) (value : switch_departure.Departure)
+      (due_a due_b : Option Due) → IsFirstSide until due_a due_b (Some side) → IsUntil n until →
+      IfSome due_a (λ d. IsDue t A (calls_on A events (switch.last_time n.switches.a)) d)
+      → IfSome due_b (λ d. IsDue t B (calls_on B events (switch.last_time n.switches.b)) d) →
+      ((port : ℕ) → 1 ≤ port → port ≤ 24 → IfNone due_a (IsDone t A (calls_on A events (switch.last_time n.switches.a)) port)) →
+      ((port : ℕ) → 1 ≤ port → port ≤ 24 → IfNone due_b (IsDone t B (calls_on B events (switch.last_time n.switches.b)) port)) →
+      switch.Gives t side (calls_on side events (switch.last_time (on side n.switches))) until value new
+      → Gives t events until (record { side = side; departure = value })
+      (record { switches = with_on side n.switches new })
+  gives-at A new until value due_a due_b first clock comes_a comes_b done_a done_b gives =
+      gives-a new until value due_a due_b first clock.on_a comes_a comes_b done_b gives
+  gives-at B new until value due_a due_b first clock comes_a comes_b done_a done_b gives =
+      gives-b new until value due_a due_b first clock.on_b comes_b comes_a done_a gives
+
+-- the side whose turn goes first, by then, gives it
+pub must-give : (side : Side) (n : Network) (until : ℕ) (due_a due_b : Option Due) → IsFirstSide until due_a due_b (Some side)
+    → ((time : ℕ) → switch.IsQuiet n.switches.a time ↔ IfSome due_a (λ d. IsAfter time d))
+    → ((time : ℕ) → switch.IsQuiet n.switches.b time ↔ IfSome due_b (λ d. IsAfter time d))
+    → switch.IsQuiet (on side n.switches) until → ⊥
+must-give A n until due_a due_b first iff_a iff_b quiet =
+    not-late due_a until first.due first.is first.in_time ((iff_a until).0 quiet)
+must-give B n until due_a due_b first iff_a iff_b quiet =
+    not-late due_b until first.due first.is first.in_time ((iff_b until).0 quiet)
+
 -- nothing has come yet
-pub stands-new : (t : Rows) (n : Network) → IsLawful t → switch.StandsFor t A n.a switch.no_calls
-    → switch.StandsFor t B n.b switch.no_calls → StandsFor t n []
+pub stands-new : (t : Rows) (n : Network) → IsLawful t → switch.StandsFor t A n.switches.a switch.no_calls
+    → switch.StandsFor t B n.switches.b switch.no_calls → StandsFor t n []
 stands-new t n lawful on_a on_b = record {
   lawful = lawful;
-  on_a = subst (λ k. switch.StandsFor t A n.a (calls_on A [] k)) (sym on_a.time) on_a;
-  on_b = subst (λ k. switch.StandsFor t B n.b (calls_on B [] k)) (sym on_b.time) on_b;
+  on_a = subst (λ k. switch.StandsFor t A n.switches.a (calls_on A [] k)) (sym on_a.time) on_a;
+  on_b = subst (λ k. switch.StandsFor t B n.switches.b (calls_on B [] k)) (sym on_b.time) on_b;
   in_order = tt;
   follows = tt;
   past = λ time u e among. absurd among;

@@ -56,17 +56,17 @@ pub record Tells (verdict : Verdict) (c : Admission) : Type 0 where
 
 -- neither switch was used after this time
 pub record IsUntil (n : Network) (time : ℕ) : Type 0 where
-  pub on_a : switch.last_time n.a ≤ time
-  pub on_b : switch.last_time n.b ≤ time
+  pub on_a : switch.last_time n.switches.a ≤ time
+  pub on_b : switch.last_time n.switches.b ≤ time
 
 -- `take(time)` would answer None
 pub record IsQuiet (n : Network) (time : ℕ) : Type 0 where
-  pub on_a : switch.IsQuiet n.a time
-  pub on_b : switch.IsQuiet n.b time
+  pub on_a : switch.IsQuiet n.switches.a time
+  pub on_b : switch.IsQuiet n.switches.b time
 
 -- how many frames the output ports of both switches hold
 abbrev pub frames_held : Network → ℕ
-frames_held n = switch.frames_held n.a + switch.frames_held n.b
+frames_held n = switch.frames_held n.switches.a + switch.frames_held n.switches.b
 
 -- the turn of a port as the event that it is after these
 abbrev pub departure_after : List Event → Side → ℕ → Turn HeldFrame → Departure
@@ -80,8 +80,8 @@ IsNextOn t events side port s = IsNextAt t side (calls_on side events 0) port s
 -- the switches of both sides are those that these events leave
 pub record StandsFor (t : Rows) (n : Network) (events : List Event) : Type 0 where
   pub lawful : IsLawful t
-  pub on_a : switch.StandsFor t A n.a (calls_on A events (switch.last_time n.a))
-  pub on_b : switch.StandsFor t B n.b (calls_on B events (switch.last_time n.b))
+  pub on_a : switch.StandsFor t A n.switches.a (calls_on A events (switch.last_time n.switches.a))
+  pub on_b : switch.StandsFor t B n.switches.b (calls_on B events (switch.last_time n.switches.b))
   pub in_order : AreInOrder events
   pub follows : EachFollows t events
   -- they come before what arrives next, at any time that isn't past

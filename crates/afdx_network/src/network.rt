@@ -6,7 +6,7 @@ ghost use Rattle.afdx_port.specs.Times.{drain_end, latest_put};
 ghost use Rattle.afdx_network.specs.First.{IsFirstSide, IsOrder};
 
 use afdx_config::Tables;
-use afdx_frame::{Checked, Side};
+use afdx_frame::{BySide, Checked, Side};
 use afdx_port::Due;
 use afdx_switch::{Departure, Switch, Verdict};
 use std::alloc::{AllocError, Global};
@@ -44,14 +44,13 @@ fn first_side(a: Option<Due>, b: Option<Due>, until: u64) -> Option<Side>
 
 /// The switches of both sides.
 pub struct Network {
-    a: Switch,
-    b: Switch,
+    switches: BySide<Switch>,
 }
 
 impl Drop for Network {
     // (written out, it is one call wherever a value is let go)
     fn drop(self) {
-        let Self { a, b } = self;
+        let Self { switches } = self;
     }
 }
 
@@ -73,7 +72,9 @@ impl Network {
     {
         let a = Switch::new(alloc, tables)?;
         let b = Switch::new(alloc, tables)?;
-        Ok(Network { a, b })
+        Ok(Network {
+            switches: BySide { a, b },
+        })
     }
 
     /// A frame arrives at `time`, in ns, at an input port of one side's switch, which filters and
@@ -110,10 +111,9 @@ impl Network {
         ensures held { frames_held self.new ≤ frames_held self.old + last_port }
         ensures clock { IsUntil self.new time }
     {
-        match side {
-            Side::A => self.a.arrive_checked(time, port, tag, frame),
-            Side::B => self.b.arrive_checked(time, port, tag, frame),
-        }
+        self.switches
+            .get_mut(side)
+            .arrive_checked(time, port, tag, frame)
     }
 
     /// The next departure of both sides by `until`, in ns: a slot that ends at or before `until`,
@@ -132,25 +132,8 @@ impl Network {
             (λ _. frames_held self.new + 1 ≡ frames_held self.old) }
         ensures clock { IsUntil self.new until }
     {
-        match first_side(self.a.due(), self.b.due(), until)? {
-            Side::A => {
-                let Some(departure) = self.a.take(until) else {
-                    unreachable!();
-                };
-                Some(Departed {
-                    side: Side::A,
-                    departure,
-                })
-            }
-            Side::B => {
-                let Some(departure) = self.b.take(until) else {
-                    unreachable!();
-                };
-                Some(Departed {
-                    side: Side::B,
-                    departure,
-                })
-            }
-        }
+        let side = first_side(self.switches.a.due(), self.switches.b.due(), until)?;
+        let departure = self.switches.get_mut(side).take(until)?;
+        Some(Departed { side, departure })
     }
 }

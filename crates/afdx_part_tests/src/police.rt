@@ -273,7 +273,7 @@ fn answers_over_time(rule: &LinkRule) -> bool {
     let mut account = LinkAccount::new(rule);
     account.police(0, 1, Checked::new(&frame)).is_none()
         && account.police(499_999, 1, Checked::new(&frame)) == Some(Reason::OverRate)
-        && account.offer(500_000, 64)
+        && account.offer(500_000, 64).is_none()
 }
 
 #[test]

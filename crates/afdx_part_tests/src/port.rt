@@ -8,7 +8,7 @@ ghost use Rattle.afdx_port.specs.Held.{IsByteTime, last_time};
 ghost use Rattle.afdx_port.specs.Times.{greatest_wait};
 
 use afdx_frame::Priority;
-use afdx_port::{HasLength, Port, Serving, first_due};
+use afdx_port::{HasLength, Port, Serving};
 use afdx_samples::{all_right, equal};
 use std::alloc::{AllocError, Global};
 use std::test::Fail;
@@ -311,19 +311,14 @@ fn add_ports(ports: &mut Vec<Port<Frame>>, alloc: Global) -> Result<(), Fail> {
     Ok(())
 }
 
-/// The first of 24 ports, and the one whose turn is given by each of two times, if there is one.
-/// None: they aren't 24.
-fn first_of(
-    ports: &[Port<Frame>],
-    early: u64,
-    late: u64,
-) -> Option<(usize, Option<usize>, Option<usize>)> {
+/// The first of 24 ports, and whether it gives nothing by each of two times. None: they aren't 24.
+fn first_of(ports: &[Port<Frame>], early: u64, late: u64) -> Option<(usize, bool, bool)> {
     if ports.len() != 24 {
         return None;
     }
     let first = Serving::of(ports).first::<Frame>();
-    let by_early = first_due(ports, first, early);
-    let by_late = first_due(ports, first, late);
+    let by_early = ports[first].is_quiet(early);
+    let by_late = ports[first].is_quiet(late);
     Some((first, by_early, by_late))
 }
 
@@ -332,5 +327,5 @@ fn the_first_of_several_ports(rt: HostRuntime) -> Result<(), Fail> {
     let mut ports = Vec::new(rt.alloc());
     add_ports(&mut ports, rt.alloc())?;
     let first = first_of(ports.as_slice(), 6719, 1000000);
-    equal(first, Some((2, None, Some(2))))
+    equal(first, Some((2, true, false)))
 }

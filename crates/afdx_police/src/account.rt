@@ -1,8 +1,9 @@
 //! The account of a link, charged by the link's own kind of policing, and the verdicts on its
 //! arrivals.
 
-ghost use Rattle.std.specs.Prelude.{◌≡◌, ℕ, ◌≤◌, if◌then◌else◌, List, [], ◌∷◌};
+ghost use Rattle.std.specs.Prelude.{◌≡◌, ℕ, ◌≤◌, if◌then◌else◌, List, [], ◌∷◌, length, IfNone, Ok};
 ghost use Rattle.afdx_frame.specs.Lengths.{least_frame};
+ghost use Rattle.afdx_frame.specs.Parts.{frame_of, parts_of};
 ghost use Rattle.afdx_police.specs.Shape.{fault_of};
 ghost use Rattle.afdx_police.specs.declared.shape.Reason.{Reason};
 ghost use Rattle.afdx_frame.specs.declared.link.Side.{Side};
@@ -14,8 +15,8 @@ ghost use Rattle.afdx_police.specs.Verdicts.{reason_after, verdict_in};
 use crate::charge::{ByteCharge, FrameCharge};
 use crate::policer::Policer;
 use crate::rule::LinkRule;
-use crate::shape::{Reason, judge_checked};
-use afdx_frame::{Checked, Policing};
+use crate::shape::{Reason, fault_by, judge_checked};
+use afdx_frame::{Checked, MacView, Policing};
 
 /// The account of one link at one switch, of the link's own kind of policing.
 #[derive(Debug, Drop)]
@@ -49,9 +50,21 @@ impl LinkAccount {
         }
     }
 
-    /// Whether an arrival of the link that has no fault is accepted, by its time in nanoseconds and
-    /// its length in bytes. One that is refused is charged nothing.
-    pub fn offer(&mut self, time: u64, length: u64) -> bool
+    /// The first fault of a frame by the rule of the account's link, but for the link's rate.
+    /// `port` is the input port at which it came, `view` the view of its bytes.
+    pub fn fault(&self, port: u8, view: &MacView<'_>, bytes: &[u8]) -> Option<Reason>
+        requires viewed { frame_of bytes.now ≡ Ok (parts_of view.now) }
+        ensures reason { result ≡ fault_of (Some (account_of self.now).rule) port bytes.now }
+
+        // What has no fault may be offered.
+        ensures longest { IfNone result (length bytes.now ≤ (account_of self.now).rule.lmax) }
+    {
+        fault_by(self.rule(), port, view.vl(), bytes)
+    }
+
+    /// Whether the account covers an arrival of this length, in bytes, at this time, in
+    /// nanoseconds. If it doesn't, nothing is charged.
+    fn passes(&mut self, time: u64, length: u64) -> bool
         requires in_time { last_time self.old ≤ time }
         requires shortest { least_frame ≤ length }
         requires longest { length ≤ (account_of self.old).rule.lmax }
@@ -72,6 +85,33 @@ impl LinkAccount {
         match self {
             LinkAccount::ByByte(policer) => policer.offer(time, length),
             LinkAccount::ByFrame(policer) => policer.offer(time, length),
+        }
+    }
+
+    /// Why an arrival of the link without a fault in its shape is dropped, if it is, by its time in
+    /// nanoseconds and its length in bytes. One that is dropped is charged nothing.
+    pub fn offer(&mut self, time: u64, length: u64) -> Option<Reason>
+        requires in_time { last_time self.old ≤ time }
+        requires shortest { least_frame ≤ length }
+        requires longest { length ≤ (account_of self.old).rule.lmax }
+
+        ensures rule { (account_of self.new).rule ≡ (account_of self.old).rule }
+        ensures time { last_time self.new ≡ time }
+
+        // Whatever own arrivals led here, the answer is the one on the arrival that was offered.
+        ensures answer { (rule : Rule) (past : List Arrival) (x : Arrival) →
+            StandsForOwn rule self.old past →
+            IsOfferedAs rule x (record { time = time; length = length }) →
+            result ≡ reason_after rule past x }
+        ensures stands { (rule : Rule) (past : List Arrival) (x : Arrival) →
+            StandsForOwn rule self.old past →
+            IsOfferedAs rule x (record { time = time; length = length }) →
+            StandsForOwn rule self.new (x ∷ past) }
+    {
+        if self.passes(time, length) {
+            None
+        } else {
+            Some(Reason::OverRate)
         }
     }
 
@@ -112,13 +152,7 @@ impl LinkAccount {
             self.new ≡ self.old }
     {
         match judge_checked(Some(self.rule()), port, frame) {
-            None => {
-                if self.offer(time, frame.bytes.len() as u64) {
-                    None
-                } else {
-                    Some(Reason::OverRate)
-                }
-            }
+            None => self.offer(time, frame.bytes.len() as u64),
             Some(reason) => Some(reason),
         }
     }

@@ -125,7 +125,7 @@ pub fn judge_checked(rule: Option<&LinkRule>, port: u8, frame: Checked<'_>) -> O
 }
 
 /// The first fault of a frame that names this link, by this rule, but for the link's rate.
-fn fault_by(rule: &LinkRule, port: u8, vl: VlId, bytes: &[u8]) -> Option<Reason>
+pub(crate) fn fault_by(rule: &LinkRule, port: u8, vl: VlId, bytes: &[u8]) -> Option<Reason>
     ensures reason { result ≡ fault_by (rule_of rule.now) port vl.0 bytes.now }
     ensures longest { IfNone result (length bytes.now ≤ rule.now.lmax) }
 {

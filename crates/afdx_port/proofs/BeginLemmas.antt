@@ -6,8 +6,8 @@ use Rattle.std.proofs.lemmas.List.Sums.{sum_by-cons}
 use Rattle.afdx_frame.specs.declared.link.Priority.{Priority}
 use Rattle.afdx_frame.specs.declared.link.Priority.TheVariants.{High, Low}
 use Rattle.afdx_port.specs.declared.left.Due.{Due}
-use Rattle.afdx_port.specs.declared.pending.Waiting.{Waiting}
-use Rattle.afdx_port.specs.declared.pending.Pending.{Pending}
+use Rattle.afdx_port.specs.declared.port_state.Waiting.{Waiting}
+use Rattle.afdx_port.specs.declared.port_state.PortState.{PortState}
 use Rattle.afdx_port.specs.Facts.{Facts, AreLawful}
 use Rattle.afdx_port.specs.Schedule.{lasting}
 use Rattle.afdx_port.specs.Held.{frames_held, sending_count, choice_of, queue_of, is_too_old, due_from, due_of}
@@ -19,11 +19,11 @@ use Rattle.afdx_port.proofs.SoundLemmas.{lasting_short, count_least, start_is, s
 
 module _ {X : Type 0} where
   -- the port after the turn of a frame has begun, which has left its queue
-  abbrev pub begun : Pending X → Priority → X → ℕ → Due → Pending X
+  abbrev pub begun : PortState X → Priority → X → ℕ → Due → PortState X
   begun mid c x n d = record mid { free = d.time; sending = Some (left x c d); waiting = mid.waiting - n }
 
   -- what is known where a turn begins
-  pub record Begins (facts : X → Facts) (old mid : Pending X) (time moment : ℕ) (c : Priority)
+  pub record Begins (facts : X → Facts) (old mid : PortState X) (time moment : ℕ) (c : Priority)
       (w : Waiting X) (n : ℕ) (d : Due) : Type 0 where
     pub lawful : (x : X) → AreLawful (facts x)
     pub sound : IsPortSound facts old
@@ -37,7 +37,7 @@ module _ {X : Type 0} where
     pub due : d ≡ due_from facts mid.byte_ns w moment
 
   -- the frames that wait, and the front among them
-  pub record Counts (facts : X → Facts) (old mid : Pending X) (c : Priority) (w : Waiting X) : Type 0 where
+  pub record Counts (facts : X → Facts) (old mid : PortState X) (c : Priority) (w : Waiting X) : Type 0 where
     pub sums : old.waiting ≡ (facts w.item).bytes +
         (sum_by (λ v. (facts v.item).bytes) mid.high.items + sum_by (λ v. (facts v.item).bytes)
         mid.low.items)
@@ -47,7 +47,7 @@ module _ {X : Type 0} where
     pub low_times : AllByRecursion (λ v. v.time ≤ 1000032768000000) mid.low.items
     pub few : length old.high.items + length old.low.items ≤ 65536
 
-  pub counts : (facts : X → Facts) (old mid : Pending X) (c : Priority) (w : Waiting X)
+  pub counts : (facts : X → Facts) (old mid : PortState X) (c : Priority) (w : Waiting X)
       → ((x : X) → AreLawful (facts x)) → IsPortSound facts old → queue_of c old ≡ w ∷ queue_of c mid
       → ChangesQueue c old mid → Counts facts old mid c w
   counts facts old mid High w lawful sound front changes =
@@ -102,7 +102,7 @@ module _ {X : Type 0} where
       }
 
   -- the turn's end
-  pub ends_soon : (facts : X → Facts) (old mid : Pending X) (time moment : ℕ) (c : Priority)
+  pub ends_soon : (facts : X → Facts) (old mid : PortState X) (time moment : ℕ) (c : Priority)
       (w : Waiting X) (n : ℕ) (d : Due) → Begins facts old mid time moment c w n d →
       (d.time ≤ moment + 1230400) × (moment ≤ max w.time old.free)
   ends_soon facts old mid time moment c w n d b =
@@ -120,7 +120,7 @@ module _ {X : Type 0} where
         omega arith,
       )
 
-  pub begun_sound : (facts : X → Facts) (old mid : Pending X) (time moment : ℕ) (c : Priority)
+  pub begun_sound : (facts : X → Facts) (old mid : PortState X) (time moment : ℕ) (c : Priority)
       (w : Waiting X) (n : ℕ) (d : Due) → Begins facts old mid time moment c w n d
       → IsPortSound facts (begun mid c w.item n d)
   begun_sound facts old mid time moment c w n d b =
@@ -152,7 +152,7 @@ module _ {X : Type 0} where
         ends = omega (arith, soon.0, soon.1);
       }
 
-  pub begun_stands : (facts : X → Facts) (old mid : Pending X) (time moment : ℕ) (c : Priority)
+  pub begun_stands : (facts : X → Facts) (old mid : PortState X) (time moment : ℕ) (c : Priority)
       (w : Waiting X) (n : ℕ) (d : Due) → Begins facts old mid time moment c w n d → (h : PortHistory X)
       → h.time ≤ time → StandsFor facts old h → StandsFor facts (begun mid c w.item n d) (at h time)
   begun_stands facts old mid time moment c w n d b h le s =
@@ -179,7 +179,7 @@ module _ {X : Type 0} where
       others_is Low e = e
 
   -- a turn that begins stays the one that is due
-  pub begun_due : (facts : X → Facts) (old mid : Pending X) (time moment : ℕ) (c : Priority)
+  pub begun_due : (facts : X → Facts) (old mid : PortState X) (time moment : ℕ) (c : Priority)
       (w : Waiting X) (n : ℕ) (d : Due) → Begins facts old mid time moment c w n d
       → due_of facts (begun mid c w.item n d) ≡ due_of facts old
   begun_due facts old mid time moment c w n d b =
@@ -189,7 +189,7 @@ module _ {X : Type 0} where
       due_busy facts (begun mid c w.item n d) (left w.item c d) refl
       ∙ (ap (λ z. Some z) due ∙ sym (due_idle facts old c moment w b.idle b.chosen first))
 
-  pub begun_held : (facts : X → Facts) (old mid : Pending X) (time moment : ℕ) (c : Priority)
+  pub begun_held : (facts : X → Facts) (old mid : PortState X) (time moment : ℕ) (c : Priority)
       (w : Waiting X) (n : ℕ) (d : Due) → Begins facts old mid time moment c w n d
       → frames_held (begun mid c w.item n d) ≡ frames_held old
   begun_held facts old mid time moment c w n d b =

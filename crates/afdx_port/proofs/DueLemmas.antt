@@ -6,8 +6,8 @@ use Rattle.afdx_frame.specs.declared.link.Priority.{Priority}
 use Rattle.afdx_frame.specs.declared.link.Priority.TheVariants.{High, Low}
 use Rattle.afdx_port.specs.declared.left.Left.{Left}
 use Rattle.afdx_port.specs.declared.left.Due.{Due}
-use Rattle.afdx_port.specs.declared.pending.Waiting.{Waiting}
-use Rattle.afdx_port.specs.declared.pending.Pending.{Pending}
+use Rattle.afdx_port.specs.declared.port_state.Waiting.{Waiting}
+use Rattle.afdx_port.specs.declared.port_state.PortState.{PortState}
 use Rattle.afdx_port.specs.Facts.{Facts}
 use Rattle.afdx_port.specs.Schedule.{Entry, Turn, end_of, IsNext, AreTurns}
 use Rattle.afdx_port.specs.Due.{IsAfter}
@@ -33,7 +33,7 @@ not_low (Some l) moment e = let k = (pair_same (High, l) (Low, moment) e).0 in c
 
 module _ {X : Type 0} where
   -- what is due, by cases
-  pub due_idle : (facts : X → Facts) (p : Pending X) (c : Priority) (moment : ℕ) (w : Waiting X)
+  pub due_idle : (facts : X → Facts) (p : PortState X) (c : Priority) (moment : ℕ) (w : Waiting X)
       → p.sending ≡ None → choice_of p ≡ Some (c, moment) → slice_get (queue_of c p) 0 ≡ Some w
       → due_of facts p ≡ Some (due_from facts p.byte_ns w moment)
   due_idle facts p c moment w none chosen front =
@@ -41,16 +41,16 @@ module _ {X : Type 0} where
       ∙ (ap (λ o. due_next facts p o) chosen
       ∙ ap (λ o. option_map (λ v. due_from facts p.byte_ns v moment) o) front)
 
-  pub due_busy : (facts : X → Facts) (p : Pending X) (l : Left X) → p.sending ≡ Some l
+  pub due_busy : (facts : X → Facts) (p : PortState X) (l : Left X) → p.sending ≡ Some l
       → due_of facts p ≡ Some (record { time = p.free; too_old = l.too_old })
   due_busy facts p l e = ap (λ o. due_first p.free o (due_next facts p (choice_of p))) e
 
-  pub due_nothing : (facts : X → Facts) (p : Pending X) → p.sending ≡ None → choice_of p ≡ None → due_of facts p ≡ None
+  pub due_nothing : (facts : X → Facts) (p : PortState X) → p.sending ≡ None → choice_of p ≡ None → due_of facts p ≡ None
   due_nothing facts p none chosen = ap (λ o. due_first p.free o (due_next facts p (choice_of p)))
       none ∙ ap (λ o. due_next facts p o) chosen
 
   -- the class that is chosen has a frame
-  pub has_front : (p : Pending X) (c : Priority) (moment : ℕ) → choice_of p ≡ Some (c, moment)
+  pub has_front : (p : PortState X) (c : Priority) (moment : ℕ) → choice_of p ≡ Some (c, moment)
       → (w : Waiting X) × (ws : List (Waiting X)) × (queue_of c p ≡ w ∷ ws)
   has_front p High moment e = by_queue p.high.items refl
     where
@@ -70,12 +70,12 @@ module _ {X : Type 0} where
       by_queue (w ∷ ws) q = (w, ws, q)
 
   -- the class that is chosen has a frame
-  pub not_empty : (p : Pending X) (c : Priority) (moment : ℕ) → choice_of p ≡ Some (c, moment) → queue_of c p ≡ [] → ⊥
+  pub not_empty : (p : PortState X) (c : Priority) (moment : ℕ) → choice_of p ≡ Some (c, moment) → queue_of c p ≡ [] → ⊥
   not_empty p c moment e q = let r = has_front p c moment e in cc (q, r.2)
 
   -- the turn of its front comes next
   pub front_next : (facts : X → Facts) (byte_ns : ℕ) (entries : List (Entry X))
-      (turns : List (Turn X)) (p : Pending X) (c : Priority) (moment : ℕ) (w : Waiting X)
+      (turns : List (Turn X)) (p : PortState X) (c : Priority) (moment : ℕ) (w : Waiting X)
       (ws : List (Waiting X)) →
       ((i j : ℕ) (d e : Entry X) → i ≤ j → slice_get entries i ≡ Some d
       → slice_get entries j ≡ Some e → d.time ≤ e.time) →
@@ -102,7 +102,7 @@ module _ {X : Type 0} where
       (r.place, r.next)
 
   -- the turn that comes next is that which is due
-  pub next_due : (facts : X → Facts) (p : Pending X) (h : PortHistory X) (s : Turn X)
+  pub next_due : (facts : X → Facts) (p : PortState X) (h : PortHistory X) (s : Turn X)
       → StandsFor facts p h → IsNext h.byte_ns h.entries h.taken s → due_of facts p ≡ Some (due_at s)
   next_due facts p h s st n = by_sending p.sending refl st.has_begun
     where
@@ -132,7 +132,7 @@ module _ {X : Type 0} where
           ∙ ap (λ z. Some (due_at z)) (sym same))
 
   -- what is due is the turn of the next frame
-  pub due_comes : (facts : X → Facts) (p : Pending X) (h : PortHistory X) (d : Due)
+  pub due_comes : (facts : X → Facts) (p : PortState X) (h : PortHistory X) (d : Due)
       → StandsFor facts p h → due_of facts p ≡ Some d → (s : Turn X)
       × IsNext h.byte_ns h.entries h.taken s × (d ≡ due_at s)
   due_comes facts p h d st is = by_sending p.sending refl st.has_begun
@@ -173,21 +173,21 @@ module _ {X : Type 0} where
                 (sym is ∙ (due_busy facts p l e ∙ due_same p.free b.0.end l.too_old b.0.too_old end old)),
           )
 
-  pub if_due_comes : (facts : X → Facts) (p : Pending X) (h : PortHistory X) (o : Option Due)
+  pub if_due_comes : (facts : X → Facts) (p : PortState X) (h : PortHistory X) (o : Option Due)
       → StandsFor facts p h → o ≡ due_of facts p
       → IfSome o (λ d. (s : Turn X) × IsNext h.byte_ns h.entries h.taken s × (d ≡ due_at s))
   if_due_comes facts p h None st is = tt
   if_due_comes facts p h (Some d) st is = due_comes facts p h d st (sym is)
 
   -- no further turn is given by t exactly where the next one is given after t
-  pub quiet_after : (facts : X → Facts) (p : Pending X) (h : PortHistory X) (t : ℕ) (s : Turn X)
+  pub quiet_after : (facts : X → Facts) (p : PortState X) (h : PortHistory X) (t : ℕ) (s : Turn X)
       → StandsFor facts p h → IsQuiet facts p t → IsNext h.byte_ns h.entries h.taken s
       → IsAfter t (due_at s)
   quiet_after facts p h t s st quiet n =
       let P : Option Due → Type 0 = λ o. IfSome o (λ d. IsAfter t d) in
       subst P (next_due facts p h s st n) quiet
 
-  pub after_quiet : (facts : X → Facts) (p : Pending X) (h : PortHistory X) (t : ℕ)
+  pub after_quiet : (facts : X → Facts) (p : PortState X) (h : PortHistory X) (t : ℕ)
       → StandsFor facts p h → ((s : Turn X) → IsNext h.byte_ns h.entries h.taken s
       → IsAfter t (due_at s)) → IsQuiet facts p t
   after_quiet facts p h t st after = by_due (due_of facts p) refl
@@ -200,7 +200,7 @@ module _ {X : Type 0} where
           subst Q (sym r.2) (after r.0 r.1)
 
   -- what is due doesn't hang on the clock
-  pub clock_due : (facts : X → Facts) (p : Pending X) (t : ℕ) → due_of facts (record p { clock = t }) ≡ due_of facts p
+  pub clock_due : (facts : X → Facts) (p : PortState X) (t : ℕ) → due_of facts (record p { clock = t }) ≡ due_of facts p
   clock_due facts p t = by_choice (choice_of p)
     where
       by_front : (c : Priority) (moment : ℕ)
@@ -216,13 +216,13 @@ module _ {X : Type 0} where
       by_choice (Some (c, moment)) = ap (λ o. due_first p.free p.sending o) (by_front c moment)
 
   -- where what is due stays, no more is given
-  pub quiet_stays : (facts : X → Facts) (old new : Pending X) (t : ℕ)
+  pub quiet_stays : (facts : X → Facts) (old new : PortState X) (t : ℕ)
       → due_of facts new ≡ due_of facts old → IsQuiet facts old t → IsQuiet facts new t
   quiet_stays facts old new t same q = let P : Option Due
       → Type 0 = λ o. IfSome o (λ d. IsAfter t d) in subst P (sym same) q
 
   -- a port that holds nothing gives nothing
-  pub empty_quiet : (facts : X → Facts) (p : Pending X) (t : ℕ) → frames_held p ≡ 0 → IsQuiet facts p t
+  pub empty_quiet : (facts : X → Facts) (p : PortState X) (t : ℕ) → frames_held p ≡ 0 → IsQuiet facts p t
   empty_quiet facts p t none = by_parts p.sending p.high.items p.low.items refl refl refl
     where
       by_parts : (o : Option (Left X)) (highs lows : List (Waiting X)) → p.sending ≡ o

@@ -1,16 +1,17 @@
 -- The first of several ports.
 use Rattle.std.proofs.Common.{IfSome, Bool, true, false, if◌then◌else◌, ◌≡◌, ℕ, ◌+◌, ◌*◌, ◌<◌, ◌≤◌}
-use Rattle.std.proofs.Common.{List, length, Option, Some, None, inl, inr, refl, sym, ap, subst}
+use Rattle.std.proofs.Common.{List, length, get_or, Option, Some, None, inl, inr, refl, sym, ap, subst}
 use Rattle.std.proofs.Common.{arith, ◌∙◌}
+use Rattle.std.specs.Prelude.{All}
 use Rattle.std.specs.List.{slice_get}
 use Rattle.std.proofs.lemmas.Bool.{cases_lt}
+use Rattle.std.proofs.lemmas.Option.{slice_get-get_or}
 use Rattle.afdx_port.specs.declared.left.Due.{Due}
-use Rattle.afdx_port.specs.declared.pending.Pending.{Pending}
+use Rattle.afdx_port.specs.declared.port_state.PortState.{PortState}
 use Rattle.afdx_port.specs.Facts.{Facts}
-use Rattle.afdx_port.specs.Due.{given_at, IsBy, IsAfter, order_of}
+use Rattle.afdx_port.specs.Due.{given_at, IsAfter, order_of}
 use Rattle.afdx_port.specs.Held.{due_of, IsQuiet}
-use Rattle.afdx_port.specs.Ports.{order_at, order_without_turn, AreQuiet, AreLimited, AreServed}
-use Rattle.afdx_port.specs.Ports.{IsFirstDue}
+use Rattle.afdx_port.specs.Ports.{order_at, order_without_turn, AreLimited, AreServed}
 
 -- what goes before a turn that is given after a time is given after it too
 after-order : (t : ℕ) (n m : ℕ) (a b : Bool) → 2 * n + (if a then 1 else 0)
@@ -32,19 +33,12 @@ later until a None le within after = tt
 later until None (Some e) le within after = absurd (omega (arith, le, low-order e.time e.too_old (within e refl)))
 later until (Some d) (Some e) le within after = after-order until d.time e.time d.too_old e.too_old le after
 
-by-then : (until : ℕ) (o : Option Due) → (IfSome o (λ d. IsAfter until d) → ⊥) → (d : Due) × (o ≡ Some d) × IsBy until d
-by-then until None loud = absurd (loud tt)
-by-then until (Some d) loud = elim (cases_lt until (given_at d)) [
-  | inl after ↦ absurd (loud after)
-  | inr by ↦ (d, refl, by)
-]
-
 -- what is due, by its order
 pub order-is : (o : Option Due) (d : Due) → o ≡ Some d → order_at o ≡ order_of d
 order-is o d is = ap order_at is
 
-module _ {X : Type 0} (facts : X → Facts) (ports : List (Pending X)) where
-  pub limit-step : (n : ℕ) (q : Pending X) → slice_get ports n ≡ Some q
+module _ {X : Type 0} (facts : X → Facts) (ports : List (PortState X)) where
+  pub limit-step : (n : ℕ) (q : PortState X) → slice_get ports n ≡ Some q
       → IfSome (due_of facts q) (λ d. given_at d ≤ 1200000000000000) →
       AreLimited facts ports n → AreLimited facts ports (n + 1)
   limit-step n q here within h = λ j r d lt stands due. elim (cases_lt j n) [
@@ -58,38 +52,36 @@ module _ {X : Type 0} (facts : X → Facts) (ports : List (Pending X)) where
         subst P some within)
   ]
 
-  module _ (place until : ℕ) (served : AreServed facts ports place) (p : Pending X)
+  module _ (place : ℕ) (served : AreServed facts ports place) (p : PortState X)
       (at : slice_get ports place ≡ Some p) where
     same-first : served.first.p ≡ p
     same-first = let there = served.first.stands in cc
 
-    before-each : (j : ℕ) (q : Pending X) → j < length ports → slice_get ports j ≡ Some q
+    pub before-each : (j : ℕ) (q : PortState X) → j < length ports → slice_get ports j ≡ Some q
         → order_at (due_of facts p) ≤ order_at (due_of facts q)
     before-each j q below there = subst (λ z. order_at (due_of facts z) ≤ order_at (due_of facts q))
         same-first (served.first.least j q below there)
 
+    pub before-same : (j : ℕ) (q : PortState X) → j < length ports → slice_get ports j ≡ Some q
+        → order_at (due_of facts p) ≡ order_at (due_of facts q) → place ≤ j
+    before-same j q below there same =
+        served.first.first j q below there (ap (λ z. order_at (due_of facts z)) same-first ∙ same)
+
     -- where it gives nothing by then, no port does
-    pub all-quiet : IsQuiet facts p until → AreQuiet facts ports until (length ports)
-    all-quiet quiet j q below there =
+    pub all-quiet : (until : ℕ) → IsQuiet facts p until → All (λ q. IsQuiet facts q until) ports
+    all-quiet until quiet j d below =
+        let q : PortState X = get_or ports j d in
+        let there : slice_get ports j ≡ Some q = slice_get-get_or ports j d below in
         later until (due_of facts p) (due_of facts q) (before-each j q below there)
         (λ e is. served.limit j q e below there is) quiet
 
-    -- where it gives a turn by then, it is the first of all
-    pub first-due : (IsQuiet facts p until → ⊥) → IsFirstDue facts ports until (length ports) place
-    first-due loud =
-        let due = by-then until (due_of facts p) loud in
-        let d : Due = due.0 in
-        let order : order_at (due_of facts p) ≡ order_of d = order-is (due_of facts p) d due.1 in (
-          d,
-          record {
-            below = served.first.below;
-            p = p;
-            stands = at;
-            due = due.1;
-            by = due.2;
-            least = λ j q e below there is.
-                omega (arith, before-each j q below there, order, order-is (due_of facts q) e is);
-            first = λ j q e below there is same. served.first.first j q below there
-                (ap (λ z. order_at (due_of facts z)) same-first ∙ order ∙ same ∙ sym (order-is (due_of facts q) e is));
-          },
-        )
+    -- what is due there goes first of all that is due
+    module _ (d : Due) (due : due_of facts p ≡ Some d) (j : ℕ) (q : PortState X) (e : Due)
+        (below : j < length ports) (there : slice_get ports j ≡ Some q) (is : due_of facts q ≡ Some e) where
+      pub least-order : order_of d ≤ order_of e
+      least-order =
+          omega (arith, before-each j q below there, order-is (due_of facts p) d due, order-is (due_of facts q) e is)
+
+      pub least-place : order_of d ≡ order_of e → place ≤ j
+      least-place same =
+          before-same j q below there (order-is (due_of facts p) d due ∙ same ∙ sym (order-is (due_of facts q) e is))

@@ -8,8 +8,8 @@ use Rattle.afdx_frame.specs.declared.link.Priority.{Priority}
 use Rattle.afdx_frame.specs.declared.link.Priority.TheVariants.{High, Low}
 use Rattle.afdx_port.specs.declared.left.Left.{Left}
 use Rattle.afdx_port.specs.declared.left.Due.{Due}
-use Rattle.afdx_port.specs.declared.pending.Waiting.{Waiting}
-use Rattle.afdx_port.specs.declared.pending.Pending.{Pending}
+use Rattle.afdx_port.specs.declared.port_state.Waiting.{Waiting}
+use Rattle.afdx_port.specs.declared.port_state.PortState.{PortState}
 use Rattle.afdx_port.specs.Facts.{Facts}
 use Rattle.afdx_port.specs.Schedule.{Turn, has_turn, end_of, IsNext, AreTurns, IsSchedule}
 use Rattle.afdx_port.specs.Schedule.{bytes_without_turn, waiting_bytes, IsLost}
@@ -38,7 +38,7 @@ module _ {X : Type 0} where
   started_longer t u (s ∷ ss) le h = (let lt : s.moment < t = h.0 in omega arith, started_longer t u ss le h.1)
 
   -- time passes and no turn begins
-  pub idle_stands : (facts : X → Facts) (old : Pending X) (h : PortHistory X) (time : ℕ)
+  pub idle_stands : (facts : X → Facts) (old : PortState X) (h : PortHistory X) (time : ℕ)
       → StandsFor facts old h → h.time ≤ time → StandsFor facts (record old { clock = time }) (at h time)
   idle_stands facts old h time st le = record {
     byte_ns = st.byte_ns;
@@ -56,15 +56,15 @@ module _ {X : Type 0} where
     come = λ i e g. let k = st.come i e g in omega arith;
   }
 
-  pub waited_stands : (facts : X → Facts) (old new : Pending X) (h : PortHistory X) (time : ℕ)
+  pub waited_stands : (facts : X → Facts) (old new : PortState X) (h : PortHistory X) (time : ℕ)
       → new ≡ record old { clock = time } → StandsFor facts old h → h.time ≤ time
       → StandsFor facts new (at h time)
   waited_stands facts old new h time same st le =
-      let P : Pending X → Type 0 = λ p. StandsFor facts p (at h time) in
+      let P : PortState X → Type 0 = λ p. StandsFor facts p (at h time) in
       subst P (sym same) (idle_stands facts old h time st le)
 
   -- a turn begins
-  pub begin_with : (facts : X → Facts) (old new : Pending X) (h : PortHistory X) (time moment : ℕ)
+  pub begin_with : (facts : X → Facts) (old new : PortState X) (h : PortHistory X) (time moment : ℕ)
       (c : Priority) (w : Waiting X) (st : StandsFor facts old h) → h.time ≤ time → moment < time
       → old.sending ≡ None →
       Chosen facts h.byte_ns h.entries st.begun c moment w new.high.items new.low.items →
@@ -98,7 +98,7 @@ module _ {X : Type 0} where
         come = λ i e g. let k = st.come i e g in omega arith;
       }
 
-  pub begin_stands : (facts : X → Facts) (old new : Pending X) (h : PortHistory X) (time moment : ℕ)
+  pub begin_stands : (facts : X → Facts) (old new : PortState X) (h : PortHistory X) (time moment : ℕ)
       (c : Priority) (w : Waiting X) → StandsFor facts old h → h.time ≤ time → moment < time
       → old.sending ≡ None →
       choice_of old ≡ Some (c, moment) → queue_of c old ≡ w ∷ queue_of c new
@@ -142,7 +142,7 @@ module _ {X : Type 0} where
       byte_ns buffer now free sending waiting
 
   -- a frame is put
-  pub put_stands : (facts : X → Facts) (old new : Pending X) (h : PortHistory X) (c : Priority)
+  pub put_stands : (facts : X → Facts) (old new : PortState X) (h : PortHistory X) (c : Priority)
       (w : Waiting X) → StandsFor facts old h → w.time ≡ h.time →
       queue_of c new ≡ queue_of c old ++ w ∷ [] → queue_of (other c) new ≡ queue_of (other c) old →
       new.byte_ns ≡ old.byte_ns → new.buffer ≡ old.buffer → new.clock ≡ old.clock
@@ -222,7 +222,7 @@ module _ {X : Type 0} where
           )
 
   -- no further turn has a moment before t, where none is given by t and what isn't begun begins no sooner
-  pub next_later : (facts : X → Facts) (p : Pending X) (h : PortHistory X) (t : ℕ)
+  pub next_later : (facts : X → Facts) (p : PortState X) (h : PortHistory X) (t : ℕ)
       (st : StandsFor facts p h) → IsQuiet facts p t →
       ((c : Priority) (moment : ℕ) → p.sending ≡ None → choice_of p ≡ Some (c, moment) → t ≤ moment)
       → (s : Turn X) → IsNext h.byte_ns h.entries st.begun s → t ≤ s.moment
@@ -245,7 +245,7 @@ module _ {X : Type 0} where
           omega arith
 
   -- what was taken is a list of turns
-  pub taken_turns : (facts : X → Facts) (p : Pending X) (h : PortHistory X) → StandsFor facts p h
+  pub taken_turns : (facts : X → Facts) (p : PortState X) (h : PortHistory X) → StandsFor facts p h
       → AreTurns h.byte_ns h.entries h.taken
   taken_turns facts p h st = by_sending p.sending st.has_begun
     where
@@ -258,7 +258,7 @@ module _ {X : Type 0} where
           are.1
 
   -- what the port counts is what waits
-  pub waiting_counted : (facts : X → Facts) (p : Pending X) (h : PortHistory X) (t : ℕ)
+  pub waiting_counted : (facts : X → Facts) (p : PortState X) (h : PortHistory X) (t : ℕ)
       (turns : List (Turn X)) → StandsFor facts p (at h t) → IsQuiet facts p t →
       ((c : Priority) (moment : ℕ) → p.sending ≡ None → choice_of p ≡ Some (c, moment) → t ≤ moment) →
       IsSchedule h.byte_ns h.entries turns → waiting_bytes h.entries turns t ≡ p.waiting
@@ -267,7 +267,7 @@ module _ {X : Type 0} where
       (next_later facts p (at h t) t st quiet idle) ∙ sym st.waiting
 
   -- a frame is lost exactly if it doesn't fit beside those that the port counts
-  pub lost_from : (facts : X → Facts) (p : Pending X) (h : PortHistory X) (t n : ℕ)
+  pub lost_from : (facts : X → Facts) (p : PortState X) (h : PortHistory X) (t n : ℕ)
       (turns : List (Turn X)) → StandsFor facts p (at h t) → IsQuiet facts p t →
       ((c : Priority) (moment : ℕ) → p.sending ≡ None → choice_of p ≡ Some (c, moment) → t ≤ moment)
       → IsSchedule h.byte_ns h.entries turns → p.buffer < p.waiting + n
@@ -277,7 +277,7 @@ module _ {X : Type 0} where
       let buffer : p.buffer ≡ h.buffer = st.buffer in
       omega arith
 
-  pub not_lost : (facts : X → Facts) (p : Pending X) (h : PortHistory X) (t n : ℕ)
+  pub not_lost : (facts : X → Facts) (p : PortState X) (h : PortHistory X) (t n : ℕ)
       (turns : List (Turn X)) → StandsFor facts p (at h t) → IsQuiet facts p t →
       ((c : Priority) (moment : ℕ) → p.sending ≡ None → choice_of p ≡ Some (c, moment) → t ≤ moment)
       → IsSchedule h.byte_ns h.entries turns → p.waiting + n ≤ p.buffer

@@ -9,8 +9,8 @@ use Rattle.afdx_frame.specs.declared.link.Priority.{Priority}
 use Rattle.afdx_frame.specs.declared.link.Priority.TheVariants.{High, Low}
 use Rattle.afdx_port.specs.declared.left.Left.{Left}
 use Rattle.afdx_port.specs.declared.left.Due.{Due}
-use Rattle.afdx_port.specs.declared.pending.Waiting.{Waiting}
-use Rattle.afdx_port.specs.declared.pending.Pending.{Pending}
+use Rattle.afdx_port.specs.declared.port_state.Waiting.{Waiting}
+use Rattle.afdx_port.specs.declared.port_state.PortState.{PortState}
 use Rattle.afdx_port.specs.Facts.{Facts, AreLawful}
 use Rattle.afdx_port.specs.Due.{IsAfter}
 use Rattle.afdx_port.specs.Held.{frames_held, sending_count, ready, choice, choice_of, queue_of, due_of, IsQuiet}
@@ -65,7 +65,7 @@ module _ {X : Type 0} where
   times_push t [] w h le = (le, tt)
   times_push t (v ∷ vs) w h le = (h.0, times_push t vs w h.1 le)
 
-  pub has_room : (facts : X → Facts) (p : Pending X) (c : Priority) (n : ℕ)
+  pub has_room : (facts : X → Facts) (p : PortState X) (c : Priority) (n : ℕ)
       → ((x : X) → AreLawful (facts x)) → IsPortSound facts p → p.waiting + n ≤ p.buffer → 64 ≤ n
       → HasRoom c p
   has_room facts p High n lawful s fits least =
@@ -80,7 +80,7 @@ module _ {X : Type 0} where
       omega arith
 
   -- what is known where a frame is put
-  pub record Puts (facts : X → Facts) (old mid : Pending X) (time : ℕ) (c : Priority) (x : X) (n : ℕ) : Type 0 where
+  pub record Puts (facts : X → Facts) (old mid : PortState X) (time : ℕ) (c : Priority) (x : X) (n : ℕ) : Type 0 where
     pub lawful : (y : X) → AreLawful (facts y)
     pub sound : IsPortSound facts old
     pub clock : old.clock ≡ time
@@ -90,14 +90,14 @@ module _ {X : Type 0} where
     pub changes : ChangesQueue c old mid
     pub bytes : n ≡ (facts x).bytes
 
-  pub record Pushed (facts : X → Facts) (old mid : Pending X) (n : ℕ) : Type 0 where
+  pub record Pushed (facts : X → Facts) (old mid : PortState X) (n : ℕ) : Type 0 where
     pub sums : sum_by (λ v. (facts v.item).bytes) mid.high.items + sum_by
         (λ v. (facts v.item).bytes) mid.low.items ≡ old.waiting + n
     pub lengths : length mid.high.items + length mid.low.items ≡ (length old.high.items + length old.low.items) + 1
     pub high_times : AllByRecursion (λ v. v.time ≤ 1000032768000000) mid.high.items
     pub low_times : AllByRecursion (λ v. v.time ≤ 1000032768000000) mid.low.items
 
-  pub pushed : (facts : X → Facts) (old mid : Pending X) (time : ℕ) (c : Priority) (x : X) (n : ℕ)
+  pub pushed : (facts : X → Facts) (old mid : PortState X) (time : ℕ) (c : Priority) (x : X) (n : ℕ)
       → Puts facts old mid time c x n → Pushed facts old mid n
   pushed facts old mid time High x n p =
       let st = stays High old mid p.changes in
@@ -159,7 +159,7 @@ module _ {X : Type 0} where
             p.sound.low_times p.limit);
       }
 
-  pub pushed_sound : (facts : X → Facts) (old mid : Pending X) (time : ℕ) (c : Priority) (x : X)
+  pub pushed_sound : (facts : X → Facts) (old mid : PortState X) (time : ℕ) (c : Priority) (x : X)
       (n : ℕ) → Puts facts old mid time c x n → IsPortSound facts (record mid { waiting = mid.waiting + n })
   pushed_sound facts old mid time c x n p =
       let st = stays c old mid p.changes in
@@ -189,7 +189,7 @@ module _ {X : Type 0} where
         ends = omega (arith, count_least facts p.lawful old.high.items, count_least facts p.lawful old.low.items);
       }
 
-  pub pushed_stands : (facts : X → Facts) (old mid : Pending X) (time : ℕ) (c : Priority) (x : X)
+  pub pushed_stands : (facts : X → Facts) (old mid : PortState X) (time : ℕ) (c : Priority) (x : X)
       (n : ℕ) → Puts facts old mid time c x n → (h : PortHistory X) → StandsFor facts old (at h time) →
       StandsFor facts (record mid { waiting = mid.waiting + n }) (with_put h (entry_of facts time c x))
   pushed_stands facts old mid time c x n p h s =
@@ -212,13 +212,13 @@ module _ {X : Type 0} where
       others_is Low e = e
 
   -- both fronts can be sent no sooner than what is chosen
-  pub fronts_late : (p : Pending X) (t : ℕ)
+  pub fronts_late : (p : PortState X) (t : ℕ)
       → ((c : Priority) (moment : ℕ) → choice_of p ≡ Some (c, moment) → t ≤ moment)
       → (c : Priority) (m : ℕ) → ready p.free (queue_of c p) ≡ Some m → t ≤ m
   fronts_late p t late High m e = late_high (ready p.free p.high.items) (ready p.free p.low.items) t m late e
   fronts_late p t late Low m e = late_low (ready p.free p.high.items) (ready p.free p.low.items) t m late e
 
-  pub choice_late : (p : Pending X) (t : ℕ)
+  pub choice_late : (p : PortState X) (t : ℕ)
       → ((c : Priority) (m : ℕ) → ready p.free (queue_of c p) ≡ Some m → t ≤ m)
       → (c : Priority) (moment : ℕ) → choice_of p ≡ Some (c, moment) → t ≤ moment
   choice_late p t late c moment e = one_of (ready p.free p.high.items) (ready p.free p.low.items) t
@@ -230,7 +230,7 @@ module _ {X : Type 0} where
   ready_push free t [] x m late e = let same : max t free ≡ m = cc e in omega arith
   ready_push free t (w ∷ ws) x m late e = late m e
 
-  pub pushed_quiet : (facts : X → Facts) (old mid : Pending X) (time : ℕ) (c : Priority) (x : X)
+  pub pushed_quiet : (facts : X → Facts) (old mid : PortState X) (time : ℕ) (c : Priority) (x : X)
       (n : ℕ) → Puts facts old mid time c x n → IsQuiet facts old time →
       ((d : Priority) (moment : ℕ) → old.sending ≡ None → choice_of old ≡ Some (d, moment)
       → time ≤ moment) → IsQuiet facts (record mid { waiting = mid.waiting + n }) time
@@ -273,7 +273,7 @@ module _ {X : Type 0} where
           after ∙ (ap (λ m. Some (due m l.too_old)) st.free ∙ sym before) in
           subst P (sym same) q
 
-  pub pushed_held : (facts : X → Facts) (old mid : Pending X) (time : ℕ) (c : Priority) (x : X)
+  pub pushed_held : (facts : X → Facts) (old mid : PortState X) (time : ℕ) (c : Priority) (x : X)
       (n : ℕ) → Puts facts old mid time c x n
       → frames_held (record mid { waiting = mid.waiting + n }) ≡ frames_held old + 1
   pushed_held facts old mid time c x n p =
@@ -284,7 +284,7 @@ module _ {X : Type 0} where
       omega arith
 
   -- while a turn has begun, no put changes what is due
-  pub pushed_due : (facts : X → Facts) (old mid : Pending X) (time : ℕ) (c : Priority) (x : X)
+  pub pushed_due : (facts : X → Facts) (old mid : PortState X) (time : ℕ) (c : Priority) (x : X)
       (n : ℕ) → Puts facts old mid time c x n → is_some mid.sending ≡ true
       → due_of facts (record mid { waiting = mid.waiting + n }) ≡ due_of facts old
   pushed_due facts old mid time c x n p busy = by mid.sending refl busy

@@ -7,7 +7,7 @@ use Rattle.std.proofs.lemmas.Option.{slice_get_within}
 use Rattle.std.proofs.lemmas.Bool.{cases_lt}
 use Rattle.afdx_frame.specs.declared.link.Priority.{Priority}
 use Rattle.afdx_frame.specs.declared.link.Priority.TheVariants.{High, Low}
-use Rattle.afdx_port.specs.declared.pending.Waiting.{Waiting}
+use Rattle.afdx_port.specs.declared.port_state.Waiting.{Waiting}
 use Rattle.afdx_port.specs.Schedule.{Entry, Turn, has_turn, end_of, IsWithoutTurn, IsNext}
 use Rattle.afdx_port.specs.Facts.{Facts}
 use Rattle.afdx_port.specs.ScheduleOf.{turn_at}

@@ -4,21 +4,22 @@ use Rattle.std.proofs.Common.{set, Option, Some, IfSome, inl, inr, refl, sym, ap
 use Rattle.std.proofs.Common.{suc, zero, min, None, ◌⊎◌}
 use Rattle.std.proofs.Math.Logic.{∥∥₁_elim, ∥∥₁_map}
 use Rattle.std.proofs.Math.Bridge.{le_prop}
+use Rattle.std.specs.Prelude.{All}
 use Rattle.std.specs.List.{slice_get}
 use Rattle.std.proofs.lemmas.Bool.{cases_lt, cases_eq}
 use Rattle.std.proofs.lemmas.List.{length-set}
 use Rattle.std.proofs.lemmas.Option.{slice_get_within}
 use Rattle.circular_buffer.proofs.Places.{slice_get-set_same, slice_get-set_other, slice_get-some}
-use Rattle.afdx_port.specs.declared.pending.Pending.{Pending}
+use Rattle.afdx_port.specs.declared.port_state.PortState.{PortState}
 use Rattle.afdx_port.specs.declared.left.Due.{Due}
 use Rattle.afdx_port.specs.declared.serving.Serving.{Serving}
 use Rattle.afdx_port.specs.Facts.{Facts}
 use Rattle.afdx_port.specs.Due.{given_at}
-use Rattle.afdx_port.specs.Held.{due_of}
+use Rattle.afdx_port.specs.Held.{due_of, IsQuiet}
 use Rattle.afdx_port.specs.Ports.{order_at, AreLimited, AreServed}
 use Rattle.afdx_port.specs.Keys.{key_of, IsLeastIn, AreRanked}
 use Rattle.afdx_port.specs.Serving.{IsServing}
-use Rattle.afdx_port.proofs.FirstLemmas.{limit-step}
+use Rattle.afdx_port.proofs.FirstLemmas.{limit-step, before-each, before-same, all-quiet}
 
 -- one number more
 pub least-next : (numbers : List ℕ) (from to least n m : ℕ) → IsLeastIn numbers from to least
@@ -156,7 +157,7 @@ are-ranked keys least h group key at = least-found keys (4 * group) 4 key (∥�
 
 module _ {X : Type 0} (facts : X → Facts) where
   -- the least of all keys tells the port
-  pub first-served : (ports : List (Pending X)) (s : Serving) (key : ℕ) → length s.least ≡ 6
+  pub first-served : (ports : List (PortState X)) (s : Serving) (key : ℕ) → length s.least ≡ 6
       → IsServing facts ports s → IsLeastIn s.least 0 6 key → (place : ℕ) → place ≡ key % 32
       → AreServed facts ports place
   first-served ports s key groups serving h place is =
@@ -169,7 +170,7 @@ module _ {X : Type 0} (facts : X → Facts) where
       let own : key ≡ key_of (order_at (due_of facts p.0)) at =
       (let k = serving.keys at p.0 p.1 in let o = in_group.own in cc) in
       let here : place ≡ at = omega (arith, is, own, within, serving.port_count) in
-      let below : (j : ℕ) (q : Pending X) → j < length ports → slice_get ports j ≡ Some q
+      let below : (j : ℕ) (q : PortState X) → j < length ports → slice_get ports j ≡ Some q
       → key ≤ key_of (order_at (due_of facts q)) j = λ j q under there. under-all j q under there in
       record {
         first = record {
@@ -182,7 +183,7 @@ module _ {X : Type 0} (facts : X → Facts) where
         limit = serving.limit;
       }
     where
-      under-all : (j : ℕ) (q : Pending X) → j < length ports → slice_get ports j ≡ Some q
+      under-all : (j : ℕ) (q : PortState X) → j < length ports → slice_get ports j ≡ Some q
           → key ≤ key_of (order_at (due_of facts q)) j
       under-all j q under there =
           let g : ℕ = j / 4 in
@@ -196,7 +197,7 @@ module _ {X : Type 0} (facts : X → Facts) where
           omega (arith, lower, lowest)
 
   -- what is due at each port is limited, when it is at a new one
-  limit-set : (ports : List (Pending X)) (place : ℕ) (p : Pending X) → place < length ports
+  limit-set : (ports : List (PortState X)) (place : ℕ) (p : PortState X) → place < length ports
       → AreLimited facts ports (length ports)
       → IfSome (due_of facts p) (λ d. given_at d ≤ 1200000000000000) →
       AreLimited facts (set ports place p) (length (set ports place p))
@@ -213,11 +214,11 @@ module _ {X : Type 0} (facts : X → Facts) where
         (sym (slice_get-set_other ports place j p other) ∙ at) due
   ]
 
-  keys-set : (ports : List (Pending X)) (keys : List ℕ) (place key : ℕ) (p : Pending X)
+  keys-set : (ports : List (PortState X)) (keys : List ℕ) (place key : ℕ) (p : PortState X)
       → place < length ports → place < length keys → key ≡ key_of (order_at (due_of facts p)) place →
-      ((j : ℕ) (q : Pending X) → slice_get ports j ≡ Some q
+      ((j : ℕ) (q : PortState X) → slice_get ports j ≡ Some q
       → slice_get keys j ≡ Some (key_of (order_at (due_of facts q)) j)) →
-      (j : ℕ) (q : Pending X) → slice_get (set ports place p) j ≡ Some q
+      (j : ℕ) (q : PortState X) → slice_get (set ports place p) j ≡ Some q
       → slice_get (set keys place key) j ≡ Some (key_of (order_at (due_of facts q)) j)
   keys-set ports keys place key p within key_within is old j q at = elim (cases_eq j place) [
     | inl same ↦ (
@@ -233,7 +234,7 @@ module _ {X : Type 0} (facts : X → Facts) where
   ]
 
   -- one port has changed
-  pub serving-set : (ports : List (Pending X)) (old new : Serving) (place order : ℕ) (p : Pending X)
+  pub serving-set : (ports : List (PortState X)) (old new : Serving) (place order : ℕ) (p : PortState X)
       → IsServing facts ports old → place < 24 → order ≡ order_at (due_of facts p) →
       IfSome (due_of facts p) (λ d. given_at d ≤ 1200000000000000)
       → length old.keys ≡ 24 → new.keys ≡ set old.keys place (key_of order place)
@@ -250,13 +251,13 @@ module _ {X : Type 0} (facts : X → Facts) where
       }
 
   -- the ports seen so far have their keys
-  pub record HaveKeys (ports : List (Pending X)) (all : List ℕ) (n : ℕ) : Type 0 where
+  pub record HaveKeys (ports : List (PortState X)) (all : List ℕ) (n : ℕ) : Type 0 where
     pub key_count : length all ≡ 24
-    pub keys : (place : ℕ) (p : Pending X) → place < n → slice_get ports place ≡ Some p
+    pub keys : (place : ℕ) (p : PortState X) → place < n → slice_get ports place ≡ Some p
         → slice_get all place ≡ Some (key_of (order_at (due_of facts p)) place)
     pub limit : AreLimited facts ports n
 
-  pub no-keys : (ports : List (Pending X)) → HaveKeys ports (replicate 24 0) 0
+  pub no-keys : (ports : List (PortState X)) → HaveKeys ports (replicate 24 0) 0
   no-keys ports = record {
     key_count = refl;
     keys = λ place p below. absurd (omega (arith, below));
@@ -264,8 +265,8 @@ module _ {X : Type 0} (facts : X → Facts) where
   }
 
   -- one more port's key
-  pub keys-next : (ports : List (Pending X)) (all keys : List ℕ) (n order : ℕ)
-      (p : Pending X) → n < 24 → slice_get ports n ≡ Some p → HaveKeys ports all n
+  pub keys-next : (ports : List (PortState X)) (all keys : List ℕ) (n order : ℕ)
+      (p : PortState X) → n < 24 → slice_get ports n ≡ Some p → HaveKeys ports all n
       → order ≡ order_at (due_of facts p) →
       IfSome (due_of facts p) (λ d. given_at d ≤ 1200000000000000)
       → keys ≡ set all n (key_of order n) → HaveKeys ports keys (n + 1)
@@ -275,7 +276,7 @@ module _ {X : Type 0} (facts : X → Facts) where
     limit = limit-step facts ports n p at limit h.limit;
   }
     where
-      key : (j : ℕ) (q : Pending X) → j < n + 1 → slice_get ports j ≡ Some q
+      key : (j : ℕ) (q : PortState X) → j < n + 1 → slice_get ports j ≡ Some q
           → slice_get (set all n (key_of order n)) j ≡ Some (key_of (order_at (due_of facts q)) j)
       key j q below there = elim (cases_lt j n) [
         | inl before ↦ slice_get-set_other all n j (key_of order n)
@@ -291,7 +292,7 @@ module _ {X : Type 0} (facts : X → Facts) where
             (set_n ∙ ap Some (ap (λ z. key_of z n) is ∙ ap (λ z. key_of (order_at (due_of facts z)) n) e)))
       ]
 
-  pub all-keys : (ports : List (Pending X)) (s : Serving) (n : ℕ) → n ≡ length ports
+  pub all-keys : (ports : List (PortState X)) (s : Serving) (n : ℕ) → n ≡ length ports
       → length ports ≡ 24 → HaveKeys ports s.keys n → IsServing facts ports s
   all-keys ports s n all count h = record {
     port_count = count;
@@ -300,7 +301,7 @@ module _ {X : Type 0} (facts : X → Facts) where
   }
 
   -- it is said of what stands at each place
-  pub serving-same : (old ports : List (Pending X)) (s : Serving) → IsServing facts old s
+  pub serving-same : (old ports : List (PortState X)) (s : Serving) → IsServing facts old s
       → length ports ≡ 24 → ((i : ℕ) → slice_get old i ≡ slice_get ports i) → IsServing facts ports s
   serving-same old ports s serving count same = record {
     port_count = count;
@@ -308,3 +309,60 @@ module _ {X : Type 0} (facts : X → Facts) where
     limit = λ place p d below at due.
         serving.limit place p d (omega (arith, below, count, serving.port_count)) (same place ∙ at) due;
   }
+
+  -- a port at which the same is due keeps its place among all
+  module _ (ports : List (PortState X)) (place : ℕ) (p new : PortState X) (at : slice_get ports place ≡ Some p)
+      (same : due_of facts new ≡ due_of facts p) where
+    within : place < length ports
+    within = slice_get_within ports place p at
+
+    old-at : (j : ℕ) (q : PortState X) → slice_get (set ports place new) j ≡ Some q
+        → (r : PortState X) × (slice_get ports j ≡ Some r) × (due_of facts q ≡ due_of facts r)
+    old-at j q there = elim (cases_eq j place) [
+      | inl here ↦ (
+          let is_new : slice_get (set ports place new) place ≡ Some new = slice_get-set_same ports place new within in
+          let is_q : slice_get (set ports place new) place ≡ Some q =
+          subst (λ z. slice_get (set ports place new) z ≡ Some q) here there in
+          let e : new ≡ q = cc in
+          (p, subst (λ z. slice_get ports z ≡ Some p) (sym here) at, ap (λ z. due_of facts z) (sym e) ∙ same))
+      | inr other ↦ (q, sym (slice_get-set_other ports place j new other) ∙ there, refl)
+    ]
+
+    limit-kept : AreLimited facts ports (length ports)
+        → AreLimited facts (set ports place new) (length (set ports place new))
+    limit-kept limit j q d below there due =
+        let r = old-at j q there in
+        limit j r.0 d (slice_get_within ports j r.0 r.1) r.1 (sym r.2 ∙ due)
+
+    pub serving-kept : (s : Serving) → IsServing facts ports s → IsServing facts (set ports place new) s
+    serving-kept s serving = record {
+      port_count = length-set ports place new ∙ serving.port_count;
+      keys = λ j q there. (let r = old-at j q there in
+          serving.keys j r.0 r.1 ∙ ap (λ d. Some (key_of (order_at d) j)) (sym r.2));
+      limit = limit-kept serving.limit;
+    }
+
+    pub served-kept : AreServed facts ports place → AreServed facts (set ports place new) place
+    served-kept served = record {
+      first = record {
+        below = subst (λ n. place < n) (sym (length-set ports place new)) within;
+        p = new;
+        stands = slice_get-set_same ports place new within;
+        least = λ j q below there. (let r = old-at j q there in
+            let least = before-each facts ports place served p at j r.0 (slice_get_within ports j r.0 r.1) r.1 in
+            let mine = ap order_at same in
+            let other = ap order_at r.2 in
+            omega (arith, least, mine, other));
+        first = λ j q below there equal. (let r = old-at j q there in
+            before-same facts ports place served p at j r.0 (slice_get_within ports j r.0 r.1) r.1
+            (sym (ap order_at same) ∙ equal ∙ ap order_at r.2));
+      };
+      limit = limit-kept served.limit;
+    }
+
+    -- where it gives nothing by then, no port does
+    pub quiet-kept : AreServed facts ports place → (until : ℕ) → IsQuiet facts new until
+        → All (λ q. IsQuiet facts q until) (set ports place new)
+    quiet-kept served until quiet =
+        all-quiet facts (set ports place new) place (served-kept served) new
+        (slice_get-set_same ports place new within) until quiet

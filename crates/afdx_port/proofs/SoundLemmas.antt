@@ -8,8 +8,8 @@ use Rattle.std.proofs.Math.Nat.{mul-le-mul, mul-le-mul_left}
 use Rattle.afdx_frame.specs.declared.link.Priority.{Priority}
 use Rattle.afdx_frame.specs.declared.link.Priority.TheVariants.{High, Low}
 use Rattle.afdx_port.specs.declared.left.Due.{Due}
-use Rattle.afdx_port.specs.declared.pending.Waiting.{Waiting}
-use Rattle.afdx_port.specs.declared.pending.Pending.{Pending}
+use Rattle.afdx_port.specs.declared.port_state.Waiting.{Waiting}
+use Rattle.afdx_port.specs.declared.port_state.PortState.{PortState}
 use Rattle.afdx_port.specs.Facts.{Facts, AreLawful}
 use Rattle.afdx_port.specs.Schedule.{lasting}
 use Rattle.afdx_port.specs.Due.{IsAfter}
@@ -47,7 +47,7 @@ module _ {X : Type 0} where
       omega (arith, count_least facts lawful ws, l.least, sum_by-cons (λ v. (facts v.item).bytes) w ws)
 
   -- the class that is chosen has a frame, and its turn begins when the frame has come and the line is free
-  pub start_is : (p : Pending X) (c : Priority) (moment : ℕ) (w : Waiting X) (ws : List (Waiting X))
+  pub start_is : (p : PortState X) (c : Priority) (moment : ℕ) (w : Waiting X) (ws : List (Waiting X))
       → choice_of p ≡ Some (c, moment) → queue_of c p ≡ w ∷ ws → moment ≡ max w.time p.free
   start_is p High moment w ws e q =
       let P : List (Waiting X) → Type 0 = λ vs. choice (ready p.free vs) (ready p.free p.low.items)
@@ -59,7 +59,7 @@ module _ {X : Type 0} where
       (choice_low (ready p.free p.high.items) (max w.time p.free) moment (subst P q e)).0
 
   -- what stays where one queue changes
-  pub record Stays (c : Priority) (old new : Pending X) : Type 0 where
+  pub record Stays (c : Priority) (old new : PortState X) : Type 0 where
     pub byte_ns : new.byte_ns ≡ old.byte_ns
     pub buffer : new.buffer ≡ old.buffer
     pub clock : new.clock ≡ old.clock
@@ -70,7 +70,7 @@ module _ {X : Type 0} where
     pub high_room : new.high.capacity ≡ old.high.capacity
     pub low_room : new.low.capacity ≡ old.low.capacity
 
-  pub stays : (c : Priority) (old new : Pending X) → ChangesQueue c old new → Stays c old new
+  pub stays : (c : Priority) (old new : PortState X) → ChangesQueue c old new → Stays c old new
   stays High old new h = record {
     byte_ns = ap (λ z. z.byte_ns) h.0;
     buffer = ap (λ z. z.buffer) h.0;
@@ -94,7 +94,7 @@ module _ {X : Type 0} where
     low_room = h.1;
   }
 
-  pub clock_sound : (facts : X → Facts) (p : Pending X) (t : ℕ) → IsPortSound facts p → p.clock ≤ t
+  pub clock_sound : (facts : X → Facts) (p : PortState X) (t : ℕ) → IsPortSound facts p → p.clock ≤ t
       → IsPortSound facts (record p { clock = t })
   clock_sound facts p t s le = record {
     rate = s.rate;
@@ -110,18 +110,18 @@ module _ {X : Type 0} where
   }
 
   -- the next turn's moment, and its frame
-  pub record IsTimely (p : Pending X) (w : Waiting X) (moment : ℕ) : Type 0 where
+  pub record IsTimely (p : PortState X) (w : Waiting X) (moment : ℕ) : Type 0 where
     pub came : w.time ≤ moment
     pub rate : p.byte_ns ≤ 800
     pub soon : moment ≤ 1100000000000000
     pub fits : moment + 1230400 < 2 ^ 64
 
-  pub times_of : (facts : X → Facts) (p : Pending X) (c : Priority) → IsPortSound facts p
+  pub times_of : (facts : X → Facts) (p : PortState X) (c : Priority) → IsPortSound facts p
       → AllByRecursion (λ w. w.time ≤ 1000032768000000) (queue_of c p)
   times_of facts p High s = s.high_times
   times_of facts p Low s = s.low_times
 
-  pub timely : (facts : X → Facts) (p : Pending X) (c : Priority) (moment : ℕ) (w : Waiting X)
+  pub timely : (facts : X → Facts) (p : PortState X) (c : Priority) (moment : ℕ) (w : Waiting X)
       → IsPortSound facts p → choice_of p ≡ Some (c, moment) → slice_get (queue_of c p) 0 ≡ Some w
       → IsTimely p w moment
   timely facts p c moment w s chosen front = by_queue (queue_of c p) refl
@@ -139,7 +139,7 @@ module _ {X : Type 0} where
           record { came = omega arith; rate = s.rate.1; soon = omega arith; fits = omega arith }
 
   -- where nothing has begun and what is chosen begins at t or later, nothing is given by t
-  pub idle_quiet : (facts : X → Facts) (p : Pending X) (t : ℕ) → 1 ≤ p.byte_ns → p.sending ≡ None
+  pub idle_quiet : (facts : X → Facts) (p : PortState X) (t : ℕ) → 1 ≤ p.byte_ns → p.sending ≡ None
       → ((c : Priority) (moment : ℕ) → p.sending ≡ None → choice_of p ≡ Some (c, moment)
       → t ≤ moment) → IsQuiet facts p t
   idle_quiet facts p t rate none late = by_choice (choice_of p) refl

@@ -2,6 +2,7 @@
 use Rattle.std.proofs.Common.{IfSome, IfNone, Bool, true, false, if◌then◌else◌, ◌≡◌, ℕ, ◌+◌, ◌<◌}
 use Rattle.std.proofs.Common.{◌≤◌, List, [], ◌∷◌, Option, Some, None, inl, inr, refl, sym, ap}
 use Rattle.std.proofs.Common.{subst, arith, ◌∙◌, max}
+use Rattle.std.specs.Prelude.{MatchOption}
 use Rattle.std.specs.List.{AllByRecursion, slice_get}
 use Rattle.std.proofs.lemmas.Option.{slice_get_cases}
 use Rattle.std.proofs.lemmas.Bool.{cases_lt}
@@ -9,18 +10,20 @@ use Rattle.afdx_frame.specs.declared.link.Priority.{Priority}
 use Rattle.afdx_frame.specs.declared.link.Priority.TheVariants.{High, Low}
 use Rattle.afdx_port.specs.declared.left.Left.{Left}
 use Rattle.afdx_port.specs.declared.left.Due.{Due}
-use Rattle.afdx_port.specs.declared.pending.Waiting.{Waiting}
-use Rattle.afdx_port.specs.declared.pending.Pending.{Pending}
+use Rattle.afdx_port.specs.declared.port_state.Waiting.{Waiting}
+use Rattle.afdx_port.specs.declared.port_state.PortState.{PortState}
 use Rattle.afdx_port.specs.Facts.{Facts, AreLawful}
 use Rattle.afdx_port.specs.Schedule.{Entry, Turn, has_turn, end_of, lasting, IsWithoutTurn, IsNext}
 use Rattle.afdx_port.specs.Schedule.{AreTurns, IsSchedule}
 use Rattle.afdx_port.specs.Due.{given_at, IsAfter}
 use Rattle.afdx_port.specs.Held.{ready, choice, choice_of, queue_of, is_too_old, due_from, due_of, IsQuiet}
+use Rattle.afdx_port.specs.Held.{last_time, frames_held, sending_count}
 use Rattle.afdx_port.specs.Sound.{IsPortSound}
 use Rattle.afdx_port.specs.History.{PortHistory, at, due_at, IsQueue, HasBegun, StandsFor, Gives}
+use Rattle.afdx_port.specs.Takes.{Takes}
 use Rattle.afdx_port.proofs.TurnLemmas.{priority_cases, nat_lt-true, nat_lt-false}
-use Rattle.afdx_port.proofs.DueLemmas.{due, due_idle, due_busy, due_nothing, has_front, quiet_after}
-use Rattle.afdx_port.proofs.HistoryLemmas.{taken_turns}
+use Rattle.afdx_port.proofs.DueLemmas.{due, due_idle, due_busy, due_nothing, has_front, quiet_after, quiet_stays, clock_due}
+use Rattle.afdx_port.proofs.HistoryLemmas.{taken_turns, waited_stands}
 use Rattle.afdx_port.proofs.SoundLemmas.{lasting_short, timely, idle_quiet}
 
 choice_some_high : (n : ℕ) (lo : Option ℕ) → choice (Some n) lo ≡ None → ⊥
@@ -35,8 +38,18 @@ choice_some_low None n e = cc e
 choice_some_low (Some h) n e = choice_some_high h (Some n) e
 
 module _ {X : Type 0} where
+  -- a port that has begun each turn with a moment before then, of which none was given
+  pub record Advances (facts : X → Facts) (old new : PortState X) (until : ℕ) : Type 0 where
+    pub sound : IsPortSound facts new
+    pub clock : last_time new ≡ until
+    pub stands : (h : PortHistory X) → StandsFor facts old h → StandsFor facts new (at h until)
+    pub chosen : (c : Priority) (moment : ℕ) → new.sending ≡ None → choice_of new ≡ Some (c, moment)
+        → until ≤ moment
+    pub due : due_of facts new ≡ due_of facts old
+    pub held : frames_held new ≡ frames_held old
+
   -- the frame of the turn that has begun is taken
-  pub take_gives : (facts : X → Facts) (p : Pending X) (h : PortHistory X) (until : ℕ) (l : Left X)
+  pub take_gives : (facts : X → Facts) (p : PortState X) (h : PortHistory X) (until : ℕ) (l : Left X)
       → StandsFor facts p (at h until) → p.sending ≡ Some l → p.free ≤ until
       → Gives facts h until l (record p { sending = None })
   take_gives facts p h until l st is le =
@@ -75,7 +88,7 @@ module _ {X : Type 0} where
       by_kind false moment end bytes lasts before le = omega arith
 
   -- the clauses of a take, by what was being sent
-  pub take_some : (facts : X → Facts) (p : Pending X) (h : PortHistory X) (until : ℕ)
+  take_some : (facts : X → Facts) (p : PortState X) (h : PortHistory X) (until : ℕ)
       (o after : Option (Left X)) → StandsFor facts p (at h until) → p.free ≤ until → o ≡ p.sending
       → after ≡ None →
       IfSome o (λ l. Gives facts h until l (record p { sending = after }))
@@ -84,7 +97,7 @@ module _ {X : Type 0} where
       let P : Option (Left X) → Type 0 = λ a. Gives facts h until l (record p { sending = a }) in
       subst P (sym gone) (take_gives facts p h until l st (sym is) le)
 
-  pub take_kept : (facts : X → Facts) (p : Pending X) (h : PortHistory X) (until : ℕ)
+  take_kept : (facts : X → Facts) (p : PortState X) (h : PortHistory X) (until : ℕ)
       (o after : Option (Left X)) → StandsFor facts p (at h until) → o ≡ p.sending → after ≡ None →
       IfNone o (StandsFor facts (record p { sending = after }) (at h until))
   take_kept facts p h until None after st is gone =
@@ -92,8 +105,29 @@ module _ {X : Type 0} where
       subst P (sym is ∙ sym gone) st
   take_kept facts p h until (Some l) after st is gone = tt
 
+  take_due : (facts : X → Facts) (old p : PortState X) (o after : Option (Left X))
+      → due_of facts p ≡ due_of facts old → o ≡ p.sending → after ≡ None →
+      IfNone o (due_of facts (record p { sending = after }) ≡ due_of facts old)
+  take_due facts old p None after due is gone =
+      let P : Option (Left X) → Type 0 = λ a. due_of facts (record p { sending = a }) ≡ due_of facts old in
+      subst P (sym is ∙ sym gone) due
+  take_due facts old p (Some l) after due is gone = tt
+
+  take_held : (old p : PortState X) (o after : Option (Left X)) → frames_held p ≡ frames_held old
+      → o ≡ p.sending → after ≡ None →
+      MatchOption o (frames_held (record p { sending = after }) ≡ frames_held old)
+      (λ _. frames_held (record p { sending = after }) + 1 ≡ frames_held old)
+  take_held old p None after same is gone =
+      let none = ap (λ z. sending_count z) (sym is) in
+      let left = ap (λ z. sending_count z) gone in
+      omega (arith, same, none, left)
+  take_held old p (Some l) after same is gone =
+      let one = ap (λ z. sending_count z) (sym is) in
+      let left = ap (λ z. sending_count z) gone in
+      omega (arith, same, one, left)
+
   -- nor where the line is busy at t
-  pub busy_quiet : (facts : X → Facts) (p : Pending X) (t : ℕ) → 1 ≤ p.byte_ns → t < p.free
+  busy_quiet : (facts : X → Facts) (p : PortState X) (t : ℕ) → 1 ≤ p.byte_ns → t < p.free
       → ((c : Priority) (moment : ℕ) → p.sending ≡ None → choice_of p ≡ Some (c, moment)
       → t ≤ moment) → IsQuiet facts p t
   busy_quiet facts p t rate busy late = by_sending p.sending refl
@@ -104,7 +138,7 @@ module _ {X : Type 0} where
           let P : Option Due → Type 0 = λ o. IfSome o (λ d. IsAfter t d) in
           subst P (sym (due_busy facts p l e)) (omega arith)
 
-  pub take_quiet : (facts : X → Facts) (p : Pending X) (t : ℕ) (o after : Option (Left X))
+  take_quiet : (facts : X → Facts) (p : PortState X) (t : ℕ) (o after : Option (Left X))
       → 1 ≤ p.byte_ns → o ≡ p.sending → after ≡ None →
       ((c : Priority) (moment : ℕ) → p.sending ≡ None → choice_of p ≡ Some (c, moment) → t ≤ moment)
       → IfNone o (IsQuiet facts (record p { sending = after }) t)
@@ -113,7 +147,7 @@ module _ {X : Type 0} where
       subst P (sym is ∙ sym gone) (idle_quiet facts p t rate (sym is) late)
   take_quiet facts p t (Some l) after rate is gone late = tt
 
-  pub take_no_more : (facts : X → Facts) (p : Pending X) (h : PortHistory X) (t : ℕ) (s : Turn X)
+  take_no_more : (facts : X → Facts) (p : PortState X) (h : PortHistory X) (t : ℕ) (s : Turn X)
       (o : Option (Left X)) → 1 ≤ p.byte_ns → StandsFor facts p (at h t) → o ≡ p.sending →
       ((c : Priority) (moment : ℕ) → p.sending ≡ None → choice_of p ≡ Some (c, moment) → t ≤ moment)
       → IsNext h.byte_ns h.entries h.taken s → IfNone o (IsAfter t (due_at s))
@@ -122,7 +156,7 @@ module _ {X : Type 0} where
   take_no_more facts p h t s (Some l) rate st is late n = tt
 
   -- nothing is due only where nothing is held
-  nothing_held : (facts : X → Facts) (p : Pending X) → due_of facts p ≡ None → (p.sending ≡ None)
+  nothing_held : (facts : X → Facts) (p : PortState X) → due_of facts p ≡ None → (p.sending ≡ None)
       × (p.high.items ≡ []) × (p.low.items ≡ [])
   nothing_held facts p none = by_parts p.sending p.high.items p.low.items refl refl refl
     where
@@ -148,7 +182,7 @@ module _ {X : Type 0} where
           (subst P k (by_choice (choice_of p) refl e)))
 
   -- all that is held has its turn by this time
-  due_bounded : (facts : X → Facts) (p : Pending X) (d : Due) → ((x : X) → AreLawful (facts x))
+  due_bounded : (facts : X → Facts) (p : PortState X) (d : Due) → ((x : X) → AreLawful (facts x))
       → IsPortSound facts p → due_of facts p ≡ Some d → given_at d ≤ 1200000000000000
   due_bounded facts p d lawful s is = by_sending p.sending refl
     where
@@ -182,7 +216,7 @@ module _ {X : Type 0} where
           (by_kind l.too_old p.free (omega arith))
 
   -- where nothing is held, no entry is without a turn
-  none_left : (facts : X → Facts) (p : Pending X) (h : PortHistory X) (place : ℕ) (e : Entry X)
+  none_left : (facts : X → Facts) (p : PortState X) (h : PortHistory X) (place : ℕ) (e : Entry X)
       → StandsFor facts p h → due_of facts p ≡ None → slice_get h.entries place ≡ Some e
       → has_turn h.taken place ≡ false → ⊥
   none_left facts p h place e st none stands without =
@@ -199,7 +233,7 @@ module _ {X : Type 0} where
       ]
 
   -- nothing is due where no further turn is given by then
-  none_due : (facts : X → Facts) (p : Pending X) (t : ℕ) → ((x : X) → AreLawful (facts x))
+  none_due : (facts : X → Facts) (p : PortState X) (t : ℕ) → ((x : X) → AreLawful (facts x))
       → IsPortSound facts p → 1200000000000000 ≤ t → IsQuiet facts p t → due_of facts p ≡ None
   none_due facts p t lawful s late quiet = by_due (due_of facts p) refl
     where
@@ -212,7 +246,7 @@ module _ {X : Type 0} where
           absurd (omega (arith, after, soon))
 
   -- where nothing is due, each entry has had its turn
-  pub all_done : (facts : X → Facts) (p : Pending X) (h : PortHistory X) → StandsFor facts p h
+  pub all_done : (facts : X → Facts) (p : PortState X) (h : PortHistory X) → StandsFor facts p h
       → due_of facts p ≡ None → IsSchedule h.byte_ns h.entries h.taken
   all_done facts p h st none = record {
     each_next = taken_turns facts p h st;
@@ -227,18 +261,18 @@ module _ {X : Type 0} where
       has place e stands true is = is
       has place e stands false is = absurd (none_left facts p h place e st none stands is)
 
-  pub if_all_done : (facts : X → Facts) (p : Pending X) (h : PortHistory X) (o : Option Due)
+  pub if_all_done : (facts : X → Facts) (p : PortState X) (h : PortHistory X) (o : Option Due)
       → StandsFor facts p h → o ≡ due_of facts p → IfNone o (IsSchedule h.byte_ns h.entries h.taken)
   if_all_done facts p h None st is = all_done facts p h st (sym is)
   if_all_done facts p h (Some d) st is = tt
 
   -- nor is one left where no turn is given by then
-  pub quiet_all_done : (facts : X → Facts) (p : Pending X) (h : PortHistory X) (t : ℕ)
+  quiet_all_done : (facts : X → Facts) (p : PortState X) (h : PortHistory X) (t : ℕ)
       → ((x : X) → AreLawful (facts x)) → IsPortSound facts p → StandsFor facts p h
       → 1200000000000000 ≤ t → IsQuiet facts p t → IsSchedule h.byte_ns h.entries h.taken
   quiet_all_done facts p h t lawful s st late quiet = all_done facts p h st (none_due facts p t lawful s late quiet)
 
-  pub take_all_done : (facts : X → Facts) (p : Pending X) (h : PortHistory X) (t : ℕ)
+  take_all_done : (facts : X → Facts) (p : PortState X) (h : PortHistory X) (t : ℕ)
       (o : Option (Left X)) → ((x : X) → AreLawful (facts x)) → IsPortSound facts p
       → StandsFor facts p (at h t) → o ≡ p.sending → 1200000000000000 ≤ t →
       ((c : Priority) (moment : ℕ) → p.sending ≡ None → choice_of p ≡ Some (c, moment) → t ≤ moment)
@@ -246,3 +280,49 @@ module _ {X : Type 0} where
   take_all_done facts p h t None lawful s st is late idle =
       quiet_all_done facts p (at h t) t lawful s st late (idle_quiet facts p t s.rate.0 (sym is) idle)
   take_all_done facts p h t (Some l) lawful s st is late idle = tt
+
+  -- a port that gives nothing by then, and waits until then
+  pub waits : (facts : X → Facts) (p : PortState X) (until : ℕ) → ((x : X) → AreLawful (facts x))
+      → IsPortSound facts p → p.clock ≤ until → IsQuiet facts p until →
+      Takes facts p (record p { clock = until }) until None
+  waits facts p until lawful sound later quiet = record {
+    given = λ h st. tt;
+    none = λ h st. (let clock = st.clock in
+        waited_stands facts p (record p { clock = until }) h until refl st (omega (arith, later, clock)));
+    no_more = λ h s st n. quiet_after facts p h until s st quiet n;
+    all_done = λ h st late. quiet_all_done facts p h until lawful sound st late quiet;
+    quiet = quiet_stays facts p (record p { clock = until }) until (clock_due facts p until) quiet;
+    due = clock_due facts p until;
+    held = refl;
+    clock = refl;
+  }
+
+  -- a port that has begun all turns before then, none of which is over by then
+  pub busy_takes : (facts : X → Facts) (old p : PortState X) (until : ℕ) → ((x : X) → AreLawful (facts x))
+      → Advances facts old p until → until < p.free → Takes facts old p until None
+  busy_takes facts old p until lawful a busy =
+      let quiet = busy_quiet facts p until a.sound.rate.0 busy a.chosen in record {
+        given = λ h st. tt;
+        none = a.stands;
+        no_more = λ h s st n. quiet_after facts p (at h until) until s (a.stands h st) quiet n;
+        all_done = λ h st late. quiet_all_done facts p (at h until) until lawful a.sound (a.stands h st) late quiet;
+        quiet = quiet;
+        due = a.due;
+        held = a.held;
+        clock = a.clock;
+      }
+
+  -- or one of which may be
+  pub over_takes : (facts : X → Facts) (old p : PortState X) (until : ℕ) (o after : Option (Left X))
+      → ((x : X) → AreLawful (facts x)) → Advances facts old p until → p.free ≤ until → o ≡ p.sending
+      → after ≡ None → Takes facts old (record p { sending = after }) until o
+  over_takes facts old p until o after lawful a over is gone = record {
+    given = λ h st. take_some facts p h until o after (a.stands h st) over is gone;
+    none = λ h st. take_kept facts p h until o after (a.stands h st) is gone;
+    no_more = λ h s st n. take_no_more facts p h until s o a.sound.rate.0 (a.stands h st) is a.chosen n;
+    all_done = λ h st late. take_all_done facts p h until o lawful a.sound (a.stands h st) is late a.chosen;
+    quiet = take_quiet facts p until o after a.sound.rate.0 is gone a.chosen;
+    due = take_due facts old p o after a.due is gone;
+    held = take_held old p o after a.held is gone;
+    clock = a.clock;
+  }

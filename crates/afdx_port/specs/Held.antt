@@ -4,8 +4,8 @@ use Rattle.afdx_frame.specs.declared.link.Priority.{Priority}
 use Rattle.afdx_frame.specs.declared.link.Priority.TheVariants.{High, Low}
 use Rattle.afdx_port.specs.declared.left.Left.{Left}
 use Rattle.afdx_port.specs.declared.left.Due.{Due}
-use Rattle.afdx_port.specs.declared.pending.Waiting.{Waiting}
-use Rattle.afdx_port.specs.declared.pending.Pending.{Pending}
+use Rattle.afdx_port.specs.declared.port_state.Waiting.{Waiting}
+use Rattle.afdx_port.specs.declared.port_state.PortState.{PortState}
 use Rattle.afdx_port.specs.Facts.{Facts}
 use Rattle.afdx_port.specs.Due.{IsAfter}
 use Rattle.afdx_port.specs.Schedule.{is_past, lasting}
@@ -29,12 +29,12 @@ module _ {X : Type 0} where
   ready free (w ∷ ws) = Some (max w.time free)
 
   -- the frames of a class that wait, in order
-  abbrev pub queue_of : Priority → Pending X → List (Waiting X)
+  abbrev pub queue_of : Priority → PortState X → List (Waiting X)
   queue_of High p = p.high.items
   queue_of Low p = p.low.items
 
   -- the class that goes next, if a frame waits, and its moment
-  abbrev pub choice_of : Pending X → Option (Priority × ℕ)
+  abbrev pub choice_of : PortState X → Option (Priority × ℕ)
   choice_of p = choice (ready p.free p.high.items) (ready p.free p.low.items)
 
   -- at t the frame has waited too long
@@ -49,7 +49,7 @@ module _ {X : Type 0} where
   }
 
   -- the turn of the first frame of the class that goes next
-  abbrev pub due_next : (X → Facts) → Pending X → Option (Priority × ℕ) → Option Due
+  abbrev pub due_next : (X → Facts) → PortState X → Option (Priority × ℕ) → Option Due
   due_next facts p None = None
   due_next facts p (Some (priority, moment)) =
       option_map (λ w. due_from facts p.byte_ns w moment) (slice_get (queue_of priority p) 0)
@@ -60,15 +60,15 @@ module _ {X : Type 0} where
   due_first free (Some left) next = Some (record { time = free; too_old = left.too_old })
 
   -- the turn that is given next, if no frame is put before
-  abbrev pub due_of : (X → Facts) → Pending X → Option Due
+  abbrev pub due_of : (X → Facts) → PortState X → Option Due
   due_of facts p = due_first p.free p.sending (due_next facts p (choice_of p))
 
   -- no further turn is given by t
-  abbrev pub IsQuiet : (X → Facts) → Pending X → ℕ → Type 0
+  abbrev pub IsQuiet : (X → Facts) → PortState X → ℕ → Type 0
   IsQuiet facts p t = IfSome (due_of facts p) (λ d. IsAfter t d)
 
   -- the last time used
-  abbrev pub last_time : Pending X → ℕ
+  abbrev pub last_time : PortState X → ℕ
   last_time p = p.clock
 
   abbrev pub sending_count : Option (Left X) → ℕ
@@ -76,5 +76,5 @@ module _ {X : Type 0} where
   sending_count (Some left) = 1
 
   -- how many frames the port holds, that of a turn that has begun among them
-  abbrev pub frames_held : Pending X → ℕ
+  abbrev pub frames_held : PortState X → ℕ
   frames_held p = length p.high.items + length p.low.items + sending_count p.sending

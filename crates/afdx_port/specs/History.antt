@@ -6,8 +6,8 @@ use Rattle.afdx_frame.specs.declared.link.Priority.{Priority}
 use Rattle.afdx_frame.specs.declared.link.Priority.TheVariants.{High, Low}
 use Rattle.afdx_port.specs.declared.left.Left.{Left}
 use Rattle.afdx_port.specs.declared.left.Due.{Due}
-use Rattle.afdx_port.specs.declared.pending.Waiting.{Waiting}
-use Rattle.afdx_port.specs.declared.pending.Pending.{Pending}
+use Rattle.afdx_port.specs.declared.port_state.Waiting.{Waiting}
+use Rattle.afdx_port.specs.declared.port_state.PortState.{PortState}
 use Rattle.afdx_port.specs.Facts.{Facts}
 use Rattle.afdx_port.specs.Schedule.{Entry, Turn, end_of, IsWithoutTurn, IsNext, AreTurns, bytes_without_turn}
 use Rattle.afdx_port.specs.ScheduleOf.{AreInOrder}
@@ -97,7 +97,7 @@ module _ {X : Type 0} where
   HasBegun (Some left) taken begun = (s : Turn X) × (begun ≡ s ∷ taken) × (left ≡ left_of s)
 
   -- what the port holds is what these calls leave
-  pub record StandsFor (facts : X → Facts) (p : Pending X) (h : PortHistory X) : Type 0 where
+  pub record StandsFor (facts : X → Facts) (p : PortState X) (h : PortHistory X) : Type 0 where
     pub byte_ns : p.byte_ns ≡ h.byte_ns
     pub buffer : p.buffer ≡ h.buffer
     pub clock : p.clock ≡ h.time
@@ -114,7 +114,7 @@ module _ {X : Type 0} where
 
   -- the next turn is given by `until`, and its frame is handed out
   pub record Gives (facts : X → Facts) (h : PortHistory X) (until : ℕ) (left : Left X)
-      (new : Pending X) : Type 0 where
+      (new : PortState X) : Type 0 where
     pub turn : Turn X
     pub next : IsNext h.byte_ns h.entries h.taken turn
     pub in_time : IsBy until (due_at turn)

@@ -7,6 +7,7 @@ pub mod Due
 pub mod Held
 pub mod Sound
 pub mod History
+pub mod Takes
 pub mod Ports
 pub mod Keys
 pub mod Serving

@@ -7,7 +7,8 @@ ghost use Rattle.afdx_port.specs.Classes.{entries_in, AreOfOneClass, GoInOrder};
 ghost use Rattle.afdx_port.specs.Due.{IsAfter};
 ghost use Rattle.afdx_port.specs.Held.{due_of, IsQuiet, last_time, frames_held};
 ghost use Rattle.afdx_port.specs.History.{PortHistory, due_at, StandsFor};
-ghost use Rattle.afdx_port.specs.declared.pending.Pending.{Pending};
+ghost use Rattle.afdx_port.specs.Ports.{FirstIsQuiet};
+ghost use Rattle.afdx_port.specs.declared.port_state.PortState.{PortState};
 
 use crate::HasLength;
 
@@ -37,13 +38,13 @@ pub fn first_in_first_out<T>()
 
 /// The turns that were taken are the first of the schedule, whatever calls a port stands for.
 pub fn taken_are_on_schedule<T: HasLength>()
-    ensures schedule { (p : Pending T) (h : PortHistory T) → StandsFor T.facts p h →
+    ensures schedule { (p : PortState T) (h : PortHistory T) → StandsFor T.facts p h →
         (later : List (Turn T)) × (schedule_of h.byte_ns h.entries ≡ later ++ h.taken) }
-    ensures turns { (p : Pending T) (h : PortHistory T) → StandsFor T.facts p h →
+    ensures turns { (p : PortState T) (h : PortHistory T) → StandsFor T.facts p h →
         AreTurns h.byte_ns h.entries h.taken }
-    ensures order { (p : Pending T) (h : PortHistory T) →
+    ensures order { (p : PortState T) (h : PortHistory T) →
         StandsFor T.facts p h → AreInOrder h.entries }
-    ensures clock { (p : Pending T) (h : PortHistory T) →
+    ensures clock { (p : PortState T) (h : PortHistory T) →
         StandsFor T.facts p h → last_time p ≡ h.time }
 {}
 
@@ -51,12 +52,18 @@ pub fn taken_are_on_schedule<T: HasLength>()
 /// time exactly where the next one is over after it. Where nothing is due, each frame that was put
 /// and not lost has had its turn. A port that holds nothing gives nothing.
 pub fn due_is_next<T: HasLength>()
-    ensures due { (p : Pending T) (h : PortHistory T) (s : Turn T) → StandsFor T.facts p h →
+    ensures due { (p : PortState T) (h : PortHistory T) (s : Turn T) → StandsFor T.facts p h →
         IsNext h.byte_ns h.entries h.taken s → due_of T.facts p ≡ Some (due_at s) }
-    ensures quiet { (p : Pending T) (h : PortHistory T) (t : ℕ) → StandsFor T.facts p h →
+    ensures quiet { (p : PortState T) (h : PortHistory T) (t : ℕ) → StandsFor T.facts p h →
         (IsQuiet T.facts p t ↔ ((s : Turn T) → IsNext h.byte_ns h.entries h.taken s →
         IsAfter t (due_at s))) }
-    ensures all_done { (p : Pending T) (h : PortHistory T) → StandsFor T.facts p h →
+    ensures all_done { (p : PortState T) (h : PortHistory T) → StandsFor T.facts p h →
         due_of T.facts p ≡ None → IsSchedule h.byte_ns h.entries h.taken }
-    ensures empty { (p : Pending T) (t : ℕ) → frames_held p ≡ 0 → IsQuiet T.facts p t }
+    ensures empty { (p : PortState T) (t : ℕ) → frames_held p ≡ 0 → IsQuiet T.facts p t }
+{}
+
+/// Of ports that are served together, the one whose turn goes first tells of all: where it gives
+/// nothing by a time, none does.
+pub fn first_tells_of_all<T: HasLength>()
+    ensures { FirstIsQuiet T.facts }
 {}

@@ -4,13 +4,11 @@
 mod has_length;
 pub mod laws;
 mod left;
-mod pending;
 mod port;
-mod ports;
+mod port_state;
 mod serving;
 
 pub use has_length::HasLength;
 pub use left::{Due, Left};
 pub use port::Port;
-pub use ports::first_due;
 pub use serving::Serving;

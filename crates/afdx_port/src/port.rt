@@ -12,7 +12,7 @@ ghost use Rattle.afdx_port.specs.Ports.{order_at};
 
 use crate::has_length::HasLength;
 use crate::left::{Due, Left};
-use crate::pending::Pending;
+use crate::port_state::PortState;
 use afdx_frame::Priority;
 use std::alloc::{AllocError, Global};
 use std::marker::Model;
@@ -26,7 +26,7 @@ const ORDER_WITHOUT_TURN: u64 = 1 << 52;
 /// moment. It keeps the frames that still have a turn to come, and nothing of those that left.
 #[derive(Drop)]
 pub struct Port<T: HasLength> {
-    pending: Pending<T>,
+    state: PortState<T>,
     /// The next turn.
     due: Option<Due>,
     /// Its place in the order in which ports are served together.
@@ -45,20 +45,20 @@ fn order(due: Option<Due>) -> u64
 }
 
 impl<T: HasLength> Model for Port<T> {
-    ghost use Rattle.afdx_port.specs.declared.pending.Pending.{Pending};
+    ghost use Rattle.afdx_port.specs.declared.port_state.PortState.{PortState};
 
-    ghost Value = { Pending T };
+    ghost Value = { PortState T };
 
     ghost use Rattle.std.specs.Prelude.{◌≡◌};
     ghost use Rattle.afdx_port.specs.Held.{due_of};
     ghost use Rattle.afdx_port.specs.Sound.{IsPortSound};
 
-    ghost view = { λ p. p.pending };
+    ghost view = { λ p. p.state };
 
     ghost use Rattle.afdx_port.specs.Ports.{order_at};
 
-    ghost invariant = { λ p. IsPortSound T.facts p.pending × (p.due ≡ due_of T.facts p.pending)
-        × (p.order ≡ order_at (due_of T.facts p.pending)) };
+    ghost invariant = { λ p. IsPortSound T.facts p.state × (p.due ≡ due_of T.facts p.state)
+        × (p.order ≡ order_at (due_of T.facts p.state)) };
 }
 
 impl<T: HasLength> Port<T> {
@@ -66,7 +66,8 @@ impl<T: HasLength> Port<T> {
     ghost use Rattle.afdx_port.specs.Ports.{order_at, order_without_turn};
     ghost use Rattle.afdx_port.specs.Held.{IsByteTime, due_of, IsQuiet, last_time, frames_held};
     ghost use Rattle.afdx_port.specs.History.{PortHistory, no_calls, at, with_put, entry_of, due_at};
-    ghost use Rattle.afdx_port.specs.History.{StandsFor, Gives};
+    ghost use Rattle.afdx_port.specs.History.{StandsFor};
+    ghost use Rattle.afdx_port.specs.Takes.{Takes};
 
     /// An idle port at time 0, whose line takes `byte_ns` for a byte: 8, 80 or 800 ns.
     /// The frames that wait may have `buffer` bytes together, 64 to 4,194,304; there is room for
@@ -80,7 +81,7 @@ impl<T: HasLength> Port<T> {
         ensures clock { IfOk result (λ p. last_time p ≡ 0) }
     {
         Ok(Port {
-            pending: Pending::new(alloc, byte_ns, buffer)?,
+            state: PortState::new(alloc, byte_ns, buffer)?,
             due: None,
             order: order(None),
         })
@@ -112,9 +113,9 @@ impl<T: HasLength> Port<T> {
             (λ _. frames_held self.new ≡ frames_held self.old) }
         ensures clock { last_time self.new ≡ time }
     {
-        let taken = self.pending.put(time, priority, item);
-        if !self.pending.is_sending() {
-            self.due = self.pending.due();
+        let taken = self.state.put(time, priority, item);
+        if !self.state.is_sending() {
+            self.due = self.state.due();
             self.order = order(self.due);
         }
         taken
@@ -154,29 +155,19 @@ impl<T: HasLength> Port<T> {
     }
 
     /// The next turn, if it is over by `until`, in ns: a slot that ends at or before `until`, or a
-    /// drop whose moment is before `until`. `until` isn't before the last time used. If it is
-    /// 1.2e15 or later, None says that each frame that was put and not lost has had its turn.
+    /// drop whose moment is before `until`. `until` isn't before the last time used. None leaves
+    /// what is due as it was. If `until` is 1.2e15 or later, None says that each frame that was put
+    /// and not lost has had its turn.
     pub fn take(&mut self, until: u64) -> Option<Left<T>>
         requires clock { last_time self.old ≤ until }
-        ensures given { (h : PortHistory T) → StandsFor T.facts self.old h →
-            IfSome result (λ left. Gives T.facts h until left self.new) }
-        ensures none { (h : PortHistory T) → StandsFor T.facts self.old h →
-            IfNone result (StandsFor T.facts self.new (at h until)) }
-        ensures no_more { (h : PortHistory T) (s : Turn T) → StandsFor T.facts self.old h →
-            IsNext h.byte_ns h.entries h.taken s → IfNone result (IsAfter until (due_at s)) }
-        ensures all_done { (h : PortHistory T) → StandsFor T.facts self.old h →
-            drain_end ≤ until → IfNone result (IsSchedule h.byte_ns h.entries h.taken) }
-        ensures quiet { IfNone result (IsQuiet T.facts self.new until) }
-        ensures held { MatchOption result (frames_held self.new ≡ frames_held self.old)
-            (λ _. frames_held self.new + 1 ≡ frames_held self.old) }
-        ensures clock { last_time self.new ≡ until }
+        ensures { Takes T.facts self.old self.new until result }
     {
         if self.is_quiet(until) {
-            self.pending.wait(until);
+            self.state.wait(until);
             return None;
         }
-        let left = self.pending.take(until);
-        self.due = self.pending.due();
+        let left = self.state.take(until);
+        self.due = self.state.due();
         self.order = order(self.due);
         left
     }

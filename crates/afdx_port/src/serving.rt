@@ -35,7 +35,7 @@ fn least_in(numbers: &[u64], from: usize, to: usize) -> u64
 }
 
 impl Serving {
-    ghost use Rattle.afdx_port.specs.declared.pending.Pending.{Pending};
+    ghost use Rattle.afdx_port.specs.declared.port_state.PortState.{PortState};
     ghost use Rattle.afdx_port.specs.Ports.{AreServed, order_without_turn};
     ghost use Rattle.afdx_port.specs.Serving.{IsServing};
 
@@ -70,7 +70,7 @@ impl Serving {
     #[inline]
     pub fn renew<T: HasLength>(&mut self, place: usize, port: &Port<T>)
         requires { place < last_port }
-        ensures { (ports : List (Pending T)) → IsServing T.facts ports self.old →
+        ensures { (ports : List (PortState T)) → IsServing T.facts ports self.old →
             IsServing T.facts (slice_set ports place port.now) self.new }
     {
         self.set(place, port.order());
@@ -80,7 +80,7 @@ impl Serving {
     /// slots before drops, then by place. The first port, if none has a turn to come.
     #[inline]
     pub fn first<T: HasLength>(&self) -> usize
-        ensures { (ports : List (Pending T)) → IsServing T.facts ports self.now →
+        ensures { (ports : List (PortState T)) → IsServing T.facts ports self.now →
             AreServed T.facts ports result }
     {
         (least_in(&self.least, 0, 6) % 32) as usize

@@ -1,7 +1,7 @@
 -- What a receiver keeps of the frames of one link that came.
 use Rattle.std.specs.Prelude.{◌≡◌, ℕ, Option, Some, List, option_map}
 use Rattle.afdx_frame.specs.declared.link.Side.{Side}
-use Rattle.afdx_frame.specs.declared.link.Side.TheVariants.{A, B}
+use Rattle.afdx_frame.specs.BySide.{on, with_on}
 use Rattle.afdx_receive.specs.Integrity.{Incoming, previous}
 use Rattle.afdx_receive.specs.Redundancy.{newest, winners}
 use Rattle.afdx_receive.specs.declared.memory.LastWinner.{LastWinner}
@@ -15,12 +15,11 @@ stamp_of frame = record { number = frame.number; time = frame.time }
 
 -- the number that is kept for a side
 abbrev pub kept_number : LinkMemory → Side → Option ℕ
-kept_number memory A = memory.previous_a
-kept_number memory B = memory.previous_b
+kept_number memory side = on side memory.previous
 
 abbrev pub with_number : LinkMemory → Side → ℕ → LinkMemory
-with_number memory A number = record memory { previous_a = Some number }
-with_number memory B number = record memory { previous_b = Some number }
+with_number memory side number =
+    record memory { previous = with_on side memory.previous (Some number) }
 
 -- it keeps the last number of each side, and the last winner, of those that came
 pub record Remembers (memory : LinkMemory) (came : List Incoming) : Type 0 where

@@ -23,7 +23,11 @@ is_same_endpoint a b = is_same_link a.link b.link && nat_eq a.udp b.udp
 -- what is kept of a link to begin with
 abbrev pub memory_at_first : LinkRow → LinkMemory
 memory_at_first link =
-    record { skew_ns = 1000 * link.skew_us; previous_a = None; previous_b = None; winner = None }
+    record {
+      skew_ns = 1000 * link.skew_us;
+      previous = record { a = None; b = None };
+      winner = None;
+    }
 
 -- what is kept of a link: nothing if the system doesn't receive it, else what its own frames leave
 abbrev pub LinkStandsFor : Rows → ℕ → List Arrived → ℕ → Option LinkMemory → Type 0

@@ -18,7 +18,7 @@ use Rattle.afdx_port.specs.History.{due_at}
 use Rattle.afdx_port.specs.Schedule.{Entry, Turn, IsNext, AreTurns, is_past, lasting}
 use Rattle.afdx_port.specs.ScheduleOf.{AreInOrder}
 use Rattle.afdx_port.specs.declared.left.Left.{Left}
-use Rattle.afdx_port.specs.declared.pending.Pending.{Pending}
+use Rattle.afdx_port.specs.declared.port_state.PortState.{PortState}
 use Rattle.afdx_send.specs.declared.line.Line.{Line}
 use Rattle.afdx_send.specs.declared.sender.Emission.{Emission}
 use Rattle.afdx_send.specs.declared.working.Working.{Working}
@@ -173,7 +173,7 @@ is_slot b es earlier s ours n =
 
 -- the law of ports: no further turn is given by t exactly where the next one is over after it
 abbrev pub QuietIsNext : Type 0
-QuietIsNext = (p : Pending Frame) (h : port.PortHistory Frame) (t : ℕ) → port.StandsFor facts p h →
+QuietIsNext = (p : PortState Frame) (h : port.PortHistory Frame) (t : ℕ) → port.StandsFor facts p h →
     (held.IsQuiet facts p t ↔ ((s : Turn Frame) → IsNext h.byte_ns h.entries h.taken s → IsAfter t (due_at s)))
 
 pub all_subs : (w : Working) (h : SenderHistory) → StandsFor w h → AllSubs h.links h.taken
@@ -249,7 +249,7 @@ pub record LeftNext (h : SenderHistory) (until : ℕ) (left : Left Frame) (given
 
 pub left_next : (w : Working) (h : SenderHistory) (until : ℕ) (left : Left Frame)
     → (st : StandsFor w (at h until)) → w.ready ≡ Some left →
-    ((p : Pending Frame) (hp : port.PortHistory Frame) → port.StandsFor facts p hp
+    ((p : PortState Frame) (hp : port.PortHistory Frame) → port.StandsFor facts p hp
     → AreTurns hp.byte_ns hp.entries hp.taken) → LeftNext h until left st.given
 left_next w h until left st ready law =
     let g : HasGiven (Some left) h.emitted st.given =
@@ -270,7 +270,7 @@ left_next w h until left st ready law =
 -- what is ready is the next emission
 pub emits : (w : Working) (h : SenderHistory) (until : ℕ) (left : Left Frame) (e : Emission)
     → StandsFor w (at h until) → w.ready ≡ Some left →
-    ((p : Pending Frame) (hp : port.PortHistory Frame) → port.StandsFor facts p hp
+    ((p : PortState Frame) (hp : port.PortHistory Frame) → port.StandsFor facts p hp
     → AreTurns hp.byte_ns hp.entries hp.taken) →
     e.time ≡ left.end → e.vl.0 ≡ left.item.vl
     → e.a.items ≡ built_frame (address_with w.system_id w.partition left.item) left.item.number

@@ -13,7 +13,7 @@ use Rattle.afdx_bounds.specs.Sender.{SenderIsInTime, one_of_each}
 use Rattle.afdx_port.specs.History as port
 use Rattle.afdx_port.specs.Schedule.{Entry, Turn, IsNext, AreTurns, has_turn}
 use Rattle.afdx_port.specs.declared.left.Left.{Left}
-use Rattle.afdx_port.specs.declared.pending.Pending.{Pending}
+use Rattle.afdx_port.specs.declared.port_state.PortState.{PortState}
 use Rattle.afdx_send.specs.declared.working.Working.{Working}
 use Rattle.afdx_send.specs.Emissions.{LinkRelease, own, AreAllReleases, entry_for}
 use Rattle.afdx_send.specs.Emissions.{entries_of}
@@ -29,7 +29,7 @@ use Rattle.afdx_send.proofs.ReleaseLemmas.{get_last}
 
 -- the law of ports: what a port took are the turns of its entries
 abbrev pub TakenAreTurns : Type 0
-TakenAreTurns = (p : Pending Frame) (h : port.PortHistory Frame) → port.StandsFor facts p h
+TakenAreTurns = (p : PortState Frame) (h : port.PortHistory Frame) → port.StandsFor facts p h
     → AreTurns h.byte_ns h.entries h.taken
 
 -- the emissions are turns

@@ -21,7 +21,7 @@ use Rattle.afdx_config.specs.SentList.{Message}
 use Rattle.afdx_port.specs.Schedule as slots
 use Rattle.afdx_port.specs.History as port
 use Rattle.afdx_port.specs.declared.left.Left.{Left}
-use Rattle.afdx_port.specs.declared.pending.Pending.{Pending}
+use Rattle.afdx_port.specs.declared.port_state.PortState.{PortState}
 use Rattle.afdx_send.specs.declared.agenda.Agenda.{Agenda}
 use Rattle.afdx_send.specs.declared.line.Line.{Line}
 use Rattle.afdx_send.specs.declared.working.Working.{Working}
@@ -74,7 +74,7 @@ by_end true e u h = omega arith
 by_end false e u h = omega arith
 
 -- the port gives its next frame, or none
-pub take_stands : (w : Working) (r : Option (Left Frame)) (out : Pending Frame) (until : ℕ)
+pub take_stands : (w : Working) (r : Option (Left Frame)) (out : PortState Frame) (until : ℕ)
     → w.ready ≡ None → out.clock ≡ until → until ≤ w.clock → NoneBefore (nexts_of w) until →
     ((hp : port.PortHistory Frame) → port.StandsFor facts w.output hp
     → IfSome r (λ left. port.Gives facts hp until left out)) →
@@ -332,7 +332,7 @@ entry_is line l ss rs place time f new st k vl least number =
 
 -- the next release of all enters the port
 pub record Releases (w : Working) (time place : ℕ) (line line' : Line) (f : Frame) (ag : Agenda)
-    (out : Pending Frame) : Type 0 where
+    (out : PortState Frame) : Type 0 where
   pub idle : w.ready ≡ None
   pub soonest : IsSoonest (nexts_of w) time place
   pub early : time < w.clock
@@ -351,7 +351,7 @@ pub record Releases (w : Working) (time place : ℕ) (line line' : Line) (f : Fr
       → port.StandsFor facts out (port.with_put hp (port.entry_of facts time Low f))
 
 pub release_stands : (w : Working) (h : SenderHistory) (time place : ℕ) (line line' : Line) (f : Frame)
-    (ag : Agenda) (out : Pending Frame) → StandsFor w h → Releases w time place line line' f ag out →
+    (ag : Agenda) (out : PortState Frame) → StandsFor w h → Releases w time place line line' f ag out →
     StandsFor (record w { lines = with_item w.lines place line'; agenda = ag; output = out }) h
 release_stands w h time place line line' f ag out st q =
     let a = line_at w h st place line q.due.has in

@@ -5,7 +5,7 @@ use Rattle.afdx_config.specs.Admission.{byte_ns}
 use Rattle.afdx_port.specs.History as port
 use Rattle.afdx_port.specs.Schedule.{Turn, AreTurns}
 use Rattle.afdx_port.specs.declared.left.Left.{Left}
-use Rattle.afdx_port.specs.declared.pending.Pending.{Pending}
+use Rattle.afdx_port.specs.declared.port_state.PortState.{PortState}
 use Rattle.afdx_send.specs.declared.fault.SendFault.{SendFault}
 use Rattle.afdx_send.specs.declared.fault.SendFault.TheVariants.{NotMyLink, NoSuchSub, Empty}
 use Rattle.afdx_send.specs.declared.fault.SendFault.TheVariants.{TooLarge, QueueFull, Memory}
@@ -19,7 +19,7 @@ use Rattle.afdx_send.proofs.EmitLemmas.{QuietIsNext, no_more}
 
 -- where no emission is left, none is ready
 pub none_ready : (w : Working) (h : SenderHistory) (until : ℕ) → StandsFor w (at h until)
-    → ((p : Pending Frame) (hp : port.PortHistory Frame) → port.StandsFor facts p hp
+    → ((p : PortState Frame) (hp : port.PortHistory Frame) → port.StandsFor facts p hp
     → AreTurns hp.byte_ns hp.entries hp.taken) →
     ((s : Turn Frame) → IsNextIn h s → until < s.end) → w.ready ≡ None
 none_ready w h until st law none = by_ready w.ready refl

@@ -48,7 +48,7 @@ use Rattle.afdx_switch.specs.Laws.{is_of, EntriesStep}
 use Rattle.afdx_switch.specs.Ports.{holds}
 use Rattle.afdx_switch.specs.Switching.{PortTurn, SwitchHistory, StandsFor, IsNextAt, Gives, with_take, taken_at}
 use Rattle.afdx_switch.specs.declared.switch.Departure.{Departure}
-use Rattle.afdx_switch.specs.declared.working.Working.{Working}
+use Rattle.afdx_switch.specs.declared.switch_state.SwitchState.{SwitchState}
 use Rattle.afdx_switch.specs.Tables.{rule_of, goes_to, row_of, rows_of, byte_ns_at, output_at}
 use Rattle.afdx_switch.specs.Tables.{row_named, carried, entries_at}
 use Rattle.afdx_switch.specs.Verdicts.{reason_on, reason_of, is_share_lost, is_lost_at, IsVerdict}
@@ -503,7 +503,7 @@ taken-first gone earlier =
     ap (λ b. if b then gone.turn ∷ taken_at gone.port earlier else taken_at gone.port earlier)
     (eqb-same gone.port gone.port refl)
 
-given-in-time : (t : Rows) (side : Side) (h : SwitchHistory) (until : ℕ) (d : Departure) (new : Working)
+given-in-time : (t : Rows) (side : Side) (h : SwitchHistory) (until : ℕ) (d : Departure) (new : SwitchState)
     → IsAdmittedRun t h.arrivals → (g : Gives t side h until d new) → IsInTime t g.gone.turn
 given-in-time t side h until d new run g =
     turn-in-time t h.arrivals side g.gone.port g.gone.turn (taken_at g.gone.port h.taken) run
@@ -512,12 +512,12 @@ given-in-time t side h until d new run g =
     (taken-turns t side new (with_take h g.gone until) g.gone.port g.stands g.next.port_first g.next.port_last))
 
 pub each-in-time : (o : Option Departure) (t : Rows) (side : Side) (h : SwitchHistory) (until : ℕ)
-    (new : Working) → IsAdmittedRun t h.arrivals
+    (new : SwitchState) → IsAdmittedRun t h.arrivals
     → IfSome o (λ d. (g : Gives t side h until d new) → IsInTime t g.gone.turn)
 each-in-time None t side h until new run = tt
 each-in-time (Some d) t side h until new run = given-in-time t side h until d new run
 
-pub none-left : (o : Option Departure) (t : Rows) (side : Side) (w : Working) (h : SwitchHistory)
+pub none-left : (o : Option Departure) (t : Rows) (side : Side) (w : SwitchState) (h : SwitchHistory)
     (port place : ℕ) (l : LinkRow) (until : ℕ) → StandsFor t side w h → IsAdmittedRun t h.arrivals
     → 1 ≤ port → port ≤ 24 →
     slice_get t.links place ≡ Some l

@@ -73,7 +73,7 @@ limit-is : (w : Option ℕ) → IfSome w (λ n. n ≤ 100000000) → option_map 
 limit-is None small = refl
 limit-is (Some n) small = ap Some (omega (arith, small))
 
-not-accepted : (o : Option Reason) (r : Reason) (b : Bool) → o ≡ Some r → (is_none o && b) ≡ false
+pub not-accepted : (o : Option Reason) (r : Reason) (b : Bool) → o ≡ Some r → (is_none o && b) ≡ false
 not-accepted o r b is = rw is refl
 
 module _ (t : Rows) (x : Arrival) (past : List Arrival) where
@@ -81,7 +81,7 @@ module _ (t : Rows) (x : Arrival) (past : List Arrival) where
   sends-named o r sent = (looks r past x
       (and_parts (accepts past x r) (is_side o.side x.side && r.goes_to o.number) sent).0).named
 
-  no-row-named : IsNamed (rows_of t) x.bytes None → row_named t x.bytes ≡ None
+  pub no-row-named : IsNamed (rows_of t) x.bytes None → row_named t x.bytes ≡ None
   unfolding row_named
   no-row-named none = find-none (λ (r : Row). names r.rule.vl x.bytes) (rows_of t) none
 
@@ -89,10 +89,6 @@ module _ (t : Rows) (x : Arrival) (past : List Arrival) where
   unfolding row_named
   row-named place n = find-one (λ (r : Row). names r.rule.vl x.bytes) (rows_of t) place n.row
       n.stands n.only ∙ ap (λ b. if b then Some n.row else None) n.named
-
-  pub reason-unknown : IsNamed (rows_of t) x.bytes None → reason_of t past x ≡ fault_of None x.port x.bytes
-  unfolding reason_of
-  reason-unknown none = ap (reason_on past x) (no-row-named none)
 
   pub reason-named : (place : ℕ) (n : IsNamedAt (rows_of t) x.bytes place)
       → reason_of t past x ≡ reason_after n.row.rule (own n.row.rule.vl x.side past) x

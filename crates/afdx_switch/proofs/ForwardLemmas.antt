@@ -9,7 +9,7 @@ use Rattle.afdx_frame.specs.declared.link.Priority.{Priority}
 use Rattle.afdx_port.specs.Held as held
 use Rattle.afdx_port.specs.History as queue
 use Rattle.afdx_port.specs.Serving.{IsServing}
-use Rattle.afdx_port.specs.declared.pending.Pending.{Pending}
+use Rattle.afdx_port.specs.declared.port_state.PortState.{PortState}
 use Rattle.afdx_port.specs.declared.serving.Serving.{Serving}
 use Rattle.afdx_port.proofs.ServingLemmas.{serving-same}
 use Rattle.afdx_switch.specs.declared.ports.PortSet.{PortSet}
@@ -28,22 +28,22 @@ IsLater places k i = (j : ℕ) → j < k → slice_get places j ≡ Some i → �
 
 -- the ports at the first so many of these places have been offered their shares
 pub record Forwarded (time : ℕ) (priority : Priority) (places : List ℕ) (shares0 : List HeldFrame)
-    (ports0 : List (Pending HeldFrame)) (k : ℕ) (shares : List HeldFrame)
-    (ports : List (Pending HeldFrame)) (lost : PortSet) :
+    (ports0 : List (PortState HeldFrame)) (k : ℕ) (shares : List HeldFrame)
+    (ports : List (PortState HeldFrame)) (lost : PortSet) :
     Type 0 where
   pub port_count : length ports ≡ 24
-  pub clocks : All (λ (p : Pending HeldFrame). held.last_time p ≤ time) ports
-  pub quiet : All (λ (p : Pending HeldFrame). held.IsQuiet facts p time) ports
+  pub clocks : All (λ (p : PortState HeldFrame). held.last_time p ≤ time) ports
+  pub quiet : All (λ (p : PortState HeldFrame). held.IsQuiet facts p time) ports
   pub left : length shares + k ≡ length places
   pub same : (c : HeldFrame) → AreShares c shares0 → AreShares c shares
   pub rest : (i : ℕ) → IsLater places k i → slice_get ports i ≡ slice_get ports0 i
   pub free : (i : ℕ) → IsLater places k i → holds lost (i + 1) ≡ false
-  pub offered : (c : HeldFrame) (j i : ℕ) (o n : Pending HeldFrame) → AreShares c shares0 → j < k
+  pub offered : (c : HeldFrame) (j i : ℕ) (o n : PortState HeldFrame) → AreShares c shares0 → j < k
       → slice_get places j ≡ Some i → slice_get ports0 i ≡ Some o → slice_get ports i ≡ Some n →
       IsOffered time priority (Some c) o n (holds lost (i + 1))
 
 -- a port that is offered nothing stays as it is
-not-offered : (time : ℕ) (priority : Priority) (o : Pending HeldFrame) → held.last_time o ≤ time
+not-offered : (time : ℕ) (priority : Priority) (o : PortState HeldFrame) → held.last_time o ≤ time
     → held.IsQuiet facts o time → IsOffered time priority None o o false
 not-offered time priority o in_time quiet = record {
   clock = in_time;
@@ -66,8 +66,8 @@ pub record Adds (place : ℕ) (lost new_lost : PortSet) (is_lost : Bool) : Type 
   pub others : (p : ℕ) → (p ≡ place + 1) ⊎ (holds new_lost p ≡ holds lost p)
 
 module _ (time : ℕ) (priority : Priority) (places : List ℕ) (are : ArePlaces places)
-    (shares0 : List HeldFrame) (ports0 : List (Pending HeldFrame)) where
-  module _ (k place : ℕ) (shares rest_shares : List HeldFrame) (ports : List (Pending HeldFrame))
+    (shares0 : List HeldFrame) (ports0 : List (PortState HeldFrame)) where
+  module _ (k place : ℕ) (shares rest_shares : List HeldFrame) (ports : List (PortState HeldFrame))
       (lost : PortSet) (inv : Forwarded time priority places shares0 ports0 k shares ports lost)
       (here : slice_get places k ≡ Some place) where
     new-here : IsLater places k place
@@ -83,7 +83,7 @@ module _ (time : ℕ) (priority : Priority) (places : List ℕ) (are : ArePlaces
     later-other : (i : ℕ) → IsLater places (k + 1) i → i ≢ place
     later-other i later same = later k (omega arith) (subst (λ z. slice_get places k ≡ Some z) (sym same) here)
 
-    module _ (o n : Pending HeldFrame) (share : HeldFrame) (is_lost : Bool) (new_lost : PortSet)
+    module _ (o n : PortState HeldFrame) (share : HeldFrame) (is_lost : Bool) (new_lost : PortSet)
         (at_o : slice_get ports place ≡ Some o) (popped : shares ≡ rest_shares ++ share ∷ [])
         (one : IsOffered time priority (Some share) o n is_lost) (adds : Adds place lost new_lost is_lost) where
       within : place < length ports
@@ -105,7 +105,7 @@ module _ (time : ℕ) (priority : Priority) (places : List ℕ) (are : ArePlaces
           (λ i s at. all-at (λ z. z ≡ c) shares i s all
           (rw popped (slice_get_before rest_shares share i s at)))
 
-      at : (c : HeldFrame) (j i : ℕ) (o2 n2 : Pending HeldFrame) → AreShares c shares0 → j < k + 1
+      at : (c : HeldFrame) (j i : ℕ) (o2 n2 : PortState HeldFrame) → AreShares c shares0 → j < k + 1
           → slice_get places j ≡ Some i → slice_get ports0 i ≡ Some o2
           → slice_get (set ports place n) i ≡ Some n2 →
           (i ≡ place) ⊎ (i ≢ place) → IsOffered time priority (Some c) o2 n2 (holds new_lost (i + 1))
@@ -140,8 +140,8 @@ module _ (time : ℕ) (priority : Priority) (places : List ℕ) (are : ArePlaces
           (set ports place n) new_lost
       forwarded-step = record {
         port_count = length-set ports place n ∙ inv.port_count;
-        clocks = all-set (λ (p : Pending HeldFrame). held.last_time p ≤ time) ports place n within inv.clocks one.clock;
-        quiet = all-set (λ (p : Pending HeldFrame). held.IsQuiet facts p time) ports place n within inv.quiet one.quiet;
+        clocks = all-set (λ (p : PortState HeldFrame). held.last_time p ≤ time) ports place n within inv.clocks one.clock;
+        quiet = all-set (λ (p : PortState HeldFrame). held.IsQuiet facts p time) ports place n within inv.quiet one.quiet;
         left = omega (arith, inv.left, ap length popped, length_push rest_shares share);
         same = λ c all. all-rest c (inv.same c all);
         rest = λ i later. slice_get-set_there ports place i n (later-other i later) ∙ inv.rest i (later-before i later);
@@ -150,10 +150,10 @@ module _ (time : ℕ) (priority : Priority) (places : List ℕ) (are : ArePlaces
       }
 
   -- in the end each port at a place was offered its share, and each other nothing
-  pub all-forwarded : (k : ℕ) (shares : List HeldFrame) (ports : List (Pending HeldFrame))
+  pub all-forwarded : (k : ℕ) (shares : List HeldFrame) (ports : List (PortState HeldFrame))
       (lost : PortSet) → Forwarded time priority places shares0 ports0 k shares ports lost
       → k ≡ length places →
-      (c : HeldFrame) (i : ℕ) (o n : Pending HeldFrame) → AreShares c shares0
+      (c : HeldFrame) (i : ℕ) (o n : PortState HeldFrame) → AreShares c shares0
       → slice_get ports0 i ≡ Some o → slice_get ports i ≡ Some n →
       IsOffered time priority (share_of c (is_among i places)) o n (holds lost (i + 1))
   all-forwarded k shares ports lost inv all c i o n shared at_o at_n = by (bool_cases (is_among i places))
@@ -171,27 +171,27 @@ module _ (time : ℕ) (priority : Priority) (places : List ℕ) (are : ArePlaces
           let kept = inv.rest i (none not_among) in
           let same : n ≡ o = cc in
           let in_time : held.last_time n ≤ time =
-          all-at (λ (p : Pending HeldFrame). held.last_time p ≤ time) ports i n inv.clocks at_n in
+          all-at (λ (p : PortState HeldFrame). held.last_time p ≤ time) ports i n inv.clocks at_n in
           let calm : held.IsQuiet facts n time =
-          all-at (λ (p : Pending HeldFrame). held.IsQuiet facts p time) ports i n inv.quiet at_n in
+          all-at (λ (p : PortState HeldFrame). held.IsQuiet facts p time) ports i n inv.quiet at_n in
           rw (not_among, inv.free i (none not_among))
           (subst (λ z. IsOffered time priority None z n false) same
           (not-offered time priority n in_time calm))
 
   -- a port at none of the places stays as it is
-  pub kept-elsewhere : (k : ℕ) (shares : List HeldFrame) (ports : List (Pending HeldFrame))
+  pub kept-elsewhere : (k : ℕ) (shares : List HeldFrame) (ports : List (PortState HeldFrame))
       (lost : PortSet) → Forwarded time priority places shares0 ports0 k shares ports lost
       → AreKept places ports0 ports
   kept-elsewhere k shares ports lost inv i not_among = inv.rest i (λ j below at. not-among-at i places j not_among at)
 
 -- the ports at the first so many of these places are ranked as they are now, the others as they were
-pub record RenewedTo (places : List ℕ) (old ports : List (Pending HeldFrame)) (serving : Serving) (k : ℕ) : Type 0 where
-  pub mid : List (Pending HeldFrame)
+pub record RenewedTo (places : List ℕ) (old ports : List (PortState HeldFrame)) (serving : Serving) (k : ℕ) : Type 0 where
+  pub mid : List (PortState HeldFrame)
   pub is : IsServing facts mid serving
   pub rest : (i : ℕ) → IsLater places k i → slice_get mid i ≡ slice_get old i
   pub done : (j i : ℕ) → j < k → slice_get places j ≡ Some i → slice_get mid i ≡ slice_get ports i
 
-pub none-renewed : (places : List ℕ) (old ports : List (Pending HeldFrame)) (serving : Serving)
+pub none-renewed : (places : List ℕ) (old ports : List (PortState HeldFrame)) (serving : Serving)
     → IsServing facts old serving → RenewedTo places old ports serving 0
 none-renewed places old ports serving is =
     record {
@@ -201,10 +201,10 @@ none-renewed places old ports serving is =
       done = λ j i below. absurd (omega (arith, below));
     }
 
-pub renewed-next : (places : List ℕ) (old ports : List (Pending HeldFrame)) (serving new : Serving)
-    (k place : ℕ) (p : Pending HeldFrame) → RenewedTo places old ports serving k
+pub renewed-next : (places : List ℕ) (old ports : List (PortState HeldFrame)) (serving new : Serving)
+    (k place : ℕ) (p : PortState HeldFrame) → RenewedTo places old ports serving k
     → slice_get places k ≡ Some place → place < 24 → slice_get ports place ≡ Some p →
-    ((mid : List (Pending HeldFrame)) → IsServing facts mid serving
+    ((mid : List (PortState HeldFrame)) → IsServing facts mid serving
     → IsServing facts (set mid place p) new) → RenewedTo places old ports new (k + 1)
 renewed-next places old ports serving new k place p r here within at step = record {
   mid = set r.mid place p;
@@ -229,7 +229,7 @@ renewed-next places old ports serving new k place p r here within at step = reco
               other both),
         )) there
 
-pub all-renewed : (places : List ℕ) (old ports : List (Pending HeldFrame)) (serving : Serving) (k : ℕ)
+pub all-renewed : (places : List ℕ) (old ports : List (PortState HeldFrame)) (serving : Serving) (k : ℕ)
     → k ≡ length places → length ports ≡ 24 → AreKept places old ports
     → RenewedTo places old ports serving k → IsServing facts ports serving
 all-renewed places old ports serving k all count kept r =

@@ -29,7 +29,7 @@ use Rattle.afdx_switch.specs.Ports.{holds}
 use Rattle.std.specs.List.{AllByRecursion}
 use Rattle.afdx_switch.specs.Lines.{IsPlaceOf, IsNamed}
 use Rattle.afdx_switch.specs.Switching.{SwitchHistory, StandsFor, calls_at, taken_at}
-use Rattle.afdx_switch.specs.declared.working.Working.{Working}
+use Rattle.afdx_switch.specs.declared.switch_state.SwitchState.{SwitchState}
 use Rattle.afdx_switch.proofs.ListLemmas.{find-none, find-found}
 use Rattle.afdx_switch.proofs.NamedLemmas.{unnamed, no-row, row-at}
 use Rattle.afdx_switch.proofs.ArrivalLemmas.{sends-named, row-named, dropped-sent, accepted-sent}
@@ -223,7 +223,7 @@ taken-turns t side w h (suc i) st low high =
     subst (λ n. AreTurns (byte_ns_at t n) (entries_at t side n h.arrivals) (taken_at n h.taken)) (omega arith)
     (taken_turns facts p.0 (calls_at t side (i + 1) h p.0.clock) (st.ports i p.0 p.1))
 
-pub links-in-order : {greatest_jitter : ℕ → ℕ} (t : Rows) (side : Side) (w : Working) (h : SwitchHistory)
+pub links-in-order : {greatest_jitter : ℕ → ℕ} (t : Rows) (side : Side) (w : SwitchState) (h : SwitchHistory)
     (port vl : ℕ) → IsLawfulUpTo greatest_jitter t → StandsFor t side w h → 1 ≤ port → port ≤ 24
     → GoInOrder (is_of vl) (entries_at t side port h.arrivals) (taken_at port h.taken)
 links-in-order t side w h port vl lawful st low high =

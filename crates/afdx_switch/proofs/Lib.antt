@@ -4,6 +4,7 @@ pub mod NamedLemmas
 pub mod TakeLemmas
 pub mod ArrivalLemmas
 pub mod StandsLemmas
+pub mod FoundLemmas
 pub mod NewLemmas
 pub mod PlaceLemmas
 pub mod LawLemmas
@@ -12,3 +13,4 @@ pub mod RegularLemmas
 pub mod LinkFrameLemmas
 pub mod HopLemmas
 pub mod StreamLemmas
+pub mod CallLemmas

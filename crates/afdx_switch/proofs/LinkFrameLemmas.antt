@@ -20,7 +20,7 @@ use Rattle.afdx_switch.specs.Laws.{EntriesStep, is_of}
 use Rattle.afdx_switch.specs.LinkFrames.{goes_on, enters, entered, frames_of, AreFirstEntered, OthersGetNone}
 use Rattle.afdx_switch.specs.Switching.{SwitchHistory, StandsFor, IsDone, Gives, taken_at, with_take}
 use Rattle.afdx_switch.specs.declared.switch.Departure.{Departure}
-use Rattle.afdx_switch.specs.declared.working.Working.{Working}
+use Rattle.afdx_switch.specs.declared.switch_state.SwitchState.{SwitchState}
 use Rattle.afdx_switch.specs.Tables.{rows_of, row_named, carried, byte_ns_at, entries_at}
 use Rattle.afdx_switch.specs.Verdicts.{reason_on, reason_of, is_lost_at}
 use Rattle.afdx_switch.proofs.ArrivalLemmas.{same-side as to-itself, unknown-fault}
@@ -140,7 +140,7 @@ entered-is t side port vl (x ∷ past) lawful =
     step t port vl x past side lawful
     ∙ ap (more (names vl x.bytes) (enters t side port past x) (carried t x)) (entered-is t side port vl past lawful)
 
-pub frames-own : {greatest_jitter : ℕ → ℕ} (t : Rows) (side : Side) (w : Working) (h : SwitchHistory)
+pub frames-own : {greatest_jitter : ℕ → ℕ} (t : Rows) (side : Side) (w : SwitchState) (h : SwitchHistory)
     (port vl : ℕ) → IsLawfulUpTo greatest_jitter t → StandsFor t side w h → 1 ≤ port → port ≤ 24
     → (waiting : List HeldFrame)
     × (entered t side port vl h.arrivals ≡ frames_of vl (taken_at port h.taken) ++ waiting)
@@ -156,7 +156,7 @@ frames-own t side w h port vl lawful st low high =
 
 -- so do those that a port gave with the turn that is given now
 pub given-own : (r : Option Departure) (t : Rows) (side : Side) (h : SwitchHistory) (until vl : ℕ)
-    (w : Working) → IsLawfulSwitch t
+    (w : SwitchState) → IsLawfulSwitch t
     → IfSome r (λ d. (g : Gives t side h until d w) → AreFirstEntered t side vl h g.gone)
 given-own None t side h until vl w lawful = tt
 given-own (Some d) t side h until vl w lawful =

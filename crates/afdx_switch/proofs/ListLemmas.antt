@@ -35,6 +35,17 @@ module _ {X : Type 0} where
         | inr past ↦ slice_get_past (set xs i x) j (subst (λ n. n ≤ j) (sym (length-set xs i x)) past.0) ∙ sym past.1
       ]
 
+  -- what stands in it is the new one, or an old one from elsewhere
+  pub set-cases : (xs : List X) (i : ℕ) (x : X) (j : ℕ) (y : X) → i < length xs → slice_get (set xs i x) j ≡ Some y
+      → ((j ≡ i) × (y ≡ x)) ⊎ ((j ≢ i) × (slice_get xs j ≡ Some y))
+  set-cases xs i x j y within at = elim (cases_eq j i) [
+    | inl same ↦
+        (let here : slice_get (set xs i x) i ≡ Some x = slice_get-set_here xs i x within in
+        let there : slice_get (set xs i x) i ≡ Some y = subst (λ k. slice_get (set xs i x) k ≡ Some y) same at in
+        let is : y ≡ x = cc in inl (same, is))
+    | inr other ↦ inr (other, sym (slice_get-set_there xs i j x other) ∙ at)
+  ]
+
   -- a list that was pushed to, read at its end and before
   pub slice_get_last : (xs : List X) (y : X) → slice_get (xs ++ y ∷ []) (length xs) ≡ Some y
   slice_get_last [] y = refl

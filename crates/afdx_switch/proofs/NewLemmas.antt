@@ -17,7 +17,7 @@ use Rattle.afdx_config.proofs.LookUpLemmas.{each_row-found}
 use Rattle.afdx_police.specs.Rule.{rule_with}
 use Rattle.afdx_bounds.specs.Outputs.{Row, offers_at}
 use Rattle.afdx_port.specs.History as queue
-use Rattle.afdx_port.specs.declared.pending.Pending.{Pending}
+use Rattle.afdx_port.specs.declared.port_state.PortState.{PortState}
 use Rattle.afdx_switch.specs.HeldFrames.{HeldFrame, facts}
 use Rattle.afdx_switch.specs.New.{IsNewPort}
 use Rattle.afdx_switch.specs.Lines.{IsPlaceOf}
@@ -107,7 +107,7 @@ module _ {greatest_jitter : ℕ → ℕ} (t : Rows) (lawful : IsLawfulUpTo great
       }
 
 -- a new port stands for no calls
-pub port-stands : (t : Rows) (side : Side) (i : ℕ) (p : Pending HeldFrame) → IsNewPort t i p
+pub port-stands : (t : Rows) (side : Side) (i : ℕ) (p : PortState HeldFrame) → IsNewPort t i p
     → queue.StandsFor facts p (calls_at t side (i + 1) no_calls p.clock)
 unfolding offers_at taken_at
 port-stands t side i p new =

@@ -1,7 +1,7 @@
 -- A switch through an arrival.
 use Rattle.std.proofs.Common.{◌≡◌, ◌≢◌, ℕ, zero, suc, ◌<◌, ◌≤◌, ◌+◌, true, false, List, [], ◌∷◌}
 use Rattle.std.proofs.Common.{length, set, refl, sym, ap, ◌∙◌, arith, subst, inl, inr}
-use Rattle.std.specs.Prelude.{Option, Some, None, IfSome, All, slice_get, sum_by, vec_len, ◌⊎◌}
+use Rattle.std.specs.Prelude.{Option, Some, None, IfSome, All, slice_get, sum_by, vec_len, find, ◌⊎◌}
 use Rattle.std.proofs.lemmas.List.Sums.{sum_by-cons}
 use Rattle.std.proofs.lemmas.Bool.{cases_eq}
 use Rattle.std.proofs.lemmas.Option.{slice_get_within, slice_get_cases, slice_get-get_or}
@@ -9,27 +9,23 @@ use Rattle.afdx_frame.specs.declared.link.Priority.{Priority}
 use Rattle.afdx_config.specs.Rows.{Rows}
 use Rattle.afdx_police.specs.Arrival.{Arrival, names, own}
 use Rattle.afdx_police.specs.LinkAccounts.{StandsForOwn}
-use Rattle.afdx_police.specs.Shape.{fault_of}
 use Rattle.afdx_police.specs.declared.account.LinkAccount.{LinkAccount}
-use Rattle.afdx_police.specs.declared.shape.Reason.{Reason}
-use Rattle.afdx_police.proofs.VerdictLemmas.{fault_changes_nothing}
 use Rattle.afdx_port.specs.Held as held
 use Rattle.afdx_port.specs.History as queue
-use Rattle.afdx_port.specs.declared.pending.Pending.{Pending}
-use Rattle.afdx_bounds.specs.Outputs.{Row}
+use Rattle.afdx_port.specs.declared.port_state.PortState.{PortState}
+use Rattle.afdx_bounds.specs.Outputs.{Row, sends}
 use Rattle.afdx_switch.specs.HeldFrames.{HeldFrame, held_frame, facts}
 use Rattle.afdx_switch.specs.Ports.{holds}
 use Rattle.afdx_switch.specs.Tables.{rows_of, output_at, byte_ns_at, buffer_at}
 use Rattle.afdx_switch.specs.Verdicts.{reason_of, is_lost_at}
 use Rattle.afdx_switch.specs.Switching.{SwitchHistory, StandsFor, calls_at, taken_at, with_arrival}
-use Rattle.afdx_switch.specs.Lines.{IsLine, IsNamed, IsNamedAt, is_among}
+use Rattle.afdx_switch.specs.Lines.{IsLine, IsNamedAt, is_among}
 use Rattle.afdx_switch.specs.Sound.{IsPortSound}
 use Rattle.afdx_switch.specs.Shares.{IsOffered, calls_after, share_of}
 use Rattle.afdx_switch.specs.declared.line.Line.{Line}
 use Rattle.afdx_switch.specs.declared.ports.PortSet.{PortSet}
-use Rattle.afdx_switch.specs.declared.working.Working.{Working}
-use Rattle.afdx_switch.proofs.ArrivalLemmas.{own-other, own-named, reason-unknown, reason-named}
-use Rattle.afdx_switch.proofs.ArrivalLemmas.{dropped-sent, entries-kept, with-share-is}
+use Rattle.afdx_switch.specs.declared.switch_state.SwitchState.{SwitchState}
+use Rattle.afdx_switch.proofs.ArrivalLemmas.{own-other, own-named, entries-kept, with-share-is}
 use Rattle.afdx_switch.proofs.ArrivalLemmas.{loses-share-is}
 use Rattle.afdx_switch.proofs.PlaceLemmas.{buffer-is}
 use Rattle.afdx_switch.proofs.ListLemmas.{slice_get-set_here, slice_get-set_there, all-at, bool_cases}
@@ -57,8 +53,8 @@ abbrev pub LinesAfter : Rows → Arrival → SwitchHistory → List Line → Typ
 LinesAfter t x h lines = (i : ℕ) (r : Row) (line : Line) → slice_get (rows_of t) i ≡ Some r
     → slice_get lines i ≡ Some line → IsLine x.side (x ∷ h.arrivals) r line
 
-module _ (t : Rows) (x : Arrival) (w : Working) (h : SwitchHistory) (st : StandsFor t x.side w h) where
-  line-other : (r : Row) (line : Line) → IsLine x.side h.arrivals r line → names r.rule.vl x.bytes
+module _ (t : Rows) (x : Arrival) (w : SwitchState) (h : SwitchHistory) (st : StandsFor t x.side w h) where
+  pub line-other : (r : Row) (line : Line) → IsLine x.side h.arrivals r line → names r.rule.vl x.bytes
       ≡ false → IsLine x.side (x ∷ h.arrivals) r line
   line-other r line is other = record {
     account = subst (λ xs. StandsForOwn r.rule line.account xs)
@@ -68,7 +64,7 @@ module _ (t : Rows) (x : Arrival) (w : Working) (h : SwitchHistory) (st : Stands
     goes = is.goes;
   }
 
-  line-named : (r : Row) (line : Line) (account : LinkAccount) → IsLine x.side h.arrivals r line
+  pub line-named : (r : Row) (line : Line) (account : LinkAccount) → IsLine x.side h.arrivals r line
       → names r.rule.vl x.bytes ≡ true
       → StandsForOwn r.rule account (x ∷ own r.rule.vl x.side h.arrivals) →
       IsLine x.side (x ∷ h.arrivals) r
@@ -84,9 +80,6 @@ module _ (t : Rows) (x : Arrival) (w : Working) (h : SwitchHistory) (st : Stands
     longest_wait = is.longest_wait;
     goes = is.goes;
   }
-
-  pub lines-unknown : IsNamed (rows_of t) x.bytes None → LinesAfter t x h w.lines.items
-  lines-unknown none i r line at_r at_line = line-other r line (st.lines i r line at_r at_line) (none i r at_r)
 
   module _ (place : ℕ) (n : IsNamedAt (rows_of t) x.bytes place) (line : Line)
       (at : slice_get w.lines.items place ≡ Some line) where
@@ -132,46 +125,13 @@ module _ (t : Rows) (x : Arrival) (w : Working) (h : SwitchHistory) (st : Stands
             line-other r l (st.lines i r l at_r
             (sym (slice_get-set_there w.lines.items place i new other) ∙ at_l)) (other-fails other)
 
-    pub lines-faulted : (fault : Reason) → fault_of (Some n.row.rule) x.port x.bytes ≡ Some fault
-        → LinesAfter t x h w.lines.items
-    lines-faulted fault is i r l at_r at_l = each (cases_eq i place)
-      where
-        each : (i ≡ place) ⊎ (i ≢ place) → IsLine x.side (x ∷ h.arrivals) r l
-        each (inl same) =
-            let line_at : slice_get w.lines.items place ≡ Some l =
-            subst (λ k. slice_get w.lines.items k ≡ Some l) same at_l in
-            let row_at : slice_get (rows_of t) place ≡ Some r =
-            subst (λ k. slice_get (rows_of t) k ≡ Some r) same at_r in
-            let row_stands = n.stands in
-            let same_line : line ≡ l = cc in
-            let same_row : n.row ≡ r = cc in
-            let stands : StandsForOwn n.row.rule line.account (x ∷ own_past) =
-            (fault_changes_nothing n.row.rule line.account own_past x fault is).stands
-            line-is.account in
-            subst (λ k. IsLine x.side (x ∷ h.arrivals) k l) same_row
-            (subst (λ k. IsLine x.side (x ∷ h.arrivals) n.row k) same_line
-            (line-named n.row line line.account line-is n.named stands))
-        each (inr other) =
-            line-other r l (st.lines i r l at_r at_l)
-            (elim (bool_cases (names r.rule.vl x.bytes))
-            [ inl named ↦ absurd (other (n.only i r at_r named)) | inr fails ↦ fails ])
-
-    pub fault-reason : (fault : Reason) → fault_of (Some n.row.rule) x.port x.bytes ≡ Some fault
-        → reason_of t h.arrivals x ≡ Some fault
-    fault-reason fault is = reason-named t x h.arrivals place n
-        ∙ (fault_changes_nothing n.row.rule line.account own_past x fault is).reason
-
-  pub unknown-reason : (reason : Reason) → IsNamed (rows_of t) x.bytes None
-      → fault_of None x.port x.bytes ≡ Some reason → reason_of t h.arrivals x ≡ Some reason
-  unknown-reason reason none is = reason-unknown t x h.arrivals none ∙ is
-
   -- a switch that dropped the arrival
-  pub stands-dropped : (new : Working) (reason : Reason) (place : Option ℕ)
-      → IsNamed (rows_of t) x.bytes place → reason_of t h.arrivals x ≡ Some reason
+  pub stands-dropped : (new : SwitchState)
+      → ((port : ℕ) → find (sends (output_at t x.side port) h.arrivals x) (rows_of t) ≡ None)
       → LinesAfter t x h new.lines.items →
       new.clock ≡ x.time → vec_len new.lines ≡ vec_len w.lines → new.places ≡ w.places
       → new.ports ≡ w.ports → StandsFor t x.side new (with_arrival h x)
-  stands-dropped new reason place named dropped lines clock count places ports = record {
+  stands-dropped new sent lines clock count places ports = record {
     time = clock;
     line_count = count ∙ st.line_count;
     lines = lines;
@@ -186,8 +146,7 @@ module _ (t : Rows) (x : Arrival) (w : Working) (h : SwitchHistory) (st : Stands
           taken = taken_at (i + 1) h.taken;
           time = p.clock;
         }))
-        (sym (entries-kept t x h.arrivals (i + 1)
-        (dropped-sent t x h.arrivals place (output_at t x.side (i + 1)) reason named dropped)))
+        (sym (entries-kept t x h.arrivals (i + 1) (sent (i + 1))))
         (st.ports i p (sym (ap (λ ps. slice_get ps.items i) ports) ∙ at));
   }
 
@@ -196,16 +155,16 @@ module _ (t : Rows) (x : Arrival) (w : Working) (h : SwitchHistory) (st : Stands
       (at : slice_get w.lines.items place ≡ Some line)
       (accepted : reason_of t h.arrivals x ≡ None) (shortest : 64 ≤ length x.bytes)
       (longest : length x.bytes ≤ 1518) (small : IfSome line.longest_wait (λ wait. wait ≤ 100000000))
-      (ports : List (Pending HeldFrame)) (lost : PortSet) (old_count : length w.ports.items ≡ 24)
+      (ports : List (PortState HeldFrame)) (lost : PortSet) (old_count : length w.ports.items ≡ 24)
       (new_count : length ports ≡ 24)
-      (offered : (i : ℕ) (o p : Pending HeldFrame) → slice_get w.ports.items i ≡ Some o → slice_get ports i ≡ Some p →
+      (offered : (i : ℕ) (o p : PortState HeldFrame) → slice_get w.ports.items i ≡ Some o → slice_get ports i ≡ Some p →
       IsOffered x.time line.priority
       (share_of (held_frame x.tag line.longest_wait x.bytes) (is_among i line.goes.items)) o p
       (holds lost (i + 1))) where
     line-of : IsLine x.side h.arrivals n.row line
     line-of = st.lines place n.row line n.stands at
 
-    offered-at : (i : ℕ) (o p : Pending HeldFrame) → i < 24 → slice_get w.ports.items i ≡ Some o
+    offered-at : (i : ℕ) (o p : PortState HeldFrame) → i < 24 → slice_get w.ports.items i ≡ Some o
         → slice_get ports i ≡ Some p →
         IsOffered x.time line.priority
         (share_of (held_frame x.tag line.longest_wait x.bytes) (n.row.goes_to (i + 1))) o p
@@ -215,7 +174,7 @@ module _ (t : Rows) (x : Arrival) (w : Working) (h : SwitchHistory) (st : Stands
         (share_of (held_frame x.tag line.longest_wait x.bytes) b) o p (holds lost (i + 1)))
         (line-of.goes i below) (offered i o p at_o at_p)
 
-    port-after : (i : ℕ) (p : Pending HeldFrame) → slice_get ports i ≡ Some p
+    port-after : (i : ℕ) (p : PortState HeldFrame) → slice_get ports i ≡ Some p
         → queue.StandsFor facts p (calls_at t x.side (i + 1) (with_arrival h x) p.clock)
     port-after i p at_p =
         let below : i < 24 = omega (arith, slice_get_within ports i p at_p, new_count) in
@@ -248,7 +207,7 @@ module _ (t : Rows) (x : Arrival) (w : Working) (h : SwitchHistory) (st : Stands
         longest small line-of.priority line-of.longest_wait (i + 1) (buffer_at t (i + 1))
         (buffer-is t place n.row (i + 1) n.stands))
 
-    pub stands-accepted : (new : Working) → LinesAfter t x h new.lines.items → new.clock ≡ x.time
+    pub stands-accepted : (new : SwitchState) → LinesAfter t x h new.lines.items → new.clock ≡ x.time
         → vec_len new.lines ≡ vec_len w.lines → new.places ≡ w.places → new.ports.items ≡ ports →
         StandsFor t x.side new (with_arrival h x)
     stands-accepted new lines clock count places is_ports = record {
@@ -272,12 +231,12 @@ sum-grows f (x ∷ xs) (y ∷ ys) same each =
     omega (arith, first, rest, sum_by-cons f x xs, sum_by-cons f y ys)
 
 -- ports through the offers of shares are sound and quiet, and hold at most one frame more each
-module _ (time clock : ℕ) (priority : Priority) (old ports : List (Pending HeldFrame))
+module _ (time clock : ℕ) (priority : Priority) (old ports : List (PortState HeldFrame))
     (share : ℕ → Option HeldFrame) (lost : PortSet) (old_count : length old ≡ 24)
     (new_count : length ports ≡ 24)
-    (offered : (i : ℕ) (o p : Pending HeldFrame) → slice_get old i ≡ Some o
+    (offered : (i : ℕ) (o p : PortState HeldFrame) → slice_get old i ≡ Some o
     → slice_get ports i ≡ Some p → IsOffered time priority (share i) o p (holds lost (i + 1))) where
-  old-at : (i : ℕ) (p : Pending HeldFrame) → slice_get ports i ≡ Some p → (o : Pending HeldFrame)
+  old-at : (i : ℕ) (p : PortState HeldFrame) → slice_get ports i ≡ Some p → (o : PortState HeldFrame)
       × (slice_get old i ≡ Some o)
   old-at i p at_p = found-at old i (omega (arith, slice_get_within ports i p at_p, new_count, old_count))
 

@@ -1,33 +1,35 @@
 -- The next turn of the switch, as the port whose turn is given first gives it.
 use Rattle.std.proofs.Common.{◌≡◌, ◌≢◌, ℕ, zero, suc, ◌<◌, ◌≤◌, ◌+◌, List, ◌∷◌, length, set, refl}
 use Rattle.std.proofs.Common.{sym, ap, ◌∙◌, arith, subst, inl, inr}
-use Rattle.std.specs.Prelude.{Option, Some, None, IfSome, IfNone, Bool, true, false, if◌then◌else◌}
-use Rattle.std.specs.Prelude.{slice_get, All, ◌⊎◌, ◌*◌}
+use Rattle.std.specs.Prelude.{Option, Some, None, IfSome, IfNone}
+use Rattle.std.specs.Prelude.{slice_get, All, sum_by, get_or}
 use Rattle.std.proofs.lemmas.Bool.{cases_eq, ne_eqb}
 use Rattle.std.proofs.lemmas.List.{length-set}
-use Rattle.std.proofs.lemmas.Option.{slice_get_cases, slice_get_within}
+use Rattle.std.proofs.lemmas.List.Sums.{sum_by-set}
+use Rattle.std.proofs.lemmas.Option.{slice_get_cases, slice_get_within, slice_get-get_or}
 use Rattle.afdx_frame.specs.declared.link.Side.{Side}
 use Rattle.afdx_config.specs.Rows.{Rows}
 use Rattle.afdx_port.specs.Due.{given_at, IsAfter, order_of}
 use Rattle.afdx_port.specs.Held as held
 use Rattle.afdx_port.specs.History as queue
-use Rattle.afdx_port.specs.Ports.{IsFirstAt, AreQuiet, AreLimited}
-use Rattle.afdx_port.specs.Schedule.{Turn, IsNext}
+use Rattle.afdx_port.specs.Ports.{AreLimited, AreServed}
+use Rattle.afdx_port.specs.Schedule.{Turn}
 use Rattle.afdx_port.specs.declared.left.Due.{Due}
 use Rattle.afdx_port.specs.declared.left.Left.{Left}
-use Rattle.afdx_port.specs.declared.pending.Pending.{Pending}
-use Rattle.afdx_port.proofs.DueLemmas.{next_due, quiet_after, after_quiet}
+use Rattle.afdx_port.specs.declared.port_state.PortState.{PortState}
+use Rattle.afdx_port.proofs.DueLemmas.{next_due, quiet_after}
+use Rattle.afdx_port.proofs.FirstLemmas.{all-quiet, least-order, least-place}
 use Rattle.afdx_port.proofs.TakeLemmas as port
 use Rattle.afdx_port.proofs.TurnLemmas.{eqb-same}
 use Rattle.afdx_switch.specs.HeldFrames.{HeldFrame, facts}
+use Rattle.afdx_switch.specs.Switching as switch
 use Rattle.afdx_switch.specs.Switching.{SwitchHistory, PortTurn, StandsFor, IsNextAt, IsNextOf, IsDue}
 use Rattle.afdx_switch.specs.Switching.{IsDone, GoesBefore, calls_at, taken_at, with_take}
 use Rattle.afdx_switch.specs.Sound.{IsPortSound, IsLineSound}
 use Rattle.afdx_switch.specs.Tables.{byte_ns_at, buffer_at, entries_at}
 use Rattle.afdx_switch.specs.declared.line.Line.{Line}
-use Rattle.afdx_switch.specs.declared.working.Working.{Working}
-use Rattle.afdx_switch.proofs.ListLemmas.{slice_get-set_here, slice_get-set_there, all-set, all-at}
-use Rattle.afdx_switch.proofs.StandsLemmas.{all-from}
+use Rattle.afdx_switch.specs.declared.switch_state.SwitchState.{SwitchState}
+use Rattle.afdx_switch.proofs.ListLemmas.{set-cases, all-set, all-at}
 
 taken-here : (port : ℕ) (s : Turn HeldFrame) (earlier : List PortTurn)
     → taken_at port (record { port = port; turn = s } ∷ earlier) ≡ s ∷ taken_at port earlier
@@ -39,116 +41,41 @@ taken-there : (n port : ℕ) (s : Turn HeldFrame) (earlier : List PortTurn) → 
 unfolding taken_at
 taken-there n port s earlier other = rw (ne_eqb n port (λ same. other (sym same))) refl
 
--- a port that gives its turn by then gives it
-pub must-give : (ports : List (Pending HeldFrame)) (until n place : ℕ) (d : Due) (p : Pending HeldFrame)
-    (r : Option (Left HeldFrame)) (calls : queue.PortHistory HeldFrame) →
-    IsFirstAt facts ports until n place d → slice_get ports place ≡ Some p → queue.StandsFor facts p calls → r ≡ None →
-    ((h : queue.PortHistory HeldFrame) (s : Turn HeldFrame) → queue.StandsFor facts p h
-    → IsNext h.byte_ns h.entries h.taken s → IfNone r (IsAfter until (queue.due_at s))) → ⊥
-must-give ports until n place d p r calls first at stands none no_more =
-    let q_at = first.stands in
-    let same : p ≡ first.p = cc in
-    let due : held.due_of facts p ≡ Some d = subst (λ q. held.due_of facts q ≡ Some d) (sym same) first.due in
-    let quiet : held.IsQuiet facts p until =
-    after_quiet facts p calls until stands (λ s next. rw none at (no_more calls s stands next)) in
-    let late : IsAfter until d = rw due at quiet in
-    omega (arith, late, first.by)
-
 -- late enough, a port that gives no turn by then has none to come
-nothing-due : (ports : List (Pending HeldFrame)) (until n i : ℕ) (p : Pending HeldFrame)
-    → AreQuiet facts ports until n → AreLimited facts ports n → 1200000000000000 ≤ until → i < n
-    → slice_get ports i ≡ Some p →
-    held.due_of facts p ≡ None
-nothing-due ports until n i p quiet limited late below at = by (held.due_of facts p) refl
+nothing-due : (ports : List (PortState HeldFrame)) (until i : ℕ) (p : PortState HeldFrame)
+    → All (λ q. held.IsQuiet facts q until) ports → AreLimited facts ports (length ports)
+    → 1200000000000000 ≤ until → slice_get ports i ≡ Some p → held.due_of facts p ≡ None
+nothing-due ports until i p quiet limited late at = by (held.due_of facts p) refl
   where
     by : (o : Option Due) → held.due_of facts p ≡ o → held.due_of facts p ≡ None
     by None e = e
     by (Some d) e =
-        let after : until < given_at d = subst (λ z. IfSome z (λ x. IsAfter until x)) e (quiet i p below at) in
-        absurd (omega (arith, after, late, limited i p d below at e))
+        let after : until < given_at d = subst (λ z. IfSome z (λ x. IsAfter until x)) e
+        (all-at (λ q. held.IsQuiet facts q until) ports i p quiet at) in
+        absurd (omega (arith, after, late, limited i p d (slice_get_within ports i p at) at e))
 
--- then none gives a turn at any time
-pub quiet-ever : (ports : List (Pending HeldFrame)) (until time : ℕ)
-    → AreQuiet facts ports until (length ports) → AreLimited facts ports (length ports)
-    → 1200000000000000 ≤ until → All (λ p. held.IsQuiet facts p time) ports
-quiet-ever ports until time quiet limited late = all-from (λ p. held.IsQuiet facts p time) ports (λ i p at.
-    subst (λ z. IfSome z (λ x. IsAfter time x))
-    (sym (nothing-due ports until (length ports) i p quiet limited late
-    (slice_get_within ports i p at) at)) tt)
-
--- where the turn that goes first is given by a time, it isn't so that none is given by then
-pub unquiet-first : (ports : List (Pending HeldFrame)) (until place time : ℕ) (d : Due)
-    → IsFirstAt facts ports until (length ports) place d
-    → All (λ p. held.IsQuiet facts p time) ports → IsAfter time d
-unquiet-first ports until place time d first quiet =
-    let here : held.IsQuiet facts first.p time =
-    all-at (λ p. held.IsQuiet facts p time) ports place first.p quiet first.stands in
-    subst (λ z. IfSome z (λ x. IsAfter time x)) first.due here
-
-before-given : (time m n : ℕ) (a b : Bool) → 2 * m + (if a then 1 else 0)
-    ≤ 2 * n + (if b then 1 else 0) → time < m + (if a then 1 else 0) → time < n + (if b then 1 else 0)
-before-given time m n true true le lt = omega arith
-before-given time m n true false le lt = omega arith
-before-given time m n false true le lt = omega arith
-before-given time m n false false le lt = omega arith
-
--- where the turn that goes first is given after a time, none is given by then
-pub quiet-first : (ports : List (Pending HeldFrame)) (until place time : ℕ) (d : Due)
-    → IsFirstAt facts ports until (length ports) place d → IsAfter time d
-    → All (λ p. held.IsQuiet facts p time) ports
-quiet-first ports until place time d first after =
-    all-from (λ p. held.IsQuiet facts p time) ports (λ i p at. by i p at (held.due_of facts p) refl)
-  where
-    by : (i : ℕ) (p : Pending HeldFrame) → slice_get ports i ≡ Some p → (o : Option Due)
-        → held.due_of facts p ≡ o → held.IsQuiet facts p time
-    by i p at None e = subst (λ z. IfSome z (λ x. IsAfter time x)) (sym e) tt
-    by i p at (Some f) e =
-        let least = first.least i p f (slice_get_within ports i p at) at e in
-        let later : IsAfter time f = before-given time d.time f.time d.too_old f.too_old least after in
-        subst (λ z. IfSome z (λ x. IsAfter time x)) (sym e) later
-
--- what is due at the port that gives its turn first
-pub due-of-first : (ports : List (Pending HeldFrame)) (until n place : ℕ) (d : Due)
-    (p : Pending HeldFrame) → IsFirstAt facts ports until n place d → slice_get ports place ≡ Some p
-    → held.due_of facts p ≡ Some d
-due-of-first ports until n place d p first at =
-    let stands = first.stands in
-    let same : p ≡ first.p = cc in
-    subst (λ q. held.due_of facts q ≡ Some d) (sym same) first.due
-
--- so no port gives a turn by a time exactly where that one is given after it
-pub quiet-iff : (ports : List (Pending HeldFrame)) (until place time : ℕ) (d : Due) (o : Option Due)
-    → IsFirstAt facts ports until (length ports) place d → o ≡ Some d →
-    (All (λ p. held.IsQuiet facts p time) ports → IfSome o (λ e. IsAfter time e))
-    × (IfSome o (λ e. IsAfter time e) → All (λ p. held.IsQuiet facts p time) ports)
-quiet-iff ports until place time d o first is = (
-  λ quiet. subst (λ z. IfSome z (λ e. IsAfter time e)) (sym is) (unquiet-first ports until place time d first quiet),
-  λ after. quiet-first ports until place time d first (subst (λ z. IfSome z (λ e. IsAfter time e)) is after),
+-- where the port that goes first is known, none gives a turn by a time exactly where it gives none
+pub quiet-iff : (ports : List (PortState HeldFrame)) (place time : ℕ) (p : PortState HeldFrame) (o : Option Due)
+    → AreServed facts ports place → slice_get ports place ≡ Some p → o ≡ held.due_of facts p →
+    (All (λ q. held.IsQuiet facts q time) ports → IfSome o (λ e. IsAfter time e))
+    × (IfSome o (λ e. IsAfter time e) → All (λ q. held.IsQuiet facts q time) ports)
+quiet-iff ports place time p o served at is = (
+  λ quiet. subst (λ z. IfSome z (λ e. IsAfter time e)) (sym is)
+      (all-at (λ q. held.IsQuiet facts q time) ports place p quiet at),
+  λ after. all-quiet facts ports place served p at time (subst (λ z. IfSome z (λ e. IsAfter time e)) is after),
 )
 
-module _ (t : Rows) (side : Side) (w : Working) (h : SwitchHistory) (st : StandsFor t side w h) where
+module _ (t : Rows) (side : Side) (w : SwitchState) (h : SwitchHistory) (st : StandsFor t side w h) where
   -- the turn that is due at a port
-  due-at : (i : ℕ) (p : Pending HeldFrame) (s : Turn HeldFrame) → slice_get w.ports.items i ≡ Some p
+  due-at : (i : ℕ) (p : PortState HeldFrame) (s : Turn HeldFrame) → slice_get w.ports.items i ≡ Some p
       → IsNextAt t side h (i + 1) s → held.due_of facts p ≡ Some (queue.due_at s)
   due-at i p s at next = next_due facts p (calls_at t side (i + 1) h p.clock) s (st.ports i p at) next
 
-  port-at : (i : ℕ) → i < length w.ports.items → (p : Pending HeldFrame) × (slice_get w.ports.items i ≡ Some p)
+  port-at : (i : ℕ) → i < 24 → (p : PortState HeldFrame) × (slice_get w.ports.items i ≡ Some p)
   port-at i below = elim (slice_get_cases w.ports.items i).1 [
     | inl found ↦ (found.0, found.2)
-    | inr past ↦ absurd (omega (arith, below, past.0))
+    | inr past ↦ absurd (omega (arith, below, past.0, st.port_count))
   ]
-
-  -- where no port gives a turn by then, no next turn is over by then
-  pub none-next : (until : ℕ) → length w.ports.items ≡ 24
-      → AreQuiet facts w.ports.items until (length w.ports.items) → (port : ℕ) (s : Turn HeldFrame)
-      → 1 ≤ port → port ≤ 24 → IsNextAt t side h port s →
-      IsAfter until (queue.due_at s)
-  none-next until count quiet zero s low high next = absurd (omega (arith, low))
-  none-next until count quiet (suc i) s low high next =
-      let found = port-at i (omega (arith, count, high)) in
-      let next_i : IsNextAt t side h (i + 1) s = subst (λ n. IsNextAt t side h n s) (omega arith) next in
-      quiet_after facts found.0 (calls_at t side (i + 1) h found.0.clock) until s
-      (st.ports i found.0 found.1) (quiet i found.0 (omega (arith, count, high)) found.1) next_i
 
   -- where none gives a turn by a time, each next turn is given after it
   pub quiet-next : (time : ℕ) → All (λ p. held.IsQuiet facts p time) w.ports.items
@@ -156,164 +83,180 @@ module _ (t : Rows) (side : Side) (w : Working) (h : SwitchHistory) (st : Stands
       → IsAfter time (queue.due_at s)
   quiet-next time quiet zero s low high next = absurd (omega (arith, low))
   quiet-next time quiet (suc i) s low high next =
-      let found = port-at i (omega (arith, st.port_count, high)) in
+      let found = port-at i (omega (arith, high)) in
       let next_i : IsNextAt t side h (i + 1) s = subst (λ n. IsNextAt t side h n s) (omega arith) next in
       quiet_after facts found.0 (calls_at t side (i + 1) h found.0.clock) time s
       (st.ports i found.0 found.1) (all-at (λ p. held.IsQuiet facts p time) w.ports.items i
       found.0 quiet found.1) next_i
 
   -- late enough, where no port gives a turn by then, each entry has had its turn
-  pub all-done : (until : ℕ) → length w.ports.items ≡ 24
-      → AreQuiet facts w.ports.items until (length w.ports.items)
+  pub all-done : (until : ℕ) → All (λ p. held.IsQuiet facts p until) w.ports.items
       → AreLimited facts w.ports.items (length w.ports.items) → 1200000000000000 ≤ until →
       (port : ℕ) → 1 ≤ port → port ≤ 24 → IsDone t side h port
-  all-done until count quiet limited late zero low high = absurd (omega (arith, low))
-  all-done until count quiet limited late (suc i) low high =
-      let found = port-at i (omega (arith, count, high)) in
-      let none = nothing-due w.ports.items until (length w.ports.items) i found.0 quiet limited late
-      (omega (arith, count, high)) found.1 in
+  all-done until quiet limited late zero low high = absurd (omega (arith, low))
+  all-done until quiet limited late (suc i) low high =
+      let found = port-at i (omega (arith, high)) in
+      let none = nothing-due w.ports.items until i found.0 quiet limited late found.1 in
       subst (λ n. IsDone t side h n) (omega arith)
       (port.all_done facts found.0 (calls_at t side (i + 1) h found.0.clock)
       (st.ports i found.0 found.1) none)
 
-  -- the turn of the port that gives its turn first is the next one
-  module _ (until place : ℕ) (d : Due) (p : Pending HeldFrame) (turn : Turn HeldFrame) (count : length w.ports.items ≡ 24)
-      (first : IsFirstAt facts w.ports.items until (length w.ports.items) place d)
-      (at : slice_get w.ports.items place ≡ Some p)
-      (next : IsNextAt t side h (place + 1) turn) where
-    due-is : d ≡ queue.due_at turn
-    due-is =
-        let q_at = first.stands in
-        let same : p ≡ first.p = cc in
-        let due : held.due_of facts p ≡ Some d = subst (λ q. held.due_of facts q ≡ Some d) (sym same) first.due in
-        let is_next : held.due_of facts p ≡ Some (queue.due_at turn) = due-at place p turn at next in
-        cc
+  -- the port whose turn goes first
+  module _ (served : AreServed facts w.ports.items w.first) (p : PortState HeldFrame)
+      (at : slice_get w.ports.items w.first ≡ Some p) where
+    -- where nothing is due there, each entry of each port has had its turn
+    pub first-done : (o : Option Due) → o ≡ held.due_of facts p → (port : ℕ) → 1 ≤ port → port ≤ 24
+        → IfNone o (IsDone t side h port)
+    first-done None is port low high =
+        all-done 1200000000000000 (all-quiet facts w.ports.items w.first served p at 1200000000000000
+        (subst (λ z. IfSome z (λ d. IsAfter 1200000000000000 d)) is tt)) served.limit (omega arith) port low high
+    first-done (Some d) is port low high = tt
 
-    before : (port : ℕ) (s : Turn HeldFrame) → 1 ≤ port → port ≤ 24 → IsNextAt t side h port s
-        → GoesBefore (record { port = place + 1; turn = turn }) port s
-    before zero s low high is_next = absurd (omega (arith, low))
-    before (suc i) s low high is_next =
-        let found = port-at i (omega (arith, count, high)) in
-        let next_i : IsNextAt t side h (i + 1) s = subst (λ n. IsNextAt t side h n s) (omega arith) is_next in
-        let due = due-at i found.0 s found.1 next_i in
-        let below : i < length w.ports.items = omega (arith, count, high) in
-        let least = first.least i found.0 (queue.due_at s) below found.1 due in
-        let least_turn : order_of (queue.due_at turn) ≤ order_of (queue.due_at s) =
-        subst (λ e. order_of e ≤ order_of (queue.due_at s)) due-is least in
-        elim (cases_eq (order_of (queue.due_at turn)) (order_of (queue.due_at s))) [
-          | inl same ↦
-              (let at_or_after = first.first i found.0 (queue.due_at s) below found.1 due
-              (subst (λ e. order_of e ≡ order_of (queue.due_at s)) (sym due-is) same) in
-              inr (same, omega (arith, at_or_after)))
-          | inr other ↦ inl (omega (arith, least_turn, other))
-        ]
+    module _ (turn : Turn HeldFrame) (next : IsNextAt t side h (w.first + 1) turn) where
+      before : (port : ℕ) (s : Turn HeldFrame) → 1 ≤ port → port ≤ 24 → IsNextAt t side h port s
+          → GoesBefore (record { port = w.first + 1; turn = turn }) port s
+      before zero s low high is_next = absurd (omega (arith, low))
+      before (suc i) s low high is_next =
+          let found = port-at i (omega (arith, high)) in
+          let next_i : IsNextAt t side h (i + 1) s = subst (λ n. IsNextAt t side h n s) (omega arith) is_next in
+          let mine = due-at w.first p turn at next in
+          let other = due-at i found.0 s found.1 next_i in
+          let below : i < length w.ports.items = omega (arith, st.port_count, high) in
+          let least : order_of (queue.due_at turn) ≤ order_of (queue.due_at s) =
+          least-order facts w.ports.items w.first served p at (queue.due_at turn) mine i found.0
+          (queue.due_at s) below found.1 other in
+          elim (cases_eq (order_of (queue.due_at turn)) (order_of (queue.due_at s))) [
+            | inl same ↦
+                (let on = least-place facts w.ports.items w.first served p at (queue.due_at turn) mine i
+                found.0 (queue.due_at s) below found.1 other same in
+                inr (same, omega (arith, on)))
+            | inr apart ↦ inl (omega (arith, least, apart))
+          ]
 
-    pub next-of : IsNextOf t side h (record { port = place + 1; turn = turn })
-    next-of = record {
-      port_first = omega arith;
-      port_last = omega (arith, first.below, count);
-      next = next;
-      first = before;
-    }
-
-  -- what is due there is due at the switch
-  pub due-comes : (until place : ℕ) (d : Due) (p : Pending HeldFrame) (o : Option Due)
-      → length w.ports.items ≡ 24 → IsFirstAt facts w.ports.items until (length w.ports.items) place
-      d → slice_get w.ports.items place ≡ Some p →
-      IfSome o (λ e. (s : Turn HeldFrame) × IsNextAt t side h (place + 1) s × (e ≡ queue.due_at s))
-      → IfSome o (λ e. IsDue t side h e)
-  due-comes until place d p None count first at comes = tt
-  due-comes until place d p (Some e) count first at comes =
-      record {
-        gone = record { port = place + 1; turn = comes.0 };
-        next = next-of until place d p comes.0 count first at comes.1;
-        is = comes.2;
+      -- it is the next one of the switch
+      pub next-of : IsNextOf t side h (record { port = w.first + 1; turn = turn })
+      next-of = record {
+        port_first = omega arith;
+        port_last = omega (arith, served.first.below, st.port_count);
+        next = next;
+        first = before;
       }
 
-  module _ (until place : ℕ) (d : Due) (p new : Pending HeldFrame) (left : Left HeldFrame)
-      (count : length w.ports.items ≡ 24)
-      (first : IsFirstAt facts w.ports.items until (length w.ports.items) place d)
-      (at : slice_get w.ports.items place ≡ Some p)
-      (gives : queue.Gives facts (calls_at t side (place + 1) h p.clock) until left new) where
-    abbrev pub gone : PortTurn
-    gone = record { port = place + 1; turn = gives.turn }
-
-    port-after : (i : ℕ) (q : Pending HeldFrame) → slice_get (set w.ports.items place new) i ≡ Some q
-        → (i ≡ place) ⊎ (i ≢ place) →
-        queue.StandsFor facts q (calls_at t side (i + 1) (with_take h gone until) q.clock)
-    port-after i q at_q (inl same) =
-        let here : slice_get (set w.ports.items place new) place ≡ Some new =
-        slice_get-set_here w.ports.items place new first.below in
-        let there : slice_get (set w.ports.items place new) place ≡ Some q =
-        subst (λ k. slice_get (set w.ports.items place new) k ≡ Some q) same at_q in
-        let is_new : new ≡ q = cc in
-        let clock : new.clock ≡ until = gives.stands.clock in
-        let stands : queue.StandsFor facts new (calls_at t side (place + 1) (with_take h gone until) new.clock) =
-        subst (λ k. queue.StandsFor facts new (calls (taken_at (place + 1) (gone ∷ h.taken)) k)) (sym clock)
-        (subst (λ ts. queue.StandsFor facts new (calls ts until))
-        (sym (taken-here (place + 1) gives.turn h.taken)) gives.stands) in
-        let for_q : queue.StandsFor facts q (calls_at t side (place + 1) (with_take h gone until) q.clock) =
-        subst (λ k. queue.StandsFor facts k
-        (calls_at t side (place + 1) (with_take h gone until) k.clock)) is_new stands in
-        subst (λ k. queue.StandsFor facts q (calls_at t side (k + 1) (with_take h gone until) q.clock)) (sym same) for_q
-      where
-        calls : List (Turn HeldFrame) → ℕ → queue.PortHistory HeldFrame
-        calls ts time = record {
-          byte_ns = byte_ns_at t (place + 1);
-          buffer = buffer_at t (place + 1);
-          entries = entries_at t side (place + 1) h.arrivals;
-          taken = ts;
-          time = time;
+    -- what is due there is due at the switch
+    pub due-comes : (o : Option Due)
+        → IfSome o (λ e. (s : Turn HeldFrame) × IsNextAt t side h (w.first + 1) s × (e ≡ queue.due_at s))
+        → IfSome o (λ e. IsDue t side h e)
+    due-comes None comes = tt
+    due-comes (Some e) comes =
+        record {
+          gone = record { port = w.first + 1; turn = comes.0 };
+          next = next-of comes.0 comes.1;
+          is = comes.2;
         }
-    port-after i q at_q (inr other) =
-        let stands = st.ports i q (sym (slice_get-set_there w.ports.items place i new other) ∙ at_q) in
-        subst (λ ts. queue.StandsFor facts q
-        (record {
-          byte_ns = byte_ns_at t (i + 1);
-          buffer = buffer_at t (i + 1);
-          entries = entries_at t side (i + 1) h.arrivals;
-          taken = ts;
-          time = q.clock;
-        }))
-        (sym (taken-there (place + 1) (i + 1) gives.turn h.taken (λ same. other (omega (arith, same))))) stands
 
-    pub stands-after : (after : Working) → after.clock ≡ until → after.lines ≡ w.lines
-        → after.places ≡ w.places → after.ports.items ≡ set w.ports.items place new →
-        StandsFor t side after (with_take h gone until)
-    stands-after after clock lines places ports = record {
-      time = clock;
-      line_count = rw lines st.line_count;
-      lines = λ i r line at_r at_line. st.lines i r line at_r (sym (ap (λ ls. slice_get ls.items i) lines) ∙ at_line);
-      places = λ vl k at_vl. st.places vl k (sym (ap (λ ps. slice_get ps.items vl) places) ∙ at_vl);
-      port_count = ap length ports ∙ length-set w.ports.items place new ∙ st.port_count;
-      ports = λ i q at_q. port-after i q (sym (ap (λ ps. slice_get ps i) ports) ∙ at_q) (cases_eq i place);
-    }
+    -- it is another one after a call, and all else is as it was
+    module _ (taken : List PortTurn) (until : ℕ) (new : PortState HeldFrame) where
+      abbrev later : SwitchHistory
+      later = record { arrivals = h.arrivals; taken = taken; time = until }
 
--- a port that gave its turn is sound still
-pub taken-sound : (ports : List (Pending HeldFrame)) (time until place : ℕ) (p new : Pending HeldFrame)
-    (left : Left HeldFrame) →
+      stands-set : queue.StandsFor facts new (calls_at t side (w.first + 1) later until) →
+          ((i : ℕ) (q : PortState HeldFrame) → i ≢ w.first → slice_get w.ports.items i ≡ Some q
+          → queue.StandsFor facts q (calls_at t side (i + 1) later q.clock)) →
+          (after : SwitchState) → after.clock ≡ until → after.lines ≡ w.lines
+          → after.places ≡ w.places → after.ports.items ≡ set w.ports.items w.first new →
+          StandsFor t side after later
+      stands-set mine others after clock lines places ports = record {
+        time = clock;
+        line_count = rw lines st.line_count;
+        lines = λ i r line at_r at_line. st.lines i r line at_r (sym (ap (λ ls. slice_get ls.items i) lines) ∙ at_line);
+        places = λ vl k at_vl. st.places vl k (sym (ap (λ ps. slice_get ps.items vl) places) ∙ at_vl);
+        port_count = ap length ports ∙ length-set w.ports.items w.first new ∙ st.port_count;
+        ports = λ i q at_q. elim (set-cases w.ports.items w.first new i q served.first.below
+            (sym (ap (λ ps. slice_get ps i) ports) ∙ at_q)) [
+              | inl here ↦ here-stands i q here.0 here.1
+              | inr there ↦ others i q there.0 there.1
+            ];
+      }
+        where
+          here-stands : (i : ℕ) (q : PortState HeldFrame) → i ≡ w.first → q ≡ new
+              → queue.StandsFor facts q (calls_at t side (i + 1) later q.clock)
+          here-stands i q same is =
+              let here : queue.StandsFor facts new (calls_at t side (w.first + 1) later new.clock) =
+              subst (λ k. queue.StandsFor facts new (calls_at t side (w.first + 1) later k)) (sym mine.clock) mine in
+              subst (λ k. queue.StandsFor facts q (calls_at t side (k + 1) later q.clock)) (sym same)
+              (subst (λ z. queue.StandsFor facts z (calls_at t side (w.first + 1) later z.clock)) (sym is) here)
+
+    -- it gave nothing by then
+    pub stands-waited : (until : ℕ) (new : PortState HeldFrame)
+        → ((calls : queue.PortHistory HeldFrame) → queue.StandsFor facts p calls
+        → queue.StandsFor facts new (queue.at calls until)) → (after : SwitchState) → after.clock ≡ until
+        → after.lines ≡ w.lines → after.places ≡ w.places → after.ports.items ≡ set w.ports.items w.first new →
+        StandsFor t side after (switch.at h until)
+    stands-waited until new waited after clock lines places ports =
+        stands-set h.taken until new
+        (waited (calls_at t side (w.first + 1) h p.clock) (st.ports w.first p at))
+        (λ i q other at_q. st.ports i q at_q) after clock lines places ports
+
+    -- it gave its turn
+    module _ (until : ℕ) (new : PortState HeldFrame) (left : Left HeldFrame)
+        (gives : queue.Gives facts (calls_at t side (w.first + 1) h p.clock) until left new) where
+      abbrev pub gone : PortTurn
+      gone = record { port = w.first + 1; turn = gives.turn }
+
+      abbrev calls-with : ℕ → List (Turn HeldFrame) → ℕ → queue.PortHistory HeldFrame
+      calls-with port turns time = record {
+        byte_ns = byte_ns_at t port;
+        buffer = buffer_at t port;
+        entries = entries_at t side port h.arrivals;
+        taken = turns;
+        time = time;
+      }
+
+      pub stands-after : (after : SwitchState) → after.clock ≡ until → after.lines ≡ w.lines
+          → after.places ≡ w.places → after.ports.items ≡ set w.ports.items w.first new →
+          StandsFor t side after (with_take h gone until)
+      stands-after after clock lines places ports =
+          stands-set (gone ∷ h.taken) until new
+          (subst (λ ts. queue.StandsFor facts new (calls-with (w.first + 1) ts until))
+          (sym (taken-here (w.first + 1) gives.turn h.taken)) gives.stands)
+          (λ i q other at_q. subst (λ ts. queue.StandsFor facts q (calls-with (i + 1) ts q.clock))
+          (sym (taken-there (w.first + 1) (i + 1) gives.turn h.taken (λ same. other (omega (arith, same)))))
+          (st.ports i q at_q)) after clock lines places ports
+
+-- what the ports hold, where one is another
+pub held-set : (ports : List (PortState HeldFrame)) (place : ℕ) (p new : PortState HeldFrame)
+    → slice_get ports place ≡ Some p →
+    sum_by (λ q. held.frames_held q) (set ports place new) + held.frames_held p
+    ≡ sum_by (λ q. held.frames_held q) ports + held.frames_held new
+held-set ports place p new at =
+    let below = slice_get_within ports place p at in
+    let here : slice_get ports place ≡ Some (get_or ports place p) = slice_get-get_or ports place p below in
+    let same : get_or ports place p ≡ p = cc in
+    subst (λ (q : PortState HeldFrame). sum_by (λ q. held.frames_held q) (set ports place new) + held.frames_held q
+    ≡ sum_by (λ q. held.frames_held q) ports + held.frames_held new) same
+    (sum_by-set (λ q. held.frames_held q) ports place new p below)
+
+-- a port that gave its turn, or had none to give, is sound still
+pub taken-sound : (ports : List (PortState HeldFrame)) (time until place : ℕ) (p new : PortState HeldFrame) →
     All (IsPortSound time) ports → time ≤ until → place < length ports
     → slice_get ports place ≡ Some p → held.last_time new ≡ until →
-    ((h : queue.PortHistory HeldFrame) → queue.StandsFor facts p h → queue.Gives facts h until left new)
+    ((h : queue.PortHistory HeldFrame) → queue.StandsFor facts p h
+    → (later : queue.PortHistory HeldFrame) × queue.StandsFor facts new later)
     → All (IsPortSound until) (set ports place new)
-taken-sound ports time until place p new left all later below at clock gives =
+taken-sound ports time until place p new all on below at clock moves =
     let sound = all-at (IsPortSound time) ports place p all at in
-    let given = gives sound.calls sound.stands in
+    let moved = moves sound.calls sound.stands in
     all-set (IsPortSound until) ports place new below
     (λ k d lt. (let s = all k d lt in
-    record { in_time = omega (arith, s.in_time, later); calls = s.calls; stands = s.stands }))
-    (record {
-      in_time = omega (arith, clock);
-      calls = queue.with_take sound.calls given.turn until;
-      stands = given.stands;
-    })
+    record { in_time = omega (arith, s.in_time, on); calls = s.calls; stands = s.stands }))
+    (record { in_time = omega (arith, clock); calls = moved.0; stands = moved.1 })
 
 pub lines-later : (lines : List Line) (time until : ℕ) → time ≤ until → All (IsLineSound time) lines
     → All (IsLineSound until) lines
 lines-later lines time until later all k d lt = let s = all k d lt in
     record { in_time = omega (arith, s.in_time, later); wait = s.wait; goes = s.goes }
 
-pub ports-later : (ports : List (Pending HeldFrame)) (time until : ℕ) → time ≤ until
+pub ports-later : (ports : List (PortState HeldFrame)) (time until : ℕ) → time ≤ until
     → All (IsPortSound time) ports → All (IsPortSound until) ports
 ports-later ports time until later all k d lt = let s = all k d lt in
     record { in_time = omega (arith, s.in_time, later); calls = s.calls; stands = s.stands }

@@ -16,7 +16,7 @@ use Rattle.afdx_switch.specs.Verdicts.{reason_of, is_lost_at, numbers, lost_port
 use Rattle.afdx_switch.specs.declared.ports.PortSet.{PortSet}
 use Rattle.afdx_switch.specs.declared.verdict.Verdict.TheVariants.{Accepted}
 use Rattle.afdx_switch.specs.Switching.{SwitchHistory, StandsFor, taken_at}
-use Rattle.afdx_switch.specs.declared.working.Working.{Working}
+use Rattle.afdx_switch.specs.declared.switch_state.SwitchState.{SwitchState}
 
 -- a verdict comes from the own arrivals of the link that the frame names: where those are equal, it
 -- is
@@ -55,14 +55,14 @@ is_of vl e = names vl e.item.bytes
 -- the turns that a switch gave at a port are the first of the port's schedule, each next after
 -- those before it
 abbrev pub TakenAreTurns : Type 0
-TakenAreTurns = (t : Rows) (side : Side) (w : Working) (h : SwitchHistory) (port : ℕ) →
+TakenAreTurns = (t : Rows) (side : Side) (w : SwitchState) (h : SwitchHistory) (port : ℕ) →
     StandsFor t side w h → 1 ≤ port → port ≤ last_port →
     AreTurns (byte_ns_at t port) (entries_at t side port h.arrivals) (taken_at port h.taken)
 
 -- the frames of a link leave a port, or are dropped there as too old, in the order in which they
 -- came: those that have had their turns, and then those that haven't, are its entries
 abbrev pub LinksGoInOrder : Type 0
-LinksGoInOrder = (t : Rows) (side : Side) (w : Working) (h : SwitchHistory) (port vl : ℕ) →
+LinksGoInOrder = (t : Rows) (side : Side) (w : SwitchState) (h : SwitchHistory) (port vl : ℕ) →
     IsLawfulSwitch t →
     StandsFor t side w h → 1 ≤ port → port ≤ last_port →
     GoInOrder (is_of vl) (entries_at t side port h.arrivals) (taken_at port h.taken)
@@ -73,7 +73,7 @@ with_other h x = record { arrivals = x ∷ h.arrivals; taken = h.taken; time = h
 
 -- an arrival on the other side changes nothing
 abbrev pub OtherSideIsApart : Type 0
-OtherSideIsApart = (t : Rows) (side : Side) (w : Working) (h : SwitchHistory) (x : Arrival) →
+OtherSideIsApart = (t : Rows) (side : Side) (w : SwitchState) (h : SwitchHistory) (x : Arrival) →
     StandsFor t side w h → is_side side x.side ≡ false → StandsFor t side w (with_other h x)
 
 -- the ports of an answer's set, in ascending order, are those at which the arrival is lost

@@ -7,6 +7,7 @@ pub mod Lines
 pub mod Departures
 pub mod Switching
 pub mod Sound
+pub mod Found
 pub mod Shares
 pub mod New
 pub mod Laws
@@ -15,3 +16,4 @@ pub mod Admitted
 pub mod Regular
 pub mod Hops
 pub mod Streams
+pub mod Calls

@@ -1,5 +1,5 @@
 -- What a switch keeps of its links: their lines, in the order of the tables, and where each is.
-use Rattle.std.specs.Prelude.{◌≡◌, ℕ, ◌+◌, ◌<◌, ◌≤◌, ◌==◌, Bool, true, false, Option, Some, None, List, ◌∷◌, length, slice_get, slice_set, if◌then◌else◌}
+use Rattle.std.specs.Prelude.{◌≡◌, ℕ, ◌+◌, ◌<◌, ◌≤◌, ◌==◌, Bool, true, false, Option, Some, None, List, ◌∷◌, length, slice_get, slice_set}
 use Rattle.std.specs.List.{list_any}
 use Rattle.afdx_frame.specs.Ports.{last_port}
 use Rattle.afdx_frame.specs.declared.link.Side.{Side}
@@ -8,7 +8,7 @@ use Rattle.afdx_police.specs.LinkAccounts.{StandsForOwn, IsOfferedAs, last_time}
 use Rattle.afdx_police.specs.Rule.{Rule}
 use Rattle.afdx_police.specs.Verdicts.{reason_after}
 use Rattle.afdx_police.specs.declared.account.LinkAccount.{LinkAccount}
-use Rattle.afdx_police.specs.declared.shape.Reason.TheVariants.{OverRate}
+use Rattle.afdx_police.specs.declared.shape.Reason.{Reason}
 use Rattle.afdx_bounds.specs.Outputs.{Row}
 use Rattle.afdx_switch.specs.declared.line.Line.{Line}
 
@@ -57,9 +57,9 @@ IsNamed rows bytes None =
     (j : ℕ) (s : Row) → slice_get rows j ≡ Some s → names s.rule.vl bytes ≡ false
 IsNamed rows bytes (Some place) = IsNamedAt rows bytes place
 
--- the line at this place was offered a frame of so many bytes: its account is as the offer leaves
--- it, and nothing else changed
-pub record IsCharged (time size place : ℕ) (line : Line) (passes : Bool)
+-- the line at this place was offered a frame of so many bytes, which is dropped for this reason if
+-- there is one: its account is as the offer leaves it, and nothing else changed
+pub record IsCharged (time size place : ℕ) (line : Line) (dropped : Option Reason)
     (old new : List Line) : Type 0 where
   pub account : LinkAccount
   pub set : new ≡ slice_set old place (record line { account = account })
@@ -67,7 +67,7 @@ pub record IsCharged (time size place : ℕ) (line : Line) (passes : Bool)
   pub answer : (rule : Rule) (past : List Arrival) (x : Arrival) →
       StandsForOwn rule line.account past →
       IsOfferedAs rule x (record { time = time; length = size }) →
-      (if passes then None else Some OverRate) ≡ reason_after rule past x
+      dropped ≡ reason_after rule past x
   pub stands : (rule : Rule) (past : List Arrival) (x : Arrival) →
       StandsForOwn rule line.account past →
       IsOfferedAs rule x (record { time = time; length = size }) →

@@ -15,7 +15,7 @@ use Rattle.afdx_switch.specs.Laws.{is_of}
 use Rattle.afdx_switch.specs.Switching.{PortTurn, SwitchHistory, StandsFor, IsDone, taken_at}
 use Rattle.afdx_switch.specs.Tables.{rows_of, row_named, carried}
 use Rattle.afdx_switch.specs.Verdicts.{reason_of, is_lost_at}
-use Rattle.afdx_switch.specs.declared.working.Working.{Working}
+use Rattle.afdx_switch.specs.declared.switch_state.SwitchState.{SwitchState}
 
 -- the link that the frame names goes to this port
 abbrev pub goes_on : Rows → ℕ → List ℕ → Bool
@@ -43,7 +43,7 @@ frames_of vl turns = map (λ e. e.item) (filter (is_of vl) (entries_in turns))
 -- the frames of a link that a port gave are the first of those that entered it, byte for byte and
 -- with their tags; others wait
 abbrev pub FramesAreOwn : Type 0
-FramesAreOwn = (t : Rows) (side : Side) (w : Working) (h : SwitchHistory) (port vl : ℕ) →
+FramesAreOwn = (t : Rows) (side : Side) (w : SwitchState) (h : SwitchHistory) (port vl : ℕ) →
     IsLawfulSwitch t →
     StandsFor t side w h → 1 ≤ port → port ≤ last_port →
     (waiting : List HeldFrame) ×

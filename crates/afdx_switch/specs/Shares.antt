@@ -4,10 +4,13 @@ use Rattle.afdx_frame.specs.declared.link.Priority.{Priority}
 use Rattle.afdx_port.specs.Held as held
 use Rattle.afdx_port.specs.History as queue
 use Rattle.afdx_port.specs.Schedule.{Entry}
-use Rattle.afdx_port.specs.declared.pending.Pending.{Pending}
+use Rattle.afdx_port.specs.declared.port_state.PortState.{PortState}
 use Rattle.afdx_bounds.specs.Offered as offered
 use Rattle.afdx_switch.specs.HeldFrames.{HeldFrame, facts}
 use Rattle.afdx_switch.specs.Lines.{is_among}
+use Rattle.afdx_switch.specs.Ports.{holds}
+use Rattle.afdx_switch.specs.declared.line.Line.{Line}
+use Rattle.afdx_switch.specs.declared.ports.PortSet.{PortSet}
 
 -- the share of a frame at a port that its link goes to
 abbrev pub share_of : HeldFrame → Bool → Option HeldFrame
@@ -18,7 +21,7 @@ abbrev pub AreShares : HeldFrame → List HeldFrame → Type 0
 AreShares c shares = All (λ s. s ≡ c) shares
 
 -- the ports that stand at none of these places are as they were
-abbrev pub AreKept : List ℕ → List (Pending HeldFrame) → List (Pending HeldFrame) → Type 0
+abbrev pub AreKept : List ℕ → List (PortState HeldFrame) → List (PortState HeldFrame) → Type 0
 AreKept places old new =
     (i : ℕ) → is_among i places ≡ false → slice_get new i ≡ slice_get old i
 
@@ -54,7 +57,7 @@ calls_after time priority share h clock =
 
 -- a port before and after the offer of its share, and whether the share was lost
 pub record IsOffered (time : ℕ) (priority : Priority) (share : Option HeldFrame)
-    (o n : Pending HeldFrame) (is_lost : Bool) : Type 0 where
+    (o n : PortState HeldFrame) (is_lost : Bool) : Type 0 where
   pub clock : n.clock ≤ time
   pub quiet : held.IsQuiet facts n time
   pub more : held.frames_held n ≤ held.frames_held o + 1
@@ -62,3 +65,10 @@ pub record IsOffered (time : ℕ) (priority : Priority) (share : Option HeldFram
       queue.StandsFor facts n (calls_after time priority share h n.clock)
   pub lost : (h : queue.PortHistory HeldFrame) → queue.StandsFor facts o h →
       is_lost ≡ loses_share time priority h.byte_ns h.buffer h.entries share
+
+-- the ports before and after a line's ports were offered shares of a frame, and which lost theirs
+abbrev pub AreOffered : ℕ → Line → HeldFrame → List (PortState HeldFrame) →
+    List (PortState HeldFrame) → PortSet → Type 0
+AreOffered time line c old new lost = (i : ℕ) (o n : PortState HeldFrame) →
+    slice_get old i ≡ Some o → slice_get new i ≡ Some n →
+    IsOffered time line.priority (share_of c (is_among i line.goes.items)) o n (holds lost (i + 1))

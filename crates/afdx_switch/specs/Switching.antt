@@ -10,14 +10,14 @@ use Rattle.afdx_port.specs.Held as held
 use Rattle.afdx_port.specs.History as queue
 use Rattle.afdx_port.specs.Schedule.{Turn, IsNext, IsSchedule}
 use Rattle.afdx_port.specs.declared.left.Due.{Due}
-use Rattle.afdx_port.specs.declared.pending.Pending.{Pending}
+use Rattle.afdx_port.specs.declared.port_state.PortState.{PortState}
 use Rattle.afdx_bounds.specs.Outputs.{Row}
 use Rattle.afdx_switch.specs.HeldFrames.{HeldFrame, facts}
 use Rattle.afdx_switch.specs.Tables.{rows_of, byte_ns_at, buffer_at, entries_at}
 use Rattle.afdx_switch.specs.Departures.{as_given, giving_port}
 use Rattle.afdx_switch.specs.declared.line.Line.{Line}
 use Rattle.afdx_switch.specs.declared.switch.Departure.{Departure}
-use Rattle.afdx_switch.specs.declared.working.Working.{Working}
+use Rattle.afdx_switch.specs.declared.switch_state.SwitchState.{SwitchState}
 use Rattle.afdx_switch.specs.Lines.{IsLine, IsPlaceOf}
 
 -- a turn of the output port of this number
@@ -96,7 +96,7 @@ IsDone t side h port =
     IsSchedule (byte_ns_at t port) (entries_at t side port h.arrivals) (taken_at port h.taken)
 
 -- the switch of this side is the one that these calls leave
-pub record StandsFor (t : Rows) (side : Side) (w : Working) (h : SwitchHistory) : Type 0 where
+pub record StandsFor (t : Rows) (side : Side) (w : SwitchState) (h : SwitchHistory) : Type 0 where
   pub time : w.clock ≡ h.time
   pub line_count : vec_len w.lines ≡ length (rows_of t)
   pub lines : (i : ℕ) (r : Row) (line : Line) → slice_get (rows_of t) i ≡ Some r →
@@ -104,19 +104,19 @@ pub record StandsFor (t : Rows) (side : Side) (w : Working) (h : SwitchHistory) 
   pub places : (vl : ℕ) (place : Option ℕ) → slice_get w.places.items vl ≡ Some place →
       IsPlaceOf (rows_of t) vl place
   pub port_count : length w.ports.items ≡ last_port
-  pub ports : (i : ℕ) (p : Pending HeldFrame) → slice_get w.ports.items i ≡ Some p →
+  pub ports : (i : ℕ) (p : PortState HeldFrame) → slice_get w.ports.items i ≡ Some p →
       queue.StandsFor facts p (calls_at t side (i + 1) h p.clock)
 
 -- `take(t)` would answer None
-abbrev pub IsQuiet : Working → ℕ → Type 0
+abbrev pub IsQuiet : SwitchState → ℕ → Type 0
 IsQuiet w t = All (λ p. held.IsQuiet facts p t) w.ports.items
 
 -- the last time that was used
-abbrev pub last_time : Working → ℕ
+abbrev pub last_time : SwitchState → ℕ
 last_time w = w.clock
 
 -- how many frames the switch holds
-abbrev pub frames_held : Working → ℕ
+abbrev pub frames_held : SwitchState → ℕ
 frames_held w = sum_by (λ p. held.frames_held p) w.ports.items
 
 -- what a departure hands out
@@ -126,7 +126,7 @@ pub record Hands (d : Departure) (gone : PortTurn) : Type 0 where
 
 -- the next turn is given, which is given by then
 pub record Gives (t : Rows) (side : Side) (h : SwitchHistory) (until : ℕ) (d : Departure)
-    (new : Working) : Type 0 where
+    (new : SwitchState) : Type 0 where
   pub gone : PortTurn
   pub next : IsNextOf t side h gone
   pub in_time : IsBy until (queue.due_at gone.turn)

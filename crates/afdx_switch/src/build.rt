@@ -11,7 +11,7 @@ ghost use Rattle.afdx_frame.specs.declared.link.Side.{Side};
 ghost use Rattle.afdx_bounds.specs.Outputs.{Row};
 ghost use Rattle.afdx_port.specs.Held.{IsByteTime};
 ghost use Rattle.afdx_port.specs.Times.{greatest_wait};
-ghost use Rattle.afdx_port.specs.declared.pending.Pending.{Pending};
+ghost use Rattle.afdx_port.specs.declared.port_state.PortState.{PortState};
 ghost use Rattle.afdx_switch.specs.HeldFrames.{HeldFrame};
 ghost use Rattle.afdx_switch.specs.Tables.{row_of, rows_of, goes_to, byte_ns_at, buffer_at, longest_wait_of};
 ghost use Rattle.afdx_switch.specs.Sound.{IsSwitchSound};
@@ -22,7 +22,7 @@ ghost use Rattle.afdx_switch.specs.declared.line.Line.{Line};
 
 use crate::frame::Frame;
 use crate::line::Line;
-use crate::working::Working;
+use crate::switch_state::SwitchState;
 use afdx_config::{Link, Tables};
 use afdx_frame::{LAST_PORT, LEAST_FRAME, VlId};
 use afdx_police::{LinkAccount, LinkRule};
@@ -165,7 +165,7 @@ fn new_places(alloc: Global, tables: &Tables) -> Result<Vec<Option<u16>>, AllocE
 
 fn new_ports(alloc: Global, tables: &Tables) -> Result<Vec<Port<Frame>>, AllocError>
     ensures count { IfOk result (λ v. vec_len v ≡ last_port) }
-    ensures each { IfOk result (λ v. (i : ℕ) (p : Pending HeldFrame) →
+    ensures each { IfOk result (λ v. (i : ℕ) (p : PortState HeldFrame) →
         slice_get v.items i ≡ Some p →
         IsNewPort tables.now i p) }
 {
@@ -178,7 +178,7 @@ fn new_ports(alloc: Global, tables: &Tables) -> Result<Vec<Port<Frame>>, AllocEr
 }
 
 /// What a switch of the tables works with at time 0: full accounts and idle ports.
-pub(crate) fn build(alloc: Global, tables: &Tables) -> Result<Working, AllocError>
+pub(crate) fn build(alloc: Global, tables: &Tables) -> Result<SwitchState, AllocError>
     ensures lawful { OnOk result (IsLawful tables.now) }
     ensures sound { IfOk result (λ w. IsSwitchSound w) }
     ensures stands { (side : Side) → IfOk result (λ w. StandsFor tables.now side w no_calls) }
@@ -191,7 +191,7 @@ pub(crate) fn build(alloc: Global, tables: &Tables) -> Result<Working, AllocErro
     let ports = new_ports(alloc, tables)?;
     let serving = Serving::of(&ports);
     let first = serving.first::<Frame>();
-    Ok(Working {
+    Ok(SwitchState {
         alloc,
         clock: 0,
         lines,

@@ -7,8 +7,8 @@ pub mod laws;
 mod line;
 mod ports;
 mod switch;
+mod switch_state;
 mod verdict;
-mod working;
 
 pub use ports::PortSet;
 pub use switch::{Departure, Switch};

@@ -1,12 +1,12 @@
 //! One switch, as its callers see it.
 
-ghost use Rattle.std.specs.Prelude.{◌≡◌, ◌↔◌, ℕ, ◌≤◌, ◌+◌, IfOk, OnOk, OnErr, IfSome, IfNone, MatchOption, ◌∷◌, Some, slice_get, true, None};
-ghost use Rattle.afdx_port.specs.Times.{drain_end, latest_put};
+ghost use Rattle.std.specs.Prelude.{◌≡◌, ℕ, ◌≤◌, IfOk, OnOk, true};
+ghost use Rattle.afdx_port.specs.Times.{latest_put};
 
 use crate::build::build;
 use crate::frame::Frame;
+use crate::switch_state::SwitchState;
 use crate::verdict::Verdict;
-use crate::working::Working;
 use afdx_config::Tables;
 use afdx_frame::Checked;
 use afdx_port::{Due, Left};
@@ -75,7 +75,7 @@ impl Departure {
 
 /// One switch. It keeps an account for each link, and the frames that still have a turn to come.
 pub struct Switch {
-    working: Working,
+    state: SwitchState,
     /// Room for the shares of a frame. Between calls it is empty.
     shares: Vec<Frame>,
 }
@@ -83,41 +83,28 @@ pub struct Switch {
 impl Drop for Switch {
     // (written out, it is one call wherever a value is let go)
     fn drop(self) {
-        let Self { working, shares } = self;
+        let Self { state, shares } = self;
     }
 }
 
 impl Model for Switch {
-    ghost use Rattle.afdx_switch.specs.declared.working.Working.{Working};
+    ghost use Rattle.afdx_switch.specs.declared.switch_state.SwitchState.{SwitchState};
     ghost use Rattle.std.specs.Prelude.{◌≡◌, []};
     ghost use Rattle.afdx_switch.specs.Sound.{IsSwitchSound};
 
-    ghost Value = { Working };
+    ghost Value = { SwitchState };
 
-    ghost view = { λ s. s.working };
+    ghost view = { λ s. s.state };
 
-    ghost invariant = { λ s. IsSwitchSound s.working × (s.shares.items ≡ []) };
+    ghost invariant = { λ s. IsSwitchSound s.state × (s.shares.items ≡ []) };
 }
 
 impl Switch {
-    ghost use Rattle.afdx_config.specs.Lawful.{IsLawful, IsLawfulSwitch};
-    ghost use Rattle.afdx_config.specs.Rows.{LinkRow, Rows};
+    ghost use Rattle.afdx_config.specs.Lawful.{IsLawful};
     ghost use Rattle.afdx_frame.specs.declared.link.Side.{Side};
-    ghost use Rattle.afdx_frame.specs.Ports.{last_port};
-    ghost use Rattle.afdx_police.specs.Arrival.{arrival_with, names, own};
-    ghost use Rattle.afdx_port.specs.Due.{given_at, IsAfter};
-    ghost use Rattle.afdx_port.specs.History.{due_at};
-    ghost use Rattle.afdx_port.specs.Schedule.{Turn};
-    ghost use Rattle.afdx_switch.specs.HeldFrames.{HeldFrame};
-    ghost use Rattle.afdx_switch.specs.Admitted.{IsAdmittedRun, LosesNothing, IsInTime, HaveLeft};
-    ghost use Rattle.afdx_switch.specs.LinkFrames.{AreFirstEntered};
-    ghost use Rattle.afdx_switch.specs.Tables.{rule_of, entries_at};
-    ghost use Rattle.afdx_switch.specs.Regular.{IsRegularAt, IsAccepted};
-    ghost use Rattle.afdx_switch.specs.Streams.{IsNextOfStream};
-    ghost use Rattle.afdx_switch.specs.Verdicts.{IsVerdict, shape_fault};
-    ghost use Rattle.afdx_switch.specs.Switching.{SwitchHistory, StandsFor, IsQuiet, IsNextAt};
-    ghost use Rattle.afdx_switch.specs.Switching.{IsDue, IsDone, Gives, no_calls, with_arrival};
-    ghost use Rattle.afdx_switch.specs.Switching.{at, taken_at, frames_held, last_time};
+    ghost use Rattle.afdx_switch.specs.Calls.{Arrives, TellsDue, Takes};
+    ghost use Rattle.afdx_switch.specs.Switching.{StandsFor, IsQuiet, no_calls, frames_held};
+    ghost use Rattle.afdx_switch.specs.Switching.{last_time};
 
     /// A switch of these tables at time 0, with full accounts and idle ports.
     /// The error says that memory was refused.
@@ -129,7 +116,7 @@ impl Switch {
         ensures held { IfOk result (λ w. frames_held w ≡ 0) }
     {
         Ok(Switch {
-            working: build(alloc, tables)?,
+            state: build(alloc, tables)?,
             shares: Vec::with_capacity(alloc, 24)?,
         })
     }
@@ -151,36 +138,7 @@ impl Switch {
         requires limit { time ≤ latest_put }
         requires clock { last_time self.old ≤ time }
         requires quiet { IsQuiet self.old time }
-        ensures verdict { (t : Rows) (side : Side) (h : SwitchHistory) →
-            StandsFor t side self.old h →
-            let arrival = arrival_with tag time side port bytes.now in
-            IfOk result (IsVerdict t h.arrivals arrival) }
-        ensures stands { (t : Rows) (side : Side) (h : SwitchHistory) →
-            StandsFor t side self.old h →
-            let arrival = arrival_with tag time side port bytes.now in
-            OnOk result (StandsFor t side self.new (with_arrival h arrival)) }
-        ensures kept { (t : Rows) (side : Side) (h : SwitchHistory) → StandsFor t side self.old h →
-            let arrival = arrival_with tag time side port bytes.now in
-            IsAdmittedRun t (arrival ∷ h.arrivals) → IfOk result LosesNothing }
-        ensures regular { (t : Rows) (side : Side) (h : SwitchHistory) (place : ℕ) (l : LinkRow) →
-            StandsFor t side self.old h → IsLawful t → slice_get t.links place ≡ Some l →
-            names l.vl bytes.now ≡ true →
-            (rule_of t l).port ≡ port →
-            let arrival = arrival_with tag time side port bytes.now in
-            let arrivals = own l.vl side (arrival ∷ h.arrivals) in
-            IsRegularAt (rule_of t l) arrivals → IfOk result IsAccepted }
-        ensures accepted { (t : Rows) (side : Side) (h : SwitchHistory) (place : ℕ) (l : LinkRow) →
-            StandsFor t side self.old h → IsLawfulSwitch t → slice_get t.links place ≡ Some l →
-            let arrival = arrival_with tag time side port bytes.now in
-            IsNextOfStream t l h.arrivals arrival → IfOk result IsAccepted }
-        ensures judged { (t : Rows) (side : Side) (h : SwitchHistory) →
-            StandsFor t side self.old h →
-            let arrival = arrival_with tag time side port bytes.now in
-            OnErr result (shape_fault t arrival ≡ None) }
-        ensures refused { OnErr result (self.new ≡ self.old) }
-        ensures quiet { IsQuiet self.new time }
-        ensures held { frames_held self.new ≤ frames_held self.old + last_port }
-        ensures clock { OnOk result (last_time self.new ≡ time) }
+        ensures { Arrives self.old self.new tag time port bytes.now result }
     {
         self.arrive_checked(time, port, tag, Checked::new(bytes))
     }
@@ -196,40 +154,9 @@ impl Switch {
         requires limit { time ≤ latest_put }
         requires clock { last_time self.old ≤ time }
         requires quiet { IsQuiet self.old time }
-        ensures verdict { (t : Rows) (side : Side) (h : SwitchHistory) →
-            StandsFor t side self.old h →
-            let arrival = arrival_with tag time side port frame.entry.bytes.now in
-            IfOk result (IsVerdict t h.arrivals arrival) }
-        ensures stands { (t : Rows) (side : Side) (h : SwitchHistory) →
-            StandsFor t side self.old h →
-            let arrival = arrival_with tag time side port frame.entry.bytes.now in
-            OnOk result (StandsFor t side self.new (with_arrival h arrival)) }
-        ensures kept { (t : Rows) (side : Side) (h : SwitchHistory) → StandsFor t side self.old h →
-            let arrival = arrival_with tag time side port frame.entry.bytes.now in
-            IsAdmittedRun t (arrival ∷ h.arrivals) → IfOk result LosesNothing }
-        ensures regular { (t : Rows) (side : Side) (h : SwitchHistory) (place : ℕ) (l : LinkRow) →
-            StandsFor t side self.old h → IsLawful t → slice_get t.links place ≡ Some l →
-            names l.vl frame.entry.bytes.now ≡ true →
-            (rule_of t l).port ≡ port →
-            let arrival = arrival_with tag time side port frame.entry.bytes.now in
-            let arrivals = own l.vl side (arrival ∷ h.arrivals) in
-            IsRegularAt (rule_of t l) arrivals → IfOk result IsAccepted }
-        ensures accepted { (t : Rows) (side : Side) (h : SwitchHistory) (place : ℕ) (l : LinkRow) →
-            StandsFor t side self.old h → IsLawfulSwitch t → slice_get t.links place ≡ Some l →
-            let arrival = arrival_with tag time side port frame.entry.bytes.now in
-            IsNextOfStream t l h.arrivals arrival → IfOk result IsAccepted }
-        ensures judged { (t : Rows) (side : Side) (h : SwitchHistory) →
-            StandsFor t side self.old h →
-            let arrival = arrival_with tag time side port frame.entry.bytes.now in
-            OnErr result (shape_fault t arrival ≡ None) }
-        ensures refused { OnErr result (self.new ≡ self.old) }
-        ensures quiet { IsQuiet self.new time }
-        ensures held { frames_held self.new ≤ frames_held self.old + last_port }
-        ensures clock { OnOk result (last_time self.new ≡ time) }
+        ensures { Arrives self.old self.new tag time port frame.entry.bytes.now result }
     {
-        let arrived = self
-            .working
-            .arrive(time, port, tag, frame, &mut self.shares);
+        let arrived = self.state.arrive(time, port, tag, frame, &mut self.shares);
         self.shares.clear();
         arrived
     }
@@ -237,16 +164,9 @@ impl Switch {
     /// When the next turn of all ports will be over if no frame arrives before, and whether it is a
     /// drop. None if each frame that was accepted and not lost has had its turn at each port.
     pub fn due(&self) -> Option<Due>
-        ensures comes { (t : Rows) (side : Side) (h : SwitchHistory) → StandsFor t side self.now h →
-            IfSome result (λ due. IsDue t side h due) }
-        ensures all_done { (t : Rows) (side : Side) (h : SwitchHistory) (port : ℕ) →
-            StandsFor t side self.now h → 1 ≤ port → port ≤ last_port →
-            IfNone result (IsDone t side h port) }
-        ensures quiet { (time : ℕ) → IsQuiet self.now time ↔
-            IfSome result (λ due. IsAfter time due) }
-        ensures limit { IfSome result (λ due. given_at due ≤ drain_end) }
+        ensures { TellsDue self.now result }
     {
-        self.working.due()
+        self.state.due()
     }
 
     /// The next frame that leaves, or is dropped as too old, by `until`, in ns: a slot that ends at
@@ -261,34 +181,8 @@ impl Switch {
     #[inline(always)]
     pub fn take(&mut self, until: u64) -> Option<Departure>
         requires clock { last_time self.old ≤ until }
-        ensures given { (t : Rows) (side : Side) (h : SwitchHistory) → StandsFor t side self.old h →
-            IfSome result (λ d. Gives t side h until d self.new) }
-        ensures none { (t : Rows) (side : Side) (h : SwitchHistory) → StandsFor t side self.old h →
-            IfNone result (StandsFor t side self.new (at h until)) }
-        ensures no_more { (t : Rows) (side : Side) (h : SwitchHistory) (port : ℕ) (s : Turn
-            HeldFrame) →
-            StandsFor t side self.old h → 1 ≤ port → port ≤ last_port → IsNextAt t side h port s →
-            IfNone result (IsAfter until (due_at s)) }
-        ensures own { (t : Rows) (side : Side) (h : SwitchHistory) (vl : ℕ) → IsLawfulSwitch t →
-            IfSome result (λ d. (g : Gives t side h until d self.new) →
-            AreFirstEntered t side vl h g.gone) }
-        ensures in_time { (t : Rows) (side : Side) (h : SwitchHistory) →
-            IsAdmittedRun t h.arrivals →
-            IfSome result (λ d. (g : Gives t side h until d self.new) → IsInTime t g.gone.turn) }
-        ensures left { (t : Rows) (side : Side) (h : SwitchHistory) (port place : ℕ) (l : LinkRow) →
-            StandsFor t side self.old h → IsAdmittedRun t h.arrivals →
-            1 ≤ port → port ≤ last_port → slice_get t.links place ≡ Some l →
-            let entries = entries_at t side port h.arrivals in
-            IfNone result (HaveLeft l until entries (taken_at port h.taken)) }
-        ensures all_done { (t : Rows) (side : Side) (h : SwitchHistory) (port : ℕ) →
-            StandsFor t side self.old h → drain_end ≤ until → 1 ≤ port → port ≤ last_port →
-            IfNone result (IsDone t side h port) }
-        ensures gives { IfNone result (IsQuiet self.old until) }
-        ensures quiet { IfNone result (IsQuiet self.new until) }
-        ensures held { MatchOption result (frames_held self.new ≡ frames_held self.old)
-            (λ _. frames_held self.new + 1 ≡ frames_held self.old) }
-        ensures clock { last_time self.new ≡ until }
+        ensures { Takes self.old self.new until result }
     {
-        self.working.take(until)
+        self.state.take(until)
     }
 }

@@ -61,8 +61,8 @@ returns-in-Some-clause-stands_in c rule all tag side stands =
     }) all c.in-Some.reason
     (judged rule _ c.args.port c.args.frame.bytes.now _ (c.rule.ensures ∙ stands.by_rule) c.in-Some.ensures.reason) stands
 
-pub returns-then-offer-clause-stands : goal.returns-then-offer-clause-stands
-returns-then-offer-clause-stands c rule past tag side stands =
+pub returns-in-None-clause-stands : goal.returns-in-None-clause-stands
+returns-in-None-clause-stands c rule past tag side stands =
     c.offer.ensures.stands rule past
     (record {
       tag = tag;
@@ -77,40 +77,8 @@ returns-then-offer-clause-stands c rule past tag side stands =
       same = refl;
     })
 
-pub returns-else-offer-clause-stands : goal.returns-else-offer-clause-stands
-returns-else-offer-clause-stands c rule past tag side stands =
-    c.offer.ensures.stands rule past
-    (record {
-      tag = tag;
-      time = c.args.time;
-      side = side;
-      port = c.args.port;
-      bytes = c.args.frame.bytes.now;
-    }) stands
-    (record {
-      sound = judged rule _ c.args.port c.args.frame.bytes.now _ (c.rule.ensures ∙ stands.by_rule)
-          c.in-None.ensures.reason;
-      same = refl;
-    })
-
-pub returns-then-offer-clause-stands_in : goal.returns-then-offer-clause-stands_in
-returns-then-offer-clause-stands_in c rule all tag side stands =
-    let x : Arrival = record {
-      tag = tag;
-      time = c.args.time;
-      side = side;
-      port = c.args.port;
-      bytes = c.args.frame.bytes.now;
-    } in
-    let sound : fault_of (Some rule) x.port x.bytes ≡ None =
-    judged rule _ c.args.port c.args.frame.bytes.now _ (c.rule.ensures ∙ stands.by_rule)
-    c.in-None.ensures.reason in
-    sound-stands_in rule c.offer.new.self x all sound
-    (c.offer.ensures.stands rule (own rule.vl side all) x stands
-    (record { sound = sound; same = refl }))
-
-pub returns-else-offer-clause-stands_in : goal.returns-else-offer-clause-stands_in
-returns-else-offer-clause-stands_in c rule all tag side stands =
+pub returns-in-None-clause-stands_in : goal.returns-in-None-clause-stands_in
+returns-in-None-clause-stands_in c rule all tag side stands =
     let x : Arrival = record {
       tag = tag;
       time = c.args.time;
@@ -130,12 +98,7 @@ faultless : (held : Rule) (port : ℕ) (bytes : List ℕ) (fault : Reason)
     → None ≡ fault_of (Some held) port bytes → fault_of (Some held) port bytes ≡ Some fault → ⊥
 faultless held port bytes fault none some = absurd (cc)
 
-pub returns-then-offer-clause-unchanged : goal.returns-then-offer-clause-unchanged
-returns-then-offer-clause-unchanged c fault e =
-    absurd (faultless _ c.args.port c.args.frame.bytes.now fault
-    (rw c.rule.ensures at c.in-None.ensures.reason) e)
-
-pub returns-else-offer-clause-unchanged : goal.returns-else-offer-clause-unchanged
-returns-else-offer-clause-unchanged c fault e =
+pub returns-in-None-clause-unchanged : goal.returns-in-None-clause-unchanged
+returns-in-None-clause-unchanged c fault e =
     absurd (faultless _ c.args.port c.args.frame.bytes.now fault
     (rw c.rule.ensures at c.in-None.ensures.reason) e)

@@ -1,0 +1,275 @@
+//! What a port still has to do: its two queues, and the frame that is being sent.
+
+ghost use Rattle.std.specs.Prelude.{◌≡◌, ℕ, ◌+◌, ◌-◌, ◌*◌, ◌/◌, ◌<◌, ◌≤◌, ◌^◌, ◌⊎◌, ◌↔◌, [], ◌∷◌};
+ghost use Rattle.std.specs.Prelude.{◌++◌, List, Some, None, IfOk, IfErr, OnOk, OnErr, IsErr};
+ghost use Rattle.std.specs.Prelude.{IfSome, OnSome, IfNone, MatchOption, MatchResult};
+ghost use Rattle.std.specs.Prelude.{is_some, option_copied, slice_get, true};
+ghost use Rattle.afdx_frame.specs.Regulation.{slowest_byte};
+ghost use Rattle.afdx_port.specs.Times.{drain_end, latest_put, longest_slot};
+ghost use Rattle.afdx_frame.specs.Lengths.{least_frame, greatest_buffer};
+ghost use Rattle.afdx_frame.specs.declared.link.Priority.{Priority};
+ghost use Rattle.afdx_port.specs.Schedule.{Entry, Turn, is_past, IsNext, IsSchedule, IsLost};
+
+use crate::has_length::HasLength;
+use crate::left::{Due, Left};
+use afdx_frame::{LEAST_FRAME, Priority, WIRE_EXTRA};
+use circular_buffer::HeapCircularBuffer;
+use std::alloc::{AllocError, Global};
+
+/// A frame that waits, and when it came.
+#[derive(Debug, Drop)]
+pub(crate) struct Waiting<T> {
+    pub(crate) time: u64,
+    pub(crate) item: T,
+}
+
+/// What a port still has to do.
+#[derive(Drop)]
+pub(crate) struct PortState<T> {
+    byte_ns: u64,
+    buffer: u64,
+    /// The last time used.
+    clock: u64,
+    /// When the last turn that has begun is over.
+    free: u64,
+    /// The frame of that turn, until it is taken.
+    sending: Option<Left<T>>,
+    /// The lengths of the frames that wait.
+    waiting: u64,
+    high: HeapCircularBuffer<Waiting<T>>,
+    low: HeapCircularBuffer<Waiting<T>>,
+}
+
+/// Whether a frame that came at `time` has waited too long at `moment`.
+fn is_too_old(longest_wait: Option<u64>, time: u64, moment: u64) -> bool
+    requires { time ≤ moment }
+    ensures { result ≡ is_past longest_wait time moment }
+{
+    match longest_wait {
+        None => false,
+        Some(wait) => wait < moment - time,
+    }
+}
+
+impl<T: HasLength> PortState<T> {
+    ghost use Rattle.afdx_port.specs.Due.{given_at, IsAfter};
+    ghost use Rattle.afdx_port.specs.Held.{IsByteTime, choice_of, queue_of, due_from, due_of};
+    ghost use Rattle.afdx_port.specs.Held.{IsQuiet, frames_held};
+    ghost use Rattle.afdx_port.specs.Sound.{ChangesQueue, HasRoom, IsPortSound};
+    ghost use Rattle.afdx_port.specs.History.{PortHistory, no_calls, at, with_put, entry_of, due_at};
+    ghost use Rattle.afdx_port.specs.History.{StandsFor};
+    ghost use Rattle.afdx_port.specs.Takes.{Takes};
+
+    pub(crate) fn new(alloc: Global, byte_ns: u64, buffer: u64) -> Result<PortState<T>, AllocError>
+        requires rate { IsByteTime byte_ns }
+        requires buffer { (least_frame ≤ buffer) × (buffer ≤ greatest_buffer) }
+        ensures sound { IfOk result (λ p. IsPortSound T.facts p) }
+        ensures stands { IfOk result (λ p. StandsFor T.facts p (no_calls byte_ns buffer)) }
+        ensures held { IfOk result (λ p. frames_held p ≡ 0) }
+        ensures quiet { (t : ℕ) → IfOk result (λ p. IsQuiet T.facts p t) }
+        ensures clock { IfOk result (λ p. p.clock ≡ 0) }
+    {
+        let places = buffer as usize / LEAST_FRAME;
+        let high = HeapCircularBuffer::with_capacity(alloc, places)?;
+        let low = HeapCircularBuffer::with_capacity(alloc, places)?;
+        Ok(PortState {
+            byte_ns,
+            buffer,
+            clock: 0,
+            free: 0,
+            sending: None,
+            waiting: 0,
+            high,
+            low,
+        })
+    }
+
+    /// The class that goes next, and its moment.
+    #[inline]
+    fn next_choice(&self) -> Option<(Priority, u64)>
+        ensures { result ≡ choice_of self.now }
+    {
+        let high = self.high.front().map(|front| front.time.max(self.free));
+        let low = self.low.front().map(|front| front.time.max(self.free));
+        match (high, low) {
+            (Some(high), Some(low)) if low < high => Some((Priority::Low, low)),
+            (Some(high), _) => Some((Priority::High, high)),
+            (None, Some(low)) => Some((Priority::Low, low)),
+            (None, None) => None,
+        }
+    }
+
+    /// The first frame of a class.
+    fn front(&self, priority: Priority) -> Option<&Waiting<T>>
+        ensures { option_copied result ≡ slice_get (queue_of priority self.now) 0 }
+    {
+        match priority {
+            Priority::High => self.high.front(),
+            Priority::Low => self.low.front(),
+        }
+    }
+
+    /// The turn of a frame at `moment`.
+    #[inline]
+    fn turn_of(&self, waiting: &Waiting<T>, moment: u64) -> Due
+        requires came { waiting.now.time ≤ moment }
+        requires rate { self.now.byte_ns ≤ slowest_byte }
+        requires fits { moment + longest_slot < 2 ^ 64 }
+        ensures { result ≡ due_from T.facts self.now.byte_ns waiting.now moment }
+    {
+        let too_old = is_too_old(waiting.item.longest_wait(), waiting.time, moment);
+        let slot = (waiting.item.length() + WIRE_EXTRA) * self.byte_ns;
+        let lasts = if too_old { 0 } else { slot };
+        Due {
+            time: moment + lasts,
+            too_old,
+        }
+    }
+
+    /// Whether a turn has begun whose frame isn't taken.
+    pub(crate) fn is_sending(&self) -> bool
+        ensures { result ≡ is_some self.now.sending }
+    {
+        self.sending.is_some()
+    }
+
+    /// When the next turn is over.
+    #[inline]
+    pub(crate) fn due(&self) -> Option<Due>
+        requires sound { IsPortSound T.facts self.now }
+        ensures due { result ≡ due_of T.facts self.now }
+        ensures limit { IfSome result (λ due. given_at due ≤ drain_end) }
+    {
+        if let Some(left) = &self.sending {
+            return Some(Due {
+                time: self.free,
+                too_old: left.too_old,
+            });
+        }
+        let (priority, moment) = self.next_choice()?;
+        let front = self.front(priority)?;
+        Some(self.turn_of(front, moment))
+    }
+
+    /// Takes the first frame of a class.
+    fn pop(&mut self, priority: Priority) -> Option<Waiting<T>>
+        ensures first { MatchOption result (queue_of priority self.old ≡ [])
+            (λ w. queue_of priority self.old ≡ w ∷ queue_of priority self.new) }
+        ensures others { ChangesQueue priority self.old self.new }
+    {
+        match priority {
+            Priority::High => self.high.pop_front(),
+            Priority::Low => self.low.pop_front(),
+        }
+    }
+
+    /// Adds a frame to its class, which has room.
+    fn push(&mut self, priority: Priority, waiting: Waiting<T>)
+        requires { HasRoom priority self.old }
+        ensures queue { queue_of priority self.new ≡ queue_of priority self.old ++ waiting ∷ [] }
+        ensures others { ChangesQueue priority self.old self.new }
+    {
+        let overwritten = match priority {
+            Priority::High => self.high.push_back(waiting),
+            Priority::Low => self.low.push_back(waiting),
+        };
+        let fits = overwritten.is_none();
+        prove!(fits);
+    }
+
+    /// Begins the next turn, if its moment is before `time`.
+    #[inline]
+    fn advance(&mut self, time: u64)
+        requires clock { self.old.clock ≤ time }
+        requires sound { IsPortSound T.facts self.old }
+        ensures sound { IsPortSound T.facts self.new }
+        ensures clock { self.new.clock ≡ time }
+        ensures stands { (h : PortHistory T) → StandsFor T.facts self.old h →
+            StandsFor T.facts self.new (at h time) }
+        ensures chosen { (c : Priority) (moment : ℕ) → self.new.sending ≡ None →
+            choice_of self.new ≡ Some (c, moment) → time ≤ moment }
+        ensures due { due_of T.facts self.new ≡ due_of T.facts self.old }
+        ensures held { frames_held self.new ≡ frames_held self.old }
+    {
+        self.clock = time;
+        if self.sending.is_some() {
+            return;
+        }
+        let Some((priority, moment)) = self.next_choice() else {
+            return;
+        };
+        if moment >= time {
+            return;
+        }
+        let Some(waiting) = self.pop(priority) else {
+            unreachable!();
+        };
+        let due = self.turn_of(&waiting, moment);
+        let Waiting { time: _, item } = waiting;
+        let length = item.length();
+        self.waiting -= length;
+        self.free = due.time;
+        self.sending = Some(Left {
+            item,
+            priority,
+            end: due.time,
+            too_old: due.too_old,
+        });
+    }
+
+    /// Offers a frame. While a turn has begun, that doesn't change when the next one is over.
+    #[inline]
+    pub(crate) fn put(&mut self, time: u64, priority: Priority, item: T) -> Result<(), T>
+        requires clock { self.old.clock ≤ time }
+        requires limit { time ≤ latest_put }
+        requires quiet { IsQuiet T.facts self.old time }
+        requires sound { IsPortSound T.facts self.old }
+        ensures sound { IsPortSound T.facts self.new }
+        ensures quiet { IsQuiet T.facts self.new time }
+        ensures clock { self.new.clock ≡ time }
+        ensures held { MatchResult result (λ _. frames_held self.new ≡ frames_held self.old + 1)
+            (λ _. frames_held self.new ≡ frames_held self.old) }
+        ensures ok { (h : PortHistory T) → StandsFor T.facts self.old h →
+            OnOk result (StandsFor T.facts self.new
+            (with_put h (entry_of T.facts time priority item))) }
+        ensures err { (h : PortHistory T) → StandsFor T.facts self.old h →
+            OnErr result (StandsFor T.facts self.new (at h time)) }
+        ensures back { IfErr result (λ back. back ≡ item) }
+        ensures due { is_some self.new.sending ≡ true →
+            due_of T.facts self.new ≡ due_of T.facts self.old }
+        ensures lost { (h : PortHistory T) (turns : List (Turn T)) → StandsFor T.facts self.old h →
+            IsSchedule h.byte_ns h.entries turns →
+            (IsErr result ↔ IsLost h.buffer h.entries turns time (T.facts item).bytes) }
+    {
+        self.advance(time);
+        let length = item.length();
+        if self.waiting + length > self.buffer {
+            return Err(item);
+        }
+        self.push(priority, Waiting { time, item });
+        self.waiting += length;
+        Ok(())
+    }
+
+    /// Sets the clock.
+    pub(crate) fn wait(&mut self, time: u64)
+        ensures { self.new ≡ record self.old { clock = time } }
+    {
+        self.clock = time;
+    }
+
+    #[inline]
+    pub(crate) fn take(&mut self, until: u64) -> Option<Left<T>>
+        requires clock { self.old.clock ≤ until }
+        requires sound { IsPortSound T.facts self.old }
+        ensures sound { IsPortSound T.facts self.new }
+        ensures takes { Takes T.facts self.old self.new until result }
+    {
+        self.advance(until);
+        let is_over = self.free <= until;
+        if !is_over {
+            return None;
+        }
+        self.sending.take()
+    }
+}
