@@ -9,7 +9,7 @@ use Rattle.afdx_lists.specs.declared.watched.Watched.{Watched}
 use Rattle.afdx_lists.specs.Watching.{has_ended, has_failed}
 use Rattle.afdx_lists.specs.Calls.{is_failed_read, is_failed_write}
 use Rattle.afdx_lists.specs.Faults.{status_of}
-use Rattle.afdx_lists.specs.Telling.{TellsLine}
+use Rattle.afdx_text.specs.Telling.{TellsLine}
 use Rattle.afdx_replay.specs.declared.ending.Ended.{Ended}
 use Rattle.afdx_replay.specs.declared.police_command.CommandedRule.{CommandedRule}
 use Rattle.afdx_replay.specs.declared.summary.Summary.{Summary}

@@ -4,13 +4,14 @@ ghost use Rattle.std.specs.Prelude.{◌≡◌, ◌==◌, ◌&&◌, ◌⊎◌, �
 ghost use Rattle.std.specs.Result.{result_ok};
 ghost use Rattle.std.specs.Io.KnownBytes.{Keeps};
 ghost use Rattle.afdx_lists.specs.Gathered.{gathered, held_bytes, device_has_failed};
-ghost use Rattle.afdx_lists.specs.Telling.{TellsLine};
+ghost use Rattle.afdx_text.specs.Telling.{TellsLine};
 ghost use Rattle.afdx_lists.specs.Watching.{device_of, has_failed};
 ghost use Rattle.afdx_replay.specs.Commands.{status_of_answer};
 
 use crate::status::DONE;
 use crate::summary::Summary;
-use afdx_lists::{Buffered, RunFault, Watched, tell_fault};
+use afdx_lists::{Buffered, RunFault, Watched};
+use afdx_text::tell_fault;
 use std::io::Write;
 
 /// How a command over a list ended: its exit status and, where that is 0, what the run counted.

@@ -2,7 +2,7 @@
 
 ghost use Rattle.std.specs.Prelude.{◌≡◌, ◌≤◌, ◌+◌, ◌||◌, ◌⊎◌, ◌↔◌, ℕ, Result, IfSome, IsSome, codes, false, true};
 ghost use Rattle.afdx_lists.specs.Lines.{most_reads};
-ghost use Rattle.afdx_lists.specs.Telling.{Tells};
+ghost use Rattle.afdx_text.specs.Telling.{Tells};
 ghost use Rattle.afdx_replay.specs.Commands.{commanded_rule, usual_rule, EndsAs, IsCommanded};
 ghost use Rattle.afdx_replay.specs.Policed.{Answers};
 ghost use Rattle.afdx_replay.specs.declared.ending.Ended.{Ended as End};
@@ -14,8 +14,9 @@ use crate::ending::{Ended, end};
 use crate::police_run::run_police;
 use crate::status::WRONG_WORDS;
 use afdx_frame::{LAST_PORT, LEAST_FRAME, Policing, VlId};
-use afdx_lists::{Watched, tell};
+use afdx_lists::Watched;
 use afdx_police::LinkRule;
+use afdx_text::tell;
 use std::alloc::Global;
 use std::io::{Read, Write};
 

@@ -17,8 +17,9 @@ use crate::list_run::run_list;
 use crate::summary::{NO_COUNTS, Summary};
 use crate::verdict::put_verdict;
 use afdx_frame::{Checked, Side};
-use afdx_lists::{Heading, RunFault, Text, Watched, write_text};
+use afdx_lists::{Heading, RunFault, Watched};
 use afdx_police::{LinkAccount, LinkRule, Reason};
+use afdx_text::{Text, write_text};
 use std::alloc::{AllocError, Global};
 use std::io::{Read, Write};
 

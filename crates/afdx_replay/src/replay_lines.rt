@@ -1,19 +1,25 @@
 //! The lines of the events of a replay.
 
-ghost use Rattle.std.specs.Prelude.{◌≡◌, ℕ, ◌++◌, ◌≤◌, [], if◌then◌else◌, OnOk, IfOk, length};
+ghost use Rattle.std.specs.Prelude.{◌≡◌, ℕ, List, ◌++◌, ◌≤◌, ◌∷◌, [], if◌then◌else◌, OnOk, IfOk, length};
 ghost use Rattle.afdx_frame.specs.Ports.{last_port};
-ghost use Rattle.afdx_lists.specs.Texts.{text_bytes};
+ghost use Rattle.afdx_text.specs.Texts.{text_bytes};
+ghost use Rattle.afdx_config.specs.Rows.{Rows};
+ghost use Rattle.afdx_systems.specs.Handovers.{HandedOver, handed_over};
+ghost use Rattle.afdx_systems.specs.Receptions.{reception_line, is_delivered};
+ghost use Rattle.afdx_systems.specs.StandsFor.{StandsFor};
 ghost use Rattle.afdx_network.specs.Network.{reason_in, ports_in, lost_in};
 ghost use Rattle.afdx_switch.specs.Departures.{as_given, giving_port};
 ghost use Rattle.afdx_replay.specs.PoliceText.{verdict_line};
 ghost use Rattle.afdx_replay.specs.ReplayText.{loss_line, loss_lines, departure_line};
 
-use crate::verdict::{put_verdict, side_letter};
+use crate::verdict::put_verdict;
 use afdx_frame::{LAST_PORT, Side};
-use afdx_lists::Text;
 use afdx_network::Departed;
 use afdx_police::Reason;
+use afdx_receive::Reception;
 use afdx_switch::{PortSet, Verdict};
+use afdx_systems::{Handover, Systems};
+use afdx_text::{OutLine, Text};
 use std::alloc::AllocError;
 
 /// Why the frame was dropped, if it was.
@@ -35,14 +41,7 @@ fn add_loss(text: &mut Text, n: u64, side: Side, port: u8, is_lost: bool) -> Res
     if !is_lost {
         return Ok(0);
     }
-    let side = side_letter(side);
-    text.put(b"L ")?;
-    text.put_number(n)?;
-    text.put(b" ")?;
-    text.put(side.as_bytes())?;
-    text.put(b" ")?;
-    text.put_small(port)?;
-    text.put(b"\n")?;
+    OutLine::Lost { n, side, port }.put(text)?;
     Ok(1)
 }
 
@@ -102,23 +101,57 @@ pub(crate) fn put_departure(text: &mut Text, departed: &Departed) -> Result<(), 
         ≡ departure_line left.too_old left.item.tag left.end departed.now.side
         (giving_port departed.now.departure)) }
 {
-    let side = side_letter(departed.side);
-    let n = departed.departure.tag();
-    let time = departed.departure.time();
-    let port = departed.departure.port();
-    let kind = if departed.departure.too_old() {
-        "T "
-    } else {
-        "D "
-    };
     text.clear();
-    text.put(kind.as_bytes())?;
-    text.put_line_number(n)?;
-    text.put(b" ")?;
-    text.put_time(time)?;
-    text.put(b" ")?;
-    text.put(side.as_bytes())?;
-    text.put(b" ")?;
-    text.put_small(port)?;
-    text.put(b"\n")
+    OutLine::Left {
+        n: departed.departure.tag(),
+        time: departed.departure.time(),
+        side: departed.side,
+        port: departed.departure.port(),
+        too_old: departed.departure.too_old(),
+    }
+    .put(text)
+}
+
+/// Hands a frame over to the system of its port, adds the line of what that made of it, and tells
+/// whether it is a message.
+pub(crate) fn hear(
+    systems: &mut Systems,
+    handover: Handover<'_>,
+    text: &mut Text,
+) -> Result<bool, AllocError>
+    ensures stands { (t : Rows) (before : List HandedOver) → StandsFor t systems.old before →
+        StandsFor t systems.new (handed_over handover.entry ∷ before) }
+    ensures delivered { (t : Rows) (before : List HandedOver) → StandsFor t systems.old before →
+        IfOk result (λ yes. yes ≡ is_delivered t before (handed_over handover.entry)) }
+    ensures line { (t : Rows) (before : List HandedOver) → StandsFor t systems.old before →
+        OnOk result (text_bytes text.new
+        ≡ text_bytes text.old ++ reception_line t before (handed_over handover.entry)) }
+{
+    let (time, n, port) = (handover.time, handover.line, handover.port);
+    match systems.receive(handover) {
+        Ok(Some(Reception::Message { vl, bytes, .. })) => {
+            let system = systems.name_at(port);
+            OutLine::Message {
+                time,
+                system,
+                vl,
+                bytes,
+            }
+            .put(text)?;
+            Ok(true)
+        }
+        Ok(Some(Reception::Dropped(why))) => {
+            let system = systems.name_at(port);
+            OutLine::Unread {
+                time,
+                system,
+                n,
+                why,
+            }
+            .put(text)?;
+            Ok(false)
+        }
+        Ok(None) => Ok(false),
+        Err(error) => Err(error),
+    }
 }

@@ -9,7 +9,7 @@ ghost use Rattle.afdx_config.specs.Lawful.{IsLawful};
 ghost use Rattle.afdx_config.specs.Rows.{Rows};
 ghost use Rattle.afdx_police.specs.Arrival.{Arrival};
 ghost use Rattle.afdx_police.specs.declared.shape.Reason.{Reason as DropReason};
-ghost use Rattle.afdx_lists.specs.Texts.{text_bytes};
+ghost use Rattle.afdx_text.specs.Texts.{text_bytes};
 ghost use Rattle.afdx_lists.specs.Calls.{is_failed_read, is_failed_write};
 ghost use Rattle.afdx_systems.specs.StandsFor as systems;
 ghost use Rattle.afdx_network.specs.Events.{Event, Departure, arrivals_in};
@@ -24,14 +24,15 @@ ghost use Rattle.afdx_replay.specs.ReplayText.{replay_counts, frames_left, with_
 
 use crate::engine::Machine;
 use crate::list_run::run_list;
-use crate::replay_lines::{put_admission, put_departure, reason_of};
+use crate::replay_lines::{hear, put_admission, put_departure, reason_of};
 use crate::summary::{NO_COUNTS, Summary};
 use afdx_config::Tables;
 use afdx_frame::Checked;
-use afdx_lists::{Heading, RunFault, Text, Watched, write_text};
+use afdx_lists::{Heading, RunFault, Watched};
 use afdx_network::{Departed, Network};
 use afdx_police::Reason;
 use afdx_systems::{Handover, Systems};
+use afdx_text::{Text, write_text};
 use std::alloc::{AllocError, Global};
 use std::io::{Read, Write};
 
@@ -118,7 +119,7 @@ impl Replay {
             frame: departure.frame(),
         };
         self.counts.departed += 1;
-        let is_delivered = self.systems.receive(handover, &mut self.text)?;
+        let is_delivered = hear(&mut self.systems, handover, &mut self.text)?;
         if is_delivered {
             self.counts.delivered += 1;
         }

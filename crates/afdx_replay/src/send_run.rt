@@ -4,7 +4,7 @@ ghost use Rattle.std.specs.Prelude.{◌≡◌, ◌<◌, ◌≤◌, ◌+◌, ◌^
 ghost use Rattle.afdx_frame.specs.Times.{latest_listed};
 ghost use Rattle.afdx_lists.specs.Lines.{most_lines, most_reads};
 ghost use Rattle.afdx_config.specs.Rows.{SystemRow};
-ghost use Rattle.afdx_lists.specs.Texts.{text_bytes};
+ghost use Rattle.afdx_text.specs.Texts.{text_bytes};
 ghost use Rattle.afdx_lists.specs.Calls.{is_failed_read, is_failed_write};
 ghost use Rattle.afdx_lists.specs.Watching.{calls_of, device_of, has_ended, has_failed};
 ghost use Rattle.afdx_send.specs.Sender.{StandsFor, IsQuiet, frames_held, last_time, sending_of};
@@ -17,12 +17,12 @@ ghost use Rattle.afdx_replay.specs.SendProgress.{handed_at, HasTold, AreTold, To
 use crate::engine::Machine;
 use crate::list_run::run_list;
 use crate::summary::{NO_COUNTS, Summary};
-use crate::verdict::side_letter;
 use afdx_admit::Admitted;
 use afdx_config::SystemId;
 use afdx_frame::{Side, VlId};
-use afdx_lists::{Handed, RunFault, Text, Watched, write_text};
+use afdx_lists::{Handed, RunFault, Watched};
 use afdx_send::{Emission, SendFault, Sender};
+use afdx_text::{OutLine, Text, write_text};
 use std::alloc::{AllocError, Global};
 use std::io::{Read, Write};
 
@@ -40,16 +40,13 @@ fn put_sent(
     ensures { OnOk result (text_bytes text.new ≡
         text_bytes text.old ++ sent_line side port time bytes.now) }
 {
-    let letter = side_letter(side);
-    text.put(b"R ")?;
-    text.put_time(time)?;
-    text.put(b" ")?;
-    text.put(letter.as_bytes())?;
-    text.put(b" ")?;
-    text.put_small(port)?;
-    text.put(b" ")?;
-    text.put_digits(bytes)?;
-    text.put(b"\n")
+    OutLine::Sent {
+        time,
+        side,
+        port,
+        bytes,
+    }
+    .put(text)
 }
 
 /// Puts the lines of an emission in the place of `text`.
@@ -83,11 +80,11 @@ fn put_refusal(text: &mut Text, n: u64, fault: SendFault) -> Result<(), AllocErr
     ensures { OnOk result (text_bytes text.new ≡ refusal_line n fault) }
 {
     text.clear();
-    text.put(b"# ")?;
-    text.put_number(n)?;
-    text.put(b" ")?;
-    text.put(fault.word().as_bytes())?;
-    text.put(b"\n")
+    OutLine::Refused {
+        n,
+        word: fault.word(),
+    }
+    .put(text)
 }
 
 /// What a run that sends works with.

@@ -1,6 +1,6 @@
 use Rattle.std.proofs.Common.{arith, ◌≡◌, ◌∙◌, ap, refl, ◌++◌, length}
 use Rattle.afdx_switch.specs.Ports.{holds}
-use Rattle.afdx_lists.specs.Texts.{text_bytes}
+use Rattle.afdx_text.specs.Texts.{text_bytes}
 use Rattle.afdx_replay.specs.ReplayText.{loss_lines}
 use Rattle.afdx_replay.proofs.LossLemmas.{all-below, lines-more, count-more, one-more}
 use Rattle.afdx_replay.proofs.replay_lines.add_each_loss.Goals as goal

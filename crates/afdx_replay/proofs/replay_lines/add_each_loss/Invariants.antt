@@ -1,5 +1,5 @@
 use Rattle.std.proofs.Common.{◌≡◌, ◌≤◌, ◌++◌, length}
-use Rattle.afdx_lists.specs.Texts.{text_bytes}
+use Rattle.afdx_text.specs.Texts.{text_bytes}
 use Rattle.afdx_switch.specs.Ports.{holds}
 use Rattle.afdx_replay.specs.ReplayText.{loss_lines}
 use Rattle.afdx_replay.proofs.LossLemmas.{lost_below}

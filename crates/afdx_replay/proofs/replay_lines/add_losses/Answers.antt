@@ -1,6 +1,6 @@
 use Rattle.std.proofs.Common.{◌≡◌, [], sym, refl}
 use Rattle.std.proofs.lemmas.List.{append-nil}
-use Rattle.afdx_lists.specs.Texts.{text_bytes}
+use Rattle.afdx_text.specs.Texts.{text_bytes}
 use Rattle.afdx_network.specs.Network.{ports_in}
 use Rattle.afdx_replay.proofs.LossLemmas.{none-in}
 use Rattle.afdx_replay.proofs.replay_lines.add_losses.Goals as goal

@@ -20,8 +20,8 @@ returns-then-is_delivered-clause-told c t before d stands is counted =
     let handed = handed-is c.args.departed.now d is c.port.result c.time.result c.tag.result
     c.frame.result.bytes.now c.port.ensures c.time.ensures c.tag.ensures c.frame.ensures in
     tells-left t before d _ _ _ _ true left
-    (subst (λ h. systems.StandsFor t c.receive.new.self (h ∷ frames_left before)) handed
-    (c.receive.ensures.stands t (frames_left before) stands)) counted
+    (subst (λ h. systems.StandsFor t c.hear.new.systems (h ∷ frames_left before)) handed
+    (c.hear.ensures.stands t (frames_left before) stands)) counted
     (sym c.if-is_delivered.true
     ∙ c.in_ok-is_delivered.ensures.delivered t (frames_left before) stands
     ∙ ap (λ h. is_delivered t (frames_left before) h) handed) refl
@@ -38,8 +38,8 @@ returns-else-is_delivered-clause-told c t before d stands is counted =
     let handed = handed-is c.args.departed.now d is c.port.result c.time.result c.tag.result
     c.frame.result.bytes.now c.port.ensures c.time.ensures c.tag.ensures c.frame.ensures in
     tells-left t before d _ _ _ _ false left
-    (subst (λ h. systems.StandsFor t c.receive.new.self (h ∷ frames_left before)) handed
-    (c.receive.ensures.stands t (frames_left before) stands)) counted
+    (subst (λ h. systems.StandsFor t c.hear.new.systems (h ∷ frames_left before)) handed
+    (c.hear.ensures.stands t (frames_left before) stands)) counted
     (sym c.if-is_delivered.false
     ∙ c.in_ok-is_delivered.ensures.delivered t (frames_left before) stands
     ∙ ap (λ h. is_delivered t (frames_left before) h) handed) refl
