@@ -1,7 +1,6 @@
 //! Lists are read, line by line, through devices that are watched.
 #![tactic(auto)]
 
-mod buffered;
 mod fault;
 mod fields;
 mod frame_line;
@@ -10,7 +9,6 @@ mod line_reader;
 mod submission_line;
 mod watched;
 
-pub use buffered::Buffered;
 pub use fault::{LineError, LineFault, RunFault};
 pub use frame_line::{Heading, read_frame_line};
 pub use line_reader::LineReader;

@@ -5,19 +5,8 @@ use Rattle.std.proofs.KnownBytes.{Appends-nil, Appends-trans}
 use Rattle.std.specs.Io.KnownBytes.{Appends}
 use Rattle.afdx_lists.specs.Calls.{AppendsFront}
 use Rattle.afdx_text.specs.Telling.{Tells}
+use Rattle.afdx_text.proofs.OutputLemmas.{front-longer, front-more}
 use Rattle.afdx_lists.specs.declared.watched.Watched.{Watched}
-
--- a beginning of the first piece, or the first piece and a beginning of the second
-front-first : (a b : Option (List ℕ)) (x y : List ℕ) → AppendsFront a b x → AppendsFront a b (x ++ y)
-front-first a b x y h = (h.0, h.1 ++ y, ap (λ (l : List ℕ). l ++ y) h.2 ∙ append_assoc h.0 h.1 y, h.3)
-
-front-more : (a b c : Option (List ℕ)) (x y : List ℕ) → Appends a b x → AppendsFront b c y → AppendsFront a c (x ++ y)
-front-more a b c x y first h = (
-  x ++ h.0,
-  h.1,
-  ap (λ (l : List ℕ). x ++ l) h.2 ∙ sym (append_assoc x h.0 h.1),
-  Appends-trans a b c x h.0 first h.3,
-)
 
 -- one piece more
 pub Tells-more : {W : Type 0} (contents : W → Option (List ℕ)) (a b c : Watched W) (x y : List ℕ)
@@ -31,7 +20,7 @@ Tells-more {W = W} contents a b c x y first second = by b.failed refl
     by true is = record {
       whole = λ sound. absurd (cc (sound, second.unasked is, is));
       begun = subst (λ (w : Watched W). AppendsFront (contents a.inner) (contents w.inner) (x ++ y))
-          (sym (second.unasked is)) (front-first _ _ x y first.begun);
+          (sym (second.unasked is)) (front-longer _ _ x y first.begun);
       unasked = unasked;
     }
     by false is = record {

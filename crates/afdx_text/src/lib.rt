@@ -2,6 +2,7 @@
 #![tactic(auto)]
 
 mod digits;
+mod kinds;
 mod line;
 mod numeral;
 mod output;

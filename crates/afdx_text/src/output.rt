@@ -1,6 +1,6 @@
 //! The output of a run: lines that are held until there is no more room for them, before a device.
 
-ghost use Rattle.std.specs.Prelude.{◌≡◌, ◌≤◌, ◌+◌, [], OnOk, OnErr, IfOk, IfErr, false, true, nat_eq};
+ghost use Rattle.std.specs.Prelude.{◌≡◌, ◌≤◌, ◌+◌, [], OnOk, OnErr, IfOk, IfErr, false, true, is_err, nat_eq};
 ghost use Rattle.std.specs.Io.KnownBytes.{Appends, Keeps};
 ghost use Rattle.afdx_lists.specs.Calls.{AppendsFront, is_failed_write};
 ghost use Rattle.afdx_text.specs.OutLines.{line_text};
@@ -64,7 +64,8 @@ impl<W: Write + Drop> Output<W> {
     /// device has failed; one that failed before is not asked.
     pub fn flush(&mut self) -> Result<(), RunFault>
         ensures none_left { device_has_failed self.new ≡ false → held_bytes self.new ≡ [] }
-        ensures failed { device_has_failed self.new ≡ is_failed_write result }
+        ensures failed { device_has_failed self.new ≡ is_err result }
+        ensures fault { IfErr result (λ fault. fault ≡ RunFault.Write) }
         ensures unasked { device_has_failed self.old ≡ true → self.new ≡ self.old }
         ensures bytes { Keeps (written W.contents self.old) (written W.contents self.new) }
     {
@@ -123,9 +124,7 @@ impl<W: Write + Drop> Output<W> {
         ensures fault { IfErr result IsOfOutput }
         ensures at_once { is_at_once self.new ≡ is_at_once self.old }
     {
-        let Some(most) = line.longest() else {
-            return Err(RunFault::Memory);
-        };
+        let most = line.room_wanted()?;
         if !self.held.has_room(most) {
             self.make_room(most)?;
         }

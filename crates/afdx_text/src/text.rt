@@ -2,7 +2,8 @@
 
 ghost use Rattle.std.specs.Prelude.{◌≡◌, ◌≤◌, ◌<◌, ◌+◌, ◌++◌, [], OnOk, OnErr, is_ok, true, length, take, drop, vec_len, IsTrue, ◌↔◌};
 
-use crate::line::{Kept, OutLine};
+use crate::kinds::Kept;
+use crate::line::OutLine;
 use std::alloc::{AllocError, Global};
 
 /// Lines that are added at its end, in memory that is used again after each `clear`.
@@ -71,11 +72,8 @@ impl Text {
         ensures bytes { text_bytes self.new ≡ text_bytes self.old }
         ensures room { OnOk result (self.new.end + more ≤ vec_len self.new.room) }
     {
-        let length = match self.end.checked_add(more) {
-            Some(least) => least.saturating_add(256),
-            None => return Err(AllocError),
-        };
-        self.room.resize(length, 0)
+        let least = self.end.saturating_add(more);
+        self.room.resize(least.saturating_add(256), 0)
     }
 
     /// Whether there is room for so many more bytes.
@@ -119,9 +117,7 @@ impl OutLine<'_> {
         ensures same { OnErr result (text_bytes text.new ≡ text_bytes text.old) }
         ensures sure { HasRoomFor text.old self.now → is_ok result ≡ true }
     {
-        let Some(most) = self.longest() else {
-            return Err(AllocError);
-        };
+        let most = self.room_wanted()?;
         text.make_room(most)?;
         text.add(self);
         Ok(())

@@ -7,12 +7,7 @@ pub returns-clause-bytes : goal.returns-clause-bytes
 unfolding text_bytes
 returns-clause-bytes c =
     let text = c.args.self.now in
-    grown _ text.room.items _ _ text.end c.saturating_add-length.result
+    grown _ text.room.items _ _ text.end c.saturating_add.result
     (omega (arith, text.within, text.room.ok.0))
-    (omega (
-      arith,
-      c.in-Some.ensures,
-      c.checked_add.ensures,
-      c.saturating_add-length.ensures,
-      c.ranges.more,
-    )) c.resize.ensures.items
+    (omega (arith, c.saturating_add.ensures, c.saturating_add-least.ensures, text.within, text.room.ok.0))
+    c.resize.ensures.items
