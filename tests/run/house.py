@@ -33,6 +33,7 @@ MEMORY = {
     "crates/afdx_replay/src/send_run.rt": {"refusal_of"},
     "crates/afdx_send/src/working.rt": {"accept"},
     "crates/afdx_systems/src/end_system.rt": {"pass_on"},
+    "crates/afdx_text/src/line.rt": {"room_wanted"},
 }
 SCRIPTS = ["tests/**/*.py", "tests/**/*.sh", "tests/**/*.c", "examples/*.py"]
 SCRIPTS += ["bench/*", "bin/*", "tools/*", ".ci/*"]

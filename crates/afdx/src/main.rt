@@ -10,7 +10,7 @@ use crate::explaining::{Cause, explain, is_asked, line_of, print_meaning};
 use afdx_explain::meaning_of;
 use afdx_replay::status::{DONE, NO_DEVICE_OR_MEMORY, WRONG_WORDS};
 use afdx_replay::{
-    Buffered, CommandedRule, Ended, Policing, RunFault, Watched, check, finish, police_and_count,
+    CommandedRule, Ended, Output, Policing, RunFault, Watched, check, finish, police_and_count,
     replay_and_count, send_and_count,
 };
 use clap::error::ErrorKind;
@@ -131,7 +131,7 @@ fn end_run<R: Drop, W: Write + Drop, E: Write + Drop>(
     config: &[u8],
     ended: Ended,
     input: Watched<Traced<R>>,
-    mut output: Watched<Buffered<Traced<W>>>,
+    mut output: Output<Traced<W>>,
     mut errors: Watched<Heard<E>>,
 ) -> u8 {
     let status = finish(ended.status, &mut output, &mut errors);
@@ -140,7 +140,7 @@ fn end_run<R: Drop, W: Write + Drop, E: Write + Drop>(
         Some(path) => path,
     };
     let read = input.into_inner().reason();
-    let written = output.into_inner().into_device().reason();
+    let written = output.into_device().reason();
     let cause = Cause {
         config,
         path,
@@ -180,11 +180,10 @@ fn police_from<R: Read + Drop>(rt: &HostRuntime, matches: &ArgMatches<'_>, input
         return WRONG_WORDS;
     };
     let device = Traced::new(rt.stdout());
-    let Ok(buffered) = Buffered::new(rt.alloc(), output_room(matches), device) else {
+    let Ok(mut output) = Output::new(rt.alloc(), output_room(matches), device) else {
         return memory(rt);
     };
     let mut input = Watched::new(Traced::new(input));
-    let mut output = Watched::new(buffered);
     let mut errors = Watched::new(Heard::new(rt.stderr()));
     let ended = police_and_count(rt.alloc(), &given, &mut input, &mut output, &mut errors);
     end_run(rt, matches, &[], ended, input, output, errors)
@@ -211,11 +210,10 @@ fn replay_from<R: Read + Drop>(
 ) -> u8 {
     let admission = !matches.get_flag("no-admission");
     let device = Traced::new(rt.stdout());
-    let Ok(buffered) = Buffered::new(rt.alloc(), output_room(matches), device) else {
+    let Ok(mut output) = Output::new(rt.alloc(), output_room(matches), device) else {
         return memory(rt);
     };
     let mut input = Watched::new(Traced::new(input));
-    let mut output = Watched::new(buffered);
     let mut errors = Watched::new(Heard::new(rt.stderr()));
     let ended = replay_and_count(
         rt.alloc(),
@@ -257,11 +255,10 @@ fn send_from<R: Read + Drop>(
         return WRONG_WORDS;
     };
     let device = Traced::new(rt.stdout());
-    let Ok(buffered) = Buffered::new(rt.alloc(), output_room(matches), device) else {
+    let Ok(mut output) = Output::new(rt.alloc(), output_room(matches), device) else {
         return memory(rt);
     };
     let mut input = Watched::new(Traced::new(input));
-    let mut output = Watched::new(buffered);
     let mut errors = Watched::new(Heard::new(rt.stderr()));
     let ended = send_and_count(
         rt.alloc(),

@@ -7,6 +7,3 @@ pub mod Fields
 pub mod Forms
 pub mod FrameLines
 pub mod SubmissionLines
-pub mod Texts
-pub mod Telling
-pub mod Gathered

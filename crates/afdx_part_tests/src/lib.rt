@@ -1,5 +1,5 @@
 //! Tests of what a run stands on: frames, policing, output ports, configurations, admission,
-//! bounds, lists, and what explains a line.
+//! bounds, lists, lines of the output, and what explains a line.
 #![tactic(auto)]
 
 #[cfg(test)]
@@ -20,3 +20,5 @@ mod lists;
 mod police;
 #[cfg(test)]
 mod port;
+#[cfg(test)]
+mod text;

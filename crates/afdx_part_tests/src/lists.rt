@@ -1,5 +1,4 @@
-//! Lines that are read, text that is written, and devices that move little at a time and fail.
+//! Lines that are read, also from devices that move little at a time and fail.
 
 mod reading;
 mod said;
-mod text;

@@ -35,7 +35,7 @@ use Rattle.afdx_run.specs.Listed.{frames, arrivals_of}
 use Rattle.afdx_replay.specs.declared.summary.Summary.{Summary}
 use Rattle.afdx_run.specs.Stops.{StopsAt}
 use Rattle.afdx_run.proofs.RunLemmas.{IsDone, GaveLines-start}
-use Rattle.afdx_replay.proofs.TextLemmas.{front-whole, front-more}
+use Rattle.afdx_replay.proofs.TextLemmas.{front-whole, front-more, front-longer}
 
 abbrev pub hand : Side → ℕ → ℕ → ℕ → List ℕ → HandedOver
 hand side port time line bytes = record { side = side; port = port; time = time; line = line; bytes = bytes }
@@ -68,14 +68,31 @@ module _ (value : Departed) (d : Departure) (h : network.Hands value d) where
       ∙ ap (λ k. hand d.side d.port d.turn.end d.turn.entry.item.tag k) all
 
 module _ (t : Rows) (before : List Event) (d : Departure) where
-  -- a departure that was too old
-  pub tells-old : (s : Systems) (old counts : Summary) (lines : List ℕ) → d.turn.too_old ≡ true
+  -- the lines of a departure that was too old, and of one whose frame came to its system
+  old-lines : d.turn.too_old ≡ true →
+      departure_line true d.turn.entry.item.tag d.turn.end d.side d.port ≡ lines_after t before (Left d)
+  old-lines e = sym (append_nil (departure_line true d.turn.entry.item.tag d.turn.end d.side d.port))
+      ∙ ap (λ b. departure_line b d.turn.entry.item.tag d.turn.end d.side d.port
+      ++ heard b t (frames_left before) (handed_over d)) (sym e)
+    where
+      append_nil : (xs : List ℕ) → xs ++ [] ≡ xs
+      append_nil [] = refl
+      append_nil (x ∷ xs) = ap (λ (ys : List ℕ). x ∷ ys) (append_nil xs)
+
+  pub left-lines : d.turn.too_old ≡ false →
+      departure_line false d.turn.entry.item.tag d.turn.end d.side d.port
+      ++ reception_line t (frames_left before) (handed_over d) ≡ lines_after t before (Left d)
+  left-lines e = ap (λ b. departure_line b d.turn.entry.item.tag d.turn.end d.side d.port
+      ++ heard b t (frames_left before) (handed_over d)) (sym e)
+
+  -- it is told
+  pub tells-old : (s : Systems) (old counts : Summary) (a b : Option (List ℕ)) → d.turn.too_old ≡ true
       → systems.StandsFor t s (frames_left before) → old ≡ replay_counts t before →
       counts ≡ with_departure old true false
-      → lines ≡ departure_line true d.turn.entry.item.tag d.turn.end d.side d.port
-      → TellsDeparture t s counts before d lines
+      → Appends a b (departure_line true d.turn.entry.item.tag d.turn.end d.side d.port)
+      → TellsDeparture t s counts before d a b
   unfolding replay_counts
-  tells-old s old counts lines e stands counted more is = record {
+  tells-old s old counts a b e stands counted more written = record {
     systems_are = subst (λ b.
         systems.StandsFor t s (if b then frames_left before else handed_over d
         ∷ frames_left before)) (sym e) stands;
@@ -83,26 +100,18 @@ module _ (t : Rows) (before : List Event) (d : Departure) where
         with_departure c true (is_delivered t (frames_left before) (handed_over d))) counted
         ∙ ap (λ b. with_departure (replay_counts t before) b
         (is_delivered t (frames_left before) (handed_over d))) (sym e);
-    lines_are =
-        is ∙ sym (append_nil (departure_line true d.turn.entry.item.tag d.turn.end d.side d.port))
-        ∙ ap (λ b. departure_line b d.turn.entry.item.tag d.turn.end d.side d.port
-        ++ heard b t (frames_left before) (handed_over d)) (sym e);
+    written = subst (λ x. Appends a b x) (old-lines e) written;
   }
-    where
-      append_nil : (xs : List ℕ) → xs ++ [] ≡ xs
-      append_nil [] = refl
-      append_nil (x ∷ xs) = ap (λ (ys : List ℕ). x ∷ ys) (append_nil xs)
 
-  -- and one whose frame came to its system
-  pub tells-left : (s : Systems) (old counts : Summary) (lines : List ℕ) (delivered : Bool)
+  pub tells-left : (s : Systems) (old counts : Summary) (a b : Option (List ℕ)) (delivered : Bool)
       → d.turn.too_old ≡ false → systems.StandsFor t s (handed_over d ∷ frames_left before)
       → old ≡ replay_counts t before →
       delivered ≡ is_delivered t (frames_left before) (handed_over d) → counts ≡ with_departure old false delivered →
-      lines ≡ departure_line false d.turn.entry.item.tag d.turn.end d.side d.port
-      ++ reception_line t (frames_left before) (handed_over d)
-      → TellsDeparture t s counts before d lines
+      Appends a b (departure_line false d.turn.entry.item.tag d.turn.end d.side d.port
+      ++ reception_line t (frames_left before) (handed_over d))
+      → TellsDeparture t s counts before d a b
   unfolding replay_counts
-  tells-left s old counts lines delivered e stands counted heard_is more is = record {
+  tells-left s old counts a b delivered e stands counted heard_is more written = record {
     systems_are = subst (λ b.
         systems.StandsFor t s (if b then frames_left before else handed_over d
         ∷ frames_left before)) (sym e) stands;
@@ -111,16 +120,20 @@ module _ (t : Rows) (before : List Event) (d : Departure) where
         ∙ ap (λ m. with_departure (replay_counts t before) false m) heard_is
         ∙ ap (λ b. with_departure (replay_counts t before) b
         (is_delivered t (frames_left before) (handed_over d))) (sym e);
-    lines_are = is ∙ ap (λ b. departure_line b d.turn.entry.item.tag d.turn.end d.side d.port
-        ++ heard b t (frames_left before) (handed_over d)) (sym e);
+    written = subst (λ x. Appends a b x) (left-lines e) written;
   }
 
-pub heard-lines : (t : Rows) (before : List HandedOver) (h other : HandedOver)
-    (text middle line : List ℕ) → text ≡ middle ++ reception_line t before h → middle ≡ line
-    → h ≡ other → text ≡ line ++ reception_line t before other
-heard-lines t before h other text middle line e m s = e
-    ∙ ap (λ (xs : List ℕ). xs ++ reception_line t before h) m
-    ∙ ap (λ (z : HandedOver). line ++ reception_line t before z) s
+-- a line, and what is told of the frame behind it
+module _ (t : Rows) (before : List HandedOver) (h other : HandedOver) (a m b : Option (List ℕ))
+    (line : List ℕ) (same : h ≡ other) (first : Appends a m line) where
+  pub heard-whole : Appends m b (reception_line t before h) → Appends a b (line ++ reception_line t before other)
+  heard-whole more = Appends-trans a m b line (reception_line t before other) first
+      (subst (λ z. Appends m b (reception_line t before z)) same more)
+
+  pub heard-front : AppendsFront m b (reception_line t before h)
+      → AppendsFront a b (line ++ reception_line t before other)
+  heard-front more = front-more a m b line (reception_line t before other) first
+      (subst (λ z. AppendsFront m b (reception_line t before z)) same more)
 
 pub text-start : (t : Rows) → replay_text t [] ≡ []
 unfolding replay_text
@@ -143,25 +156,25 @@ counts-start t = refl
 -- a departure more is told
 pub told-left : (t : Rows) (n after : Network) (s systems_after : Systems)
     (counts counts_after : Summary) (old middle new : Option (List ℕ)) (before : List Event)
-    (d : Departure) (lines : List ℕ) →
+    (d : Departure) →
     HasTold t n s counts old middle before → network.StandsFor t after (Left d ∷ before)
-    → TellsDeparture t systems_after counts_after before d lines → Appends middle new lines →
+    → TellsDeparture t systems_after counts_after before d middle new →
     HasTold t after systems_after counts_after old new (Left d ∷ before)
-told-left t n after s systems_after counts counts_after old middle new before d lines h stands tells w = record {
+told-left t n after s systems_after counts counts_after old middle new before d h stands tells = record {
   switches_are = stands;
   systems_are = tells.systems_are;
   counted = tells.counted;
   written = subst (λ x. Appends old new x) (sym (text-more t (Left d) before))
       (Appends-trans old middle new (replay_text t before) (lines_after t before (Left d)) h.written
-      (subst (λ x. Appends middle new x) tells.lines_are w));
+      tells.written);
 }
 
 -- the lines of a verdict that tells an admission
-pub lines-told : (v : Verdict) (c : Admission) (text : List ℕ) → network.Tells v c
-    → text ≡ verdict_line c.arrival.tag c.arrival.side (network.reason_in v)
-    ++ loss_lines c.arrival.tag c.arrival.side (network.lost_in v) → text ≡ admission_lines c
-lines-told v c text tells is =
-    is ∙ ap (λ r. verdict_line c.arrival.tag c.arrival.side r
+pub lines-told : (v : Verdict) (c : Admission) → network.Tells v c
+    → verdict_line c.arrival.tag c.arrival.side (network.reason_in v)
+    ++ loss_lines c.arrival.tag c.arrival.side (network.lost_in v) ≡ admission_lines c
+lines-told v c tells =
+    ap (λ r. verdict_line c.arrival.tag c.arrival.side r
     ++ loss_lines c.arrival.tag c.arrival.side (network.lost_in v)) tells.reason
     ∙ ap (λ l. verdict_line c.arrival.tag c.arrival.side c.reason
     ++ loss_lines c.arrival.tag c.arrival.side l) tells.lost
@@ -206,11 +219,6 @@ text-later t (e ∷ later) events =
           ∙ append_assoc (replay_text t events) r.0 (lines_after t (later ++ events) e),
     )
 
-front-longer : (old new : Option (List ℕ)) (text more : List ℕ) → AppendsFront old new text
-    → AppendsFront old new (text ++ more)
-front-longer old new text more h =
-    (h.0, h.1 ++ more, ap (λ (xs : List ℕ). xs ++ more) h.2 ∙ append_assoc h.0 h.1 more, h.3)
-
 -- what begins the text of the events so far begins that of all events
 pub some-of : (t : Rows) (n : Network) (events : List Event) (old new : Option (List ℕ))
     → network.StandsFor t n events → AppendsFront old new (replay_text t events)
@@ -229,17 +237,15 @@ told-some t n s counts old new events h =
     some-of t n events old new h.switches_are (front-whole old new (replay_text t events) h.written)
 
 -- a beginning of the lines of one event more is written
-pub begun-left : (t : Rows) (n after : Network) (s systems_after : Systems)
-    (counts counts_after : Summary) (old middle new : Option (List ℕ)) (before : List Event)
-    (d : Departure) (lines : List ℕ) →
+pub begun-left : (t : Rows) (n after : Network) (s : Systems) (counts : Summary)
+    (old middle new : Option (List ℕ)) (before : List Event) (d : Departure) →
     HasTold t n s counts old middle before → network.StandsFor t after (Left d ∷ before)
-    → TellsDeparture t systems_after counts_after before d lines → AppendsFront middle new lines →
+    → AppendsFront middle new (lines_after t before (Left d)) →
     WritesSome t old new (arrivals_in before)
-begun-left t n after s systems_after counts counts_after old middle new before d lines h stands tells w =
+begun-left t n after s counts old middle new before d h stands w =
     some-of t after (Left d ∷ before) old new stands
     (subst (λ x. AppendsFront old new x) (sym (text-more t (Left d) before))
-    (front-more old middle new (replay_text t before) (lines_after t before (Left d)) h.written
-    (subst (λ x. AppendsFront middle new x) tells.lines_are w)))
+    (front-more old middle new (replay_text t before) (lines_after t before (Left d)) h.written w))
 
 pub begun-came : (t : Rows) (n after : Network) (s : Systems) (counts : Summary)
     (old middle new : Option (List ℕ)) (before : List Event) (c : Admission) (lines : List ℕ) →
@@ -344,10 +350,6 @@ room-less counts held more n le h =
       turns = omega (arith, le, h.turns);
       messages = h.messages;
     }
-
-pub on-err : {V E : Type 0} (r : Result V E) (P : Type 0) → P → OnErr r P
-on-err (Ok v) P p = tt
-on-err (Err e) P p = p
 
 -- ---- where a replay stops
 

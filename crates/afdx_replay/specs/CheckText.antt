@@ -1,7 +1,6 @@
 -- What the command `check` writes of some tables: the bounds of each output port that has a system,
 -- and the answer.
-use Rattle.std.specs.Prelude.{ℕ, zero, suc, ◌≡◌, true, List, [], ◌++◌, Option, Some, None, is_some, codes, if◌then◌else◌}
-use Rattle.std.specs.Fmt.{decimal}
+use Rattle.std.specs.Prelude.{ℕ, zero, suc, ◌≡◌, true, List, [], ◌++◌, Option, Some, None, is_some, if◌then◌else◌}
 use Rattle.std.specs.Io.KnownBytes.{Appends}
 use Rattle.afdx_frame.specs.Ports.{last_port}
 use Rattle.afdx_config.specs.Rows.{Rows}
@@ -13,23 +12,17 @@ use Rattle.afdx_admit.specs.FaultText.{fault_text}
 use Rattle.afdx_admit.specs.Known.{name_of}
 use Rattle.afdx_admit.specs.Lines.{high_bound_at, low_bound_at, buffer_need_at, first_false, lines}
 use Rattle.afdx_lists.specs.Calls.{AppendsFront}
-use Rattle.afdx_lists.specs.Telling.{TellsLine}
+use Rattle.afdx_text.specs.OutLines.{bounds_line, admitted_line, denied_line}
+use Rattle.afdx_text.specs.Telling.{TellsLine}
 use Rattle.afdx_lists.specs.declared.watched.Watched.{Watched}
 use Rattle.afdx_lists.specs.Watching.{device_of, has_failed}
 use Rattle.afdx_replay.specs.Refusals.{RefusesConfig, WantsMemory}
-
--- a bound in ns, or a dash where there is none
-abbrev pub bound_text : Option ℕ → List ℕ
-bound_text (Some bound) = decimal bound
-bound_text None = codes "-"
 
 -- the high and the low bound in ns, and the bytes of buffer that are needed, at a port of the
 -- switch
 abbrev pub port_line : Rows → ℕ → List ℕ
 port_line t port =
-    codes "P " ++ decimal port ++ codes " " ++ decimal (high_bound_at t port) ++ codes " "
-    ++ bound_text (low_bound_at t port)
-    ++ codes " " ++ decimal (buffer_need_at t port) ++ codes "\n"
+    bounds_line port (high_bound_at t port) (low_bound_at t port) (buffer_need_at t port)
 
 abbrev pub line_if_used : Rows → ℕ → List ℕ
 line_if_used t port = if is_some (system_at_port t.systems port) then port_line t port else []
@@ -41,8 +34,8 @@ used_port_lines t (suc count) = used_port_lines t count ++ line_if_used t (suc c
 
 -- admitted, or the first line of admission that is false
 abbrev pub answer_line : Rows → Option AdmitFault → List ℕ
-answer_line t None = codes "ok\n"
-answer_line t (Some fault) = codes "no " ++ fault_text (name_of t fault) fault ++ codes "\n"
+answer_line t None = admitted_line
+answer_line t (Some fault) = denied_line (fault_text (name_of t fault) fault)
 
 abbrev pub check_text : Rows → List ℕ
 check_text t = used_port_lines t last_port ++ answer_line t (first_false (lines t))

@@ -1,5 +1,5 @@
 -- How a command ends that runs over a list, and what a command does that polices one link.
-use Rattle.std.specs.Prelude.{ℕ, ◌≡◌, ◌≤◌, List, ◌++◌, Option, Result, Ok, Err, OnOk, OnErr, true, codes, decimal}
+use Rattle.std.specs.Prelude.{ℕ, ◌≡◌, ◌≤◌, Bool, List, ◌++◌, Option, Result, Ok, Err, OnOk, OnErr, true, codes, decimal}
 use Rattle.std.specs.Result.{result_ok}
 use Rattle.afdx_frame.specs.Lengths.{least_frame}
 use Rattle.afdx_frame.specs.declared.link.Policing.TheVariants.{Byte}
@@ -9,7 +9,7 @@ use Rattle.afdx_lists.specs.declared.watched.Watched.{Watched}
 use Rattle.afdx_lists.specs.Watching.{has_ended, has_failed}
 use Rattle.afdx_lists.specs.Calls.{is_failed_read, is_failed_write}
 use Rattle.afdx_lists.specs.Faults.{status_of}
-use Rattle.afdx_lists.specs.Telling.{TellsLine}
+use Rattle.afdx_text.specs.Telling.{TellsLine}
 use Rattle.afdx_replay.specs.declared.ending.Ended.{Ended}
 use Rattle.afdx_replay.specs.declared.police_command.CommandedRule.{CommandedRule}
 use Rattle.afdx_replay.specs.declared.summary.Summary.{Summary}
@@ -44,9 +44,8 @@ status_of_answer (Err fault) = status_of fault
 -- A command ends as its run answered: that decides the exit status, the counts that are handed out
 -- and what the error output is told, which a run that is done leaves alone, and says whether the
 -- input came to its end and which device failed.
-pub record EndsAs {R O E : Type 0} (error_bytes : E →
-    Option (List ℕ)) (input : Watched R) (output : Watched O)
-    (old_errors new_errors : Watched E) (ended_with : Ended)
+pub record EndsAs {R E : Type 0} (error_bytes : E → Option (List ℕ)) (input : Watched R)
+    (output_failed : Bool) (old_errors new_errors : Watched E) (ended_with : Ended)
     (answer : Result Summary RunFault) : Type 0 where
   pub status_is : ended_with.status ≡ status_of_answer answer
   pub summary_is : ended_with.summary ≡ result_ok answer
@@ -54,7 +53,7 @@ pub record EndsAs {R O E : Type 0} (error_bytes : E →
   pub silent : OnOk answer (new_errors ≡ old_errors)
   pub ended : OnOk answer (has_ended input ≡ true)
   pub read : has_failed input ≡ is_failed_read answer
-  pub write : has_failed output ≡ is_failed_write answer
+  pub write : output_failed ≡ is_failed_write answer
 
 -- a word, a number, and what follows
 abbrev pub counted : (word : List ℕ) → ℕ → (rest : List ℕ) → List ℕ

@@ -1,31 +1,14 @@
 -- The text of a run that polices one link: a line for each arrival. A list of arrivals has the
 -- newest first.
-use Rattle.std.specs.Prelude.{ℕ, suc, Bool, List, [], ◌∷◌, ◌++◌, Option, Some, None, codes}
+use Rattle.std.specs.Prelude.{ℕ, suc, Bool, List, [], ◌∷◌, ◌++◌, Option}
 use Rattle.std.specs.Prelude.{is_none, is_some, if◌then◌else◌}
-use Rattle.std.specs.Fmt.{decimal}
-use Rattle.afdx_frame.specs.declared.link.Side.{Side}
-use Rattle.afdx_frame.specs.declared.link.Side.TheVariants.{A, B}
 use Rattle.afdx_police.specs.declared.shape.Reason.{Reason}
 pub use Rattle.afdx_police.specs.Words.{reason_word as reason_text}
 use Rattle.afdx_police.specs.Arrival.{Arrival}
 use Rattle.afdx_police.specs.Rule.{Rule}
 use Rattle.afdx_police.specs.Verdicts.{verdict_in}
 use Rattle.afdx_replay.specs.declared.summary.Summary.{Summary}
-
-abbrev pub side_text : Side → List ℕ
-side_text A = codes "A"
-side_text B = codes "B"
-
--- no reason to drop a frame: it is accepted
-abbrev pub verdict_text : Option Reason → List ℕ
-verdict_text None = codes "accept"
-verdict_text (Some reason) = codes "drop " ++ reason_text reason
-
--- the line of a verdict on the frame of line n
-abbrev pub verdict_line : ℕ → Side → Option Reason → List ℕ
-verdict_line n side reason =
-    codes "V " ++ decimal n ++ codes " " ++ side_text side ++ codes " " ++ verdict_text reason
-    ++ codes "\n"
+pub use Rattle.afdx_text.specs.OutLines.{side_text, verdict_text, verdict_line}
 
 -- each arrival's line has the verdict on it after those before it
 unfoldable pub text_of : Rule → List Arrival → List ℕ

@@ -9,7 +9,7 @@ use Rattle.afdx_admit.specs.FaultText as admit_fault
 use Rattle.afdx_admit.specs.Known.{name_of}
 use Rattle.afdx_admit.specs.Lines.{first_false, lines}
 use Rattle.afdx_admit.specs.declared.fault.AdmitFault.{AdmitFault}
-use Rattle.afdx_lists.specs.Telling.{Tells, TellsLine}
+use Rattle.afdx_text.specs.Telling.{Tells, TellsLine}
 use Rattle.afdx_lists.specs.declared.watched.Watched.{Watched}
 
 -- the line of a configuration's fault

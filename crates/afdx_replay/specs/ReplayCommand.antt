@@ -35,14 +35,15 @@ IsNotReplayed error_bytes config admission old_errors new_errors status =
     ⊎ WantsMemory error_bytes old_errors new_errors status
 
 -- the command ends as a run over the list answered, or nothing is read and nothing is written
-abbrev pub EndsReplay : {R O E : Type 0} → (R → Option (List ℕ)) → (O → Option (List ℕ)) →
-    (E → Option (List ℕ)) → List ℕ → Bool → (old_input new_input : Watched R) →
-    (old_output new_output : Watched O) → (old_errors new_errors : Watched E) → Ended → Type 0
-EndsReplay remaining contents error_bytes config admission old_input new_input
+abbrev pub EndsReplay : {R O E : Type 0} → (R → Option (List ℕ)) → (written : O → Option (List ℕ)) →
+    (failed : O → Bool) → (E → Option (List ℕ)) → List ℕ → Bool →
+    (old_input new_input : Watched R) → (old_output new_output : O) →
+    (old_errors new_errors : Watched E) → Ended → Type 0
+EndsReplay remaining written failed error_bytes config admission old_input new_input
     old_output new_output old_errors new_errors ended =
     ((answer : Result Summary RunFault)
-    × EndsAs error_bytes new_input new_output old_errors new_errors ended answer
+    × EndsAs error_bytes new_input (failed new_output) old_errors new_errors ended answer
     × Replays config admission (remaining (device_of old_input)) (remaining (device_of new_input))
-    (contents (device_of old_output)) (contents (device_of new_output)) answer)
+    (written old_output) (written new_output) answer)
     ⊎ (IsNotReplayed error_bytes config admission old_errors new_errors ended.status
     × (new_input ≡ old_input) × (new_output ≡ old_output))

@@ -1,15 +1,15 @@
 -- The text of a replay: the lines of each event, in the order of the events. A list of events has
 -- the latest first.
-use Rattle.std.specs.Prelude.{ℕ, ◌+◌, Bool, true, false, Option, Some, None, List, [], ◌∷◌, ◌++◌, codes, length, if◌then◌else◌}
-use Rattle.std.specs.Fmt.{decimal}
+use Rattle.std.specs.Prelude.{ℕ, ◌+◌, Bool, true, false, Option, Some, None, List, [], ◌∷◌, ◌++◌, length, if◌then◌else◌}
 use Rattle.afdx_frame.specs.declared.link.Side.{Side}
 use Rattle.afdx_config.specs.Rows.{Rows}
 use Rattle.afdx_police.specs.declared.shape.Reason.{Reason}
 use Rattle.afdx_systems.specs.Handovers.{HandedOver}
 use Rattle.afdx_systems.specs.Receptions.{reception_line, is_delivered}
 use Rattle.afdx_network.specs.Events.{Event, Came, Left, Admission, Departure}
-use Rattle.afdx_replay.specs.PoliceText.{side_text, verdict_line}
+use Rattle.afdx_replay.specs.PoliceText.{verdict_line}
 use Rattle.afdx_replay.specs.declared.summary.Summary.{Summary}
+pub use Rattle.afdx_text.specs.OutLines.{loss_line, letter_of, departure_line}
 
 -- the frame of a departure, as its port's system gets it
 abbrev pub handed_over : Departure → HandedOver
@@ -28,12 +28,6 @@ frames_left (Came c ∷ before) = frames_left before
 frames_left (Left d ∷ before) =
     if d.turn.too_old then frames_left before else handed_over d ∷ frames_left before
 
--- a copy of the frame of line n was lost at a port
-abbrev pub loss_line : ℕ → Side → ℕ → List ℕ
-loss_line n side port =
-    codes "L " ++ decimal n ++ codes " " ++ side_text side ++ codes " " ++ decimal port
-    ++ codes "\n"
-
 abbrev pub loss_lines : ℕ → Side → List ℕ → List ℕ
 loss_lines n side [] = []
 loss_lines n side (port ∷ ports) = loss_line n side port ++ loss_lines n side ports
@@ -42,16 +36,6 @@ abbrev pub admission_lines : Admission → List ℕ
 admission_lines c =
     verdict_line c.arrival.tag c.arrival.side c.reason
     ++ loss_lines c.arrival.tag c.arrival.side c.lost
-
-abbrev pub letter_of : (is_too_old : Bool) → List ℕ
-letter_of false = codes "D "
-letter_of true = codes "T "
-
--- the frame of line n left an output port, or was dropped there as too old
-abbrev pub departure_line : Bool → ℕ → ℕ → Side → ℕ → List ℕ
-departure_line is_too_old n time side port =
-    letter_of is_too_old ++ decimal n ++ codes " " ++ decimal time ++ codes " "
-    ++ side_text side ++ codes " " ++ decimal port ++ codes "\n"
 
 -- what the port's system makes of it, if it left
 abbrev pub heard : Bool → Rows → List HandedOver → HandedOver → List ℕ

@@ -79,14 +79,14 @@ pub record ToldAll
   pub counted : counts ≡ replay_counts t (events_of t past)
   pub written : Appends old new (replay_text t (events_of t past))
 
--- a departure that comes after these is told: its frame came to its system, it is counted, and
--- these are its lines
+-- a departure that comes after these is told: its frame came to its system, it is counted, and its
+-- lines are written
 pub record TellsDeparture
     (t : Rows) (s : Systems) (counts : Summary) (before : List Event) (d : Departure)
-    (lines : List ℕ) : Type 0 where
+    (old new : Known) : Type 0 where
   pub systems_are : systems.StandsFor t s (frames_left (Left d ∷ before))
   pub counted : counts ≡ replay_counts t (Left d ∷ before)
-  pub lines_are : lines ≡ lines_after t before (Left d)
+  pub written : Appends old new (lines_after t before (Left d))
 
 -- there is room for more counts: n arrivals came, and so many frames are held
 pub record HasRoom (counts : Summary) (held n : ℕ) : Type 0 where

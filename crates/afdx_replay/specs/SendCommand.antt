@@ -1,9 +1,9 @@
 -- What the command `send` does.
-use Rattle.std.specs.Prelude.{ℕ, ◌≡◌, ◌⊎◌, List, Option, Some, None, Result, IfSome, codes, slice_get}
+use Rattle.std.specs.Prelude.{ℕ, ◌≡◌, ◌⊎◌, Bool, List, Option, Some, None, Result, IfSome, codes, slice_get}
 use Rattle.afdx_config.specs.Admission.{IsAdmitted}
 use Rattle.afdx_config.specs.Reading.{Spells, system_named}
 use Rattle.afdx_config.specs.Rows.{SystemRow, Rows}
-use Rattle.afdx_lists.specs.Telling.{Tells}
+use Rattle.afdx_text.specs.Telling.{Tells}
 use Rattle.afdx_lists.specs.declared.fault.RunFault.{RunFault}
 use Rattle.afdx_lists.specs.declared.watched.Watched.{Watched}
 use Rattle.afdx_lists.specs.Watching.{device_of}
@@ -58,14 +58,15 @@ IsNotSent error_bytes config name old_errors new_errors status =
     ⊎ WantsMemory error_bytes old_errors new_errors status
 
 -- the command ends as a run over the list answered, or nothing is read and nothing is written
-abbrev pub EndsSend : {R O E : Type 0} → (R → Option (List ℕ)) → (O → Option (List ℕ)) →
-    (E → Option (List ℕ)) → (config name : List ℕ) → (old_input new_input : Watched R) →
-    (old_output new_output : Watched O) → (old_errors new_errors : Watched E) → Ended → Type 0
-EndsSend remaining contents error_bytes config name old_input new_input
+abbrev pub EndsSend : {R O E : Type 0} → (R → Option (List ℕ)) → (written : O → Option (List ℕ)) →
+    (failed : O → Bool) → (E → Option (List ℕ)) → (config name : List ℕ) →
+    (old_input new_input : Watched R) → (old_output new_output : O) →
+    (old_errors new_errors : Watched E) → Ended → Type 0
+EndsSend remaining written failed error_bytes config name old_input new_input
     old_output new_output old_errors new_errors ended =
     ((answer : Result Summary RunFault)
-    × EndsAs error_bytes new_input new_output old_errors new_errors ended answer
+    × EndsAs error_bytes new_input (failed new_output) old_errors new_errors ended answer
     × Sends config name (remaining (device_of old_input)) (remaining (device_of new_input))
-    (contents (device_of old_output)) (contents (device_of new_output)) answer)
+    (written old_output) (written new_output) answer)
     ⊎ (IsNotSent error_bytes config name old_errors new_errors ended.status
     × (new_input ≡ old_input) × (new_output ≡ old_output))

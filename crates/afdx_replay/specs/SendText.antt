@@ -1,25 +1,17 @@
 -- The text of a run that sends: the lines of each event, in the order of the events.
 -- A list of events has the latest first.
-use Rattle.std.specs.Prelude.{ℕ, ◌+◌, List, [], ◌∷◌, ◌++◌, Some, None, codes}
-use Rattle.std.specs.Fmt.{decimal}
-use Rattle.hex.specs.Hex.{encode_lower}
-use Rattle.afdx_frame.specs.declared.link.Side.{Side}
+use Rattle.std.specs.Prelude.{ℕ, ◌+◌, List, [], ◌∷◌, ◌++◌, Some, None}
 use Rattle.afdx_frame.specs.declared.link.Side.TheVariants.{A, B}
 use Rattle.afdx_config.specs.LawfulStream.{Sending}
 use Rattle.afdx_config.specs.Rows.{SystemRow}
 use Rattle.afdx_promises.specs.Sent.{sent_in}
 use Rattle.afdx_send.specs.declared.fault.SendFault.{SendFault}
 use Rattle.afdx_send.specs.Words.{refusal_word}
-use Rattle.afdx_replay.specs.PoliceText.{side_text}
 use Rattle.afdx_replay.specs.ReplayText.{no_counts}
 use Rattle.afdx_replay.specs.SendEvents.{Event, Emitted, Submitted}
 use Rattle.afdx_replay.specs.declared.summary.Summary.{Summary}
-
--- a frame on one network, as a line of a replay's list
-abbrev pub sent_line : Side → ℕ → ℕ → List ℕ → List ℕ
-sent_line side port time bytes =
-    codes "R " ++ decimal time ++ codes " " ++ side_text side ++ codes " " ++ decimal port
-    ++ codes " " ++ encode_lower bytes ++ codes "\n"
+use Rattle.afdx_text.specs.OutLines.{refused_line}
+pub use Rattle.afdx_text.specs.OutLines.{sent_line}
 
 -- the two lines of an emission
 abbrev pub emission_lines : ℕ → Sending → List ℕ
@@ -27,7 +19,7 @@ emission_lines port y = sent_line A port y.time y.a ++ sent_line B port y.time y
 
 -- the line of a message, on line n, that isn't taken
 abbrev pub refusal_line : ℕ → SendFault → List ℕ
-refusal_line n fault = codes "# " ++ decimal n ++ codes " " ++ refusal_word fault ++ codes "\n"
+refusal_line n fault = refused_line n (refusal_word fault)
 
 -- the lines of an event: a submission has one only where it is refused
 abbrev pub event_lines : SystemRow → Event → List ℕ

@@ -1,6 +1,6 @@
 //! The command `check`.
 
-ghost use Rattle.std.specs.Prelude.{◌≡◌, ◌⊎◌, ◌++◌, OnOk, IfOk, true, false, string_bytes};
+ghost use Rattle.std.specs.Prelude.{◌≡◌, ◌⊎◌, ◌++◌, OnOk, IfOk, true, false};
 ghost use Rattle.afdx_frame.specs.Ports.{last_port};
 ghost use Rattle.afdx_config.specs.Admission.{IsAdmitted};
 ghost use Rattle.afdx_admit.specs.Bounds.{IsBounds};
@@ -10,33 +10,37 @@ ghost use Rattle.afdx_replay.specs.CheckText.{port_line, line_if_used, used_port
 ghost use Rattle.afdx_replay.specs.CheckText.{check_text, IsChecked, IsDenied, IsFaulty, IsCut};
 ghost use Rattle.afdx_replay.specs.CheckText.{IsUnchecked};
 ghost use Rattle.afdx_lists.specs.Watching.{has_failed};
+ghost use Rattle.afdx_text.specs.Texts.{text_bytes};
 
 use crate::refusing::{refuse_config, want_memory};
 use crate::status::{DONE, REFUSED};
 use afdx_admit::{PortBounds, admit, bounds_of};
 use afdx_config::{Tables, read_tables};
 use afdx_frame::LAST_PORT;
-use afdx_lists::{Watched, tell_fault, write_text};
+use afdx_lists::Watched;
+use afdx_text::{OutLine, Text, tell_fault, write_text};
 use std::alloc::{AllocError, Global};
 use std::io::Write;
 
 /// Adds the line of an output port's bounds.
-fn put_bounds(text: &mut String, port: u8, bounds: &PortBounds) -> Result<(), AllocError>
+fn put_bounds(text: &mut Text, port: u8, bounds: &PortBounds) -> Result<(), AllocError>
     ensures { (t : Rows) → IsBounds t port bounds.now →
-        OnOk result (string_bytes text.new ≡ string_bytes text.old ++ port_line t port) }
+        OnOk result (text_bytes text.new ≡ text_bytes text.old ++ port_line t port) }
 {
     let high = bounds.high;
-    let buffer = bounds.buffer;
-    match bounds.low {
-        Some(low) => write!(text, "P {port} {high} {low} {buffer}\n"),
-        None => write!(text, "P {port} {high} - {buffer}\n"),
+    OutLine::Bounds {
+        port,
+        high,
+        low: bounds.low,
+        buffer: bounds.buffer,
     }
+    .put(text)
 }
 
 /// Adds the line of an output port, if it has a system.
-fn put_port(text: &mut String, tables: &Tables, port: u8) -> Result<(), AllocError>
+fn put_port(text: &mut Text, tables: &Tables, port: u8) -> Result<(), AllocError>
     ensures { OnOk result
-        (string_bytes text.new ≡ string_bytes text.old ++ line_if_used tables.now port) }
+        (text_bytes text.new ≡ text_bytes text.old ++ line_if_used tables.now port) }
 {
     match bounds_of(tables, port) {
         Some(bounds) => put_bounds(text, port, &bounds),
@@ -45,9 +49,9 @@ fn put_port(text: &mut String, tables: &Tables, port: u8) -> Result<(), AllocErr
 }
 
 /// Adds the lines of the ports that have a system.
-fn put_ports(text: &mut String, tables: &Tables) -> Result<(), AllocError>
+fn put_ports(text: &mut Text, tables: &Tables) -> Result<(), AllocError>
     ensures { OnOk result
-        (string_bytes text.new ≡ string_bytes text.old ++ used_port_lines tables.now last_port) }
+        (text_bytes text.new ≡ text_bytes text.old ++ used_port_lines tables.now last_port) }
 {
     for count in 0..LAST_PORT {
         let port = count + 1;
@@ -57,34 +61,38 @@ fn put_ports(text: &mut String, tables: &Tables) -> Result<(), AllocError>
 }
 
 /// Adds the answer, and tells whether it is that the tables are admitted.
-fn put_answer(text: &mut String, tables: Tables) -> Result<bool, AllocError>
-    ensures text { OnOk result (string_bytes text.new ≡ string_bytes text.old
+fn put_answer(alloc: Global, text: &mut Text, tables: Tables) -> Result<bool, AllocError>
+    ensures text { OnOk result (text_bytes text.new ≡ text_bytes text.old
         ++ answer_line tables (first_false (lines tables))) }
     ensures admitted { IfOk result (λ yes. yes ≡ true → IsAdmitted tables) }
     ensures refused { IfOk result (λ yes. yes ≡ false → IsAdmitted tables → ⊥) }
 {
     match admit(tables) {
         Ok(_admitted) => {
-            text.push_str("ok\n")?;
+            OutLine::Admitted.put(text)?;
             Ok(true)
         }
         Err((tables, fault)) => {
-            let line = fault.text(&tables);
-            write!(text, "no {line}\n")?;
+            let fault = fault.text(&tables);
+            let line = format!(in alloc; "{fault}")?;
+            OutLine::Denied {
+                line: line.as_str(),
+            }
+            .put(text)?;
             Ok(false)
         }
     }
 }
 
 /// What is to be said of the tables, and whether they are admitted.
-fn checked_text(alloc: Global, tables: Tables) -> Result<(String, bool), AllocError>
-    ensures text { IfOk result (λ checked. string_bytes checked.0 ≡ check_text tables) }
+fn checked_text(alloc: Global, tables: Tables) -> Result<(Text, bool), AllocError>
+    ensures text { IfOk result (λ checked. text_bytes checked.0 ≡ check_text tables) }
     ensures admitted { IfOk result (λ checked. checked.1 ≡ true → IsAdmitted tables) }
     ensures denied { IfOk result (λ checked. checked.1 ≡ false → IsAdmitted tables → ⊥) }
 {
-    let mut text = String::new(alloc);
+    let mut text = Text::new(alloc);
     put_ports(&mut text, &tables)?;
-    let is_admitted = put_answer(&mut text, tables)?;
+    let is_admitted = put_answer(alloc, &mut text, tables)?;
     Ok((text, is_admitted))
 }
 
@@ -120,7 +128,7 @@ pub fn check<O: Write, E: Write>(
     let Ok((text, is_admitted)) = checked_text(alloc, tables) else {
         return want_memory(errors);
     };
-    match write_text(output, text.as_str().as_bytes()) {
+    match write_text(output, text.as_bytes()) {
         Ok(()) if is_admitted => DONE,
         Ok(()) => REFUSED,
         Err(fault) => {

@@ -3,14 +3,14 @@
 ghost use Rattle.std.specs.Prelude.{◌≡◌, ◌==◌, ◌&&◌, ◌⊎◌, ◌↔◌, if◌then◌else◌, [], IsSome, OnOk, OnErr, false, true};
 ghost use Rattle.std.specs.Result.{result_ok};
 ghost use Rattle.std.specs.Io.KnownBytes.{Keeps};
-ghost use Rattle.afdx_lists.specs.Gathered.{gathered, held_bytes, device_has_failed};
-ghost use Rattle.afdx_lists.specs.Telling.{TellsLine};
-ghost use Rattle.afdx_lists.specs.Watching.{device_of, has_failed};
+ghost use Rattle.afdx_text.specs.Outputs.{written, held_bytes, device_has_failed};
+ghost use Rattle.afdx_text.specs.Telling.{TellsLine};
 ghost use Rattle.afdx_replay.specs.Commands.{status_of_answer};
 
 use crate::status::DONE;
 use crate::summary::Summary;
-use afdx_lists::{Buffered, RunFault, Watched, tell_fault};
+use afdx_lists::{RunFault, Watched};
+use afdx_text::{Output, tell_fault};
 use std::io::Write;
 
 /// How a command over a list ended: its exit status and, where that is 0, what the run counted.
@@ -58,18 +58,15 @@ pub fn end<E: Write>(answer: Result<Summary, RunFault>, errors: &mut Watched<E>)
 /// which is told as `device Write`. An output that failed before is not asked.
 pub fn finish<O: Write + Drop, E: Write>(
     status: u8,
-    output: &mut Watched<Buffered<O>>,
+    output: &mut Output<O>,
     errors: &mut Watched<E>,
 ) -> u8
-    ensures handed { has_failed output.old ≡ false →
-        device_has_failed (device_of output.new) ≡ false →
-        held_bytes (device_of output.new) ≡ [] }
-    ensures exact { has_failed output.old ≡ false → result ≡
-        (if status == 0 && device_has_failed (device_of output.new) then 4 else status) }
-    ensures unasked { has_failed output.old ≡ true → (result ≡ status) × (output.new ≡ output.old)
-        × (errors.new ≡ errors.old) }
-    ensures kept { Keeps (gathered O.contents (device_of output.old))
-        (gathered O.contents (device_of output.new)) }
+    ensures handed { device_has_failed output.new ≡ false → held_bytes output.new ≡ [] }
+    ensures exact { device_has_failed output.old ≡ false → result ≡
+        (if status == 0 && device_has_failed output.new then 4 else status) }
+    ensures unasked { device_has_failed output.old ≡ true →
+        (result ≡ status) × (output.new ≡ output.old) × (errors.new ≡ errors.old) }
+    ensures kept { Keeps (written O.contents output.old) (written O.contents output.new) }
     ensures status { ((result ≡ status) × (errors.new ≡ errors.old))
         ⊎ ((status ≡ 0) × (result ≡ 4)
         × TellsLine E.contents errors.old errors.new) }
@@ -77,8 +74,8 @@ pub fn finish<O: Write + Drop, E: Write>(
     if output.failed() {
         return status;
     }
-    let handed = output.hand_over();
-    if handed.is_ok() || status != DONE {
+    let flushed = output.flush();
+    if flushed.is_ok() || status != DONE {
         return status;
     }
     let fault = RunFault::Write;

@@ -15,11 +15,11 @@ mod send_command;
 mod send_run;
 pub mod status;
 mod summary;
-mod verdict;
 
 pub use admitted_run::run;
 pub use afdx_frame::Policing;
-pub use afdx_lists::{Buffered, RunFault, Watched};
+pub use afdx_lists::{RunFault, Watched};
+pub use afdx_text::{Output, Sink};
 pub use check_command::check;
 pub use ending::{Ended, finish};
 pub use police_command::{CommandedRule, police, police_and_count};

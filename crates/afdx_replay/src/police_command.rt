@@ -2,7 +2,7 @@
 
 ghost use Rattle.std.specs.Prelude.{◌≡◌, ◌≤◌, ◌+◌, ◌||◌, ◌⊎◌, ◌↔◌, ℕ, Result, IfSome, IsSome, codes, false, true};
 ghost use Rattle.afdx_lists.specs.Lines.{most_reads};
-ghost use Rattle.afdx_lists.specs.Telling.{Tells};
+ghost use Rattle.afdx_text.specs.Telling.{Tells};
 ghost use Rattle.afdx_replay.specs.Commands.{commanded_rule, usual_rule, EndsAs, IsCommanded};
 ghost use Rattle.afdx_replay.specs.Policed.{Answers};
 ghost use Rattle.afdx_replay.specs.declared.ending.Ended.{Ended as End};
@@ -11,11 +11,12 @@ ghost use Rattle.afdx_lists.specs.declared.fault.RunFault.{RunFault};
 ghost use Rattle.afdx_lists.specs.Watching.{calls_of, device_of, has_ended, has_failed};
 
 use crate::ending::{Ended, end};
-use crate::police_run::run_police;
+use crate::police_run::police_into;
 use crate::status::WRONG_WORDS;
 use afdx_frame::{LAST_PORT, LEAST_FRAME, Policing, VlId};
-use afdx_lists::{Watched, tell};
+use afdx_lists::Watched;
 use afdx_police::LinkRule;
+use afdx_text::{Sink, tell};
 use std::alloc::Global;
 use std::io::{Read, Write};
 
@@ -63,24 +64,24 @@ impl CommandedRule {
 /// Polices the frames of a list for one virtual link: verdicts go to `output`, a fault's one line
 /// to `errors`. It also gives what the run counted. The exit status is 0 done, 2 a value out of
 /// range, 3 a fault of the list, 4 a device or memory.
-pub fn police_and_count<R: Read, O: Write, E: Write>(
+pub fn police_and_count<R: Read, O: Sink, E: Write>(
     alloc: Global,
     given: &CommandedRule,
     input: &mut Watched<R>,
-    output: &mut Watched<O>,
+    output: &mut O,
     errors: &mut Watched<E>,
 ) -> Ended
     requires sound_input { has_failed input.old ≡ false }
     requires unended { has_ended input.old ≡ false }
-    requires sound_output { has_failed output.old ≡ false }
+    requires sound_output { O.failed output.old ≡ false }
 
     // 0 comes only where the list came to its end, 4 wherever a device failed; counts come with 0.
     ensures statuses { let status = result.status in
         (status ≡ 0) ⊎ (status ≡ 2) ⊎ (status ≡ 3) ⊎ (status ≡ 4) }
     ensures counts { IsSome result.summary ↔ (result.status ≡ 0) }
     ensures done { result.status ≡ 0 → (has_ended input.new ≡ true) × (has_failed input.new ≡ false)
-        × (has_failed output.new ≡ false) }
-    ensures device { (has_failed input.new || has_failed output.new) ≡ true → result.status ≡ 4 }
+        × (O.failed output.new ≡ false) }
+    ensures device { (has_failed input.new || O.failed output.new) ≡ true → result.status ≡ 4 }
     ensures calls { calls_of input.new ≤ calls_of input.old + most_reads }
 
     // A value out of range: nothing is read and nothing is written.
@@ -96,16 +97,16 @@ pub fn police_and_count<R: Read, O: Write, E: Write>(
     // what is written is what goes with that answer.
     ensures polices { IsCommanded given.now →
         (answer : Result Summary RunFault)
-        × EndsAs E.contents input.new output.new errors.old errors.new result answer
+        × EndsAs E.contents input.new (O.failed output.new) errors.old errors.new result answer
         × IfSome (R.remaining (device_of input.old)) (λ bytes.
         Answers (commanded_rule given.now) bytes (R.remaining (device_of input.new))
-        (O.contents (device_of output.old)) (O.contents (device_of output.new)) answer) }
+        (O.written output.old) (O.written output.new) answer) }
 {
     let Some(rule) = given.rule() else {
         tell(errors, b"words BadRule\n");
         return Ended::without_counts(WRONG_WORDS);
     };
-    let answer = run_police(alloc, &rule, input, output);
+    let answer = police_into(alloc, &rule, input, output);
     end(answer, errors)
 }
 
@@ -134,7 +135,7 @@ pub fn police<R: Read, O: Write, E: Write>(
         × (input.new ≡ input.old) × (output.new ≡ output.old) }
     ensures polices { IsCommanded (usual_rule bag_ms lmax jitter_us) →
         (ended : End) × (ended.status ≡ result) × ((answer : Result Summary RunFault)
-        × EndsAs E.contents input.new output.new errors.old errors.new ended answer
+        × EndsAs E.contents input.new (has_failed output.new) errors.old errors.new ended answer
         × IfSome (R.remaining (device_of input.old)) (λ bytes.
         Answers (commanded_rule (usual_rule bag_ms lmax jitter_us)) bytes
         (R.remaining (device_of input.new))

@@ -13,10 +13,10 @@ ghost use Rattle.afdx_run.specs.Listed.{arrival_at};
 ghost use Rattle.afdx_replay.specs.Policed.{Answers};
 
 use crate::summary::{NO_COUNTS, Summary};
-use crate::verdict::put_verdict;
 use afdx_frame::{Checked, Side};
-use afdx_lists::{Heading, RunFault, Text, Watched, write_text};
+use afdx_lists::{Heading, RunFault, Watched};
 use afdx_police::{LinkAccount, LinkRule, Reason};
+use afdx_text::{OutLine, Sink, Text};
 use afdx_run::{Machine, run_list};
 use std::alloc::{AllocError, Global};
 use std::io::{Read, Write};
@@ -119,12 +119,12 @@ impl Machine<Heading> for Police {
     ghost Done = { TellsItems };
 
     #[inline(always)]
-    fn tell<W: Write>(
+    fn tell<O: Sink>(
         &mut self,
         n: u64,
         heading: &Heading,
         bytes: &[u8],
-        output: &mut Watched<W>,
+        output: &mut O,
     ) -> Result<(), RunFault> {
         let arrived = Checked {
             bytes,
@@ -134,14 +134,49 @@ impl Machine<Heading> for Police {
         let is_accepted = reason.is_none();
         self.accepted = count_if(self.accepted, is_accepted);
         self.dropped = count_if(self.dropped, !is_accepted);
-        put_verdict(&mut self.text, n, heading.side, reason)?;
-        write_text(output, self.text.as_bytes())?;
+        let line = OutLine::Verdict {
+            n,
+            side: heading.side,
+            reason,
+        };
+        output.put(&line, &mut self.text)?;
         Ok(())
     }
 
-    fn end<W: Write>(&mut self, _output: &mut Watched<W>) -> Result<(), RunFault> {
+    fn end<O: Sink>(&mut self, _output: &mut O) -> Result<(), RunFault> {
         Ok(())
     }
+}
+
+/// Polices the frames of a list for one virtual link, as `run_police` does, and puts the lines to a
+/// sink.
+pub(crate) fn police_into<R: Read, O: Sink>(
+    alloc: Global,
+    rule: &LinkRule,
+    input: &mut Watched<R>,
+    output: &mut O,
+) -> Result<Summary, RunFault>
+    requires sound_input { has_failed input.old ≡ false }
+    requires unended { has_ended input.old ≡ false }
+    requires sound_output { O.failed output.old ≡ false }
+    ensures ended { OnOk result (has_ended input.new ≡ true) }
+    ensures read { has_failed input.new ≡ is_failed_read result }
+    ensures write { O.failed output.new ≡ is_failed_write result }
+    ensures calls { calls_of input.new ≤ calls_of input.old + most_reads }
+
+    // Where the input's bytes are known: what is answered and written for the list that they are.
+    ensures answer { IfSome (R.remaining (device_of input.old)) (λ bytes.
+        Answers (rule_of rule.now) bytes (R.remaining (device_of input.new))
+        (O.written output.old) (O.written output.new) result) }
+{
+    let mut police = Police::new(alloc, rule);
+    let lines = run_list(alloc, &mut police, input, output)?;
+    Ok(Summary {
+        lines,
+        accepted: police.accepted,
+        dropped: police.dropped,
+        ..NO_COUNTS
+    })
 }
 
 /// Polices the frames of a list for one virtual link, and writes a line for each.
@@ -170,12 +205,5 @@ pub fn run_police<R: Read, W: Write>(
         Answers (rule_of rule.now) bytes (R.remaining (device_of input.new))
         (W.contents (device_of output.old)) (W.contents (device_of output.new)) result) }
 {
-    let mut police = Police::new(alloc, rule);
-    let lines = run_list(alloc, &mut police, input, output)?;
-    Ok(Summary {
-        lines,
-        accepted: police.accepted,
-        dropped: police.dropped,
-        ..NO_COUNTS
-    })
+    police_into(alloc, rule, input, output)
 }

@@ -2,14 +2,15 @@
 
 ghost use Rattle.std.specs.Prelude.{◌≡◌};
 ghost use Rattle.afdx_admit.specs.Known.{IsKnown};
-ghost use Rattle.afdx_lists.specs.Telling.{Tells};
+ghost use Rattle.afdx_text.specs.Telling.{Tells};
 ghost use Rattle.afdx_replay.specs.Refusals.{admit_line, config_line, Refuses, WantsMemory};
 ghost use Rattle.afdx_replay.specs.SendCommand.{no_system_line};
 
 use crate::status::{REFUSED, WRONG_WORDS};
 use afdx_admit::AdmitFault;
 use afdx_config::{ConfigFault, Tables};
-use afdx_lists::{RunFault, Watched, tell, tell_fault};
+use afdx_lists::{RunFault, Watched};
+use afdx_text::{tell, tell_fault};
 use std::alloc::Global;
 use std::io::Write;
 

@@ -2,17 +2,18 @@
 
 ghost use Rattle.std.specs.Prelude.{◌≡◌, ◌≤◌, ◌+◌, ◌||◌, ◌⊎◌, ◌↔◌, IsSome, false, true};
 ghost use Rattle.afdx_lists.specs.Lines.{most_reads};
-ghost use Rattle.afdx_lists.specs.Watching.{calls_of, has_ended, has_failed};
+ghost use Rattle.afdx_lists.specs.Watching.{calls_of, device_of, has_ended, has_failed};
 ghost use Rattle.afdx_replay.specs.ReplayCommand.{EndsReplay};
 ghost use Rattle.afdx_replay.specs.declared.ending.Ended.{Ended as End};
 
-use crate::admitted_run::run;
+use crate::admitted_run::replay_admitted_into;
 use crate::ending::{Ended, end};
 use crate::refusing::{refuse_config, refuse_tables};
-use crate::replay_run::run_unadmitted;
+use crate::replay_run::replay_into;
 use afdx_admit::admit;
 use afdx_config::read_tables;
 use afdx_lists::Watched;
+use afdx_text::Sink;
 use std::alloc::Global;
 use std::io::{Read, Write};
 
@@ -21,29 +22,29 @@ use std::io::{Read, Write};
 ///
 /// With `admission` the tables have to be admitted. The exit status is 0 done, 1 a fault of
 /// the configuration or tables that are not admitted, 3 a fault of the list, 4 a device or memory.
-pub fn replay_and_count<R: Read, O: Write, E: Write>(
+pub fn replay_and_count<R: Read, O: Sink, E: Write>(
     alloc: Global,
     admission: bool,
     config: &[u8],
     input: &mut Watched<R>,
-    output: &mut Watched<O>,
+    output: &mut O,
     errors: &mut Watched<E>,
 ) -> Ended
     requires sound_input { has_failed input.old ≡ false }
     requires unended { has_ended input.old ≡ false }
-    requires sound_output { has_failed output.old ≡ false }
+    requires sound_output { O.failed output.old ≡ false }
 
     // 0 comes only where the list came to its end, 4 wherever a device failed; counts come with 0.
     ensures statuses { let status = result.status in
         (status ≡ 0) ⊎ (status ≡ 1) ⊎ (status ≡ 3) ⊎ (status ≡ 4) }
     ensures counts { IsSome result.summary ↔ (result.status ≡ 0) }
     ensures done { result.status ≡ 0 → (has_ended input.new ≡ true) × (has_failed input.new ≡ false)
-        × (has_failed output.new ≡ false) }
-    ensures device { (has_failed input.new || has_failed output.new) ≡ true → result.status ≡ 4 }
+        × (O.failed output.new ≡ false) }
+    ensures device { (has_failed input.new || O.failed output.new) ≡ true → result.status ≡ 4 }
     ensures calls { calls_of input.new ≤ calls_of input.old + most_reads }
 
     // The command ends as a run over the list answered, or nothing is read and nothing is written.
-    ensures replays { EndsReplay R.remaining O.contents E.contents config.now admission
+    ensures replays { EndsReplay R.remaining O.written O.failed E.contents config.now admission
         input.old input.new output.old output.new errors.old errors.new result }
 {
     let tables = match read_tables(alloc, config) {
@@ -51,12 +52,12 @@ pub fn replay_and_count<R: Read, O: Write, E: Write>(
         Err(fault) => return Ended::without_counts(refuse_config(alloc, fault, errors)),
     };
     if !admission {
-        let answer = run_unadmitted(alloc, &tables, input, output);
+        let answer = replay_into(alloc, &tables, input, output);
         return end(answer, errors);
     }
     match admit(tables) {
         Ok(admitted) => {
-            let answer = run(alloc, &admitted, input, output);
+            let answer = replay_admitted_into(alloc, &admitted, input, output);
             end(answer, errors)
         }
         Err((tables, fault)) => {
@@ -84,7 +85,8 @@ pub fn replay<R: Read, O: Write, E: Write>(
     ensures device { (has_failed input.new || has_failed output.new) ≡ true → result ≡ 4 }
     ensures calls { calls_of input.new ≤ calls_of input.old + most_reads }
     ensures replays { (ended : End) × (ended.status ≡ result)
-        × EndsReplay R.remaining O.contents E.contents config.now admission
+        × EndsReplay R.remaining (λ w. O.contents (device_of w)) has_failed
+        E.contents config.now admission
         input.old input.new output.old output.new errors.old errors.new ended }
 {
     let ended = replay_and_count(alloc, admission, config, input, output, errors);

@@ -1,20 +1,27 @@
 //! The lines of the events of a replay.
 
-ghost use Rattle.std.specs.Prelude.{◌≡◌, ℕ, ◌++◌, ◌≤◌, [], if◌then◌else◌, OnOk, IfOk, length};
+ghost use Rattle.std.specs.Prelude.{◌≡◌, ℕ, List, ◌++◌, ◌≤◌, ◌∷◌, [], if◌then◌else◌, OnOk, OnErr, IfOk, IfErr, length, false};
 ghost use Rattle.afdx_frame.specs.Ports.{last_port};
-ghost use Rattle.afdx_lists.specs.Texts.{text_bytes};
+ghost use Rattle.std.specs.Io.KnownBytes.{Appends};
+ghost use Rattle.afdx_lists.specs.Calls.{AppendsFront, is_failed_write};
+ghost use Rattle.afdx_text.specs.Sinks.{IsOfOutput};
+ghost use Rattle.afdx_config.specs.Rows.{Rows};
+ghost use Rattle.afdx_systems.specs.Handovers.{HandedOver, handed_over};
+ghost use Rattle.afdx_systems.specs.Receptions.{reception_line, is_delivered};
+ghost use Rattle.afdx_systems.specs.StandsFor.{StandsFor};
 ghost use Rattle.afdx_network.specs.Network.{reason_in, ports_in, lost_in};
 ghost use Rattle.afdx_switch.specs.Departures.{as_given, giving_port};
 ghost use Rattle.afdx_replay.specs.PoliceText.{verdict_line};
 ghost use Rattle.afdx_replay.specs.ReplayText.{loss_line, loss_lines, departure_line};
 
-use crate::verdict::{put_verdict, side_letter};
 use afdx_frame::{LAST_PORT, Side};
-use afdx_lists::Text;
+use afdx_lists::RunFault;
 use afdx_network::Departed;
 use afdx_police::Reason;
+use afdx_receive::Reception;
 use afdx_switch::{PortSet, Verdict};
-use std::alloc::AllocError;
+use afdx_systems::{Handover, Systems};
+use afdx_text::{OutLine, Sink, Text};
 
 /// Why the frame was dropped, if it was.
 pub(crate) fn reason_of(verdict: &Verdict) -> Option<Reason>
@@ -26,99 +33,182 @@ pub(crate) fn reason_of(verdict: &Verdict) -> Option<Reason>
     }
 }
 
-/// Adds the line of a copy that was lost at a port, if it was, and counts it.
-fn add_loss(text: &mut Text, n: u64, side: Side, port: u8, is_lost: bool) -> Result<u64, AllocError>
-    ensures lines { OnOk result (text_bytes text.new
-        ≡ text_bytes text.old ++ (if is_lost then loss_line n side port else [])) }
+/// Puts the line of a copy that was lost at a port, if it was, and counts it.
+fn put_loss<O: Sink>(
+    output: &mut O,
+    text: &mut Text,
+    n: u64,
+    side: Side,
+    port: u8,
+    is_lost: bool,
+) -> Result<u64, RunFault>
+    requires sound { O.failed output.old ≡ false }
+    ensures failed { O.failed output.new ≡ is_failed_write result }
+    ensures fault { IfErr result IsOfOutput }
+    ensures lines { OnOk result (Appends (O.written output.old) (O.written output.new)
+        (if is_lost then loss_line n side port else [])) }
+    ensures front { OnErr result (AppendsFront (O.written output.old) (O.written output.new)
+        (if is_lost then loss_line n side port else [])) }
     ensures count { IfOk result (λ count. count ≡ (if is_lost then 1 else 0)) }
 {
     if !is_lost {
         return Ok(0);
     }
-    let side = side_letter(side);
-    text.put(b"L ")?;
-    text.put_number(n)?;
-    text.put(b" ")?;
-    text.put(side.as_bytes())?;
-    text.put(b" ")?;
-    text.put_small(port)?;
-    text.put(b"\n")?;
+    output.put(&OutLine::Lost { n, side, port }, text)?;
     Ok(1)
 }
 
-/// Adds the lines of the copies that were lost, and counts them, port by port.
-fn add_each_loss(text: &mut Text, n: u64, side: Side, lost: &PortSet) -> Result<u64, AllocError>
-    ensures lines { OnOk result (text_bytes text.new
-        ≡ text_bytes text.old ++ loss_lines n side (ports_in lost.now)) }
+/// Puts the lines of the copies that were lost, and counts them, port by port.
+fn put_each_loss<O: Sink>(
+    output: &mut O,
+    text: &mut Text,
+    n: u64,
+    side: Side,
+    lost: &PortSet,
+) -> Result<u64, RunFault>
+    requires sound { O.failed output.old ≡ false }
+    ensures failed { O.failed output.new ≡ is_failed_write result }
+    ensures fault { IfErr result IsOfOutput }
+    ensures lines { OnOk result (Appends (O.written output.old) (O.written output.new)
+        (loss_lines n side (ports_in lost.now))) }
+    ensures front { OnErr result (AppendsFront (O.written output.old) (O.written output.new)
+        (loss_lines n side (ports_in lost.now))) }
     ensures count { IfOk result (λ count. count ≡ length (ports_in lost.now)) }
     ensures few { IfOk result (λ count. count ≤ last_port) }
 {
     let mut count = 0u64;
     for place in 0..LAST_PORT {
         let port = place + 1;
-        let more = add_loss(text, n, side, port, lost.holds(port))?;
+        let more = put_loss(output, text, n, side, port, lost.holds(port))?;
         count += more;
     }
     Ok(count)
 }
 
-/// Adds the lines of the copies that were lost, and counts them. Mostly none was.
-fn add_losses(text: &mut Text, n: u64, side: Side, lost: &PortSet) -> Result<u64, AllocError>
-    ensures lines { OnOk result (text_bytes text.new
-        ≡ text_bytes text.old ++ loss_lines n side (ports_in lost.now)) }
+/// Puts the lines of the copies that were lost, and counts them. Mostly none was.
+fn put_losses<O: Sink>(
+    output: &mut O,
+    text: &mut Text,
+    n: u64,
+    side: Side,
+    lost: &PortSet,
+) -> Result<u64, RunFault>
+    requires sound { O.failed output.old ≡ false }
+    ensures failed { O.failed output.new ≡ is_failed_write result }
+    ensures fault { IfErr result IsOfOutput }
+    ensures lines { OnOk result (Appends (O.written output.old) (O.written output.new)
+        (loss_lines n side (ports_in lost.now))) }
+    ensures front { OnErr result (AppendsFront (O.written output.old) (O.written output.new)
+        (loss_lines n side (ports_in lost.now))) }
     ensures count { IfOk result (λ count. count ≡ length (ports_in lost.now)) }
     ensures few { IfOk result (λ count. count ≤ last_port) }
 {
     if lost.is_empty() {
         return Ok(0);
     }
-    add_each_loss(text, n, side, lost)
+    put_each_loss(output, text, n, side, lost)
 }
 
-/// Puts the V line and the L lines of an arrival in the place of `text`, and counts the copies that
-/// were lost.
-pub(crate) fn put_admission(
+/// Puts the V line and the L lines of an arrival, and counts the copies that were lost.
+pub(crate) fn put_admission<O: Sink>(
+    output: &mut O,
     text: &mut Text,
     n: u64,
     side: Side,
     verdict: &Verdict,
-) -> Result<u64, AllocError>
-    ensures lines { OnOk result (text_bytes text.new
-        ≡ verdict_line n side (reason_in verdict.now) ++ loss_lines n side (lost_in verdict.now)) }
+) -> Result<u64, RunFault>
+    requires sound { O.failed output.old ≡ false }
+    ensures failed { O.failed output.new ≡ is_failed_write result }
+    ensures fault { IfErr result IsOfOutput }
+    ensures lines { OnOk result (Appends (O.written output.old) (O.written output.new)
+        (verdict_line n side (reason_in verdict.now) ++ loss_lines n side (lost_in verdict.now))) }
+    ensures front { OnErr result (AppendsFront (O.written output.old) (O.written output.new)
+        (verdict_line n side (reason_in verdict.now) ++ loss_lines n side (lost_in verdict.now))) }
     ensures count { IfOk result (λ count. count ≡ length (lost_in verdict.now)) }
     ensures few { IfOk result (λ count. count ≤ last_port) }
 {
-    put_verdict(text, n, side, reason_of(verdict))?;
+    let reason = reason_of(verdict);
+    output.put(&OutLine::Verdict { n, side, reason }, text)?;
     match verdict {
-        Verdict::Accepted { lost } => add_losses(text, n, side, lost),
+        Verdict::Accepted { lost } => put_losses(output, text, n, side, lost),
         Verdict::Dropped(_) => Ok(0),
     }
 }
 
-/// Puts the D or T line of a departure in the place of `text`.
-pub(crate) fn put_departure(text: &mut Text, departed: &Departed) -> Result<(), AllocError>
-    ensures { let left = as_given departed.now.departure in
-        OnOk result (text_bytes text.new
-        ≡ departure_line left.too_old left.item.tag left.end departed.now.side
-        (giving_port departed.now.departure)) }
+/// Puts the D or T line of a departure.
+#[inline(always)]
+pub(crate) fn put_departure<O: Sink>(
+    output: &mut O,
+    text: &mut Text,
+    departed: &Departed,
+) -> Result<(), RunFault>
+    requires sound { O.failed output.old ≡ false }
+    ensures failed { O.failed output.new ≡ is_failed_write result }
+    ensures fault { IfErr result IsOfOutput }
+    ensures line { let left = as_given departed.now.departure in
+        OnOk result (Appends (O.written output.old) (O.written output.new)
+        (departure_line left.too_old left.item.tag left.end departed.now.side
+        (giving_port departed.now.departure))) }
+    ensures front { let left = as_given departed.now.departure in
+        OnErr result (AppendsFront (O.written output.old) (O.written output.new)
+        (departure_line left.too_old left.item.tag left.end departed.now.side
+        (giving_port departed.now.departure))) }
 {
-    let side = side_letter(departed.side);
-    let n = departed.departure.tag();
-    let time = departed.departure.time();
-    let port = departed.departure.port();
-    let kind = if departed.departure.too_old() {
-        "T "
-    } else {
-        "D "
+    let line = OutLine::Left {
+        n: departed.departure.tag(),
+        time: departed.departure.time(),
+        side: departed.side,
+        port: departed.departure.port(),
+        too_old: departed.departure.too_old(),
     };
-    text.clear();
-    text.put(kind.as_bytes())?;
-    text.put_line_number(n)?;
-    text.put(b" ")?;
-    text.put_time(time)?;
-    text.put(b" ")?;
-    text.put(side.as_bytes())?;
-    text.put(b" ")?;
-    text.put_small(port)?;
-    text.put(b"\n")
+    output.put(&line, text)
+}
+
+/// Hands a frame over to the system of its port, puts the line of what that made of it, and tells
+/// whether it is a message.
+pub(crate) fn hear<O: Sink>(
+    systems: &mut Systems,
+    handover: Handover<'_>,
+    output: &mut O,
+    text: &mut Text,
+) -> Result<bool, RunFault>
+    requires sound { O.failed output.old ≡ false }
+    ensures failed { O.failed output.new ≡ is_failed_write result }
+    ensures fault { IfErr result IsOfOutput }
+    ensures stands { (t : Rows) (before : List HandedOver) → StandsFor t systems.old before →
+        StandsFor t systems.new (handed_over handover.entry ∷ before) }
+    ensures delivered { (t : Rows) (before : List HandedOver) → StandsFor t systems.old before →
+        IfOk result (λ yes. yes ≡ is_delivered t before (handed_over handover.entry)) }
+    ensures line { (t : Rows) (before : List HandedOver) → StandsFor t systems.old before →
+        OnOk result (Appends (O.written output.old) (O.written output.new)
+        (reception_line t before (handed_over handover.entry))) }
+    ensures front { (t : Rows) (before : List HandedOver) → StandsFor t systems.old before →
+        OnErr result (AppendsFront (O.written output.old) (O.written output.new)
+        (reception_line t before (handed_over handover.entry))) }
+{
+    let (time, n, port) = (handover.time, handover.line, handover.port);
+    match systems.receive(handover) {
+        Ok(Some(Reception::Message { vl, bytes, .. })) => {
+            let line = OutLine::Message {
+                time,
+                system: systems.name_at(port),
+                vl,
+                bytes,
+            };
+            output.put(&line, text)?;
+            Ok(true)
+        }
+        Ok(Some(Reception::Dropped(why))) => {
+            let line = OutLine::Unread {
+                time,
+                system: systems.name_at(port),
+                n,
+                why,
+            };
+            output.put(&line, text)?;
+            Ok(false)
+        }
+        Ok(None) => Ok(false),
+        Err(error) => Err(RunFault::from(error)),
+    }
 }

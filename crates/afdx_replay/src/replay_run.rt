@@ -9,27 +9,27 @@ ghost use Rattle.afdx_config.specs.Lawful.{IsLawful};
 ghost use Rattle.afdx_config.specs.Rows.{Rows};
 ghost use Rattle.afdx_police.specs.Arrival.{Arrival};
 ghost use Rattle.afdx_police.specs.declared.shape.Reason.{Reason as DropReason};
-ghost use Rattle.afdx_lists.specs.Texts.{text_bytes};
-ghost use Rattle.afdx_lists.specs.Calls.{is_failed_read, is_failed_write};
+ghost use Rattle.afdx_lists.specs.Calls.{AppendsFront, is_failed_read, is_failed_write};
 ghost use Rattle.afdx_systems.specs.StandsFor as systems;
-ghost use Rattle.afdx_network.specs.Events.{Event, Departure, arrivals_in};
+ghost use Rattle.afdx_network.specs.Events.{Event, Departure, Left, arrivals_in};
 ghost use Rattle.afdx_network.specs.Network as network;
 ghost use Rattle.afdx_lists.specs.FrameLines.{listed_frame};
 ghost use Rattle.afdx_lists.specs.Watching.{calls_of, device_of, has_ended, has_failed};
 ghost use Rattle.afdx_replay.specs.DefinedRun.{DefinedAnswers};
 ghost use Rattle.afdx_run.specs.Listed.{arrival_at};
 ghost use Rattle.afdx_replay.specs.Replayed.{WritesSome, Answers, ToldAll, TellsDeparture, HasRoom};
-ghost use Rattle.afdx_run.specs.Engine.{IsOfOutput};
-ghost use Rattle.afdx_replay.specs.ReplayText.{replay_counts, frames_left, with_admission};
+ghost use Rattle.afdx_text.specs.Sinks.{IsOfOutput};
+ghost use Rattle.afdx_replay.specs.ReplayText.{replay_counts, frames_left, lines_after, with_admission};
 
-use crate::replay_lines::{put_admission, put_departure, reason_of};
+use crate::replay_lines::{hear, put_admission, put_departure, reason_of};
 use crate::summary::{NO_COUNTS, Summary};
 use afdx_config::Tables;
 use afdx_frame::Checked;
-use afdx_lists::{Heading, RunFault, Text, Watched, write_text};
+use afdx_lists::{Heading, RunFault, Watched};
 use afdx_network::{Departed, Network};
 use afdx_police::Reason;
 use afdx_systems::{Handover, Systems};
+use afdx_text::{Sink, Text};
 use afdx_run::{Machine, run_list};
 use std::alloc::{AllocError, Global};
 use std::io::{Read, Write};
@@ -90,10 +90,16 @@ impl Replay {
         })
     }
 
-    /// Puts the lines of a departure in the place of the text, hands its frame over to the port's
-    /// system if it left, and counts it.
-    fn put_lines(&mut self, departed: &Departed) -> Result<(), AllocError>
+    /// Tells a departure: hands its frame over to the port's system if it left, and counts it.
+    fn tell_departure<O: Sink>(
+        &mut self,
+        departed: &Departed,
+        output: &mut O,
+    ) -> Result<(), RunFault>
         requires room { (n held : ℕ) × (n ≤ most_lines) × HasRoom self.old.counts (held + 1) n }
+        requires sound { O.failed output.old ≡ false }
+        ensures failed { O.failed output.new ≡ is_failed_write result }
+        ensures fault { IfErr result IsOfOutput }
         ensures network { self.new.network ≡ self.old.network }
         ensures room { (n held : ℕ) →
             HasRoom self.old.counts (held + 1) n → OnOk result (HasRoom self.new.counts held n) }
@@ -101,9 +107,14 @@ impl Replay {
             systems.StandsFor t self.old.systems (frames_left before) →
             network.Hands departed.now d → self.old.counts ≡ replay_counts t before →
             OnOk result (TellsDeparture t self.new.systems self.new.counts before d
-            (text_bytes self.new.text)) }
+            (O.written output.old) (O.written output.new)) }
+        ensures begun { (t : Rows) (before : List Event) (d : Departure) →
+            systems.StandsFor t self.old.systems (frames_left before) →
+            network.Hands departed.now d →
+            OnErr result (AppendsFront (O.written output.old) (O.written output.new)
+            (lines_after t before (Left d))) }
     {
-        put_departure(&mut self.text, departed)?;
+        put_departure(output, &mut self.text, departed)?;
         let departure = &departed.departure;
         if departure.too_old() {
             self.counts.too_old += 1;
@@ -117,7 +128,7 @@ impl Replay {
             frame: departure.frame(),
         };
         self.counts.departed += 1;
-        let is_delivered = self.systems.receive(handover, &mut self.text)?;
+        let is_delivered = hear(&mut self.systems, handover, output, &mut self.text)?;
         if is_delivered {
             self.counts.delivered += 1;
         }
@@ -125,72 +136,70 @@ impl Replay {
     }
 
     /// Tells what leaves by `until`.
-    fn tell_departures<W: Write>(
+    fn tell_departures<O: Sink>(
         &mut self,
         until: u64,
-        output: &mut Watched<W>,
+        output: &mut O,
     ) -> Result<(), RunFault>
         requires clock { network.IsUntil self.old.network until }
         requires room { (n : ℕ) × (n ≤ most_lines) × HasRoomFor self.old n }
-        requires sound { has_failed output.old ≡ false }
-        ensures failed { has_failed output.new ≡ is_failed_write result }
+        requires sound { O.failed output.old ≡ false }
+        ensures failed { O.failed output.new ≡ is_failed_write result }
         ensures fault { IfErr result IsOfOutput }
         ensures clock { network.IsUntil self.new.network until }
         ensures quiet { OnOk result (network.IsQuiet self.new.network until) }
         ensures room { (n : ℕ) → HasRoomFor self.old n → OnOk result (HasRoomFor self.new n) }
         ensures told { (t : Rows) (events : List Event) (start : Option (List ℕ)) →
-            Tells t self.old start (W.contents (device_of output.old)) events →
-            OnOk result (TellsMore t self.new start (W.contents (device_of output.new)) events) }
+            Tells t self.old start (O.written output.old) events →
+            OnOk result (TellsMore t self.new start (O.written output.new) events) }
         ensures some { (t : Rows) (events : List Event) (start : Option (List ℕ)) →
-            Tells t self.old start (W.contents (device_of output.old)) events →
-            OnErr result (WritesSome t start (W.contents (device_of output.new))
+            Tells t self.old start (O.written output.old) events →
+            OnErr result (WritesSome t start (O.written output.new)
             (arrivals_in events)) }
         ensures all_done { (t : Rows) (events : List Event) (start : Option (List ℕ)) →
-            Tells t self.old start (W.contents (device_of output.old)) events →
+            Tells t self.old start (O.written output.old) events →
             drain_end ≤ until →
             OnOk result (ToldAll t self.new.counts start
-            (W.contents (device_of output.new)) (arrivals_in events)) }
+            (O.written output.new) (arrivals_in events)) }
     {
         while let Some(departed) = self.network.take(until) {
-            self.put_lines(&departed)?;
-            write_text(output, self.text.as_bytes())?;
+            self.tell_departure(&departed, output)?;
         }
         Ok(())
     }
 
     /// Tells what leaves before an arrival, and then what became of it.
-    fn tell_arrival<W: Write>(
+    fn tell_arrival<O: Sink>(
         &mut self,
         n: u64,
         heading: &Heading,
         arrived: Checked<'_>,
-        output: &mut Watched<W>,
+        output: &mut O,
     ) -> Result<(), RunFault>
         requires limit { heading.now.time ≤ latest_listed }
         requires clock { network.IsUntil self.old.network heading.now.time }
         requires room { (m : ℕ) × (m < most_lines) × HasRoomFor self.old m }
-        requires sound { has_failed output.old ≡ false }
-        ensures failed { has_failed output.new ≡ is_failed_write result }
+        requires sound { O.failed output.old ≡ false }
+        ensures failed { O.failed output.new ≡ is_failed_write result }
         ensures fault { IfErr result IsOfOutput }
         ensures clock { OnOk result (network.IsUntil self.new.network heading.now.time) }
         ensures room { (m : ℕ) → HasRoomFor self.old m → OnOk result (HasRoomFor self.new (m + 1)) }
         ensures told { (t : Rows) (start : Option (List ℕ)) (past : List Arrival) →
-            TellsArrivals t self.old start (W.contents (device_of output.old)) past →
-            OnOk result (TellsArrivals t self.new start (W.contents (device_of output.new))
+            TellsArrivals t self.old start (O.written output.old) past →
+            OnOk result (TellsArrivals t self.new start (O.written output.new)
             (arrival_at n (listed_frame heading.now arrived.entry.bytes.now) ∷ past)) }
         ensures some { (t : Rows) (start : Option (List ℕ)) (past : List Arrival) →
-            TellsArrivals t self.old start (W.contents (device_of output.old)) past →
-            OnErr result (WritesSome t start (W.contents (device_of output.new)) past
-            ⊎ WritesSome t start (W.contents (device_of output.new))
+            TellsArrivals t self.old start (O.written output.old) past →
+            OnErr result (WritesSome t start (O.written output.new) past
+            ⊎ WritesSome t start (O.written output.new)
             (arrival_at n (listed_frame heading.now arrived.entry.bytes.now) ∷ past)) }
     {
         self.tell_departures(heading.time, output)?;
         let verdict = self
             .network
             .arrive(heading.side, heading.time, heading.port, n, arrived)?;
-        let lost = put_admission(&mut self.text, n, heading.side, &verdict)?;
+        let lost = put_admission(output, &mut self.text, n, heading.side, &verdict)?;
         count_admission(&mut self.counts, reason_of(&verdict), lost);
-        write_text(output, self.text.as_bytes())?;
         Ok(())
     }
 }
@@ -206,12 +215,12 @@ impl Machine<Heading> for Replay {
 
     ghost Done = { TellsAll };
 
-    fn tell<W: Write>(
+    fn tell<O: Sink>(
         &mut self,
         n: u64,
         heading: &Heading,
         bytes: &[u8],
-        output: &mut Watched<W>,
+        output: &mut O,
     ) -> Result<(), RunFault> {
         let arrived = Checked {
             bytes,
@@ -221,10 +230,42 @@ impl Machine<Heading> for Replay {
         Ok(())
     }
 
-    fn end<W: Write>(&mut self, output: &mut Watched<W>) -> Result<(), RunFault> {
+    fn end<O: Sink>(&mut self, output: &mut O) -> Result<(), RunFault> {
         self.tell_departures(u64::MAX, output)?;
         Ok(())
     }
+}
+
+/// Replays a list of frames as `run_unadmitted` does, and puts the lines of all events to a sink.
+pub(crate) fn replay_into<R: Read, O: Sink>(
+    alloc: Global,
+    tables: &Tables,
+    input: &mut Watched<R>,
+    output: &mut O,
+) -> Result<Summary, RunFault>
+    requires sound_input { has_failed input.old ≡ false }
+    requires unended { has_ended input.old ≡ false }
+    requires sound_output { O.failed output.old ≡ false }
+    ensures ended { OnOk result (has_ended input.new ≡ true) }
+    ensures read { has_failed input.new ≡ is_failed_read result }
+    ensures write { O.failed output.new ≡ is_failed_write result }
+    ensures calls { calls_of input.new ≤ calls_of input.old + most_reads }
+
+    // Where the input's bytes are known: what is answered and written for the list that they are.
+    ensures answer { IfSome (R.remaining (device_of input.old)) (λ bytes.
+        Answers tables.now bytes (R.remaining (device_of input.new))
+        (O.written output.old) (O.written output.new) result) }
+
+    // And what is written is the text of events that are those of the definition of an output port.
+    ensures defined { IsLawful tables.now → IfSome (R.remaining (device_of input.old)) (λ bytes.
+        DefinedAnswers tables.now bytes (R.remaining (device_of input.new))
+        (O.written output.old) (O.written output.new) result) }
+{
+    let mut replay = Replay::new(alloc, tables)?;
+    let lines = run_list(alloc, &mut replay, input, output)?;
+    let mut summary = replay.counts;
+    summary.lines = lines;
+    Ok(summary)
 }
 
 /// Replays a list of frames through the switches of both sides and the systems behind them.
@@ -261,9 +302,5 @@ pub fn run_unadmitted<R: Read, W: Write>(
         DefinedAnswers tables.now bytes (R.remaining (device_of input.new))
         (W.contents (device_of output.old)) (W.contents (device_of output.new)) result) }
 {
-    let mut replay = Replay::new(alloc, tables)?;
-    let lines = run_list(alloc, &mut replay, input, output)?;
-    let mut summary = replay.counts;
-    summary.lines = lines;
-    Ok(summary)
+    replay_into(alloc, tables, input, output)
 }

@@ -2,16 +2,17 @@
 
 ghost use Rattle.std.specs.Prelude.{◌≡◌, ◌≤◌, ◌+◌, ◌||◌, ◌⊎◌, ◌↔◌, IsSome, false, true};
 ghost use Rattle.afdx_lists.specs.Lines.{most_reads};
-ghost use Rattle.afdx_lists.specs.Watching.{calls_of, has_ended, has_failed};
+ghost use Rattle.afdx_lists.specs.Watching.{calls_of, device_of, has_ended, has_failed};
 ghost use Rattle.afdx_replay.specs.SendCommand.{EndsSend};
 ghost use Rattle.afdx_replay.specs.declared.ending.Ended.{Ended as End};
 
 use crate::ending::{Ended, end};
 use crate::refusing::{refuse_config, refuse_name, refuse_tables};
-use crate::send_run::run_send;
+use crate::send_run::send_into;
 use afdx_admit::admit;
 use afdx_config::read_tables;
 use afdx_lists::Watched;
+use afdx_text::Sink;
 use std::alloc::Global;
 use std::io::{Read, Write};
 
@@ -23,17 +24,17 @@ use std::io::{Read, Write};
 /// 0 done, 1 a fault of the configuration or tables that are not admitted, 2 no system has the
 /// name, 3 a fault of the list, 4 a device or memory. Of several causes the first is answered: a
 /// fault of the configuration, the system's name, admission, the list.
-pub fn send_and_count<R: Read, O: Write, E: Write>(
+pub fn send_and_count<R: Read, O: Sink, E: Write>(
     alloc: Global,
     config: &[u8],
     system: &str,
     input: &mut Watched<R>,
-    output: &mut Watched<O>,
+    output: &mut O,
     errors: &mut Watched<E>,
 ) -> Ended
     requires sound_input { has_failed input.old ≡ false }
     requires unended { has_ended input.old ≡ false }
-    requires sound_output { has_failed output.old ≡ false }
+    requires sound_output { O.failed output.old ≡ false }
 
     // 0 comes only where the list came to its end, 4 wherever a device failed; counts come with 0.
     ensures statuses { let status = result.status in
@@ -41,12 +42,12 @@ pub fn send_and_count<R: Read, O: Write, E: Write>(
     ensures counts { IsSome result.summary ↔ (result.status ≡ 0) }
     ensures done { result.status ≡ 0 →
         (has_ended input.new ≡ true) × (has_failed input.new ≡ false)
-        × (has_failed output.new ≡ false) }
-    ensures device { (has_failed input.new || has_failed output.new) ≡ true → result.status ≡ 4 }
+        × (O.failed output.new ≡ false) }
+    ensures device { (has_failed input.new || O.failed output.new) ≡ true → result.status ≡ 4 }
     ensures calls { calls_of input.new ≤ calls_of input.old + most_reads }
 
     // The command ends as a run over the list answered, or nothing is read and nothing is written.
-    ensures sends { EndsSend R.remaining O.contents E.contents config.now system.now
+    ensures sends { EndsSend R.remaining O.written O.failed E.contents config.now system.now
         input.old input.new output.old output.new errors.old errors.new result }
 {
     let tables = match read_tables(alloc, config) {
@@ -58,7 +59,7 @@ pub fn send_and_count<R: Read, O: Write, E: Write>(
     };
     match admit(tables) {
         Ok(admitted) => {
-            let answer = run_send(alloc, &admitted, place, input, output);
+            let answer = send_into(alloc, &admitted, place, input, output);
             end(answer, errors)
         }
         Err((tables, fault)) => {
@@ -86,7 +87,8 @@ pub fn send<R: Read, O: Write, E: Write>(
     ensures device { (has_failed input.new || has_failed output.new) ≡ true → result ≡ 4 }
     ensures calls { calls_of input.new ≤ calls_of input.old + most_reads }
     ensures sends { (ended : End) × (ended.status ≡ result)
-        × EndsSend R.remaining O.contents E.contents config.now system.now
+        × EndsSend R.remaining (λ w. O.contents (device_of w)) has_failed
+        E.contents config.now system.now
         input.old input.new output.old output.new errors.old errors.new ended }
 {
     let ended = send_and_count(alloc, config, system, input, output, errors);

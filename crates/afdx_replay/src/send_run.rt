@@ -4,24 +4,24 @@ ghost use Rattle.std.specs.Prelude.{◌≡◌, ◌<◌, ◌≤◌, ◌+◌, ◌^
 ghost use Rattle.afdx_frame.specs.Times.{latest_listed};
 ghost use Rattle.afdx_lists.specs.Lines.{most_lines, most_reads};
 ghost use Rattle.afdx_config.specs.Rows.{SystemRow};
-ghost use Rattle.afdx_lists.specs.Texts.{text_bytes};
-ghost use Rattle.afdx_lists.specs.Calls.{is_failed_read, is_failed_write};
+ghost use Rattle.std.specs.Io.KnownBytes.{Appends};
+ghost use Rattle.afdx_lists.specs.Calls.{AppendsFront, is_failed_read, is_failed_write};
 ghost use Rattle.afdx_lists.specs.Watching.{calls_of, device_of, has_ended, has_failed};
 ghost use Rattle.afdx_send.specs.Sender.{StandsFor, IsQuiet, frames_held, last_time, sending_of};
 ghost use Rattle.afdx_run.specs.Listed.{Handed as HandedSubmission};
 ghost use Rattle.afdx_replay.specs.SendEvents.{Event, submissions_in, calls_in};
-ghost use Rattle.afdx_replay.specs.SendText.{sent_line, emission_lines, refusal_line, send_counts};
-ghost use Rattle.afdx_run.specs.Engine.{IsOfOutput};
+ghost use Rattle.afdx_replay.specs.SendText.{emission_lines, send_counts};
+ghost use Rattle.afdx_text.specs.Sinks.{IsOfOutput};
 ghost use Rattle.afdx_replay.specs.Sent.{Source, source_at, WritesSome, Answers};
 ghost use Rattle.afdx_replay.specs.SendProgress.{handed_at, HasTold, AreTold, ToldUntil, TellsSubmission, HasRoom};
 
 use crate::summary::{NO_COUNTS, Summary};
-use crate::verdict::side_letter;
 use afdx_admit::Admitted;
 use afdx_config::SystemId;
 use afdx_frame::{Side, VlId};
-use afdx_lists::{Handed, RunFault, Text, Watched, write_text};
+use afdx_lists::{Handed, RunFault, Watched};
 use afdx_send::{Emission, SendFault, Sender};
+use afdx_text::{OutLine, Sink, Text};
 use afdx_run::{Machine, run_list};
 use std::alloc::{AllocError, Global};
 use std::io::{Read, Write};
@@ -29,37 +29,35 @@ use std::io::{Read, Write};
 /// By then each message of a list has been emitted: the end of the drain, in ns.
 const DRAIN_END: u64 = 1_200_000_000_000_000;
 
-/// Adds the line of a frame on one network.
-fn put_sent(
+/// Puts the lines of an emission.
+fn put_emission<O: Sink>(
+    output: &mut O,
     text: &mut Text,
-    time: u64,
-    side: Side,
     port: u8,
-    bytes: &[u8],
-) -> Result<(), AllocError>
-    ensures { OnOk result (text_bytes text.new ≡
-        text_bytes text.old ++ sent_line side port time bytes.now) }
+    emission: &Emission,
+) -> Result<(), RunFault>
+    requires sound { O.failed output.old ≡ false }
+    ensures failed { O.failed output.new ≡ is_failed_write result }
+    ensures fault { IfErr result IsOfOutput }
+    ensures lines { OnOk result (Appends (O.written output.old) (O.written output.new)
+        (emission_lines port (sending_of emission.now))) }
+    ensures front { OnErr result (AppendsFront (O.written output.old) (O.written output.new)
+        (emission_lines port (sending_of emission.now))) }
 {
-    let letter = side_letter(side);
-    text.put(b"R ")?;
-    text.put_time(time)?;
-    text.put(b" ")?;
-    text.put(letter.as_bytes())?;
-    text.put(b" ")?;
-    text.put_small(port)?;
-    text.put(b" ")?;
-    text.put_digits(bytes)?;
-    text.put(b"\n")
-}
-
-/// Puts the lines of an emission in the place of `text`.
-fn put_emission(text: &mut Text, port: u8, emission: &Emission) -> Result<(), AllocError>
-    ensures { OnOk result (text_bytes text.new ≡ emission_lines port (sending_of emission.now)) }
-{
-    let time = emission.time;
-    text.clear();
-    put_sent(text, time, Side::A, port, emission.a.as_slice())?;
-    put_sent(text, time, Side::B, port, emission.b.as_slice())
+    let on_a = OutLine::Sent {
+        time: emission.time,
+        side: Side::A,
+        port,
+        bytes: emission.a.as_slice(),
+    };
+    let on_b = OutLine::Sent {
+        time: emission.time,
+        side: Side::B,
+        port,
+        bytes: emission.b.as_slice(),
+    };
+    output.put(&on_a, text)?;
+    output.put(&on_b, text)
 }
 
 /// Why a message was refused, but where it is memory that was: that is handed on.
@@ -76,18 +74,6 @@ fn refusal_of(fault: SendFault) -> Result<SendFault, AllocError>
         | SendFault::TooLarge
         | SendFault::QueueFull => Ok(fault),
     }
-}
-
-/// Puts the line of a refused message in the place of `text`.
-fn put_refusal(text: &mut Text, n: u64, fault: SendFault) -> Result<(), AllocError>
-    ensures { OnOk result (text_bytes text.new ≡ refusal_line n fault) }
-{
-    text.clear();
-    text.put(b"# ")?;
-    text.put_number(n)?;
-    text.put(b" ")?;
-    text.put(fault.word().as_bytes())?;
-    text.put(b"\n")
 }
 
 /// What a run that sends works with.
@@ -131,16 +117,16 @@ impl Sending {
     }
 
     /// Tells what is emitted by `until`.
-    fn tell_emissions<W: Write>(
+    fn tell_emissions<O: Sink>(
         &mut self,
         until: u64,
-        output: &mut Watched<W>,
+        output: &mut O,
     ) -> Result<(), RunFault>
         requires clock { last_time self.old.sender ≤ until }
         requires room { (n : ℕ) × (n ≤ most_lines) ×
             HasRoom self.old.counts (frames_held self.old.sender) n }
-        requires sound { has_failed output.old ≡ false }
-        ensures failed { has_failed output.new ≡ is_failed_write result }
+        requires sound { O.failed output.old ≡ false }
+        ensures failed { O.failed output.new ≡ is_failed_write result }
         ensures fault { IfErr result IsOfOutput }
         ensures clock { OnOk result (last_time self.new.sender ≡ until) }
         ensures quiet { OnOk result (IsQuiet self.new.sender until) }
@@ -148,18 +134,17 @@ impl Sending {
             OnOk result (HasRoom self.new.counts (frames_held self.new.sender) n) }
         ensures told { (s : Source) (events : List Event) (start : Option (List ℕ)) →
             HasTold s self.old.sender self.old.port self.old.counts start
-            (W.contents (device_of output.old)) events →
+            (O.written output.old) events →
             OnOk result (ToldUntil s until self.new.sender self.new.port self.new.counts start
-            (W.contents (device_of output.new)) events) }
+            (O.written output.new) events) }
         ensures some { (s : Source) (events : List Event) (start : Option (List ℕ)) →
             HasTold s self.old.sender self.old.port self.old.counts start
-            (W.contents (device_of output.old)) events →
+            (O.written output.old) events →
             OnErr result
-            (WritesSome s start (W.contents (device_of output.new)) (submissions_in events)) }
+            (WritesSome s start (O.written output.new) (submissions_in events)) }
     {
         while let Some(emission) = self.sender.emit(until)? {
-            put_emission(&mut self.text, self.port, &emission)?;
-            write_text(output, self.text.as_bytes())?;
+            put_emission(output, &mut self.text, self.port, &emission)?;
             self.counts.departed += 1;
         }
         Ok(())
@@ -202,39 +187,42 @@ impl Sending {
     }
 
     /// Tells what is emitted before a submission, and then why it was refused, if it was.
-    fn tell_submission<W: Write>(
+    fn tell_submission<O: Sink>(
         &mut self,
         n: u64,
         handed: &Handed,
         payload: &[u8],
-        output: &mut Watched<W>,
+        output: &mut O,
     ) -> Result<(), RunFault>
         requires limit { handed.now.time ≤ latest_listed }
         requires clock { last_time self.old.sender ≤ handed.now.time }
         requires room { (m : ℕ) × (m < most_lines) ×
             HasRoom self.old.counts (frames_held self.old.sender) m }
-        requires sound { has_failed output.old ≡ false }
-        ensures failed { has_failed output.new ≡ is_failed_write result }
+        requires sound { O.failed output.old ≡ false }
+        ensures failed { O.failed output.new ≡ is_failed_write result }
         ensures fault { IfErr result IsOfOutput }
         ensures clock { OnOk result (last_time self.new.sender ≡ handed.now.time) }
         ensures room { (m : ℕ) → HasRoom self.old.counts (frames_held self.old.sender) m →
             OnOk result (HasRoom self.new.counts (frames_held self.new.sender) (m + 1)) }
         ensures told { (s : Source) (start : Option (List ℕ)) (past : List HandedSubmission) →
             AreTold s self.old.sender self.old.port self.old.counts start
-            (W.contents (device_of output.old)) past →
+            (O.written output.old) past →
             OnOk result (AreTold s self.new.sender self.new.port self.new.counts start
-            (W.contents (device_of output.new)) (handed_at n handed.now payload.now ∷ past)) }
+            (O.written output.new) (handed_at n handed.now payload.now ∷ past)) }
         ensures some { (s : Source) (start : Option (List ℕ)) (past : List HandedSubmission) →
             AreTold s self.old.sender self.old.port self.old.counts start
-            (W.contents (device_of output.old)) past →
-            OnErr result (WritesSome s start (W.contents (device_of output.new)) past
-            ⊎ WritesSome s start (W.contents (device_of output.new))
+            (O.written output.old) past →
+            OnErr result (WritesSome s start (O.written output.new) past
+            ⊎ WritesSome s start (O.written output.new)
             (handed_at n handed.now payload.now ∷ past)) }
     {
         self.tell_emissions(handed.time, output)?;
         if let Some(fault) = self.submit(handed, payload)? {
-            put_refusal(&mut self.text, n, fault)?;
-            write_text(output, self.text.as_bytes())?;
+            let line = OutLine::Refused {
+                n,
+                word: fault.word(),
+            };
+            output.put(&line, &mut self.text)?;
         }
         Ok(())
     }
@@ -251,32 +239,62 @@ impl Machine<Handed> for Sending {
 
     ghost Done = { TellsAll };
 
-    fn tell<W: Write>(
+    fn tell<O: Sink>(
         &mut self,
         n: u64,
         handed: &Handed,
         payload: &[u8],
-        output: &mut Watched<W>,
+        output: &mut O,
     ) -> Result<(), RunFault> {
         self.tell_submission(n, handed, payload, output)?;
         Ok(())
     }
 
-    fn end<W: Write>(&mut self, output: &mut Watched<W>) -> Result<(), RunFault> {
+    fn end<O: Sink>(&mut self, output: &mut O) -> Result<(), RunFault> {
         self.tell_emissions(DRAIN_END, output)?;
         Ok(())
     }
+}
+
+/// Sends the messages of a list from one system, as `run_send` does, and puts the lines to a sink.
+pub(crate) fn send_into<R: Read, O: Sink>(
+    alloc: Global,
+    tables: &Admitted,
+    system: SystemId,
+    input: &mut Watched<R>,
+    output: &mut O,
+) -> Result<Summary, RunFault>
+    requires system { system.0 < length tables.now.systems }
+    requires sound_input { has_failed input.old ≡ false }
+    requires unended { has_ended input.old ≡ false }
+    requires sound_output { O.failed output.old ≡ false }
+    ensures ended { OnOk result (has_ended input.new ≡ true) }
+    ensures read { has_failed input.new ≡ is_failed_read result }
+    ensures write { O.failed output.new ≡ is_failed_write result }
+    ensures calls { calls_of input.new ≤ calls_of input.old + most_reads }
+
+    // Where the input's bytes are known: what is answered and written for the list that they are.
+    ensures answer { (row : SystemRow) → slice_get tables.now.systems system.0 ≡ Some row →
+        IfSome (R.remaining (device_of input.old)) (λ bytes.
+        Answers (source_at tables.now system.0 row) bytes (R.remaining (device_of input.new))
+        (O.written output.old) (O.written output.new) result) }
+{
+    let mut sending = Sending::new(alloc, tables, system)?;
+    let lines = run_list(alloc, &mut sending, input, output)?;
+    let mut summary = sending.counts;
+    summary.lines = lines;
+    Ok(summary)
 }
 
 /// Sends the messages of a list from one system, and writes its frames for both networks as the
 /// list of a replay.
 ///
 /// Before a message is handed over, the emissions that end by its time are written; a message that
-/// isn't taken gets a line that says why. At the end the remaining emissions are written. The lines
-/// of an emission are handed to `output` together, and all of a message's before the next line of
-/// the list is read. A list that can't be read ends the run with its first fault; the text of the
-/// submissions before it stands written. `RunFault::Read` and `RunFault::Write` come exactly where
-/// the input's or the output's device failed; neither is tried again.
+/// isn't taken gets a line that says why. At the end the remaining emissions are written. All lines
+/// of a message are handed to `output` before the next line of the list is read. A list that can't
+/// be read ends the run with its first fault; the text of the submissions before it stands written.
+/// `RunFault::Read` and `RunFault::Write` come exactly where the input's or the output's device
+/// failed; neither is tried again.
 pub fn run_send<R: Read, W: Write>(
     alloc: Global,
     tables: &Admitted,
@@ -299,9 +317,5 @@ pub fn run_send<R: Read, W: Write>(
         Answers (source_at tables.now system.0 row) bytes (R.remaining (device_of input.new))
         (W.contents (device_of output.old)) (W.contents (device_of output.new)) result) }
 {
-    let mut sending = Sending::new(alloc, tables, system)?;
-    let lines = run_list(alloc, &mut sending, input, output)?;
-    let mut summary = sending.counts;
-    summary.lines = lines;
-    Ok(summary)
+    send_into(alloc, tables, system, input, output)
 }

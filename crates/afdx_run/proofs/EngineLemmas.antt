@@ -1,7 +1,8 @@
 -- What a run answers, case by case.
 use Rattle.std.proofs.Common.{◌≡◌, ◌∷◌, List, Result, Ok, Err, ◌⊎◌, inl, inr, refl, subst}
 use Rattle.afdx_lists.specs.declared.fault.RunFault.{RunFault}
-use Rattle.afdx_run.specs.Engine.{Item, item_of, IsOfOutput, Runs}
+use Rattle.afdx_run.specs.Engine.{Item, item_of, Runs}
+use Rattle.afdx_text.specs.Sinks.{IsOfOutput}
 
 -- a beginning of the text of these items, of which the newest is another word for the same
 pub told-some : {H : Type 0} (begins : List (Item H) → Type 0) {x y : Item H} (past : List (Item H)) → x ≡ y

@@ -8,7 +8,8 @@ use Rattle.afdx_lists.specs.declared.fault.RunFault.TheVariants as run
 use Rattle.afdx_lists.specs.declared.fault.LineFault.{LineFault}
 use Rattle.afdx_lists.specs.declared.line_reader.LineReader.{LineReader}
 use Rattle.afdx_lists.specs.declared.watched.Watched.{Watched}
-use Rattle.afdx_run.specs.Engine.{Item, IsOfOutput, Runs, without_newest}
+use Rattle.afdx_run.specs.Engine.{Item, Runs, without_newest}
+use Rattle.afdx_text.specs.Sinks.{IsOfOutput}
 use Rattle.afdx_run.specs.Lists.{Kind, items_of, item_said, with_item}
 use Rattle.afdx_run.specs.ListSource.{GaveOf, EndedOf, StoppedOf}
 use Rattle.afdx_run.specs.Progress.{HasRead, HasComeIn}

@@ -18,7 +18,7 @@ use Rattle.afdx_lists.specs.Lines.{HasTaken, TakesBytes, GaveWhole, most_lines, 
 use Rattle.afdx_lists.proofs.WholeLemmas.{HasTaken-part}
 use Rattle.afdx_lists.proofs.LineLemmas.{lines_of_nothing}
 use Rattle.afdx_lists.specs.Faults.{fault_at, fault_of_line, IsErrorOf}
-use Rattle.afdx_run.specs.Engine.{IsOfOutput}
+use Rattle.afdx_text.specs.Sinks.{IsOfOutput}
 use Rattle.afdx_run.specs.Lists.{Kind, latest_in, with_item, items_of, item_said, fault_in}
 use Rattle.afdx_run.specs.Lists.{fault_said, HaveFirstFault}
 use Rattle.afdx_run.specs.Stops.{GaveLines, GavePart, GaveFault, IsToldOf, StopsAtFault, StopsIn}

@@ -1,7 +1,7 @@
 -- What a run hands from a source to a machine, and what it answers.
-use Rattle.std.specs.Prelude.{ℕ, ◌≡◌, ◌⊎◌, List, [], ◌∷◌, Option, Result, Ok, Err}
+use Rattle.std.specs.Prelude.{ℕ, ◌⊎◌, List, [], ◌∷◌, Option, Result, Ok, Err}
 use Rattle.afdx_lists.specs.declared.fault.RunFault.{RunFault}
-use Rattle.afdx_lists.specs.declared.fault.RunFault.TheVariants as run
+use Rattle.afdx_text.specs.Sinks.{IsOfOutput}
 
 -- something that a source gave: its heading and its bytes, under its number
 pub record Item (H : Type 0) : Type 0 where
@@ -20,10 +20,6 @@ Bytes = Option (List ℕ)
 abbrev pub without_newest : {H : Type 0} → List (Item H) → List (Item H)
 without_newest [] = []
 without_newest (x ∷ past) = past
-
--- the output's fault, or want of memory
-abbrev pub IsOfOutput : RunFault → Type 0
-IsOfOutput fault = (fault ≡ run.Write) ⊎ (fault ≡ run.Memory)
 
 -- What a run answers. Ok: the source ended after some items, and the machine told them to the end.
 -- A fault is the source's, and all before it is told; or the output's, and of what the source gave

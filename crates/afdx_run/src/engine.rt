@@ -2,12 +2,12 @@
 
 ghost use Rattle.std.specs.Prelude.{◌≡◌, ◌<◌, ◌⊎◌, ◌∷◌, [], ℕ, List, Ok, OnOk, OnErr, IfErr, true, false};
 ghost use Rattle.afdx_lists.specs.Calls.{is_failed_write};
-ghost use Rattle.afdx_lists.specs.Watching.{device_of, has_failed};
 ghost use Rattle.afdx_lists.specs.declared.fault.RunFault.{RunFault as Fault};
-ghost use Rattle.afdx_run.specs.Engine.{Bytes, Item, item_of, IsOfOutput, Runs};
+ghost use Rattle.afdx_run.specs.Engine.{Bytes, Item, item_of, Runs};
+ghost use Rattle.afdx_text.specs.Sinks.{IsOfOutput};
 
-use afdx_lists::{RunFault, Watched};
-use std::io::Write;
+use afdx_lists::RunFault;
+use afdx_text::Sink;
 
 /// What is said of an item beside its bytes.
 pub trait Head: Copy {
@@ -74,43 +74,43 @@ pub trait Machine<H: Head> {
     ghost Done: { Rules → Self → Bytes → Bytes → List (Item H) → Type 0 };
 
     /// Tells an item.
-    fn tell<W: Write>(
+    fn tell<O: Sink>(
         &mut self,
         n: u64,
         head: &H,
         bytes: &[u8],
-        output: &mut Watched<W>,
+        output: &mut O,
     ) -> Result<(), RunFault>
-        requires sound { has_failed output.old ≡ false }
+        requires sound { O.failed output.old ≡ false }
         requires told { (rules : Rules) × (start : Bytes) × (past : List (Item H))
-            × Told rules self.old start (W.contents (device_of output.old)) past
+            × Told rules self.old start (O.written output.old) past
             × H.can_follow past (item_of n head.now bytes.now) }
-        ensures failed { has_failed output.new ≡ is_failed_write result }
+        ensures failed { O.failed output.new ≡ is_failed_write result }
         ensures fault { IfErr result IsOfOutput }
         ensures told { (rules : Rules) (start : Bytes) (past : List (Item H)) →
-            Told rules self.old start (W.contents (device_of output.old)) past →
+            Told rules self.old start (O.written output.old) past →
             H.can_follow past (item_of n head.now bytes.now) →
-            OnOk result (Told rules self.new start (W.contents (device_of output.new))
+            OnOk result (Told rules self.new start (O.written output.new)
             (item_of n head.now bytes.now ∷ past)) }
         ensures begins { (rules : Rules) (start : Bytes) (past : List (Item H)) →
-            Told rules self.old start (W.contents (device_of output.old)) past →
-            OnErr result (Begins rules start (W.contents (device_of output.new)) past
-            ⊎ Begins rules start (W.contents (device_of output.new))
+            Told rules self.old start (O.written output.old) past →
+            OnErr result (Begins rules start (O.written output.new) past
+            ⊎ Begins rules start (O.written output.new)
             (item_of n head.now bytes.now ∷ past)) };
 
     /// Tells what is still to be told.
-    fn end<W: Write>(&mut self, output: &mut Watched<W>) -> Result<(), RunFault>
-        requires sound { has_failed output.old ≡ false }
+    fn end<O: Sink>(&mut self, output: &mut O) -> Result<(), RunFault>
+        requires sound { O.failed output.old ≡ false }
         requires told { (rules : Rules) × (start : Bytes) × (past : List (Item H))
-            × Told rules self.old start (W.contents (device_of output.old)) past }
-        ensures failed { has_failed output.new ≡ is_failed_write result }
+            × Told rules self.old start (O.written output.old) past }
+        ensures failed { O.failed output.new ≡ is_failed_write result }
         ensures fault { IfErr result IsOfOutput }
         ensures done { (rules : Rules) (start : Bytes) (past : List (Item H)) →
-            Told rules self.old start (W.contents (device_of output.old)) past →
-            OnOk result (Done rules self.new start (W.contents (device_of output.new)) past) }
+            Told rules self.old start (O.written output.old) past →
+            OnOk result (Done rules self.new start (O.written output.new) past) }
         ensures begins { (rules : Rules) (start : Bytes) (past : List (Item H)) →
-            Told rules self.old start (W.contents (device_of output.old)) past →
-            OnErr result (Begins rules start (W.contents (device_of output.new)) past) };
+            Told rules self.old start (O.written output.old) past →
+            OnErr result (Begins rules start (O.written output.new) past) };
 }
 
 /// Lets a machine tell all that a source gives.
@@ -118,25 +118,25 @@ pub trait Machine<H: Head> {
 /// The text of an item is handed to `output` before the next one is asked for. The first fault ends
 /// the run: behind one of the source all items before it are told, behind one of the output, or
 /// want of memory, a beginning of that.
-pub fn drive<H: Head, I, S: Source<H, I>, M: Machine<H>, W: Write>(
+pub fn drive<H: Head, I, S: Source<H, I>, M: Machine<H>, O: Sink>(
     source: &mut S,
     input: &mut I,
     machine: &mut M,
-    output: &mut Watched<W>,
+    output: &mut O,
 ) -> Result<(), RunFault>
-    requires sound { has_failed output.old ≡ false }
+    requires sound { O.failed output.old ≡ false }
     requires gave { S.Gave input.old source.old input.old [] }
     requires told { (rules : M.Rules) × M.Told rules machine.old
-        (W.contents (device_of output.old)) (W.contents (device_of output.old)) [] }
-    ensures write { has_failed output.new ≡ is_failed_write result }
+        (O.written output.old) (O.written output.old) [] }
+    ensures write { O.failed output.new ≡ is_failed_write result }
     ensures answer { (rules : M.Rules) → M.Told rules machine.old
-        (W.contents (device_of output.old)) (W.contents (device_of output.old)) [] →
+        (O.written output.old) (O.written output.old) [] →
         Runs (S.Gave input.old source.new input.new) (S.Ended input.old source.new input.new)
-        (M.Done rules machine.new (W.contents (device_of output.old))
-        (W.contents (device_of output.new)))
-        (M.Told rules machine.new (W.contents (device_of output.old))
-        (W.contents (device_of output.new)))
-        (M.Begins rules (W.contents (device_of output.old)) (W.contents (device_of output.new)))
+        (M.Done rules machine.new (O.written output.old)
+        (O.written output.new))
+        (M.Told rules machine.new (O.written output.old)
+        (O.written output.new))
+        (M.Begins rules (O.written output.old) (O.written output.new))
         (S.Stopped input.old source.new input.new) result }
 {
     while source.next(input)? {

@@ -4,9 +4,10 @@
 use crate::texts::short_text;
 use afdx_config::Tables;
 use afdx_frame::{Checked, Side};
-use afdx_lists::Text;
+use afdx_receive::Reception;
 use afdx_samples::{HELLO, ShortText, all_right, base_tables, hello, sealed, world};
 use afdx_systems::{Handover, Systems};
+use afdx_text::{OutLine, Text};
 use std::alloc::{AllocError, Global};
 use std::test::Fail;
 
@@ -37,13 +38,42 @@ fn on_b(time: u64, bytes: [u8; 64]) -> Listed {
     }
 }
 
-/// Hands over a frame, and answers whether a message was delivered.
+/// Hands over a frame, adds the line of what its system made of it, and answers whether that is a
+/// message.
 fn receive(
     systems: &mut Systems,
     handover: Handover<'_>,
     text: &mut Text,
 ) -> Result<bool, AllocError> {
-    systems.receive(handover, text)
+    let (time, n, port) = (handover.time, handover.line, handover.port);
+    let reception = match systems.receive(handover) {
+        Ok(Some(reception)) => reception,
+        Ok(None) => return Ok(false),
+        Err(error) => return Err(error),
+    };
+    let system = systems.name_at(port);
+    match reception {
+        Reception::Message { vl, bytes, .. } => {
+            let line = OutLine::Message {
+                time,
+                system,
+                vl,
+                bytes,
+            };
+            line.put(text)?;
+            Ok(true)
+        }
+        Reception::Dropped(why) => {
+            let line = OutLine::Unread {
+                time,
+                system,
+                n,
+                why,
+            };
+            line.put(text)?;
+            Ok(false)
+        }
+    }
 }
 
 /// Hands over the frames at a port, one after the other. Adds what the systems tell of them, and

@@ -4,3 +4,4 @@ mod EndLemmas
 mod SystemsLemmas
 mod LawLemmas
 mod Examples
+pub mod ReceptionLemmas

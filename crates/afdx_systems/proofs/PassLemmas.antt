@@ -1,12 +1,12 @@
 -- A message that is put to a port of which all was read, and read there at once.
-use Rattle.std.proofs.Common.{◌≡◌, OnOk, Result, Ok, Err, ℕ, ◌<◌, ◌≤◌, List, ◌++◌, length, Some, None, sym}
+use Rattle.std.proofs.Common.{◌≡◌, ℕ, ◌<◌, ◌≤◌, List, length, Some, None, sym}
 use Rattle.std.proofs.Common.{ap, ◌∙◌, subst, arith, inl, inr, refl, [], ◌∷◌, cond}
 use Rattle.std.specs.Prelude.{position, slice_get, slice_set}
 use Rattle.std.proofs.lemmas.Bool.{cases_eq}
 use Rattle.std.proofs.lemmas.List.{get_or-set_same, get_or-set_other, length-set}
 use Rattle.std.proofs.lemmas.Option.{slice_get-get_or, slice_get_past, slice_get_cases, slice_get_within}
 use Rattle.afdx_comport.specs.Messages.{TimedMessage}
-use Rattle.afdx_comport.specs.Held.{with_message, without_first, with_spare, sample_of, first_of, IsRead}
+use Rattle.afdx_comport.specs.Held.{with_message, without_first, with_spare, sample_of, first_of, read_of, IsRead}
 use Rattle.afdx_comport.specs.Ports.{is_for}
 use Rattle.afdx_comport.specs.declared.held.Held.{Held}
 use Rattle.afdx_comport.specs.declared.held.Held.TheVariants.{Sampling, Queuing}
@@ -14,8 +14,7 @@ use Rattle.afdx_comport.specs.declared.com_ports.ComPort.{ComPort}
 use Rattle.afdx_comport.specs.Calls.{Put, Take, GiveBack, held_after}
 use Rattle.afdx_comport.proofs.HeldLemmas.{put_and_read}
 use Rattle.afdx_comport.proofs.PlaceLemmas.{stays}
-use Rattle.afdx_systems.specs.ReadPorts.{AreRead, IsPassedOn}
-use Rattle.afdx_systems.specs.Receptions.{message_line}
+use Rattle.afdx_systems.specs.ReadPorts.{AreRead, IsPassedOn, IsReadBack}
 
 -- there is a port at each place within
 pub port_at : (ports : List ComPort) (place : ℕ) → place < length ports → (port : ComPort)
@@ -62,13 +61,6 @@ sample_read : (held : Held) (time : ℕ) (bytes : List ℕ) (m : TimedMessage)
 sample_read (Sampling sample) time bytes m is =
     (let same : m ≡ record { time = time; bytes = bytes } = cc in ap (λ (x : TimedMessage). x.bytes) same, tt)
 sample_read (Queuing line) time bytes m is = absurd cc
-
--- and what is taken of a queue of which all was read
-first_read : (held : Held) (time : ℕ) (bytes m : List ℕ) → IsRead held
-    → Some m ≡ first_of (with_message time bytes held) → m ≡ bytes
-first_read (Sampling sample) time bytes m all is = absurd cc
-first_read (Queuing line) time bytes m all is = let same : Some m ≡ Some bytes = is
-    ∙ (put_and_read (Queuing line) time bytes all).read in cc
 
 -- one of the two is there
 none_read : (held : Held) (time : ℕ) (bytes : List ℕ) → IsRead held
@@ -194,13 +186,6 @@ module _ (ports : List ComPort) (place time : ℕ) (message : List ℕ) (after :
         ∙ stays after place link udp port_then (without_first held_then) here_then ∙ found_then link udp;
   }
 
-  -- it is what was put
-  pub taken_message : AreRead ports → (m : List ℕ)
-      → ((p : ComPort) → slice_get after place ≡ Some p → Some m ≡ first_of p.held) → m ≡ message
-  unfolding port_then held_then
-  taken_message all m reads = first_read put.port.held time message m (all place put.port put.here)
-      (reads port_then here_then)
-
   -- the calls of its port were these: of a sample
   pub sample_passed : (m : TimedMessage)
       → ((p : ComPort) → slice_get after place ≡ Some p → Some m ≡ sample_of p.held)
@@ -266,13 +251,22 @@ given_back ports rest after place room within gives passed =
           ∙ stays rest place link udp port.0 (with_spare room port.0.held) port.1 ∙ passed.found link udp;
     }
 
--- the line of a message, of another that is the same
-pub line_of_same : {E : Type 0} (r : Result (Unit {0}) E) (text : List ℕ) (old : List ℕ) (time : ℕ)
-    (name : List ℕ) (vl : ℕ) (message other : List ℕ) → other ≡ message →
-    OnOk r (text ≡ old ++ message_line time name vl other) → OnOk r (text ≡ old ++ message_line time name vl message)
-line_of_same r text old time name vl message other same line =
-    subst (λ (m : List ℕ). OnOk r (text ≡ old ++ message_line time name vl m)) same line
+-- ---- a message that was passed on
 
-pub on_ok : {A E P : Type 0} (r : Result A E) → P → OnOk r P
-on_ok (Ok value) is = is
-on_ok (Err fault) is = tt
+-- what a read gives behind the put
+read_back : (held : Held) (m : TimedMessage) → IsRead held
+    → read_of (held_after held (Put m ∷ [])) ≡ Some m.bytes
+unfolding held_after
+read_back held m all =
+    let put = put_and_read held m.time m.bytes all in
+    ap (λ b. read_of (cond b held (with_message m.time m.bytes held))) put.room ∙ put.read
+
+pub are_read_back : (ports after : List ComPort) (vl udp place : ℕ) (m : TimedMessage)
+    → Some place ≡ position (is_for vl udp) ports → AreRead ports → IsPassedOn ports place m after
+    → IsReadBack ports vl udp m after
+are_read_back ports after vl udp place m found all passed = record {
+  place = place;
+  found = sym found;
+  passed = passed;
+  read = λ port here. read_back port.held m (all place port here);
+}

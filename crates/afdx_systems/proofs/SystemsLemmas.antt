@@ -1,8 +1,9 @@
 -- The systems at the ports of the switch.
 use Rattle.std.proofs.Common.{◌≡◌, ℕ, ◌+◌, ◌<◌, ◌≤◌, ◌==◌, Bool, true, false, cond, List, [], ◌∷◌}
-use Rattle.std.proofs.Common.{◌++◌, length, Option, Some, None, OnOk, IfOk, Result, Vec, Global}
+use Rattle.std.proofs.Common.{length, Option, Some, None, IfOk, Result, Ok, Err, Vec, Global}
 use Rattle.std.proofs.Common.{vec_len, get_or, refl, sym, ap, ◌∙◌, subst, arith, ◌⊎◌, inl, inr}
-use Rattle.std.specs.Prelude.{slice_get, slice_set, option_and_then}
+use Rattle.std.specs.Prelude.{slice_get, slice_set, option_and_then, option_map, IfSome}
+use Rattle.std.specs.Option.{option_map_or}
 use Rattle.std.specs.List.{position_from, AllByRecursion}
 use Rattle.std.proofs.lemmas.Bool.{cases_eq, ne_eqb}
 use Rattle.std.proofs.lemmas.Bool.Decides.{nat_tests}
@@ -15,8 +16,12 @@ use Rattle.afdx_receive.specs.Arrivals.{Arrived}
 use Rattle.afdx_systems.specs.declared.end_system.EndSystem.{EndSystem}
 use Rattle.afdx_systems.specs.declared.systems.Systems.{Systems}
 use Rattle.afdx_systems.specs.Handovers.{HandedOver, arrival_of, came_to}
-use Rattle.afdx_systems.specs.Receptions.{line_at, is_delivered_at, reception_line, is_delivered}
-use Rattle.afdx_systems.specs.StandsFor.{IsAfter, IsAt, StandsFor, HasNewest, HaveNewest, system_in}
+use Rattle.afdx_receive.specs.Answers.{Answer, answer_of}
+use Rattle.afdx_systems.specs.ReadPorts.{ReadsBack}
+use Rattle.afdx_receive.specs.declared.reception.Reception.{Reception}
+use Rattle.afdx_systems.specs.Receptions.{answered, answered_at, name_at, name_of}
+use Rattle.afdx_systems.specs.StandsFor.{IsAfter, IsAt, StandsFor, HasNewest, HaveNewest, ReadsBackAt}
+use Rattle.afdx_systems.specs.StandsFor.{system_in}
 use Rattle.afdx_systems.proofs.PassLemmas.{slice_get-set_here, slice_get-set_there}
 
 -- ---- new systems
@@ -93,6 +98,31 @@ goes_on rows past x None old e new is takes at = absurd (subst (λ o. IsAt rows 
 goes_on rows past x (Some system) old e new is takes at =
     takes system (subst (λ o. IsAt rows past (Some system) o) is at)
 
+-- what it reads back
+pub passes_on : {E : Type 0} (rows : Rows) (past : List Arrived) (place : Option ℕ) (old : Option EndSystem)
+    (e new : EndSystem) (time : ℕ) (answer : ℕ → Answer) (r : Result (Option Reception) E) → old ≡ Some e →
+    ((system : ℕ) → IsAfter rows system e past →
+    IfOk r (λ told. option_map answer_of told ≡ Some (answer system))) →
+    ((system : ℕ) → IsAfter rows system e past →
+    IfOk r (λ told. IfSome told (λ reception. ReadsBack e.ports new.ports time (answer_of reception)))) →
+    IsAt rows past place old →
+    IfOk r (λ told. ReadsBackAt old (Some new) time (option_map answer_of told))
+passes_on {E = E} rows past place old e new time answer r is answers reads at = by r place answers reads
+    (subst (λ o. IsAt rows past place o) is at)
+  where
+    by : (r : Result (Option Reception) E) (place : Option ℕ) →
+        ((system : ℕ) → IsAfter rows system e past →
+        IfOk r (λ told. option_map answer_of told ≡ Some (answer system))) →
+        ((system : ℕ) → IsAfter rows system e past →
+        IfOk r (λ told. IfSome told (λ reception. ReadsBack e.ports new.ports time (answer_of reception)))) →
+        IsAt rows past place (Some e) →
+        IfOk r (λ told. ReadsBackAt old (Some new) time (option_map answer_of told))
+    by (Err fault) place answers reads at = tt
+    by (Ok told) None answers reads at = absurd at
+    by (Ok None) (Some system) answers reads at = absurd (let none = answers system at in cc)
+    by (Ok (Some reception)) (Some system) answers reads at =
+        subst (λ o. ReadsBackAt o (Some new) time (Some (answer_of reception))) (sym is) (reads system at)
+
 pub same : (a b : ℕ) → a ≡ b → (a == b) ≡ true
 same a b e = grind (arith, nat_tests)
 
@@ -115,6 +145,28 @@ none_stays : (rows : Rows) (past after : List Arrived) (place : Option ℕ)
     → IsAt rows past place None → IsAt rows after place None
 none_stays rows past after None at = tt
 none_stays rows past after (Some system) at = absurd at
+
+-- the system at a port that they have
+pub at_port : (rows : Rows) (systems : Systems) (before : List HandedOver) (port place : ℕ)
+    (at : Option EndSystem) → StandsFor rows systems before → place ≡ port →
+    place < vec_len systems.at_ports → at ≡ get_or systems.at_ports.items place at
+    → IsAt rows (came_to port before) (system_at_port rows.systems port) at
+at_port rows systems before port place at stands same within is =
+    subst (λ (o : Option EndSystem). IsAt rows (came_to port before) (system_at_port rows.systems port) o)
+    (ap (λ (n : ℕ). system_in systems n) (sym same) ∙ ap (option_and_then (λ (e : Option EndSystem). e))
+    (slice_get_read systems.at_ports.items (vec_len systems.at_ports) place at
+    systems.at_ports.ok.0 within is)) (stands.each port)
+
+-- and none at a port that they don't have
+pub none_at_port : (rows : Rows) (systems : Systems) (before : List HandedOver) (port place : ℕ)
+    → StandsFor rows systems before → place ≡ port → vec_len systems.at_ports ≤ place
+    → system_at_port rows.systems port ≡ None
+none_at_port rows systems before port place stands same beyond =
+    none_is_at rows (came_to port before) (system_at_port rows.systems port)
+    (subst (λ (o : Option EndSystem). IsAt rows (came_to port before) (system_at_port rows.systems port) o)
+    (ap (option_and_then (λ (e : Option EndSystem). e))
+    (slice_get_past systems.at_ports.items port (omega (arith, systems.at_ports.ok.0, same, beyond))))
+    (stands.each port))
 
 -- the systems before a frame comes to a port that they have
 pub record AreBefore (rows : Rows) (systems : Systems) (before : List HandedOver) (d : HandedOver)
@@ -180,6 +232,24 @@ module _ (rows : Rows) (systems : Systems) (before : List HandedOver) (d : Hande
       one port (inr other) = rw (elsewhere new now set port other, came_there d before port other)
           (are.stands.each port)
 
+  -- what was read back there
+  pub read_back_here : (now : Option EndSystem) (time : ℕ) {E : Type 0} (r : Result (Option Reception) E) →
+      IfOk r (λ told. ReadsBackAt at now time (option_map answer_of told)) →
+      IfOk r (λ told. ReadsBackAt (system_in systems d.port)
+      (option_and_then (λ (e : Option EndSystem). e)
+      (slice_get (slice_set systems.at_ports.items place now) d.port)) time (option_map answer_of told))
+  read_back_here now time (Ok told) h =
+      subst (λ (o : Option EndSystem). ReadsBackAt o (option_and_then (λ (e : Option EndSystem). e)
+      (slice_get (slice_set systems.at_ports.items place now) d.port)) time (option_map answer_of told))
+      (sym (ap (λ (n : ℕ). system_in systems n) (sym are.port) ∙ ap (option_and_then (λ (e : Option EndSystem). e)) are.here))
+      (subst (λ (o : Option EndSystem). ReadsBackAt at o time (option_map answer_of told))
+      (sym (ap (λ (n : ℕ). option_and_then (λ (e : Option EndSystem). e)
+      (slice_get (slice_set systems.at_ports.items place now) n)) (sym are.port)
+      ∙ ap (option_and_then (λ (e : Option EndSystem). e))
+      (slice_get-set_here systems.at_ports.items place now
+      (slice_get_within systems.at_ports.items place at are.here)))) h)
+  read_back_here now time (Err e) h = tt
+
   -- and hold the newest
   pub newest_after : (new : Systems) (now : Option EndSystem)
       → new.at_ports.items ≡ slice_set systems.at_ports.items place now → HaveNewest rows systems before →
@@ -204,15 +274,13 @@ module _ (rows : Rows) (systems : Systems) (before : List HandedOver) (d : Hande
   no_system = subst (λ (o : Option EndSystem). IsAt rows (came_to d.port before)
       (system_at_port rows.systems d.port) o) none_in (stands.each d.port)
 
-  pub no_line : reception_line rows before d ≡ []
-  unfolding reception_line
-  no_line = ap (line_at rows (came_to d.port before) d)
+  pub none_answered : answered rows before d ≡ None
+  unfolding answered
+  none_answered = ap (answered_at rows (came_to d.port before) d)
       (none_is_at rows (came_to d.port before) (system_at_port rows.systems d.port) no_system)
 
-  pub not_delivered : is_delivered rows before d ≡ false
-  unfolding is_delivered
-  not_delivered = ap (is_delivered_at rows (came_to d.port before) d)
-      (none_is_at rows (came_to d.port before) (system_at_port rows.systems d.port) no_system)
+  pub read_back_nowhere : (time : ℕ) → ReadsBackAt (system_in systems d.port) (system_in systems d.port) time None
+  read_back_nowhere time = subst (λ (o : Option EndSystem). ReadsBackAt o o time None) (sym none_in) tt
 
   pub stand_still : StandsFor rows systems (d ∷ before)
   stand_still = record { each = λ q. one q (cases_eq q d.port) }
@@ -232,16 +300,15 @@ module _ (rows : Rows) (systems : Systems) (before : List HandedOver) (d : Hande
       one q (inl e) = rw (e, none_in) (none_newest rows (came_to d.port (d ∷ before)) (system_at_port rows.systems d.port))
       one q (inr other) = rw (came_there d before q other) (have.each q)
 
--- the line and the answer, as the definitions have them
-pub line_is : {E : Type 0} (rows : Rows) (before : List HandedOver) (d : HandedOver)
-    (r : Result Bool E) (new old : List ℕ) →
-    OnOk r (new ≡ old ++ line_at rows (came_to d.port before) d
-    (system_at_port rows.systems d.port)) → OnOk r (new ≡ old ++ reception_line rows before d)
-unfolding reception_line
-line_is rows before d r new old h = h
+-- the answer and the name, as the definitions have them
+pub answered_is : {E : Type 0} (rows : Rows) (before : List HandedOver) (d : HandedOver)
+    (r : Result (Option Reception) E) →
+    IfOk r (λ told. option_map answer_of told ≡ answered_at rows (came_to d.port before) d
+    (system_at_port rows.systems d.port)) → IfOk r (λ told. option_map answer_of told ≡ answered rows before d)
+unfolding answered
+answered_is rows before d r h = h
 
-pub delivered_is : {E : Type 0} (rows : Rows) (before : List HandedOver) (d : HandedOver) (r : Result Bool E) →
-    IfOk r (λ (yes : Bool). yes ≡ is_delivered_at rows (came_to d.port before) d
-    (system_at_port rows.systems d.port)) → IfOk r (λ (yes : Bool). yes ≡ is_delivered rows before d)
-unfolding is_delivered
-delivered_is rows before d r h = h
+pub name_is : (rows : Rows) (port : ℕ) (name : List ℕ)
+    → name ≡ option_map_or (name_of rows) (system_at_port rows.systems port) [] → name ≡ name_at rows port
+unfolding name_at
+name_is rows port name e = e

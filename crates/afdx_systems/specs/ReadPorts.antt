@@ -9,7 +9,7 @@ use Rattle.afdx_comport.specs.declared.com_ports.ComPort.{ComPort}
 use Rattle.afdx_comport.specs.declared.held.Held.{Held}
 use Rattle.afdx_comport.specs.declared.held.Held.TheVariants.{Sampling, Queuing}
 use Rattle.afdx_comport.specs.Calls.{Put, Take, GiveBack, held_after}
-use Rattle.afdx_comport.specs.Held.{IsRead}
+use Rattle.afdx_comport.specs.Held.{IsRead, read_of}
 use Rattle.afdx_comport.specs.Ports.{is_for}
 
 -- all that came to these ports was read
@@ -30,6 +30,23 @@ pub record IsPassedOn (ports : List ComPort) (place : ℕ) (message : TimedMessa
         held = held_after port.held (GiveBack room ∷ Take ∷ Put message ∷ []);
       }))
   pub others : (other : ℕ) → (other ≡ place → ⊥) → slice_get after other ≡ slice_get ports other
+
+-- a message was put to the port of its link and UDP port, and read there at once: what was read are
+-- its bytes
+pub record IsReadBack (ports : List ComPort) (vl udp : ℕ) (message : TimedMessage)
+    (after : List ComPort) : Type 0 where
+  pub place : ℕ
+  pub found : position (is_for vl udp) ports ≡ Some place
+  pub passed : IsPassedOn ports place message after
+  pub read : (port : ComPort) → slice_get ports place ≡ Some port →
+      read_of (held_after port.held (Put message ∷ [])) ≡ Some message.bytes
+
+-- what an answer at this time does to the ports of its system: a message is read back, and a frame
+-- that is dropped leaves them as they were
+abbrev pub ReadsBack : List ComPort → List ComPort → ℕ → Answer → Type 0
+ReadsBack ports after time (Message vl udp payload) =
+    IsReadBack ports vl udp (record { time = time; bytes = payload }) after
+ReadsBack ports after time (Dropped why) = after ≡ ports
 
 -- the message that an answer delivers to a UDP port of a link, else the one before
 abbrev pub newer : ℕ → ℕ → ℕ → Answer → Option TimedMessage → Option TimedMessage

@@ -1,28 +1,15 @@
 -- What the systems make of the frames that are handed over to them, and the lines that tell it: `M`
 -- for a message that a communication port took and that was read there, `X` for a frame that the
 -- receiver dropped.
-use Rattle.std.specs.Prelude.{ℕ, ◌+◌, Bool, true, false, Option, Some, None, List, [], ◌∷◌, ◌++◌, codes, slice_get, if◌then◌else◌}
+use Rattle.std.specs.Prelude.{ℕ, ◌+◌, Bool, true, false, Option, Some, None, List, [], ◌∷◌, ◌++◌, slice_get, if◌then◌else◌}
 use Rattle.std.specs.Option.{option_map_or}
-use Rattle.std.specs.Fmt.{decimal}
-use Rattle.hex.specs.Hex.{encode_lower}
 use Rattle.afdx_config.specs.Rows.{Rows}
 use Rattle.afdx_config.specs.Reading.{system_at_port}
 use Rattle.afdx_receive.specs.Arrivals.{Arrived}
 use Rattle.afdx_receive.specs.Answers.{Answer, Message, Dropped, answer_to}
 use Rattle.afdx_receive.specs.Words.{drop_word}
 use Rattle.afdx_systems.specs.Handovers.{HandedOver, arrival_of, came_to}
-
--- the `M` line of a message of a link that a system read at this time
-abbrev pub message_line : ℕ → List ℕ → ℕ → List ℕ → List ℕ
-message_line time name vl message =
-    codes "M " ++ decimal time ++ codes " " ++ name ++ codes " " ++ decimal vl ++ codes " "
-    ++ encode_lower message ++ codes "\n"
-
--- the `X` line of the frame of a line of the list that a system dropped
-abbrev pub drop_line : ℕ → List ℕ → ℕ → List ℕ → List ℕ
-drop_line time name line word =
-    codes "X " ++ decimal time ++ codes " " ++ name ++ codes " " ++ decimal line ++ codes " "
-    ++ word ++ codes "\n"
+pub use Rattle.afdx_text.specs.OutLines.{message_line, drop_line}
 
 -- the line of a system's answer to the frame of a line of the list, which came at this time
 abbrev pub answer_line : ℕ → ℕ → List ℕ → Answer → List ℕ
@@ -42,6 +29,11 @@ name_of rows system = option_map_or (λ s. s.name) (slice_get rows.systems syste
 abbrev pub answer_at : Rows → List Arrived → HandedOver → ℕ → Answer
 answer_at rows past d system = answer_to rows system past (arrival_of d)
 
+-- the same of the system at a port; none where no system has it
+abbrev pub answered_at : Rows → List Arrived → HandedOver → Option ℕ → Option Answer
+answered_at rows past d None = None
+answered_at rows past d (Some system) = Some (answer_at rows past d system)
+
 -- the line that tells it, and whether it is a message; nothing where no system has the port
 abbrev pub line_at : Rows → List Arrived → HandedOver → Option ℕ → List ℕ
 line_at rows past d None = []
@@ -51,6 +43,15 @@ line_at rows past d (Some system) =
 abbrev pub is_delivered_at : Rows → List Arrived → HandedOver → Option ℕ → Bool
 is_delivered_at rows past d None = false
 is_delivered_at rows past d (Some system) = is_message (answer_at rows past d system)
+
+-- what is answered to a frame that is handed over after these
+unfoldable pub answered : Rows → List HandedOver → HandedOver → Option Answer
+answered rows before d =
+    answered_at rows (came_to d.port before) d (system_at_port rows.systems d.port)
+
+-- the name of the system at a port
+unfoldable pub name_at : Rows → ℕ → List ℕ
+name_at rows port = option_map_or (name_of rows) (system_at_port rows.systems port) []
 
 -- the line of a frame that is handed over after these
 unfoldable pub reception_line : Rows → List HandedOver → HandedOver → List ℕ

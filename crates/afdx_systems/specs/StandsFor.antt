@@ -3,11 +3,12 @@ use Rattle.std.specs.Prelude.{◌≡◌, ℕ, Option, Some, None, List, option_a
 use Rattle.afdx_config.specs.Rows.{Rows}
 use Rattle.afdx_config.specs.Reading.{system_at_port}
 use Rattle.afdx_receive.specs.Arrivals.{Arrived}
+use Rattle.afdx_receive.specs.Answers.{Answer}
 use Rattle.afdx_receive.specs.StandsFor as receiver
 use Rattle.afdx_systems.specs.declared.end_system.EndSystem.{EndSystem}
 use Rattle.afdx_systems.specs.declared.systems.Systems.{Systems}
 use Rattle.afdx_systems.specs.Handovers.{HandedOver, came_to}
-use Rattle.afdx_systems.specs.ReadPorts.{AreRead, AreFound, HoldNewest}
+use Rattle.afdx_systems.specs.ReadPorts.{AreRead, AreFound, HoldNewest, ReadsBack}
 use Rattle.afdx_systems.specs.Receptions.{name_of}
 
 -- the system at this place of the tables, after what arrived at it
@@ -42,3 +43,11 @@ HasNewest rows past place at = Unit {0}
 pub record HaveNewest (rows : Rows) (systems : Systems) (all : List HandedOver) : Type 0 where
   pub each : (port : ℕ) →
       HasNewest rows (came_to port all) (system_at_port rows.systems port) (system_in systems port)
+
+-- what the answer at a port does to the system there: its communication ports read a message back.
+-- Where no system is nothing is answered
+abbrev pub ReadsBackAt : Option EndSystem → Option EndSystem → ℕ → Option Answer → Type 0
+ReadsBackAt (Some e) (Some after) time (Some answer) =
+    ReadsBack e.ports after.ports time answer
+ReadsBackAt None None time None = Unit {0}
+ReadsBackAt old new time answer = ⊥

@@ -1,19 +1,17 @@
 //! One end system.
 
-ghost use Rattle.std.specs.Prelude.{◌≡◌, ℕ, ◌<◌, ◌++◌, ◌∷◌, [], IfOk, OnOk, Some, List, length, position};
+ghost use Rattle.std.specs.Prelude.{◌≡◌, ℕ, ◌<◌, ◌∷◌, [], IfOk, IfSome, OnOk, Some, List, length, option_map, position};
 ghost use Rattle.afdx_config.specs.Rows.{Rows};
+ghost use Rattle.afdx_receive.specs.Answers.{answer_of};
 ghost use Rattle.afdx_receive.specs.Arrivals.{Arrived};
 ghost use Rattle.afdx_comport.specs.Ports.{is_for};
-ghost use Rattle.afdx_lists.specs.Texts.{text_bytes};
 ghost use Rattle.afdx_systems.specs.Handovers.{handed_over, arrival_of};
-ghost use Rattle.afdx_systems.specs.ReadPorts.{AreRead, IsPassedOn, HoldNewest};
-ghost use Rattle.afdx_systems.specs.Receptions.{message_line, line_at, is_delivered_at};
+ghost use Rattle.afdx_systems.specs.ReadPorts.{AreRead, IsPassedOn, HoldNewest, ReadsBack};
+ghost use Rattle.afdx_systems.specs.Receptions.{answer_at};
 
 use crate::handover::Handover;
-use crate::lines::{put_drop, put_message};
 use afdx_comport::ComPorts;
 use afdx_config::{SystemId, Tables};
-use afdx_lists::Text;
 use afdx_receive::{Receiver, Reception};
 use std::alloc::{AllocError, Global};
 
@@ -35,16 +33,13 @@ impl Drop for EndSystem {
     }
 }
 
-/// Puts a message to the port at this place, reads it there at once, and adds the line of what was
-/// read.
+/// Puts a message to the port at this place, and reads it there at once: a sample stays, and what
+/// is taken out of a queue is given back.
 fn pass_on(
     ports: &mut ComPorts,
     place: usize,
     time: u64,
-    name: &str,
-    vl: u16,
     message: &[u8],
-    text: &mut Text,
 ) -> Result<(), AllocError>
     requires { place < length ports.old }
     ensures read { AreRead ports.old → AreRead ports.new }
@@ -53,23 +48,19 @@ fn pass_on(
     ensures passed { AreRead ports.old →
         OnOk result (IsPassedOn ports.old place (record { time = time; bytes = message.now })
         ports.new) }
-    ensures line { AreRead ports.old →
-        OnOk result (text_bytes text.new
-        ≡ text_bytes text.old ++ message_line time name.now vl message.now) }
 {
     match ports.put(place, time, message) {
         Ok(()) => {}
         // A port of which all was read has room: it is want of memory.
         Err(_) => return Err(AllocError),
     }
-    if let Some((_, read)) = ports.read_sample(place) {
-        return put_message(text, time, name, vl, read);
+    if let Some((_, _read)) = ports.read_sample(place) {
+        return Ok(());
     }
     match ports.take_queued(place) {
         Some(read) => {
-            let told = put_message(text, time, name, vl, read.as_slice());
             ports.give_back(place, read);
-            told
+            Ok(())
         }
         None => Ok(()),
     }
@@ -98,49 +89,40 @@ impl EndSystem {
         })
     }
 
-    /// Takes in a frame, adds the line that tells what became of it, and tells whether it is a
-    /// message.
-    pub(crate) fn receive(
+    /// Takes in a frame, and says what became of it: a message was put to its communication port
+    /// and read there at once.
+    pub(crate) fn receive<'a>(
         &mut self,
-        handover: Handover<'_>,
-        text: &mut Text,
-    ) -> Result<bool, AllocError>
+        handover: Handover<'a>,
+    ) -> Result<Option<Reception<'a>>, AllocError>
         ensures stands { (rows : Rows) (system : ℕ) (past : List Arrived) →
             IsAfter rows system self.old past →
             IsAfter rows system self.new (arrival_of (handed_over handover.entry) ∷ past) }
-        ensures line { (rows : Rows) (system : ℕ) (past : List Arrived) →
+        ensures answer { (rows : Rows) (system : ℕ) (past : List Arrived) →
             IsAfter rows system self.old past →
-            OnOk result (text_bytes text.new
-            ≡ text_bytes text.old ++ line_at rows past (handed_over handover.entry) (Some system)) }
-        ensures delivered { (rows : Rows) (system : ℕ) (past : List Arrived) →
+            IfOk result (λ told. option_map answer_of told
+            ≡ Some (answer_at rows past (handed_over handover.entry) system)) }
+        ensures passed { (rows : Rows) (system : ℕ) (past : List Arrived) →
             IsAfter rows system self.old past →
-            IfOk result (λ yes.
-            yes ≡ is_delivered_at rows past (handed_over handover.entry) (Some system)) }
+            IfOk result (λ told. IfSome told (λ reception.
+            ReadsBack self.old.ports self.new.ports handover.entry.time (answer_of reception))) }
         ensures newest { (rows : Rows) (system : ℕ) (past : List Arrived) →
             IsAfter rows system self.old past → HoldNewest rows system past self.old.ports →
             OnOk result (HoldNewest rows system
             (arrival_of (handed_over handover.entry) ∷ past) self.new.ports) }
     {
         let Handover {
-            side,
-            time,
-            line,
-            frame,
-            ..
+            side, time, frame, ..
         } = handover;
-        let name = self.name.as_str();
         match self.receiver.receive_checked(time, side, frame) {
-            Reception::Dropped(why) => {
-                put_drop(text, time, name, line, why)?;
-                Ok(false)
-            }
+            Reception::Dropped(why) => Ok(Some(Reception::Dropped(why))),
             Reception::Message { vl, udp, bytes } => {
                 // The receiver delivers to the ports of the tables alone, and they are all here.
                 let Some(place) = self.ports.find(vl, udp) else {
-                    return Ok(false);
+                    return Ok(None);
                 };
-                pass_on(&mut self.ports, place, time, name, vl.0, bytes, text)?;
-                Ok(true)
+                pass_on(&mut self.ports, place, time, bytes)?;
+                Ok(Some(Reception::Message { vl, udp, bytes }))
             }
         }
     }

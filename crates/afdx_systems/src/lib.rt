@@ -1,11 +1,9 @@
-//! The end systems of a network: what each makes of the frames that the switches hand over to it,
-//! and the lines that tell it.
+//! The end systems of a network: what each makes of the frames that the switches hand over to it.
 #![tactic(auto)]
 
 mod end_system;
 mod handover;
 pub mod laws;
-mod lines;
 mod systems;
 
 pub use handover::Handover;

@@ -1,21 +1,21 @@
 //! The end systems of a network, by their ports of the switch.
 
-ghost use Rattle.std.specs.Prelude.{◌≡◌, ℕ, ◌++◌, ◌∷◌, [], IfOk, OnOk, List, Option};
+ghost use Rattle.std.specs.Prelude.{◌≡◌, ℕ, ◌∷◌, [], IfOk, OnOk, List, Option, option_map};
+ghost use Rattle.std.specs.Option.{option_map_or};
 ghost use Rattle.afdx_config.specs.Rows.{Rows};
 ghost use Rattle.afdx_config.specs.Lawful.{IsLawful};
 ghost use Rattle.afdx_config.specs.Reading.{system_at_port};
+ghost use Rattle.afdx_receive.specs.Answers.{answer_of};
 ghost use Rattle.afdx_receive.specs.Arrivals.{Arrived};
-ghost use Rattle.afdx_lists.specs.Texts.{text_bytes};
 ghost use Rattle.afdx_systems.specs.Handovers.{HandedOver, handed_over, arrival_of};
-ghost use Rattle.afdx_systems.specs.Receptions.{line_at, is_delivered_at};
-ghost use Rattle.afdx_systems.specs.Receptions.{reception_line, is_delivered};
-ghost use Rattle.afdx_systems.specs.StandsFor.{IsAt, HasNewest};
+ghost use Rattle.afdx_systems.specs.Receptions.{answered, answered_at, name_at, name_of as name_in};
+ghost use Rattle.afdx_systems.specs.StandsFor.{IsAt, HasNewest, ReadsBackAt, system_in};
 
 use crate::end_system::EndSystem;
 use crate::handover::Handover;
 use afdx_config::Tables;
 use afdx_frame::LAST_PORT;
-use afdx_lists::Text;
+use afdx_receive::Reception;
 use std::alloc::{AllocError, Global};
 
 /// The end systems of a network. A contract speaks of them as what they stand for: a list of all
@@ -40,29 +40,40 @@ fn system_at(alloc: Global, tables: &Tables, port: u8) -> Result<Option<EndSyste
 }
 
 /// Takes in a frame at the system of a port, if one is there.
-fn receive_at(
+fn receive_at<'a>(
     at: &mut Option<EndSystem>,
-    handover: Handover<'_>,
-    text: &mut Text,
-) -> Result<bool, AllocError>
+    handover: Handover<'a>,
+) -> Result<Option<Reception<'a>>, AllocError>
     ensures stands { (rows : Rows) (past : List Arrived) (place : Option ℕ) →
         IsAt rows past place at.old →
         IsAt rows (arrival_of (handed_over handover.entry) ∷ past) place at.new }
-    ensures line { (rows : Rows) (past : List Arrived) (place : Option ℕ) →
+    ensures answer { (rows : Rows) (past : List Arrived) (place : Option ℕ) →
         IsAt rows past place at.old →
-        OnOk result (text_bytes text.new
-        ≡ text_bytes text.old ++ line_at rows past (handed_over handover.entry) place) }
-    ensures delivered { (rows : Rows) (past : List Arrived) (place : Option ℕ) →
+        IfOk result (λ told. option_map answer_of told
+        ≡ answered_at rows past (handed_over handover.entry) place) }
+    ensures passed { (rows : Rows) (past : List Arrived) (place : Option ℕ) →
         IsAt rows past place at.old →
-        IfOk result (λ yes. yes ≡ is_delivered_at rows past (handed_over handover.entry) place) }
+        IfOk result (λ told.
+        ReadsBackAt at.old at.new handover.entry.time (option_map answer_of told)) }
     ensures newest { (rows : Rows) (past : List Arrived) (place : Option ℕ) →
         IsAt rows past place at.old → HasNewest rows past place at.old →
         OnOk result
         (HasNewest rows (arrival_of (handed_over handover.entry) ∷ past) place at.new) }
 {
     match at {
-        Some(system) => system.receive(handover, text),
-        None => Ok(false),
+        Some(system) => system.receive(handover),
+        None => Ok(None),
+    }
+}
+
+/// The name of the system of a port; empty where none is there.
+fn name_of(at: &Option<EndSystem>) -> &str
+    ensures { (rows : Rows) (past : List Arrived) (place : Option ℕ) →
+        IsAt rows past place at.now → result.now ≡ option_map_or (name_in rows) place [] }
+{
+    match at {
+        Some(system) => system.name.as_str(),
+        None => "",
     }
 }
 
@@ -82,24 +93,31 @@ impl Systems {
         Ok(Systems { at_ports })
     }
 
-    /// Takes in a frame at the system that has its port. It adds the line that tells what the
-    /// system made of it, `M time system vl hex` or `X time system n WORD`, and tells whether a
-    /// message was delivered: put to its communication port and read there at once. Where no system
-    /// has the port, nothing is added.
+    /// Takes in a frame at the system that has its port, and says what the system made of it: a
+    /// message, or why it was dropped. `None`: no system has the port.
+    ///
+    /// A message was put to its communication port and read there at once: a sample stays, what is
+    /// taken out of a queue is given back. Its bytes, lent by the frame, are what was read (clause
+    /// `passed`).
     ///
     /// The answer comes from the frames of the same link that were handed over at the same port
-    /// before, and from nothing else. The error is want of memory: what then stands in the text is
-    /// open, until it is cleared, and whether the port has the message. The frame counts as handed
-    /// over all the same: don't hand it over again. The only memory that it takes is that of the
-    /// message and of the text.
-    pub fn receive(&mut self, handover: Handover<'_>, text: &mut Text) -> Result<bool, AllocError>
-        ensures line { (rows : Rows) (before : List HandedOver) →
+    /// before, and from nothing else. The error is want of memory for the message, the only memory
+    /// that it takes: whether the port has the message is then open. The frame counts as handed
+    /// over all the same: don't hand it over again.
+    pub fn receive<'a>(
+        &mut self,
+        handover: Handover<'a>,
+    ) -> Result<Option<Reception<'a>>, AllocError>
+        ensures answer { (rows : Rows) (before : List HandedOver) →
             StandsFor rows self.old before →
-            OnOk result (text_bytes text.new
-            ≡ text_bytes text.old ++ reception_line rows before (handed_over handover.entry)) }
-        ensures delivered { (rows : Rows) (before : List HandedOver) →
+            IfOk result (λ told. option_map answer_of told
+            ≡ answered rows before (handed_over handover.entry)) }
+        ensures passed { (rows : Rows) (before : List HandedOver) →
             StandsFor rows self.old before →
-            IfOk result (λ yes. yes ≡ is_delivered rows before (handed_over handover.entry)) }
+            IfOk result (λ told.
+            ReadsBackAt (system_in self.old handover.entry.port)
+            (system_in self.new handover.entry.port) handover.entry.time
+            (option_map answer_of told)) }
         ensures stands { (rows : Rows) (before : List HandedOver) →
             StandsFor rows self.old before →
             StandsFor rows self.new (handed_over handover.entry ∷ before) }
@@ -109,9 +127,22 @@ impl Systems {
     {
         let place = usize::from(handover.port);
         if place < self.at_ports.len() {
-            receive_at(&mut self.at_ports[place], handover, text)
+            receive_at(&mut self.at_ports[place], handover)
         } else {
-            Ok(false)
+            Ok(None)
+        }
+    }
+
+    /// The name of the system that has this port of the switch; empty where no system has it.
+    pub fn name_at(&self, port: u8) -> &str
+        ensures { (rows : Rows) (before : List HandedOver) →
+            StandsFor rows self.now before → result.now ≡ name_at rows port }
+    {
+        let place = usize::from(port);
+        if place < self.at_ports.len() {
+            name_of(&self.at_ports[place])
+        } else {
+            ""
         }
     }
 }

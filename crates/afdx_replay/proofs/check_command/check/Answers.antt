@@ -12,7 +12,7 @@ returns-in-Err-clause-refused g c = λ is. inr (record {
 
 pub returns-clause-stopped : goal.returns-clause-stopped
 returns-clause-stopped g c =
-    let text = c.as_bytes.ensures.value ∙ c.as_str.ensures.value ∙ c.in-Ok-checked_text.ensures.text in
+    let text = c.as_bytes.ensures ∙ c.in-Ok-checked_text.ensures.text in
     λ is. inl (record {
       failed = rw c.in-Err-write_text.ensures.fault at c.in-Err-write_text.ensures.failed;
       tables = c.in-Ok.tables;

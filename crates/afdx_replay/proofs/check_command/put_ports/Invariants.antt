@@ -1,6 +1,7 @@
-use Rattle.std.proofs.Common.{◌≡◌, ◌++◌, string_bytes}
+use Rattle.afdx_text.specs.Texts.{text_bytes}
+use Rattle.std.proofs.Common.{◌≡◌, ◌++◌}
 use Rattle.afdx_replay.specs.CheckText.{used_port_lines}
 use Rattle.afdx_replay.proofs.check_command.put_ports.Given as goal
 
 abbrev pub invariant-loop-count : goal.invariant-loop-count
-invariant-loop-count l = string_bytes l.text ≡ string_bytes l.fn.text ++ used_port_lines l.tables l.count
+invariant-loop-count l = text_bytes l.text ≡ text_bytes l.fn.text ++ used_port_lines l.tables l.count

@@ -10,22 +10,22 @@ returns-in-Err-clause-replays g c =
 
 pub returns-in-Ok-admit-clause-replays : goal.returns-in-Ok-admit-clause-replays
 returns-in-Ok-admit-clause-replays g c = inl (
-  c.run-answer.result,
+  c.replay_admitted_into-answer.result,
   record {
     status_is = c.end-in-Ok-admit.ensures.status;
     summary_is = c.end-in-Ok-admit.ensures.summary;
     told = c.end-in-Ok-admit.ensures.told;
     silent = c.end-in-Ok-admit.ensures.silent;
-    ended = c.run-answer.ensures.ended;
-    read = c.run-answer.ensures.read;
-    write = c.run-answer.ensures.write;
+    ended = c.replay_admitted_into-answer.ensures.ended;
+    read = c.replay_admitted_into-answer.ensures.read;
+    write = c.replay_admitted_into-answer.ensures.write;
   },
   record {
     tables = c.in-Ok.tables;
     spelled = c.in-Ok.ensures.ok;
     admitted = λ asked. c.in-Ok-admit.ensures.exact.0 refl;
-    answers = rw c.in-Ok-admit.ensures.same at c.run-answer.ensures.answer;
-    promised = λ asked. rw c.in-Ok-admit.ensures.same at c.run-answer.ensures.promised;
+    answers = rw c.in-Ok-admit.ensures.same at c.replay_admitted_into-answer.ensures.answer;
+    promised = λ asked. rw c.in-Ok-admit.ensures.same at c.replay_admitted_into-answer.ensures.promised;
   },
 )
 

@@ -22,18 +22,18 @@ returns-in-Ok-admit-clause-sends g c =
     let known : c.in-Some.place.0 < length c.in-Ok-admit.admitted.systems =
     rw c.in-Ok-admit.ensures.same c.in-Some.ensures.known in
     inl (
-      c.run_send-answer.result,
+      c.send_into-answer.result,
       record {
         status_is = c.end.ensures.status;
         summary_is = c.end.ensures.summary;
         told = c.end.ensures.told;
         silent = c.end.ensures.silent;
-        ended = c.run_send-answer.ensures.ended;
-        read = c.run_send-answer.ensures.read;
-        write = c.run_send-answer.ensures.write;
+        ended = c.send_into-answer.ensures.ended;
+        read = c.send_into-answer.ensures.read;
+        write = c.send_into-answer.ensures.write;
       },
       sends-in c.args.config.now c.args.system.now c.in-Ok-admit.admitted c.in-Some.place.0 _ _ _ _
-          _ spelled named admitted known c.run_send-answer.ensures.answer,
+          _ spelled named admitted known c.send_into-answer.ensures.answer,
     )
 
 pub returns-in-Err-admit-clause-sends : goal.returns-in-Err-admit-clause-sends

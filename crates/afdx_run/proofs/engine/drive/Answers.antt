@@ -28,7 +28,7 @@ tell-requires g c =
       sound = i.1;
       told = (
         told.0,
-        g.W.Write.contents c.args.output.now.inner,
+        g.O.Sink.written c.args.output.now,
         i.0,
         i.3 told.0 told.1,
         subst (λ x. g.H.Head.can_follow i.0 x) (sym same) item.1,
@@ -41,12 +41,12 @@ loop-source-preserved g c =
     let item = c.in_ok-next.ensures.item c.args.input.now i.0 i.2 (ap Ok c.if-branch.true) in
     let same = same-item (g.S.Source.current c.next.new.self) c.number.result c.head-head.result
     c.bytes.result.now c.number.ensures c.head-head.ensures c.bytes.ensures in
-    let old = g.W.Write.contents c.args.output.now.inner in (
+    let old = g.O.Sink.written c.args.output.now in (
       g.S.Source.current c.next.new.self ∷ i.0,
       c.in_ok-tell.ensures.failed,
       item.0,
       λ law start. subst (λ x. g.M.Machine.Told law c.tell.new.self old
-          (g.W.Write.contents c.tell.new.output.inner) (x ∷ i.0)) same
+          (g.O.Sink.written c.tell.new.output) (x ∷ i.0)) same
           (c.in_ok-tell.ensures.told law old i.0 (i.3 law start)
           (subst (λ x. g.H.Head.can_follow i.0 x) (sym same) item.1)),
     )
@@ -57,15 +57,15 @@ returns-in_err-tell-clause-answer g c law start =
     let item = c.in_ok-next.ensures.item c.args.input.now i.0 i.2 (ap Ok c.if-branch.true) in
     let same = same-item (g.S.Source.current c.next.new.self) c.number.result c.head-head.result
     c.bytes.result.now c.number.ensures c.head-head.ensures c.bytes.ensures in
-    let begins = c.in_err-tell.ensures.begins law (g.W.Write.contents c.args.output.now.inner) i.0 (i.3 law start) in
+    let begins = c.in_err-tell.ensures.begins law (g.O.Sink.written c.args.output.now) i.0 (i.3 law start) in
     let e : c.from_residual-in_err-tell.result ≡ Err c.in_err-tell.field-0.0 = search rules in
     rw e (
       g.S.Source.current c.next.new.self ∷ i.0,
       inr (
         c.in_err-tell.ensures.fault,
         inl item.0,
-        told-some (g.M.Machine.Begins law (g.W.Write.contents c.args.output.now.inner)
-            (g.W.Write.contents c.tell.new.output.inner)) i.0 same begins,
+        told-some (g.M.Machine.Begins law (g.O.Sink.written c.args.output.now)
+            (g.O.Sink.written c.tell.new.output)) i.0 same begins,
       ),
     )
 
@@ -75,13 +75,13 @@ end-requires g c =
     let told = c.requires.told in
     record {
       sound = i.1;
-      told = (told.0, g.W.Write.contents c.args.output.now.inner, i.0, i.3 told.0 told.1);
+      told = (told.0, g.O.Sink.written c.args.output.now, i.0, i.3 told.0 told.1);
     }
 
 pub returns-clause-answer : goal.returns-clause-answer
 returns-clause-answer g c law start =
     let i = c.loop-source.invariant in
-    let old = g.W.Write.contents c.args.output.now.inner in
+    let old = g.O.Sink.written c.args.output.now in
     runs-ended _ _ _ _ _ _ i.0 _
     (c.in_ok-next.ensures.end c.args.input.now i.0 i.2 (ap Ok c.if-branch.false))
     (λ a e. rw e at (c.end.ensures.done law old i.0 (i.3 law start)))

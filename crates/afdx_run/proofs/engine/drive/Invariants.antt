@@ -5,11 +5,11 @@ use Rattle.afdx_run.proofs.engine.drive.Given as goal
 abbrev pub invariant-loop-source : goal.invariant-loop-source
 invariant-loop-source g l =
     (past : List (Item g.row.H.Denot))
-    × (l.output.failed ≡ false)
+    × (g.O.Sink.failed l.output ≡ false)
     × g.S.Source.Gave l.fn.input l.source l.input past
     × ((rules : g.M.Machine.Rules) →
-    g.M.Machine.Told rules l.fn.machine (g.W.Write.contents l.fn.output.inner) (g.W.Write.contents l.fn.output.inner) [] →
-    g.M.Machine.Told rules l.machine (g.W.Write.contents l.fn.output.inner) (g.W.Write.contents l.output.inner) past)
+    g.M.Machine.Told rules l.fn.machine (g.O.Sink.written l.fn.output) (g.O.Sink.written l.fn.output) [] →
+    g.M.Machine.Told rules l.machine (g.O.Sink.written l.fn.output) (g.O.Sink.written l.output) past)
 
 abbrev pub decreases-loop-source : goal.decreases-loop-source
 decreases-loop-source g l = g.S.Source.left_of l.source

@@ -7,7 +7,7 @@ use Rattle.afdx_run.proofs.list_run.run_list.Goals as goal
 
 pub returns-in_err-list-clause-answer : goal.returns-in_err-list-clause-answer
 returns-in_err-list-clause-answer g c law start =
-    let old = g.W.Write.contents c.args.output.now.inner in
+    let old = g.O.Sink.written c.args.output.now in
     let stop = start-answers g.H.Listed.kind (thing_of g.H.Listed.kind g.H.Listed.says_of) (g.M.Machine.Done law c.args.machine.now old old)
     (g.M.Machine.Told law c.args.machine.now old old) (g.M.Machine.Begins law old old)
     (g.R.Read.remaining c.args.input.now.inner) start in
@@ -22,8 +22,8 @@ pub returns-in_err-drive-clause-read : goal.returns-in_err-drive-clause-read
 returns-in_err-drive-clause-read g c =
     let told = c.requires.told in
     let law = told.0 in
-    let old = g.W.Write.contents c.args.output.now.inner in
-    let new = g.W.Write.contents c.drive.new.output.inner in
+    let old = g.O.Sink.written c.args.output.now in
+    let new = g.O.Sink.written c.drive.new.output in
     let e : c.from_residual-in_err-drive.result ≡ Err c.in_err-drive.field-0.0 = search rules in
     rw e (fault-read g.H.Listed.kind (thing_of g.H.Listed.kind g.H.Listed.says_of) g.R.Read.remaining
     c.args.input.now c.drive.new.input
@@ -36,8 +36,8 @@ pub returns-in_err-drive-clause-calls : goal.returns-in_err-drive-clause-calls
 returns-in_err-drive-clause-calls g c =
     let told = c.requires.told in
     let law = told.0 in
-    let old = g.W.Write.contents c.args.output.now.inner in
-    let new = g.W.Write.contents c.drive.new.output.inner in
+    let old = g.O.Sink.written c.args.output.now in
+    let new = g.O.Sink.written c.drive.new.output in
     fault-calls g.H.Listed.kind (thing_of g.H.Listed.kind g.H.Listed.says_of) g.R.Read.remaining
     c.args.input.now c.drive.new.input
     c.drive.new.source.reader (g.H.Listed.time_of c.drive.new.source.head)
@@ -47,8 +47,8 @@ returns-in_err-drive-clause-calls g c =
 
 pub returns-in_err-drive-clause-answer : goal.returns-in_err-drive-clause-answer
 returns-in_err-drive-clause-answer g c law start =
-    let old = g.W.Write.contents c.args.output.now.inner in
-    let new = g.W.Write.contents c.drive.new.output.inner in
+    let old = g.O.Sink.written c.args.output.now in
+    let new = g.O.Sink.written c.drive.new.output in
     let stop = fault-answers g.H.Listed.kind (thing_of g.H.Listed.kind g.H.Listed.says_of) g.R.Read.remaining
     c.args.input.now c.drive.new.input
     c.drive.new.source.reader (g.H.Listed.time_of c.drive.new.source.head)
@@ -61,8 +61,8 @@ pub returns-clause-ended : goal.returns-clause-ended
 returns-clause-ended g c =
     let told = c.requires.told in
     let law = told.0 in
-    let old = g.W.Write.contents c.args.output.now.inner in
-    let new = g.W.Write.contents c.drive.new.output.inner in
+    let old = g.O.Sink.written c.args.output.now in
+    let new = g.O.Sink.written c.drive.new.output in
     done-ended g.H.Listed.kind (thing_of g.H.Listed.kind g.H.Listed.says_of) g.R.Read.remaining
     c.args.input.now c.drive.new.input
     c.drive.new.source.reader (g.H.Listed.time_of c.drive.new.source.head)
@@ -74,8 +74,8 @@ pub returns-clause-read : goal.returns-clause-read
 returns-clause-read g c =
     let told = c.requires.told in
     let law = told.0 in
-    let old = g.W.Write.contents c.args.output.now.inner in
-    let new = g.W.Write.contents c.drive.new.output.inner in
+    let old = g.O.Sink.written c.args.output.now in
+    let new = g.O.Sink.written c.drive.new.output in
     done-read g.H.Listed.kind (thing_of g.H.Listed.kind g.H.Listed.says_of) g.R.Read.remaining
     c.args.input.now c.drive.new.input
     c.drive.new.source.reader (g.H.Listed.time_of c.drive.new.source.head)
@@ -87,8 +87,8 @@ pub returns-clause-calls : goal.returns-clause-calls
 returns-clause-calls g c =
     let told = c.requires.told in
     let law = told.0 in
-    let old = g.W.Write.contents c.args.output.now.inner in
-    let new = g.W.Write.contents c.drive.new.output.inner in
+    let old = g.O.Sink.written c.args.output.now in
+    let new = g.O.Sink.written c.drive.new.output in
     done-calls g.H.Listed.kind (thing_of g.H.Listed.kind g.H.Listed.says_of) g.R.Read.remaining
     c.args.input.now c.drive.new.input
     c.drive.new.source.reader (g.H.Listed.time_of c.drive.new.source.head)
@@ -98,8 +98,8 @@ returns-clause-calls g c =
 
 pub returns-clause-answer : goal.returns-clause-answer
 returns-clause-answer g c law start =
-    let old = g.W.Write.contents c.args.output.now.inner in
-    let new = g.W.Write.contents c.drive.new.output.inner in
+    let old = g.O.Sink.written c.args.output.now in
+    let new = g.O.Sink.written c.drive.new.output in
     done-answers g.H.Listed.kind (thing_of g.H.Listed.kind g.H.Listed.says_of) g.R.Read.remaining
     c.args.input.now c.drive.new.input
     c.drive.new.source.reader (g.H.Listed.time_of c.drive.new.source.head)

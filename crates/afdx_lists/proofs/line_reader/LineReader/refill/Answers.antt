@@ -21,7 +21,7 @@ returns-in-Ok-clause-bytes g c =
     ∙ room_behind chunk moved.end (omega (arith, size, whole)) in
     record {
       given = take c.in-Ok.count c.read.new.buf;
-      consumed = c.in-Ok.ensures.bytes.0;
+      consumed = (c.in-Ok.ensures.bytes (search rules)).0;
       parts = rw c.move_to_front.ensures.start (sym (
           read_behind chunk c.read.new.buf _ _ moved.chunk.len moved.end c.in-Ok.count
           (omega (arith, size, whole)) (omega
@@ -67,7 +67,7 @@ returns-in-Err-clause-bytes g c =
     let size : length chunk ≡ moved.chunk.len = c.as_mut_slice.ensures.len in
     record {
       given = [];
-      consumed = Consumes-kept _ _ _ _ (Consumes-nil _) c.in-Err.ensures.bytes;
+      consumed = Consumes-kept _ _ _ _ (Consumes-nil _) (c.in-Err.ensures.bytes (search rules));
       parts = append-nil _ ∙ rw c.move_to_front.ensures.start (sym (
           kept_before chunk c.read.new.buf _ _ moved.chunk.len moved.end
           (omega (arith, size, moved.within)) moved.within ∙ held));

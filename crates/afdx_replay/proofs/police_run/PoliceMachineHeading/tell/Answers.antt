@@ -1,4 +1,4 @@
-use Rattle.std.proofs.Common.{rules, arith, ◌≡◌, ◌∙◌, inr, Err}
+use Rattle.std.proofs.Common.{rules, arith, ◌≡◌, refl, inr, Err}
 use Rattle.afdx_lists.specs.FrameLines.{listed_frame}
 use Rattle.afdx_run.specs.Items.{arrivals}
 use Rattle.afdx_run.specs.Listed.{arrival_at}
@@ -15,16 +15,16 @@ returns-clause-told g c rule start past h follows =
           (arrivals past) _ _ h.told
           (c.verdict-reason.ensures.answer rule (arrivals past) c.args.n h.told.seen)
           (c.verdict-reason.ensures.seen rule (arrivals past) c.args.n h.told.seen)
-          counts (c.as_bytes.ensures ∙ c.in_ok-put_verdict.ensures) c.in_ok-write_text.ensures.written;
+          counts refl c.in_ok-put.ensures.whole;
       until = c.verdict-reason.ensures.until;
       counted = omega (arith, counts-one _ _ _ _ _ counts, h.counted);
     }
 
-pub returns-in_err-write_text-clause-begins : goal.returns-in_err-write_text-clause-begins
-returns-in_err-write_text-clause-begins g c rule start past h =
+pub returns-in_err-put-clause-begins : goal.returns-in_err-put-clause-begins
+returns-in_err-put-clause-begins g c rule start past h =
     let begun = begun-next _ _ _ _ _ _ _ (arrival_at c.args.n (listed_frame c.args.heading.now c.args.bytes.now))
     (arrivals past) _ _ h.told
     (c.verdict-reason.ensures.answer rule (arrivals past) c.args.n h.told.seen)
-    (c.as_bytes.ensures ∙ c.in_ok-put_verdict.ensures) c.in_err-write_text.ensures.front in
-    let e : c.from_residual-in_err-write_text.result ≡ Err c.in_err-write_text.field-0.0 = search rules in
+    refl c.in_err-put.ensures.front in
+    let e : c.from_residual.result ≡ Err c.in_err-put.field-0.0 = search rules in
     rw e (inr begun)

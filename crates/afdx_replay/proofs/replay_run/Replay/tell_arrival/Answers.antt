@@ -3,7 +3,8 @@ use Rattle.afdx_police.specs.Arrival.{Arrival, arrival_with}
 use Rattle.afdx_network.specs.Events.{Came, admission_after, arrivals_in}
 use Rattle.afdx_network.specs.Network as network
 use Rattle.afdx_replay.specs.Replayed.{WritesSome}
-use Rattle.afdx_replay.proofs.ReplayLemmas.{lines-told, told-came, told-some, begun-came, room-less, on-err}
+use Rattle.afdx_replay.proofs.ReplayLemmas.{lines-told, told-came, told-some, begun-came, room-less}
+use Rattle.afdx_text.proofs.OutputLemmas.{on-err}
 use Rattle.afdx_replay.proofs.replay_run.Replay.tell_arrival.Goals as goal
 
 pub count_admission-requires-clause-room : goal.count_admission-requires-clause-room
@@ -32,8 +33,7 @@ returns-clause-told g c t start past h =
           (c.in_ok-verdict.ensures.stands t k.0 k.2.switches_are)
           (c.reason_of.ensures ∙ v.reason) (c.in_ok-lost.ensures.count ∙ ap length v.lost)
           c.count_admission.ensures.counted
-          (lines-told c.in_ok-verdict.verdict a _ v c.in_ok-lost.ensures.lines)
-          (rw c.as_bytes.ensures at c.in_ok-write_text.ensures.written);
+          (lines-told c.in_ok-verdict.verdict a v) c.in_ok-lost.ensures.lines;
     }
 
 pub returns-in_err-verdict-clause-some : goal.returns-in_err-verdict-clause-some
@@ -41,28 +41,19 @@ returns-in_err-verdict-clause-some g c t start past h =
     let k = c.in_ok-tell_departures.ensures.told t h.events start h.told in
     on-err c.from_residual-in_err-verdict.result _
     (inl (subst (λ (p : List Arrival).
-    WritesSome t start (g.W.Write.contents c.tell_departures.new.output.inner) p)
+    WritesSome t start (g.O.Sink.written c.tell_departures.new.output) p)
     (k.1 ∙ h.arrivals_are) (told-some t _ _ _ start _ k.0 k.2)))
 
 pub returns-in_err-lost-clause-some : goal.returns-in_err-lost-clause-some
 returns-in_err-lost-clause-some g c t start past h =
     let k = c.in_ok-tell_departures.ensures.told t h.events start h.told in
-    on-err c.from_residual-in_err-lost.result _
-    (inl (subst (λ (p : List Arrival).
-    WritesSome t start (g.W.Write.contents c.tell_departures.new.output.inner) p)
-    (k.1 ∙ h.arrivals_are) (told-some t _ _ _ start _ k.0 k.2)))
-
-pub returns-in_err-write_text-clause-some : goal.returns-in_err-write_text-clause-some
-returns-in_err-write_text-clause-some g c t start past h =
-    let k = c.in_ok-tell_departures.ensures.told t h.events start h.told in
     let x = arrival_with c.args.n c.args.heading.now.time c.args.heading.now.side
     c.args.heading.now.port c.args.arrived.bytes.now in
     let a = admission_after t (arrivals_in k.0) x in
     let v = c.in_ok-verdict.ensures.verdict t k.0 k.2.switches_are in
-    on-err c.from_residual-in_err-write_text.result _
+    on-err c.from_residual-in_err-lost.result _
     (inr (subst (λ (p : List Arrival).
-    WritesSome t start (g.W.Write.contents c.write_text.new.output.inner) (x ∷ p))
+    WritesSome t start (g.O.Sink.written c.put_admission.new.output) (x ∷ p))
     (k.1 ∙ h.arrivals_are)
     (begun-came t _ _ _ _ start _ _ k.0 a _ k.2 (c.in_ok-verdict.ensures.stands t k.0 k.2.switches_are)
-    (lines-told c.in_ok-verdict.verdict a _ v c.in_ok-lost.ensures.lines)
-    (rw c.as_bytes.ensures at c.in_err-write_text.ensures.front))))
+    (lines-told c.in_ok-verdict.verdict a v) c.in_err-lost.ensures.front)))

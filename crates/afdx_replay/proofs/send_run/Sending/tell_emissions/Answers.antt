@@ -2,7 +2,7 @@ use Rattle.std.proofs.Common.{◌∙◌, ◌∷◌, List, subst, refl, arith}
 use Rattle.afdx_replay.specs.Sent.{WritesSome}
 use Rattle.afdx_run.specs.Listed.{Handed}
 use Rattle.afdx_replay.specs.SendEvents.{Emitted}
-use Rattle.afdx_replay.proofs.ReplayLemmas.{on-err}
+use Rattle.afdx_text.proofs.OutputLemmas.{on-err}
 use Rattle.afdx_replay.proofs.SendLemmas.{told-emitted, told-later, told-some, begun-emitted, done-at, if-none}
 use Rattle.afdx_replay.proofs.send_run.Sending.tell_emissions.Goals as goal
 
@@ -10,7 +10,7 @@ pub loop-emission-preserved : goal.loop-emission-preserved
 loop-emission-preserved g c =
     record {
       clock = omega (arith, c.emit.ensures.clock);
-      sound = c.in_ok-write_text.ensures.failed;
+      sound = c.in_ok-put_emission.ensures.failed;
       room = λ n h.
           let r = c.loop-emission.invariant.room n h in
           let held = rw c.in-Some.is at c.in_ok-emission.ensures.held in
@@ -22,8 +22,7 @@ loop-emission-preserved g c =
             more = Emitted e.slot ∷ k.more;
             submissions_are = k.submissions_are;
             told = told-emitted s _ _ _ _ _ _ start _ _ k.more _ _ k.told e c.emit.ensures.clock
-                (c.as_bytes.ensures ∙ c.in_ok-put_emission.ensures) refl
-                c.in_ok-write_text.ensures.written;
+                refl refl c.in_ok-put_emission.ensures.lines;
           };
     }
 
@@ -39,26 +38,18 @@ returns-in_err-emission-clause-some g c s events start h =
     let k = c.loop-emission.invariant.told s events start h in
     on-err c.from_residual.result _
     (subst (λ (p : List Handed). WritesSome s start
-    (g.W.Write.contents c.loop-emission.output.inner) p) k.submissions_are
+    (g.O.Sink.written c.loop-emission.output) p) k.submissions_are
     (told-some s _ _ _ start _ k.more k.told))
 
 pub returns-in_err-put_emission-clause-some : goal.returns-in_err-put_emission-clause-some
 returns-in_err-put_emission-clause-some g c s events start h =
     let k = c.loop-emission.invariant.told s events start h in
+    let e = rw c.in-Some.is at (c.in_ok-emission.ensures.given _ k.told.stands) in
     on-err c.from_residual-in_err-put_emission.result _
     (subst (λ (p : List Handed). WritesSome s start
-    (g.W.Write.contents c.loop-emission.output.inner) p) k.submissions_are
-    (told-some s _ _ _ start _ k.more k.told))
-
-pub returns-in_err-write_text-clause-some : goal.returns-in_err-write_text-clause-some
-returns-in_err-write_text-clause-some g c s events start h =
-    let k = c.loop-emission.invariant.told s events start h in
-    let e = rw c.in-Some.is at (c.in_ok-emission.ensures.given _ k.told.stands) in
-    on-err c.from_residual-in_err-write_text.result _
-    (subst (λ (p : List Handed). WritesSome s start
-    (g.W.Write.contents c.write_text.new.output.inner) p) k.submissions_are
+    (g.O.Sink.written c.put_emission.new.output) p) k.submissions_are
     (begun-emitted s _ _ _ _ _ start _ _ k.more _ _ k.told e
-    (c.as_bytes.ensures ∙ c.in_ok-put_emission.ensures) c.in_err-write_text.ensures.front))
+    refl c.in_err-put_emission.ensures.front))
 
 pub returns-clause-told : goal.returns-clause-told
 returns-clause-told g c s events start h =

@@ -1,20 +1,11 @@
 use Rattle.std.proofs.Common.{◌∙◌, ap, is_some, sym}
 use Rattle.afdx_systems.specs.Handovers.{handed_over, arrival_of}
-use Rattle.afdx_systems.proofs.PassLemmas.{port_at}
+use Rattle.afdx_systems.proofs.PassLemmas.{port_at, are_read_back}
 use Rattle.afdx_systems.proofs.NewestLemmas.{newest_dropped, newest_unfound, newest_passed}
 use Rattle.afdx_systems.proofs.end_system.EndSystem.receive.Goals as goal
 
-pub returns-in_err-put_drop-in-Dropped-clause-stands : goal.returns-in_err-put_drop-in-Dropped-clause-stands
-returns-in_err-put_drop-in-Dropped-clause-stands c = λ rows system past is.
-    record {
-      name = is.name;
-      receives = (c.receive_checked.ensures.received rows system past is.receives).stands;
-      read = is.read;
-      found = is.found;
-    }
-
-pub returns-in_ok-put_drop-in-Dropped-clause-stands : goal.returns-in_ok-put_drop-in-Dropped-clause-stands
-returns-in_ok-put_drop-in-Dropped-clause-stands c = λ rows system past is.
+pub returns-in-Dropped-clause-stands : goal.returns-in-Dropped-clause-stands
+returns-in-Dropped-clause-stands c = λ rows system past is.
     record {
       name = is.name;
       receives = (c.receive_checked.ensures.received rows system past is.receives).stands;
@@ -47,8 +38,8 @@ returns-in_ok-pass_on-in-Message-clause-stands c = λ rows system past is. recor
   found = λ vl udp. ap is_some (c.pass_on.ensures.found vl udp) ∙ is.found vl udp;
 }
 
-pub returns-in_ok-put_drop-in-Dropped-clause-newest : goal.returns-in_ok-put_drop-in-Dropped-clause-newest
-returns-in_ok-put_drop-in-Dropped-clause-newest c = λ rows system past is hold.
+pub returns-in-Dropped-clause-newest : goal.returns-in-Dropped-clause-newest
+returns-in-Dropped-clause-newest c = λ rows system past is hold.
     newest_dropped rows system past (arrival_of (handed_over c.args.handover)) c.in-Dropped.why c.args.self.now.ports
     (c.in-Dropped.ensures.received rows system past is.receives).computed hold
 
@@ -65,3 +56,9 @@ returns-in_ok-pass_on-in-Message-clause-newest c = λ rows system past is hold.
     c.in-Some.place c.in-Message.bytes.now c.args.self.now.ports c.pass_on.new.ports port.0
     (c.in-Message.ensures.received rows system past is.receives).computed (sym c.in-Some.ensures.place) port.1
     c.pass_on.ensures.found (c.in_ok-pass_on-in-Message.ensures.passed is.read) is.read hold
+
+pub returns-in_ok-pass_on-in-Message-clause-passed : goal.returns-in_ok-pass_on-in-Message-clause-passed
+returns-in_ok-pass_on-in-Message-clause-passed c = λ rows system past is.
+    are_read_back c.args.self.now.ports c.pass_on.new.ports c.in-Message.vl.0 c.in-Message.udp c.in-Some.place
+    (record { time = c.args.handover.time; bytes = c.in-Message.bytes.now })
+    c.in-Some.ensures.place is.read (c.in_ok-pass_on-in-Message.ensures.passed is.read)

@@ -1,7 +1,0 @@
-use Rattle.std.proofs.Common.{refl}
-use Rattle.afdx_lists.specs.Texts.{text_bytes}
-use Rattle.afdx_lists.proofs.text.Text.new.Goals as goal
-
-pub returns : goal.returns
-unfolding text_bytes
-returns c = refl

@@ -1,0 +1,366 @@
+//! Lines that are put into a text, written and held, and faults that are told.
+
+use afdx_frame::{IpFault, MacFault, Side, VlId};
+use afdx_lists::{LineError, LineFault, RunFault, Watched, read_frame_line};
+use afdx_police::Reason;
+use afdx_receive::DropReason;
+use afdx_samples::{Break, WeakWriter, all_right, equal};
+use afdx_text::{OutLine, Output, Sink, Text, tell_fault, write_text};
+use std::alloc::{AllocError, Global};
+use std::test::Fail;
+
+/// Whether so much of a text is written to a device that breaks after so many calls, it is told
+/// whether this is all, and the device is called at most once more.
+fn is_written(
+    alloc: Global,
+    text: &[u8],
+    most: usize,
+    calls: u64,
+    at_end: Break,
+    length: usize,
+) -> bool {
+    let mut output = Watched::new(WeakWriter {
+        written: Vec::new(alloc),
+        most,
+        calls,
+        at_end,
+    });
+    let is_ok = write_text(&mut output, text).is_ok();
+    let failed = output.failed();
+    let keeps_to_calls = output.calls() <= calls.saturating_add(1);
+    let written = output.into_inner().written;
+    let is_front = text.starts_with(written.as_slice());
+    let is_whole = length == text.len();
+    (is_ok, failed, keeps_to_calls, is_front, written.len())
+        == (is_whole, !is_whole, true, true, length)
+}
+
+#[test]
+fn text_is_written_once(rt: HostRuntime) {
+    let text = b"V 1 A accept\n";
+    for at_end in [Break::Fails, Break::TakesNone] {
+        for (most, calls, length) in [
+            (16, 1, 13),
+            (1, 13, 13),
+            (4, 3, 12),
+            (1, 12, 12),
+            (16, 0, 0),
+        ] {
+            assert!(rt; is_written(rt.alloc(), text, most, calls, at_end, length));
+        }
+    }
+}
+
+/// The line of an accepted frame: 13 bytes.
+const ACCEPTED: OutLine<'static> = OutLine::Verdict {
+    n: 1,
+    side: Side::A,
+    reason: None,
+};
+
+/// Puts so many lines, each if the one before it was, and flushes the output if that is asked for.
+/// False: a call failed.
+fn put_lines(output: &mut Output<WeakWriter>, text: &mut Text, count: u64, flush: bool) -> bool {
+    for _ in 0..count {
+        if output.failed() || output.put(&ACCEPTED, text).is_err() {
+            return false;
+        }
+    }
+    !flush || output.flush().is_ok()
+}
+
+/// The room of an output, how many calls its device takes, how many lines are put, whether they are
+/// flushed, whether all goes well, and how many bytes come to the device.
+type Held = (usize, u64, u64, bool, bool, usize);
+
+/// Whether the output holds and hands over its lines as it should.
+fn is_held(alloc: Global, row: &Held) -> Result<bool, AllocError> {
+    let (room, calls, count, flush, is_well, length) = *row;
+    let device = WeakWriter {
+        written: Vec::new(alloc),
+        most: 100,
+        calls,
+        at_end: Break::Fails,
+    };
+    let mut output = Output::new(alloc, room, device)?;
+    let mut text = Text::new(alloc);
+    let went_well = put_lines(&mut output, &mut text, count, flush);
+    let written = output.into_device().written;
+    Ok((went_well, written.len()) == (is_well, length))
+}
+
+/// The first of the rows that isn't held as it should be.
+fn wrongly_held(alloc: Global, rows: &[Held]) -> Result<Option<Held>, AllocError> {
+    for row in rows {
+        if !is_held(alloc, row)? {
+            return Ok(Some(*row));
+        }
+    }
+    Ok(None)
+}
+
+#[test]
+fn lines_are_held_and_handed_over(rt: HostRuntime) -> Result<(), Fail> {
+    let rows = [
+        (1000, 9, 3, false, true, 0),
+        (1000, 9, 3, true, true, 39),
+        (0, 9, 3, false, true, 39),
+        (0, 2, 3, false, false, 26),
+        (1000, 0, 3, true, false, 0),
+        (1000, 99, 200, false, true, 2262),
+        (1000, 1, 200, false, false, 100),
+    ];
+    all_right(wrongly_held(rt.alloc(), rows.as_slice())?)
+}
+
+/// What is told of a fault.
+fn told(alloc: Global, fault: &RunFault) -> Vec<u8> {
+    let mut errors = Watched::new(Vec::new(alloc));
+    tell_fault(&mut errors, fault);
+    errors.into_inner()
+}
+
+/// Each fault of a run, what is told of it, and its exit status.
+const FAULTS: [(RunFault, &str, u8); 11] = [
+    (RunFault::BadLine(20), "list BadLine 20\n", 3),
+    (RunFault::BadHex(1), "list BadHex 1\n", 3),
+    (RunFault::TimeBack(2), "list TimeBack 2\n", 3),
+    (RunFault::TimeTooLarge(3), "list TimeTooLarge 3\n", 3),
+    (
+        RunFault::TimeTooLarge(u64::MAX),
+        "list TimeTooLarge 18446744073709551615\n",
+        3,
+    ),
+    (RunFault::BadPort(1_000_000), "list BadPort 1000000\n", 3),
+    (RunFault::LineTooLong(4), "list LineTooLong 4\n", 3),
+    (RunFault::TooManyLines, "list TooManyLines\n", 3),
+    (RunFault::Read, "device Read\n", 4),
+    (RunFault::Write, "device Write\n", 4),
+    (RunFault::Memory, "memory\n", 4),
+];
+
+/// The text of the first of the faults that is told otherwise.
+fn wrongly_told(alloc: Global) -> Option<&'static str> {
+    for (fault, text, status) in FAULTS.as_slice() {
+        if told(alloc, fault).as_slice() != text.as_bytes() || fault.status() != *status {
+            return Some(text);
+        }
+    }
+    None
+}
+
+#[test]
+fn each_fault_is_told(rt: HostRuntime) -> Result<(), Fail> {
+    all_right(wrongly_told(rt.alloc()))
+}
+
+/// Puts a line in the place of a text.
+fn put(text: &mut Text, line: &OutLine<'_>) -> Result<(), AllocError> {
+    text.clear();
+    line.put(text)
+}
+
+/// The first of the lines that is put otherwise.
+fn wrongly_put(
+    text: &mut Text,
+    rows: &[(OutLine<'static>, &'static str)],
+) -> Result<Option<&'static str>, AllocError> {
+    for (line, wanted) in rows {
+        put(text, line)?;
+        if text.as_bytes() != wanted.as_bytes() {
+            return Ok(Some(wanted));
+        }
+    }
+    Ok(None)
+}
+
+#[test]
+fn verdicts_and_departures(rt: HostRuntime) -> Result<(), Fail> {
+    let mut text = Text::new(rt.alloc());
+    equal(text.as_bytes(), b"".as_slice())?;
+    let dropped = OutLine::Verdict {
+        n: 1_000_000,
+        side: Side::B,
+        reason: Some(Reason::UnderLmin),
+    };
+    let lost = OutLine::Lost {
+        n: 20,
+        side: Side::B,
+        port: 24,
+    };
+    let left = OutLine::Left {
+        n: 7,
+        time: 1_000_000_000_000_000,
+        side: Side::A,
+        port: 9,
+        too_old: false,
+    };
+    let too_old = OutLine::Left {
+        n: 0,
+        time: u64::MAX,
+        side: Side::B,
+        port: 255,
+        too_old: true,
+    };
+    let rows = [
+        (ACCEPTED, "V 1 A accept\n"),
+        (dropped, "V 1000000 B drop under-lmin\n"),
+        (lost, "L 20 B 24\n"),
+        (left, "D 7 1000000000000000 A 9\n"),
+        (too_old, "T 0 18446744073709551615 B 255\n"),
+    ];
+    all_right(wrongly_put(&mut text, rows.as_slice())?)
+}
+
+/// The line of a frame that a system dropped.
+fn unread(system: &'static str, n: u64, why: DropReason) -> OutLine<'static> {
+    OutLine::Unread {
+        time: 7,
+        system,
+        n,
+        why,
+    }
+}
+
+#[test]
+fn receptions(rt: HostRuntime) -> Result<(), Fail> {
+    let mut text = Text::new(rt.alloc());
+    let message = OutLine::Message {
+        time: 7,
+        system: "FlightManagement",
+        vl: VlId(65_535),
+        bytes: &[0, 0x9a, 0xff],
+    };
+    let bad_frame = DropReason::Mac(MacFault::BadFcs);
+    let fragment = DropReason::Ip(IpFault::Fragment);
+    let rows = [
+        (message, "M 7 FlightManagement 65535 009aff\n"),
+        (unread("s", 1, DropReason::Redundant), "X 7 s 1 redundant\n"),
+        (unread("s24", 1, DropReason::NoPort), "X 7 s24 1 no-port\n"),
+        (unread("a-b_c", 2, bad_frame), "X 7 a-b_c 2 bad-fcs\n"),
+        (unread("cockpit7", 3, fragment), "X 7 cockpit7 3 fragment\n"),
+    ];
+    all_right(wrongly_put(&mut text, rows.as_slice())?)
+}
+
+#[test]
+fn what_is_sent_and_what_is_checked(rt: HostRuntime) -> Result<(), Fail> {
+    let mut text = Text::new(rt.alloc());
+    let sent = OutLine::Sent {
+        time: 5,
+        side: Side::B,
+        port: 1,
+        bytes: &[],
+    };
+    let refused = OutLine::Refused {
+        n: 3,
+        word: "too-large",
+    };
+    let bounds = OutLine::Bounds {
+        port: 24,
+        high: 0,
+        low: Some(u64::MAX),
+        buffer: 1518,
+    };
+    let no_low = OutLine::Bounds {
+        port: 1,
+        high: 13_440,
+        low: None,
+        buffer: 64,
+    };
+    let rows = [
+        (sent, "R 5 B 1 \n"),
+        (refused, "# 3 too-large\n"),
+        (bounds, "P 24 0 18446744073709551615 1518\n"),
+        (no_low, "P 1 13440 - 64\n"),
+        (OutLine::Admitted, "ok\n"),
+        (OutLine::Denied { line: "A3 1" }, "no A3 1\n"),
+    ];
+    all_right(wrongly_put(&mut text, rows.as_slice())?)
+}
+
+/// Puts a thousand lines of 13 bytes to a text.
+fn put_thousand(text: &mut Text) -> Result<(), AllocError> {
+    for _ in 0..1000_u32 {
+        ACCEPTED.put(text)?;
+    }
+    Ok(())
+}
+
+#[test]
+fn a_text_grows_past_its_first_room(rt: HostRuntime) -> Result<(), Fail> {
+    let mut text = Text::new(rt.alloc());
+    put(&mut text, &ACCEPTED)?;
+    text.clear();
+    put_thousand(&mut text)?;
+    let bytes = text.as_bytes();
+    let is_at_end = bytes.ends_with(b"accept\nV 1 A accept\n");
+    equal((bytes.len(), is_at_end), (13_000, true))
+}
+
+/// A hundred bytes.
+fn hundred_bytes() -> [u8; 100] {
+    let mut bytes = [0; 100];
+    for n in 0..100_usize {
+        bytes[n] = (n * 37 % 256) as u8;
+    }
+    bytes
+}
+
+/// Puts the line of a frame of these bytes in the place of a text.
+fn put_frame(text: &mut Text, bytes: &[u8]) -> Result<(), AllocError> {
+    let line = OutLine::Sent {
+        time: 5,
+        side: Side::A,
+        port: 1,
+        bytes,
+    };
+    put(text, &line)
+}
+
+/// The line of a text, without its line feed.
+fn line_in(text: &Text) -> &[u8] {
+    match text.as_bytes().strip_suffix(b"\n") {
+        Some(line) => line,
+        None => b"",
+    }
+}
+
+/// Whether the digits of bytes are put as another encoder has them.
+fn are_digits(alloc: Global, text: &mut Text, bytes: &[u8]) -> Result<bool, Fail> {
+    put_frame(text, bytes)?;
+    let digits = hex::encode(alloc, bytes)?;
+    Ok(line_in(text).strip_prefix(b"R 5 A 1 ") == Some(digits.as_bytes()))
+}
+
+/// Whether a line with the digits of bytes is read as these bytes.
+fn are_read(alloc: Global, text: &mut Text, bytes: &[u8]) -> Result<bool, AllocError> {
+    put_frame(text, bytes)?;
+    let mut read = Vec::new(alloc);
+    let is_ok = read_frame_line(line_in(text), 5, &mut read).is_ok();
+    Ok((is_ok, read.as_slice()) == (true, bytes))
+}
+
+/// Whether the line with a wrong digit behind it is bad.
+fn is_bad_behind(alloc: Global, text: &mut Text, bytes: &[u8]) -> Result<bool, AllocError> {
+    put_frame(text, bytes)?;
+    let mut line = Vec::new(alloc);
+    line.extend_from_slice(line_in(text))?;
+    line.extend_from_slice(b"g0")?;
+    let mut read = Vec::new(alloc);
+    let answer = read_frame_line(line.as_slice(), 5, &mut read);
+    Ok(answer == Err(LineError::Fault(LineFault::BadHex)))
+}
+
+#[test]
+fn digits_of_many_bytes(rt: HostRuntime) -> Result<(), Fail> {
+    let bytes = hundred_bytes();
+    let mut text = Text::new(rt.alloc());
+    for size in [1usize, 15, 16, 17, 31, 32, 33, 63, 64, 65, 100] {
+        let some = &bytes[..size];
+        let are_put = are_digits(rt.alloc(), &mut text, some)?;
+        let is_read = are_read(rt.alloc(), &mut text, some)?;
+        assert!(rt; are_put && is_read && is_bad_behind(rt.alloc(), &mut text, some)?, "{size}");
+    }
+    Ok(())
+}

@@ -1,0 +1,5 @@
+mod TextLemmas
+mod EncodingLemmas
+mod BlockLemmas
+pub mod OutputLemmas
+pub mod TellingLemmas

@@ -1,0 +1,5 @@
+pub mod OutLines
+pub mod Texts
+pub mod Sinks
+pub mod Telling
+pub mod Outputs

@@ -1,0 +1,108 @@
+-- The lines of the program's output.
+use Rattle.std.specs.Prelude.{ℕ, ◌+◌, ◌*◌, length, Bool, true, false, List, ◌++◌, Option, Some, None, codes}
+use Rattle.std.specs.Fmt.{decimal}
+use Rattle.hex.specs.Hex.{encode_lower}
+use Rattle.afdx_frame.specs.declared.link.Side.{Side}
+use Rattle.afdx_frame.specs.declared.link.Side.TheVariants.{A, B}
+use Rattle.afdx_police.specs.declared.shape.Reason.{Reason}
+use Rattle.afdx_police.specs.Words.{reason_word}
+use Rattle.afdx_receive.specs.Words.{drop_word}
+use Rattle.afdx_text.specs.declared.line.OutLine.{OutLine}
+use Rattle.afdx_text.specs.declared.line.OutLine.TheVariants.{Verdict, Lost, Left, Message, Unread}
+use Rattle.afdx_text.specs.declared.line.OutLine.TheVariants.{Sent, Refused, Bounds, Admitted, Denied}
+
+abbrev pub side_text : Side → List ℕ
+side_text A = codes "A"
+side_text B = codes "B"
+
+-- no reason to drop a frame: it is accepted
+abbrev pub verdict_text : Option Reason → List ℕ
+verdict_text None = codes "accept"
+verdict_text (Some reason) = codes "drop " ++ reason_word reason
+
+-- the line of a verdict on the frame of line n
+abbrev pub verdict_line : ℕ → Side → Option Reason → List ℕ
+verdict_line n side reason =
+    codes "V " ++ decimal n ++ codes " " ++ side_text side ++ codes " " ++ verdict_text reason
+    ++ codes "\n"
+
+-- a copy of the frame of line n was lost at a port
+abbrev pub loss_line : ℕ → Side → ℕ → List ℕ
+loss_line n side port =
+    codes "L " ++ decimal n ++ codes " " ++ side_text side ++ codes " " ++ decimal port
+    ++ codes "\n"
+
+abbrev pub letter_of : (is_too_old : Bool) → List ℕ
+letter_of false = codes "D "
+letter_of true = codes "T "
+
+-- the frame of line n left an output port, or was dropped there as too old
+abbrev pub departure_line : Bool → ℕ → ℕ → Side → ℕ → List ℕ
+departure_line is_too_old n time side port =
+    letter_of is_too_old ++ decimal n ++ codes " " ++ decimal time ++ codes " "
+    ++ side_text side ++ codes " " ++ decimal port ++ codes "\n"
+
+-- the `M` line of a message of a link that a system read at this time
+abbrev pub message_line : ℕ → List ℕ → ℕ → List ℕ → List ℕ
+message_line time name vl message =
+    codes "M " ++ decimal time ++ codes " " ++ name ++ codes " " ++ decimal vl ++ codes " "
+    ++ encode_lower message ++ codes "\n"
+
+-- the `X` line of the frame of a line of the list that a system dropped
+abbrev pub drop_line : ℕ → List ℕ → ℕ → List ℕ → List ℕ
+drop_line time name line word =
+    codes "X " ++ decimal time ++ codes " " ++ name ++ codes " " ++ decimal line ++ codes " "
+    ++ word ++ codes "\n"
+
+-- a frame on one network, as a line of a replay's list
+abbrev pub sent_line : Side → ℕ → ℕ → List ℕ → List ℕ
+sent_line side port time bytes =
+    codes "R " ++ decimal time ++ codes " " ++ side_text side ++ codes " " ++ decimal port
+    ++ codes " " ++ encode_lower bytes ++ codes "\n"
+
+-- the line of a message, on line n, that isn't taken
+abbrev pub refused_line : ℕ → List ℕ → List ℕ
+refused_line n word = codes "# " ++ decimal n ++ codes " " ++ word ++ codes "\n"
+
+-- a bound in ns, or a dash where there is none
+abbrev pub bound_text : Option ℕ → List ℕ
+bound_text (Some bound) = decimal bound
+bound_text None = codes "-"
+
+-- the high and the low bound of an output port in ns, and the bytes of buffer that are needed there
+abbrev pub bounds_line : ℕ → ℕ → Option ℕ → ℕ → List ℕ
+bounds_line port high low buffer =
+    codes "P " ++ decimal port ++ codes " " ++ decimal high ++ codes " " ++ bound_text low
+    ++ codes " " ++ decimal buffer ++ codes "\n"
+
+-- the tables are admitted, or not, by a line of admission
+abbrev pub admitted_line : List ℕ
+admitted_line = codes "ok\n"
+
+abbrev pub denied_line : List ℕ → List ℕ
+denied_line line = codes "no " ++ line ++ codes "\n"
+
+abbrev pub line_text : OutLine → List ℕ
+line_text (Verdict n side reason) = verdict_line n side reason
+line_text (Lost n side port) = loss_line n side port
+line_text (Left n time side port is_too_old) = departure_line is_too_old n time side port
+line_text (Message time system vl bytes) = message_line time system.now vl.0 bytes.now
+line_text (Unread time system n why) = drop_line time system.now n (drop_word why)
+line_text (Sent time side port bytes) = sent_line side port time bytes.now
+line_text (Refused n word) = refused_line n word.now
+line_text (Bounds port high low buffer) = bounds_line port high low buffer
+line_text Admitted = admitted_line
+line_text (Denied line) = denied_line line.now
+
+-- at least as many bytes as a line has
+abbrev pub longest : OutLine → ℕ
+longest (Verdict n side reason) = 128
+longest (Lost n side port) = 128
+longest (Left n time side port is_too_old) = 128
+longest (Message time system vl bytes) = 128 + length system.now + 2 * length bytes.now
+longest (Unread time system n why) = 128 + length system.now
+longest (Sent time side port bytes) = 128 + 2 * length bytes.now
+longest (Refused n word) = 128 + length word.now
+longest (Bounds port high low buffer) = 128
+longest Admitted = 128
+longest (Denied line) = 128 + length line.now

@@ -1,0 +1,285 @@
+//! How each kind of line is put at a place of a room that is long enough for it: each function says
+//! where the line ends.
+
+ghost use Rattle.std.specs.Prelude.{◌≡◌, ◌≤◌, ◌+◌, ◌*◌, ◌++◌, length, take};
+ghost use Rattle.afdx_receive.specs.Words.{drop_word};
+ghost use Rattle.afdx_text.specs.OutLines.{verdict_text, letter_of, verdict_line, loss_line};
+ghost use Rattle.afdx_text.specs.OutLines.{departure_line, message_line, drop_line, sent_line};
+ghost use Rattle.afdx_text.specs.OutLines.{refused_line, bound_text, bounds_line, denied_line};
+
+use crate::numeral::Numeral;
+use crate::piece::{put, put_digits, put_number, put_piece, put_side, put_small};
+use afdx_frame::Side;
+use afdx_police::Reason;
+use afdx_receive::DropReason;
+
+/// The numbers that were put last.
+#[derive(Debug, Drop)]
+pub(crate) struct Kept {
+    pub(crate) time: Numeral,
+    pub(crate) n: Numeral,
+}
+
+/// Puts what became of a frame at a switch, in words.
+#[inline(always)]
+fn put_words(room: &mut [u8], at: usize, reason: Option<Reason>) -> usize
+    requires { at + 32 ≤ length room.old }
+    ensures within { result ≤ at + 20 }
+    ensures text { take result room.new ≡ take at room.old ++ verdict_text reason }
+{
+    match reason {
+        None => put(room, at, b"accept"),
+        Some(reason) => {
+            let at = put(room, at, b"drop ");
+            put_piece(room, at, reason.word().as_bytes())
+        }
+    }
+}
+
+/// Puts why a receiver dropped a frame, in a word. Mostly it is that the other network was first.
+#[inline(always)]
+fn put_why(room: &mut [u8], at: usize, why: DropReason) -> usize
+    requires { at + 32 ≤ length room.old }
+    ensures within { result ≤ at + 20 }
+    ensures text { take result room.new ≡ take at room.old ++ drop_word why }
+{
+    match why {
+        DropReason::Redundant => put(room, at, b"redundant"),
+        _ => put_piece(room, at, why.word().as_bytes()),
+    }
+}
+
+/// `V n side accept`, or `V n side drop WORD`.
+#[inline(never)]
+pub(crate) fn put_verdict(
+    room: &mut [u8],
+    at: usize,
+    n: u64,
+    side: Side,
+    reason: Option<Reason>,
+) -> usize
+    requires { at + 128 ≤ length room.old }
+    ensures within { result ≤ at + 128 }
+    ensures text { take result room.new ≡ take at room.old ++ verdict_line n side reason }
+{
+    let at = put(room, at, b"V ");
+    let at = put_number(room, at, n);
+    let at = put(room, at, b" ");
+    let at = put_side(room, at, side);
+    let at = put(room, at, b" ");
+    let at = put_words(room, at, reason);
+    put(room, at, b"\n")
+}
+
+/// `L n side port`.
+#[inline(never)]
+pub(crate) fn put_loss(room: &mut [u8], at: usize, n: u64, side: Side, port: u8) -> usize
+    requires { at + 128 ≤ length room.old }
+    ensures within { result ≤ at + 128 }
+    ensures text { take result room.new ≡ take at room.old ++ loss_line n side port }
+{
+    let at = put(room, at, b"L ");
+    let at = put_number(room, at, n);
+    let at = put(room, at, b" ");
+    let at = put_side(room, at, side);
+    let at = put(room, at, b" ");
+    let at = put_small(room, at, port);
+    put(room, at, b"\n")
+}
+
+/// Puts what happened to a frame at an output port.
+#[inline(always)]
+fn put_letter(room: &mut [u8], at: usize, too_old: bool) -> usize
+    requires { at + 2 ≤ length room.old }
+    ensures ends { result ≡ at + 2 }
+    ensures text { take result room.new ≡ take at room.old ++ letter_of too_old }
+{
+    if too_old {
+        put(room, at, b"T ")
+    } else {
+        put(room, at, b"D ")
+    }
+}
+
+impl Kept {
+    /// No numbers were put yet.
+    pub(crate) fn new() -> Kept {
+        Kept {
+            time: Numeral::zero(),
+            n: Numeral::zero(),
+        }
+    }
+
+    /// `D n time side port`, or `T ..`.
+    #[inline(never)]
+    pub(crate) fn put_departure(
+        &mut self,
+        room: &mut [u8],
+        at: usize,
+        n: u64,
+        time: u64,
+        side: Side,
+        port: u8,
+        too_old: bool,
+    ) -> usize
+        requires { at + 128 ≤ length room.old }
+        ensures within { result ≤ at + 128 }
+        ensures text { take result room.new
+            ≡ take at room.old ++ departure_line too_old n time side port }
+    {
+        let at = put_letter(room, at, too_old);
+        let at = self.n.put(n, room, at);
+        let at = put(room, at, b" ");
+        let at = self.time.put(time, room, at);
+        let at = put(room, at, b" ");
+        let at = put_side(room, at, side);
+        let at = put(room, at, b" ");
+        let at = put_small(room, at, port);
+        put(room, at, b"\n")
+    }
+
+    /// `M time system vl hex`.
+    #[inline(never)]
+    pub(crate) fn put_message(
+        &mut self,
+        room: &mut [u8],
+        at: usize,
+        time: u64,
+        name: &str,
+        vl: u16,
+        message: &[u8],
+    ) -> usize
+        requires { at + 128 + length name.now + 2 * length message.now ≤ length room.old }
+        ensures within { result ≤ at + 128 + length name.now + 2 * length message.now }
+        ensures text { take result room.new
+            ≡ take at room.old ++ message_line time name.now vl message.now }
+    {
+        let at = put(room, at, b"M ");
+        let at = self.time.put(time, room, at);
+        let at = put(room, at, b" ");
+        let at = put_piece(room, at, name.as_bytes());
+        let at = put(room, at, b" ");
+        let at = put_number(room, at, u64::from(vl));
+        let at = put(room, at, b" ");
+        let at = put_digits(room, at, message);
+        put(room, at, b"\n")
+    }
+
+    /// `X time system n WORD`.
+    #[inline(never)]
+    pub(crate) fn put_drop(
+        &mut self,
+        room: &mut [u8],
+        at: usize,
+        time: u64,
+        name: &str,
+        n: u64,
+        why: DropReason,
+    ) -> usize
+        requires { at + 128 + length name.now ≤ length room.old }
+        ensures within { result ≤ at + 128 + length name.now }
+        ensures text { take result room.new
+            ≡ take at room.old ++ drop_line time name.now n (drop_word why) }
+    {
+        let at = put(room, at, b"X ");
+        let at = self.time.put(time, room, at);
+        let at = put(room, at, b" ");
+        let at = put_piece(room, at, name.as_bytes());
+        let at = put(room, at, b" ");
+        let at = self.n.put(n, room, at);
+        let at = put(room, at, b" ");
+        let at = put_why(room, at, why);
+        put(room, at, b"\n")
+    }
+
+    /// `R time side port hex`.
+    #[inline(never)]
+    pub(crate) fn put_sent(
+        &mut self,
+        room: &mut [u8],
+        at: usize,
+        time: u64,
+        side: Side,
+        port: u8,
+        bytes: &[u8],
+    ) -> usize
+        requires { at + 128 + 2 * length bytes.now ≤ length room.old }
+        ensures within { result ≤ at + 128 + 2 * length bytes.now }
+        ensures text { take result room.new
+            ≡ take at room.old ++ sent_line side port time bytes.now }
+    {
+        let at = put(room, at, b"R ");
+        let at = self.time.put(time, room, at);
+        let at = put(room, at, b" ");
+        let at = put_side(room, at, side);
+        let at = put(room, at, b" ");
+        let at = put_small(room, at, port);
+        let at = put(room, at, b" ");
+        let at = put_digits(room, at, bytes);
+        put(room, at, b"\n")
+    }
+}
+
+/// `# n WORD`.
+#[inline(never)]
+pub(crate) fn put_refusal(room: &mut [u8], at: usize, n: u64, word: &str) -> usize
+    requires { at + 128 + length word.now ≤ length room.old }
+    ensures within { result ≤ at + 128 + length word.now }
+    ensures text { take result room.new ≡ take at room.old ++ refused_line n word.now }
+{
+    let at = put(room, at, b"# ");
+    let at = put_number(room, at, n);
+    let at = put(room, at, b" ");
+    let at = put_piece(room, at, word.as_bytes());
+    put(room, at, b"\n")
+}
+
+/// Puts a bound, or a dash where there is none.
+#[inline(always)]
+fn put_bound(room: &mut [u8], at: usize, bound: Option<u64>) -> usize
+    requires { at + 32 ≤ length room.old }
+    ensures within { result ≤ at + 20 }
+    ensures text { take result room.new ≡ take at room.old ++ bound_text bound }
+{
+    match bound {
+        Some(bound) => put_number(room, at, bound),
+        None => put(room, at, b"-"),
+    }
+}
+
+/// `P port high low buffer`.
+#[inline(never)]
+pub(crate) fn put_bounds(
+    room: &mut [u8],
+    at: usize,
+    port: u8,
+    high: u64,
+    low: Option<u64>,
+    buffer: u64,
+) -> usize
+    requires { at + 128 ≤ length room.old }
+    ensures within { result ≤ at + 128 }
+    ensures text { take result room.new ≡ take at room.old ++ bounds_line port high low buffer }
+{
+    let at = put(room, at, b"P ");
+    let at = put_small(room, at, port);
+    let at = put(room, at, b" ");
+    let at = put_number(room, at, high);
+    let at = put(room, at, b" ");
+    let at = put_bound(room, at, low);
+    let at = put(room, at, b" ");
+    let at = put_number(room, at, buffer);
+    put(room, at, b"\n")
+}
+
+/// `no LINE`.
+#[inline(never)]
+pub(crate) fn put_denial(room: &mut [u8], at: usize, line: &str) -> usize
+    requires { at + 128 + length line.now ≤ length room.old }
+    ensures within { result ≤ at + 128 + length line.now }
+    ensures text { take result room.new ≡ take at room.old ++ denied_line line.now }
+{
+    let at = put(room, at, b"no ");
+    let at = put_piece(room, at, line.as_bytes());
+    put(room, at, b"\n")
+}

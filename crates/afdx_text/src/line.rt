@@ -1,0 +1,162 @@
+//! The lines of the program's output.
+
+ghost use Rattle.std.specs.Prelude.{◌≡◌, ◌≤◌, ◌+◌, ◌++◌, length, take};
+
+use crate::kinds::{Kept, put_bounds, put_denial, put_loss, put_refusal, put_verdict};
+use crate::piece::put;
+use afdx_frame::{Side, VlId};
+use afdx_police::Reason;
+use afdx_receive::DropReason;
+use std::alloc::AllocError;
+
+/// A line of the output.
+#[derive(Clone, Copy, Debug)]
+pub enum OutLine<'a> {
+    /// What became of the frame of line `n`: `V n side accept` or `V n side drop WORD`.
+    Verdict {
+        n: u64,
+        side: Side,
+        reason: Option<Reason>,
+    },
+    /// A copy of it was lost to a full buffer: `L n side port`.
+    Lost {
+        n: u64,
+        side: Side,
+        port: u8,
+    },
+    /// A copy of it left a port, `D n time side port`, or was dropped there: `T ..`.
+    Left {
+        n: u64,
+        time: u64,
+        side: Side,
+        port: u8,
+        too_old: bool,
+    },
+    /// A system read a message: `M time system vl hex`.
+    Message {
+        time: u64,
+        system: &'a str,
+        vl: VlId,
+        bytes: &'a [u8],
+    },
+    /// A system dropped a frame: `X time system n WORD`.
+    Unread {
+        time: u64,
+        system: &'a str,
+        n: u64,
+        why: DropReason,
+    },
+    /// A frame was sent: `R time side port hex`.
+    Sent {
+        time: u64,
+        side: Side,
+        port: u8,
+        bytes: &'a [u8],
+    },
+    /// The message of line `n` wasn't taken: `# n WORD`.
+    Refused {
+        n: u64,
+        word: &'a str,
+    },
+    /// The bounds of an output port: `P port high low buffer`, with `-` where there is no low one.
+    Bounds {
+        port: u8,
+        high: u64,
+        low: Option<u64>,
+        buffer: u64,
+    },
+    /// The tables are admitted: `ok`.
+    Admitted,
+    /// They are not, by this line of admission: `no LINE`.
+    Denied {
+        line: &'a str,
+    },
+}
+
+/// The most bytes of a line, but for those of a name, a word and what is written in digits.
+const MOST_FIXED: usize = 128;
+
+impl OutLine<'_> {
+    ghost use Rattle.std.specs.Prelude.{IfOk, IfSome, IfNone, OnErr, ◌^◌};
+    ghost use Rattle.afdx_text.specs.OutLines.{line_text, longest};
+
+    /// At least as many bytes as the line has, its line feed among them; `None` where that is no
+    /// `usize`.
+    #[inline(always)]
+    fn longest(&self) -> Option<usize>
+        ensures some { IfSome result (λ most. most ≡ longest self.now) }
+        ensures none { IfNone result (2 ^ 64 ≤ longest self.now) }
+    {
+        match self {
+            OutLine::Message { system, bytes, .. } => {
+                MOST_FIXED
+                    .checked_add(system.len())?
+                    .checked_add(2 * bytes.len())
+            }
+            OutLine::Unread { system, .. } => MOST_FIXED.checked_add(system.len()),
+            OutLine::Sent { bytes, .. } => MOST_FIXED.checked_add(2 * bytes.len()),
+            OutLine::Refused { word, .. } => MOST_FIXED.checked_add(word.len()),
+            OutLine::Denied { line } => MOST_FIXED.checked_add(line.len()),
+            _ => Some(MOST_FIXED),
+        }
+    }
+
+    /// So much room is wanted for it. Where that is no `usize`, no memory can have it.
+    #[inline(always)]
+    pub(crate) fn room_wanted(&self) -> Result<usize, AllocError>
+        ensures ok { IfOk result (λ most. most ≡ longest self.now) }
+        ensures err { OnErr result (2 ^ 64 ≤ longest self.now) }
+    {
+        match self.longest() {
+            Some(most) => Ok(most),
+            None => Err(AllocError),
+        }
+    }
+
+    /// Puts the line at a place of the room, and tells where it ends.
+    #[inline(always)]
+    pub(crate) fn put_at(&self, room: &mut [u8], at: usize, kept: &mut Kept) -> usize
+        requires { at + longest self.now ≤ length room.old }
+        ensures within { result ≤ at + longest self.now }
+        ensures text { take result room.new ≡ take at room.old ++ line_text self.now }
+    {
+        match self {
+            OutLine::Verdict { n, side, reason } => put_verdict(room, at, *n, *side, *reason),
+            OutLine::Lost { n, side, port } => put_loss(room, at, *n, *side, *port),
+            OutLine::Left {
+                n,
+                time,
+                side,
+                port,
+                too_old,
+            } => kept.put_departure(room, at, *n, *time, *side, *port, *too_old),
+            OutLine::Message {
+                time,
+                system,
+                vl,
+                bytes,
+            } => kept.put_message(room, at, *time, system, vl.0, bytes),
+            OutLine::Unread {
+                time,
+                system,
+                n,
+                why,
+            } => kept.put_drop(room, at, *time, system, *n, *why),
+            OutLine::Sent {
+                time,
+                side,
+                port,
+                bytes,
+            } => kept.put_sent(room, at, *time, *side, *port, bytes),
+            OutLine::Refused { n, word } => put_refusal(room, at, *n, word),
+            OutLine::Bounds {
+                port,
+                high,
+                low,
+                buffer,
+            } => put_bounds(room, at, *port, *high, *low, *buffer),
+            OutLine::Admitted => put(room, at, b"ok\n"),
+            OutLine::Denied { line } => put_denial(room, at, line),
+        }
+    }
+}

@@ -1,0 +1,151 @@
+//! The output of a run: lines that are held until there is no more room for them, before a device.
+
+ghost use Rattle.std.specs.Prelude.{◌≡◌, ◌≤◌, ◌+◌, [], OnOk, OnErr, IfOk, IfErr, false, true, is_err, nat_eq};
+ghost use Rattle.std.specs.Io.KnownBytes.{Appends, Keeps};
+ghost use Rattle.afdx_lists.specs.Calls.{AppendsFront, is_failed_write};
+ghost use Rattle.afdx_text.specs.OutLines.{line_text};
+ghost use Rattle.afdx_text.specs.Outputs.{written, held_bytes, room_of, is_at_once};
+ghost use Rattle.afdx_text.specs.Outputs.{inner_device, device_has_failed};
+ghost use Rattle.afdx_text.specs.Sinks.{IsOfOutput};
+
+use crate::line::OutLine;
+use crate::sink::Sink;
+use crate::text::Text;
+use crate::writing::hand_bytes;
+use afdx_lists::{RunFault, Watched};
+use std::alloc::{AllocError, Global};
+use std::io::Write;
+
+/// Holds lines until there is no more room for them, and then hands all to its device.
+///
+/// What was handed to the device and what is held are together what was put, in order. Once the
+/// device has failed nothing is handed to it any more, by `flush` neither. What is held when it is
+/// dropped is not handed over.
+#[derive(Drop)]
+pub struct Output<W> {
+    device: Watched<W>,
+    held: Text,
+    /// Each line is handed over as soon as it is put.
+    is_at_once: bool,
+}
+
+impl<W: Write + Drop> Output<W> {
+    /// Room for so many bytes before a device. With none, each line is handed over at once.
+    pub fn new(alloc: Global, room: usize, device: W) -> Result<Output<W>, AllocError>
+        ensures empty { IfOk result (λ o. written W.contents o ≡ W.contents device) }
+        ensures sound { IfOk result (λ o. device_has_failed o ≡ false) }
+        ensures room { IfOk result (λ o. room ≤ room_of o) }
+        ensures at_once { IfOk result (λ o. is_at_once o ≡ nat_eq room 0) }
+    {
+        let mut held = Text::new(alloc);
+        held.make_room(room)?;
+        Ok(Output {
+            device: Watched::new(device),
+            held,
+            is_at_once: room == 0,
+        })
+    }
+
+    /// Whether a write to the device, or its flush, has failed.
+    pub fn failed(&self) -> bool
+        ensures { result ≡ device_has_failed self.now }
+    {
+        self.device.failed() || self.device.flush_failed()
+    }
+
+    /// The device, as it then is. What is held is lost.
+    pub fn into_device(self) -> W
+        ensures { result ≡ inner_device self }
+    {
+        self.device.into_inner()
+    }
+
+    /// Hands all that is held to the device, and flushes that. An error comes exactly where the
+    /// device has failed; one that failed before is not asked.
+    pub fn flush(&mut self) -> Result<(), RunFault>
+        ensures none_left { device_has_failed self.new ≡ false → held_bytes self.new ≡ [] }
+        ensures failed { device_has_failed self.new ≡ is_err result }
+        ensures fault { IfErr result (λ fault. fault ≡ RunFault.Write) }
+        ensures unasked { device_has_failed self.old ≡ true → self.new ≡ self.old }
+        ensures bytes { Keeps (written W.contents self.old) (written W.contents self.new) }
+    {
+        if self.failed() {
+            return Err(RunFault::Write);
+        }
+        self.hand_over()?;
+        match self.device.flush() {
+            Ok(()) => Ok(()),
+            Err(_) => Err(RunFault::Write),
+        }
+    }
+
+    /// Hands all that is held to the device, which has not failed before.
+    fn hand_over(&mut self) -> Result<(), RunFault>
+        requires { device_has_failed self.old ≡ false }
+        ensures none_left { OnOk result (held_bytes self.new ≡ []) }
+        ensures failed { device_has_failed self.new ≡ is_failed_write result }
+        ensures fault { IfErr result (λ fault. fault ≡ RunFault.Write) }
+        ensures bytes { Keeps (written W.contents self.old) (written W.contents self.new) }
+        ensures at_once { is_at_once self.new ≡ is_at_once self.old }
+    {
+        let taken = hand_bytes(self.held.as_bytes(), &mut self.device);
+        self.held.remove_front(taken);
+        if self.device.failed() {
+            return Err(RunFault::Write);
+        }
+        Ok(())
+    }
+
+    /// Makes room for so many more bytes: first all that is held is handed over.
+    #[cold]
+    #[inline(never)]
+    fn make_room(&mut self, more: usize) -> Result<(), RunFault>
+        requires { device_has_failed self.old ≡ false }
+        ensures failed { device_has_failed self.new ≡ is_failed_write result }
+        ensures fault { IfErr result IsOfOutput }
+        ensures bytes { Keeps (written W.contents self.old) (written W.contents self.new) }
+        ensures room { OnOk result (self.new.held.end + more ≤ self.new.held.room.len) }
+        ensures at_once { is_at_once self.new ≡ is_at_once self.old }
+    {
+        self.hand_over()?;
+        self.held.make_room(more)?;
+        Ok(())
+    }
+
+    /// Puts a line, which is held.
+    #[inline(always)]
+    fn hold(&mut self, line: &OutLine<'_>) -> Result<(), RunFault>
+        requires { device_has_failed self.old ≡ false }
+        ensures put { OnOk result (Appends (written W.contents self.old)
+            (written W.contents self.new) (line_text line.now)) }
+        ensures same { OnErr result
+            (Keeps (written W.contents self.old) (written W.contents self.new)) }
+        ensures failed { device_has_failed self.new ≡ is_failed_write result }
+        ensures fault { IfErr result IsOfOutput }
+        ensures at_once { is_at_once self.new ≡ is_at_once self.old }
+    {
+        let most = line.room_wanted()?;
+        if !self.held.has_room(most) {
+            self.make_room(most)?;
+        }
+        self.held.add(line);
+        Ok(())
+    }
+}
+
+impl<W: Write + Drop> Sink for Output<W> {
+    ghost written = { λ o. written W.contents o };
+
+    ghost failed = { λ o. device_has_failed o };
+
+    /// Puts a line in its place among those that are held. Where that fails, none of it was put; or
+    /// all of it, where it is handed over at once and the device failed.
+    #[inline(always)]
+    fn put(&mut self, line: &OutLine<'_>, _scratch: &mut Text) -> Result<(), RunFault> {
+        self.hold(line)?;
+        if self.is_at_once {
+            self.hand_over()?;
+        }
+        Ok(())
+    }
+}

@@ -1,0 +1,33 @@
+//! Faults are told, each in one line, without memory.
+
+ghost use Rattle.std.specs.Prelude.{◌≡◌, false, true};
+ghost use Rattle.afdx_text.specs.Telling.{Tells, TellsLine};
+ghost use Rattle.afdx_lists.specs.Watching.{has_failed};
+
+use crate::writing::write_text;
+use afdx_lists::{RunFault, Watched};
+use std::fmt::InlineText;
+use std::io::Write;
+
+/// The most bytes of a fault's text: its longest word, and a number of 20 digits.
+const LONGEST_FAULT: usize = 48;
+
+/// Hands a text to a device, or a beginning of it where that fails. A device that failed before is
+/// not asked.
+pub fn tell<W: Write>(device: &mut Watched<W>, text: &[u8])
+    ensures { Tells W.contents device.old device.new text.now }
+{
+    if !device.failed() {
+        let _ = write_text(device, text);
+    }
+}
+
+/// Hands the one line of a fault to a device, or a beginning of it where that fails. A device that
+/// failed before is not asked.
+pub fn tell_fault<W: Write>(device: &mut Watched<W>, fault: &RunFault)
+    ensures { TellsLine W.contents device.old device.new }
+{
+    let text = InlineText::<LONGEST_FAULT>::of(fault);
+    tell(device, text.as_str().as_bytes());
+    tell(device, b"\n");
+}
