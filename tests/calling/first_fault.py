@@ -103,9 +103,11 @@ def faults_of(tables: dict) -> Iterator[str]:
     for part in MOST_ROWS:
         for place, row in enumerate(tables[part]):
             at = f"{part} {place + 1} key"
-            for number, key in enumerate(KEYS[part], 1):
+            for number, (key, _, _, forms, _) in enumerate(KEY_ROWS[part], 1):
                 if key not in row:
-                    yield f"Missing {at} {number}"
+                    if "Missing" in forms:
+                        yield f"Missing {at} {number}"
+                    continue
                 if not is_of_kind(part, key, row[key]):
                     yield f"WrongKind {at} {number}"
                 if not in_range(tables, part, row, key):

@@ -291,7 +291,7 @@ fn send_list(rt: &HostRuntime, matches: &ArgMatches<'_>) -> u8 {
     }
 }
 
-/// Says what a line means, or what each word of the closed lists does.
+/// Says what a line means, or what each word of the closed lists means.
 fn explain_words(rt: &HostRuntime, matches: &ArgMatches<'_>) -> u8 {
     if matches.get_flag("list") {
         if print_lists(rt).is_err() {

@@ -137,8 +137,8 @@ A line is printed for each event, in the order of time:
   D n time side port      its copy left this output port
   T n time side port      its copy was dropped there: it had waited too long
   M time system vl HEX    the system delivered this message
-  X time system n WORD    the system dropped the frame of line n; 'explain --list'
-                          has each WORD
+  X time system n WORD    the system dropped the frame of line n;
+                          'afdx explain --list' has each WORD
 
 At one time the frames that leave come first, side A before B, then by port; then
 the frames that arrive, line by line; then those that are dropped as too old.
@@ -276,9 +276,9 @@ that is none of these the line is 'words UnknownText' and the status 2.
 With --list each word and each form of a line is printed with what it means: the
 name of its list and the word, then the text, then an empty line. The lists are
 'drop' (why a switch drops a frame), 'unread' (why a system drops one), 'refusal'
-(of a message), 'admission', 'config' (faults), 'key' (of a configuration), 'fault'
-(of a run or of the words) and 'line' (of the output). In a form 'n' is a number,
-'*' any word, 'a|b' one of two words.
+(of a message), 'admission', 'config' (faults), 'key' (of a configuration),
+'fault' (of a run or of the words) and 'line' (of the output). In a form 'n' is a
+number, '*' any word, 'a|b' one of two words.
 
 Examples:
   afdx explain 'config Missing link 1 key 7'

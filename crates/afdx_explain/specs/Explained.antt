@@ -101,8 +101,8 @@ meaning_of line = or_else (any_fault line) (any_line line)
 
 unfoldable pub config_kind : List ℕ → Option (List ℕ)
 config_kind line =
-    formed_among (map (λ row. formed_row row.0.now row.1.now row.2.now) (drop 2 (take 8 CONFIG_FAULTS)))
-    line
+    formed_among
+    (map (λ row. formed_row row.0.now row.1.now row.2.now) (drop 2 (take 8 CONFIG_FAULTS))) line
 
 unfoldable pub other_kind : List ℕ → Option (List ℕ)
 other_kind line = text_among (map (λ entry. (entry.0.now, entry.1.now)) KINDS) line
