@@ -73,7 +73,7 @@ _afdx() {
                 _afdx_words --vl --port --lmin --policing --explain --line-buffered --summary --help
                 ;;
             check) _afdx_words --explain --help ;;
-            explain) _afdx_words --help ;;
+            explain) _afdx_words --list --help ;;
         esac
         return
     fi

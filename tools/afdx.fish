@@ -60,6 +60,7 @@ complete -c afdx -n '__afdx_at - 0 0' -a police -d 'Judge the frames of one link
 complete -c afdx -n '__afdx_at - 0 0' -a replay -d 'Replay a frame list'
 complete -c afdx -n '__afdx_at - 0 0' -a send -d 'Send the messages of a system'
 complete -c afdx -n '__afdx_in check police replay send' -l explain -d 'Explain a fault'
+complete -c afdx -n '__afdx_in explain' -l list -d 'Print each word with its meaning'
 complete -c afdx -n '__afdx_in police replay send' -l line-buffered -d 'Hand over each line at once'
 complete -c afdx -n '__afdx_in police replay send' -l summary -d 'Print the counts at the end'
 complete -c afdx -n '__afdx_in replay' -l no-admission -d 'Also where the network is refused'

@@ -1,32 +1,32 @@
 """The lines of `afdx replay` as columns: verdicts by the list's line, and what became of copies."""
 from __future__ import annotations
 
+import functools
+import subprocess
 from typing import IO, Callable
 
 import numpy as np
 
 from afdx_lines import SPACE, Block, blocks_of
 from afdx_listing import SIDES, Listing
-from afdx_tools import Refused
+from afdx_tools import Refused, program
 
 ACCEPT = "accept"
 DELIVERED, REDUNDANT = "delivered", "redundant"
 LOST, OLD, LEFT = "lost", "too-old", "left"
 FATES = (LEFT, LOST, OLD)
-VERDICTS = (
-    "too-short",
-    "too-long",
-    "bad-fcs",
-    "bad-address",
-    "unknown-link",
-    "wrong-port",
-    "over-lmax",
-    "under-lmin",
-    "over-rate",
-)
 NOT_YET = -1  # stands for a line without a verdict, and for a departure without a receiver's line
 LETTERS = {letter: ord(letter) for letter in "VLDTMX"}
 KNOWN = np.isin(np.arange(256), list(LETTERS.values()))
+
+
+@functools.cache
+def verdicts() -> tuple[str, ...]:
+    """Why a switch drops a frame: the words of the program, in its order."""
+    words = [program(), "explain", "--list"]
+    told = subprocess.run(words, capture_output=True, text=True, check=False).stdout
+    drops = [line for line in told.splitlines() if line.startswith("drop ")]
+    return tuple(line.removeprefix("drop ") for line in drops)
 
 
 class Words:
@@ -49,7 +49,7 @@ class Events:
 
     def __init__(self, listing: Listing) -> None:
         self.listing = listing
-        self.verdicts = Words(ACCEPT, *VERDICTS)
+        self.verdicts = Words(ACCEPT, *verdicts())
         self.ends = Words(DELIVERED, REDUNDANT)
         self.verdict = np.full(listing.lines + 1, NOT_YET, np.int8)
         self.parts: list[dict[str, np.ndarray]] = [none_at_all()]

@@ -6,7 +6,6 @@ from typing import Sequence
 
 from afdx_svg import (
     LATE,
-    REASONS,
     WIDTH,
     box,
     decade_ticks,
@@ -16,6 +15,7 @@ from afdx_svg import (
     in_us,
     line,
     picture,
+    reasons,
     symbol,
     text,
     time_axis,
@@ -201,7 +201,7 @@ def bars(series: Sequence[int], most: int, base: float, place_x, told) -> list[s
 
 def drops(found: Row) -> str:
     """Drops over time, a lane for each reason."""
-    present = [word for word in REASONS if word in found["reasons"]]
+    present = [word for word in reasons() if word in found["reasons"]]
     present += [word for word in found["reasons"] if word not in present]
     if not present:
         return '<p class="muted">No frame was dropped.</p>'

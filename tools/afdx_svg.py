@@ -5,25 +5,34 @@ import math
 from html import escape
 from typing import Sequence
 
-from afdx_events import LOST, OLD, VERDICTS
+from afdx_events import LOST, OLD, verdicts
 
 WIDTH = 1000
 LATE = "late"
-REASONS = (*VERDICTS, LOST, OLD)
-SYMBOLS = {  # one shape for each, about ten units wide, with its middle at the pen's place
-    "too-short": "m-4 0h8",
-    "too-long": "m0-6v12",
-    "bad-fcs": "m-4-4l8 8m0-8l-8 8",
-    "bad-address": "m-5 0h10m-5-5v10",
-    "unknown-link": "m-4-4h8v8h-8z",
-    "wrong-port": "m0-5l5 5l-5 5l-5-5z",
-    "over-lmax": "m-5 4l5-9l5 9z",
-    "under-lmin": "m-5-4l5 9l5-9z",
-    "over-rate": "m-4-4l4 4l-4 4m4-8l4 4l-4 4",
+# shapes, about ten units wide, with their middle at the pen's place: one for each verdict, in their
+# order; a further one has the cross
+CROSS = "m-4-4l8 8m0-8l-8 8"
+SHAPES = (
+    "m-4 0h8",
+    "m0-6v12",
+    CROSS,
+    "m-5 0h10m-5-5v10",
+    "m-4-4h8v8h-8z",
+    "m0-5l5 5l-5 5l-5-5z",
+    "m-5 4l5-9l5 9z",
+    "m-5-4l5 9l5-9z",
+    "m-4-4l4 4l-4 4m4-8l4 4l-4 4",
+)
+SYMBOLS = {
     LOST: "m-4-4h8v8h-8zm0 0l8 8m0-8l-8 8",
     OLD: "m-4-5h8l-8 10h8z",
     LATE: "m-5-3h6l4 3l-4 3h-6z",
 }
+
+
+def reasons() -> tuple[str, ...]:
+    """Why a frame or its copy is lost: what a switch says, then what comes at its ports."""
+    return (*verdicts(), LOST, OLD)
 
 
 def text(x: float, y: float, words: str, kind: str = "", anchor: str = "start") -> str:
@@ -53,7 +62,8 @@ def dot(x: float, y: float, size: float, kind: str) -> str:
 
 def symbol(x: float, y: float, word: str) -> str:
     """The symbol of a reason."""
-    return f'<path d="M{x:.1f} {y:.1f}{SYMBOLS.get(word, SYMBOLS["bad-fcs"])}" class="reason"/>'
+    shape = {**dict(zip(verdicts(), SHAPES)), **SYMBOLS}.get(word, CROSS)
+    return f'<path d="M{x:.1f} {y:.1f}{shape}" class="reason"/>'
 
 
 def diamond(x: float, y: float) -> str:

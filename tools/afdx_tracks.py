@@ -9,7 +9,7 @@ import numpy as np
 from afdx_counting import Counting
 from afdx_events import ACCEPT, DELIVERED, FATES, LEFT, side_name
 from afdx_listing import NO_LINK
-from afdx_svg import LATE, REASONS, WIDTH, box, dot, line, picture, symbol, text, time_axis
+from afdx_svg import LATE, WIDTH, box, dot, line, picture, reasons, symbol, text, time_axis
 from afdx_svg import titled, unit_for
 
 EACH = 80  # arrivals that are looked at together
@@ -132,7 +132,7 @@ def track_legend(track: list[Arrived], left: float) -> list[str]:
     ]
     come = {arrived.verdict for arrived in track} | {c.what for a in track for c in a.copies}
     x, y = left + 534.0, 10.0
-    for word in (*REASONS, LATE):
+    for word in (*reasons(), LATE):
         if word in come:
             if x + 20 + 7 * len(word) > WIDTH:
                 x, y = left + 4.0, y + 18

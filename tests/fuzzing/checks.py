@@ -3,24 +3,30 @@
 No rule is computed a second time here: no schedule, no account, no reception. What is looked at is
 the form of each line, the order of lines, and what must be so by the promises.
 """
+import os
 import re
+import sys
 import zlib
 
+sys.path.insert(0, os.path.join(os.path.dirname(os.path.abspath(__file__)), "..", "lib"))
+
+import closed_lists as lists  # noqa: E402
+
 CONFIG_FAULT = re.compile(
-    r"config (NotToml|BadProfile|(Missing|WrongKind|UnknownKey|OutOfRange|Twice|NoSuchSystem)"
-    r" (top 0|(system|link|port) [1-9][0-9]*) key [0-9]+)\n"
+    rf"config ({'|'.join(lists.CONFIG_FAULTS[:2])}|({'|'.join(lists.CONFIG_FAULTS[2:8])})"
+    rf" (top 0|({'|'.join(lists.PARTS[1:])}) [1-9][0-9]*) key [0-9]+)\n"
 )
-ADMISSION = r"(A1 N|A2 N N|A3 N N N|A4 N N N|A5 \w+ N|A6 N N|A7 N)".replace("N", "[0-9]+")
+LINES = lists.table("ADMISSION")
+FORMS = [forms.split("|admit ")[1].replace("?", word) for word, forms, _ in LINES]
+ADMISSION = f"({'|'.join(FORMS)})".replace("*", r"\w+").replace(" n", " [0-9]+")
 ADMIT_FAULT = re.compile(rf"admit {ADMISSION}\n")
+LIST_FAULTS = [form for form in lists.RUN_FAULTS if form.startswith("list ")]
 LIST_FAULT = re.compile(
-    r"list (?:TooManyLines"
-    r"|(?:LineTooLong|BadLine|TimeTooLarge|TimeBack|BadPort|BadHex) ([1-9][0-9]*))\n"
+    "(?:" + "|".join(form.replace(" n", " [1-9][0-9]*") for form in LIST_FAULTS) + r")\n"
 )
 NUMBER = r"(?:0|[1-9][0-9]*)"
-DROPS = (
-    "too-short|too-long|bad-fcs|bad-address|unknown-link|wrong-port|over-lmax|under-lmin|over-rate"
-)
-UNREAD = "sequence|redundant|not-ipv4|bad-ip-header|fragment|not-udp|bad-udp-length|no-port"
+DROPS = "|".join(lists.REASONS)
+UNREAD = "|".join(lists.DROP_REASONS[1:] + lists.IP_FAULTS)
 PORT = "(?:[1-9]|1[0-9]|2[0-4])"
 EVENT = re.compile(
     rf"V {NUMBER} [AB] (?:accept|drop (?:{DROPS}))"
@@ -80,8 +86,10 @@ def frames_before(text, fault):
 
 def faulty_line(err):
     """The number of the line that a list fault names; None where there is none."""
-    match = LIST_FAULT.fullmatch(err)
-    return int(match[1] or 1_000_001) if match else None
+    if not LIST_FAULT.fullmatch(err):
+        return None
+    _, _, *number = err.split()
+    return int(number[0]) if number else 1_000_001
 
 
 def check_status(command, status, err):

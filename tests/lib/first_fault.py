@@ -5,29 +5,14 @@ from __future__ import annotations
 import re
 from typing import Iterator
 
+from closed_lists import KEY_ROWS, KEYS
 from tables import tomllib
 
 BAGS = (1, 2, 4, 8, 16, 32, 64, 128)
 MOST_LINES, LONGEST_LINE, LATEST = 1_000_000, 4_200, 10**15
-KEYS = {
-    "top": ["profile", "buffer", "system", "link", "port"],
-    "system": ["name", "port", "id", "partition", "rate"],
-    "link": ["vl", "from", "to", "bag_ms", "lmin", "lmax", "jitter_us", "priority", "policing"]
-    + ["latency_us", "skew_us", "subs"],
-    "port": ["system", "link", "udp", "kind", "depth"],
-}
-MOST_ROWS = {"system": 24, "link": 4096, "port": 4096}
+MOST_ROWS = {row[0]: row[2] for row in KEY_ROWS["top"] if row[0] in KEY_ROWS}
 TEXTS = ("name", "from", "priority", "policing", "kind")
-RANGES = {
-    **{
-        "port": (1, 24),
-        "id": (0, 65535),
-        "partition": (0, 255),
-        "vl": (0, 65535),
-        "lmin": (64, 1518),
-    },
-    **{"latency_us": (1, 100000), "skew_us": (1, 100000), "subs": (1, 4), "udp": (1, 65535)},
-}
+RANGES = {(part, row[0]): row[1:3] for part, rows in KEY_ROWS.items() for row in rows}
 
 
 def is_whole(value: object) -> bool:
@@ -47,6 +32,7 @@ def is_of_kind(part: str, key: str, value: object) -> bool:
 def in_range(tables: dict, part: str, row: dict, key: str) -> bool:
     """The value, of its kind, is in its range."""
     value = row[key]
+    low, high = RANGES[part, key]
     lower = {
         "name": r"[A-Za-z0-9]{1,16}",
         "priority": "high|low",
@@ -56,7 +42,7 @@ def in_range(tables: dict, part: str, row: dict, key: str) -> bool:
     if key in lower:
         return re.fullmatch(lower[key], value) is not None
     if key == "to":
-        return 1 <= len(value) <= 24
+        return low <= len(value) <= high
     if (part, key) == ("port", "link"):
         return any(link["vl"] == value and row["system"] in link["to"] for link in tables["link"])
     if key in ("from", "system"):
@@ -65,13 +51,12 @@ def in_range(tables: dict, part: str, row: dict, key: str) -> bool:
         return value in ((10, 100, 1000) if tables["profile"] == 2 else (10, 100))
     if key == "bag_ms":
         return value in BAGS
-    low, high = RANGES.get(key, (0, 0))
     if key == "lmax":
-        low, high = row["lmin"], 1518
+        low = row["lmin"]
     if key == "jitter_us":
-        low, high = 0, 1000 * row["bag_ms"]
-    if key == "depth":
-        low, high = 1, 1 if row["kind"] == "sampling" else 64
+        high = 1000 * row["bag_ms"]
+    if key == "depth" and row["kind"] == "sampling":
+        high = 1
     return low <= value <= high
 
 
@@ -104,7 +89,8 @@ def faults_of(tables: dict) -> Iterator[str]:
         yield "Missing top 0 key 2"
     if not is_whole(tables["buffer"]):
         yield "WrongKind top 0 key 2"
-    if not 64 <= tables["buffer"] <= 4194304:
+    low, high = RANGES["top", "buffer"]
+    if not low <= tables["buffer"] <= high:
         yield "OutOfRange top 0 key 2"
     for part, most in MOST_ROWS.items():
         rows = tables.setdefault(part, [])
@@ -117,9 +103,11 @@ def faults_of(tables: dict) -> Iterator[str]:
     for part in MOST_ROWS:
         for place, row in enumerate(tables[part]):
             at = f"{part} {place + 1} key"
-            for number, key in enumerate(KEYS[part], 1):
+            for number, (key, _, _, forms, _) in enumerate(KEY_ROWS[part], 1):
                 if key not in row:
-                    yield f"Missing {at} {number}"
+                    if "Missing" in forms:
+                        yield f"Missing {at} {number}"
+                    continue
                 if not is_of_kind(part, key, row[key]):
                     yield f"WrongKind {at} {number}"
                 if not in_range(tables, part, row, key):

@@ -32,7 +32,10 @@ for line in ' ' 'config' 'config Twice link 1 key 7' 'config Missing link x key 
     case_of "no line of the program: '$line'" 2 '' $'words UnknownText\n' explain "$line"
 done
 text_case 'help of explain' 0 out 'afdx explain over-rate' explain --help
+text_case 'each word' 0 out 'drop over-rate' explain --list
+text_case 'neither a text nor each word' 2 err 'TEXT' explain
 full_case 'an explanation to a full device' 4 $'device Write\n' explain memory
+full_case 'each word to a full device' 4 $'device Write\n' explain --list
 
 {
     "$program" check examples/network.toml || true

@@ -6,8 +6,9 @@ tables.
 
 For each row an example of its line is given to `afdx explain`; the answer must have what the row
 says of it, and for a key of a configuration its name and its range. What has no row (`ok`, the
-counts, `not-subscribed`) must have an answer. Prints a line for each that doesn't, and nothing
-where all do; ends with status 1 if there is one.
+counts, `not-subscribed`) must have an answer. What `afdx explain --list` prints must be the closed
+lists of the sources, in their order, and what it says of a word what `afdx explain` does. Prints a
+line for each that isn't so, and nothing where all is; ends with status 1 if there is one.
 """
 import itertools
 import pathlib
@@ -15,7 +16,12 @@ import re
 import subprocess
 import sys
 
-FORMATS = pathlib.Path(__file__).resolve().parent.parent.parent / "docs" / "FORMATS.md"
+TOP = pathlib.Path(__file__).resolve().parent.parent.parent
+sys.path.insert(0, str(TOP / "tests" / "lib"))
+
+import closed_lists as lists  # noqa: E402
+
+FORMATS = TOP / "docs" / "FORMATS.md"
 KEY_FAULTS = ["Missing", "WrongKind", "OutOfRange", "Twice", "NoSuchSystem"]
 EXAMPLES = {
     "n": "7", "port": "3", "side": "A", "time": "6720", "system": "s3", "name": "s3", "vl": "101",
@@ -23,6 +29,14 @@ EXAMPLES = {
     "high": "16800", "low": "-", "buffer": "252",
 }
 LETTERS = ("D", "L", "M", "R", "T")
+LISTS = {
+    "drop": lists.REASONS,
+    "unread": lists.MAC_FAULTS + lists.DROP_REASONS + lists.IP_FAULTS,
+    "refusal": lists.SEND_FAULTS[:5],
+    "admission": lists.ADMISSION,
+    "config": lists.CONFIG_FAULTS[:8],
+    "key": [row[3] for rows in lists.KEY_ROWS.values() for row in rows],
+}
 WITHOUT_ROW = [
     "ok", "not-subscribed", "X 6720 s3 2 not-subscribed",
     "summary lines 3 accepted 2 dropped 1 lost 0 departed 2 too-old 0 delivered 1",
@@ -163,11 +177,30 @@ def faults(program: str) -> list[str]:
     return found
 
 
+def listed(program: str) -> list[str]:
+    """What is wrong with what `--list` prints."""
+    words = [program, "explain", "--list"]
+    told = subprocess.run(words, capture_output=True, text=True, check=False).stdout
+    rows = [block.split("\n", 1) for block in told.strip("\n").split("\n\n")]
+    found = []
+    for name, wanted in LISTS.items():
+        begin = f"{name} "
+        own = [(head.removeprefix(begin), text) for head, text in rows if head.startswith(begin)]
+        if name == "key":
+            own = own[:-1]  # what is said of keys that aren't known
+        if [word for word, _ in own] != wanted:
+            found.append(f"--list prints of {name} {[word for word, _ in own]}")
+        for word, text in own if name not in ("config", "key") else []:
+            if answer(program, word) != plain(text):
+                found.append(f"--list says other things of {word} than is said of it alone")
+    return found
+
+
 def main() -> int:
     if len(sys.argv) != 2:
         print(__doc__, file=sys.stderr)
         return 2
-    found = faults(sys.argv[1])
+    found = faults(sys.argv[1]) + listed(sys.argv[1])
     for fault in found:
         print(fault)
     return 1 if found else 0

@@ -1,6 +1,13 @@
 //! Explanations: the command `explain`, and what follows the line of a fault with `--explain`.
 
-use afdx_explain::{kind_of, meaning_of};
+use afdx_admit::ADMISSION;
+use afdx_config::{CONFIG_FAULTS, Key, LINK_KEYS, PORT_KEYS, SYSTEM_KEYS, TOP_KEYS, UNKNOWN_KEYS};
+use afdx_explain::{FAULTS, LINES, kind_of, meaning_of};
+use afdx_frame::{IP_FAULTS, MAC_FAULTS};
+use afdx_lists::RUN_FAULTS;
+use afdx_police::REASONS;
+use afdx_receive::DROP_REASONS;
+use afdx_send::SEND_FAULTS;
 use clap::ArgMatches;
 use std::alloc::{AllocError, Global};
 use std::io;
@@ -32,6 +39,61 @@ pub fn print_meaning(rt: &HostRuntime, line: &str, meaning: &str) -> io::Result<
         println!(rt; "{kind}")?;
     }
     println!(rt; "{meaning}")
+}
+
+/// Prints the words of a list, each with what it means.
+fn print_words<T>(rt: &HostRuntime, list: &str, rows: &[(T, &str, &str)]) -> io::Result<()> {
+    for (_, word, meaning) in rows {
+        println!(rt; "{list} {word}\n{meaning}\n")?;
+    }
+    Ok(())
+}
+
+/// Prints the words of a list whose lines have forms of their own.
+fn print_formed(rt: &HostRuntime, list: &str, rows: &[(&str, &str, &str)]) -> io::Result<()> {
+    for (word, _, meaning) in rows {
+        println!(rt; "{list} {word}\n{meaning}\n")?;
+    }
+    Ok(())
+}
+
+/// Prints the forms of lines, each with what such a line means.
+fn print_forms(rt: &HostRuntime, list: &str, rows: &[(&str, &str)]) -> io::Result<()> {
+    for (forms, meaning) in rows {
+        for form in forms.split('\n') {
+            println!(rt; "{list} {form}")?;
+        }
+        println!(rt; "{meaning}\n")?;
+    }
+    Ok(())
+}
+
+/// Prints the keys of a part, by the forms of their faults.
+fn print_keys(rt: &HostRuntime, keys: &[Key]) -> io::Result<()> {
+    for (_, _, _, forms, meaning) in keys {
+        println!(rt; "key {forms}\n{meaning}\n")?;
+    }
+    Ok(())
+}
+
+/// Prints each closed list: for each of its words, or of the forms of its lines, the list's name
+/// with it, then what it means, then an empty line.
+pub fn print_lists(rt: &HostRuntime) -> io::Result<()> {
+    print_words(rt, "drop", &REASONS)?;
+    print_words(rt, "unread", &MAC_FAULTS)?;
+    print_words(rt, "unread", &DROP_REASONS)?;
+    print_words(rt, "unread", &IP_FAULTS)?;
+    print_words(rt, "refusal", &SEND_FAULTS[..5])?;
+    print_formed(rt, "admission", &ADMISSION)?;
+    print_formed(rt, "config", &CONFIG_FAULTS[..8])?;
+    print_keys(rt, &TOP_KEYS)?;
+    print_keys(rt, &SYSTEM_KEYS)?;
+    print_keys(rt, &LINK_KEYS)?;
+    print_keys(rt, &PORT_KEYS)?;
+    print_forms(rt, "key", &UNKNOWN_KEYS)?;
+    print_forms(rt, "fault", &RUN_FAULTS)?;
+    print_forms(rt, "fault", &FAULTS)?;
+    print_forms(rt, "line", &LINES)
 }
 
 /// Where a configuration stops being TOML, and why.

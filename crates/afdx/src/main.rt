@@ -6,7 +6,7 @@ mod explaining;
 mod words;
 
 use crate::devices::{Heard, Traced};
-use crate::explaining::{Cause, explain, is_asked, line_of, print_meaning};
+use crate::explaining::{Cause, explain, is_asked, line_of, print_lists, print_meaning};
 use afdx_explain::meaning_of;
 use afdx_replay::status::{DONE, NO_DEVICE_OR_MEMORY, WRONG_WORDS};
 use afdx_replay::{
@@ -288,8 +288,14 @@ fn send_list(rt: &HostRuntime, matches: &ArgMatches<'_>) -> u8 {
     }
 }
 
-/// Says what a line means.
+/// Says what a line means, or what each word of the closed lists means.
 fn explain_words(rt: &HostRuntime, matches: &ArgMatches<'_>) -> u8 {
+    if matches.get_flag("list") {
+        if print_lists(rt).is_err() {
+            return end_with(rt, RunFault::Write);
+        }
+        return DONE;
+    }
     let Some(words) = matches.get_strs("TEXT") else {
         return WRONG_WORDS;
     };

@@ -32,9 +32,7 @@ at port 1, has frames of 64 bytes or more and is policed by bytes. Each switch, 
 and B, has an account of its own. A line is printed for each frame:
 
   V n side accept         the frame of line n was accepted
-  V n side drop WORD      it was dropped: too-short, too-long, bad-fcs,
-                          bad-address, unknown-link, wrong-port, over-lmax,
-                          under-lmin or over-rate
+  V n side drop WORD      it was dropped; 'afdx explain --list' has each WORD
 
 A line of LIST is 'K time side port HEX': K is F (bytes without check sequence,
 which is added), B (the same with a wrong check sequence) or R (bytes as they
@@ -134,15 +132,13 @@ const REPLAY_AFTER: &str = "\
 A line is printed for each event, in the order of time:
 
   V n side accept         the frame of line n was accepted
-  V n side drop WORD      it was dropped: too-short, too-long, bad-fcs,
-                          bad-address, unknown-link, wrong-port, over-lmax,
-                          under-lmin or over-rate
+  V n side drop WORD      it was dropped; 'afdx explain --list' has each WORD
   L n side port           its copy for this output port was lost: no room
   D n time side port      its copy left this output port
   T n time side port      its copy was dropped there: it had waited too long
   M time system vl HEX    the system delivered this message
-  X time system n WORD    the system dropped the frame of line n: sequence,
-                          redundant, no-port and others
+  X time system n WORD    the system dropped the frame of line n;
+                          'afdx explain --list' has each WORD
 
 At one time the frames that leave come first, side A before B, then by port; then
 the frames that arrive, line by line; then those that are dropped as too old.
@@ -277,14 +273,29 @@ is a word of such a line: 'accept', why a frame was dropped, a line of admission
 why a message was refused, or one of the letters D, L, M, P, R and T. With a text
 that is none of these the line is 'words UnknownText' and the status 2.
 
+With --list each word and each form of a line is printed with what it means: the
+name of its list and the word, then the text, then an empty line. The lists are
+'drop' (why a switch drops a frame), 'unread' (why a system drops one), 'refusal'
+(of a message), 'admission', 'config' (faults), 'key' (of a configuration),
+'fault' (of a run or of the words) and 'line' (of the output). In a form 'n' is a
+number, '*' any word, 'a|b' one of two words.
+
 Examples:
   afdx explain 'config Missing link 1 key 7'
   afdx explain no A2 3 252
-  afdx explain over-rate";
+  afdx explain over-rate
+  afdx explain --list";
+
+const LIST_ALL_HELP: &str = "Prints each word and each form of a line, with what it means";
 
 fn explain_command<'a>(alloc: Global) -> Result<Command<'a>, AllocError> {
-    let text = word(alloc, "TEXT", "A line, in quotes or not, or a word of one").num_args(1..);
-    command(alloc, "explain", EXPLAIN_ABOUT, EXPLAIN_AFTER).arg(text)
+    let text = Arg::new(alloc, "TEXT")
+        .help("A line, in quotes or not, or a word of one")
+        .num_args(1..)
+        .required_unless_present("list")?;
+    let list = flag(alloc, "list", LIST_ALL_HELP);
+    let words = vec![in alloc; list, text]?;
+    command(alloc, "explain", EXPLAIN_ABOUT, EXPLAIN_AFTER).args(words)
 }
 
 /// With a command more, where memory was there to make both.

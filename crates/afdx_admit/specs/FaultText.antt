@@ -1,18 +1,32 @@
--- How a fault is written.
-use Rattle.std.specs.Prelude.{ℕ, List, ◌++◌, codes, decimal}
+-- How a fault is written: its line's word, which is that of its row, then what it speaks of.
+use Rattle.std.specs.Prelude.{ℕ, List, [], ◌++◌, codes, decimal, map, slice_index_or}
+use Rattle.afdx_admit.specs.contracts.fault.AdmitFault.{the_type}
 use Rattle.afdx_admit.specs.declared.fault.AdmitFault.{AdmitFault}
 use Rattle.afdx_admit.specs.declared.fault.AdmitFault.TheVariants.{Overload, Buffer, HighLatency}
 use Rattle.afdx_admit.specs.declared.fault.AdmitFault.TheVariants.{LowLatency, SenderJitter}
 use Rattle.afdx_admit.specs.declared.fault.AdmitFault.TheVariants.{LinkJitter, Skew}
+use Rattle.afdx_admit.specs.declared.fault.TheConstants.{ADMISSION}
+use denote.Enum.Declared.{tag_of}
+
+-- the words of the table, in their order
+unfoldable pub line_words : List (List ℕ)
+line_words = map (λ row. row.0.now) ADMISSION
+
+abbrev pub line_word : AdmitFault → List ℕ
+line_word fault = slice_index_or line_words (tag_of the_type fault) []
+
+-- what a fault speaks of: numbers, a link's identifier, or the name of a sender
+abbrev pub subject : List ℕ → AdmitFault → List ℕ
+subject name (Overload port) = decimal port
+subject name (Buffer port needed) = decimal port ++ codes " " ++ decimal needed
+subject name (HighLatency port vl bound) =
+    decimal port ++ codes " " ++ decimal vl.0 ++ codes " " ++ decimal bound
+subject name (LowLatency port vl bound) =
+    decimal port ++ codes " " ++ decimal vl.0 ++ codes " " ++ decimal bound
+subject name (SenderJitter system ns) = name ++ codes " " ++ decimal ns
+subject name (LinkJitter vl needed) = decimal vl.0 ++ codes " " ++ decimal needed
+subject name (Skew vl) = decimal vl.0
 
 -- with the name of the sender that it speaks of
 abbrev pub fault_text : List ℕ → AdmitFault → List ℕ
-fault_text name (Overload port) = codes "A1 " ++ decimal port
-fault_text name (Buffer port needed) = codes "A2 " ++ decimal port ++ codes " " ++ decimal needed
-fault_text name (HighLatency port vl bound) =
-    codes "A3 " ++ decimal port ++ codes " " ++ decimal vl.0 ++ codes " " ++ decimal bound
-fault_text name (LowLatency port vl bound) =
-    codes "A4 " ++ decimal port ++ codes " " ++ decimal vl.0 ++ codes " " ++ decimal bound
-fault_text name (SenderJitter system ns) = codes "A5 " ++ name ++ codes " " ++ decimal ns
-fault_text name (LinkJitter vl needed) = codes "A6 " ++ decimal vl.0 ++ codes " " ++ decimal needed
-fault_text name (Skew vl) = codes "A7 " ++ decimal vl.0
+fault_text name fault = line_word fault ++ codes " " ++ subject name fault

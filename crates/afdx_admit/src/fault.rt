@@ -23,9 +23,94 @@ pub enum AdmitFault {
     Skew(VlId),
 }
 
+/// Each line of admission at its own place, the order of `AdmitFault`: in a word, the forms of the
+/// lines that tell it (`?` is the word, `n` a number, `*` a name), and what it means that it is
+/// false, with what may help.
+pub const ADMISSION: [(&str, &str, &str); 7] = [
+    (
+        "A1",
+        "?\nno|admit ? n",
+        "\
+A1 port: the port is overloaded: the links to it send more than its line carries.
+What may help: fewer or shorter frames to it, longer BAGs, a faster line (bag_ms, lmax of
+the links to that system, its rate).",
+    ),
+    (
+        "A2",
+        "?\nno|admit ? n n",
+        "\
+A2 port needed: its buffer is too small; needed bytes is what may wait there.
+What may help: a larger buffer, less jitter (buffer at the top, 64 to 4194304; jitter_us and
+lmax of the links to that system).",
+    ),
+    (
+        "A3",
+        "?\nno|admit ? n n n",
+        "\
+A3 port vl bound: the high link vl allows less than bound ns there.
+What may help: a larger latency, less high traffic, shorter low frames (latency_us of the
+link to bound / 1000 or more, 1 to 100000; lmax of low links to that system).",
+    ),
+    (
+        "A4",
+        "?\nno|admit ? n n n",
+        "\
+A4 port vl bound: the low link vl allows less than bound ns there.
+What may help: a larger latency, less traffic (latency_us of the link to bound / 1000 or
+more, 1 to 100000).",
+    ),
+    (
+        "A5",
+        "?\nno|admit ? * n",
+        "\
+A5 system ns: the system's jitter is ns, over 500,000 ns.
+What may help: fewer links or shorter frames from it, a faster line (lmax of its links, its
+rate).",
+    ),
+    (
+        "A6",
+        "?\nno|admit ? n n",
+        "\
+A6 vl needed: the link's jitter is less than its sender's, needed ns.
+What may help: a larger jitter_us, for all links of that sender: needed / 1000, rounded up;
+0 to 1000 times bag_ms. It raises bursts, so check again.",
+    ),
+    (
+        "A7",
+        "?\nno|admit ? n",
+        "\
+A7 vl: the link's latency is greater than its skew.
+What may help: a larger skew_us, latency_us or more, 1 to 100000.",
+    ),
+];
+
 impl AdmitFault {
     ghost use Rattle.std.specs.Prelude.{◌≡◌};
+    ghost use Rattle.afdx_admit.specs.FaultText.{line_word};
     ghost use Rattle.afdx_admit.specs.Known.{IsKnown, name_of};
+
+    /// The row of its line, which stands at its place.
+    #[tactic(auto, unfolding(crate::specs::FaultText::line_words))]
+    fn row(self) -> &'static (&'static str, &'static str, &'static str)
+        ensures word { result.now.0.now ≡ line_word self }
+    {
+        match self {
+            AdmitFault::Overload(_) => &ADMISSION[0],
+            AdmitFault::Buffer(_, _) => &ADMISSION[1],
+            AdmitFault::HighLatency(_, _, _) => &ADMISSION[2],
+            AdmitFault::LowLatency(_, _, _) => &ADMISSION[3],
+            AdmitFault::SenderJitter(_, _) => &ADMISSION[4],
+            AdmitFault::LinkJitter(_, _) => &ADMISSION[5],
+            AdmitFault::Skew(_) => &ADMISSION[6],
+        }
+    }
+
+    /// Its line in a word: `A1` to `A7`.
+    pub fn word(self) -> &'static str
+        ensures { result.now ≡ line_word self }
+    {
+        self.row().0
+    }
 
     /// The fault with its text: `A1 3`, `A5 s1 532160` and the like. The tables are those that were
     /// refused.
@@ -56,14 +141,15 @@ impl fmt::Display for AdmitText<'_> {
     ghost output = { λ text. Some (fault_text text.name.now text.fault) };
 
     fn fmt<W: fmt::Write>(&self, f: &mut fmt::Formatter<W>) -> fmt::Result {
+        let word = self.fault.word();
         match self.fault {
-            AdmitFault::Overload(port) => write!(f, "A1 {port}"),
-            AdmitFault::Buffer(port, needed) => write!(f, "A2 {port} {needed}"),
-            AdmitFault::HighLatency(port, vl, bound) => write!(f, "A3 {port} {} {bound}", vl.0),
-            AdmitFault::LowLatency(port, vl, bound) => write!(f, "A4 {port} {} {bound}", vl.0),
-            AdmitFault::SenderJitter(_, ns) => write!(f, "A5 {} {ns}", self.name),
-            AdmitFault::LinkJitter(vl, needed) => write!(f, "A6 {} {needed}", vl.0),
-            AdmitFault::Skew(vl) => write!(f, "A7 {}", vl.0),
+            AdmitFault::Overload(port) => write!(f, "{word} {port}"),
+            AdmitFault::Buffer(port, needed) => write!(f, "{word} {port} {needed}"),
+            AdmitFault::HighLatency(port, vl, bound) => write!(f, "{word} {port} {} {bound}", vl.0),
+            AdmitFault::LowLatency(port, vl, bound) => write!(f, "{word} {port} {} {bound}", vl.0),
+            AdmitFault::SenderJitter(_, ns) => write!(f, "{word} {} {ns}", self.name),
+            AdmitFault::LinkJitter(vl, needed) => write!(f, "{word} {} {needed}", vl.0),
+            AdmitFault::Skew(vl) => write!(f, "{word} {}", vl.0),
         }
     }
 }

@@ -10,4 +10,4 @@ mod sums;
 
 pub use admitted::{Admitted, admit};
 pub use bounds::{PortBounds, bounds_of, buffer_need, high_bound, low_bound};
-pub use fault::{AdmitFault, AdmitText};
+pub use fault::{ADMISSION, AdmitFault, AdmitText};

@@ -1,11 +1,10 @@
 -- What an accepted arrival looks like, and what it adds to its link's accepted ones.
-use Rattle.std.proofs.Common.{◌≡◌, ℕ, ◌≤◌, ◌==◌, ◌&&◌, Bool, true, false, List, [], ◌∷◌, length}
+use Rattle.std.proofs.Common.{◌≡◌, ℕ, ◌≤◌, ◌==◌, ◌&&◌, Bool, true, false, List, ◌∷◌, length}
 use Rattle.std.proofs.Common.{Option, Some, None, inl, inr, refl, sym, subst, arith, ◌∙◌}
 use Rattle.std.proofs.Common.{if◌then◌else◌}
-use Rattle.std.specs.Prelude.{find, nat_lt, is_none, option_map}
+use Rattle.std.specs.Prelude.{is_none}
 use Rattle.std.specs.Option.{option_map_or, option_or}
-use Rattle.std.specs.List.{AllByRecursion}
-use Rattle.std.proofs.lemmas.Bool.{not-false, cases_Bool, cases_lt, eqb-true}
+use Rattle.std.proofs.lemmas.Bool.{cases_Bool, eqb-true}
 use Rattle.afdx_frame.specs.Layout.{link_named_by}
 use Rattle.afdx_frame.specs.declared.link.Policing.{Policing}
 use Rattle.afdx_frame.specs.declared.link.Policing.TheVariants.{Byte, Frame}
@@ -17,23 +16,11 @@ use Rattle.afdx_police.specs.declared.shape.Reason.TheVariants.{OverRate}
 use Rattle.afdx_police.specs.Arrival.{Arrival, is_side, names, own}
 use Rattle.afdx_police.specs.Charge.{charge_by}
 use Rattle.afdx_police.specs.Rule.{Rule, regulation_of}
-use Rattle.afdx_police.specs.Shape.{faults, fault_of}
+use Rattle.afdx_police.specs.Shape.{fault_of}
+use Rattle.afdx_police.proofs.ShapeLemmas.{faultless-is-sound}
 use Rattle.afdx_police.specs.Verdicts.{charged_by, drop_reason, accepted_own, reason_after}
 use Rattle.afdx_police.specs.Window.{Charged, fits}
-use Rattle.afdx_port.proofs.TurnLemmas.{nat_lt-true}
 use Rattle.afdx_bounds.specs.Outputs.{Row, accepts}
-
-find-none : (xs : List (Bool × Reason)) → find (λ f. f.0) xs ≡ None → AllByRecursion (λ f. f.0 ≡ false) xs
-find-none [] h = tt
-find-none (x ∷ xs) h =
-    elim (cases_Bool x.0) [
-      | inl found ↦ absurd (let k = rw found at h in cc k)
-      | inr not-found ↦ (not-found, find-none xs (rw not-found at h))
-    ]
-
-map-none : {Y Z : Type 0} (f : Y → Z) (o : Option Y) → option_map f o ≡ None → o ≡ None
-map-none f None h = refl
-map-none f (Some a) h = absurd (cc h)
 
 record Clean (fault : Option Reason) (fit : Bool) : Type 0 where
   clean : fault ≡ None
@@ -45,9 +32,6 @@ clean-from None true h = record { clean = refl; fits-in = refl }
 clean-from None false h = absurd (cc h)
 clean-from (Some r) fit h = absurd (cc h)
 
-not-less : (a b : ℕ) → nat_lt a b ≡ false → b ≤ a
-not-less a b h = elim (cases_lt a b) [ inl lt ↦ absurd (let k = nat_lt-true a b lt in cc (h, k)) | inr ge ↦ ge ]
-
 pub record Looks (rule : Rule) (accepted : List Charged) (x : Arrival) : Type 0 where
   pub named : names rule.vl x.bytes ≡ true
   pub short : length x.bytes ≤ rule.lmax
@@ -55,17 +39,11 @@ pub record Looks (rule : Rule) (accepted : List Charged) (x : Arrival) : Type 0 
 
 looks-from : (rule : Rule) (accepted : List Charged) (x : Arrival) → is_none (drop_reason rule accepted x) ≡ true →
     Looks rule accepted x
-unfolding fault_of
 looks-from rule accepted x h =
     let c = clean-from (fault_of (Some rule) x.port x.bytes)
     (fits (regulation_of rule) accepted (charged_by rule x)) h in
-    let all = find-none (faults (Some rule) x.port x.bytes)
-    (map-none (λ f. f.1) (find (λ f. f.0) (faults (Some rule) x.port x.bytes)) c.clean) in
-    record {
-      named = not-false (names rule.vl x.bytes) all.1.1.1.1.0;
-      short = not-less rule.lmax (length x.bytes) all.1.1.1.1.1.1.0;
-      fit = c.fits-in;
-    }
+    let sound = (faultless-is-sound rule x.port x.bytes).0 c.clean in
+    record { named = sound.named; short = sound.within; fit = c.fits-in }
 
 pub looks : (r : Row) (past : List Arrival) (x : Arrival) → accepts past x r ≡ true →
     Looks r.rule (accepted_own r.rule (own r.rule.vl x.side past)) x

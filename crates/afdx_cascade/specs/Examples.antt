@@ -1,30 +1,15 @@
 -- An example in which every premise is met: two switches, one virtual link, and a frame that passes
 -- both. The jitter at the first switch is less than at the second by its latency there, of 11 us.
 use Rattle.std.specs.Prelude.{◌≡◌, true, [], ◌∷◌, length}
-use Rattle.afdx_frame.specs.declared.link.Policing.TheVariants.{Byte}
-use Rattle.afdx_frame.specs.declared.link.Priority.TheVariants.{High}
 use Rattle.afdx_frame.specs.declared.link.Side.TheVariants.{A}
-use Rattle.afdx_config.specs.Rows.{LinkRow, Rows}
+use Rattle.afdx_config.specs.Rows.{LinkRow, Rows, example_link}
 use Rattle.afdx_switch.specs.Tables.{goes_to}
 use Rattle.afdx_promises.specs.Examples.{link, tables, one}
 use Rattle.afdx_cascade.specs.Cables.{Hop, accepted_at, all_turns, brought_by}
 use Rattle.afdx_cascade.specs.Ways.{IsWay, IsWhole}
 
 abbrev pub link_before : LinkRow
-link_before = record {
-  vl = 1;
-  from = 0;
-  to = 1 ∷ [];
-  bag_ms = 1;
-  lmin = 64;
-  lmax = 64;
-  jitter_us = 489;
-  priority = High;
-  policing = Byte;
-  latency_us = 11;
-  skew_us = 1000;
-  subs = 1;
-}
+link_before = record example_link { jitter_us = 489 }
 
 abbrev pub tables_before : Rows
 tables_before = record {

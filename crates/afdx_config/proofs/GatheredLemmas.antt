@@ -5,7 +5,6 @@ use Rattle.std.proofs.Common.{string_bytes, String, Global, nat_eq}
 use Rattle.std.specs.Option.{option_map}
 use Rattle.std.specs.List.{list_all, list_any}
 use Rattle.std.specs.Map.{keys_of}
-use Rattle.std.specs.Borrow.{Bor}
 use Rattle.std.specs.Str.{bytes_eq}
 use Rattle.toml.specs.View.{members_view}
 use Rattle.toml.specs.declared.value.Value.{Value}
@@ -14,24 +13,23 @@ use Rattle.afdx_config.specs.declared.rows.ComRow.{ComRow}
 use Rattle.afdx_config.specs.Rows.{system_places, PortRow, port_row, port_rows}
 use Rattle.std.specs.List.{AllByRecursion}
 use Rattle.std.proofs.lemmas.Bool.{eqb-true}
-use Rattle.afdx_config.specs.Trees.{lent_texts}
-use Rattle.afdx_config.specs.Keys.{are_among}
+use Rattle.afdx_config.specs.Keys.{Key, are_among, key_rows}
 
 -- what was read before, and what is still read
 abbrev pub with_front : {A : Type 0} → List A → Option (List A) → Option (List A)
 with_front front rest = option_map (λ xs. front ++ xs) rest
 
-pub are_among-keys : (known : List (Bor (List ℕ))) (es : List (String Global × Value))
-    → are_among (lent_texts known) (members_view es)
-    ≡ list_all (λ k. list_any (λ s. bytes_eq s.now (string_bytes k)) known) (keys_of es)
+pub are_among-keys : (known : List Key) (es : List (String Global × Value))
+    → are_among (key_rows known) (members_view es)
+    ≡ list_all (λ k. list_any (λ s. bytes_eq s.0.now (string_bytes k)) known) (keys_of es)
 unfolding are_among
 are_among-keys known [] = refl
 are_among-keys known (e ∷ es) = (λ j. among known (string_bytes e.0) j && are_among-keys known es j)
   where
-    among : (ss : List (Bor (List ℕ))) (k : List ℕ) → list_any (λ s. bytes_eq s k) (lent_texts ss)
-        ≡ list_any (λ s. bytes_eq s.now k) ss
+    among : (ss : List Key) (k : List ℕ) → list_any (λ key. bytes_eq key.name k) (key_rows ss)
+        ≡ list_any (λ s. bytes_eq s.0.now k) ss
     among [] k = refl
-    among (s ∷ ss) k = ap (λ b. bytes_eq s.now k || b) (among ss k)
+    among (s ∷ ss) k = ap (λ b. bytes_eq s.0.now k || b) (among ss k)
 
 pub any_places : (ids : List SystemId) (n : ℕ) → list_any (λ j. nat_eq j n) (system_places ids)
     ≡ list_any (λ i. nat_eq i.0 n) ids

@@ -1,9 +1,13 @@
 -- How a fault is written.
-use Rattle.std.specs.Prelude.{ℕ, List, ◌++◌, codes, decimal}
+use Rattle.std.specs.Prelude.{ℕ, List, [], ◌++◌, codes, decimal, map, slice_index_or}
+use Rattle.std.specs.Prelude.{Option, Some, None}
 use Rattle.afdx_config.specs.declared.fault.Part.{Part}
 use Rattle.afdx_config.specs.declared.fault.Part.TheVariants as part
 use Rattle.afdx_config.specs.declared.fault.Place.{Place}
 use Rattle.afdx_config.specs.declared.fault.ConfigFault.{ConfigFault}
+use Rattle.afdx_config.specs.declared.fault.TheConstants.{CONFIG_FAULTS}
+use Rattle.afdx_config.specs.contracts.fault.ConfigFault.{the_type}
+use denote.Enum.Declared.{tag_of}
 use Rattle.afdx_config.specs.declared.fault.ConfigFault.TheVariants.{NotToml, BadProfile, Missing}
 use Rattle.afdx_config.specs.declared.fault.ConfigFault.TheVariants.{WrongKind, UnknownKey}
 use Rattle.afdx_config.specs.declared.fault.ConfigFault.TheVariants.{OutOfRange, Twice}
@@ -18,13 +22,29 @@ part_text part.Port = codes "port"
 abbrev pub place_text : Place → List ℕ
 place_text p = part_text p.part ++ codes " " ++ decimal p.index ++ codes " key " ++ decimal p.key
 
+-- the words of the table, in their order
+unfoldable pub fault_words : List (List ℕ)
+fault_words = map (λ row. row.0.now) CONFIG_FAULTS
+
+abbrev pub fault_word : ConfigFault → List ℕ
+fault_word fault = slice_index_or fault_words (tag_of the_type fault) []
+
+-- the place that a fault speaks of, if it does
+abbrev pub place_of : ConfigFault → Option Place
+place_of NotToml = None
+place_of BadProfile = None
+place_of (Missing p) = Some p
+place_of (WrongKind p) = Some p
+place_of (UnknownKey p) = Some p
+place_of (OutOfRange p) = Some p
+place_of (Twice p) = Some p
+place_of (NoSuchSystem p) = Some p
+place_of Memory = None
+
+-- behind a word
+abbrev pub behind : Option Place → List ℕ
+behind None = []
+behind (Some p) = codes " " ++ place_text p
+
 abbrev pub fault_text : ConfigFault → List ℕ
-fault_text NotToml = codes "NotToml"
-fault_text BadProfile = codes "BadProfile"
-fault_text (Missing p) = codes "Missing " ++ place_text p
-fault_text (WrongKind p) = codes "WrongKind " ++ place_text p
-fault_text (UnknownKey p) = codes "UnknownKey " ++ place_text p
-fault_text (OutOfRange p) = codes "OutOfRange " ++ place_text p
-fault_text (Twice p) = codes "Twice " ++ place_text p
-fault_text (NoSuchSystem p) = codes "NoSuchSystem " ++ place_text p
-fault_text Memory = codes "Memory"
+fault_text fault = fault_word fault ++ behind (place_of fault)

@@ -1,13 +1,18 @@
 -- One key of a table: whether it is there, of its kind, and in its range. Each reading is refused
 -- by the first of these checks that is false.
-use Rattle.std.specs.Prelude.{ℕ, ◌-◌, ◌^◌, ℤ, pos, negsuc, Bool, true, ◌&&◌, nat_le, nat_eq, List}
-use Rattle.std.specs.Prelude.{[], ◌∷◌, length, codes, Option, Some, None, option_map}
+use Rattle.std.specs.Prelude.{ℕ, ◌-◌, ℤ, pos, negsuc, Bool, true, ◌&&◌, nat_le, nat_eq, List, map}
+use Rattle.std.specs.Prelude.{[], ◌∷◌, length, Option, Some, None, option_map, slice_index_or}
 use Rattle.std.specs.Prelude.{option_and_then, Result, Ok, Err, if◌then◌else◌}
 use Rattle.std.specs.List.{list_any}
+use Rattle.std.specs.Borrow.{Bor}
 use Rattle.std.specs.Str.{bytes_eq}
 use Rattle.toml.specs.Data.{Data, Items, no_items, item, Members, no_members, member, get_member}
 use Rattle.toml.specs.Data.{as_str, as_integer, as_table, as_array}
 use Rattle.afdx_config.specs.declared.fault.Part.{Part}
+use Rattle.afdx_config.specs.declared.fault.Part.TheVariants as part
+use Rattle.afdx_config.specs.declared.key_tables.TheConstants.{TOP_KEYS, SYSTEM_KEYS, LINK_KEYS}
+use Rattle.afdx_config.specs.declared.key_tables.TheConstants.{PORT_KEYS}
+use Rattle.afdx_config.specs.declared.keys.At.{At}
 use Rattle.afdx_config.specs.declared.fault.Place.{Place}
 use Rattle.afdx_config.specs.declared.fault.ConfigFault.{ConfigFault}
 use Rattle.afdx_config.specs.declared.fault.ConfigFault.TheVariants.{Missing, WrongKind, UnknownKey}
@@ -18,30 +23,104 @@ use Rattle.afdx_config.specs.Fault.{◌>>=◌, ◌>>◌, check, or_fault}
 abbrev pub place : Part → ℕ → ℕ → Place
 place p i k = record { part = p; index = i; key = k }
 
+-- a key in a table of the code: its name, the least and the greatest of its values, and texts
+abbrev pub Key : Type 0
+Key = Bor (List ℕ) × ℕ × ℕ × Bor (List ℕ) × Bor (List ℕ)
+
+-- a key by its name, and the least and the greatest of its values
+pub record KeyRow : Type 0 where
+  pub name : List ℕ
+  pub least : ℕ
+  pub greatest : ℕ
+
+abbrev pub key_row : List ℕ → ℕ → ℕ → KeyRow
+key_row name least greatest = record { name = name; least = least; greatest = greatest }
+
+abbrev pub key_rows : List Key → List KeyRow
+key_rows keys = map (λ key. key_row key.0.now key.1 key.2) keys
+
+-- the keys of each part: the tables of the code
+unfoldable pub top_keys : List KeyRow
+top_keys = map (λ key. key_row key.0.now key.1 key.2) TOP_KEYS
+
+unfoldable pub system_keys : List KeyRow
+system_keys = map (λ key. key_row key.0.now key.1 key.2) SYSTEM_KEYS
+
+unfoldable pub link_keys : List KeyRow
+link_keys = map (λ key. key_row key.0.now key.1 key.2) LINK_KEYS
+
+unfoldable pub port_keys : List KeyRow
+port_keys = map (λ key. key_row key.0.now key.1 key.2) PORT_KEYS
+
+-- a key that is looked at, with the place of its faults
+pub record Spot : Type 0 where
+  pub place : Place
+  pub name : List ℕ
+  pub least : ℕ
+  pub greatest : ℕ
+
+abbrev pub no_key : KeyRow
+no_key = record { name = []; least = 0; greatest = 0 }
+
+-- the key of a number, which is its place in the table, from 1
+abbrev pub spot : Part → List KeyRow → ℕ → ℕ → Spot
+spot p keys i number =
+    let key = slice_index_or keys (number - 1) no_key in
+    record {
+      place = place p i number;
+      name = key.name;
+      least = key.least;
+      greatest = key.greatest;
+    }
+
+abbrev pub top_at : ℕ → Spot
+top_at number = spot part.Top top_keys 0 number
+
+abbrev pub system_at : ℕ → ℕ → Spot
+system_at i number = spot part.System system_keys i number
+
+abbrev pub link_at : ℕ → ℕ → Spot
+link_at i number = spot part.Link link_keys i number
+
+abbrev pub port_at : ℕ → ℕ → Spot
+port_at i number = spot part.Port port_keys i number
+
+-- the key with another least value, and with another greatest one
+abbrev pub at_least : ℕ → Spot → Spot
+at_least least at = record at { least = least }
+
+abbrev pub at_most : ℕ → Spot → Spot
+at_most greatest at = record at { greatest = greatest }
+
+-- the key that the code looks at
+unfoldable pub spot_of : At → Spot
+spot_of at =
+    record { place = at.place; name = at.name.now; least = at.least; greatest = at.greatest }
+
 -- a whole number within a range
 abbrev pub in_range : Place → ℕ → ℕ → ℤ → Result ℕ ConfigFault
 in_range at low high (pos n) = if nat_le low n && nat_le n high then Ok n else Err (OutOfRange at)
 in_range at low high (negsuc n) = Err (OutOfRange at)
 
 -- a whole number of a key
-unfoldable pub whole : Place → List ℕ → ℕ → ℕ → Members → Result ℕ ConfigFault
-whole at key low high t = do
-  value ← or_fault (Missing at) (get_member key t)
-  number ← or_fault (WrongKind at) (as_integer value)
-  in_range at low high number
+unfoldable pub whole : Spot → Members → Result ℕ ConfigFault
+whole at t = do
+  value ← or_fault (Missing at.place) (get_member at.name t)
+  number ← or_fault (WrongKind at.place) (as_integer value)
+  in_range at.place at.least at.greatest number
 
--- one of some numbers
-unfoldable pub one_of : Place → List ℕ → List ℕ → Members → Result ℕ ConfigFault
-one_of at key numbers t = do
-  number ← whole at key 0 (2 ^ 64 - 1) t
-  check (list_any (λ n. nat_eq n number) numbers) (OutOfRange at)
+-- one of some numbers in its range
+unfoldable pub one_of : Spot → List ℕ → Members → Result ℕ ConfigFault
+one_of at numbers t = do
+  number ← whole at t
+  check (list_any (λ n. nat_eq n number) numbers) (OutOfRange at.place)
   Ok number
 
 -- a text of a key
-unfoldable pub text : Place → List ℕ → Members → Result (List ℕ) ConfigFault
-text at key t = do
-  value ← or_fault (Missing at) (get_member key t)
-  or_fault (WrongKind at) (as_str value)
+unfoldable pub text : Spot → Members → Result (List ℕ) ConfigFault
+text at t = do
+  value ← or_fault (Missing at.place) (get_member at.name t)
+  or_fault (WrongKind at.place) (as_str value)
 
 -- what a word stands for, among some words
 abbrev pub meaning : {A : Type 0} → List (List ℕ × A) → List ℕ → Option A
@@ -49,11 +128,10 @@ meaning [] s = None
 meaning (w ∷ ws) s = if bytes_eq s w.0 then Some w.1 else meaning ws s
 
 -- one of some words, for what it stands
-unfoldable pub word : {A : Type 0} → Place → List ℕ → List (List ℕ × A) → Members →
-    Result A ConfigFault
-word at key words t = do
-  s ← text at key t
-  or_fault (OutOfRange at) (meaning words s)
+unfoldable pub word : {A : Type 0} → Spot → List (List ℕ × A) → Members → Result A ConfigFault
+word at words t = do
+  s ← text at t
+  or_fault (OutOfRange at.place) (meaning words s)
 
 -- the items of an array, where each is of the kind
 abbrev pub all_as : {A : Type 0} → (Data → Option A) → Items → Option (List A)
@@ -67,44 +145,39 @@ tables_or_none at (Some d) = do
   items ← or_fault (WrongKind at) (as_array d)
   or_fault (WrongKind at) (all_as as_table items)
 
--- at most so many tables
-unfoldable pub tables : Place → List ℕ → ℕ → Members → Result (List Members) ConfigFault
-tables at key most t = do
-  ts ← tables_or_none at (get_member key t)
-  check (nat_le (length ts) most) (OutOfRange at)
+-- at most as many tables as its range says
+unfoldable pub tables : Spot → Members → Result (List Members) ConfigFault
+tables at t = do
+  ts ← tables_or_none at.place (get_member at.name t)
+  check (nat_le (length ts) at.greatest) (OutOfRange at.place)
   Ok ts
 
--- an array of texts
-unfoldable pub texts : Place → List ℕ → Members → Result (List (List ℕ)) ConfigFault
-texts at key t = do
-  value ← or_fault (Missing at) (get_member key t)
-  items ← or_fault (WrongKind at) (as_array value)
-  or_fault (WrongKind at) (all_as as_str items)
+-- an array of texts, as many as its range says
+unfoldable pub texts : Spot → Members → Result (List (List ℕ)) ConfigFault
+texts at t = do
+  value ← or_fault (Missing at.place) (get_member at.name t)
+  items ← or_fault (WrongKind at.place) (as_array value)
+  words ← or_fault (WrongKind at.place) (all_as as_str items)
+  check (nat_le at.least (length words) && nat_le (length words) at.greatest)
+      (OutOfRange at.place)
+  Ok words
 
 -- the table has no key but these
-unfoldable pub are_among : List (List ℕ) → Members → Bool
+unfoldable pub are_among : List KeyRow → Members → Bool
 are_among known no_members = true
-are_among known (member k d ms) = list_any (λ s. bytes_eq s k) known && are_among known ms
+are_among known (member k d ms) = list_any (λ key. bytes_eq key.name k) known && are_among known ms
 
-unfoldable pub only : Place → List (List ℕ) → Members → Result (Unit {0}) ConfigFault
+unfoldable pub only : Place → List KeyRow → Members → Result (Unit {0}) ConfigFault
 only at known t = check (are_among known t) (UnknownKey at)
 
--- the keys of each part
-unfoldable pub only_system_keys : Place → Members → Result (Unit {0}) ConfigFault
-only_system_keys at t =
-    only at (codes "name" ∷ codes "port" ∷ codes "id" ∷ codes "partition" ∷ codes "rate" ∷ []) t
+unfoldable pub only_top_keys : Members → Result (Unit {0}) ConfigFault
+only_top_keys t = only (place part.Top 0 0) top_keys t
 
-unfoldable pub only_link_keys : Place → Members → Result (Unit {0}) ConfigFault
-only_link_keys at t =
-    only at
-    (codes "vl" ∷ codes "from" ∷ codes "to" ∷ codes "bag_ms" ∷ codes "lmin" ∷ codes "lmax" ∷
-    codes "jitter_us" ∷ codes "priority" ∷ codes "policing" ∷ codes "latency_us" ∷ codes "skew_us" ∷
-    codes "subs" ∷ []) t
+unfoldable pub only_system_keys : ℕ → Members → Result (Unit {0}) ConfigFault
+only_system_keys i t = only (place part.System i 0) system_keys t
 
-unfoldable pub only_port_keys : Place → Members → Result (Unit {0}) ConfigFault
-only_port_keys at t =
-    only at (codes "system" ∷ codes "link" ∷ codes "udp" ∷ codes "kind" ∷ codes "depth" ∷ []) t
+unfoldable pub only_link_keys : ℕ → Members → Result (Unit {0}) ConfigFault
+only_link_keys i t = only (place part.Link i 0) link_keys t
 
-unfoldable pub only_top_keys : Place → Members → Result (Unit {0}) ConfigFault
-only_top_keys at t =
-    only at (codes "profile" ∷ codes "buffer" ∷ codes "system" ∷ codes "link" ∷ codes "port" ∷ []) t
+unfoldable pub only_port_keys : ℕ → Members → Result (Unit {0}) ConfigFault
+only_port_keys i t = only (place part.Port i 0) port_keys t

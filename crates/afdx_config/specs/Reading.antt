@@ -8,15 +8,11 @@ use Rattle.std.specs.List.{list_any, list_all}
 use Rattle.std.specs.Option.{option_map_or}
 use Rattle.std.specs.Str.{bytes_eq}
 use Rattle.std.specs.Char.{is_ascii_alphanumeric}
-use Rattle.afdx_frame.specs.Lengths.{least_frame, greatest_frame, greatest_buffer}
 use Rattle.afdx_frame.specs.declared.link.Priority.TheVariants.{High, Low}
 use Rattle.afdx_frame.specs.declared.link.Policing.TheVariants.{Byte, Frame}
 use Rattle.toml.specs.Parse.{parse_document}
 use Rattle.toml.specs.Data.{Members}
 use Rattle.afdx_frame.specs.Regulation.{gaps}
-use Rattle.afdx_frame.specs.Ports.{last_port}
-use Rattle.afdx_config.specs.declared.fault.Part.TheVariants as part
-use Rattle.afdx_config.specs.declared.fault.Place.{Place}
 use Rattle.afdx_config.specs.declared.fault.ConfigFault.{ConfigFault}
 use Rattle.afdx_config.specs.declared.fault.ConfigFault.TheVariants.{NotToml, BadProfile}
 use Rattle.afdx_config.specs.declared.fault.ConfigFault.TheVariants.{OutOfRange, Twice}
@@ -28,7 +24,9 @@ use Rattle.afdx_config.specs.declared.read_links.Treatment.{Treatment}
 use Rattle.afdx_config.specs.declared.read_ports.Socket.{Socket}
 use Rattle.afdx_config.specs.Rows.{SystemRow, LinkRow, PortRow, Rows, is_to}
 use Rattle.afdx_config.specs.Fault.{◌>>=◌, ◌>>◌, check, or_fault}
-use Rattle.afdx_config.specs.Keys.{place, whole, one_of, text, word, tables, texts}
+use Rattle.afdx_config.specs.Keys as keys
+use Rattle.afdx_config.specs.Keys.{Spot, top_at, at_least, at_most, whole, one_of, text, word}
+use Rattle.afdx_config.specs.Keys.{tables, texts}
 use Rattle.afdx_config.specs.Keys.{only_system_keys, only_link_keys, only_port_keys, only_top_keys}
 
 -- ---- look-ups among the rows
@@ -44,10 +42,10 @@ unfoldable pub has_id : List SystemRow → ℕ → Bool
 has_id systems id = list_any (λ s. s.id == id) systems
 
 -- the system that a text names
-unfoldable pub named : Place → List ℕ → List SystemRow → Members → Result ℕ ConfigFault
-named at key systems t = do
-  name ← text at key t
-  or_fault (NoSuchSystem at) (system_named systems name)
+unfoldable pub named : Spot → List SystemRow → Members → Result ℕ ConfigFault
+named at systems t = do
+  name ← text at t
+  or_fault (NoSuchSystem at.place) (system_named systems name)
 
 -- what each of a list stands for, where each stands for something
 abbrev pub all_of : {X A : Type 0} → (X → Option A) → List X → Option (List A)
@@ -63,13 +61,12 @@ has_repeat (i ∷ is) = list_any (λ j. nat_eq j i) is || has_repeat is
 unfoldable pub are_apart : ℕ → List ℕ → Bool
 are_apart from to = not (list_any (λ j. nat_eq j from) to) && not (has_repeat to)
 
--- what `to` names: 1 to as many systems as a switch has ports, all different, and other than `from`
-unfoldable pub destinations : Place → List SystemRow → ℕ → Members → Result (List ℕ) ConfigFault
+-- what `to` names: systems, all different, and other than `from`
+unfoldable pub destinations : Spot → List SystemRow → ℕ → Members → Result (List ℕ) ConfigFault
 destinations at systems from t = do
-  names ← texts at (codes "to") t
-  check (nat_le 1 (length names) && nat_le (length names) last_port) (OutOfRange at)
-  to ← or_fault (NoSuchSystem at) (all_of (system_named systems) names)
-  check (are_apart from to) (Twice at)
+  names ← texts at t
+  to ← or_fault (NoSuchSystem at.place) (all_of (system_named systems) names)
+  check (are_apart from to) (Twice at.place)
   Ok to
 
 -- ---- the rows, each after those before it
@@ -79,11 +76,11 @@ unfoldable pub is_name : List ℕ → Bool
 is_name s = (nat_le 1 (length s) && nat_le (length s) 16) && list_all is_ascii_alphanumeric s
 
 -- a name that no system before has
-unfoldable pub new_name : Place → List SystemRow → Members → Result (List ℕ) ConfigFault
+unfoldable pub new_name : Spot → List SystemRow → Members → Result (List ℕ) ConfigFault
 new_name at before t = do
-  name ← text at (codes "name") t
-  check (is_name name) (OutOfRange at)
-  check (not (is_some (system_named before name))) (Twice at)
+  name ← text at t
+  check (is_name name) (OutOfRange at.place)
+  check (not (is_some (system_named before name))) (Twice at.place)
   Ok name
 
 -- the rates of a profile's lines, in Mbit/s
@@ -93,15 +90,15 @@ rates profile = if profile == 2 then 10 ∷ 100 ∷ 1000 ∷ [] else 10 ∷ 100 
 -- a system, whose name, port and id no system before has
 unfoldable pub system_at : ℕ → List SystemRow → Members → Result SystemRow ConfigFault
 system_at profile before t =
-    let at : ℕ → Place = place part.System (length before + 1) in do
+    let at : ℕ → Spot = keys.system_at (length before + 1) in do
       name ← new_name (at 1) before t
-      port ← whole (at 2) (codes "port") 1 last_port t
-      check (not (is_some (system_at_port before port))) (Twice (at 2))
-      id ← whole (at 3) (codes "id") 0 65535 t
-      check (not (has_id before id)) (Twice (at 3))
-      partition ← whole (at 4) (codes "partition") 0 255 t
-      rate ← one_of (at 5) (codes "rate") (rates profile) t
-      only_system_keys (at 0) t
+      port ← whole (at 2) t
+      check (not (is_some (system_at_port before port))) (Twice (at 2).place)
+      id ← whole (at 3) t
+      check (not (has_id before id)) (Twice (at 3).place)
+      partition ← whole (at 4) t
+      rate ← one_of (at 5) (rates profile) t
+      only_system_keys (length before + 1) t
       Ok (record { name = name; port = port; id = id; partition = partition; rate = rate })
 
 -- the place of the link of this identifier
@@ -113,21 +110,21 @@ abbrev pub greatest_delay : ℕ
 greatest_delay = 100000
 
 -- how much a link may send, and how its frames are treated
-unfoldable pub traffic_at : (ℕ → Place) → Members → Result Traffic ConfigFault
-traffic_at at t = do
-  bag_ms ← one_of (at 4) (codes "bag_ms") gaps t
-  lmin ← whole (at 5) (codes "lmin") least_frame greatest_frame t
-  lmax ← whole (at 6) (codes "lmax") lmin greatest_frame t
-  jitter_us ← whole (at 7) (codes "jitter_us") 0 (1000 * bag_ms) t
+unfoldable pub traffic_at : ℕ → Members → Result Traffic ConfigFault
+traffic_at i t = do
+  bag_ms ← one_of (keys.link_at i 4) gaps t
+  lmin ← whole (keys.link_at i 5) t
+  lmax ← whole (at_least lmin (keys.link_at i 6)) t
+  jitter_us ← whole (at_most (1000 * bag_ms) (keys.link_at i 7)) t
   Ok (record { bag_ms = bag_ms; lmin = lmin; lmax = lmax; jitter_us = jitter_us })
 
-unfoldable pub treatment_at : (ℕ → Place) → Members → Result Treatment ConfigFault
-treatment_at at t = do
-  priority ← word (at 8) (codes "priority") ((codes "high", High) ∷ (codes "low", Low) ∷ []) t
-  policing ← word (at 9) (codes "policing") ((codes "byte", Byte) ∷ (codes "frame", Frame) ∷ []) t
-  latency_us ← whole (at 10) (codes "latency_us") 1 greatest_delay t
-  skew_us ← whole (at 11) (codes "skew_us") 1 greatest_delay t
-  subs ← whole (at 12) (codes "subs") 1 4 t
+unfoldable pub treatment_at : ℕ → Members → Result Treatment ConfigFault
+treatment_at i t = do
+  priority ← word (keys.link_at i 8) ((codes "high", High) ∷ (codes "low", Low) ∷ []) t
+  policing ← word (keys.link_at i 9) ((codes "byte", Byte) ∷ (codes "frame", Frame) ∷ []) t
+  latency_us ← whole (keys.link_at i 10) t
+  skew_us ← whole (keys.link_at i 11) t
+  subs ← whole (keys.link_at i 12) t
   Ok (record {
     priority = priority;
     policing = policing;
@@ -139,14 +136,14 @@ treatment_at at t = do
 -- a link, whose identifier no link before has
 unfoldable pub link_at : List SystemRow → List LinkRow → Members → Result LinkRow ConfigFault
 link_at systems before t =
-    let at : ℕ → Place = place part.Link (length before + 1) in do
-      vl ← whole (at 1) (codes "vl") 0 65535 t
-      check (not (is_some (link_of before vl))) (Twice (at 1))
-      from ← named (at 2) (codes "from") systems t
+    let at : ℕ → Spot = keys.link_at (length before + 1) in do
+      vl ← whole (at 1) t
+      check (not (is_some (link_of before vl))) (Twice (at 1).place)
+      from ← named (at 2) systems t
       to ← destinations (at 3) systems from t
-      traffic ← traffic_at at t
-      treatment ← treatment_at at t
-      only_link_keys (at 0) t
+      traffic ← traffic_at (length before + 1) t
+      treatment ← treatment_at (length before + 1) t
+      only_link_keys (length before + 1) t
       Ok (record {
         vl = vl;
         from = from;
@@ -177,26 +174,25 @@ deepest Sampling = 1
 deepest Queuing = 64
 
 -- what a port entry takes: its link goes to its system, and no entry before takes the same
-unfoldable pub socket_at : (ℕ → Place) → List SystemRow → List LinkRow → List PortRow →
+unfoldable pub socket_at : (ℕ → Spot) → List SystemRow → List LinkRow → List PortRow →
     Members → Result Socket ConfigFault
 socket_at at systems links before t = do
-  system ← named (at 1) (codes "system") systems t
-  link ← whole (at 2) (codes "link") 0 65535 t
-  check (goes_to links link system) (OutOfRange (at 2))
-  udp ← whole (at 3) (codes "udp") 1 65535 t
-  check (not (has_port before system link udp)) (Twice (at 3))
+  system ← named (at 1) systems t
+  link ← whole (at 2) t
+  check (goes_to links link system) (OutOfRange (at 2).place)
+  udp ← whole (at 3) t
+  check (not (has_port before system link udp)) (Twice (at 3).place)
   Ok (record { system = record { 0 = system }; link = record { 0 = link }; udp = udp })
 
 -- a port entry
 unfoldable pub port_at : List SystemRow → List LinkRow → List PortRow → Members →
     Result PortRow ConfigFault
 port_at systems links before t =
-    let at : ℕ → Place = place part.Port (length before + 1) in do
+    let at : ℕ → Spot = keys.port_at (length before + 1) in do
       socket ← socket_at at systems links before t
-      kind ← word (at 4) (codes "kind")
-          ((codes "sampling", Sampling) ∷ (codes "queuing", Queuing) ∷ []) t
-      depth ← whole (at 5) (codes "depth") 1 (deepest kind) t
-      only_port_keys (at 0) t
+      kind ← word (at 4) ((codes "sampling", Sampling) ∷ (codes "queuing", Queuing) ∷ []) t
+      depth ← whole (at_most (deepest kind) (at 5)) t
+      only_port_keys (length before + 1) t
       Ok (record {
         system = socket.system.0;
         link = socket.link.0;
@@ -231,12 +227,12 @@ most_ports = 4096
 -- the top, whose arrays of tables are counted before any table is read
 unfoldable pub tables_at : Members → Result Rows ConfigFault
 tables_at t = do
-  profile ← or_bad_profile (whole (place part.Top 0 1) (codes "profile") 1 2 t)
-  buffer ← whole (place part.Top 0 2) (codes "buffer") least_frame greatest_buffer t
-  systems ← tables (place part.Top 0 3) (codes "system") last_port t
-  links ← tables (place part.Top 0 4) (codes "link") most_links t
-  ports ← tables (place part.Top 0 5) (codes "port") most_ports t
-  only_top_keys (place part.Top 0 0) t
+  profile ← or_bad_profile (whole (top_at 1) t)
+  buffer ← whole (top_at 2) t
+  systems ← tables (top_at 3) t
+  links ← tables (top_at 4) t
+  ports ← tables (top_at 5) t
+  only_top_keys t
   systems ← each (system_at profile) [] systems
   links ← each (link_at systems) [] links
   ports ← each (port_at systems links) [] ports

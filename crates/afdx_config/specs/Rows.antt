@@ -1,8 +1,10 @@
 -- What the tables of a configuration hold, as plain data.
-use Rattle.std.specs.Prelude.{ℕ, Bool, List, map, string_bytes, nat_eq}
+use Rattle.std.specs.Prelude.{ℕ, Bool, List, [], ◌∷◌, map, string_bytes, nat_eq}
 use Rattle.std.specs.List.{list_any}
 use Rattle.afdx_frame.specs.declared.link.Priority.{Priority}
+use Rattle.afdx_frame.specs.declared.link.Priority.TheVariants.{High}
 use Rattle.afdx_frame.specs.declared.link.Policing.{Policing}
+use Rattle.afdx_frame.specs.declared.link.Policing.TheVariants.{Byte}
 use Rattle.afdx_config.specs.declared.rows.Kind.{Kind}
 use Rattle.afdx_config.specs.declared.rows.SystemId.{SystemId}
 use Rattle.afdx_config.specs.declared.rows.System.{System}
@@ -33,6 +35,24 @@ pub record LinkRow : Type 0 where
   pub latency_us : ℕ
   pub skew_us : ℕ
   pub subs : ℕ
+
+-- what examples change: a high link of 64-byte frames, one a millisecond, from the first system to
+-- the second
+abbrev pub example_link : LinkRow
+example_link = record {
+  vl = 1;
+  from = 0;
+  to = 1 ∷ [];
+  bag_ms = 1;
+  lmin = 64;
+  lmax = 64;
+  jitter_us = 500;
+  priority = High;
+  policing = Byte;
+  latency_us = 11;
+  skew_us = 1000;
+  subs = 1;
+}
 
 -- a communication port: the system that has it, the link and the UDP port that it listens to
 pub record PortRow : Type 0 where

@@ -14,13 +14,101 @@ ghost use Rattle.afdx_config.specs.Trees.{trees, lent_texts};
 ghost use Rattle.afdx_config.specs.Keys as spec;
 
 use crate::fault::{ConfigFault, Part, Place};
+use crate::key_tables::{Key, LINK_KEYS, PORT_KEYS, SYSTEM_KEYS, TOP_KEYS};
 use std::alloc::Global;
 use toml::{Table, Value};
 
-pub(crate) fn place(part: Part, index: usize, key: u8) -> Place
+fn place(part: Part, index: usize, key: u8) -> Place
     ensures { result ≡ spec.place part index key }
 {
     Place { part, index, key }
+}
+
+/// A key that is looked at in a table, with the place of its faults.
+#[derive(Clone, Copy)]
+pub(crate) struct At {
+    pub(crate) place: Place,
+    pub(crate) name: &'static str,
+    pub(crate) least: u64,
+    pub(crate) greatest: u64,
+}
+
+/// The key of this number, in the table of this number of its part.
+#[tactic(auto, unfolding(crate::specs::Keys::spot_of))]
+fn key_of(part: Part, keys: &'static [Key], index: usize, number: u8) -> At
+    requires { (1 ≤ number) × (number ≤ length keys.now) }
+    ensures spot { spec.spot_of result ≡ spec.spot part (spec.key_rows keys.now) index number }
+    ensures place { result.place ≡ spec.place part index number }
+{
+    let (name, least, greatest, _, _) = keys[usize::from(number) - 1];
+    At {
+        place: place(part, index, number),
+        name,
+        least,
+        greatest,
+    }
+}
+
+/// The key of the top of this number.
+#[tactic(auto, unfolding(crate::specs::Keys::top_keys))]
+pub(crate) fn top_at(number: u8) -> At
+    requires { (1 ≤ number) × (number ≤ 5) }
+    ensures spot { spec.spot_of result ≡ spec.top_at number }
+    ensures place { result.place ≡ spec.place Part.Top 0 number }
+{
+    key_of(Part::Top, &TOP_KEYS, 0, number)
+}
+
+/// The key of this number, of the system of this number.
+#[tactic(auto, unfolding(crate::specs::Keys::system_keys))]
+pub(crate) fn system_at(index: usize, number: u8) -> At
+    requires { (1 ≤ number) × (number ≤ 5) }
+    ensures spot { spec.spot_of result ≡ spec.system_at index number }
+    ensures place { result.place ≡ spec.place Part.System index number }
+{
+    key_of(Part::System, &SYSTEM_KEYS, index, number)
+}
+
+/// The key of this number, of the link of this number.
+#[tactic(auto, unfolding(crate::specs::Keys::link_keys))]
+pub(crate) fn link_at(index: usize, number: u8) -> At
+    requires { (1 ≤ number) × (number ≤ 12) }
+    ensures spot { spec.spot_of result ≡ spec.link_at index number }
+    ensures place { result.place ≡ spec.place Part.Link index number }
+{
+    key_of(Part::Link, &LINK_KEYS, index, number)
+}
+
+/// The key of this number, of the port entry of this number.
+#[tactic(auto, unfolding(crate::specs::Keys::port_keys))]
+pub(crate) fn port_at(index: usize, number: u8) -> At
+    requires { (1 ≤ number) × (number ≤ 5) }
+    ensures spot { spec.spot_of result ≡ spec.port_at index number }
+    ensures place { result.place ≡ spec.place Part.Port index number }
+{
+    key_of(Part::Port, &PORT_KEYS, index, number)
+}
+
+impl At {
+    ghost use Rattle.std.specs.Prelude.{◌≡◌};
+    ghost use Rattle.afdx_config.specs.Keys.{spot_of};
+    ghost use Rattle.afdx_config.specs.Keys as spec;
+
+    /// The key with another least value.
+    #[tactic(auto, unfolding(crate::specs::Keys::spot_of))]
+    pub(crate) fn at_least(self, least: u64) -> At
+        ensures { spot_of result ≡ spec.at_least least (spot_of self) }
+    {
+        At { least, ..self }
+    }
+
+    /// The key with another greatest value.
+    #[tactic(auto, unfolding(crate::specs::Keys::spot_of))]
+    pub(crate) fn at_most(self, greatest: u64) -> At
+        ensures { spot_of result ≡ spec.at_most greatest (spot_of self) }
+    {
+        At { greatest, ..self }
+    }
 }
 
 fn member<'a>(table: &'a Table, key: &str) -> Option<&'a Value>
@@ -30,14 +118,14 @@ fn member<'a>(table: &'a Table, key: &str) -> Option<&'a Value>
 }
 
 /// The value at a key that has to be there.
-fn required<'a>(table: &'a Table, at: Place, key: &str) -> Result<&'a Value, ConfigFault>
+fn required<'a>(table: &'a Table, at: At) -> Result<&'a Value, ConfigFault>
     ensures value { Gives (λ v. view v.now) result
-        (or_fault (ConfigFault.Missing at) (get_member key.now (table_view table.now))) }
+        (or_fault (ConfigFault.Missing at.place) (get_member at.name.now (table_view table.now))) }
     ensures fault { IfErr result (λ e. e ≢ ConfigFault.Memory) }
 {
-    match member(table, key) {
+    match member(table, at.name) {
         Some(value) => Ok(value),
-        None => Err(ConfigFault::Missing(at)),
+        None => Err(ConfigFault::Missing(at.place)),
     }
 }
 
@@ -57,55 +145,43 @@ fn in_range(number: i64, at: Place, low: u64, high: u64) -> Result<u64, ConfigFa
     }
 }
 
-/// A whole number within a range.
-#[tactic(auto, unfolding(crate::specs::Keys::whole))]
-pub(crate) fn whole(
-    table: &Table,
-    at: Place,
-    key: &str,
-    low: u64,
-    high: u64,
-) -> Result<u64, ConfigFault>
-    ensures value { Gives (λ n. n) result
-        (spec.whole at key.now low high (table_view table.now)) }
-    ensures within { IfOk result (IsWithin low high) }
+/// A whole number within the key's range.
+#[tactic(auto, unfolding(crate::specs::Keys::whole, crate::specs::Keys::spot_of))]
+pub(crate) fn whole(table: &Table, at: At) -> Result<u64, ConfigFault>
+    ensures value { Gives (λ n. n) result (spec.whole (spec.spot_of at) (table_view table.now)) }
+    ensures within { IfOk result (IsWithin (spec.spot_of at).least (spec.spot_of at).greatest) }
     ensures fault { IfErr result (λ e. e ≢ ConfigFault.Memory) }
 {
-    let value = required(table, at, key)?;
+    let value = required(table, at)?;
     let Some(number) = value.as_integer() else {
-        return Err(ConfigFault::WrongKind(at));
+        return Err(ConfigFault::WrongKind(at.place));
     };
-    in_range(number, at, low, high)
+    in_range(number, at.place, at.least, at.greatest)
 }
 
-/// One of some whole numbers.
-#[tactic(auto, unfolding(crate::specs::Keys::one_of))]
-pub(crate) fn one_of(
-    table: &Table,
-    at: Place,
-    key: &str,
-    values: &[u64],
-) -> Result<u64, ConfigFault>
+/// One of some whole numbers in the key's range.
+#[tactic(auto, unfolding(crate::specs::Keys::one_of, crate::specs::Keys::spot_of))]
+pub(crate) fn one_of(table: &Table, at: At, values: &[u64]) -> Result<u64, ConfigFault>
     ensures value { Gives (λ n. n) result
-        (spec.one_of at key.now values.now (table_view table.now)) }
+        (spec.one_of (spec.spot_of at) values.now (table_view table.now)) }
     ensures among { IfOk result (IsOneOf values.now) }
 {
-    let number = whole(table, at, key, 0, u64::MAX)?;
+    let number = whole(table, at)?;
     if values.contains(&number) {
         Ok(number)
     } else {
-        Err(ConfigFault::OutOfRange(at))
+        Err(ConfigFault::OutOfRange(at.place))
     }
 }
 
-#[tactic(auto, unfolding(crate::specs::Keys::text))]
-pub(crate) fn text<'a>(table: &'a Table, at: Place, key: &str) -> Result<&'a str, ConfigFault>
-    ensures { Gives (λ s. s.now) result (spec.text at key.now (table_view table.now)) }
+#[tactic(auto, unfolding(crate::specs::Keys::text, crate::specs::Keys::spot_of))]
+pub(crate) fn text<'a>(table: &'a Table, at: At) -> Result<&'a str, ConfigFault>
+    ensures { Gives (λ s. s.now) result (spec.text (spec.spot_of at) (table_view table.now)) }
 {
-    let value = required(table, at, key)?;
+    let value = required(table, at)?;
     match value.as_str() {
         Some(word) => Ok(word),
-        None => Err(ConfigFault::WrongKind(at)),
+        None => Err(ConfigFault::WrongKind(at.place)),
     }
 }
 
@@ -140,39 +216,36 @@ fn array<'a>(value: &'a Value, at: Place) -> Result<&'a [Value], ConfigFault>
 fn tables_or_none<'a>(
     alloc: Global,
     table: &'a Table,
-    at: Place,
-    key: &str,
+    at: At,
 ) -> Result<Vec<&'a Table>, ConfigFault>
     ensures { Gives (λ v. trees v.items) result
-        (spec.tables_or_none at (get_member key.now (table_view table.now))) }
+        (spec.tables_or_none at.place (get_member at.name.now (table_view table.now))) }
 {
-    match member(table, key) {
+    match member(table, at.name) {
         None => Ok(Vec::new(alloc)),
         Some(value) => {
-            let items = array(value, at)?;
-            tables_in(alloc, items, at)
+            let items = array(value, at.place)?;
+            tables_in(alloc, items, at.place)
         }
     }
 }
 
-/// An array of at most `most` tables. One that is absent is empty.
-#[tactic(auto, unfolding(crate::specs::Keys::tables))]
+/// An array of at most as many tables as the key's range says. One that is absent is empty.
+#[tactic(auto, unfolding(crate::specs::Keys::tables, crate::specs::Keys::spot_of))]
 pub(crate) fn tables<'a>(
     alloc: Global,
     table: &'a Table,
-    at: Place,
-    key: &str,
-    most: usize,
+    at: At,
 ) -> Result<Vec<&'a Table>, ConfigFault>
     ensures value { Gives (λ v. trees v.items) result
-        (spec.tables at key.now most (table_view table.now)) }
-    ensures within { IfOk result (λ v. length v.items ≤ most) }
+        (spec.tables (spec.spot_of at) (table_view table.now)) }
+    ensures within { IfOk result (λ v. length v.items ≤ (spec.spot_of at).greatest) }
 {
-    let rows = tables_or_none(alloc, table, at, key)?;
-    if rows.len() <= most {
+    let rows = tables_or_none(alloc, table, at)?;
+    if rows.len() as u64 <= at.greatest {
         Ok(rows)
     } else {
-        Err(ConfigFault::OutOfRange(at))
+        Err(ConfigFault::OutOfRange(at.place))
     }
 }
 
@@ -190,27 +263,34 @@ fn texts_in<'a>(alloc: Global, items: &'a [Value], at: Place) -> Result<Vec<&'a 
     Ok(words)
 }
 
-/// An array of texts.
-#[tactic(auto, unfolding(crate::specs::Keys::texts))]
+/// An array of texts, as many as the key's range says.
+#[tactic(auto, unfolding(crate::specs::Keys::texts, crate::specs::Keys::spot_of))]
 pub(crate) fn texts<'a>(
     alloc: Global,
     table: &'a Table,
-    at: Place,
-    key: &str,
+    at: At,
 ) -> Result<Vec<&'a str>, ConfigFault>
-    ensures { Gives (λ v. lent_texts v.items) result
-        (spec.texts at key.now (table_view table.now)) }
+    ensures value { Gives (λ v. lent_texts v.items) result
+        (spec.texts (spec.spot_of at) (table_view table.now)) }
+    ensures within { IfOk result
+        (λ v. IsWithin (spec.spot_of at).least (spec.spot_of at).greatest (length v.items)) }
 {
-    let value = required(table, at, key)?;
-    let items = array(value, at)?;
-    texts_in(alloc, items, at)
+    let value = required(table, at)?;
+    let items = array(value, at.place)?;
+    let words = texts_in(alloc, items, at.place)?;
+    let count = words.len() as u64;
+    if at.least <= count && count <= at.greatest {
+        Ok(words)
+    } else {
+        Err(ConfigFault::OutOfRange(at.place))
+    }
 }
 
 /// Refuses a key that isn't known.
 #[tactic(auto, unfolding(crate::specs::Keys::only))]
-fn only(table: &Table, at: Place, known: &[&str]) -> Result<(), ConfigFault>
+fn only(table: &Table, at: Place, known: &[Key]) -> Result<(), ConfigFault>
     ensures { Gives (λ _. tt) result
-        (spec.only at (lent_texts known.now) (table_view table.now)) }
+        (spec.only at (spec.key_rows known.now) (table_view table.now)) }
 {
     if are_among(known, table) {
         Ok(())
@@ -219,61 +299,44 @@ fn only(table: &Table, at: Place, known: &[&str]) -> Result<(), ConfigFault>
     }
 }
 
-fn are_among(known: &[&str], table: &Table) -> bool
+fn are_among(known: &[Key], table: &Table) -> bool
     ensures { result
-        ≡ list_all (λ k. list_any (λ s. bytes_eq s.now (string_bytes k)) known.now)
+        ≡ list_all (λ k. list_any (λ s. bytes_eq s.0.now (string_bytes k)) known.now)
         (keys table.now) }
 {
     table.keys().all(|key| is_among(known, key.as_str()))
 }
 
-fn is_among(names: &[&str], name: &str) -> bool
-    ensures { result ≡ list_any (λ s. bytes_eq s.now name.now) names.now }
+fn is_among(known: &[Key], name: &str) -> bool
+    ensures { result ≡ list_any (λ s. bytes_eq s.0.now name.now) known.now }
 {
-    names.iter().any(|other| *other == name)
+    known.iter().any(|key| key.0 == name)
 }
 
-#[tactic(auto, unfolding(crate::specs::Keys::only_system_keys))]
-pub(crate) fn only_system_keys(table: &Table, at: Place) -> Result<(), ConfigFault>
-    ensures { Gives (λ _. tt) result (spec.only_system_keys at (table_view table.now)) }
+#[tactic(auto, unfolding(crate::specs::Keys::top_keys, crate::specs::Keys::only_top_keys))]
+pub(crate) fn only_top_keys(table: &Table) -> Result<(), ConfigFault>
+    ensures { Gives (λ _. tt) result (spec.only_top_keys (table_view table.now)) }
 {
-    only(table, at, &["name", "port", "id", "partition", "rate"])
+    only(table, place(Part::Top, 0, 0), &TOP_KEYS)
 }
 
-#[tactic(auto, unfolding(crate::specs::Keys::only_link_keys))]
-pub(crate) fn only_link_keys(table: &Table, at: Place) -> Result<(), ConfigFault>
-    ensures { Gives (λ _. tt) result (spec.only_link_keys at (table_view table.now)) }
+#[tactic(auto, unfolding(crate::specs::Keys::system_keys, crate::specs::Keys::only_system_keys))]
+pub(crate) fn only_system_keys(table: &Table, index: usize) -> Result<(), ConfigFault>
+    ensures { Gives (λ _. tt) result (spec.only_system_keys index (table_view table.now)) }
 {
-    only(
-        table,
-        at,
-        &[
-            "vl",
-            "from",
-            "to",
-            "bag_ms",
-            "lmin",
-            "lmax",
-            "jitter_us",
-            "priority",
-            "policing",
-            "latency_us",
-            "skew_us",
-            "subs",
-        ],
-    )
+    only(table, place(Part::System, index, 0), &SYSTEM_KEYS)
 }
 
-#[tactic(auto, unfolding(crate::specs::Keys::only_port_keys))]
-pub(crate) fn only_port_keys(table: &Table, at: Place) -> Result<(), ConfigFault>
-    ensures { Gives (λ _. tt) result (spec.only_port_keys at (table_view table.now)) }
+#[tactic(auto, unfolding(crate::specs::Keys::link_keys, crate::specs::Keys::only_link_keys))]
+pub(crate) fn only_link_keys(table: &Table, index: usize) -> Result<(), ConfigFault>
+    ensures { Gives (λ _. tt) result (spec.only_link_keys index (table_view table.now)) }
 {
-    only(table, at, &["system", "link", "udp", "kind", "depth"])
+    only(table, place(Part::Link, index, 0), &LINK_KEYS)
 }
 
-#[tactic(auto, unfolding(crate::specs::Keys::only_top_keys))]
-pub(crate) fn only_top_keys(table: &Table, at: Place) -> Result<(), ConfigFault>
-    ensures { Gives (λ _. tt) result (spec.only_top_keys at (table_view table.now)) }
+#[tactic(auto, unfolding(crate::specs::Keys::port_keys, crate::specs::Keys::only_port_keys))]
+pub(crate) fn only_port_keys(table: &Table, index: usize) -> Result<(), ConfigFault>
+    ensures { Gives (λ _. tt) result (spec.only_port_keys index (table_view table.now)) }
 {
-    only(table, at, &["profile", "buffer", "system", "link", "port"])
+    only(table, place(Part::Port, index, 0), &PORT_KEYS)
 }

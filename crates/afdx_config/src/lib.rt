@@ -2,6 +2,7 @@
 #![tactic(auto)]
 
 mod fault;
+mod key_tables;
 mod keys;
 pub mod laws;
 mod links;
@@ -13,7 +14,8 @@ mod rows;
 mod systems;
 mod tables;
 
-pub use fault::{ConfigFault, Part, Place};
+pub use fault::{CONFIG_FAULTS, ConfigFault, Part, Place};
+pub use key_tables::{Key, LINK_KEYS, PORT_KEYS, SYSTEM_KEYS, TOP_KEYS, UNKNOWN_KEYS};
 pub use read::read_tables;
 pub use rows::{ComRow, Kind, Link, System, SystemId};
 pub use tables::Tables;

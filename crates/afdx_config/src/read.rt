@@ -7,45 +7,38 @@ ghost use Rattle.afdx_config.specs.Fault.{Gives};
 ghost use Rattle.afdx_config.specs.Keys as keys;
 ghost use Rattle.afdx_config.specs.Reading as spec;
 
-use crate::fault::{ConfigFault, Part};
-use crate::keys::{only_top_keys, place, tables, whole};
+use crate::fault::ConfigFault;
+use crate::keys::{only_top_keys, tables, top_at, whole};
 use crate::read_links::links_of;
 use crate::read_ports::coms_of;
 use crate::read_systems::systems_of;
 use crate::tables::Tables;
-use afdx_frame::{GREATEST_BUFFER, LEAST_FRAME};
 use std::alloc::Global;
 use toml::Table;
 
+#[tactic(auto, unfolding(crate::specs::Keys::top_keys))]
 fn profile_of(tree: &Table) -> Result<u64, ConfigFault>
     ensures known { IfOk result (IsWithin 1 2) }
     ensures value { Gives (λ n. n) result
-        (spec.or_bad_profile
-        (keys.whole (keys.place Part.Top 0 1) (codes "profile") 1 2 (table_view tree.now))) }
+        (spec.or_bad_profile (keys.whole (keys.top_at 1) (table_view tree.now))) }
 {
-    match whole(tree, place(Part::Top, 0, 1), "profile", 1, 2) {
+    match whole(tree, top_at(1)) {
         Ok(profile) => Ok(profile),
         Err(_) => Err(ConfigFault::BadProfile),
     }
 }
 
 /// The tables that a tree states, or the first check that fails.
-#[tactic(auto, unfolding(crate::specs::Reading::tables_at))]
+#[tactic(auto, unfolding(crate::specs::Reading::tables_at, crate::specs::Keys::top_keys))]
 fn tables_of(alloc: Global, tree: &Table) -> Result<Tables, ConfigFault>
     ensures { Gives (λ t. t) result (spec.tables_at (table_view tree.now)) }
 {
     let profile = profile_of(tree)?;
-    let buffer = whole(
-        tree,
-        place(Part::Top, 0, 2),
-        "buffer",
-        LEAST_FRAME as u64,
-        GREATEST_BUFFER,
-    )?;
-    let systems = tables(alloc, tree, place(Part::Top, 0, 3), "system", 24)?;
-    let links = tables(alloc, tree, place(Part::Top, 0, 4), "link", 4096)?;
-    let ports = tables(alloc, tree, place(Part::Top, 0, 5), "port", 4096)?;
-    only_top_keys(tree, place(Part::Top, 0, 0))?;
+    let buffer = whole(tree, top_at(2))?;
+    let systems = tables(alloc, tree, top_at(3))?;
+    let links = tables(alloc, tree, top_at(4))?;
+    let ports = tables(alloc, tree, top_at(5))?;
+    only_top_keys(tree)?;
     let systems = systems_of(alloc, &systems, profile)?;
     let links = links_of(alloc, &links, &systems)?;
     let coms = coms_of(alloc, &ports, &systems, &links)?;

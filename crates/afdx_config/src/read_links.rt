@@ -16,13 +16,13 @@ ghost use Rattle.afdx_config.specs.Trees.{trees, lent_texts};
 ghost use Rattle.afdx_config.specs.Keys as keys;
 ghost use Rattle.afdx_config.specs.Reading as spec;
 
-use crate::fault::{ConfigFault, Part, Place};
-use crate::keys::{one_of, only_link_keys, place, text, texts, whole};
+use crate::fault::{ConfigFault, Place};
+use crate::keys::{At, link_at, one_of, only_link_keys, text, texts, whole};
 use crate::links::Links;
 use crate::read_systems::named;
 use crate::rows::{Link, SystemId};
 use crate::systems::Systems;
-use afdx_frame::{GAPS_MS, GREATEST_FRAME, LEAST_FRAME, Policing, Priority, VlId};
+use afdx_frame::{GAPS_MS, Policing, Priority, VlId};
 use std::alloc::Global;
 use toml::Table;
 
@@ -73,57 +73,55 @@ fn are_apart(from: SystemId, ids: &[SystemId]) -> bool
     !is_among(from, ids) && !has_repeat(ids)
 }
 
-/// The systems that an array of 1 to 24 texts names, all different, and other than `from`.
-#[tactic(auto, unfolding(crate::specs::Reading::destinations))]
+/// The systems that an array of texts names, all different, and other than `from`.
+#[tactic(auto, unfolding(crate::specs::Reading::destinations, crate::specs::Keys::spot_of))]
 fn destinations(
     alloc: Global,
     table: &Table,
-    at: Place,
+    at: At,
     systems: &Systems,
     from: SystemId,
 ) -> Result<Vec<SystemId>, ConfigFault>
     ensures known { IfOk result
         (λ v. AllByRecursion (λ i. i < length systems.now) (system_places v.items)) }
-    ensures count { IfOk result (λ v. IsWithin 1 last_port (length v.items)) }
+    ensures count { IfOk result
+        (λ v. IsWithin (keys.spot_of at).least (keys.spot_of at).greatest (length v.items)) }
     ensures apart { IfOk result (λ v. spec.are_apart from.0 (system_places v.items) ≡ true) }
     ensures value { Gives (λ v. system_places v.items) result
-        (spec.destinations at systems.now from.0 (table_view table.now)) }
+        (spec.destinations (keys.spot_of at) systems.now from.0 (table_view table.now)) }
 {
-    let names = texts(alloc, table, at, "to")?;
-    if names.is_empty() || 24 < names.len() {
-        return Err(ConfigFault::OutOfRange(at));
-    }
-    let ids = all_named(alloc, at, &names, systems)?;
+    let names = texts(alloc, table, at)?;
+    let ids = all_named(alloc, at.place, &names, systems)?;
     if are_apart(from, &ids) {
         Ok(ids)
     } else {
-        Err(ConfigFault::Twice(at))
+        Err(ConfigFault::Twice(at.place))
     }
 }
 
-#[tactic(auto, unfolding(crate::specs::Keys::word))]
-fn priority_at(table: &Table, at: Place) -> Result<Priority, ConfigFault>
+#[tactic(auto, unfolding(crate::specs::Keys::word, crate::specs::Keys::spot_of))]
+fn priority_at(table: &Table, at: At) -> Result<Priority, ConfigFault>
     ensures { Gives (λ p. p) result
-        (keys.word at (codes "priority") ((codes "high", High) ∷ (codes "low", Low) ∷ [])
+        (keys.word (keys.spot_of at) ((codes "high", High) ∷ (codes "low", Low) ∷ [])
         (table_view table.now)) }
 {
-    match text(table, at, "priority")? {
+    match text(table, at)? {
         "high" => Ok(Priority::High),
         "low" => Ok(Priority::Low),
-        _ => Err(ConfigFault::OutOfRange(at)),
+        _ => Err(ConfigFault::OutOfRange(at.place)),
     }
 }
 
-#[tactic(auto, unfolding(crate::specs::Keys::word))]
-fn policing_at(table: &Table, at: Place) -> Result<Policing, ConfigFault>
+#[tactic(auto, unfolding(crate::specs::Keys::word, crate::specs::Keys::spot_of))]
+fn policing_at(table: &Table, at: At) -> Result<Policing, ConfigFault>
     ensures { Gives (λ p. p) result
-        (keys.word at (codes "policing") ((codes "byte", Byte) ∷ (codes "frame", Frame) ∷ [])
+        (keys.word (keys.spot_of at) ((codes "byte", Byte) ∷ (codes "frame", Frame) ∷ [])
         (table_view table.now)) }
 {
-    match text(table, at, "policing")? {
+    match text(table, at)? {
         "byte" => Ok(Policing::Byte),
         "frame" => Ok(Policing::Frame),
-        _ => Err(ConfigFault::OutOfRange(at)),
+        _ => Err(ConfigFault::OutOfRange(at.place)),
     }
 }
 
@@ -136,9 +134,6 @@ struct Traffic {
     jitter_us: u64,
 }
 
-/// The greatest latency and the greatest skew of a link, in us.
-const GREATEST_DELAY: u64 = 100_000;
-
 /// How a link's frames are treated.
 #[derive(Clone, Copy)]
 struct Treatment {
@@ -149,26 +144,19 @@ struct Treatment {
     subs: u64,
 }
 
-#[tactic(auto, unfolding(crate::specs::Reading::traffic_at))]
+#[tactic(auto, unfolding(crate::specs::Reading::traffic_at, crate::specs::Keys::link_keys))]
 fn traffic_of(table: &Table, index: usize) -> Result<Traffic, ConfigFault>
     ensures gap { IfOk result (λ x. IsTrue (is_bag x.bag_ms)) }
     ensures least { IfOk result (λ x. IsWithin least_frame greatest_frame x.lmin) }
     ensures greatest { IfOk result (λ x. IsWithin x.lmin greatest_frame x.lmax) }
     ensures jitter { IfOk result (λ x. IsWithin 0 (1000 * x.bag_ms) x.jitter_us) }
     ensures value { Gives (λ x. x) result
-        (spec.traffic_at (keys.place Part.Link index) (table_view table.now)) }
+        (spec.traffic_at index (table_view table.now)) }
 {
-    let (least, greatest) = (LEAST_FRAME as u64, GREATEST_FRAME as u64);
-    let bag_ms = one_of(table, place(Part::Link, index, 4), "bag_ms", &GAPS_MS)?;
-    let lmin = whole(table, place(Part::Link, index, 5), "lmin", least, greatest)?;
-    let lmax = whole(table, place(Part::Link, index, 6), "lmax", lmin, greatest)?;
-    let jitter_us = whole(
-        table,
-        place(Part::Link, index, 7),
-        "jitter_us",
-        0,
-        1000 * bag_ms,
-    )?;
+    let bag_ms = one_of(table, link_at(index, 4), &GAPS_MS)?;
+    let lmin = whole(table, link_at(index, 5))?;
+    let lmax = whole(table, link_at(index, 6).at_least(lmin))?;
+    let jitter_us = whole(table, link_at(index, 7).at_most(1000 * bag_ms))?;
     Ok(Traffic {
         bag_ms,
         lmin,
@@ -177,21 +165,19 @@ fn traffic_of(table: &Table, index: usize) -> Result<Traffic, ConfigFault>
     })
 }
 
-#[tactic(auto, unfolding(crate::specs::Reading::treatment_at))]
+#[tactic(auto, unfolding(crate::specs::Reading::treatment_at, crate::specs::Keys::link_keys))]
 fn treatment_of(table: &Table, index: usize) -> Result<Treatment, ConfigFault>
     ensures latency { IfOk result (λ x. IsWithin 1 spec.greatest_delay x.latency_us) }
     ensures skew { IfOk result (λ x. IsWithin 1 spec.greatest_delay x.skew_us) }
     ensures subs { IfOk result (λ x. IsWithin 1 4 x.subs) }
     ensures value { Gives (λ x. x) result
-        (spec.treatment_at (keys.place Part.Link index) (table_view table.now)) }
+        (spec.treatment_at index (table_view table.now)) }
 {
-    let priority = priority_at(table, place(Part::Link, index, 8))?;
-    let policing = policing_at(table, place(Part::Link, index, 9))?;
-    let at = place(Part::Link, index, 10);
-    let latency_us = whole(table, at, "latency_us", 1, GREATEST_DELAY)?;
-    let at = place(Part::Link, index, 11);
-    let skew_us = whole(table, at, "skew_us", 1, GREATEST_DELAY)?;
-    let subs = whole(table, place(Part::Link, index, 12), "subs", 1, 4)?;
+    let priority = priority_at(table, link_at(index, 8))?;
+    let policing = policing_at(table, link_at(index, 9))?;
+    let latency_us = whole(table, link_at(index, 10))?;
+    let skew_us = whole(table, link_at(index, 11))?;
+    let subs = whole(table, link_at(index, 12))?;
     Ok(Treatment {
         priority,
         policing,
@@ -199,6 +185,36 @@ fn treatment_of(table: &Table, index: usize) -> Result<Treatment, ConfigFault>
         skew_us,
         subs,
     })
+}
+
+/// The identifier.
+#[tactic(auto, unfolding(crate::specs::Keys::link_keys))]
+fn vl_of(table: &Table, index: usize) -> Result<VlId, ConfigFault>
+    ensures value { Gives (λ vl. vl.0) result
+        (keys.whole (keys.link_at index 1) (table_view table.now)) }
+    ensures within { IfOk result (λ vl. IsWithin 0 65535 vl.0) }
+{
+    let vl = whole(table, link_at(index, 1))?;
+    Ok(VlId(vl as u16))
+}
+
+/// The receivers.
+#[tactic(auto, unfolding(crate::specs::Keys::link_keys))]
+fn to_of(
+    alloc: Global,
+    table: &Table,
+    index: usize,
+    systems: &Systems,
+    from: SystemId,
+) -> Result<Vec<SystemId>, ConfigFault>
+    ensures known { IfOk result
+        (λ v. AllByRecursion (λ i. i < length systems.now) (system_places v.items)) }
+    ensures count { IfOk result (λ v. IsWithin 1 last_port (length v.items)) }
+    ensures apart { IfOk result (λ v. spec.are_apart from.0 (system_places v.items) ≡ true) }
+    ensures value { Gives (λ v. system_places v.items) result
+        (spec.destinations (keys.link_at index 3) systems.now from.0 (table_view table.now)) }
+{
+    destinations(alloc, table, link_at(index, 3), systems, from)
 }
 
 /// The link that a table states, after those before it.
@@ -215,16 +231,15 @@ fn link_of(
     ensures lawful { IfOk result (λ l. IsLink (length systems.now) (link_row l)) }
 {
     let index = before.len() + 1;
-    let at = place(Part::Link, index, 1);
-    let vl = VlId(whole(table, at, "vl", 0, 65535)? as u16);
+    let vl = vl_of(table, index)?;
     if before.of(vl).is_some() {
-        return Err(ConfigFault::Twice(at));
+        return Err(ConfigFault::Twice(link_at(index, 1).place));
     }
-    let from = named(table, place(Part::Link, index, 2), "from", systems)?;
-    let to = destinations(alloc, table, place(Part::Link, index, 3), systems, from)?;
+    let from = named(table, link_at(index, 2), systems)?;
+    let to = to_of(alloc, table, index, systems, from)?;
     let traffic = traffic_of(table, index)?;
     let treatment = treatment_of(table, index)?;
-    only_link_keys(table, place(Part::Link, index, 0))?;
+    only_link_keys(table, index)?;
     Ok(Link {
         vl,
         from,

@@ -12,8 +12,8 @@ ghost use Rattle.afdx_config.specs.Keys as keys;
 ghost use Rattle.afdx_config.specs.Reading.{goes_to};
 ghost use Rattle.afdx_config.specs.Reading as spec;
 
-use crate::fault::{ConfigFault, Part, Place};
-use crate::keys::{only_port_keys, place, text, whole};
+use crate::fault::ConfigFault;
+use crate::keys::{At, only_port_keys, port_at, text, whole};
 use crate::links::Links;
 use crate::read_systems::named;
 use crate::rows::{ComRow, Kind, SystemId};
@@ -36,6 +36,27 @@ fn is_taken(before: &[ComRow], system: SystemId, link: VlId, udp: u16) -> bool
     ensures { result ≡ spec.has_port (port_rows before.now) system.0 link.0 udp }
 {
     has_port(before, system, link, udp)
+}
+
+/// The identifier of the link.
+#[tactic(auto, unfolding(crate::specs::Keys::port_keys))]
+fn link_of(table: &Table, index: usize) -> Result<VlId, ConfigFault>
+    ensures value { Gives (λ vl. vl.0) result
+        (keys.whole (keys.port_at index 2) (table_view table.now)) }
+{
+    let link = whole(table, port_at(index, 2))?;
+    Ok(VlId(link as u16))
+}
+
+/// The UDP port.
+#[tactic(auto, unfolding(crate::specs::Keys::port_keys))]
+fn udp_of(table: &Table, index: usize) -> Result<u16, ConfigFault>
+    ensures value { Gives (λ n. n) result
+        (keys.whole (keys.port_at index 3) (table_view table.now)) }
+    ensures within { IfOk result (IsWithin 1 65535) }
+{
+    let udp = whole(table, port_at(index, 3))?;
+    Ok(udp as u16)
 }
 
 /// Which messages a port entry takes: those of the link, at the system, to the UDP port.
@@ -62,25 +83,23 @@ fn socket_of(
     ensures fresh { IfOk result
         (λ s. spec.has_port (port_rows before.now) s.system.0 s.link.0 s.udp ≡ false) }
     ensures value { Gives (λ s. s) result
-        (spec.socket_at (keys.place Part.Port index) systems.now links.now
+        (spec.socket_at (keys.port_at index) systems.now links.now
         (port_rows before.now) (table_view table.now)) }
 {
-    let system = named(table, place(Part::Port, index, 1), "system", systems)?;
-    let at = place(Part::Port, index, 2);
-    let link = VlId(whole(table, at, "link", 0, 65535)? as u16);
+    let system = named(table, port_at(index, 1), systems)?;
+    let link = link_of(table, index)?;
     if !links.goes_to(link, system) {
-        return Err(ConfigFault::OutOfRange(at));
+        return Err(ConfigFault::OutOfRange(port_at(index, 2).place));
     }
-    let at = place(Part::Port, index, 3);
-    let udp = whole(table, at, "udp", 1, 65535)? as u16;
+    let udp = udp_of(table, index)?;
     if is_taken(before, system, link, udp) {
-        return Err(ConfigFault::Twice(at));
+        return Err(ConfigFault::Twice(port_at(index, 3).place));
     }
     Ok(Socket { system, link, udp })
 }
 
 /// The port entry that a table states, after those before it.
-#[tactic(auto, unfolding(crate::specs::Reading::port_at))]
+#[tactic(auto, unfolding(crate::specs::Reading::port_at, crate::specs::Keys::port_keys))]
 fn com_of(
     table: &Table,
     systems: &Systems,
@@ -96,10 +115,9 @@ fn com_of(
 {
     let index = before.len() + 1;
     let Socket { system, link, udp } = socket_of(table, index, systems, links, before)?;
-    let kind = kind_at(table, place(Part::Port, index, 4))?;
-    let at = place(Part::Port, index, 5);
-    let depth = whole(table, at, "depth", 1, deepest(kind))?;
-    only_port_keys(table, place(Part::Port, index, 0))?;
+    let kind = kind_at(table, port_at(index, 4))?;
+    let depth = whole(table, port_at(index, 5).at_most(deepest(kind)))?;
+    only_port_keys(table, index)?;
     Ok(ComRow {
         system,
         link,
@@ -118,17 +136,17 @@ fn deepest(kind: Kind) -> u64
     }
 }
 
-#[tactic(auto, unfolding(crate::specs::Keys::word))]
-fn kind_at(table: &Table, at: Place) -> Result<Kind, ConfigFault>
+#[tactic(auto, unfolding(crate::specs::Keys::word, crate::specs::Keys::spot_of))]
+fn kind_at(table: &Table, at: At) -> Result<Kind, ConfigFault>
     ensures { Gives (λ k. k) result
-        (keys.word at (codes "kind")
+        (keys.word (keys.spot_of at)
         ((codes "sampling", Kind.Sampling) ∷ (codes "queuing", Kind.Queuing) ∷ [])
         (table_view table.now)) }
 {
-    match text(table, at, "kind")? {
+    match text(table, at)? {
         "sampling" => Ok(Kind::Sampling),
         "queuing" => Ok(Kind::Queuing),
-        _ => Err(ConfigFault::OutOfRange(at)),
+        _ => Err(ConfigFault::OutOfRange(at.place)),
     }
 }
 

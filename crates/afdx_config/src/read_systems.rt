@@ -5,37 +5,32 @@ ghost use Rattle.std.specs.List.{list_all};
 ghost use Rattle.std.specs.Char.{is_ascii_alphanumeric};
 ghost use Rattle.toml.specs.View.{table_view};
 ghost use Rattle.afdx_frame.specs.Ports.{last_port};
-ghost use Rattle.afdx_config.specs.Lawful.{IsSystem, AreSystems};
+ghost use Rattle.afdx_config.specs.Lawful.{IsSystem, AreSystems, IsWithin};
 ghost use Rattle.afdx_config.specs.New.{IsNewSystem};
 ghost use Rattle.afdx_config.specs.Rows.{system_row};
 ghost use Rattle.afdx_config.specs.Fault.{Gives};
 ghost use Rattle.afdx_config.specs.Trees.{trees};
+ghost use Rattle.afdx_config.specs.Keys.{spot_of, system_at, whole};
 ghost use Rattle.afdx_config.specs.Reading as spec;
 
-use crate::fault::{ConfigFault, Part, Place};
-use crate::keys::{one_of, only_system_keys, place, text, whole};
+use crate::fault::ConfigFault;
+use crate::keys::{At, one_of, only_system_keys, system_at, text, whole};
 use crate::rows::{System, SystemId};
 use crate::systems::Systems;
-use afdx_frame::LAST_PORT;
 use std::alloc::Global;
 use toml::Table;
 
 /// The system that a text names.
-#[tactic(auto, unfolding(crate::specs::Reading::named))]
-pub(crate) fn named(
-    table: &Table,
-    at: Place,
-    key: &str,
-    systems: &Systems,
-) -> Result<SystemId, ConfigFault>
+#[tactic(auto, unfolding(crate::specs::Reading::named, crate::specs::Keys::spot_of))]
+pub(crate) fn named(table: &Table, at: At, systems: &Systems) -> Result<SystemId, ConfigFault>
     ensures known { IfOk result (λ i. i.0 < length systems.now) }
     ensures value { Gives (λ i. i.0) result
-        (spec.named at key.now systems.now (table_view table.now)) }
+        (spec.named (spot_of at) systems.now (table_view table.now)) }
 {
-    let name = text(table, at, key)?;
+    let name = text(table, at)?;
     match systems.named(name) {
         Some(id) => Ok(id),
-        None => Err(ConfigFault::NoSuchSystem(at)),
+        None => Err(ConfigFault::NoSuchSystem(at.place)),
     }
 }
 
@@ -53,19 +48,19 @@ fn is_alphanumeric(text: &str) -> bool
     text.as_bytes().iter().all(|b| b.is_ascii_alphanumeric())
 }
 
-#[tactic(auto, unfolding(crate::specs::Reading::new_name))]
-fn new_name<'a>(table: &'a Table, at: Place, before: &Systems) -> Result<&'a str, ConfigFault>
+#[tactic(auto, unfolding(crate::specs::Reading::new_name, crate::specs::Keys::spot_of))]
+fn new_name<'a>(table: &'a Table, at: At, before: &Systems) -> Result<&'a str, ConfigFault>
     ensures value { Gives (λ s. s.now) result
-        (spec.new_name at before.now (table_view table.now)) }
+        (spec.new_name (spot_of at) before.now (table_view table.now)) }
     ensures fresh { IfOk result (λ s. spec.system_named before.now s.now ≡ None) }
     ensures lawful { IfOk result (λ s. spec.is_name s.now ≡ true) }
 {
-    let name = text(table, at, "name")?;
+    let name = text(table, at)?;
     if !is_name(name) {
-        return Err(ConfigFault::OutOfRange(at));
+        return Err(ConfigFault::OutOfRange(at.place));
     }
     if before.named(name).is_some() {
-        return Err(ConfigFault::Twice(at));
+        return Err(ConfigFault::Twice(at.place));
     }
     Ok(name)
 }
@@ -79,6 +74,36 @@ fn rates(profile: u64) -> &'static [u64]
     } else {
         &[10, 100]
     }
+}
+
+/// The port at both switches.
+#[tactic(auto, unfolding(crate::specs::Keys::system_keys))]
+fn port_of(table: &Table, index: usize) -> Result<u8, ConfigFault>
+    ensures value { Gives (λ n. n) result (whole (system_at index 2) (table_view table.now)) }
+    ensures within { IfOk result (IsWithin 1 last_port) }
+{
+    let port = whole(table, system_at(index, 2))?;
+    Ok(port as u8)
+}
+
+/// The number in addresses.
+#[tactic(auto, unfolding(crate::specs::Keys::system_keys))]
+fn id_of(table: &Table, index: usize) -> Result<u16, ConfigFault>
+    ensures value { Gives (λ n. n) result (whole (system_at index 3) (table_view table.now)) }
+    ensures within { IfOk result (IsWithin 0 65535) }
+{
+    let id = whole(table, system_at(index, 3))?;
+    Ok(id as u16)
+}
+
+/// The last byte of the IPv4 address.
+#[tactic(auto, unfolding(crate::specs::Keys::system_keys))]
+fn partition_of(table: &Table, index: usize) -> Result<u8, ConfigFault>
+    ensures value { Gives (λ n. n) result (whole (system_at index 4) (table_view table.now)) }
+    ensures within { IfOk result (IsWithin 0 255) }
+{
+    let partition = whole(table, system_at(index, 4))?;
+    Ok(partition as u8)
 }
 
 /// The system that a table states, after those before it.
@@ -95,20 +120,18 @@ fn system_of(
     ensures lawful { IfOk result (λ s. IsSystem profile (system_row s)) }
 {
     let index = before.len() + 1;
-    let name = new_name(table, place(Part::System, index, 1), before)?;
-    let at = place(Part::System, index, 2);
-    let port = whole(table, at, "port", 1, u64::from(LAST_PORT))? as u8;
+    let name = new_name(table, system_at(index, 1), before)?;
+    let port = port_of(table, index)?;
     if before.at_port(port).is_some() {
-        return Err(ConfigFault::Twice(at));
+        return Err(ConfigFault::Twice(system_at(index, 2).place));
     }
-    let at = place(Part::System, index, 3);
-    let id = whole(table, at, "id", 0, 65535)? as u16;
+    let id = id_of(table, index)?;
     if before.has_id(id) {
-        return Err(ConfigFault::Twice(at));
+        return Err(ConfigFault::Twice(system_at(index, 3).place));
     }
-    let partition = whole(table, place(Part::System, index, 4), "partition", 0, 255)? as u8;
-    let rate = one_of(table, place(Part::System, index, 5), "rate", rates(profile))?;
-    only_system_keys(table, place(Part::System, index, 0))?;
+    let partition = partition_of(table, index)?;
+    let rate = one_of(table, system_at(index, 5), rates(profile))?;
+    only_system_keys(table, index)?;
     Ok(System {
         name: String::from_str(alloc, name)?,
         port,

@@ -4,17 +4,17 @@ use Rattle.std.specs.List.{slice_split}
 use Rattle.std.proofs.lemmas.List.Splits.{length-slice_split}
 use Rattle.afdx_explain.specs.Forms.{all_stand_for}
 
-too_many-some : (words : List (List ℕ)) → 0 < length words → all_stand_for [] words ≡ false
-too_many-some [] some = absurd (omega arith)
-too_many-some (word ∷ words) some = refl
+too_many-some : (own : List ℕ) (words : List (List ℕ)) → 0 < length words → all_stand_for own [] words ≡ false
+too_many-some own [] some = absurd (omega arith)
+too_many-some own (word ∷ words) some = refl
 
-too_few-some : (wanted : List (List ℕ)) → 0 < length wanted → all_stand_for wanted [] ≡ false
-too_few-some [] some = absurd (omega arith)
-too_few-some (one ∷ wanted) some = refl
+too_few-some : (own : List ℕ) (wanted : List (List ℕ)) → 0 < length wanted → all_stand_for own wanted [] ≡ false
+too_few-some own [] some = absurd (omega arith)
+too_few-some own (one ∷ wanted) some = refl
 
 -- a text has at least one word
-pub too_many : (p : ℕ → Bool) (line : List ℕ) → all_stand_for [] (slice_split p line) ≡ false
-too_many p line = too_many-some (slice_split p line) (omega (arith, length-slice_split p line))
+pub too_many : (own : List ℕ) (p : ℕ → Bool) (line : List ℕ) → all_stand_for own [] (slice_split p line) ≡ false
+too_many own p line = too_many-some own (slice_split p line) (omega (arith, length-slice_split p line))
 
-pub too_few : (p : ℕ → Bool) (form : List ℕ) → all_stand_for (slice_split p form) [] ≡ false
-too_few p form = too_few-some (slice_split p form) (omega (arith, length-slice_split p form))
+pub too_few : (own : List ℕ) (p : ℕ → Bool) (form : List ℕ) → all_stand_for own (slice_split p form) [] ≡ false
+too_few own p form = too_few-some own (slice_split p form) (omega (arith, length-slice_split p form))

@@ -1,33 +1,111 @@
--- What the lines of the program mean.
-use Rattle.std.specs.Prelude.{ℕ, List, Option, Some, None, map}
-use Rattle.afdx_explain.specs.Forms.{Entry, text_among}
+-- What the lines of the program mean: each list stands in the table beside its type.
+use Rattle.std.specs.Prelude.{ℕ, List, Option, Some, None, codes, map, take, drop}
+use Rattle.afdx_frame.specs.declared.fault.TheConstants.{MAC_FAULTS, IP_FAULTS}
+use Rattle.afdx_police.specs.declared.shape.TheConstants.{REASONS}
+use Rattle.afdx_config.specs.declared.fault.TheConstants.{CONFIG_FAULTS}
+use Rattle.afdx_config.specs.declared.key_tables.TheConstants.{TOP_KEYS, SYSTEM_KEYS, LINK_KEYS}
+use Rattle.afdx_config.specs.declared.key_tables.TheConstants.{PORT_KEYS, UNKNOWN_KEYS}
+use Rattle.afdx_admit.specs.declared.fault.TheConstants.{ADMISSION}
+use Rattle.afdx_receive.specs.declared.reception.TheConstants.{DROP_REASONS}
+use Rattle.afdx_send.specs.declared.fault.TheConstants.{SEND_FAULTS}
+use Rattle.afdx_lists.specs.declared.fault.TheConstants.{RUN_FAULTS}
+use Rattle.afdx_explain.specs.Forms.{text_among, row_among, formed_row, formed_among}
 use Rattle.afdx_explain.specs.declared.faults.TheConstants.{FAULTS}
-use Rattle.afdx_explain.specs.declared.keys.TheConstants.{KEYS}
 use Rattle.afdx_explain.specs.declared.kinds.TheConstants.{KINDS}
 use Rattle.afdx_explain.specs.declared.lines.TheConstants.{LINES}
-
--- the tables of the code
-unfoldable pub faults : List Entry
-faults = map (λ entry. (entry.0.now, entry.1.now)) FAULTS
-
-unfoldable pub keys : List Entry
-keys = map (λ entry. (entry.0.now, entry.1.now)) KEYS
-
-unfoldable pub kinds : List Entry
-kinds = map (λ entry. (entry.0.now, entry.1.now)) KINDS
-
-unfoldable pub lines : List Entry
-lines = map (λ entry. (entry.0.now, entry.1.now)) LINES
 
 abbrev pub or_else : Option (List ℕ) → Option (List ℕ) → Option (List ℕ)
 or_else (Some text) other = Some text
 or_else None other = other
 
--- what the line itself means: a fault, a key of a configuration, or a line of the output
-unfoldable pub meaning_of : List ℕ → Option (List ℕ)
-meaning_of line = or_else (text_among faults line)
-    (or_else (text_among keys line) (text_among lines line))
+-- ---- faults: of the words and files, of a run, of a whole configuration, of a key, and the lines
+-- of admission
 
--- what is said of all lines of its kind
+unfoldable pub fault : List ℕ → Option (List ℕ)
+fault line = text_among (map (λ entry. (entry.0.now, entry.1.now)) FAULTS) line
+
+unfoldable pub run_fault : List ℕ → Option (List ℕ)
+run_fault line = text_among (map (λ entry. (entry.0.now, entry.1.now)) RUN_FAULTS) line
+
+unfoldable pub config_fault : List ℕ → Option (List ℕ)
+config_fault line =
+    formed_among (map (λ row. formed_row row.0.now row.1.now row.2.now) (take 2 CONFIG_FAULTS)) line
+
+unfoldable pub top_key : List ℕ → Option (List ℕ)
+top_key line = text_among (map (λ key. (key.3.now, key.4.now)) TOP_KEYS) line
+
+unfoldable pub system_key : List ℕ → Option (List ℕ)
+system_key line = text_among (map (λ key. (key.3.now, key.4.now)) SYSTEM_KEYS) line
+
+unfoldable pub link_key : List ℕ → Option (List ℕ)
+link_key line = text_among (map (λ key. (key.3.now, key.4.now)) LINK_KEYS) line
+
+unfoldable pub port_key : List ℕ → Option (List ℕ)
+port_key line = text_among (map (λ key. (key.3.now, key.4.now)) PORT_KEYS) line
+
+unfoldable pub unknown_key : List ℕ → Option (List ℕ)
+unknown_key line = text_among (map (λ entry. (entry.0.now, entry.1.now)) UNKNOWN_KEYS) line
+
+unfoldable pub key : List ℕ → Option (List ℕ)
+key line =
+    or_else (top_key line) (or_else (system_key line) (or_else (link_key line)
+    (or_else (port_key line) (unknown_key line))))
+
+unfoldable pub admission : List ℕ → Option (List ℕ)
+admission line = formed_among (map (λ row. formed_row row.0.now row.1.now row.2.now) ADMISSION) line
+
+-- ---- lines of the output, and words in them: why a switch or a receiver dropped a frame, why a
+-- message was refused, and the other lines
+
+unfoldable pub dropped : List ℕ → Option (List ℕ)
+dropped line =
+    row_among (codes "?\nV n A|B drop ?") (map (λ row. (row.1.now, row.2.now)) REASONS) line
+
+unfoldable pub no_frame : List ℕ → Option (List ℕ)
+no_frame line =
+    row_among (codes "?\nX n * n ?") (map (λ row. (row.1.now, row.2.now)) MAC_FAULTS) line
+
+unfoldable pub not_received : List ℕ → Option (List ℕ)
+not_received line =
+    row_among (codes "?\nX n * n ?") (map (λ row. (row.1.now, row.2.now)) DROP_REASONS) line
+
+unfoldable pub no_datagram : List ℕ → Option (List ℕ)
+no_datagram line =
+    row_among (codes "?\nX n * n ?") (map (λ row. (row.1.now, row.2.now)) IP_FAULTS) line
+
+-- out of memory ends a run, and is in no line
+unfoldable pub refused : List ℕ → Option (List ℕ)
+refused line =
+    row_among (codes "?\n# n ?") (map (λ row. (row.1.now, row.2.now)) (take 5 SEND_FAULTS)) line
+
+unfoldable pub told : List ℕ → Option (List ℕ)
+told line = text_among (map (λ entry. (entry.0.now, entry.1.now)) LINES) line
+
+-- ---- all of them
+
+unfoldable pub any_fault : List ℕ → Option (List ℕ)
+any_fault line =
+    or_else (fault line) (or_else (run_fault line) (or_else (config_fault line)
+    (or_else (key line) (admission line))))
+
+unfoldable pub any_line : List ℕ → Option (List ℕ)
+any_line line =
+    or_else (dropped line) (or_else (no_frame line) (or_else (not_received line)
+    (or_else (no_datagram line) (or_else (refused line) (told line)))))
+
+-- what the line itself means
+unfoldable pub meaning_of : List ℕ → Option (List ℕ)
+meaning_of line = or_else (any_fault line) (any_line line)
+
+-- ---- what is said of all lines of its kind
+
+unfoldable pub config_kind : List ℕ → Option (List ℕ)
+config_kind line =
+    formed_among
+    (map (λ row. formed_row row.0.now row.1.now row.2.now) (drop 2 (take 8 CONFIG_FAULTS))) line
+
+unfoldable pub other_kind : List ℕ → Option (List ℕ)
+other_kind line = text_among (map (λ entry. (entry.0.now, entry.1.now)) KINDS) line
+
 unfoldable pub kind_of : List ℕ → Option (List ℕ)
-kind_of line = text_among kinds line
+kind_of line = or_else (config_kind line) (other_kind line)

@@ -2,45 +2,210 @@
 
 ghost use Rattle.std.specs.Prelude.{◌≡◌};
 ghost use Rattle.std.specs.Option.{option_copied};
-ghost use Rattle.afdx_explain.specs.Explained.{faults, keys, kind_of, kinds, lines, meaning_of};
-ghost use Rattle.afdx_explain.specs.Forms.{text_among};
+ghost use Rattle.afdx_explain.specs.Explained as spec;
 
-use crate::entry::text_among;
+use crate::entry::{formed_among, key_among, row_among, text_among};
 use crate::faults::FAULTS;
-use crate::keys::KEYS;
 use crate::kinds::KINDS;
 use crate::lines::LINES;
+use afdx_admit::ADMISSION;
+use afdx_config::{CONFIG_FAULTS, LINK_KEYS, PORT_KEYS, SYSTEM_KEYS, TOP_KEYS, UNKNOWN_KEYS};
+use afdx_frame::{IP_FAULTS, MAC_FAULTS};
+use afdx_lists::RUN_FAULTS;
+use afdx_police::REASONS;
+use afdx_receive::DROP_REASONS;
+use afdx_send::SEND_FAULTS;
 
-/// What a line means that belongs to no key.
-#[tactic(auto, unfolding(crate::specs::Explained::faults))]
-fn among_faults(line: &[u8]) -> Option<&'static str>
-    ensures { option_copied result ≡ text_among faults line.now }
+/// The forms of a line that tells why a switch dropped a frame.
+const SWITCH_FORMS: &[u8] = b"?\nV n A|B drop ?";
+
+/// The forms of a line that tells why a receiver dropped a frame.
+const RECEIVER_FORMS: &[u8] = b"?\nX n * n ?";
+
+/// The forms of a line that tells why a message was refused.
+const REFUSAL_FORMS: &[u8] = b"?\n# n ?";
+
+/// What a fault of the words means, or of a file that can't be opened.
+#[tactic(auto, unfolding(crate::specs::Explained::fault))]
+fn fault(line: &[u8]) -> Option<&'static str>
+    ensures { option_copied result ≡ spec.fault line.now }
 {
     text_among(&FAULTS, line)
 }
 
-/// What the fault of a key means.
-#[tactic(auto, unfolding(crate::specs::Explained::keys))]
-fn among_keys(line: &[u8]) -> Option<&'static str>
-    ensures { option_copied result ≡ text_among keys line.now }
+/// What the fault of a run means.
+#[tactic(auto, unfolding(crate::specs::Explained::run_fault))]
+fn run_fault(line: &[u8]) -> Option<&'static str>
+    ensures { option_copied result ≡ spec.run_fault line.now }
 {
-    text_among(&KEYS, line)
+    text_among(&RUN_FAULTS, line)
 }
 
-/// What a line of the output means.
-#[tactic(auto, unfolding(crate::specs::Explained::lines))]
-fn among_lines(line: &[u8]) -> Option<&'static str>
-    ensures { option_copied result ≡ text_among lines line.now }
+/// What the fault of a whole configuration means.
+#[tactic(auto, unfolding(crate::specs::Explained::config_fault))]
+fn config_fault(line: &[u8]) -> Option<&'static str>
+    ensures { option_copied result ≡ spec.config_fault line.now }
+{
+    formed_among(&CONFIG_FAULTS[..2], line)
+}
+
+/// What the fault of a key of the top means.
+#[tactic(auto, unfolding(crate::specs::Explained::top_key))]
+fn top_key(line: &[u8]) -> Option<&'static str>
+    ensures { option_copied result ≡ spec.top_key line.now }
+{
+    key_among(&TOP_KEYS, line)
+}
+
+/// What the fault of a system's key means.
+#[tactic(auto, unfolding(crate::specs::Explained::system_key))]
+fn system_key(line: &[u8]) -> Option<&'static str>
+    ensures { option_copied result ≡ spec.system_key line.now }
+{
+    key_among(&SYSTEM_KEYS, line)
+}
+
+/// What the fault of a link's key means.
+#[tactic(auto, unfolding(crate::specs::Explained::link_key))]
+fn link_key(line: &[u8]) -> Option<&'static str>
+    ensures { option_copied result ≡ spec.link_key line.now }
+{
+    key_among(&LINK_KEYS, line)
+}
+
+/// What the fault of a port entry's key means.
+#[tactic(auto, unfolding(crate::specs::Explained::port_key))]
+fn port_key(line: &[u8]) -> Option<&'static str>
+    ensures { option_copied result ≡ spec.port_key line.now }
+{
+    key_among(&PORT_KEYS, line)
+}
+
+/// What is said of keys that aren't known.
+#[tactic(auto, unfolding(crate::specs::Explained::unknown_key))]
+fn unknown_key(line: &[u8]) -> Option<&'static str>
+    ensures { option_copied result ≡ spec.unknown_key line.now }
+{
+    text_among(&UNKNOWN_KEYS, line)
+}
+
+/// What the fault of a key means.
+#[tactic(auto, unfolding(crate::specs::Explained::key))]
+fn key(line: &[u8]) -> Option<&'static str>
+    ensures { option_copied result ≡ spec.key line.now }
+{
+    if let Some(text) = top_key(line) {
+        return Some(text);
+    }
+    if let Some(text) = system_key(line) {
+        return Some(text);
+    }
+    if let Some(text) = link_key(line) {
+        return Some(text);
+    }
+    if let Some(text) = port_key(line) {
+        return Some(text);
+    }
+    unknown_key(line)
+}
+
+/// What it means that a line of admission is false.
+#[tactic(auto, unfolding(crate::specs::Explained::admission))]
+fn admission(line: &[u8]) -> Option<&'static str>
+    ensures { option_copied result ≡ spec.admission line.now }
+{
+    formed_among(&ADMISSION, line)
+}
+
+/// Why a switch dropped a frame.
+#[tactic(auto, unfolding(crate::specs::Explained::dropped))]
+fn dropped(line: &[u8]) -> Option<&'static str>
+    ensures { option_copied result ≡ spec.dropped line.now }
+{
+    row_among(&REASONS, SWITCH_FORMS, line)
+}
+
+/// Why a receiver dropped bytes that are no frame.
+#[tactic(auto, unfolding(crate::specs::Explained::no_frame))]
+fn no_frame(line: &[u8]) -> Option<&'static str>
+    ensures { option_copied result ≡ spec.no_frame line.now }
+{
+    row_among(&MAC_FAULTS, RECEIVER_FORMS, line)
+}
+
+/// Why a receiver dropped a frame.
+#[tactic(auto, unfolding(crate::specs::Explained::not_received))]
+fn not_received(line: &[u8]) -> Option<&'static str>
+    ensures { option_copied result ≡ spec.not_received line.now }
+{
+    row_among(&DROP_REASONS, RECEIVER_FORMS, line)
+}
+
+/// Why a receiver dropped a frame that won.
+#[tactic(auto, unfolding(crate::specs::Explained::no_datagram))]
+fn no_datagram(line: &[u8]) -> Option<&'static str>
+    ensures { option_copied result ≡ spec.no_datagram line.now }
+{
+    row_among(&IP_FAULTS, RECEIVER_FORMS, line)
+}
+
+/// Why a message was refused.
+#[tactic(auto, unfolding(crate::specs::Explained::refused))]
+fn refused(line: &[u8]) -> Option<&'static str>
+    ensures { option_copied result ≡ spec.refused line.now }
+{
+    row_among(&SEND_FAULTS[..5], REFUSAL_FORMS, line)
+}
+
+/// What another line of the output means.
+#[tactic(auto, unfolding(crate::specs::Explained::told))]
+fn told(line: &[u8]) -> Option<&'static str>
+    ensures { option_copied result ≡ spec.told line.now }
 {
     text_among(&LINES, line)
 }
 
-/// What is said of all lines of a kind.
-#[tactic(auto, unfolding(crate::specs::Explained::kinds))]
-fn among_kinds(line: &[u8]) -> Option<&'static str>
-    ensures { option_copied result ≡ text_among kinds line.now }
+/// What a fault means.
+#[tactic(auto, unfolding(crate::specs::Explained::any_fault))]
+fn any_fault(line: &[u8]) -> Option<&'static str>
+    ensures { option_copied result ≡ spec.any_fault line.now }
 {
-    text_among(&KINDS, line)
+    if let Some(text) = fault(line) {
+        return Some(text);
+    }
+    if let Some(text) = run_fault(line) {
+        return Some(text);
+    }
+    if let Some(text) = config_fault(line) {
+        return Some(text);
+    }
+    if let Some(text) = key(line) {
+        return Some(text);
+    }
+    admission(line)
+}
+
+/// What a line of the output means, or a word of one.
+#[tactic(auto, unfolding(crate::specs::Explained::any_line))]
+fn any_line(line: &[u8]) -> Option<&'static str>
+    ensures { option_copied result ≡ spec.any_line line.now }
+{
+    if let Some(text) = dropped(line) {
+        return Some(text);
+    }
+    if let Some(text) = no_frame(line) {
+        return Some(text);
+    }
+    if let Some(text) = not_received(line) {
+        return Some(text);
+    }
+    if let Some(text) = no_datagram(line) {
+        return Some(text);
+    }
+    if let Some(text) = refused(line) {
+        return Some(text);
+    }
+    told(line)
 }
 
 /// What a line of the program means, or None where it is none that the program writes.
@@ -49,22 +214,39 @@ fn among_kinds(line: &[u8]) -> Option<&'static str>
 /// was dropped, a line of admission, why a message was refused; or its letter, as `D`.
 #[tactic(auto, unfolding(crate::specs::Explained::meaning_of))]
 pub fn meaning_of(line: &str) -> Option<&'static str>
-    ensures { option_copied result ≡ meaning_of line.now }
+    ensures { option_copied result ≡ spec.meaning_of line.now }
 {
     let line = line.as_bytes();
-    if let Some(text) = among_faults(line) {
+    if let Some(text) = any_fault(line) {
         return Some(text);
     }
-    if let Some(text) = among_keys(line) {
-        return Some(text);
-    }
-    among_lines(line)
+    any_line(line)
+}
+
+/// What is said of all faults of the configuration of this one's kind.
+#[tactic(auto, unfolding(crate::specs::Explained::config_kind))]
+fn config_kind(line: &[u8]) -> Option<&'static str>
+    ensures { option_copied result ≡ spec.config_kind line.now }
+{
+    formed_among(&CONFIG_FAULTS[2..8], line)
+}
+
+/// What is said of all other lines of a kind.
+#[tactic(auto, unfolding(crate::specs::Explained::other_kind))]
+fn other_kind(line: &[u8]) -> Option<&'static str>
+    ensures { option_copied result ≡ spec.other_kind line.now }
+{
+    text_among(&KINDS, line)
 }
 
 /// What is said of all lines of this one's kind, where there are several.
 #[tactic(auto, unfolding(crate::specs::Explained::kind_of))]
 pub fn kind_of(line: &str) -> Option<&'static str>
-    ensures { option_copied result ≡ kind_of line.now }
+    ensures { option_copied result ≡ spec.kind_of line.now }
 {
-    among_kinds(line.as_bytes())
+    let line = line.as_bytes();
+    if let Some(text) = config_kind(line) {
+        return Some(text);
+    }
+    other_kind(line)
 }

@@ -35,32 +35,34 @@ fn is_one_of(word: &[u8], words: &[u8]) -> bool
     }
 }
 
-/// Whether a form's word stands for this one.
+/// Whether a form's word stands for this one, where the row of the form is about its own.
 #[tactic(auto, unfolding(crate::specs::Forms::stands_for))]
-fn stands_for(wanted: &[u8], word: &[u8]) -> bool
-    ensures { result ≡ stands_for wanted.now word.now }
+fn stands_for(own: &[u8], wanted: &[u8], word: &[u8]) -> bool
+    ensures { result ≡ stands_for own.now wanted.now word.now }
 {
     if wanted == b"n".as_slice() {
         !word.is_empty() && are_digits(word)
     } else if wanted == b"*".as_slice() {
         !word.is_empty()
+    } else if wanted == b"?".as_slice() {
+        word == own
     } else {
         is_one_of(word, wanted)
     }
 }
 
-/// Whether the words of the form stand for those of the line.
+/// Whether the words of the form, in a row that is about its own word, stand for those of the line.
 #[tactic(auto, using(crate::proofs::FormLemmas::too_few, crate::proofs::FormLemmas::too_many))]
-pub fn has_form(line: &[u8], form: &[u8]) -> bool
-    ensures { result ≡ has_form line.now form.now }
+pub fn has_form(own: &[u8], line: &[u8], form: &[u8]) -> bool
+    ensures { result ≡ has_form own.now line.now form.now }
 {
     let (wanted, wanted_rest) = first_field(form, b' ');
     let (word, rest) = first_field(line, b' ');
-    if !stands_for(wanted, word) {
+    if !stands_for(own, wanted, word) {
         return false;
     }
     match (rest, wanted_rest) {
-        (Some(rest), Some(wanted_rest)) => has_form(rest, wanted_rest),
+        (Some(rest), Some(wanted_rest)) => has_form(own, rest, wanted_rest),
         (None, None) => true,
         (None, Some(_)) => false,
         (Some(_), None) => false,

@@ -5,8 +5,10 @@ mod entry;
 mod explaining;
 mod faults;
 mod forms;
-mod keys;
 mod kinds;
 mod lines;
 
+pub use entry::Entry;
 pub use explaining::{kind_of, meaning_of};
+pub use faults::FAULTS;
+pub use lines::LINES;

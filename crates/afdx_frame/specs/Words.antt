@@ -1,23 +1,23 @@
--- Each fault in a word.
-use Rattle.std.specs.Prelude.{ℕ, List, codes}
+-- Each fault in a word: that of its row, which stands at its place.
+use Rattle.std.specs.Prelude.{ℕ, List, [], map, slice_index_or}
+use Rattle.afdx_frame.specs.contracts.fault.MacFault as mac
+use Rattle.afdx_frame.specs.contracts.fault.IpFault as ip
 use Rattle.afdx_frame.specs.declared.fault.MacFault.{MacFault}
-use Rattle.afdx_frame.specs.declared.fault.MacFault.TheVariants.{TooShort, TooLong, BadFcs}
-use Rattle.afdx_frame.specs.declared.fault.MacFault.TheVariants.{BadAddress}
 use Rattle.afdx_frame.specs.declared.fault.IpFault.{IpFault}
-use Rattle.afdx_frame.specs.declared.fault.IpFault.TheVariants.{NotIpv4, BadIpHeader, Fragment}
-use Rattle.afdx_frame.specs.declared.fault.IpFault.TheVariants.{NotUdp, BadUdpLength}
+use Rattle.afdx_frame.specs.declared.fault.TheConstants.{MAC_FAULTS, IP_FAULTS}
+use denote.Enum.Declared.{tag_of}
+
+-- the words of the tables, in their order
+unfoldable pub mac_words : List (List ℕ)
+mac_words = map (λ row. row.1.now) MAC_FAULTS
+
+unfoldable pub ip_words : List (List ℕ)
+ip_words = map (λ row. row.1.now) IP_FAULTS
 
 -- of bytes that are no frame of a link
 abbrev pub mac_word : MacFault → List ℕ
-mac_word TooShort = codes "too-short"
-mac_word TooLong = codes "too-long"
-mac_word BadFcs = codes "bad-fcs"
-mac_word BadAddress = codes "bad-address"
+mac_word fault = slice_index_or mac_words (tag_of mac.the_type fault) []
 
 -- of a frame that carries no datagram
 abbrev pub ip_word : IpFault → List ℕ
-ip_word NotIpv4 = codes "not-ipv4"
-ip_word BadIpHeader = codes "bad-ip-header"
-ip_word Fragment = codes "fragment"
-ip_word NotUdp = codes "not-udp"
-ip_word BadUdpLength = codes "bad-udp-length"
+ip_word fault = slice_index_or ip_words (tag_of ip.the_type fault) []

@@ -78,6 +78,72 @@ pub enum RunFault {
     Memory,
 }
 
+/// Each fault of a run, in the order of `RunFault`: the form of its line (`n` is the number of a
+/// line of the list), and what it means, with what may be done.
+pub const RUN_FAULTS: [(&str, &str); 10] = [
+    (
+        "list BadLine n",
+        "\
+Not five fields, an empty field, an unknown K or side, a time or port that isn't all digits.
+A line of a frame list is 'K time side port HEX' with K one of F, B and R, and the side A or
+B; a line of a submission list is 'time vl sub udp HEX', with vl and udp at most 65535 and
+sub at most 255. Exactly one space stands between two fields.",
+    ),
+    (
+        "list BadHex n",
+        "\
+An odd number of digits, or another character, in the last field. Two hexadecimal digits
+stand for a byte, without spaces between them; - is for no bytes.",
+    ),
+    (
+        "list TimeBack n",
+        "\
+The time is before that of the last line that was read and not skipped.
+Sort the list by time: sort -s -n -k 2,2 for a frame list, -k 1,1 for submissions.",
+    ),
+    (
+        "list TimeTooLarge n",
+        "\
+The time is over 10^15. It is in ns, so 10^15 are about eleven days and a half.
+Count the times of the list from its first line.",
+    ),
+    (
+        "list BadPort n",
+        "\
+The port isn't 1 to 24. It is the fourth field, the input port of the switch.",
+    ),
+    (
+        "list LineTooLong n",
+        "\
+It has more than 4,200 bytes; a carriage return counts.
+A frame has at most 1518 bytes, which are 3036 digits.",
+    ),
+    (
+        "list TooManyLines",
+        "\
+It is line 1,000,001: a list has at most 1,000,000 lines.
+Cut the list in pieces, and replay them one after the other.",
+    ),
+    (
+        "device Read",
+        "\
+Reading the list failed; also where it is a folder. A read that failed is not tried again.",
+    ),
+    (
+        "device Write",
+        "\
+Writing to standard output failed: the disk is full, or the command that reads the output
+ended before this one. A closed pipe is a failed write, as with '| head'.",
+    ),
+    (
+        "memory",
+        "\
+There was no memory. The status is 4.
+A large buffer in the configuration asks for most of it: for each port of both switches that
+has a system, two queues of buffer / 64 places of 16 bytes. Replay one list at a time.",
+    ),
+];
+
 impl RunFault {
     ghost use Rattle.afdx_lists.specs.Faults.{status_of};
 

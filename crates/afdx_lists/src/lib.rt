@@ -9,7 +9,7 @@ mod line_reader;
 mod submission_line;
 mod watched;
 
-pub use fault::{LineError, LineFault, RunFault};
+pub use fault::{LineError, LineFault, RUN_FAULTS, RunFault};
 pub use frame_line::{Heading, read_frame_line};
 pub use line_reader::LineReader;
 pub use submission_line::{Handed, read_submission_line};

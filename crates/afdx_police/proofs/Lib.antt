@@ -1,8 +1,10 @@
 pub mod AccountLemmas
 pub mod DelayLemmas
+pub mod FirstOfLemmas
 pub mod FrameLemmas
 pub mod PolicerLemmas
 pub mod ShapeLemmas
 pub mod StreamLemmas
 pub mod VerdictLemmas
 pub mod WindowLemmas
+pub mod WordLemmas

@@ -4,6 +4,7 @@ use Rattle.std.specs.Prelude.{false, Option, Some, None, Err, List, [], ◌∷�
 use Rattle.afdx_frame.specs.Parts.{frame_of}
 use Rattle.afdx_frame.specs.Regulation.{Regulation, byte_units, fill_rate, cap, wire_of}
 use Rattle.afdx_frame.specs.declared.fault.MacFault.{MacFault}
+use Rattle.afdx_frame.specs.Words.{mac_word}
 use Rattle.afdx_frame.specs.declared.link.Side.{Side}
 use Rattle.afdx_police.specs.declared.account.LinkAccount.{LinkAccount}
 use Rattle.afdx_police.specs.declared.shape.Reason.{Reason}
@@ -17,6 +18,7 @@ use Rattle.afdx_police.specs.Rule.{Rule, is_bag, regulation_of}
 use Rattle.afdx_police.specs.Shape.{IsSound, fault_of, reason_for}
 use Rattle.afdx_police.specs.Verdicts.{accepted_own, charged_by, reason_after}
 use Rattle.afdx_police.specs.Window.{Charged, Fits, fits}
+use Rattle.afdx_police.specs.Words.{reason_word}
 
 -- the test of all windows says that each one keeps the rule
 abbrev pub FitsIsEachWindow : Type 0
@@ -79,6 +81,10 @@ abbrev pub NoFrameIsRefused : Type 0
 NoFrameIsRefused =
     (rule : Option Rule) (port : ℕ) (bytes : List ℕ) (fault : MacFault) →
     frame_of bytes ≡ Err fault → fault_of rule port bytes ≡ Some (reason_for fault)
+
+-- they are dropped in the word of their fault
+abbrev pub FaultsKeepTheirWords : Type 0
+FaultsKeepTheirWords = (fault : MacFault) → reason_word (reason_for fault) ≡ mac_word fault
 
 -- an arrival with a fault is dropped for it, whatever came before, and leaves the account as it was
 pub record FaultChangesNothing (rule : Rule) (held : LinkAccount) (past : List Arrival)

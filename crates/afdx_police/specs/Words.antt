@@ -1,17 +1,19 @@
--- Each reason to drop an arrival, in a word.
-use Rattle.std.specs.Prelude.{ℕ, List, codes}
+-- Each reason to drop an arrival, in a word, and what it means: the table of the code.
+use Rattle.std.specs.Prelude.{ℕ, List, [], map, slice_index_or}
+use Rattle.afdx_police.specs.contracts.shape.Reason.{the_type}
 use Rattle.afdx_police.specs.declared.shape.Reason.{Reason}
-use Rattle.afdx_police.specs.declared.shape.Reason.TheVariants.{TooShort, TooLong, BadFcs}
-use Rattle.afdx_police.specs.declared.shape.Reason.TheVariants.{BadAddress, UnknownLink, WrongPort}
-use Rattle.afdx_police.specs.declared.shape.Reason.TheVariants.{OverLmax, UnderLmin, OverRate}
+use Rattle.afdx_police.specs.declared.shape.TheConstants.{REASONS}
+use denote.Enum.Declared.{tag_of}
 
+unfoldable pub words : List (List ℕ)
+words = map (λ row. row.1.now) REASONS
+
+unfoldable pub meanings : List (List ℕ)
+meanings = map (λ row. row.2.now) REASONS
+
+-- each at the place of its reason
 abbrev pub reason_word : Reason → List ℕ
-reason_word TooShort = codes "too-short"
-reason_word TooLong = codes "too-long"
-reason_word BadFcs = codes "bad-fcs"
-reason_word BadAddress = codes "bad-address"
-reason_word UnknownLink = codes "unknown-link"
-reason_word WrongPort = codes "wrong-port"
-reason_word OverLmax = codes "over-lmax"
-reason_word UnderLmin = codes "under-lmin"
-reason_word OverRate = codes "over-rate"
+reason_word reason = slice_index_or words (tag_of the_type reason) []
+
+abbrev pub reason_meaning : Reason → List ℕ
+reason_meaning reason = slice_index_or meanings (tag_of the_type reason) []

@@ -3,7 +3,7 @@
 ghost use Rattle.afdx_police.specs.Laws.{FitsIsEachWindow, FitsIsAccountTest, EachAccountMoves};
 ghost use Rattle.afdx_police.specs.Laws.{ArrivalsAreOffers, EachOwnSteps, StrangersAreRefused};
 ghost use Rattle.afdx_police.specs.Laws.{FaultsChangeNothing, SoundHasNoFault, SoundIsChargedFor};
-ghost use Rattle.afdx_police.specs.Laws.{VerdictsDecide, NoFrameIsRefused};
+ghost use Rattle.afdx_police.specs.Laws.{VerdictsDecide, NoFrameIsRefused, FaultsKeepTheirWords};
 ghost use Rattle.afdx_police.specs.Delayed.{DelayedAreAccepted, RoomIsNeeded};
 ghost use Rattle.afdx_police.specs.Stream.{RegularIsAccepted};
 
@@ -52,6 +52,11 @@ pub fn strangers_are_refused()
 /// Bytes that are no frame are refused for what `MacView::parse` answers of them.
 pub fn no_frame_is_refused()
     ensures { NoFrameIsRefused }
+{}
+
+/// And in the same word.
+pub fn faults_keep_their_words()
+    ensures { FaultsKeepTheirWords }
 {}
 
 /// An arrival with a fault is dropped for it and leaves the account as it was.

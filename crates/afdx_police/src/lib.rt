@@ -12,4 +12,4 @@ pub use account::LinkAccount;
 pub use charge::{ByteCharge, Charge, FrameCharge};
 pub use policer::Policer;
 pub use rule::LinkRule;
-pub use shape::{Reason, judge, judge_checked};
+pub use shape::{REASONS, Reason, judge, judge_checked};

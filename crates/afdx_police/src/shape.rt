@@ -1,14 +1,18 @@
 //! What is wrong with one arrival, by its shape.
 
-ghost use Rattle.std.specs.Prelude.{◌≡◌, ◌≤◌, IfNone, IfSome, length, option_map, true};
+ghost use Rattle.std.specs.Prelude.{◌≡◌, ◌≤◌, ◌==◌, IfNone, IfSome, length, option_map, true};
 ghost use Rattle.std.specs.Option.{option_copied};
 ghost use Rattle.afdx_frame.specs.Lengths.{least_frame};
 ghost use Rattle.afdx_frame.specs.Sealing.{is_sealed};
 ghost use Rattle.afdx_police.specs.RuleOf.{rule_of};
-ghost use Rattle.afdx_police.specs.Shape.{fault_of, fault_by};
+ghost use Rattle.afdx_police.specs.Shape.{first_of};
+ghost use Rattle.afdx_police.specs.Shape.{fault_of, rule_faults};
 
 use crate::rule::LinkRule;
-use afdx_frame::{Checked, MacFault, MacView, Policing, VlId};
+use afdx_frame::{
+    BAD_ADDRESS, BAD_ADDRESS_MEANING, BAD_FCS, BAD_FCS_MEANING, Checked, MacFault, MacView,
+    Policing, TOO_LONG, TOO_LONG_MEANING, TOO_SHORT, TOO_SHORT_MEANING, VlId,
+};
 use std::fmt;
 
 /// Why an arrival is dropped.
@@ -34,25 +38,78 @@ pub enum Reason {
     OverRate,
 }
 
+/// Each reason at its own place, the order of `Reason`: in a word, and what it means, with what may
+/// be done. Those of bytes that are no frame are in the words of their faults.
+pub const REASONS: [(Reason, &str, &str); 9] = [
+    (Reason::TooShort, TOO_SHORT, TOO_SHORT_MEANING),
+    (Reason::TooLong, TOO_LONG, TOO_LONG_MEANING),
+    (Reason::BadFcs, BAD_FCS, BAD_FCS_MEANING),
+    (Reason::BadAddress, BAD_ADDRESS, BAD_ADDRESS_MEANING),
+    (
+        Reason::UnknownLink,
+        "unknown-link",
+        "\
+unknown-link: the frame names a link that isn't there; with 'police', any but that of --vl.
+The link is the last two bytes of the destination address.
+If the frame is to pass, add a link with this vl to the configuration.",
+    ),
+    (
+        Reason::WrongPort,
+        "wrong-port",
+        "\
+wrong-port: the frame came at another input port than the link's, which is the key port of
+its sender; with 'police', any but that of --port.
+Another system sends under this link's name, or the list gives the wrong port.",
+    ),
+    (
+        Reason::OverLmax,
+        "over-lmax",
+        "\
+over-lmax: the frame is longer than Lmax: the key lmax of its link, lmin to 1518 bytes.",
+    ),
+    (
+        Reason::UnderLmin,
+        "under-lmin",
+        "\
+under-lmin: the frame is shorter than Lmin, with byte-based policing: the key lmin of its
+link, 64 to 1518 bytes; with 'police' the option --lmin.",
+    ),
+    (
+        Reason::OverRate,
+        "over-rate",
+        "\
+over-rate: the frame isn't covered by the link's account: it came sooner than bag_ms and
+jitter_us allow after the frames that were accepted on its side.
+The sender sends too often, or with more jitter than jitter_us, 0 to 1000 times bag_ms.",
+    ),
+];
+
 impl Reason {
     ghost use Rattle.std.specs.Prelude.{◌≡◌};
-    ghost use Rattle.afdx_police.specs.Words.{reason_word};
+    ghost use Rattle.afdx_police.specs.Words.{reason_word, reason_meaning};
+
+    /// Its row, which stands at its place.
+    #[tactic(auto, unfolding(crate::specs::Words::words, crate::specs::Words::meanings))]
+    fn row(self) -> &'static (Reason, &'static str, &'static str)
+        ensures own { result.now.0 ≡ self }
+        ensures word { result.now.1.now ≡ reason_word self }
+        ensures meaning { result.now.2.now ≡ reason_meaning self }
+    {
+        &REASONS[self as usize]
+    }
 
     /// It in a word.
     pub fn word(self) -> &'static str
         ensures { result.now ≡ reason_word self }
     {
-        match self {
-            Reason::TooShort => "too-short",
-            Reason::TooLong => "too-long",
-            Reason::BadFcs => "bad-fcs",
-            Reason::BadAddress => "bad-address",
-            Reason::UnknownLink => "unknown-link",
-            Reason::WrongPort => "wrong-port",
-            Reason::OverLmax => "over-lmax",
-            Reason::UnderLmin => "under-lmin",
-            Reason::OverRate => "over-rate",
-        }
+        self.row().1
+    }
+
+    /// What it means, with what may be done.
+    pub fn meaning(self) -> &'static str
+        ensures { result.now ≡ reason_meaning self }
+    {
+        self.row().2
     }
 }
 
@@ -126,7 +183,8 @@ pub fn judge_checked(rule: Option<&LinkRule>, port: u8, frame: Checked<'_>) -> O
 
 /// The first fault of a frame that names this link, by this rule, but for the link's rate.
 pub(crate) fn fault_by(rule: &LinkRule, port: u8, vl: VlId, bytes: &[u8]) -> Option<Reason>
-    ensures reason { result ≡ fault_by (rule_of rule.now) port vl.0 bytes.now }
+    ensures reason { result ≡
+        first_of (rule_faults (rule_of rule.now) port (vl.0 == rule.now.vl.0) bytes.now) }
     ensures longest { IfNone result (length bytes.now ≤ rule.now.lmax) }
 {
     let length = bytes.len() as u64;

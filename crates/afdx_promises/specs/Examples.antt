@@ -2,13 +2,11 @@
 -- two frames on both sides, of which one comes a second time at a wrong port.
 use Rattle.std.specs.Prelude.{◌≡◌, ℕ, true, List, [], ◌∷◌, codes, reverse}
 use Rattle.afdx_frame.specs.Grammar.{built_frame}
-use Rattle.afdx_frame.specs.declared.link.Policing.TheVariants.{Byte}
-use Rattle.afdx_frame.specs.declared.link.Priority.TheVariants.{High}
 use Rattle.afdx_frame.specs.declared.link.Side.{Side}
 use Rattle.afdx_frame.specs.declared.link.Side.TheVariants.{A, B}
 use Rattle.afdx_config.specs.Lawful.{IsLawful}
 use Rattle.afdx_config.specs.LawfulStream.{Sending}
-use Rattle.afdx_config.specs.Rows.{SystemRow, LinkRow, Rows, is_to}
+use Rattle.afdx_config.specs.Rows.{SystemRow, LinkRow, Rows, example_link, is_to}
 use Rattle.afdx_config.specs.SentList.{Message, address_of}
 use Rattle.afdx_config.specs.declared.rows.Kind.TheVariants.{Sampling}
 use Rattle.afdx_police.specs.Arrival.{Arrival, arrival_with}
@@ -32,20 +30,7 @@ receiver = record { name = codes "s2"; port = 2; id = 2; partition = 1; rate = 1
 
 -- a high link of 64-byte frames, one a millisecond, of a latency in us
 abbrev pub link_with : ℕ → LinkRow
-link_with latency = record {
-  vl = 1;
-  from = 0;
-  to = 1 ∷ [];
-  bag_ms = 1;
-  lmin = 64;
-  lmax = 64;
-  jitter_us = 500;
-  priority = High;
-  policing = Byte;
-  latency_us = latency;
-  skew_us = 1000;
-  subs = 1;
-}
+link_with latency = record example_link { latency_us = latency }
 
 -- the receiver listens to its UDP port 5
 abbrev pub tables_with : ℕ → Rows

@@ -10,4 +10,4 @@ mod reception;
 mod sequence;
 
 pub use receiver::Receiver;
-pub use reception::{DropReason, Reception};
+pub use reception::{DROP_REASONS, DropReason, Reception};

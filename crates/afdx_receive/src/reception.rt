@@ -22,21 +22,63 @@ pub enum DropReason {
     NoPort,
 }
 
+/// Each reason of a receiver's own, in their order: in a word, and what it means, with what may be
+/// done. The others are in the words of the frame's faults.
+pub const DROP_REASONS: [(DropReason, &str, &str); 4] = [
+    (
+        DropReason::NotSubscribed,
+        "not-subscribed",
+        "not-subscribed: the system isn't among the receivers of the frame's link (the key to).",
+    ),
+    (
+        DropReason::Sequence,
+        "sequence",
+        "\
+sequence: the frame isn't valid: its number doesn't follow that of the frame before it on its
+side. It came twice, or after two or more others that were lost.",
+    ),
+    (
+        DropReason::Redundant,
+        "redundant",
+        "\
+redundant: the frame is valid, but a copy of it came first. So it is with one of two copies
+of each frame where both networks work.",
+    ),
+    (
+        DropReason::NoPort,
+        "no-port",
+        "\
+no-port: the frame is for a UDP port that the system has no communication port for.
+If it is to read the message, add a port to the configuration with this system, link and udp.",
+    ),
+];
+
 impl DropReason {
-    ghost use Rattle.std.specs.Prelude.{◌≡◌};
-    ghost use Rattle.afdx_receive.specs.Words.{drop_word};
+    ghost use Rattle.std.specs.Prelude.{◌≡◌, ◌<◌, Some, slice_get};
+    ghost use Rattle.afdx_receive.specs.Words.{drop_word, own_reasons, own_word};
+
+    /// Its row, which stands at this place.
+    #[tactic(auto, unfolding(crate::specs::Words::own_reasons, crate::specs::Words::own_words))]
+    fn row(self, place: usize) -> &'static (DropReason, &'static str, &'static str)
+        requires within { place < 4 }
+        requires own { slice_get own_reasons place ≡ Some self }
+        ensures word { result.now.1.now ≡ own_word place }
+    {
+        &DROP_REASONS[place]
+    }
 
     /// It in a word.
+    #[tactic(auto, unfolding(crate::specs::Words::own_reasons))]
     pub fn word(self) -> &'static str
         ensures { result.now ≡ drop_word self }
     {
         match self {
             DropReason::Mac(fault) => fault.word(),
-            DropReason::NotSubscribed => "not-subscribed",
-            DropReason::Sequence => "sequence",
-            DropReason::Redundant => "redundant",
+            DropReason::NotSubscribed => self.row(0).1,
+            DropReason::Sequence => self.row(1).1,
+            DropReason::Redundant => self.row(2).1,
             DropReason::Ip(fault) => fault.word(),
-            DropReason::NoPort => "no-port",
+            DropReason::NoPort => self.row(3).1,
         }
     }
 }

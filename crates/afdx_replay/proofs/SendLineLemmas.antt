@@ -21,7 +21,7 @@ use Rattle.afdx_lists.proofs.LineLemmas.{lines_of_feed, lines_of_nothing}
 use Rattle.afdx_port.proofs.TurnLemmas.{eqb-same, eqb-other}
 use Rattle.afdx_port.specs.Schedule.{Turn}
 use Rattle.afdx_send.specs.Frames as send
-use Rattle.afdx_send.specs.Words.{refusal_word}
+use Rattle.afdx_send.specs.Words.{refusal_word, refusal_words}
 use Rattle.afdx_send.specs.declared.fault.SendFault.{SendFault}
 use Rattle.afdx_send.specs.declared.fault.SendFault.TheVariants.{NotMyLink, NoSuchSub, Empty}
 use Rattle.afdx_send.specs.declared.fault.SendFault.TheVariants.{TooLarge, QueueFull, Memory}
@@ -66,6 +66,7 @@ refused-feed n fault = ap (λ (z : List ℕ). 35 ∷ 32 ∷ z)
     (append_assoc (decimal n) (32 ∷ refusal_word fault) (10 ∷ [])) ∙ grind (arith, common_steps)
 
 word-least : (fault : SendFault) → AtLeast 48 (refusal_word fault)
+unfolding refusal_words
 word-least NotMyLink = (omega arith, (omega arith, tt))
 word-least NoSuchSub = (omega arith, (omega arith, tt))
 word-least Empty = (omega arith, (omega arith, tt))

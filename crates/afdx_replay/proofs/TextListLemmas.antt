@@ -21,7 +21,7 @@ use Rattle.afdx_lists.specs.declared.fault.RunFault.{RunFault}
 use Rattle.afdx_lists.specs.declared.fault.RunFault.TheVariants as run
 use Rattle.afdx_lists.proofs.FrameLemmas.{line_says_nothing}
 use Rattle.afdx_send.specs.Frames as send
-use Rattle.afdx_send.specs.Words.{refusal_word}
+use Rattle.afdx_send.specs.Words.{refusal_word, refusal_words}
 use Rattle.afdx_send.specs.declared.fault.SendFault.{SendFault}
 use Rattle.afdx_send.specs.declared.fault.SendFault.TheVariants.{NotMyLink, NoSuchSub, Empty}
 use Rattle.afdx_send.specs.declared.fault.SendFault.TheVariants.{TooLarge, QueueFull, Memory}
@@ -125,6 +125,7 @@ module _ (xs : List (List ℕ)) (line : List ℕ) (latest : ℕ) (found : Option
 -- ---- the lines of events
 
 word-short : (fault : SendFault) → length (refusal_word fault) ≡ 2
+unfolding refusal_words
 word-short NotMyLink = refl
 word-short NoSuchSub = refl
 word-short Empty = refl

@@ -1,13 +1,13 @@
--- Why a message is refused, in a word.
-use Rattle.std.specs.Prelude.{ℕ, List, codes}
+-- Why a message is refused, in a word: that of its row, which stands at its place.
+use Rattle.std.specs.Prelude.{ℕ, List, [], map, slice_index_or}
+use Rattle.afdx_send.specs.contracts.fault.SendFault.{the_type}
 use Rattle.afdx_send.specs.declared.fault.SendFault.{SendFault}
-use Rattle.afdx_send.specs.declared.fault.SendFault.TheVariants.{NotMyLink, NoSuchSub, Empty}
-use Rattle.afdx_send.specs.declared.fault.SendFault.TheVariants.{TooLarge, QueueFull, Memory}
+use Rattle.afdx_send.specs.declared.fault.TheConstants.{SEND_FAULTS}
+use denote.Enum.Declared.{tag_of}
+
+-- the words of the table, in their order
+unfoldable pub refusal_words : List (List ℕ)
+refusal_words = map (λ row. row.1.now) SEND_FAULTS
 
 abbrev pub refusal_word : SendFault → List ℕ
-refusal_word NotMyLink = codes "S1"
-refusal_word NoSuchSub = codes "S2"
-refusal_word Empty = codes "S3"
-refusal_word TooLarge = codes "S4"
-refusal_word QueueFull = codes "S5"
-refusal_word Memory = codes "S6"
+refusal_word fault = slice_index_or refusal_words (tag_of the_type fault) []

@@ -19,22 +19,62 @@ pub enum SendFault {
     Memory,
 }
 
+/// Each fault at its own place, the order of `SendFault`: in a word, and what it means, with what
+/// may be done. The last one is in no line: a run ends by it.
+pub const SEND_FAULTS: [(SendFault, &str, &str); 6] = [
+    (
+        SendFault::NotMyLink,
+        "S1",
+        "\
+S1: the link isn't one of this system's. A system sends the links whose key from names it.",
+    ),
+    (
+        SendFault::NoSuchSub,
+        "S2",
+        "\
+S2: the sub-VL isn't one of the link's. They are numbered from 1 to the key subs of the link,
+1 to 4.",
+    ),
+    (SendFault::Empty, "S3", "S3: the message is empty."),
+    (
+        SendFault::TooLarge,
+        "S4",
+        "\
+S4: it is too large: its bytes and 47 are more than Lmax, the key lmax of the link, lmin to
+1518.",
+    ),
+    (
+        SendFault::QueueFull,
+        "S5",
+        "\
+S5: 64 messages of that sub-VL already wait for their release. A link releases one message
+in each bag_ms: give fewer, or make bag_ms smaller.",
+    ),
+    (
+        SendFault::Memory,
+        "S6",
+        "S6: there was no memory for the message.",
+    ),
+];
+
 impl SendFault {
     ghost use Rattle.std.specs.Prelude.{◌≡◌};
     ghost use Rattle.afdx_send.specs.Words.{refusal_word};
+
+    /// Its row, which stands at its place.
+    #[tactic(auto, unfolding(crate::specs::Words::refusal_words))]
+    fn row(self) -> &'static (SendFault, &'static str, &'static str)
+        ensures own { result.now.0 ≡ self }
+        ensures word { result.now.1.now ≡ refusal_word self }
+    {
+        &SEND_FAULTS[self as usize]
+    }
 
     /// It in a word.
     pub fn word(self) -> &'static str
         ensures { result.now ≡ refusal_word self }
     {
-        match self {
-            SendFault::NotMyLink => "S1",
-            SendFault::NoSuchSub => "S2",
-            SendFault::Empty => "S3",
-            SendFault::TooLarge => "S4",
-            SendFault::QueueFull => "S5",
-            SendFault::Memory => "S6",
-        }
+        self.row().1
     }
 }
 

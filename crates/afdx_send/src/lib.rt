@@ -12,5 +12,5 @@ mod released;
 mod sender;
 mod working;
 
-pub use fault::SendFault;
+pub use fault::{SEND_FAULTS, SendFault};
 pub use sender::{Emission, Sender};

@@ -1,22 +1,19 @@
 -- What one more arrival is, and what it adds to the entries of the output ports.
-use Rattle.std.proofs.Common.{◌≡◌, ℕ, ◌≤◌, ◌&&◌, Bool, true, false, not, List, [], ◌∷◌, length}
+use Rattle.std.proofs.Common.{◌≡◌, ℕ, ◌≤◌, ◌&&◌, Bool, true, false, List, [], ◌∷◌, length}
 use Rattle.std.proofs.Common.{refl, sym, ap, ◌∙◌, arith, inl, inr}
-use Rattle.std.specs.Prelude.{Result, Ok, Err, OnErr, Option, Some, None, IfSome, is_none, nat_lt}
+use Rattle.std.specs.Prelude.{Result, Ok, Err, OnErr, Option, Some, None, IfSome, is_none}
 use Rattle.std.specs.Prelude.{find, min, max, option_map, if◌then◌else◌}
 use Rattle.std.proofs.lemmas.Bool.{and_parts}
-use Rattle.afdx_frame.specs.Layout.{link_named_by}
-use Rattle.afdx_frame.specs.Sealing.{is_sealed}
 use Rattle.afdx_frame.specs.declared.link.Priority.{Priority}
 use Rattle.afdx_frame.specs.declared.link.Side.{Side}
 use Rattle.afdx_frame.specs.declared.link.Side.TheVariants.{A, B}
 use Rattle.afdx_config.specs.Rows.{Rows}
 use Rattle.afdx_police.specs.Arrival.{Arrival, is_side, names, own}
-use Rattle.afdx_police.specs.Shape.{fault_of}
+use Rattle.afdx_police.specs.Shape.{fault_of, frame_faults}
+use Rattle.afdx_police.proofs.FirstOfLemmas.{first_of-some}
 use Rattle.afdx_police.specs.Verdicts.{reason_after, verdict_in}
 use Rattle.afdx_police.specs.declared.shape.Reason.{Reason}
-use Rattle.afdx_police.specs.declared.shape.Reason.TheVariants.{WrongPort, OverLmax, UnderLmin}
-use Rattle.afdx_police.specs.declared.shape.Reason.TheVariants.{UnknownLink, TooShort, TooLong}
-use Rattle.afdx_police.specs.declared.shape.Reason.TheVariants.{BadFcs, BadAddress}
+use Rattle.afdx_police.specs.declared.shape.Reason.TheVariants.{UnknownLink}
 use Rattle.afdx_bounds.specs.Offered.{is_lost, with_offer, entries_of}
 use Rattle.afdx_bounds.specs.Outputs.{Row, Output, accepts, sends, entry_of, with_sent, offers_at}
 use Rattle.afdx_bounds.proofs.VerdictLemmas.{looks}
@@ -51,23 +48,10 @@ pub own-apart : (vl : ℕ) (side : Side) (x : Arrival) (past : List Arrival)
     → is_side side x.side ≡ false → own vl side (x ∷ past) ≡ own vl side past
 own-apart vl side x past other = rw other refl
 
-first_of_four : (a b c d : Bool) (rest : List (Bool × Reason)) (r : Reason) → (s : Reason)
-    × (option_map (λ (f : Bool × Reason). f.1)
-    (find (λ f. f.0) ((a, TooShort) ∷ (b, TooLong) ∷ (c, BadFcs) ∷ (d, BadAddress) ∷ (true, r)
-    ∷ rest)) ≡ Some s)
-first_of_four true b c d rest r = (TooShort, refl)
-first_of_four false true c d rest r = (TooLong, refl)
-first_of_four false false true d rest r = (BadFcs, refl)
-first_of_four false false false true rest r = (BadAddress, refl)
-first_of_four false false false false rest r = (r, refl)
-
 -- without a rule there is a fault
 pub unknown-fault : (port : ℕ) (bytes : List ℕ) → (r : Reason) × (fault_of None port bytes ≡ Some r)
 unfolding fault_of
-unknown-fault port bytes =
-    first_of_four (nat_lt (length bytes) 64) (nat_lt 1518 (length bytes)) (not (is_sealed bytes))
-    (is_none (link_named_by bytes))
-    ((true, WrongPort) ∷ (false, OverLmax) ∷ (false, UnderLmin) ∷ []) UnknownLink
+unknown-fault port bytes = first_of-some (frame_faults bytes) UnknownLink []
 
 limit-is : (w : Option ℕ) → IfSome w (λ n. n ≤ 100000000) → option_map (λ n. min 100000000 n) w ≡ w
 limit-is None small = refl

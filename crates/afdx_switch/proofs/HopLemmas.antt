@@ -1,5 +1,5 @@
 -- What one switch accepted of a link is accepted by the next.
-use Rattle.std.proofs.Common.{◌≡◌, ℕ, ◌==◌, ◌&&◌, true, List, [], ◌∷◌, ◌++◌}
+use Rattle.std.proofs.Common.{rules, ◌≡◌, ℕ, ◌==◌, ◌&&◌, true, List, [], ◌∷◌, ◌++◌}
 use Rattle.std.proofs.Common.{map, refl, sym, ap, ◌∙◌, subst, inl, inr}
 use Rattle.std.specs.Prelude.{Option, Some, None, is_none, if◌then◌else◌}
 use Rattle.std.proofs.lemmas.Bool.{eq-eqb, eqb-true}
@@ -106,15 +106,8 @@ module _ (delay : ℕ) (before next : Rule) (is_next : IsNextRule delay before n
 
   still-sound : (x y : Arrival) → y.bytes ≡ x.bytes → next.port ≡ y.port
       → IsSound before x.port x.bytes → IsSound next y.port y.bytes
-  still-sound x y same port sound = record {
-    shortest = rw same sound.shortest;
-    longest = rw same sound.longest;
-    sealed = rw same sound.sealed;
-    named = rw (same, is_next.vl) sound.named;
-    at_port = port;
-    within = rw (same, is_next.lmax) sound.within;
-    least = λ byte. rw (same, is_next.lmin) (sound.least (sym is_next.policing ∙ byte));
-  }
+  still-sound x y same port sound =
+      rw (same, is_next.vl, is_next.lmax, is_next.lmin, is_next.policing) (search (rules, sound, port))
 
   -- one that comes at the port, after those before it
   copy-reason : (g x : Arrival) (gone past : List Arrival) → IsCopy delay g x

@@ -3,11 +3,11 @@
 use Rattle.std.specs.Prelude.{◌≡◌, ℕ, List, [], ◌∷◌, codes, slice_set}
 use Rattle.afdx_frame.specs.declared.link.Side.{Side}
 use Rattle.afdx_frame.specs.declared.link.Side.TheVariants.{A, B}
-use Rattle.afdx_frame.specs.declared.link.Priority.TheVariants.{High, Low}
+use Rattle.afdx_frame.specs.declared.link.Priority.TheVariants.{Low}
 use Rattle.afdx_frame.specs.declared.link.Policing.TheVariants.{Frame}
 use Rattle.afdx_frame.specs.Sealing.{sealed}
 use Rattle.afdx_config.specs.declared.rows.Kind.TheVariants.{Sampling, Queuing}
-use Rattle.afdx_config.specs.Rows.{Rows, SystemRow}
+use Rattle.afdx_config.specs.Rows.{Rows, SystemRow, example_link}
 use Rattle.afdx_systems.specs.Handovers.{HandedOver}
 use Rattle.afdx_systems.specs.Receptions.{lines_of, delivered_in}
 
@@ -20,33 +20,14 @@ base = record {
   buffer = 252;
   systems = system_on (codes "s1") 1 ∷ system_on (codes "s2") 2 ∷ system_on (codes "s3") 3 ∷ [];
   links =
-      (record {
-        vl = 1;
-        from = 0;
-        to = 2 ∷ [];
-        bag_ms = 1;
-        lmin = 64;
-        lmax = 64;
-        jitter_us = 500;
-        priority = High;
-        policing = Frame;
-        latency_us = 17;
-        skew_us = 1000;
-        subs = 2;
-      })
-      ∷ (record {
+      (record example_link { to = 2 ∷ []; policing = Frame; latency_us = 17; subs = 2 })
+      ∷ (record example_link {
         vl = 2;
         from = 1;
         to = 2 ∷ [];
-        bag_ms = 1;
-        lmin = 64;
-        lmax = 64;
-        jitter_us = 500;
         priority = Low;
         policing = Frame;
         latency_us = 21;
-        skew_us = 1000;
-        subs = 1;
       }) ∷ [];
   ports =
       (record { system = 2; link = 1; udp = 1000; kind = Sampling; depth = 1 })
