@@ -13,6 +13,23 @@ pub enum Part {
     Port,
 }
 
+impl Part {
+    ghost use Rattle.std.specs.Prelude.{◌≡◌};
+    ghost use Rattle.afdx_config.specs.FaultText.{part_text};
+
+    /// It in a word: `top`, `system`, `link` or `port`.
+    pub fn word(self) -> &'static str
+        ensures { result.now ≡ part_text self }
+    {
+        match self {
+            Part::Top => "top",
+            Part::System => "system",
+            Part::Link => "link",
+            Part::Port => "port",
+        }
+    }
+}
+
 impl fmt::Display for Part {
     ghost use Rattle.std.specs.Prelude.{Some};
     ghost use Rattle.afdx_config.specs.FaultText.{part_text};
@@ -20,12 +37,7 @@ impl fmt::Display for Part {
     ghost output = { λ part. Some (part_text part) };
 
     fn fmt<W: fmt::Write>(&self, f: &mut fmt::Formatter<W>) -> fmt::Result {
-        f.write_str(match self {
-            Part::Top => "top",
-            Part::System => "system",
-            Part::Link => "link",
-            Part::Port => "port",
-        })
+        f.write_str(self.word())
     }
 }
 
@@ -139,7 +151,7 @@ Correct the name, or add the system. Tables are counted from 1 in the order of t
 
 impl ConfigFault {
     ghost use Rattle.std.specs.Prelude.{◌≡◌};
-    ghost use Rattle.afdx_config.specs.FaultText.{fault_word};
+    ghost use Rattle.afdx_config.specs.FaultText.{fault_word, place_of};
 
     /// Its row, which stands at its place.
     #[tactic(auto, unfolding(crate::specs::FaultText::fault_words))]
@@ -165,6 +177,21 @@ impl ConfigFault {
     {
         self.row().0
     }
+
+    /// The place of the check, if the fault has one.
+    pub fn place(self) -> Option<Place>
+        ensures { result ≡ place_of self }
+    {
+        match self {
+            ConfigFault::NotToml | ConfigFault::BadProfile | ConfigFault::Memory => None,
+            ConfigFault::Missing(place)
+            | ConfigFault::WrongKind(place)
+            | ConfigFault::UnknownKey(place)
+            | ConfigFault::OutOfRange(place)
+            | ConfigFault::Twice(place)
+            | ConfigFault::NoSuchSystem(place) => Some(place),
+        }
+    }
 }
 
 impl fmt::Display for ConfigFault {
@@ -175,16 +202,9 @@ impl fmt::Display for ConfigFault {
 
     fn fmt<W: fmt::Write>(&self, f: &mut fmt::Formatter<W>) -> fmt::Result {
         let word = self.word();
-        match self {
-            ConfigFault::NotToml | ConfigFault::BadProfile | ConfigFault::Memory => {
-                f.write_str(word)
-            }
-            ConfigFault::Missing(place)
-            | ConfigFault::WrongKind(place)
-            | ConfigFault::UnknownKey(place)
-            | ConfigFault::OutOfRange(place)
-            | ConfigFault::Twice(place)
-            | ConfigFault::NoSuchSystem(place) => write!(f, "{word} {place}"),
+        match self.place() {
+            None => f.write_str(word),
+            Some(place) => write!(f, "{word} {place}"),
         }
     }
 }

@@ -1,5 +1,5 @@
 -- What a command tells that refuses a configuration or its tables.
-use Rattle.std.specs.Prelude.{ℕ, ◌≡◌, ◌⊎◌, List, ◌++◌, Option, Some, codes}
+use Rattle.std.specs.Prelude.{ℕ, ◌≡◌, List, ◌++◌, Option, Some, codes}
 use Rattle.afdx_config.specs.Admission.{IsAdmitted}
 use Rattle.afdx_config.specs.FaultText as config_fault
 use Rattle.afdx_config.specs.Reading.{Spells, IsFaultOf}
@@ -31,10 +31,6 @@ module _ {E : Type 0} (error_bytes : E → Option (List ℕ)) (old new : Watched
   pub record IsToldRefused (status : ℕ) (line : List ℕ) : Type 0 where
     pub status_is : status ≡ 1
     pub told : Tells error_bytes old new line
-
-  -- this line, or that memory was refused
-  abbrev pub Refuses : ℕ → List ℕ → Type 0
-  Refuses status line = IsToldRefused status line ⊎ WantsMemory status
 
   -- the configuration has this fault
   abbrev pub RefusesConfig : List ℕ → ℕ → Type 0

@@ -123,7 +123,7 @@ pub fn check<O: Write, E: Write>(
 {
     let tables = match read_tables(alloc, config) {
         Ok(tables) => tables,
-        Err(fault) => return refuse_config(alloc, fault, errors),
+        Err(fault) => return refuse_config(fault, errors),
     };
     let Ok((text, is_admitted)) = checked_text(alloc, tables) else {
         return want_memory(errors);

@@ -49,7 +49,7 @@ pub fn replay_and_count<R: Read, O: Sink, E: Write>(
 {
     let tables = match read_tables(alloc, config) {
         Ok(tables) => tables,
-        Err(fault) => return Ended::without_counts(refuse_config(alloc, fault, errors)),
+        Err(fault) => return Ended::without_counts(refuse_config(fault, errors)),
     };
     if !admission {
         let answer = replay_into(alloc, &tables, input, output);
@@ -61,7 +61,7 @@ pub fn replay_and_count<R: Read, O: Sink, E: Write>(
             end(answer, errors)
         }
         Err((tables, fault)) => {
-            Ended::without_counts(refuse_tables(alloc, &tables, fault, errors))
+            Ended::without_counts(refuse_tables(&tables, fault, errors))
         }
     }
 }

@@ -52,7 +52,7 @@ pub fn send_and_count<R: Read, O: Sink, E: Write>(
 {
     let tables = match read_tables(alloc, config) {
         Ok(tables) => tables,
-        Err(fault) => return Ended::without_counts(refuse_config(alloc, fault, errors)),
+        Err(fault) => return Ended::without_counts(refuse_config(fault, errors)),
     };
     let Some(place) = tables.system_named(system) else {
         return Ended::without_counts(refuse_name(errors));
@@ -63,7 +63,7 @@ pub fn send_and_count<R: Read, O: Sink, E: Write>(
             end(answer, errors)
         }
         Err((tables, fault)) => {
-            Ended::without_counts(refuse_tables(alloc, &tables, fault, errors))
+            Ended::without_counts(refuse_tables(&tables, fault, errors))
         }
     }
 }

@@ -15,6 +15,6 @@ mod writing;
 pub use line::OutLine;
 pub use output::Output;
 pub use sink::Sink;
-pub use telling::{tell, tell_fault};
+pub use telling::{tell, tell_fault, tell_number};
 pub use text::Text;
 pub use writing::write_text;

@@ -1,11 +1,12 @@
 //! Faults are told, each in one line, without memory.
 
-ghost use Rattle.std.specs.Prelude.{◌≡◌, false, true};
+ghost use Rattle.std.specs.Prelude.{◌≡◌, decimal, false, true};
 ghost use Rattle.afdx_text.specs.Telling.{Tells, TellsLine};
 ghost use Rattle.afdx_lists.specs.Watching.{has_failed};
 
 use crate::writing::write_text;
 use afdx_lists::{RunFault, Watched};
+use itoa::Buffer;
 use std::fmt::InlineText;
 use std::io::Write;
 
@@ -20,6 +21,14 @@ pub fn tell<W: Write>(device: &mut Watched<W>, text: &[u8])
     if !device.failed() {
         let _ = write_text(device, text);
     }
+}
+
+/// Hands a number to a device, in decimal digits, or a beginning of them where that fails.
+pub fn tell_number<W: Write>(device: &mut Watched<W>, number: u64)
+    ensures { Tells W.contents device.old device.new (decimal number) }
+{
+    let mut digits = Buffer::new();
+    tell(device, digits.format(number).as_bytes());
 }
 
 /// Hands the one line of a fault to a device, or a beginning of it where that fails. A device that
