@@ -3,9 +3,12 @@
 
     tests/run/house.py
 
-- Each name that README, PROMISES, ARCHITECTURE and DEVELOPING set in code occurs in the sources.
-- Each crate has its row in README and in docs/ARCHITECTURE.md, which names each of its files of
-  definitions.
+- Each name that README, PROMISES, ARCHITECTURE, DEVELOPING and LIBRARIES set in code occurs in the
+  sources.
+- Each piece of code in docs/LIBRARIES.md is a part of a file of afdx_surface_tests, white space
+  aside.
+- Each crate has its row in docs/ARCHITECTURE.md, which names what it may cite, as crates.txt does,
+  and each of its files of definitions.
 - The closed lists of the program, which stand in tables of its sources, are those of the documents
   and of the tools, in the same order; each key of a configuration has its number, its part, its
   name and its range in its text.
@@ -29,6 +32,8 @@ import closed_lists as lists  # noqa: E402
 
 CRATES = TOP / "crates"
 DOCUMENTS = ["README.md", "docs/PROMISES.md", "docs/ARCHITECTURE.md", "docs/DEVELOPING.md"]
+DOCUMENTS += ["docs/LIBRARIES.md"]
+CALLS = CRATES / "afdx_surface_tests/src"
 COLUMNS = 100
 PROOF_COLUMNS = 140
 NUMBERS = CRATES / "afdx_frame/src/tables.rt"
@@ -60,9 +65,15 @@ def sources(*patterns: str) -> list[pathlib.Path]:
     return sorted(p for pattern in patterns for p in TOP.glob(pattern) if not made(p))
 
 
-def crate_names() -> list[str]:
-    lines = text_of(TOP / "crates.txt").splitlines()
-    return [line.split(":")[0].split()[0] for line in lines if line and line[0] not in "# "]
+def crates_cited() -> dict[str, str]:
+    """Each crate, and what it may cite as ARCHITECTURE has it: no prefix, commas between."""
+    cited = {}
+    for line in text_of(TOP / "crates.txt").splitlines():
+        if line and line[0] not in "# ":
+            crate, _, names = line.partition(":")
+            short = [name.removeprefix("afdx_") for name in names.split()]
+            cited[crate.split()[0]] = ", ".join(short) or "none"
+    return cited
 
 
 def known_words() -> set[str]:
@@ -89,21 +100,39 @@ def wrong_names() -> list[str]:
 
 
 def missing_rows() -> list[str]:
-    faults = []
-    for document in ["README.md", "docs/ARCHITECTURE.md"]:
-        rows = {}
-        for line in text_of(TOP / document).splitlines():
-            found = re.match(r"\| `(\w+)` \|", line)
-            if found:
-                rows[found.group(1)] = line
-        for crate in crate_names():
-            if crate not in rows:
-                faults.append(f"{document} has no row for {crate}")
-            elif "ARCHITECTURE" in document:
-                for spec in sources(f"crates/{crate}/specs/*.antt"):
-                    if spec.stem != "Lib" and f"`{spec.stem}`" not in rows[crate]:
-                        faults.append(f"{document}: the row of {crate} doesn't name `{spec.stem}`")
+    document = "docs/ARCHITECTURE.md"
+    rows, faults = {}, []
+    for line in text_of(TOP / document).splitlines():
+        found = re.match(r"\| `(\w+)` \|", line)
+        if found:
+            rows[found.group(1)] = line
+    for crate, cited in crates_cited().items():
+        if crate not in rows:
+            faults.append(f"{document} has no row for {crate}")
+            continue
+        if f"| {cited} |" not in rows[crate]:
+            faults.append(f"{document}: {crate} may cite, by crates.txt, {cited}")
+        for spec in sources(f"crates/{crate}/specs/*.antt"):
+            if spec.stem != "Lib" and f"`{spec.stem}`" not in rows[crate]:
+                faults.append(f"{document}: the row of {crate} doesn't name `{spec.stem}`")
     return faults
+
+
+def without_space(text: str) -> str:
+    return "".join(text.split())
+
+
+def foreign_code() -> list[str]:
+    """The pieces of code in LIBRARIES that no surface test has."""
+    document = "docs/LIBRARIES.md"
+    tests = [without_space(text_of(path)) for path in sorted(CALLS.glob("*.rt"))]
+    pieces = re.findall(r"^```rust\n(.*?)^```$", text_of(TOP / document), re.M | re.S)
+    faults = [
+        f"{document}: no surface test has `{piece.splitlines()[0].strip()}` and what follows"
+        for piece in pieces
+        if not any(without_space(piece) in test for test in tests)
+    ]
+    return faults if pieces else [f"{document} has no code"]
 
 
 def wrong_edit(path: pathlib.Path) -> str | None:
@@ -139,7 +168,6 @@ def wrong_edits() -> list[str]:
 RECEIVER = lists.DROP_REASONS[:3] + lists.IP_FAULTS + lists.DROP_REASONS[3:]
 LIST_LINES = [form for form in lists.RUN_FAULTS if form.startswith("list ")]
 LISTED = [
-    ("docs/NETWORK.md", "| Reason | When |", 0, lists.REASONS),
     ("docs/NETWORK.md", "| Line | Must hold | In plain words |", 0, lists.ADMISSION),
     ("docs/FORMATS.md", "| WORD | The frame |", 0, lists.REASONS),
     ("docs/FORMATS.md", "| WORD of X | The frame |", 0, RECEIVER[1:]),
@@ -264,6 +292,7 @@ def main() -> int:
     checks = {
         "names in documents": wrong_names(),
         "rows of crates": missing_rows(),
+        "code in LIBRARIES": foreign_code(),
         "closed lists": lists_apart(),
         "keys of a configuration": keys_apart(),
         "must-fail edits": wrong_edits(),
