@@ -360,7 +360,10 @@ fn digits_of_many_bytes(rt: HostRuntime) -> Result<(), Fail> {
         let some = &bytes[..size];
         let are_put = are_digits(rt.alloc(), &mut text, some)?;
         let is_read = are_read(rt.alloc(), &mut text, some)?;
-        assert!(rt; are_put && is_read && is_bad_behind(rt.alloc(), &mut text, some)?, "{size}");
+        assert!(rt;
+            are_put && is_read && is_bad_behind(rt.alloc(), &mut text, some)?,
+            "{size}"
+        );
     }
     Ok(())
 }

@@ -16,8 +16,8 @@ use crate::summary::{NO_COUNTS, Summary};
 use afdx_frame::{Checked, Side};
 use afdx_lists::{Heading, RunFault, Watched};
 use afdx_police::{LinkAccount, LinkRule, Reason};
-use afdx_text::{OutLine, Sink, Text};
 use afdx_run::{Machine, run_list};
+use afdx_text::{OutLine, Sink, Text};
 use std::alloc::{AllocError, Global};
 use std::io::{Read, Write};
 

@@ -112,11 +112,7 @@ fn tell_subject<E: Write>(errors: &mut Watched<E>, text: &AdmitText<'_>)
 }
 
 /// Tells why tables are not admitted, and gives the exit status.
-pub fn refuse_tables<E: Write>(
-    tables: &Tables,
-    fault: AdmitFault,
-    errors: &mut Watched<E>,
-) -> u8
+pub fn refuse_tables<E: Write>(tables: &Tables, fault: AdmitFault, errors: &mut Watched<E>) -> u8
     requires { IsKnown tables.now fault }
     ensures { IsToldRefused E.contents errors.old errors.new result
         (admit_line tables.now fault) }

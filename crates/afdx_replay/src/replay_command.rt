@@ -60,9 +60,7 @@ pub fn replay_and_count<R: Read, O: Sink, E: Write>(
             let answer = replay_admitted_into(alloc, &admitted, input, output);
             end(answer, errors)
         }
-        Err((tables, fault)) => {
-            Ended::without_counts(refuse_tables(&tables, fault, errors))
-        }
+        Err((tables, fault)) => { Ended::without_counts(refuse_tables(&tables, fault, errors)) }
     }
 }
 

@@ -28,9 +28,9 @@ use afdx_frame::Checked;
 use afdx_lists::{Heading, RunFault, Watched};
 use afdx_network::{Departed, Network};
 use afdx_police::Reason;
+use afdx_run::{Machine, run_list};
 use afdx_systems::{Handover, Systems};
 use afdx_text::{Sink, Text};
-use afdx_run::{Machine, run_list};
 use std::alloc::{AllocError, Global};
 use std::io::{Read, Write};
 
@@ -136,11 +136,7 @@ impl Replay {
     }
 
     /// Tells what leaves by `until`.
-    fn tell_departures<O: Sink>(
-        &mut self,
-        until: u64,
-        output: &mut O,
-    ) -> Result<(), RunFault>
+    fn tell_departures<O: Sink>(&mut self, until: u64, output: &mut O) -> Result<(), RunFault>
         requires clock { network.IsUntil self.old.network until }
         requires room { (n : ℕ) × (n ≤ most_lines) × HasRoomFor self.old n }
         requires sound { O.failed output.old ≡ false }

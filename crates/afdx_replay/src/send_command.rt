@@ -62,9 +62,7 @@ pub fn send_and_count<R: Read, O: Sink, E: Write>(
             let answer = send_into(alloc, &admitted, place, input, output);
             end(answer, errors)
         }
-        Err((tables, fault)) => {
-            Ended::without_counts(refuse_tables(&tables, fault, errors))
-        }
+        Err((tables, fault)) => { Ended::without_counts(refuse_tables(&tables, fault, errors)) }
     }
 }
 

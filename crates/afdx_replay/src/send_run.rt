@@ -20,9 +20,9 @@ use afdx_admit::Admitted;
 use afdx_config::SystemId;
 use afdx_frame::{Side, VlId};
 use afdx_lists::{Handed, RunFault, Watched};
+use afdx_run::{Machine, run_list};
 use afdx_send::{Emission, SendFault, Sender};
 use afdx_text::{OutLine, Sink, Text};
-use afdx_run::{Machine, run_list};
 use std::alloc::{AllocError, Global};
 use std::io::{Read, Write};
 
@@ -117,11 +117,7 @@ impl Sending {
     }
 
     /// Tells what is emitted by `until`.
-    fn tell_emissions<O: Sink>(
-        &mut self,
-        until: u64,
-        output: &mut O,
-    ) -> Result<(), RunFault>
+    fn tell_emissions<O: Sink>(&mut self, until: u64, output: &mut O) -> Result<(), RunFault>
         requires clock { last_time self.old.sender ≤ until }
         requires room { (n : ℕ) × (n ≤ most_lines) ×
             HasRoom self.old.counts (frames_held self.old.sender) n }

@@ -35,12 +35,7 @@ impl Drop for EndSystem {
 
 /// Puts a message to the port at this place, and reads it there at once: a sample stays, and what
 /// is taken out of a queue is given back.
-fn pass_on(
-    ports: &mut ComPorts,
-    place: usize,
-    time: u64,
-    message: &[u8],
-) -> Result<(), AllocError>
+fn pass_on(ports: &mut ComPorts, place: usize, time: u64, message: &[u8]) -> Result<(), AllocError>
     requires { place < length ports.old }
     ensures read { AreRead ports.old → AreRead ports.new }
     ensures found { (link udp : ℕ) →
@@ -112,7 +107,10 @@ impl EndSystem {
             (arrival_of (handed_over handover.entry) ∷ past) self.new.ports) }
     {
         let Handover {
-            side, time, frame, ..
+            side,
+            time,
+            frame,
+            ..
         } = handover;
         match self.receiver.receive_checked(time, side, frame) {
             Reception::Dropped(why) => Ok(Some(Reception::Dropped(why))),
