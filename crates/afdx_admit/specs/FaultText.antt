@@ -27,28 +27,6 @@ subject name (SenderJitter system ns) = name ++ codes " " ++ decimal ns
 subject name (LinkJitter vl needed) = decimal vl.0 ++ codes " " ++ decimal needed
 subject name (Skew vl) = decimal vl.0
 
--- its line in a word
-abbrev pub line_word : AdmitFault → List ℕ
-line_word (Overload port) = codes "A1"
-line_word (Buffer port needed) = codes "A2"
-line_word (HighLatency port vl bound) = codes "A3"
-line_word (LowLatency port vl bound) = codes "A4"
-line_word (SenderJitter system ns) = codes "A5"
-line_word (LinkJitter vl needed) = codes "A6"
-line_word (Skew vl) = codes "A7"
-
--- what a fault speaks of: numbers, a link's identifier, or the name of a sender
-abbrev pub subject : List ℕ → AdmitFault → List ℕ
-subject name (Overload port) = decimal port
-subject name (Buffer port needed) = decimal port ++ codes " " ++ decimal needed
-subject name (HighLatency port vl bound) =
-    decimal port ++ codes " " ++ decimal vl.0 ++ codes " " ++ decimal bound
-subject name (LowLatency port vl bound) =
-    decimal port ++ codes " " ++ decimal vl.0 ++ codes " " ++ decimal bound
-subject name (SenderJitter system ns) = name ++ codes " " ++ decimal ns
-subject name (LinkJitter vl needed) = decimal vl.0 ++ codes " " ++ decimal needed
-subject name (Skew vl) = decimal vl.0
-
 -- with the name of the sender that it speaks of
 abbrev pub fault_text : List ℕ → AdmitFault → List ℕ
 fault_text name fault = line_word fault ++ codes " " ++ subject name fault
