@@ -1,5 +1,6 @@
 mod TextLemmas
 mod EncodingLemmas
 mod BlockLemmas
+mod WordLemmas
 pub mod OutputLemmas
 pub mod TellingLemmas

@@ -22,6 +22,7 @@ pub(crate) struct Kept {
 
 /// Puts what became of a frame at a switch, in words.
 #[inline(always)]
+#[tactic(auto, using(crate::proofs::WordLemmas::reason_word_short))]
 fn put_words(room: &mut [u8], at: usize, reason: Option<Reason>) -> usize
     requires { at + 32 ≤ length room.old }
     ensures within { result ≤ at + 20 }
@@ -36,17 +37,15 @@ fn put_words(room: &mut [u8], at: usize, reason: Option<Reason>) -> usize
     }
 }
 
-/// Puts why a receiver dropped a frame, in a word. Mostly it is that the other network was first.
+/// Puts why a receiver dropped a frame, in a word.
 #[inline(always)]
+#[tactic(auto, using(crate::proofs::WordLemmas::drop_word_short))]
 fn put_why(room: &mut [u8], at: usize, why: DropReason) -> usize
     requires { at + 32 ≤ length room.old }
     ensures within { result ≤ at + 20 }
     ensures text { take result room.new ≡ take at room.old ++ drop_word why }
 {
-    match why {
-        DropReason::Redundant => put(room, at, b"redundant"),
-        _ => put_piece(room, at, why.word().as_bytes()),
-    }
+    put_piece(room, at, why.word().as_bytes())
 }
 
 /// `V n side accept`, or `V n side drop WORD`.

@@ -1,0 +1,59 @@
+-- Why a frame was dropped is a short word.
+use Rattle.std.proofs.Common.{◌≡◌, ◌≤◌, ℕ, Bool, true, length, refl}
+use Rattle.std.proofs.Math.Dec.{leb}
+use Rattle.std.proofs.lemmas.Bool.{leb-true}
+use Rattle.afdx_frame.specs.Words.{mac_word, mac_words, ip_word, ip_words}
+use Rattle.afdx_frame.specs.declared.fault.MacFault.{MacFault}
+use Rattle.afdx_frame.specs.declared.fault.MacFault.TheVariants as mac
+use Rattle.afdx_frame.specs.declared.fault.IpFault.{IpFault}
+use Rattle.afdx_frame.specs.declared.fault.IpFault.TheVariants as ip
+use Rattle.afdx_police.specs.Words.{reason_word, words}
+use Rattle.afdx_police.specs.declared.shape.Reason.{Reason}
+use Rattle.afdx_police.specs.declared.shape.Reason.TheVariants as reason
+use Rattle.afdx_receive.specs.Words.{drop_word, own_words}
+use Rattle.afdx_receive.specs.declared.reception.DropReason.{DropReason}
+use Rattle.afdx_receive.specs.declared.reception.DropReason.TheVariants as drop
+
+reason_fits : (r : Reason) → leb (length (reason_word r)) 15 ≡ true
+unfolding words
+reason_fits reason.TooShort = refl
+reason_fits reason.TooLong = refl
+reason_fits reason.BadFcs = refl
+reason_fits reason.BadAddress = refl
+reason_fits reason.UnknownLink = refl
+reason_fits reason.WrongPort = refl
+reason_fits reason.OverLmax = refl
+reason_fits reason.UnderLmin = refl
+reason_fits reason.OverRate = refl
+
+-- at a switch
+pub reason_word_short : (r : Reason) → length (reason_word r) ≤ 15
+reason_word_short r = leb-true _ _ (reason_fits r)
+
+mac_fits : (fault : MacFault) → leb (length (mac_word fault)) 15 ≡ true
+unfolding mac_words
+mac_fits mac.TooShort = refl
+mac_fits mac.TooLong = refl
+mac_fits mac.BadFcs = refl
+mac_fits mac.BadAddress = refl
+
+ip_fits : (fault : IpFault) → leb (length (ip_word fault)) 15 ≡ true
+unfolding ip_words
+ip_fits ip.NotIpv4 = refl
+ip_fits ip.BadIpHeader = refl
+ip_fits ip.Fragment = refl
+ip_fits ip.NotUdp = refl
+ip_fits ip.BadUdpLength = refl
+
+drop_fits : (why : DropReason) → leb (length (drop_word why)) 15 ≡ true
+unfolding own_words
+drop_fits (drop.Mac fault) = mac_fits fault
+drop_fits drop.NotSubscribed = refl
+drop_fits drop.Sequence = refl
+drop_fits drop.Redundant = refl
+drop_fits (drop.Ip fault) = ip_fits fault
+drop_fits drop.NoPort = refl
+
+-- at a receiver
+pub drop_word_short : (why : DropReason) → length (drop_word why) ≤ 15
+drop_word_short why = leb-true _ _ (drop_fits why)
