@@ -76,24 +76,101 @@ fn print_keys(rt: &HostRuntime, keys: &[Key]) -> io::Result<()> {
     Ok(())
 }
 
+// Each list has a function of its own, since a proof carries each letter of a table that is named.
+
+/// Prints why a switch drops a frame.
+fn print_drops(rt: &HostRuntime) -> io::Result<()> {
+    print_words(rt, "drop", &REASONS)
+}
+
+/// Prints why bytes are no frame.
+fn print_no_frames(rt: &HostRuntime) -> io::Result<()> {
+    print_words(rt, "unread", &MAC_FAULTS)
+}
+
+/// Prints why a system drops a frame.
+fn print_own_drops(rt: &HostRuntime) -> io::Result<()> {
+    print_words(rt, "unread", &DROP_REASONS)
+}
+
+/// Prints why a frame carries no datagram.
+fn print_no_datagrams(rt: &HostRuntime) -> io::Result<()> {
+    print_words(rt, "unread", &IP_FAULTS)
+}
+
+/// Prints why a message is refused.
+fn print_refusals(rt: &HostRuntime) -> io::Result<()> {
+    print_words(rt, "refusal", &SEND_FAULTS[..5])
+}
+
+/// Prints the lines of admission.
+fn print_admission(rt: &HostRuntime) -> io::Result<()> {
+    print_formed(rt, "admission", &ADMISSION)
+}
+
+/// Prints the faults of a configuration.
+fn print_config_faults(rt: &HostRuntime) -> io::Result<()> {
+    print_formed(rt, "config", &CONFIG_FAULTS[..8])
+}
+
+/// Prints the keys of the top.
+fn print_top_keys(rt: &HostRuntime) -> io::Result<()> {
+    print_keys(rt, &TOP_KEYS)
+}
+
+/// Prints the keys of a system.
+fn print_system_keys(rt: &HostRuntime) -> io::Result<()> {
+    print_keys(rt, &SYSTEM_KEYS)
+}
+
+/// Prints the keys of a link.
+fn print_link_keys(rt: &HostRuntime) -> io::Result<()> {
+    print_keys(rt, &LINK_KEYS)
+}
+
+/// Prints the keys of a port entry.
+fn print_port_keys(rt: &HostRuntime) -> io::Result<()> {
+    print_keys(rt, &PORT_KEYS)
+}
+
+/// Prints what is said of keys that aren't known.
+fn print_unknown_keys(rt: &HostRuntime) -> io::Result<()> {
+    print_forms(rt, "key", &UNKNOWN_KEYS)
+}
+
+/// Prints the faults of a run.
+fn print_run_faults(rt: &HostRuntime) -> io::Result<()> {
+    print_forms(rt, "fault", &RUN_FAULTS)
+}
+
+/// Prints the other faults.
+fn print_faults(rt: &HostRuntime) -> io::Result<()> {
+    print_forms(rt, "fault", &FAULTS)
+}
+
+/// Prints the lines of the output.
+fn print_lines(rt: &HostRuntime) -> io::Result<()> {
+    print_forms(rt, "line", &LINES)
+}
+
 /// Prints each closed list: for each of its words, or of the forms of its lines, the list's name
 /// with it, then what it means, then an empty line.
 pub fn print_lists(rt: &HostRuntime) -> io::Result<()> {
-    print_words(rt, "drop", &REASONS)?;
-    print_words(rt, "unread", &MAC_FAULTS)?;
-    print_words(rt, "unread", &DROP_REASONS)?;
-    print_words(rt, "unread", &IP_FAULTS)?;
-    print_words(rt, "refusal", &SEND_FAULTS[..5])?;
-    print_formed(rt, "admission", &ADMISSION)?;
-    print_formed(rt, "config", &CONFIG_FAULTS[..8])?;
-    print_keys(rt, &TOP_KEYS)?;
-    print_keys(rt, &SYSTEM_KEYS)?;
-    print_keys(rt, &LINK_KEYS)?;
-    print_keys(rt, &PORT_KEYS)?;
-    print_forms(rt, "key", &UNKNOWN_KEYS)?;
-    print_forms(rt, "fault", &RUN_FAULTS)?;
-    print_forms(rt, "fault", &FAULTS)?;
-    print_forms(rt, "line", &LINES)
+    print_drops(rt)?;
+    print_no_frames(rt)?;
+    print_own_drops(rt)?;
+    print_no_datagrams(rt)?;
+    print_refusals(rt)?;
+    print_admission(rt)?;
+    print_config_faults(rt)?;
+    print_top_keys(rt)?;
+    print_system_keys(rt)?;
+    print_link_keys(rt)?;
+    print_port_keys(rt)?;
+    print_unknown_keys(rt)?;
+    print_run_faults(rt)?;
+    print_faults(rt)?;
+    print_lines(rt)
 }
 
 /// Where a configuration stops being TOML, and why.
