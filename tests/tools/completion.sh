@@ -79,8 +79,8 @@ offer_tests() { # SHELL
 
 # ---- what is taken, by --help --------------------------------------------------------------
 
-options_of() { # WORD.. : the long options that its --help names
-    "$@" --help 2>/dev/null | grep -oE -- '--[a-z][a-z-]+' | sort -u
+options_of() { # WORD.. : the long options that its --help has a line for
+    "$@" --help 2>/dev/null | sed -nE 's/^ +(-., )?(--[a-z][a-z-]+).*/\2/p' | sort -u
 }
 
 each_help() { # FUNCTION WORD.. : calls it with the words, a command's name and its options
