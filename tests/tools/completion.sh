@@ -80,7 +80,7 @@ offer_tests() { # SHELL
 # ---- what is taken, by --help --------------------------------------------------------------
 
 options_of() { # WORD.. : the long options that its --help has a line for
-    "$@" --help 2>/dev/null | sed -nE 's/^ +(-., )?(--[a-z][a-z-]+).*/\2/p' | sort -u
+    "$@" --help 2>/dev/null | sed -nE 's/^ +(-[a-z]( [A-Z.]+)?, )?(--[a-z][a-z-]+).*/\3/p' | sort -u
 }
 
 each_help() { # FUNCTION WORD.. : calls it with the words, a command's name and its options
