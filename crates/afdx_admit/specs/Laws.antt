@@ -17,8 +17,13 @@ LinesAreAdmission = (t : Rows) → IsLawful t → (first_false (lines t) ≡ Non
 -- that its line answers
 abbrev pub LowBoundIsANumber : Type 0
 LowBoundIsANumber =
-    (t : Rows) → IsLawful t → (place : ℕ) (s : SystemRow) → slice_get t.systems place ≡ Some s →
+    (t : Rows) →
+    IsLawful t →
+    (place : ℕ) (s : SystemRow) →
+    slice_get t.systems place ≡ Some s →
     let o = loaded_output_to t place s in
-    load o.byte_ns o.flows ≤ byte_units → (f : Flow) → Contains (of_class Low o.flows) f →
+    load o.byte_ns o.flows ≤ byte_units →
+    (f : Flow) →
+    Contains (of_class Low o.flows) f →
     low_bound_of o
     ≡ Some (div_ceil (low_wait o.byte_ns o.flows) (byte_units - high_load o.byte_ns o.flows))

@@ -26,9 +26,11 @@ abbrev pub WorkIsMissing : Type 0 → Type 0
 WorkIsMissing X =
     (byte_ns : ℕ) (flows : List Flow) (vl_of : X → ℕ) (charge_of : Entry X → ℕ)
     (entries : List (Entry X)) (turns : List (Turn X)) (t : ℕ) →
-    AreFlows flows → load byte_ns flows ≤ byte_units →
+    AreFlows flows →
+    load byte_ns flows ≤ byte_units →
     All (λ e. IsCharged vl_of charge_of flows e) entries →
-    All (λ e. e.time ≤ t) entries → IsSchedule byte_ns entries turns →
+    All (λ e. e.time ≤ t) entries →
+    IsSchedule byte_ns entries turns →
     byte_units * work_left byte_ns entries turns t
     ≤ byte_ns * missing_of vl_of charge_of entries t flows
 
@@ -37,9 +39,11 @@ abbrev pub HighWorkIsMissing : Type 0 → Type 0
 HighWorkIsMissing X =
     (byte_ns : ℕ) (flows : List Flow) (vl_of : X → ℕ) (charge_of : Entry X → ℕ)
     (entries : List (Entry X)) (turns : List (Turn X)) (t : ℕ) →
-    AreFlows flows → high_load byte_ns flows ≤ byte_units →
+    AreFlows flows →
+    high_load byte_ns flows ≤ byte_units →
     All (λ e. IsCharged vl_of charge_of flows e) entries →
-    All (λ e. e.time ≤ t) entries → IsSchedule byte_ns entries turns →
+    All (λ e. e.time ≤ t) entries →
+    IsSchedule byte_ns entries turns →
     byte_units * high_work_left byte_ns entries turns t
     ≤ byte_ns * (missing_of vl_of charge_of entries t (of_class High flows)
     + byte_units * longest (of_class Low flows))
@@ -50,9 +54,14 @@ abbrev pub LowWorkFalls : Type 0 → Type 0
 LowWorkFalls X =
     (byte_ns : ℕ) (flows : List Flow) (vl_of : X → ℕ) (charge_of : Entry X → ℕ)
     (entries : List (Entry X)) (turns : List (Turn X)) (t place : ℕ) (e : Entry X) →
-    AreFlows flows → load byte_ns flows ≤ byte_units → ArePoliced vl_of charge_of flows entries →
-    AreInOrder entries → All (λ e. e.time ≤ t) entries → IsSchedule byte_ns entries turns →
-    IsWithoutTurn entries (begun_before t turns) place e → e.priority ≡ Low →
+    AreFlows flows →
+    load byte_ns flows ≤ byte_units →
+    ArePoliced vl_of charge_of flows entries →
+    AreInOrder entries →
+    All (λ e. e.time ≤ t) entries →
+    IsSchedule byte_ns entries turns →
+    IsWithoutTurn entries (begun_before t turns) place e →
+    e.priority ≡ Low →
     byte_units * low_work_left byte_ns entries turns e.time t
     + (byte_units - high_load byte_ns flows) * (t - e.time)
     ≤ byte_ns * (missing_of vl_of charge_of entries t (of_class High flows)
@@ -62,7 +71,9 @@ LowWorkFalls X =
 abbrev pub StartIsRegulated : Type 0 → Type 0
 StartIsRegulated X =
     (byte_ns buffer : ℕ) (flows : List Flow) (vl_of : X → ℕ) (charge_of : Entry X → ℕ) →
-    0 < byte_ns → AreFlows flows → IsPortAdmitted byte_ns buffer flows →
+    0 < byte_ns →
+    AreFlows flows →
+    IsPortAdmitted byte_ns buffer flows →
     IsRegulated byte_ns buffer flows vl_of charge_of []
 
 -- a further frame of this flow, which comes no earlier than the entries and fits by the window rule
@@ -100,7 +111,8 @@ abbrev pub EachIsInTime : Type 0 → Type 0
 EachIsInTime X =
     (byte_ns buffer : ℕ) (flows : List Flow) (vl_of : X → ℕ) (charge_of : Entry X → ℕ)
     (entries : List (Entry X)) (turns : List (Turn X)) (f : Flow) →
-    IsRegulated byte_ns buffer flows vl_of charge_of entries → AreTurns byte_ns entries turns →
+    IsRegulated byte_ns buffer flows vl_of charge_of entries →
+    AreTurns byte_ns entries turns →
     Contains flows f →
     All (λ s. vl_of s.entry.item ≡ f.vl → s.end ≤ s.entry.time + f.latency) turns
 
@@ -109,7 +121,8 @@ abbrev pub NoneIsTooOld : Type 0 → Type 0
 NoneIsTooOld X =
     (byte_ns buffer : ℕ) (flows : List Flow) (vl_of : X → ℕ) (charge_of : Entry X → ℕ)
     (entries : List (Entry X)) (turns : List (Turn X)) (f : Flow) →
-    IsRegulated byte_ns buffer flows vl_of charge_of entries → AreTurns byte_ns entries turns →
+    IsRegulated byte_ns buffer flows vl_of charge_of entries →
+    AreTurns byte_ns entries turns →
     Contains flows f →
     All (λ s. vl_of s.entry.item ≡ f.vl → MayWait f.latency s.entry → s.too_old ≡ false) turns
 
@@ -119,9 +132,12 @@ abbrev pub EachHasLeft : Type 0 → Type 0
 EachHasLeft X =
     (byte_ns buffer : ℕ) (flows : List Flow) (vl_of : X → ℕ) (charge_of : Entry X → ℕ)
     (entries : List (Entry X)) (turns : List (Turn X)) (f : Flow) (until place : ℕ) (e : Entry X) →
-    IsRegulated byte_ns buffer flows vl_of charge_of entries → AreTurns byte_ns entries turns →
+    IsRegulated byte_ns buffer flows vl_of charge_of entries →
+    AreTurns byte_ns entries turns →
     Contains flows f →
     ((s : Turn X) → IsNext byte_ns entries turns s → IsAfter until (due_at s)) →
-    slice_get entries place ≡ Some e → vl_of e.item ≡ f.vl → MayWait f.latency e →
+    slice_get entries place ≡ Some e →
+    vl_of e.item ≡ f.vl →
+    MayWait f.latency e →
     e.time + f.latency ≤ until →
     has_turn turns place ≡ true

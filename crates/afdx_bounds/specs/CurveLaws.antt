@@ -11,8 +11,11 @@ abbrev pub WaitingIsBounded : Type 0 → Type 0
 WaitingIsBounded X =
     (byte_ns : ℕ) (high low : Curve) (entries : List (Entry X)) (turns : List (Turn X))
     (new : Entry X) →
-    0 < byte_ns → byte_ns * (high.rate + low.rate) ≤ byte_units → AreInOrder (entries ++ new ∷ []) →
-    KeepsCurve High high (entries ++ new ∷ []) → KeepsCurve Low low (entries ++ new ∷ []) →
+    0 < byte_ns →
+    byte_ns * (high.rate + low.rate) ≤ byte_units →
+    AreInOrder (entries ++ new ∷ []) →
+    KeepsCurve High high (entries ++ new ∷ []) →
+    KeepsCurve Low low (entries ++ new ∷ []) →
     IsSchedule byte_ns entries turns →
     byte_units * (waiting_bytes entries turns new.time + new.bytes) ≤ high.burst + low.burst
 
@@ -22,8 +25,11 @@ abbrev pub HighIsBounded : Type 0 → Type 0
 HighIsBounded X =
     (byte_ns : ℕ) (high : Curve) (longest_low : ℕ) (entries : List (Entry X))
     (turns : List (Turn X)) →
-    byte_ns * high.rate ≤ byte_units → AreInOrder entries → KeepsCurve High high entries →
-    All (λ e. e.priority ≡ Low → wire e ≤ longest_low) entries → AreTurns byte_ns entries turns →
+    byte_ns * high.rate ≤ byte_units →
+    AreInOrder entries →
+    KeepsCurve High high entries →
+    All (λ e. e.priority ≡ Low → wire e ≤ longest_low) entries →
+    AreTurns byte_ns entries turns →
     All
     (λ s. s.entry.priority ≡ High →
     byte_units * s.end
@@ -34,7 +40,8 @@ HighIsBounded X =
 abbrev pub LowIsBounded : Type 0 → Type 0
 LowIsBounded X =
     (byte_ns : ℕ) (high low : Curve) (entries : List (Entry X)) (turns : List (Turn X)) →
-    byte_ns * (high.rate + low.rate) ≤ byte_units → AreInOrder entries →
+    byte_ns * (high.rate + low.rate) ≤ byte_units →
+    AreInOrder entries →
     KeepsCurve High high entries →
     KeepsCurve Low low entries →
     AreTurns byte_ns entries turns →

@@ -17,15 +17,22 @@ use Rattle.afdx_bounds.specs.Policed.{AreFlows, IsCharged, ArePoliced}
 abbrev pub InTimeWhere : (ℕ → ℕ → List Flow → Type 0) → Type 0
 InTimeWhere Admits =
     (byte_ns buffer : ℕ) (flows : List Flow) (entries : List (Entry ℕ)) (f : Flow) →
-    0 < byte_ns → AreFlows flows → Admits byte_ns buffer flows → AreInOrder entries →
-    ArePoliced (λ vl. vl) wire flows entries → Contains flows f →
+    0 < byte_ns →
+    AreFlows flows →
+    Admits byte_ns buffer flows →
+    AreInOrder entries →
+    ArePoliced (λ vl. vl) wire flows entries →
+    Contains flows f →
     All (λ s. s.entry.item ≡ f.vl → s.end ≤ s.entry.time + f.latency) (schedule_of byte_ns entries)
 
 -- none is lost where a port is admitted by this
 abbrev pub NoneIsLostWhere : (ℕ → ℕ → List Flow → Type 0) → Type 0
 NoneIsLostWhere Admits =
     (byte_ns buffer : ℕ) (flows : List Flow) (entries : List (Entry ℕ)) (new : Entry ℕ) →
-    0 < byte_ns → AreFlows flows → Admits byte_ns buffer flows → AreInOrder (entries ++ new ∷ []) →
+    0 < byte_ns →
+    AreFlows flows →
+    Admits byte_ns buffer flows →
+    AreInOrder (entries ++ new ∷ []) →
     ArePoliced (λ vl. vl) wire flows (entries ++ new ∷ []) →
     is_lost byte_ns buffer entries new ≡ false
 
@@ -33,7 +40,9 @@ NoneIsLostWhere Admits =
 abbrev pub NoneIsLostUnpoliced : Type 0
 NoneIsLostUnpoliced =
     (byte_ns buffer : ℕ) (flows : List Flow) (entries : List (Entry ℕ)) (new : Entry ℕ) →
-    0 < byte_ns → AreFlows flows → IsPortAdmitted byte_ns buffer flows →
+    0 < byte_ns →
+    AreFlows flows →
+    IsPortAdmitted byte_ns buffer flows →
     AreInOrder (entries ++ new ∷ []) →
     All (λ e. IsCharged (λ vl. vl) wire flows e) (entries ++ new ∷ []) →
     is_lost byte_ns buffer entries new ≡ false

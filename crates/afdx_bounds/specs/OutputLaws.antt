@@ -23,7 +23,9 @@ abbrev pub SentIsOffered : Type 0 → Type 0
 SentIsOffered X =
     (item_of : Arrival → X) (rows : List Row) (o : Output) (past : List Arrival) (x : Arrival)
     (r : Row) →
-    AreRows rows → Contains rows r → sends o past x r ≡ true →
+    AreRows rows →
+    Contains rows r →
+    sends o past x r ≡ true →
     offers_at item_of rows o (x ∷ past) ≡ entry_of item_of r x ∷ offers_at item_of rows o past
 
 -- and one that no row sends there changes nothing
@@ -38,7 +40,9 @@ abbrev pub EntriesAreRegulated : Type 0 → Type 0
 EntriesAreRegulated X =
     (item_of : Arrival → X) (vl_of : X → ℕ) (charge_of : Entry X → ℕ) (rows : List Row) (o : Output)
     (arrivals : List Arrival) →
-    IsServed rows o → Carries item_of vl_of charge_of rows → AreTimed arrivals →
+    IsServed rows o →
+    Carries item_of vl_of charge_of rows →
+    AreTimed arrivals →
     IsRegulated o.byte_ns o.buffer (flows_at o.number rows) vl_of charge_of
     (entries_at item_of rows o arrivals)
 
@@ -48,7 +52,10 @@ abbrev pub EntriesAreAccepted : Type 0 → Type 0
 EntriesAreAccepted X =
     (item_of : Arrival → X) (vl_of : X → ℕ) (charge_of : Entry X → ℕ) (rows : List Row) (o : Output)
     (arrivals : List Arrival) (r : Row) →
-    IsServed rows o → Carries item_of vl_of charge_of rows → AreTimed arrivals → Contains rows r →
+    IsServed rows o →
+    Carries item_of vl_of charge_of rows →
+    AreTimed arrivals →
+    Contains rows r →
     r.goes_to o.number ≡ true →
     charged_to vl_of charge_of r.rule.vl (entries_at item_of rows o arrivals) ≡ accepted_own r.rule
     (own r.rule.vl o.side arrivals)
@@ -58,7 +65,9 @@ abbrev pub OffersEnter : Type 0 → Type 0
 OffersEnter X =
     (item_of : Arrival → X) (vl_of : X → ℕ) (charge_of : Entry X → ℕ) (rows : List Row) (o : Output)
     (arrivals : List Arrival) →
-    IsServed rows o → Carries item_of vl_of charge_of rows → AreTimed arrivals →
+    IsServed rows o →
+    Carries item_of vl_of charge_of rows →
+    AreTimed arrivals →
     entries_at item_of rows o arrivals ≡ reverse (offers_at item_of rows o arrivals)
 
 -- an arrival that is accepted after these isn't lost
@@ -66,7 +75,10 @@ abbrev pub ArrivalIsKept : Type 0 → Type 0
 ArrivalIsKept X =
     (item_of : Arrival → X) (vl_of : X → ℕ) (charge_of : Entry X → ℕ) (rows : List Row) (o : Output)
     (past : List Arrival) (x : Arrival) (r : Row) →
-    IsServed rows o → Carries item_of vl_of charge_of rows → AreTimed (x ∷ past) → Contains rows r →
+    IsServed rows o →
+    Carries item_of vl_of charge_of rows →
+    AreTimed (x ∷ past) →
+    Contains rows r →
     sends o past x r ≡ true →
     is_lost o.byte_ns o.buffer (entries_at item_of rows o past) (entry_of item_of r x) ≡ false
 
@@ -81,8 +93,12 @@ abbrev pub ArrivalsAreInTime : Type 0 → Type 0
 ArrivalsAreInTime X =
     (item_of : Arrival → X) (vl_of : X → ℕ) (charge_of : Entry X → ℕ) (rows : List Row) (o : Output)
     (arrivals : List Arrival) (turns : List (Turn X)) (r : Row) →
-    IsServed rows o → Carries item_of vl_of charge_of rows → AreTimed arrivals → Contains rows r →
-    r.goes_to o.number ≡ true → AreTurnsAt item_of rows o arrivals turns →
+    IsServed rows o →
+    Carries item_of vl_of charge_of rows →
+    AreTimed arrivals →
+    Contains rows r →
+    r.goes_to o.number ≡ true →
+    AreTurnsAt item_of rows o arrivals turns →
     All (λ s. vl_of s.entry.item ≡ r.rule.vl → s.end ≤ s.entry.time + r.latency) turns
 
 -- and is a slot, if the link's frames may wait as long as that
@@ -90,8 +106,12 @@ abbrev pub ArrivalsAreNotOld : Type 0 → Type 0
 ArrivalsAreNotOld X =
     (item_of : Arrival → X) (vl_of : X → ℕ) (charge_of : Entry X → ℕ) (rows : List Row) (o : Output)
     (arrivals : List Arrival) (turns : List (Turn X)) (r : Row) →
-    IsServed rows o → Carries item_of vl_of charge_of rows → AreTimed arrivals → Contains rows r →
-    r.goes_to o.number ≡ true → AreTurnsAt item_of rows o arrivals turns →
+    IsServed rows o →
+    Carries item_of vl_of charge_of rows →
+    AreTimed arrivals →
+    Contains rows r →
+    r.goes_to o.number ≡ true →
+    AreTurnsAt item_of rows o arrivals turns →
     IfSome r.longest_wait (λ wait. r.latency ≤ wait) →
     All (λ s. vl_of s.entry.item ≡ r.rule.vl → s.too_old ≡ false) turns
 
@@ -101,10 +121,16 @@ abbrev pub ArrivalsHaveLeft : Type 0 → Type 0
 ArrivalsHaveLeft X =
     (item_of : Arrival → X) (vl_of : X → ℕ) (charge_of : Entry X → ℕ) (rows : List Row) (o : Output)
     (arrivals : List Arrival) (turns : List (Turn X)) (r : Row) (until place : ℕ) (e : Entry X) →
-    IsServed rows o → Carries item_of vl_of charge_of rows → AreTimed arrivals → Contains rows r →
-    r.goes_to o.number ≡ true → AreTurnsAt item_of rows o arrivals turns →
+    IsServed rows o →
+    Carries item_of vl_of charge_of rows →
+    AreTimed arrivals →
+    Contains rows r →
+    r.goes_to o.number ≡ true →
+    AreTurnsAt item_of rows o arrivals turns →
     IfSome r.longest_wait (λ wait. r.latency ≤ wait) →
     ((s : Turn X) → IsNext o.byte_ns (entries_at item_of rows o arrivals) turns s →
     IsAfter until (due_at s)) →
-    slice_get (entries_at item_of rows o arrivals) place ≡ Some e → vl_of e.item ≡ r.rule.vl →
-    e.time + r.latency ≤ until → has_turn turns place ≡ true
+    slice_get (entries_at item_of rows o arrivals) place ≡ Some e →
+    vl_of e.item ≡ r.rule.vl →
+    e.time + r.latency ≤ until →
+    has_turn turns place ≡ true

@@ -93,9 +93,13 @@ module _ {X : Type 0} where
   -- what a port holds of a frame tells its link and its charge
   pub record Carries (item_of : Arrival → X) (vl_of : X → ℕ) (charge_of : Entry X → ℕ)
       (rows : List Row) : Type 0 where
-    pub link : (r : Row) (x : Arrival) → Contains rows r → names r.rule.vl x.bytes ≡ true →
+    pub link : (r : Row) (x : Arrival) →
+        Contains rows r →
+        names r.rule.vl x.bytes ≡ true →
         vl_of (item_of x) ≡ r.rule.vl
-    pub charge : (r : Row) (x : Arrival) → Contains rows r → names r.rule.vl x.bytes ≡ true →
+    pub charge : (r : Row) (x : Arrival) →
+        Contains rows r →
+        names r.rule.vl x.bytes ≡ true →
         charge_of (entry_of item_of r x) ≡ (charged_by r.rule x).charge
 
   -- the link that the bytes of an item name; if none, a number that no link has
@@ -112,6 +116,7 @@ module _ {X : Type 0} where
 -- an item that keeps the frame's bytes does
 abbrev pub BytesCarry : Type 0 → Type 0
 BytesCarry X =
-    (item_of : Arrival → X) (bytes_of : X → List ℕ) (rows : List Row) → AreRows rows →
+    (item_of : Arrival → X) (bytes_of : X → List ℕ) (rows : List Row) →
+    AreRows rows →
     ((x : Arrival) → bytes_of (item_of x) ≡ x.bytes) →
     Carries item_of (link_in bytes_of) (charge_in bytes_of rows) rows

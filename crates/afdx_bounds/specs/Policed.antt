@@ -43,7 +43,8 @@ module _ {X : Type 0} where
   pub record ArePoliced (vl_of : X → ℕ) (charge_of : Entry X → ℕ) (flows : List Flow)
       (entries : List (Entry X)) : Type 0 where
     pub charged : All (λ e. IsCharged vl_of charge_of flows e) entries
-    pub accepted : (f : Flow) → Contains flows f →
+    pub accepted : (f : Flow) →
+        Contains flows f →
         (came : List Charged) × (charged_to vl_of charge_of f.vl entries ≡ accepted_of f.link came)
 
   -- the port is admitted with its flows, and its entries, which are policed, stand in the order of

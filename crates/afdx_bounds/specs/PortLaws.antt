@@ -34,14 +34,16 @@ module _ {X : Type 0} where
   abbrev pub TakenAreInTime : (X → Facts) → Type 0
   TakenAreInTime facts = (p : PortState X) (h : PortHistory X) (flows : List Flow) (vl_of : X → ℕ)
       (charge_of : Entry X → ℕ) (f : Flow) →
-      StandsRegulated facts p h flows vl_of charge_of → Contains flows f →
+      StandsRegulated facts p h flows vl_of charge_of →
+      Contains flows f →
       All (λ s. vl_of s.entry.item ≡ f.vl → s.end ≤ s.entry.time + f.latency) h.taken
 
   -- none of them was dropped for its age that may wait as long as its link's latency
   abbrev pub TakenAreNotOld : (X → Facts) → Type 0
   TakenAreNotOld facts = (p : PortState X) (h : PortHistory X) (flows : List Flow) (vl_of : X → ℕ)
       (charge_of : Entry X → ℕ) (f : Flow) →
-      StandsRegulated facts p h flows vl_of charge_of → Contains flows f →
+      StandsRegulated facts p h flows vl_of charge_of →
+      Contains flows f →
       All (λ s. vl_of s.entry.item ≡ f.vl → MayWait f.latency s.entry → s.too_old ≡ false) h.taken
 
   -- and where the port gives nothing at t, each such frame whose latency is over by then was taken
@@ -50,7 +52,11 @@ module _ {X : Type 0} where
       (p : PortState X) (h : PortHistory X) (flows : List Flow) (vl_of : X → ℕ)
       (charge_of : Entry X → ℕ)
       (f : Flow) (t place : ℕ) (e : Entry X) →
-      StandsRegulated facts p h flows vl_of charge_of → Contains flows f → IsQuiet facts p t →
-      slice_get h.entries place ≡ Some e → vl_of e.item ≡ f.vl → MayWait f.latency e →
+      StandsRegulated facts p h flows vl_of charge_of →
+      Contains flows f →
+      IsQuiet facts p t →
+      slice_get h.entries place ≡ Some e →
+      vl_of e.item ≡ f.vl →
+      MayWait f.latency e →
       e.time + f.latency ≤ t →
       has_turn h.taken place ≡ true

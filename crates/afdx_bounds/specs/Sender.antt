@@ -34,14 +34,16 @@ pub record IsSender (byte_ns : ℕ) (class : Priority) (flows : List Flow) : Typ
 -- such links are admitted at a port of that buffer
 abbrev pub SenderIsAdmitted : Type 0
 SenderIsAdmitted =
-    (byte_ns : ℕ) (class : Priority) (flows : List Flow) → IsSender byte_ns class flows →
+    (byte_ns : ℕ) (class : Priority) (flows : List Flow) →
+    IsSender byte_ns class flows →
     IsPortAdmitted byte_ns sender_buffer flows
 
 -- the entries of each link are a stream that keeps the link's gap
 abbrev pub AreReleased : {X : Type 0} → (X → ℕ) → (Entry X → ℕ) → List Flow → List (Entry X) →
     Type 0
 AreReleased vl_of charge_of flows entries =
-    (f : Flow) → Contains flows f →
+    (f : Flow) →
+    Contains flows f →
     (next : ℕ) × IsRegular f.link (charged_to vl_of charge_of f.vl entries) next
 
 -- so what such streams release there is policed
@@ -49,7 +51,8 @@ abbrev pub SenderIsRegulated : Type 0 → Type 0
 SenderIsRegulated X =
     (byte_ns : ℕ) (class : Priority) (flows : List Flow) (vl_of : X → ℕ) (charge_of : Entry X → ℕ)
     (entries : List (Entry X)) →
-    IsSender byte_ns class flows → AreInOrder entries →
+    IsSender byte_ns class flows →
+    AreInOrder entries →
     All (λ e. IsCharged vl_of charge_of flows e) entries →
     AreReleased vl_of charge_of flows entries →
     IsRegulated byte_ns sender_buffer flows vl_of charge_of entries
@@ -59,17 +62,20 @@ abbrev pub SenderIsNeverFull : Type 0 → Type 0
 SenderIsNeverFull X =
     (byte_ns : ℕ) (class : Priority) (flows : List Flow) (vl_of : X → ℕ) (charge_of : Entry X → ℕ)
     (entries : List (Entry X)) (turns : List (Turn X)) (new : Entry X) →
-    IsSender byte_ns class flows → AreInOrder (entries ++ new ∷ []) →
+    IsSender byte_ns class flows →
+    AreInOrder (entries ++ new ∷ []) →
     All (λ e. IsCharged vl_of charge_of flows e) (entries ++ new ∷ []) →
     AreReleased vl_of charge_of flows (entries ++ new ∷ []) →
-    IsSchedule byte_ns entries turns → IsLost sender_buffer entries turns new.time new.bytes → ⊥
+    IsSchedule byte_ns entries turns →
+    IsLost sender_buffer entries turns new.time new.bytes → ⊥
 
 -- and each frame has been sent when one frame of each link could have been since its release
 abbrev pub SenderIsInTime : Type 0 → Type 0
 SenderIsInTime X =
     (byte_ns : ℕ) (class : Priority) (flows : List Flow) (vl_of : X → ℕ) (charge_of : Entry X → ℕ)
     (entries : List (Entry X)) (turns : List (Turn X)) →
-    IsSender byte_ns class flows → AreInOrder entries →
+    IsSender byte_ns class flows →
+    AreInOrder entries →
     All (λ e. IsCharged vl_of charge_of flows e) entries →
     AreReleased vl_of charge_of flows entries →
     AreTurns byte_ns entries turns →

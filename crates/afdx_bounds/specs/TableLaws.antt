@@ -42,7 +42,8 @@ abbrev pub EachHasItsSlot : Type 0 → Type 0
 EachHasItsSlot X =
     (item_of : Arrival → X) (bytes_of : X → List ℕ) (t : Rows) (side : Side) (system : ℕ)
     (s : SystemRow) (arrivals : List Arrival) (turns : List (Turn X)) (place : ℕ) (l : LinkRow) →
-    IsOutputOf item_of bytes_of t system s arrivals → slice_get t.links place ≡ Some l →
+    IsOutputOf item_of bytes_of t system s arrivals →
+    slice_get t.links place ≡ Some l →
     is_to system l ≡ true →
     AreTurns (byte_ns_at t s.port) (entries_to item_of t side s.port arrivals) turns →
     All
@@ -56,7 +57,8 @@ EachSlotHasCome X =
     (s : SystemRow)
     (arrivals : List Arrival) (turns : List (Turn X)) (place : ℕ) (l : LinkRow) (until entry : ℕ)
     (e : Entry X) →
-    IsOutputOf item_of bytes_of t system s arrivals → slice_get t.links place ≡ Some l →
+    IsOutputOf item_of bytes_of t system s arrivals →
+    slice_get t.links place ≡ Some l →
     is_to system l ≡ true →
     AreTurns (byte_ns_at t s.port) (entries_to item_of t side s.port arrivals) turns →
     ((z : Turn X) →
@@ -64,4 +66,5 @@ EachSlotHasCome X =
     IsAfter until (due_at z)) →
     slice_get (entries_to item_of t side s.port arrivals) entry ≡ Some e →
     link_in bytes_of e.item ≡ l.vl →
-    e.time + 1000 * l.latency_us ≤ until → has_turn turns entry ≡ true
+    e.time + 1000 * l.latency_us ≤ until →
+    has_turn turns entry ≡ true

@@ -69,8 +69,10 @@ pub record IsPortOf (t : Rows) (system : ℕ) (s : SystemRow) : Type 0 where
 
 abbrev pub PortsAreOfSystems : Type 0
 PortsAreOfSystems =
-    (t : Rows) (system : ℕ) (s : SystemRow) → IsLawfulSwitch t →
-    slice_get t.systems system ≡ Some s → IsPortOf t system s
+    (t : Rows) (system : ℕ) (s : SystemRow) →
+    IsLawfulSwitch t →
+    slice_get t.systems system ≡ Some s →
+    IsPortOf t system s
 
 -- where the tables are admitted, each system's output port is, with the flows that they say go
 -- there
@@ -80,8 +82,11 @@ pub record ServesTables (t : Rows) (side : Side) (system : ℕ) (s : SystemRow) 
 
 abbrev pub EachOutputIsServed : Type 0
 EachOutputIsServed =
-    (t : Rows) (side : Side) (system : ℕ) (s : SystemRow) → IsLawfulSwitch t → IsServing t →
-    slice_get t.systems system ≡ Some s → ServesTables t side system s
+    (t : Rows) (side : Side) (system : ℕ) (s : SystemRow) →
+    IsLawfulSwitch t →
+    IsServing t →
+    slice_get t.systems system ≡ Some s →
+    ServesTables t side system s
 
 -- the links that a system sends, in one class, as its own port sees them
 abbrev pub sent_flow : ℕ → Priority → List LinkRow → LinkRow → Flow
@@ -99,6 +104,8 @@ sent_flows t class system s = map (sent_flow (byte_ns s) class (links_from t.lin
 -- where the tables are admitted, they are the links of a sender
 abbrev pub EachSystemIsSender : Type 0
 EachSystemIsSender =
-    (t : Rows) (class : Priority) (system : ℕ) (s : SystemRow) → IsLawful t → IsAdmitted t →
+    (t : Rows) (class : Priority) (system : ℕ) (s : SystemRow) →
+    IsLawful t →
+    IsAdmitted t →
     slice_get t.systems system ≡ Some s →
     IsSender (byte_ns s) class (sent_flows t class system s)

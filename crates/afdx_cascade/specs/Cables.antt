@@ -94,14 +94,16 @@ pub record GoesOn (side : Side) (j k : Hop) : Type 0 where
 abbrev pub CablesBringInOrder : Type 0
 CablesBringInOrder =
     (h : Hop) (side : Side) (port to : ℕ) (turns : List (Turn HeldFrame)) →
-    Gives h side port turns → AreTimed (brought_by side to turns)
+    Gives h side port turns →
+    AreTimed (brought_by side to turns)
 
 -- From a port leave, in order, the first of the link's accepted frames, each at most the latency
 -- after it arrived.
 abbrev pub FirstFramesLeave : Type 0
 FirstFramesLeave =
     (h : Hop) (side : Side) (port to : ℕ) (turns : List (Turn HeldFrame)) →
-    IsHop h → Gives h side port turns →
+    IsHop h →
+    Gives h side port turns →
     AreFirstCopies (latency_at h) (accepted_at h side)
     (named h.link.vl (brought_by side to turns))
 
@@ -109,15 +111,19 @@ FirstFramesLeave =
 abbrev pub AllFramesLeave : Type 0
 AllFramesLeave =
     (h : Hop) (side : Side) (port to : ℕ) →
-    IsHop h → goes_to h.tables h.link port ≡ true →
+    IsHop h →
+    goes_to h.tables h.link port ≡ true →
     AreCopies (latency_at h) (accepted_at h side)
     (named h.link.vl (brought_by side to (all_turns h side port)))
 
 -- what comes over a cable is accepted
 pub record IsAcceptedAgain (side : Side) (j k : Hop) : Type 0 where
   -- no frame of the link that it brings is dropped
-  pub none_dropped : (later past : List Arrival) (x : Arrival) → k.arrivals ≡ later ++ x ∷ past →
-      x.side ≡ side → (rule_at k).port ≡ x.port → names k.link.vl x.bytes ≡ true →
+  pub none_dropped : (later past : List Arrival) (x : Arrival) →
+      k.arrivals ≡ later ++ x ∷ past →
+      x.side ≡ side →
+      (rule_at k).port ≡ x.port →
+      names k.link.vl x.bytes ≡ true →
       reason_of k.tables past x ≡ None
   -- those are the accepted ones there, and no others
   pub accepted : accepted_at k side ≡ named k.link.vl (arrivals_at side (rule_at k).port k.arrivals)

@@ -35,14 +35,16 @@ IsWhole side k (j ∷ before) way =
 -- arrived there.
 abbrev pub FirstAreAccepted : Type 0
 FirstAreAccepted =
-    (side : Side) (k : Hop) (before : List Hop) → IsWay side k before →
+    (side : Side) (k : Hop) (before : List Hop) →
+    IsWay side k before →
     AreFirstCopies (latency_of before) (accepted_at (first_of k before) side) (accepted_at k side)
 
 -- and from its ports they leave
 abbrev pub FirstLeave : Type 0
 FirstLeave =
     (side : Side) (k : Hop) (before : List Hop) (port to : ℕ) (turns : List (Turn HeldFrame)) →
-    IsWay side k before → Gives k side port turns →
+    IsWay side k before →
+    Gives k side port turns →
     AreFirstCopies (latency_of (k ∷ before)) (accepted_at (first_of k before) side)
     (named k.link.vl (brought_by side to turns))
 
@@ -58,7 +60,8 @@ AllAreAccepted =
 abbrev pub AllLeave : Type 0
 AllLeave =
     (side : Side) (k : Hop) (before : List Hop) (port to : ℕ) → (way : IsWay side k before) →
-    IsWhole side k before way → goes_to k.tables k.link port ≡ true →
+    IsWhole side k before way →
+    goes_to k.tables k.link port ≡ true →
     AreCopies (latency_of (k ∷ before)) (accepted_at (first_of k before) side)
     (named k.link.vl (brought_by side to (all_turns k side port)))
 
@@ -74,7 +77,8 @@ bytes_of arrivals = map (λ x. x.bytes) arrivals
 pub record HasSameFrames (side : Side) (k m : Hop) : Type 0 where
   pub accepted : bytes_of (accepted_at k side) ≡ bytes_of (accepted_at m side)
   pub leave : (port other to : ℕ) →
-      goes_to k.tables k.link port ≡ true → goes_to m.tables m.link other ≡ true →
+      goes_to k.tables k.link port ≡ true →
+      goes_to m.tables m.link other ≡ true →
       bytes_of (named k.link.vl (brought_by side to (all_turns k side port)))
       ≡ bytes_of (named m.link.vl (brought_by side to (all_turns m side other)))
 
@@ -84,8 +88,10 @@ pub record HasSameFrames (side : Side) (k m : Hop) : Type 0 where
 abbrev pub FramesAreAlone : Type 0
 FramesAreAlone =
     (side : Side) (k m : Hop) (before others : List Hop) →
-    (way : IsWay side k before) → IsWhole side k before way →
-    (also : IsWay side m others) → IsWhole side m others also →
+    (way : IsWay side k before) →
+    IsWhole side k before way →
+    (also : IsWay side m others) →
+    IsWhole side m others also →
     rule_at (first_of k before) ≡ rule_at (first_of m others) →
     map untagged (own (first_of k before).link.vl side (first_of k before).arrivals)
     ≡ map untagged (own (first_of m others).link.vl side (first_of m others).arrivals) →

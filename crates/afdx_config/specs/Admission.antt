@@ -37,20 +37,24 @@ sender_jitter ns own = fixed_jitter + sending_time regulation_of_link ns own
 -- what a switch and its receivers need of admission, whoever sends to the switch: the four lines of
 -- each output port, and that the copies of a frame are no further apart than its link's skew
 pub record IsServing (t : Rows) : Type 0 where
-  pub ports : (i : ℕ) (s : SystemRow) → slice_get t.systems i ≡ Some s →
+  pub ports : (i : ℕ) (s : SystemRow) →
+      slice_get t.systems i ≡ Some s →
       IsPortAdmitted (byte_ns s) t.buffer (flows_to t.links i)
   pub skews : (i : ℕ) (l : LinkRow) → slice_get t.links i ≡ Some l → l.latency_us ≤ l.skew_us
 
 -- and what its senders need too: all seven lines
 pub record IsAdmitted (t : Rows) : Type 0 where
   -- no overload, buffer, and the latency of high and of low frames
-  pub ports : (i : ℕ) (s : SystemRow) → slice_get t.systems i ≡ Some s →
+  pub ports : (i : ℕ) (s : SystemRow) →
+      slice_get t.systems i ≡ Some s →
       IsPortAdmitted (byte_ns s) t.buffer (flows_to t.links i)
   -- a system's jitter is not more than it may be
-  pub senders : (i : ℕ) (s : SystemRow) → slice_get t.systems i ≡ Some s →
+  pub senders : (i : ℕ) (s : SystemRow) →
+      slice_get t.systems i ≡ Some s →
       sender_jitter (byte_ns s) (links_from t.links i) ≤ greatest_jitter
   -- a link's jitter allows for that of its sender
-  pub jitters : (i : ℕ) (l : LinkRow) (s : SystemRow) → slice_get t.links i ≡ Some l →
+  pub jitters : (i : ℕ) (l : LinkRow) (s : SystemRow) →
+      slice_get t.links i ≡ Some l →
       slice_get t.systems l.from ≡ Some s →
       sender_jitter (byte_ns s) (links_from t.links l.from) ≤ 1000 * l.jitter_us
   -- the copies of a frame are no further apart than the link's skew

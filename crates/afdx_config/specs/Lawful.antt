@@ -19,8 +19,11 @@ IsOneOf ns n = list_any (λ m. nat_eq m n) ns ≡ true
 -- two rows that agree in this are one row
 unfoldable pub AreDistinct : {R A : Type 0} → (R → A) → List R → Type 0
 AreDistinct {R} f rows =
-    (i j : ℕ) (a b : R) → slice_get rows i ≡ Some a → slice_get rows j ≡ Some b →
-    f a ≡ f b → i ≡ j
+    (i j : ℕ) (a b : R) →
+    slice_get rows i ≡ Some a →
+    slice_get rows j ≡ Some b →
+    f a ≡ f b →
+    i ≡ j
 
 pub record IsSystem (profile : ℕ) (s : SystemRow) : Type 0 where
   pub name : is_name s.name ≡ true

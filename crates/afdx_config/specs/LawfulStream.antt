@@ -36,9 +36,15 @@ pub record IsLawfulStream (s : SystemRow) (l : LinkRow) (messages : List Message
   pub moment_count : length moments ≡ length stream
   pub message_count : length messages ≡ length stream
   pub sendable : AreSendable s l messages
-  pub apart : (k r later : ℕ) → slice_get moments k ≡ Some r →
-      slice_get moments (k + 1) ≡ Some later → r + bag (regulation_of_link l) ≤ later
-  pub shaped : (k r : ℕ) (y : Sending) → slice_get moments k ≡ Some r →
-      slice_get stream k ≡ Some y → (r ≤ y.time) × (y.time ≤ r + jitter (regulation_of_link l))
-  pub sent : (k : ℕ) (x : Sent) (y : Sending) → sent_at messages k ≡ Some x →
-      slice_get stream k ≡ Some y → IsSent s l x y
+  pub apart : (k r later : ℕ) →
+      slice_get moments k ≡ Some r →
+      slice_get moments (k + 1) ≡ Some later →
+      r + bag (regulation_of_link l) ≤ later
+  pub shaped : (k r : ℕ) (y : Sending) →
+      slice_get moments k ≡ Some r →
+      slice_get stream k ≡ Some y →
+      (r ≤ y.time) × (y.time ≤ r + jitter (regulation_of_link l))
+  pub sent : (k : ℕ) (x : Sent) (y : Sending) →
+      sent_at messages k ≡ Some x →
+      slice_get stream k ≡ Some y →
+      IsSent s l x y

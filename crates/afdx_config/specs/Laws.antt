@@ -7,9 +7,11 @@ use Rattle.afdx_config.specs.Admission.{IsAdmitted, IsServing}
 
 -- a look-up by what tells a row from the others gives the row's own place
 pub record RowsAreFound (t : Rows) : Type 0 where
-  pub by_name : (i : ℕ) (s : SystemRow) → slice_get t.systems i ≡ Some s →
+  pub by_name : (i : ℕ) (s : SystemRow) →
+      slice_get t.systems i ≡ Some s →
       system_named t.systems s.name ≡ Some i
-  pub by_port : (i : ℕ) (s : SystemRow) → slice_get t.systems i ≡ Some s →
+  pub by_port : (i : ℕ) (s : SystemRow) →
+      slice_get t.systems i ≡ Some s →
       system_at_port t.systems s.port ≡ Some i
   pub by_vl : (i : ℕ) (l : LinkRow) → slice_get t.links i ≡ Some l → link_of t.links l.vl ≡ Some i
 

@@ -71,9 +71,11 @@ FrameCarries p c = (p.kind ≡ 0x0800) × Carries p.body c.from_port c.to_port c
 
 -- what is computed of a frame is what its body carries, or its first fault
 pub record DatagramIsComputed : Type 0 where
-  pub carried : (bytes : List ℕ) (p : FrameParts) (c : Carried) → AreBytes bytes →
+  pub carried : (bytes : List ℕ) (p : FrameParts) (c : Carried) →
+      AreBytes bytes →
       IsFrameOf bytes p →
       (carried_by bytes ≡ Ok c) ↔ FrameCarries p c
-  pub fault : (bytes : List ℕ) (p : FrameParts) (fault : IpFault) → AreBytes bytes →
+  pub fault : (bytes : List ℕ) (p : FrameParts) (fault : IpFault) →
+      AreBytes bytes →
       IsFrameOf bytes p →
       (carried_by bytes ≡ Err fault) ↔ DatagramFault p.kind p.body fault

@@ -74,7 +74,9 @@ pub record AreAtPlaces (bytes : List ℕ) (p : FrameParts) : Type 0 where
 -- that the layout gives
 pub record FrameIsComputed : Type 0 where
   pub at_places : (bytes : List ℕ) (p : FrameParts) → IsFrameOf bytes p → AreAtPlaces bytes p
-  pub frame : (bytes : List ℕ) (p : FrameParts) → AreBytes bytes →
+  pub frame : (bytes : List ℕ) (p : FrameParts) →
+      AreBytes bytes →
       (frame_of bytes ≡ Ok p) ↔ IsFrameOf bytes p
-  pub fault : (bytes : List ℕ) (fault : MacFault) → AreBytes bytes →
+  pub fault : (bytes : List ℕ) (fault : MacFault) →
+      AreBytes bytes →
       (frame_of bytes ≡ Err fault) ↔ FrameFault bytes fault

@@ -20,10 +20,14 @@ NoneRead bytes =
 -- bytes are read exactly where the frame and what it carries are computed, and with these fields
 -- alone
 pub record ReadingIsComputed : Type 0 where
-  pub computed : (bytes : List ℕ) (p : FrameParts) (c : Carried) → AreBytes bytes →
-      frame_of bytes ≡ Ok p → carried_by bytes ≡ Ok c → Reads bytes p c
+  pub computed : (bytes : List ℕ) (p : FrameParts) (c : Carried) →
+      AreBytes bytes →
+      frame_of bytes ≡ Ok p →
+      carried_by bytes ≡ Ok c →
+      Reads bytes p c
   pub only_one : (bytes : List ℕ) (vl from_port to_port number : ℕ) (payload : List ℕ) →
-      AreBytes bytes → Read bytes vl from_port to_port payload number →
+      AreBytes bytes →
+      Read bytes vl from_port to_port payload number →
       (p : FrameParts) × (frame_of bytes ≡ Ok p) × (p.link ≡ record { 0 = vl })
       × (p.number ≡ number)
       × (carried_by bytes ≡ Ok (record {
@@ -47,5 +51,8 @@ pub record IsTheFrame (a : Address) (number : ℕ) (side : Side) (p frame : List
 -- the frame that is computed is the one that is built
 abbrev pub BuiltIsComputed : Type 0
 BuiltIsComputed =
-    (a : Address) (number : ℕ) (side : Side) (p : List ℕ) → Buildable a p → AreBytes p →
-    number < 2 ^ 8 → IsTheFrame a number side p (built_frame a number side p)
+    (a : Address) (number : ℕ) (side : Side) (p : List ℕ) →
+    Buildable a p →
+    AreBytes p →
+    number < 2 ^ 8 →
+    IsTheFrame a number side p (built_frame a number side p)

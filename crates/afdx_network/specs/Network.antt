@@ -85,11 +85,18 @@ pub record StandsFor (t : Rows) (n : Network) (events : List Event) : Type 0 whe
   pub in_order : AreInOrder events
   pub follows : EachFollows t events
   -- they come before what arrives next, at any time that isn't past
-  pub past : (time : ℕ) → IsUntil n time → (e : Event) → IsAmong e events →
+  pub past : (time : ℕ) →
+      IsUntil n time →
+      (e : Event) →
+      IsAmong e events →
       is_below (key e) (time ∷ 1 ∷ length (arrivals_in events) ∷ []) ≡ true
   -- and before the next turn of each port
-  pub next : (side : Side) (port : ℕ) (s : Turn HeldFrame) → 1 ≤ port → port ≤ last_port →
-      IsNextOn t events side port s → (e : Event) → IsAmong e events →
+  pub next : (side : Side) (port : ℕ) (s : Turn HeldFrame) →
+      1 ≤ port →
+      port ≤ last_port →
+      IsNextOn t events side port s →
+      (e : Event) →
+      IsAmong e events →
       is_before e (Left (departure_after events side port s)) ≡ true
 
 -- what is handed out for a departure

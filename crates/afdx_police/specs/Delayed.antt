@@ -26,7 +26,8 @@ AreDelayed delay (x ∷ past) (y ∷ later) = IsDelayed delay x y × AreDelayed 
 abbrev pub DelayedAreAccepted : Type 0
 DelayedAreAccepted =
     (delay : ℕ) (before next : Regulation) (came later : List Charged) →
-    HasRoom delay before next → AreDelayed delay (accepted_of before came) later →
+    HasRoom delay before next →
+    AreDelayed delay (accepted_of before came) later →
     accepted_of next later ≡ later
 
 -- all that came was accepted, and comes later, and not all of it is accepted by the next
@@ -40,7 +41,10 @@ pub record IsRefusedLater (delay : ℕ) (before next : Regulation) : Type 0 wher
 -- no less room is enough, where jitter and delay together are at most the gap
 abbrev pub RoomIsNeeded : Type 0
 RoomIsNeeded =
-    (delay : ℕ) (before next : Regulation) → 0 < before.smax →
-    next.bag_ms ≡ before.bag_ms → next.smax ≡ before.smax →
-    jitter before + delay ≤ bag before → jitter next < jitter before + delay →
+    (delay : ℕ) (before next : Regulation) →
+    0 < before.smax →
+    next.bag_ms ≡ before.bag_ms →
+    next.smax ≡ before.smax →
+    jitter before + delay ≤ bag before →
+    jitter next < jitter before + delay →
     IsRefusedLater delay before next

@@ -29,7 +29,8 @@ FitsIsEachWindow =
 -- a frame fits by the window rule exactly if the account's level is at least its charge
 abbrev pub FitsIsAccountTest : Type 0
 FitsIsAccountTest =
-    (link : Regulation) (accepted : List Charged) (last : Charged) → IsTrue (is_bag link.bag_ms) →
+    (link : Regulation) (accepted : List Charged) (last : Charged) →
+    IsTrue (is_bag link.bag_ms) →
     0 < last.charge →
     IsTrue (fits link accepted last) ↔ (byte_units * last.charge ≤ level link accepted last.time)
 
@@ -37,7 +38,8 @@ FitsIsAccountTest =
 -- and one fits if there is room
 pub record AccountMoves (link : Regulation) : Type 0 where
   pub start : (time : ℕ) → missing link [] time ≡ 0
-  pub gap : (accepted : List Charged) (time later : ℕ) → All (λ x. x.time ≤ time) accepted →
+  pub gap : (accepted : List Charged) (time later : ℕ) →
+      All (λ x. x.time ≤ time) accepted →
       time ≤ later →
       missing link accepted later ≡ missing link accepted time - fill_rate link * (later - time)
   pub accept : (accepted : List Charged) (last : Charged) →
@@ -58,7 +60,8 @@ ArrivalsAreOffers = (rule : Rule) (past : List Arrival) →
 
 -- one more arrival is a link's own on a side exactly if it came there and its bytes name the link
 pub record OwnSteps (vl : ℕ) (side : Side) (x : Arrival) (past : List Arrival) : Type 0 where
-  pub one_more : is_side side x.side ≡ true → names vl x.bytes ≡ true →
+  pub one_more : is_side side x.side ≡ true →
+      names vl x.bytes ≡ true →
       own vl side (x ∷ past) ≡ x ∷ own vl side past
   pub other_side : is_side side x.side ≡ false → own vl side (x ∷ past) ≡ own vl side past
   pub other_link : names vl x.bytes ≡ false → own vl side (x ∷ past) ≡ own vl side past
@@ -73,14 +76,16 @@ pub record StrangerIsRefused (rule : Rule) (port : ℕ) (bytes : List ℕ) : Typ
 
 abbrev pub StrangersAreRefused : Type 0
 StrangersAreRefused =
-    (rule : Rule) (port : ℕ) (bytes : List ℕ) → names rule.vl bytes ≡ false →
+    (rule : Rule) (port : ℕ) (bytes : List ℕ) →
+    names rule.vl bytes ≡ false →
     StrangerIsRefused rule port bytes
 
 -- bytes that are no frame are dropped for that, whatever the rule and the port
 abbrev pub NoFrameIsRefused : Type 0
 NoFrameIsRefused =
     (rule : Option Rule) (port : ℕ) (bytes : List ℕ) (fault : MacFault) →
-    frame_of bytes ≡ Err fault → fault_of rule port bytes ≡ Some (reason_for fault)
+    frame_of bytes ≡ Err fault →
+    fault_of rule port bytes ≡ Some (reason_for fault)
 
 -- they are dropped in the word of their fault
 abbrev pub FaultsKeepTheirWords : Type 0
@@ -95,7 +100,8 @@ pub record FaultChangesNothing (rule : Rule) (held : LinkAccount) (past : List A
 abbrev pub FaultsChangeNothing : Type 0
 FaultsChangeNothing =
     (rule : Rule) (held : LinkAccount) (past : List Arrival) (x : Arrival) (fault : Reason) →
-    fault_of (Some rule) x.port x.bytes ≡ Some fault → FaultChangesNothing rule held past x fault
+    fault_of (Some rule) x.port x.bytes ≡ Some fault →
+    FaultChangesNothing rule held past x fault
 
 -- an arrival has no fault exactly if nothing is wrong in it
 abbrev pub SoundHasNoFault : Type 0
@@ -120,7 +126,8 @@ pub record VerdictDecides (rule : Rule) (past : List Arrival) (x : Arrival) : Ty
       × IsTrue (fits (regulation_of rule) (accepted_own rule past) (charged_by rule x)))
   pub accepted : reason_after rule past x ≡ None →
       accepted_own rule (x ∷ past) ≡ charged_by rule x ∷ accepted_own rule past
-  pub dropped : (reason : Reason) → reason_after rule past x ≡ Some reason →
+  pub dropped : (reason : Reason) →
+      reason_after rule past x ≡ Some reason →
       accepted_own rule (x ∷ past) ≡ accepted_own rule past
 
 abbrev pub VerdictsDecide : Type 0

@@ -15,5 +15,6 @@ IsRegular link (x ∷ past) next =
 -- all of such a stream is accepted
 abbrev pub RegularIsAccepted : Type 0
 RegularIsAccepted =
-    (link : Regulation) (stream : List Charged) (next : ℕ) → IsRegular link stream next →
+    (link : Regulation) (stream : List Charged) (next : ℕ) →
+    IsRegular link stream next →
     accepted_of link stream ≡ stream

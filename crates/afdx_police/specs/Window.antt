@@ -43,6 +43,7 @@ total_charge frames = sum_by (λ x. x.charge) frames
 -- one, the two newest, and so on
 pub record Fits (link : Regulation) (accepted : List Charged) (last : Charged) : Type 0 where
   pub alone : bag link * last.charge ≤ link.smax * (bag link + jitter link)
-  pub windows : (k : ℕ) → k < length accepted →
+  pub windows : (k : ℕ) →
+      k < length accepted →
       bag link * (total_charge (take (k + 1) accepted) + last.charge)
       ≤ link.smax * ((last.time - (slice_index_or accepted k last).time) + bag link + jitter link)

@@ -79,8 +79,11 @@ module _ {X : Type 0} where
       (from place : ℕ) (e : Entry X) : Type 0 where
     pub from_on : from ≤ place
     pub own : IsWithoutTurn entries turns place e
-    pub first : (q : ℕ) (d : Entry X) → from ≤ q → IsWithoutTurn entries turns q d →
-        d.priority ≡ priority → place ≤ q
+    pub first : (q : ℕ) (d : Entry X) →
+        from ≤ q →
+        IsWithoutTurn entries turns q d →
+        d.priority ≡ priority →
+        place ≤ q
 
   -- these frames are, in order, the entries of a class without a turn, from a place on
   abbrev pub IsQueue : (X → Facts) → List (Entry X) → List (Turn X) → Priority → ℕ →

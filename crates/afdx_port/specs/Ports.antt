@@ -27,10 +27,15 @@ module _ {X : Type 0} where
     pub below : place < length ports
     pub p : PortState X
     pub stands : slice_get ports place ≡ Some p
-    pub least : (j : ℕ) (q : PortState X) → j < length ports → slice_get ports j ≡ Some q →
+    pub least : (j : ℕ) (q : PortState X) →
+        j < length ports →
+        slice_get ports j ≡ Some q →
         order_at (due_of facts p) ≤ order_at (due_of facts q)
-    pub first : (j : ℕ) (q : PortState X) → j < length ports → slice_get ports j ≡ Some q →
-        order_at (due_of facts p) ≡ order_at (due_of facts q) → place ≤ j
+    pub first : (j : ℕ) (q : PortState X) →
+        j < length ports →
+        slice_get ports j ≡ Some q →
+        order_at (due_of facts p) ≡ order_at (due_of facts q) →
+        place ≤ j
 
   -- the place of the first turn is known
   pub record AreServed (facts : X → Facts) (ports : List (PortState X)) (place : ℕ) : Type 0 where

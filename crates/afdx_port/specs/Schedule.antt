@@ -62,14 +62,22 @@ module _ {X : Type 0} where
     -- at which that turn is over and some entry without an earlier turn has come
     pub come : s.entry.time ≤ s.moment
     pub after : end_of earlier ≤ s.moment
-    pub least : (t place : ℕ) (e : Entry X) → IsWithoutTurn entries earlier place e → e.time ≤ t →
-        end_of earlier ≤ t → s.moment ≤ t
+    pub least : (t place : ℕ) (e : Entry X) →
+        IsWithoutTurn entries earlier place e →
+        e.time ≤ t →
+        end_of earlier ≤ t →
+        s.moment ≤ t
     -- at that moment no high entry without an earlier turn has come, unless its own entry is high
-    pub high_first : (place : ℕ) (e : Entry X) → IsWithoutTurn entries earlier place e →
-        e.time ≤ s.moment → e.priority ≡ High → s.entry.priority ≡ High
+    pub high_first : (place : ℕ) (e : Entry X) →
+        IsWithoutTurn entries earlier place e →
+        e.time ≤ s.moment →
+        e.priority ≡ High →
+        s.entry.priority ≡ High
     -- no entry of the same class that stands before its own is without an earlier turn
-    pub in_order : (place : ℕ) (e : Entry X) → IsWithoutTurn entries earlier place e →
-        e.priority ≡ s.entry.priority → s.place ≤ place
+    pub in_order : (place : ℕ) (e : Entry X) →
+        IsWithoutTurn entries earlier place e →
+        e.priority ≡ s.entry.priority →
+        s.place ≤ place
 
   -- each turn is the next one after those before it
   abbrev pub AreTurns : ℕ → List (Entry X) → List (Turn X) → Type 0

@@ -12,6 +12,7 @@ module _ {X : Type 0} where
   -- the keys are those of these ports
   pub record IsServing (facts : X → Facts) (ports : List (PortState X)) (s : Serving) : Type 0 where
     pub port_count : length ports ≡ last_port
-    pub keys : (place : ℕ) (p : PortState X) → slice_get ports place ≡ Some p →
+    pub keys : (place : ℕ) (p : PortState X) →
+        slice_get ports place ≡ Some p →
         slice_get s.keys place ≡ Some (key_of (order_at (due_of facts p)) place)
     pub limit : AreLimited facts ports (length ports)

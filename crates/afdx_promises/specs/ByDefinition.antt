@@ -21,7 +21,8 @@ use Rattle.afdx_promises.specs.Ports.{AreItsTurns}
 pub record AreItsOnlyTurns (t : Rows) (side : Side) (port : ℕ) (arrivals : List Arrival)
     (turns : List (Turn HeldFrame)) : Type 0 where
   pub are : AreItsTurns t side port arrivals turns
-  pub only : (others : List (Turn HeldFrame)) → AreItsTurns t side port arrivals others →
+  pub only : (others : List (Turn HeldFrame)) →
+      AreItsTurns t side port arrivals others →
       others ≡ turns
 
 -- the row of the link that accepts an arrival after these and goes on to this port, if one does
@@ -62,7 +63,9 @@ pub record IsByDefinition (t : Rows) (arrivals : List Arrival) (c : Admission) :
   pub past : List Arrival
   pub came : arrivals ≡ later ++ c.arrival ∷ past
   pub reason : c.reason ≡ reason_of t past c.arrival
-  pub lost : (port : ℕ) → 1 ≤ port → port ≤ last_port →
+  pub lost : (port : ℕ) →
+      1 ≤ port →
+      port ≤ last_port →
       IsIn port c.lost ↔ IsLostBySchedule t c.arrival.side port past c.arrival
 
 -- all events of these arrivals, in their order, are those of the definition: the turns of each port
@@ -73,7 +76,9 @@ pub record AreByDefinition (t : Rows) (arrivals : List Arrival) (events : List E
   pub in_order : AreEvents t arrivals events
   pub admissions : (c : Admission) → IsAmong (Came c) events → IsByDefinition t arrivals c
   pub entries : (side : Side) (port : ℕ) → EntriesGrow t side port arrivals
-  pub turns : (side : Side) (port : ℕ) → 1 ≤ port → port ≤ last_port →
+  pub turns : (side : Side) (port : ℕ) →
+      1 ≤ port →
+      port ≤ last_port →
       AreItsOnlyTurns t side port arrivals (taken_at port (turns_on side events))
 
 -- so are those up to the last of these arrivals: the turns of each port so far begin the schedule
@@ -83,7 +88,9 @@ pub record AreByDefinitionSoFar (t : Rows) (arrivals : List Arrival) (events : L
   pub in_order : AreEventsSoFar t arrivals events
   pub admissions : (c : Admission) → IsAmong (Came c) events → IsByDefinition t arrivals c
   pub entries : (side : Side) (port : ℕ) → EntriesGrow t side port arrivals
-  pub turns : (side : Side) (port : ℕ) → 1 ≤ port → port ≤ last_port →
+  pub turns : (side : Side) (port : ℕ) →
+      1 ≤ port →
+      port ≤ last_port →
       (later : List (Turn HeldFrame))
       × AreItsOnlyTurns t side port arrivals (later ++ taken_at port (turns_on side events))
 

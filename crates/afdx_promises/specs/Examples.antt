@@ -82,7 +82,8 @@ pub record PremisesAreMet : Type 0 where
   pub sends : IsStreamOf tables link (heard ∷ unheard ∷ []) stream
   pub fed : (side : Side) → IsFed tables link stream side arrivals
   -- so the one message that the receiver listens to is delivered, once
-  pub delivers : (came : List Arrived) → AreReceptions tables 2 arrivals came →
+  pub delivers : (came : List Arrived) →
+      AreReceptions tables 2 arrivals came →
       reverse (messages_in (answers_on tables 1 1 came)) ≡ heard ∷ []
   -- and the M lines of the receiver are that one message
   pub told_once : reverse (messages_told 1 1 (told tables arrivals)) ≡ heard ∷ []

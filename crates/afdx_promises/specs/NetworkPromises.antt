@@ -31,10 +31,13 @@ use Rattle.afdx_switch.specs.Streams.{at_own_port, AreFirstOf, IsFed, IsStreamOf
 -- over its link's own arrivals on its side; one that names no link by its shape; and where it is
 -- accepted, it is lost nowhere
 pub record IsJudgedAlone (t : Rows) (past : List Arrival) (x : Arrival) : Type 0 where
-  pub by_own : (place : ℕ) (l : LinkRow) → slice_get t.links place ≡ Some l → names l.vl x.bytes
-      ≡ true → reason_of t past x ≡ reason_after (rule_of t l) (own l.vl x.side past) x
-  pub unknown : ((place : ℕ) (l : LinkRow) → slice_get t.links place ≡ Some l → names l.vl x.bytes
-      ≡ false) → reason_of t past x ≡ fault_of None x.port x.bytes
+  pub by_own : (place : ℕ) (l : LinkRow) →
+      slice_get t.links place ≡ Some l →
+      names l.vl x.bytes ≡ true →
+      reason_of t past x ≡ reason_after (rule_of t l) (own l.vl x.side past) x
+  pub unknown :
+      ((place : ℕ) (l : LinkRow) → slice_get t.links place ≡ Some l → names l.vl x.bytes ≡ false) →
+      reason_of t past x ≡ fault_of None x.port x.bytes
   pub kept : (port : ℕ) → is_lost_at t past x port ≡ false
 
 -- what the receiver of a system makes of what comes to it on a link
@@ -51,24 +54,29 @@ pub record IsReceivedAlone (t : Rows) (arrivals : List Arrival) (system : ℕ) (
 -- the promises
 pub record PortsKeepPromises (t : Rows) (arrivals : List Arrival) : Type 0 where
   -- each virtual link's verdicts are the window rule's answer on that link's own arrivals alone
-  pub verdicts : (later past : List Arrival) (x : Arrival) → arrivals ≡ later ++ x ∷ past →
+  pub verdicts : (later past : List Arrival) (x : Arrival) →
+      arrivals ≡ later ++ x ∷ past →
       IsJudgedAlone t past x
   -- the turns of each port are the schedule of its entries
   pub turns : (side : Side) (port : ℕ) →
       AreItsTurns t side port arrivals (turns_at t side port arrivals)
   -- from each port that a link goes to leave exactly its accepted frames, byte for byte and in
   -- order, and from others none
-  pub frames : (side : Side) (port place : ℕ) (l : LinkRow) → slice_get t.links place ≡ Some l →
+  pub frames : (side : Side) (port place : ℕ) (l : LinkRow) →
+      slice_get t.links place ≡ Some l →
       frames_left l.vl (turns_at t side port arrivals)
       ≡ (if goes_to t l port then accepted_frames t l side arrivals else [])
   -- each of them leaves within the link's latency
-  pub in_time : (side : Side) (port place : ℕ) (l : LinkRow) → slice_get t.links place ≡ Some l →
+  pub in_time : (side : Side) (port place : ℕ) (l : LinkRow) →
+      slice_get t.links place ≡ Some l →
       AreInTime l (turns_at t side port arrivals)
   -- what a receiver delivers on a link is the integrity and redundancy rules' answer on that link's
   -- arrivals there alone
   pub receptions : (system place : ℕ) (s : SystemRow) (l : LinkRow) (came : List Arrived) →
-      slice_get t.systems system ≡ Some s → slice_get t.links place ≡ Some l →
-      is_to system l ≡ true → AreReceptions t s.port arrivals came →
+      slice_get t.systems system ≡ Some s →
+      slice_get t.links place ≡ Some l →
+      is_to system l ≡ true →
+      AreReceptions t s.port arrivals came →
       IsReceivedAlone t arrivals system l came
 
 abbrev pub PortsAreAsPromised : Type 0
@@ -79,7 +87,8 @@ PortsAreAsPromised = (t : Rows) (arrivals : List Arrival) → IsAdmittedRun t ar
 -- those
 abbrev pub LeftSoFarAreFirst : Type 0
 LeftSoFarAreFirst = (t : Rows) (arrivals : List Arrival) (side : Side) (port place : ℕ)
-    (l : LinkRow) (turns : List (Turn HeldFrame)) → IsAdmittedRun t arrivals →
+    (l : LinkRow) (turns : List (Turn HeldFrame)) →
+    IsAdmittedRun t arrivals →
     slice_get t.links place ≡ Some l →
     AreTurns (byte_ns_at t port) (entries_at t side port arrivals) turns →
     (rest : List Passing) × ((if goes_to t l port then accepted_frames t l side arrivals else [])
@@ -114,7 +123,8 @@ abbrev pub LinksAreApart : Type 0
 LinksAreApart = (t : Rows) (arrivals others : List Arrival) (side : Side) (place : ℕ)
     (l : LinkRow) → IsAdmittedRun t arrivals → IsAdmittedRun t others → slice_get t.links place
     ≡ Some l →
-    own l.vl side arrivals ≡ own l.vl side others → IsApart t arrivals others side l
+    own l.vl side arrivals ≡ own l.vl side others →
+    IsApart t arrivals others side l
 
 -- End to end, also where a network fails in the middle: where the arrivals on each side are the
 -- first frames of one lawful stream of a link, each receiver of the link delivers exactly the
@@ -122,8 +132,11 @@ LinksAreApart = (t : Rows) (arrivals others : List Arrival) (side : Side) (place
 abbrev pub MessagesComeSoFar : Type 0
 MessagesComeSoFar = (t : Rows) (arrivals : List Arrival) (system place : ℕ) (s : SystemRow)
     (l : LinkRow) (messages : List Message) (stream : List Sending) (came : List Arrived) →
-    IsLawful t → IsAdmittedRun t arrivals → slice_get t.systems system ≡ Some s →
-    slice_get t.links place ≡ Some l → is_to system l ≡ true →
+    IsLawful t →
+    IsAdmittedRun t arrivals →
+    slice_get t.systems system ≡ Some s →
+    slice_get t.links place ≡ Some l →
+    is_to system l ≡ true →
     IsStreamOf t l messages stream → ((side : Side) →
     AreFirstOf side stream (at_own_port t l side arrivals)) →
     AreReceptions t s.port arrivals came →
@@ -138,9 +151,13 @@ MessagesComeSoFar = (t : Rows) (arrivals : List Arrival) (system place : ℕ) (s
 abbrev pub MessagesComeOnce : Type 0
 MessagesComeOnce = (t : Rows) (arrivals : List Arrival) (system place : ℕ) (s : SystemRow)
     (l : LinkRow) (messages : List Message) (stream : List Sending) (came : List Arrived) →
-    IsLawful t → IsAdmittedRun t arrivals → slice_get t.systems system ≡ Some s →
-    slice_get t.links place ≡ Some l → is_to system l ≡ true →
-    IsStreamOf t l messages stream → ((side : Side) → IsFed t l stream side arrivals) →
+    IsLawful t →
+    IsAdmittedRun t arrivals →
+    slice_get t.systems system ≡ Some s →
+    slice_get t.links place ≡ Some l →
+    is_to system l ≡ true →
+    IsStreamOf t l messages stream →
+    ((side : Side) → IsFed t l stream side arrivals) →
     AreReceptions t s.port arrivals came →
     reverse (messages_in (answers_on t system l.vl came))
     ≡ filter (λ m. has_port t.ports system l.vl m.udp) messages
@@ -162,10 +179,14 @@ pub record EventsKeepPromises (t : Rows) (arrivals : List Arrival)
   pub departures : (d : Departure) → IsAmong (Left d) events → IsInTime t d.turn
   -- those of a port are its schedule, by which exactly the accepted frames of each link that goes
   -- there leave it
-  pub turns : (side : Side) (port : ℕ) → 1 ≤ port → port ≤ last_port →
+  pub turns : (side : Side) (port : ℕ) →
+      1 ≤ port →
+      port ≤ last_port →
       taken_at port (turns_on side events) ≡ turns_at t side port arrivals
   -- and they bring it what its system receives
-  pub receptions : (port : ℕ) → 1 ≤ port → port ≤ last_port →
+  pub receptions : (port : ℕ) →
+      1 ≤ port →
+      port ≤ last_port →
       AreReceptions t port arrivals (brought_by port events)
 
 abbrev pub EventsAreAsPromised : Type 0
@@ -178,7 +199,9 @@ pub record EventsSoFarKeepPromises (t : Rows) (arrivals : List Arrival)
     (events : List Event) : Type 0 where
   pub admissions : (c : Admission) → IsAmong (Came c) events → IsAsPromised t arrivals c
   pub departures : (d : Departure) → IsAmong (Left d) events → IsInTime t d.turn
-  pub frames : (side : Side) (port place : ℕ) (l : LinkRow) → 1 ≤ port → port ≤ last_port →
+  pub frames : (side : Side) (port place : ℕ) (l : LinkRow) →
+      1 ≤ port →
+      port ≤ last_port →
       slice_get t.links place ≡ Some l →
       (rest : List Passing) × ((if goes_to t l port then accepted_frames t l side arrivals else [])
       ≡ frames_left l.vl (taken_at port (turns_on side events)) ++ rest)

@@ -35,10 +35,12 @@ pub record AreVerdicts (t : Rows) (arrivals : List Arrival) (lines : List Line) 
   -- a verdict on each arrival, in order
   pub each : arrivals_judged (judged_in lines) ≡ arrivals
   -- those on a link's own arrivals by the window rule
-  pub own : (side : Side) (place : ℕ) (l : LinkRow) → slice_get t.links place ≡ Some l →
+  pub own : (side : Side) (place : ℕ) (l : LinkRow) →
+      slice_get t.links place ≡ Some l →
       AreByWindowRule (rule_of t l) (verdicts_on l.vl side lines)
   -- that on a frame which names no link by its shape
-  pub unknown : (v : Judged) → IsIn v (judged_in lines) →
+  pub unknown : (v : Judged) →
+      IsIn v (judged_in lines) →
       ((place : ℕ) (l : LinkRow) → slice_get t.links place ≡ Some l →
       names l.vl v.arrival.bytes ≡ false) →
       v.reason ≡ fault_of None v.arrival.port v.arrival.bytes
@@ -82,13 +84,15 @@ pub record IsHeard (t : Rows) (lines : List Line) (d : Leaving) (system : ℕ) :
   pub at : system_at_port t.systems d.port ≡ Some system
 
 pub record AreReceived (t : Rows) (lines : List Line) : Type 0 where
-  pub heard : (d : Leaving) (system : ℕ) (answer : Answer) → IsIn (Received d system answer) lines →
+  pub heard : (d : Leaving) (system : ℕ) (answer : Answer) →
+      IsIn (Received d system answer) lines →
       IsHeard t lines d system
   -- what comes to a port comes by time, at one time side A first
   pub in_order : (port : ℕ) → ComeInOrder (came_at port lines)
   -- the answers to a link's frames
   pub answers : (system place : ℕ) (s : SystemRow) (l : LinkRow) →
-      slice_get t.systems system ≡ Some s → slice_get t.links place ≡ Some l →
+      slice_get t.systems system ≡ Some s →
+      slice_get t.links place ≡ Some l →
       is_to system l ≡ true →
       answers_told system l.vl lines
       ≡ answers_by_rules (1000 * l.skew_us) (has_port t.ports system l.vl)
@@ -99,15 +103,20 @@ pub record AreReceived (t : Rows) (lines : List Line) : Type 0 where
 -- two texts tell the same of a link on a side: equal verdicts, and equal frames at each port
 pub record TellSame (l : LinkRow) (side : Side) (lines others : List Line) : Type 0 where
   pub verdicts : verdicts_on l.vl side lines ≡ verdicts_on l.vl side others
-  pub frames : (port : ℕ) → 1 ≤ port → port ≤ last_port →
+  pub frames : (port : ℕ) →
+      1 ≤ port →
+      port ≤ last_port →
       frames_at l.vl side port lines ≡ frames_at l.vl side port others
 
 -- as any other list in which the link has equal own arrivals on that side, whatever else it holds
 abbrev pub AreAlone : Rows → List Arrival → List Line → Type 0
 AreAlone t arrivals lines =
     (others : List Arrival) (other_lines : List Line) (side : Side) (place : ℕ) (l : LinkRow) →
-    AreVerdicts t others other_lines → AreFrames t other_lines → slice_get t.links place ≡ Some l →
-    own l.vl side arrivals ≡ own l.vl side others → TellSame l side lines other_lines
+    AreVerdicts t others other_lines →
+    AreFrames t other_lines →
+    slice_get t.links place ≡ Some l →
+    own l.vl side arrivals ≡ own l.vl side others →
+    TellSame l side lines other_lines
 
 -- ---- the promises
 
@@ -142,9 +151,12 @@ abbrev pub StreamsAreAccepted : Rows → List Arrival → List Line → Type 0
 StreamsAreAccepted t arrivals lines =
     (side : Side) (place : ℕ) (l : LinkRow) (messages : List sent.Message)
     (stream : List Sending) →
-    slice_get t.links place ≡ Some l → IsStreamOf t l messages stream →
+    slice_get t.links place ≡ Some l →
+    IsStreamOf t l messages stream →
     AreFirstOf side stream (at_own_port t l side arrivals) →
-    (v : Judged) → IsIn v (verdicts_on l.vl side lines) → (rule_of t l).port ≡ v.arrival.port →
+    (v : Judged) →
+    IsIn v (verdicts_on l.vl side lines) →
+    (rule_of t l).port ≡ v.arrival.port →
     v.reason ≡ None
 
 -- ---- exactly once
@@ -155,9 +167,11 @@ abbrev pub EachIsToldOnce : Rows → List Arrival → List Line → Type 0
 EachIsToldOnce t arrivals lines =
     (system place : ℕ) (s : SystemRow) (l : LinkRow)
     (messages : List sent.Message) (stream : List Sending) →
-    slice_get t.systems system ≡ Some s → slice_get t.links place ≡ Some l →
+    slice_get t.systems system ≡ Some s →
+    slice_get t.links place ≡ Some l →
     is_to system l ≡ true →
-    IsStreamOf t l messages stream → ((side : Side) → IsFed t l stream side arrivals) →
+    IsStreamOf t l messages stream →
+    ((side : Side) → IsFed t l stream side arrivals) →
     reverse (messages_told system l.vl lines)
     ≡ filter (λ m. has_port t.ports system l.vl m.udp) messages
 
@@ -171,7 +185,8 @@ abbrev pub EachIsToldOnceSoFar : Rows → List Arrival → List Line → Type 0
 EachIsToldOnceSoFar t arrivals lines =
     (system place : ℕ) (s : SystemRow) (l : LinkRow)
     (messages : List sent.Message) (stream : List Sending) →
-    slice_get t.systems system ≡ Some s → slice_get t.links place ≡ Some l →
+    slice_get t.systems system ≡ Some s →
+    slice_get t.links place ≡ Some l →
     is_to system l ≡ true →
     IsStreamOf t l messages stream →
     ((side : Side) → AreFirstOf side stream (at_own_port t l side arrivals)) →

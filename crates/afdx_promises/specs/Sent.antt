@@ -68,9 +68,11 @@ IsMerged s emitted arrivals = (side : Side) →
 abbrev pub SentIsFed : Type 0
 SentIsFed = (t : Rows) (arrivals : List Arrival) (s : SystemRow) (l : LinkRow)
     (emitted : List (Turn Frame)) →
-    slice_get t.systems l.from ≡ Some s → AllByRecursion (IsBuildable s) emitted →
+    slice_get t.systems l.from ≡ Some s →
+    AllByRecursion (IsBuildable s) emitted →
     IsMerged s emitted arrivals →
-    (side : Side) → IsFed t l (stream_of s l.vl emitted) side arrivals
+    (side : Side) →
+    IsFed t l (stream_of s l.vl emitted) side arrivals
 
 -- which are its sendings
 abbrev pub StreamIsOfSendings : Type 0
@@ -83,9 +85,13 @@ StreamIsOfSendings = (s : SystemRow) (vl : ℕ) (emitted : List (Turn Frame)) �
 abbrev pub ReleasedAreToldOnce : Type 0
 ReleasedAreToldOnce = (t : Rows) (arrivals : List Arrival) (lines : List Line) (h : SenderHistory)
     (system place at : ℕ) (s : SystemRow) (l : LinkRow) →
-    EachIsToldOnce t arrivals lines → slice_get t.systems system ≡ Some s → slice_get t.links place
-    ≡ Some l → is_to system l ≡ true →
-    slice_get t.systems l.from ≡ Some h.system → AllByRecursion (IsBuildable h.system) h.emitted →
+    EachIsToldOnce t arrivals lines →
+    slice_get t.systems system ≡ Some s →
+    slice_get t.links place
+    ≡ Some l →
+    is_to system l ≡ true →
+    slice_get t.systems l.from ≡ Some h.system →
+    AllByRecursion (IsBuildable h.system) h.emitted →
     IsMerged h.system h.emitted arrivals →
     (e : EmitsLawfully h at l (stream_of h.system l.vl h.emitted)) →
     reverse (messages_told system l.vl lines)
@@ -102,9 +108,13 @@ IsMergedSoFar s emitted arrivals = (side : Side) →
 abbrev pub ReleasedAreToldSoFar : Type 0
 ReleasedAreToldSoFar = (t : Rows) (arrivals : List Arrival) (lines : List Line) (h : SenderHistory)
     (system place at : ℕ) (s : SystemRow) (l : LinkRow) →
-    EachIsToldOnceSoFar t arrivals lines → slice_get t.systems system ≡ Some s → slice_get t.links
-    place ≡ Some l → is_to system l ≡ true →
-    slice_get t.systems l.from ≡ Some h.system → AllByRecursion (IsBuildable h.system) h.emitted →
+    EachIsToldOnceSoFar t arrivals lines →
+    slice_get t.systems system ≡ Some s →
+    slice_get t.links
+    place ≡ Some l →
+    is_to system l ≡ true →
+    slice_get t.systems l.from ≡ Some h.system →
+    AllByRecursion (IsBuildable h.system) h.emitted →
     IsMergedSoFar h.system h.emitted arrivals →
     (e : EmitsLawfully h at l (stream_of h.system l.vl h.emitted)) →
     reverse (messages_told system l.vl lines)
@@ -114,7 +124,8 @@ ReleasedAreToldSoFar = (t : Rows) (arrivals : List Arrival) (lines : List Line) 
 -- So all of them are, where on one side all comes.
 abbrev pub OneSideIsEnough : Type 0
 OneSideIsEnough = (t : Rows) (arrivals : List Arrival) (h : SenderHistory) (at : ℕ) (l : LinkRow)
-    (whole : Side) → slice_get t.systems l.from ≡ Some h.system →
+    (whole : Side) →
+    slice_get t.systems l.from ≡ Some h.system →
     AllByRecursion (IsBuildable h.system) h.emitted →
     AreSentAs h.system whole h.emitted (arrivals_at whole h.system.port arrivals) →
     (e : EmitsLawfully h at l (stream_of h.system l.vl h.emitted)) →

@@ -23,9 +23,11 @@ KeepsWindows rule accepted x =
 -- exactly if it keeps every window
 pub record IsByWindowRule (rule : Rule) (accepted : List Arrival) (v : Judged) : Type 0 where
   pub shape : (fault : Reason) → fault_in rule v.arrival ≡ Some fault → v.reason ≡ Some fault
-  pub fits : fault_in rule v.arrival ≡ None → KeepsWindows rule accepted v.arrival →
+  pub fits : fault_in rule v.arrival ≡ None →
+      KeepsWindows rule accepted v.arrival →
       v.reason ≡ None
-  pub over_rate : fault_in rule v.arrival ≡ None → (KeepsWindows rule accepted v.arrival → ⊥) →
+  pub over_rate : fault_in rule v.arrival ≡ None →
+      (KeepsWindows rule accepted v.arrival → ⊥) →
       v.reason ≡ Some OverRate
 
 -- each of these verdicts is the window rule's, after those before it

@@ -38,7 +38,9 @@ abbrev pub StreamIsDeliveredOnce : Type 0
 StreamIsDeliveredOnce =
     (systems : ℕ) (s : SystemRow) (l : LinkRow) (messages : List Message) (stream : List Sending)
     (is_open : ℕ → Bool) (came : List Incoming) →
-    IsLink systems l → l.latency_us ≤ l.skew_us → IsLawfulStream s l messages stream →
+    IsLink systems l →
+    l.latency_us ≤ l.skew_us →
+    IsLawfulStream s l messages stream →
     AreCopies (1000 * l.latency_us) stream came →
     reverse (delivered (1000 * l.skew_us) is_open came)
     ≡ filter (λ m. is_open m.udp) (take (max (count_of A came) (count_of B came)) messages)

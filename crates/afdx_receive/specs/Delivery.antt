@@ -42,6 +42,7 @@ AllCarrySent messages (frame ∷ before) =
 abbrev pub SentIsDeliveredOnce : Type 0
 SentIsDeliveredOnce =
     (skew : ℕ) (is_open : ℕ → Bool) (messages : List sent.Message) (came : List Incoming) →
-    AreTwoStreams skew came → AllCarrySent messages came →
+    AreTwoStreams skew came →
+    AllCarrySent messages came →
     reverse (delivered skew is_open came)
     ≡ filter (λ m. is_open m.udp) (take (max (count_of A came) (count_of B came)) messages)

@@ -25,8 +25,10 @@ memory_at kept vl =
 -- each link that is kept has a memory of its own
 pub record IsKept (kept : Kept) : Type 0 where
   pub within : (vl place : ℕ) → place_in kept.places vl ≡ Some place → place < length kept.memories
-  pub own : (a b place : ℕ) → place_in kept.places a ≡ Some place →
-      place_in kept.places b ≡ Some place → a ≡ b
+  pub own : (a b place : ℕ) →
+      place_in kept.places a ≡ Some place →
+      place_in kept.places b ≡ Some place →
+      a ≡ b
 
 -- a frame of a link that is kept stands so, and the link's memory, and no other, takes it in
 pub record IsConsidered (old : Kept) (vl time : ℕ) (side : Side) (number : ℕ) (how : Standing)
@@ -35,10 +37,12 @@ pub record IsConsidered (old : Kept) (vl time : ℕ) (side : Side) (number : ℕ
   pub moved : LinkMemory
   pub found : memory_at old vl ≡ Some memory
   pub skew : moved.skew_ns ≡ memory.skew_ns
-  pub stands : (before : List Incoming) (link : ℕ) (bytes : List ℕ) → Remembers memory before →
+  pub stands : (before : List Incoming) (link : ℕ) (bytes : List ℕ) →
+      Remembers memory before →
       how ≡ standing memory.skew_ns before
       (record { time = time; side = side; vl = link; number = number; bytes = bytes })
-  pub remembers : (before : List Incoming) (link : ℕ) (bytes : List ℕ) → Remembers memory before →
+  pub remembers : (before : List Incoming) (link : ℕ) (bytes : List ℕ) →
+      Remembers memory before →
       Remembers moved
       (record { time = time; side = side; vl = link; number = number; bytes = bytes } ∷ before)
   pub updates : (q : ℕ) → memory_at new q ≡ cond (nat_eq vl q) (Some moved) (memory_at old q)

@@ -21,11 +21,13 @@ WithinIsSomeSteps = (most from to : ℕ) →
 
 -- a link's frames grow by its own frames alone
 pub record FramesAreOwn : Type 0 where
-  pub own : (x : Arrived) (past : List Arrived) (frame : FrameParts) → frame_of x.bytes ≡ Ok frame →
+  pub own : (x : Arrived) (past : List Arrived) (frame : FrameParts) →
+      frame_of x.bytes ≡ Ok frame →
       frames_of frame.link.0 (x ∷ past) ≡ incoming x frame ∷ frames_of frame.link.0 past
   pub other : (x : Arrived) (past : List Arrived) (frame : FrameParts) (vl : ℕ) →
       frame_of x.bytes ≡ Ok frame →
-      nat_eq frame.link.0 vl ≡ false → frames_of vl (x ∷ past) ≡ frames_of vl past
+      nat_eq frame.link.0 vl ≡ false →
+      frames_of vl (x ∷ past) ≡ frames_of vl past
   pub damaged : (x : Arrived) (past : List Arrived) (fault : MacFault) (vl : ℕ) →
       frame_of x.bytes ≡ Err fault →
       frames_of vl (x ∷ past) ≡ frames_of vl past
@@ -35,7 +37,8 @@ abbrev pub AnswerIsOwn : Type 0
 AnswerIsOwn =
     (tables : Rows) (system : ℕ) (past : List Arrived) (x : Arrived) (frame : FrameParts)
     (link : LinkRow) →
-    frame_of x.bytes ≡ Ok frame → subscription tables system frame.link.0 ≡ Some link →
+    frame_of x.bytes ≡ Ok frame →
+    subscription tables system frame.link.0 ≡ Some link →
     answer_to tables system past x
     ≡ answer_after (1000 * link.skew_us) (has_port tables.ports system frame.link.0)
     (frames_of frame.link.0 past) (incoming x frame)

@@ -52,14 +52,16 @@ CarrySent carried sent (frame ∷ before) =
 -- of two streams in order the first copies win, and no others
 abbrev pub FirstCopiesWin : Type 0
 FirstCopiesWin =
-    (skew : ℕ) (came : List Incoming) → AreTwoStreams skew came →
+    (skew : ℕ) (came : List Incoming) →
+    AreTwoStreams skew came →
     winners skew came ≡ first_copies came
 
 -- of two streams in order the next frame wins if it is a first copy, at the place after those that
 -- won, and else it is redundant
 abbrev pub StandsByPlace : Type 0
 StandsByPlace =
-    (skew : ℕ) (before : List Incoming) (frame : Incoming) → AreTwoStreams skew (frame ∷ before) →
+    (skew : ℕ) (before : List Incoming) (frame : Incoming) →
+    AreTwoStreams skew (frame ∷ before) →
     (standing skew before frame ≡ (if is_first_copy before frame then Winner else Redundant))
     × (is_first_copy before frame ≡ true →
     count_of frame.side before ≡ length (winners skew before))
@@ -74,5 +76,6 @@ FirstCopiesAreCounted =
 abbrev pub SentIsWonOnce : Type 0
 SentIsWonOnce =
     (skew : ℕ) (carried : Incoming → List ℕ) (sent : List (List ℕ)) (came : List Incoming) →
-    AreTwoStreams skew came → CarrySent carried sent came →
+    AreTwoStreams skew came →
+    CarrySent carried sent came →
     reverse (map carried (winners skew came)) ≡ take (max (count_of A came) (count_of B came)) sent

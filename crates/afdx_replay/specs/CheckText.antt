@@ -52,9 +52,8 @@ pub record BeginsCheck (config : List ℕ) (old new : Option (List ℕ)) (t : Ro
   pub written : AppendsFront old new (check_text t)
 
 -- how the command ends, by what its output and its error output were and are
-module _ {O E : Type 0} (bytes : O → Option (List ℕ)) (error_bytes : E →
-    Option (List ℕ)) (config : List ℕ)
-    (old new : Watched O) (old_errors new_errors : Watched E) where
+module _ {O E : Type 0} (bytes : O → Option (List ℕ)) (error_bytes : E → Option (List ℕ))
+    (config : List ℕ) (old new : Watched O) (old_errors new_errors : Watched E) where
   -- the configuration is read, its tables are admitted, and that is written
   pub record IsChecked : Type 0 where
     pub tables : Rows

@@ -55,5 +55,7 @@ DefinedAnswers t bytes rest old new (Err fault) =
 -- so it is with what a run of lawful tables answers
 abbrev pub RunsAreByDefinition : Type 0
 RunsAreByDefinition = (t : Rows) (bytes : List ℕ) (rest old new : Option (List ℕ))
-    (r : Result Summary RunFault) → IsLawful t → Answers t bytes rest old new r →
+    (r : Result Summary RunFault) →
+    IsLawful t →
+    Answers t bytes rest old new r →
     DefinedAnswers t bytes rest old new r

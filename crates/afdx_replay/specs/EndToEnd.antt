@@ -74,8 +74,10 @@ pub record AreToldAsTaken (t : Rows) (system : ℕ) (l : LinkRow) (taken : List 
 abbrev pub EachIsToldAsTaken : Rows → ℕ → List Event → List Line → Type 0
 EachIsToldAsTaken t sender events lines =
     (system place : ℕ) (receiver : SystemRow) (l : LinkRow) →
-    slice_get t.systems system ≡ Some receiver → slice_get t.links place ≡ Some l →
-    l.from ≡ sender → is_to system l ≡ true →
+    slice_get t.systems system ≡ Some receiver →
+    slice_get t.links place ≡ Some l →
+    l.from ≡ sender →
+    is_to system l ≡ true →
     AreToldAsTaken t system l (taken_by l.vl events) lines
 
 -- End to end: where a system's text is merged into a list without fault, whatever else the list
@@ -102,7 +104,9 @@ WrittenIsSent = (t : Rows) (sender : ℕ) (s : SystemRow) (given text : List ℕ
 abbrev pub RunsTellTakenOnce : Type 0
 RunsTellTakenOnce = (t : Rows) (sender : ℕ) (s : SystemRow) (given text bytes : List ℕ)
     (old new : Option (List ℕ)) (sends replays : Summary) →
-    IsLawful t → IsAdmitted t → slice_get t.systems sender ≡ Some s →
+    IsLawful t →
+    IsAdmitted t →
+    slice_get t.systems sender ≡ Some s →
     (sent : WritesAll (source_at t sender s) (lines_of given) (Some []) (Some text) sends) →
     AllByRecursion (λ turn. turn.end ≤ latest_listed) (turns_in sent.writes.events) →
     HoldsText s (lines_of bytes) text →
@@ -112,6 +116,9 @@ RunsTellTakenOnce = (t : Rows) (sender : ℕ) (s : SystemRow) (given text bytes 
 -- A text of at most a million lines is itself such a list, which holds it.
 abbrev pub TextsAreLists : Type 0
 TextsAreLists = (t : Rows) (sender : ℕ) (s : SystemRow) (given : List (List ℕ))
-    (events : List Event) → IsLawful t → IsAdmitted t → HasSent t sender s given events →
+    (events : List Event) →
+    IsLawful t →
+    IsAdmitted t →
+    HasSent t sender s given events →
     length (lines_of (send_text s events)) ≤ most_lines →
     AreSound (lines_of (send_text s events)) (length (lines_of (send_text s events)))

@@ -50,9 +50,11 @@ pub record AreSentMerged (t : Rows) (list : List (List ℕ)) (senders : List Sen
   pub admitted : IsAdmitted t
   pub sound : AreSound list (length list)
   pub distinct : AreDistinct (λ x. x.place) senders
-  pub sent : (i : ℕ) (x : Sender) → slice_get senders i ≡ Some x →
+  pub sent : (i : ℕ) (x : Sender) →
+      slice_get senders i ≡ Some x →
       HasSent t x.place x.row x.given x.events
-  pub elsewhere : (i : ℕ) (x : Sender) (side : Side) → slice_get senders i ≡ Some x →
+  pub elsewhere : (i : ℕ) (x : Sender) (side : Side) →
+      slice_get senders i ≡ Some x →
       lines_at side x.row.port others ≡ []
   pub merged : AreTextsMerged list senders others
 
@@ -63,5 +65,6 @@ MergedAreToldOnce = (t : Rows) (list : List (List ℕ)) (lines : List Line)
     (senders : List Sender) (others : List (List ℕ)) →
     AreSentMerged t list senders others →
     EachIsToldOnce t (arrivals_of list (length list)) lines →
-    (i : ℕ) (x : Sender) → slice_get senders i ≡ Some x →
+    (i : ℕ) (x : Sender) →
+    slice_get senders i ≡ Some x →
     EachIsToldAsTaken t x.place x.events lines

@@ -37,7 +37,9 @@ IsTold s turn = turn.end ≤ latest_listed → (side : Side) →
 -- submissions, in which no fault was found.
 abbrev pub SentLinesAreArrivals : Type 0
 SentLinesAreArrivals = (t : Rows) (sender : ℕ) (s : SystemRow) (list : List (List ℕ)) (n : ℕ)
-    (events : List Event) → IsLawful t → slice_get t.systems sender ≡ Some s →
+    (events : List Event) →
+    IsLawful t →
+    slice_get t.systems sender ≡ Some s →
     HaveNoFault submissions list n →
     AreEventsOf s (links_from t.links sender) (items_of submissions list n) events →
     AllByRecursion (IsTold s) (turns_in events)
@@ -46,7 +48,8 @@ SentLinesAreArrivals = (t : Rows) (sender : ℕ) (s : SystemRow) (list : List (L
 -- which all is emitted, are the same.
 abbrev pub EventsAreOne : Type 0
 EventsAreOne = (t : Rows) (sender : ℕ) (s : SystemRow) (past : List Handed)
-    (ones others : List Event) → IsLawful t →
+    (ones others : List Event) →
+    IsLawful t →
     AreEventsOf s (links_from t.links sender) past ones →
     AreDone s (links_from t.links sender) ones →
     AreEventsOf s (links_from t.links sender) past others →
@@ -56,7 +59,8 @@ EventsAreOne = (t : Rows) (sender : ℕ) (s : SystemRow) (past : List Handed)
 -- So two runs over these lines write one text, and answer one summary.
 abbrev pub SendsAreOne : Type 0
 SendsAreOne = (t : Rows) (sender : ℕ) (s : SystemRow) (list : List (List ℕ))
-    (old one other : List ℕ) (first second : Summary) → IsLawful t →
+    (old one other : List ℕ) (first second : Summary) →
+    IsLawful t →
     WritesAll (source_at t sender s) list (Some old) (Some one) first →
     WritesAll (source_at t sender s) list (Some old) (Some other) second →
     (one ≡ other) × (first ≡ second)

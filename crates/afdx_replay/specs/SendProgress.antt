@@ -49,7 +49,8 @@ pub record ToldUntil (s : Source) (until : ℕ) (w : Working) (port : ℕ) (coun
     (old new : Option (List ℕ)) (events : List Event) : Type 0 where
   pub told : ToldMore s w port counts old new events
   pub no_more : (turn : Turn Frame) →
-      IsNextIn (calls_in s.row s.links told.more until) turn → until < turn.end
+      IsNextIn (calls_in s.row s.links told.more until) turn →
+      until < turn.end
   pub done : drain_end ≤ until → AreDone s.row s.links told.more
 
 -- a submission that comes after these events was handed to the sender, which took it or refused

@@ -56,9 +56,9 @@ module _ {H R Y X : Type 0} (k : Kind Y X) (said : Item H → X)
       (fault : RunFault) : Type 0 where
     pub failed : input.failed ≡ is_read fault
     pub calls : input.calls ≤ start.calls + most_reads
-    pub stops : IfSome (remaining start.inner) (λ bytes.
-        StopsIn k (λ xs. xs ≡ map said past) (λ xs. xs ≡ map said past) bytes
-        (remaining input.inner) fault)
+    pub stops : IfSome (remaining start.inner)
+        (λ bytes. StopsIn k (λ xs. xs ≡ map said past) (λ xs. xs ≡ map said past)
+        bytes (remaining input.inner) fault)
 
 -- the item of the line that was read last
 abbrev pub item_given : {H : Type 0} → ReadList H → Item H

@@ -30,9 +30,11 @@ pub record HasSentAll (t : Rows) (system : ℕ) (h : SenderHistory) : Type 0 whe
   pub admitted : IsAdmitted t
   pub row : slice_get t.systems system ≡ Some h.system
   pub links : h.links ≡ links_from t.links system
-  pub fit : (place : ℕ) (l : LinkRow) → slice_get h.links place ≡ Some l →
+  pub fit : (place : ℕ) (l : LinkRow) →
+      slice_get h.links place ≡ Some l →
       AllByRecursion (IsFor l) (own_submissions h.taken place)
-  pub messages : (place : ℕ) (l : LinkRow) → slice_get h.links place ≡ Some l →
+  pub messages : (place : ℕ) (l : LinkRow) →
+      slice_get h.links place ≡ Some l →
       AllByRecursion (λ m. IsMessage m.message) (own_submissions h.taken place)
   pub done : AreAllEmitted h
 
@@ -75,8 +77,10 @@ pub record IsOfTaken (h : SenderHistory) (turn : Turn Frame) : Type 0 where
 
 abbrev pub AllIsSent : Type 0
 AllIsSent = (t : Rows) (system : ℕ) (h : SenderHistory) (place : ℕ) (l : LinkRow)
-    (stream : List Sending) → HasSentAll t system h →
-    slice_get h.links place ≡ Some l → AreSendings h.system l.vl h.emitted stream →
+    (stream : List Sending) →
+    HasSentAll t system h →
+    slice_get h.links place ≡ Some l →
+    AreSendings h.system l.vl h.emitted stream →
     EmitsAll h place l stream
 
 abbrev pub EmissionsAreOfTaken : Type 0

@@ -43,10 +43,15 @@ pub record IsNextOfAll (links : List LinkRow) (taken : List (List Submission))
     (earlier : List LinkRelease) (x : LinkRelease) : Type 0 where
   pub stands : slice_get links x.place ≡ Some x.row
   pub next : IsNextOf taken earlier x.place x.row x.release
-  pub soonest : (i : ℕ) (l : LinkRow) (r : Release) → slice_get links i ≡ Some l →
-      IsNextOf taken earlier i l r → x.release.time ≤ r.time
-  pub first : (i : ℕ) (l : LinkRow) (r : Release) → slice_get links i ≡ Some l →
-      IsNextOf taken earlier i l r → r.time ≡ x.release.time → x.place ≤ i
+  pub soonest : (i : ℕ) (l : LinkRow) (r : Release) →
+      slice_get links i ≡ Some l →
+      IsNextOf taken earlier i l r →
+      x.release.time ≤ r.time
+  pub first : (i : ℕ) (l : LinkRow) (r : Release) →
+      slice_get links i ≡ Some l →
+      IsNextOf taken earlier i l r →
+      r.time ≡ x.release.time →
+      x.place ≤ i
 
 -- each release, of all links, is the next one after those before it. A list of releases has the
 -- latest first
@@ -60,8 +65,10 @@ pub record AreReleasedBefore (links : List LinkRow) (taken : List (List Submissi
     (released : List LinkRelease) : Type 0 where
   pub are_releases : AreAllReleases links taken released
   pub before : AllByRecursion (λ x. x.release.time < t) released
-  pub no_more : (i : ℕ) (l : LinkRow) (r : Release) → slice_get links i ≡ Some l →
-      IsNextOf taken released i l r → t ≤ r.time
+  pub no_more : (i : ℕ) (l : LinkRow) (r : Release) →
+      slice_get links i ≡ Some l →
+      IsNextOf taken released i l r →
+      t ≤ r.time
 
 -- the k-th release of a link, counted from 0, as a frame: it has the number to which k steps lead
 -- from 0

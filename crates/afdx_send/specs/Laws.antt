@@ -47,7 +47,8 @@ pub record EmitsLawfully (h : SenderHistory) (place : ℕ) (l : LinkRow) (stream
   pub are_releases : AreAllReleases h.links h.taken released
   pub lawful : IsLawfulStream h.system l (sent_list (own place released)) stream
   pub at_releases : lawful.moments ≡ times_of (own place released)
-  pub in_time : (k r : ℕ) (y : Sending) → slice_get lawful.moments k ≡ Some r →
+  pub in_time : (k r : ℕ) (y : Sending) →
+      slice_get lawful.moments k ≡ Some r →
       slice_get stream k ≡ Some y →
       fixed_jitter + y.time ≤ r + sender_jitter (byte_ns h.system) h.links
 

@@ -42,7 +42,8 @@ pub record LineStands (line : Line) (l : LinkRow) (ss : List Submission) (rs : L
   pub is_line : IsLineOf l line
   pub regulates : Regulates line.regulator ss rs
   pub timely : IsTimely line.regulator ss
-  pub fits : (i : ℕ) (s : Submission) → slice_get ss i ≡ Some s →
+  pub fits : (i : ℕ) (s : Submission) →
+      slice_get ss i ≡ Some s →
       length s.message.payload + frame_overhead ≤ l.lmax
   pub messages : (i : ℕ) (s : Submission) → slice_get ss i ≡ Some s → IsMessage s.message
   pub number : line.number ≡ after_steps (length rs) 0
@@ -77,13 +78,16 @@ pub record LineAdmits (line : Line) (sub n : ℕ) : Type 0 where
   pub some : 1 ≤ n
   pub fits : n + frame_overhead ≤ line.longest
   pub small : line.longest ≤ greatest_frame
-  pub room : (index : ℕ) (ms : List Queued) → index + 1 ≡ sub →
-      HasQueue (waiting_of line.regulator) index ms → length ms < queue_limit
+  pub room : (index : ℕ) (ms : List Queued) →
+      index + 1 ≡ sub →
+      HasQueue (waiting_of line.regulator) index ms →
+      length ms < queue_limit
 
 -- a further message can join the queue at this index
 pub record CanTake (line : Line) (index : ℕ) (m : Queued) : Type 0 where
   pub within : index < sub_count line.regulator
   pub message : IsMessage (submission_of (index + 1) m).message
   pub fits : length m.payload.items + frame_overhead ≤ line.longest
-  pub room : (ms : List Queued) → HasQueue (waiting_of line.regulator) index ms →
+  pub room : (ms : List Queued) →
+      HasQueue (waiting_of line.regulator) index ms →
       length ms < queue_limit

@@ -13,8 +13,10 @@ pub record IsNewLine (l : LinkRow) (line : Line) : Type 0 where
 
 pub record AreNewLines (links : List LinkRow) (lines : List Line) : Type 0 where
   pub count : length lines ≡ length links
-  pub each : (i : ℕ) (l : LinkRow) (line : Line) → slice_get links i ≡ Some l →
-      slice_get lines i ≡ Some line → IsNewLine l line
+  pub each : (i : ℕ) (l : LinkRow) (line : Line) →
+      slice_get links i ≡ Some l →
+      slice_get lines i ≡ Some line →
+      IsNewLine l line
 
 -- the place of the line with this identifier, or none if no line has it
 abbrev pub IsPlaceIn : List Line → ℕ → Option ℕ → Type 0

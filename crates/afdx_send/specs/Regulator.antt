@@ -17,8 +17,11 @@ pub record IsFirst (submissions : List Submission) (releases : List Release) (su
     (s : Submission) : Type 0 where
   pub from_on : from ≤ place
   pub own : IsUnreleased submissions releases place s
-  pub first : (q : ℕ) (d : Submission) → from ≤ q → IsUnreleased submissions releases q d →
-      d.sub ≡ sub → place ≤ q
+  pub first : (q : ℕ) (d : Submission) →
+      from ≤ q →
+      IsUnreleased submissions releases q d →
+      d.sub ≡ sub →
+      place ≤ q
 
 -- these messages are, in order, the submissions of a sub-VL without a release, from a place on
 abbrev pub IsQueue : List Submission → List Release → ℕ → ℕ → List Queued → Type 0
@@ -66,7 +69,8 @@ IsReady queues time index = (m : Queued) × (ms : List Queued) × HasCome queues
 -- of the queues whose fronts have come by that time, the one at this index is the next in the cycle
 pub record IsChosen (subs : ℕ) (queues : List (List Queued)) (served time index : ℕ) : Type 0 where
   pub ready : IsReady queues time index
-  pub in_turn : (other : ℕ) → IsReady queues time other →
+  pub in_turn : (other : ℕ) →
+      IsReady queues time other →
       turn subs served (index + 1) ≤ turn subs served (other + 1)
 
 -- the regulator's messages are those which these submissions and these releases leave
@@ -75,12 +79,16 @@ pub record Regulates (p : Regulator) (submissions : List Submission) (releases :
   pub are_releases : AreReleases p.bag (sub_count p) submissions releases
   pub earliest : p.earliest ≡ earliest_after p.bag releases
   pub served : p.served ≡ last_served releases
-  pub queues : (index : ℕ) (ms : List Queued) → HasQueue (waiting_of p) index ms →
+  pub queues : (index : ℕ) (ms : List Queued) →
+      HasQueue (waiting_of p) index ms →
       IsQueue submissions releases (index + 1) 0 ms
   pub subs : (place : ℕ) (s : Submission) → slice_get submissions place ≡ Some s → (1 ≤ s.sub)
       × (s.sub ≤ sub_count p)
-  pub in_order : (i j : ℕ) (d e : Submission) → i ≤ j → slice_get submissions i ≡ Some d →
-      slice_get submissions j ≡ Some e → d.time ≤ e.time
+  pub in_order : (i j : ℕ) (d e : Submission) →
+      i ≤ j →
+      slice_get submissions i ≡ Some d →
+      slice_get submissions j ≡ Some e →
+      d.time ≤ e.time
 
 -- a message leaves the front of the queue at this index
 pub record Pops (old : List (List Queued)) (index : ℕ) (m : Queued) (new : List (List Queued))

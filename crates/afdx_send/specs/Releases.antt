@@ -59,15 +59,21 @@ pub record IsNext (bag subs : ℕ) (submissions : List Submission) (earlier : Li
   -- moment at which that BAG is over and some submission not yet released has come
   pub come : r.submission.time ≤ r.time
   pub after : earliest_after bag earlier ≤ r.time
-  pub least : (t place : ℕ) (s : Submission) → IsUnreleased submissions earlier place s →
-      s.time ≤ t → earliest_after bag earlier ≤ t → r.time ≤ t
+  pub least : (t place : ℕ) (s : Submission) →
+      IsUnreleased submissions earlier place s →
+      s.time ≤ t →
+      earliest_after bag earlier ≤ t →
+      r.time ≤ t
   -- of the sub-VLs that have something to release by that moment, its own is the next in the cycle
-  pub in_turn : (place : ℕ) (s : Submission) → IsUnreleased submissions earlier place s →
+  pub in_turn : (place : ℕ) (s : Submission) →
+      IsUnreleased submissions earlier place s →
       s.time ≤ r.time →
       turn subs (last_served earlier) r.submission.sub ≤ turn subs (last_served earlier) s.sub
   -- and of that sub-VL it is the oldest
-  pub oldest : (place : ℕ) (s : Submission) → IsUnreleased submissions earlier place s →
-      s.sub ≡ r.submission.sub → r.place ≤ place
+  pub oldest : (place : ℕ) (s : Submission) →
+      IsUnreleased submissions earlier place s →
+      s.sub ≡ r.submission.sub →
+      r.place ≤ place
 
 -- each release is the next one after those before it
 abbrev pub AreReleases : ℕ → ℕ → List Submission → List Release → Type 0

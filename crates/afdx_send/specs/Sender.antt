@@ -141,7 +141,8 @@ pub record AreSent (s : SystemRow) (links : List LinkRow) : Type 0 where
   pub is_sender : IsSender (byte_ns s) Low (flows_of s links)
   pub lawful : (i : ℕ) (l : LinkRow) → slice_get links i ≡ Some l → (n : ℕ) × IsLink n l
   pub distinct : AreDistinct (λ l. l.vl) links
-  pub jitters : (i : ℕ) (l : LinkRow) → slice_get links i ≡ Some l →
+  pub jitters : (i : ℕ) (l : LinkRow) →
+      slice_get links i ≡ Some l →
       one_of_each (byte_ns s) (flows_of s links) ≤ jitter (regulation_of_link l)
 
 -- the port's calls
@@ -162,16 +163,20 @@ pub record StandsFor (w : Working) (h : SenderHistory) : Type 0 where
   pub clock : w.clock ≡ h.time
   pub are_sent : AreSent h.system h.links
   pub place_count : length w.places.items ≡ identifier_count
-  pub places : (vl : ℕ) (place : Option ℕ) → slice_get w.places.items vl ≡ Some place →
+  pub places : (vl : ℕ) (place : Option ℕ) →
+      slice_get w.places.items vl ≡ Some place →
       IsPlaceOf h.links vl place
   pub released : List LinkRelease
   pub are_releases : AreAllReleases h.links h.taken released
   pub before : AllByRecursion (λ x. x.release.time < h.time) released
   pub count : length w.lines.items ≡ length h.links
   pub lists : length h.taken ≡ length h.links
-  pub lines : (i : ℕ) (line : Line) (l : LinkRow) → slice_get w.lines.items i ≡ Some line →
-      slice_get h.links i ≡ Some l → LineStands line l (own_submissions h.taken i) (own i released)
-  pub come : (i place : ℕ) (s : Submission) → slice_get (own_submissions h.taken i) place ≡ Some s →
+  pub lines : (i : ℕ) (line : Line) (l : LinkRow) →
+      slice_get w.lines.items i ≡ Some line →
+      slice_get h.links i ≡ Some l →
+      LineStands line l (own_submissions h.taken i) (own i released)
+  pub come : (i place : ℕ) (s : Submission) →
+      slice_get (own_submissions h.taken i) place ≡ Some s →
       s.time ≤ h.time
   pub played : IsPlayed w.agenda
   pub agenda : nexts w.agenda ≡ nexts_of w
@@ -226,8 +231,10 @@ pub record Emits (h : SenderHistory) (until : ℕ) (e : Emission) (new : Working
 pub record AreAllEmitted (h : SenderHistory) : Type 0 where
   pub released : List LinkRelease
   pub are_releases : AreAllReleases h.links h.taken released
-  pub all_released : (i place : ℕ) (l : LinkRow) → slice_get h.links i ≡ Some l →
-      place < length (own_submissions h.taken i) → has_release (own i released) place ≡ true
+  pub all_released : (i place : ℕ) (l : LinkRow) →
+      slice_get h.links i ≡ Some l →
+      place < length (own_submissions h.taken i) →
+      has_release (own i released) place ≡ true
   pub schedule : IsSchedule (byte_ns h.system) (entries_of released) h.emitted
 
 -- the link with this identifier

@@ -88,26 +88,34 @@ AcceptedEnter = (t : Rows) (arrivals : List Arrival) (side : Side) (port place :
 
 -- the turns of a link's frames are slots, which end within its latency
 abbrev pub AreInTime : LinkRow → List (Turn HeldFrame) → Type 0
-AreInTime l turns = All (λ s. is_of l.vl s.entry ≡ true → (s.too_old ≡ false)
-    × (s.end ≤ s.entry.time + 1000 * l.latency_us)) turns
+AreInTime l turns = All
+    (λ s. is_of l.vl s.entry ≡ true →
+    (s.too_old ≡ false) × (s.end ≤ s.entry.time + 1000 * l.latency_us))
+    turns
 
 abbrev pub TurnsAreInTime : Type 0
 TurnsAreInTime = (t : Rows) (arrivals : List Arrival) (side : Side) (port place : ℕ) (l : LinkRow)
     (turns : List (Turn HeldFrame)) →
-    IsAdmittedRun t arrivals → slice_get t.links place ≡ Some l →
-    AreTurns (byte_ns_at t port) (entries_at t side port arrivals) turns → AreInTime l turns
+    IsAdmittedRun t arrivals →
+    slice_get t.links place ≡ Some l →
+    AreTurns (byte_ns_at t port) (entries_at t side port arrivals) turns →
+    AreInTime l turns
 
 -- each entry of a link whose latency is over by then has had its turn
 abbrev pub HaveLeft : LinkRow → ℕ → List (Entry HeldFrame) → List (Turn HeldFrame) → Type 0
 HaveLeft l until entries turns =
-    (place : ℕ) (e : Entry HeldFrame) → slice_get entries place ≡ Some e → is_of l.vl e ≡ true →
-    e.time + 1000 * l.latency_us ≤ until → has_turn turns place ≡ true
+    (place : ℕ) (e : Entry HeldFrame) →
+    slice_get entries place ≡ Some e →
+    is_of l.vl e ≡ true →
+    e.time + 1000 * l.latency_us ≤ until →
+    has_turn turns place ≡ true
 
 -- so it is where no further turn is given by then
 abbrev pub AllHaveLeft : Type 0
 AllHaveLeft = (t : Rows) (arrivals : List Arrival) (side : Side) (port place : ℕ) (l : LinkRow)
     (turns : List (Turn HeldFrame)) (until : ℕ) →
-    IsAdmittedRun t arrivals → slice_get t.links place ≡ Some l →
+    IsAdmittedRun t arrivals →
+    slice_get t.links place ≡ Some l →
     AreTurns (byte_ns_at t port) (entries_at t side port arrivals) turns →
     ((s : Turn HeldFrame) → IsNext (byte_ns_at t port) (entries_at t side port arrivals) turns s →
     IsAfter until (due_at s)) →

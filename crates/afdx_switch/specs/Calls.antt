@@ -27,26 +27,35 @@ use Rattle.afdx_switch.specs.declared.verdict.Verdict.{Verdict}
 -- `arrive` takes in a frame at a time, or lacks memory
 pub record Arrives {E : Type 0} (old new : SwitchState) (tag time port : ℕ) (bytes : List ℕ)
     (result : Result Verdict E) : Type 0 where
-  pub verdict : (t : Rows) (side : Side) (h : SwitchHistory) → StandsFor t side old h →
+  pub verdict : (t : Rows) (side : Side) (h : SwitchHistory) →
+      StandsFor t side old h →
       IfOk result (IsVerdict t h.arrivals (arrival_with tag time side port bytes))
-  pub stands : (t : Rows) (side : Side) (h : SwitchHistory) → StandsFor t side old h →
+  pub stands : (t : Rows) (side : Side) (h : SwitchHistory) →
+      StandsFor t side old h →
       OnOk result (StandsFor t side new (with_arrival h (arrival_with tag time side port bytes)))
   -- on admitted tables no copy is lost; a stream that keeps its gap, as a lawful one does, is
   -- accepted
-  pub kept : (t : Rows) (side : Side) (h : SwitchHistory) → StandsFor t side old h →
+  pub kept : (t : Rows) (side : Side) (h : SwitchHistory) →
+      StandsFor t side old h →
       IsAdmittedRun t (arrival_with tag time side port bytes ∷ h.arrivals) →
       IfOk result LosesNothing
   pub regular : (t : Rows) (side : Side) (h : SwitchHistory) (place : ℕ) (l : LinkRow) →
-      StandsFor t side old h → IsLawful t → slice_get t.links place ≡ Some l →
-      names l.vl bytes ≡ true → (rule_of t l).port ≡ port →
+      StandsFor t side old h →
+      IsLawful t →
+      slice_get t.links place ≡ Some l →
+      names l.vl bytes ≡ true →
+      (rule_of t l).port ≡ port →
       let arrivals = own l.vl side (arrival_with tag time side port bytes ∷ h.arrivals) in
       IsRegularAt (rule_of t l) arrivals → IfOk result IsAccepted
   pub accepted : (t : Rows) (side : Side) (h : SwitchHistory) (place : ℕ) (l : LinkRow) →
-      StandsFor t side old h → IsLawfulSwitch t → slice_get t.links place ≡ Some l →
+      StandsFor t side old h →
+      IsLawfulSwitch t →
+      slice_get t.links place ≡ Some l →
       IsNextOfStream t l h.arrivals (arrival_with tag time side port bytes) →
       IfOk result IsAccepted
   -- memory is lacked only for a frame whose shape has no fault, and then nothing changed
-  pub judged : (t : Rows) (side : Side) (h : SwitchHistory) → StandsFor t side old h →
+  pub judged : (t : Rows) (side : Side) (h : SwitchHistory) →
+      StandsFor t side old h →
       OnErr result (shape_fault t (arrival_with tag time side port bytes) ≡ None)
   pub refused : OnErr result (new ≡ old)
   pub quiet : IsQuiet new time
@@ -55,37 +64,54 @@ pub record Arrives {E : Type 0} (old new : SwitchState) (tag time port : ℕ) (b
 
 -- `due` says when the next turn of all ports is over
 pub record TellsDue (w : SwitchState) (result : Option Due) : Type 0 where
-  pub comes : (t : Rows) (side : Side) (h : SwitchHistory) → StandsFor t side w h →
+  pub comes : (t : Rows) (side : Side) (h : SwitchHistory) →
+      StandsFor t side w h →
       IfSome result (λ due. IsDue t side h due)
   pub all_done : (t : Rows) (side : Side) (h : SwitchHistory) (port : ℕ) →
-      StandsFor t side w h → 1 ≤ port → port ≤ last_port → IfNone result (IsDone t side h port)
+      StandsFor t side w h →
+      1 ≤ port →
+      port ≤ last_port →
+      IfNone result (IsDone t side h port)
   pub quiet : (time : ℕ) → IsQuiet w time ↔ IfSome result (λ due. IsAfter time due)
   pub limit : IfSome result (λ due. given_at due ≤ drain_end)
 
 -- `take` gives the next turn of all ports, if it is over by a time
 pub record Takes (old new : SwitchState) (until : ℕ) (result : Option Departure) : Type 0 where
-  pub given : (t : Rows) (side : Side) (h : SwitchHistory) → StandsFor t side old h →
+  pub given : (t : Rows) (side : Side) (h : SwitchHistory) →
+      StandsFor t side old h →
       IfSome result (λ d. Gives t side h until d new)
   -- what a port gave of a link's frames is what entered there, in order; on admitted tables a turn
   -- is in time
-  pub own : (t : Rows) (side : Side) (h : SwitchHistory) (vl : ℕ) → IsLawfulSwitch t →
+  pub own : (t : Rows) (side : Side) (h : SwitchHistory) (vl : ℕ) →
+      IsLawfulSwitch t →
       IfSome result (λ d. (g : Gives t side h until d new) → AreFirstEntered t side vl h g.gone)
-  pub in_time : (t : Rows) (side : Side) (h : SwitchHistory) → IsAdmittedRun t h.arrivals →
+  pub in_time : (t : Rows) (side : Side) (h : SwitchHistory) →
+      IsAdmittedRun t h.arrivals →
       IfSome result (λ d. (g : Gives t side h until d new) → IsInTime t g.gone.turn)
   -- else no turn is over by then
-  pub none : (t : Rows) (side : Side) (h : SwitchHistory) → StandsFor t side old h →
+  pub none : (t : Rows) (side : Side) (h : SwitchHistory) →
+      StandsFor t side old h →
       IfNone result (StandsFor t side new (at h until))
   pub no_more : (t : Rows) (side : Side) (h : SwitchHistory) (port : ℕ) (s : Turn HeldFrame) →
-      StandsFor t side old h → 1 ≤ port → port ≤ last_port → IsNextAt t side h port s →
+      StandsFor t side old h →
+      1 ≤ port →
+      port ≤ last_port →
+      IsNextAt t side h port s →
       IfNone result (IsAfter until (due_at s))
   -- and each frame whose latency is past has left, late enough all have
   pub left : (t : Rows) (side : Side) (h : SwitchHistory) (port place : ℕ) (l : LinkRow) →
-      StandsFor t side old h → IsAdmittedRun t h.arrivals →
-      1 ≤ port → port ≤ last_port → slice_get t.links place ≡ Some l →
+      StandsFor t side old h →
+      IsAdmittedRun t h.arrivals →
+      1 ≤ port →
+      port ≤ last_port →
+      slice_get t.links place ≡ Some l →
       let entries = entries_at t side port h.arrivals in
       IfNone result (HaveLeft l until entries (taken_at port h.taken))
   pub all_done : (t : Rows) (side : Side) (h : SwitchHistory) (port : ℕ) →
-      StandsFor t side old h → drain_end ≤ until → 1 ≤ port → port ≤ last_port →
+      StandsFor t side old h →
+      drain_end ≤ until →
+      1 ≤ port →
+      port ≤ last_port →
       IfNone result (IsDone t side h port)
   pub gives : IfNone result (IsQuiet old until)
   pub quiet : IfNone result (IsQuiet new until)

@@ -25,6 +25,7 @@ pub record Found (t : Rows) (x : Arrival) (w : SwitchState) (h : SwitchHistory)
 -- the frame's shape has this fault first, by whatever row the arrival names
 pub record IsFaulted (t : Rows) (x : Arrival) (reason : Reason) : Type 0 where
   pub is : shape_fault t x ≡ Some reason
-  pub named : (j : ℕ) (r : Row) → slice_get (rows_of t) j ≡ Some r →
+  pub named : (j : ℕ) (r : Row) →
+      slice_get (rows_of t) j ≡ Some r →
       names r.rule.vl x.bytes ≡ true →
       fault_of (Some r.rule) x.port x.bytes ≡ Some reason

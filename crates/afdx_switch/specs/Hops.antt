@@ -54,8 +54,11 @@ abbrev pub NoCopyIsDropped : Type 0
 NoCopyIsDropped =
     (delay : ℕ) (before : Rule) (came : List Arrival) (t : Rows) (place : ℕ) (l : LinkRow)
     (later past : List Arrival) (x : Arrival) →
-    IsLawfulSwitch t → slice_get t.links place ≡ Some l → IsNextRule delay before (rule_of t l) →
+    IsLawfulSwitch t →
+    slice_get t.links place ≡ Some l →
+    IsNextRule delay before (rule_of t l) →
     AreFirstCopies delay (accepted_arrivals before came)
     (at_port (rule_of t l) (own l.vl x.side (later ++ x ∷ past))) →
-    names l.vl x.bytes ≡ true → (rule_of t l).port ≡ x.port →
+    names l.vl x.bytes ≡ true →
+    (rule_of t l).port ≡ x.port →
     reason_of t past x ≡ None

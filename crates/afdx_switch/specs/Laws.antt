@@ -31,16 +31,23 @@ pub record EntriesStep (t : Rows) (side : Side) (port : ℕ) (x : Arrival)
   -- nothing if it came to the other side, or is dropped
   pub other_side : is_side side x.side ≡ false →
       entries_at t side port (x ∷ past) ≡ entries_at t side port past
-  pub dropped : (reason : Reason) → reason_of t past x ≡ Some reason →
+  pub dropped : (reason : Reason) →
+      reason_of t past x ≡ Some reason →
       entries_at t x.side port (x ∷ past) ≡ entries_at t x.side port past
   -- or if its link doesn't go there, or it is lost there
-  pub elsewhere : (r : Row) → reason_of t past x ≡ None → row_named t x.bytes ≡ Some r →
-      r.goes_to port ≡ false → entries_at t x.side port (x ∷ past) ≡ entries_at t x.side port past
+  pub elsewhere : (r : Row) →
+      reason_of t past x ≡ None →
+      row_named t x.bytes ≡ Some r →
+      r.goes_to port ≡ false →
+      entries_at t x.side port (x ∷ past) ≡ entries_at t x.side port past
   pub lost : is_lost_at t past x port ≡ true →
       entries_at t x.side port (x ∷ past) ≡ entries_at t x.side port past
   -- otherwise its own entry
-  pub entered : (r : Row) → reason_of t past x ≡ None → row_named t x.bytes ≡ Some r →
-      r.goes_to port ≡ true → is_lost_at t past x port ≡ false →
+  pub entered : (r : Row) →
+      reason_of t past x ≡ None →
+      row_named t x.bytes ≡ Some r →
+      r.goes_to port ≡ true →
+      is_lost_at t past x port ≡ false →
       entries_at t x.side port (x ∷ past) ≡ entries_at t x.side port past
       ++ entry_of (carried t) r x ∷ []
 

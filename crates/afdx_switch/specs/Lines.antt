@@ -20,7 +20,9 @@ is_among place places = list_any (λ p. p == place) places
 pub record ArePlaces (places : List ℕ) : Type 0 where
   pub few : length places ≤ last_port
   pub within : (k place : ℕ) → slice_get places k ≡ Some place → place < last_port
-  pub once : (j k place : ℕ) → slice_get places j ≡ Some place → slice_get places k ≡ Some place →
+  pub once : (j k place : ℕ) →
+      slice_get places j ≡ Some place →
+      slice_get places k ≡ Some place →
       j ≡ k
 
 -- a link's line is the one that its own arrivals leave
@@ -28,7 +30,8 @@ pub record IsLine (side : Side) (arrivals : List Arrival) (r : Row) (line : Line
   pub account : StandsForOwn r.rule line.account (own r.rule.vl side arrivals)
   pub priority : line.priority ≡ r.priority
   pub longest_wait : line.longest_wait ≡ r.longest_wait
-  pub goes : (place : ℕ) → place < last_port →
+  pub goes : (place : ℕ) →
+      place < last_port →
       is_among place line.goes.items ≡ r.goes_to (place + 1)
 
 -- the row of this identifier stands here and nowhere else
@@ -48,7 +51,9 @@ pub record IsNamedAt (rows : List Row) (bytes : List ℕ) (place : ℕ) : Type 0
   pub row : Row
   pub stands : slice_get rows place ≡ Some row
   pub named : names row.rule.vl bytes ≡ true
-  pub only : (j : ℕ) (s : Row) → slice_get rows j ≡ Some s → names s.rule.vl bytes ≡ true →
+  pub only : (j : ℕ) (s : Row) →
+      slice_get rows j ≡ Some s →
+      names s.rule.vl bytes ≡ true →
       j ≡ place
 
 -- where the row stands that the bytes of a frame name, if there is one

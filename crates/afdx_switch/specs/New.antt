@@ -19,8 +19,8 @@ pub record IsNewLine (r : Row) (line : Line) : Type 0 where
 
 -- of the port at this place, from port 1 on
 pub record IsNewPort (t : Rows) (place : ℕ) (p : PortState HeldFrame) : Type 0 where
-  pub stands : queue.StandsFor facts p (queue.no_calls (byte_ns_at t (place
-      + 1)) (buffer_at t (place + 1)))
+  pub stands : queue.StandsFor facts p
+      (queue.no_calls (byte_ns_at t (place + 1)) (buffer_at t (place + 1)))
   pub quiet : (time : ℕ) → held.IsQuiet facts p time
   pub empty : held.frames_held p ≡ 0
   pub clock : held.last_time p ≡ 0

@@ -61,14 +61,17 @@ pub record IsOffered (time : ℕ) (priority : Priority) (share : Option HeldFram
   pub clock : n.clock ≤ time
   pub quiet : held.IsQuiet facts n time
   pub more : held.frames_held n ≤ held.frames_held o + 1
-  pub stands : (h : queue.PortHistory HeldFrame) → queue.StandsFor facts o h →
+  pub stands : (h : queue.PortHistory HeldFrame) →
+      queue.StandsFor facts o h →
       queue.StandsFor facts n (calls_after time priority share h n.clock)
-  pub lost : (h : queue.PortHistory HeldFrame) → queue.StandsFor facts o h →
+  pub lost : (h : queue.PortHistory HeldFrame) →
+      queue.StandsFor facts o h →
       is_lost ≡ loses_share time priority h.byte_ns h.buffer h.entries share
 
 -- the ports before and after a line's ports were offered shares of a frame, and which lost theirs
 abbrev pub AreOffered : ℕ → Line → HeldFrame → List (PortState HeldFrame) →
     List (PortState HeldFrame) → PortSet → Type 0
 AreOffered time line c old new lost = (i : ℕ) (o n : PortState HeldFrame) →
-    slice_get old i ≡ Some o → slice_get new i ≡ Some n →
+    slice_get old i ≡ Some o →
+    slice_get new i ≡ Some n →
     IsOffered time line.priority (share_of c (is_among i line.goes.items)) o n (holds lost (i + 1))

@@ -32,7 +32,8 @@ pub record IsPortSound (time : ℕ) (p : PortState HeldFrame) : Type 0 where
 pub record IsSwitchSound (w : SwitchState) : Type 0 where
   pub lines : All (IsLineSound w.clock) w.lines.items
   pub place_count : vec_len w.places ≡ identifier_count
-  pub places : (vl place : ℕ) → slice_get w.places.items vl ≡ Some (Some place) →
+  pub places : (vl place : ℕ) →
+      slice_get w.places.items vl ≡ Some (Some place) →
       place < vec_len w.lines
   pub port_count : vec_len w.ports ≡ last_port
   pub ports : All (IsPortSound w.clock) w.ports.items

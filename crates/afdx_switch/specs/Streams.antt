@@ -45,15 +45,19 @@ pub record IsStreamOf (t : Rows) (l : LinkRow) (messages : List Message)
 abbrev pub StreamIsRegular : Type 0
 StreamIsRegular = (t : Rows) (arrivals : List Arrival) (side : Side) (l : LinkRow)
     (messages : List Message) (stream : List Sending) →
-    IsStreamOf t l messages stream → AreFirstOf side stream (at_own_port t l side arrivals) →
+    IsStreamOf t l messages stream →
+    AreFirstOf side stream (at_own_port t l side arrivals) →
     IsRegularAt (rule_of t l) (own l.vl side arrivals)
 
 -- and it is accepted, whatever else comes, also under this link's name at other ports
 abbrev pub StreamIsAccepted : Type 0
 StreamIsAccepted = (t : Rows) (past : List Arrival) (x : Arrival) (place : ℕ) (l : LinkRow)
-    (messages : List Message) (stream : List Sending) → IsLawfulSwitch t →
+    (messages : List Message) (stream : List Sending) →
+    IsLawfulSwitch t →
     slice_get t.links place ≡ Some l →
-    IsStreamOf t l messages stream → names l.vl x.bytes ≡ true → (rule_of t l).port ≡ x.port →
+    IsStreamOf t l messages stream →
+    names l.vl x.bytes ≡ true →
+    (rule_of t l).port ≡ x.port →
     AreFirstOf x.side stream (at_own_port t l x.side (x ∷ past)) →
     reason_of t past x ≡ None
 

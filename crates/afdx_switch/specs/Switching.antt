@@ -81,8 +81,11 @@ pub record IsNextOf (t : Rows) (side : Side) (h : SwitchHistory) (gone : PortTur
   pub port_first : 1 ≤ gone.port
   pub port_last : gone.port ≤ last_port
   pub next : IsNextAt t side h gone.port gone.turn
-  pub first : (port : ℕ) (s : Turn HeldFrame) → 1 ≤ port → port ≤ last_port →
-      IsNextAt t side h port s → GoesBefore gone port s
+  pub first : (port : ℕ) (s : Turn HeldFrame) →
+      1 ≤ port →
+      port ≤ last_port →
+      IsNextAt t side h port s →
+      GoesBefore gone port s
 
 -- the next turn of the switch is due so
 pub record IsDue (t : Rows) (side : Side) (h : SwitchHistory) (due : Due) : Type 0 where
@@ -99,12 +102,16 @@ IsDone t side h port =
 pub record StandsFor (t : Rows) (side : Side) (w : SwitchState) (h : SwitchHistory) : Type 0 where
   pub time : w.clock ≡ h.time
   pub line_count : vec_len w.lines ≡ length (rows_of t)
-  pub lines : (i : ℕ) (r : Row) (line : Line) → slice_get (rows_of t) i ≡ Some r →
-      slice_get w.lines.items i ≡ Some line → IsLine side h.arrivals r line
-  pub places : (vl : ℕ) (place : Option ℕ) → slice_get w.places.items vl ≡ Some place →
+  pub lines : (i : ℕ) (r : Row) (line : Line) →
+      slice_get (rows_of t) i ≡ Some r →
+      slice_get w.lines.items i ≡ Some line →
+      IsLine side h.arrivals r line
+  pub places : (vl : ℕ) (place : Option ℕ) →
+      slice_get w.places.items vl ≡ Some place →
       IsPlaceOf (rows_of t) vl place
   pub port_count : length w.ports.items ≡ last_port
-  pub ports : (i : ℕ) (p : PortState HeldFrame) → slice_get w.ports.items i ≡ Some p →
+  pub ports : (i : ℕ) (p : PortState HeldFrame) →
+      slice_get w.ports.items i ≡ Some p →
       queue.StandsFor facts p (calls_at t side (i + 1) h p.clock)
 
 -- `take(t)` would answer None

@@ -85,7 +85,8 @@ abbrev pub StreamIsToldOnce : Type 0
 StreamIsToldOnce =
     (rows : Rows) (system port systems : ℕ) (s : SystemRow) (link : LinkRow)
     (messages : List sent.Message) (stream : List Sending) (all : List HandedOver) →
-    subscription rows system link.vl ≡ Some link → IsLink systems link →
+    subscription rows system link.vl ≡ Some link →
+    IsLink systems link →
     link.latency_us ≤ link.skew_us →
     IsLawfulStream s link messages stream →
     AreCopies (1000 * link.latency_us) stream (frames_to port link.vl all) →

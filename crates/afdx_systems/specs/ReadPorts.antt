@@ -25,7 +25,8 @@ AreFound rows system ports =
 -- memory given back; every other port stayed as it was
 pub record IsPassedOn (ports : List ComPort) (place : ℕ) (message : TimedMessage)
     (after : List ComPort) : Type 0 where
-  pub here : (port : ComPort) → slice_get ports place ≡ Some port →
+  pub here : (port : ComPort) →
+      slice_get ports place ≡ Some port →
       (room : ℕ) × (slice_get after place ≡ Some (record port {
         held = held_after port.held (GiveBack room ∷ Take ∷ Put message ∷ []);
       }))
@@ -38,7 +39,8 @@ pub record IsReadBack (ports : List ComPort) (vl udp : ℕ) (message : TimedMess
   pub place : ℕ
   pub found : position (is_for vl udp) ports ≡ Some place
   pub passed : IsPassedOn ports place message after
-  pub read : (port : ComPort) → slice_get ports place ≡ Some port →
+  pub read : (port : ComPort) →
+      slice_get ports place ≡ Some port →
       read_of (held_after port.held (Put message ∷ [])) ≡ Some message.bytes
 
 -- what an answer at this time does to the ports of its system: a message is read back, and a frame

@@ -7,8 +7,8 @@ use Rattle.afdx_lists.specs.Watching.{device_of, has_failed}
 
 -- this text was handed to it: whole unless it has failed, and else a beginning of it. If it failed
 -- before, it was not asked
-pub record Tells {W : Type 0} (contents : W →
-    Option (List ℕ)) (old new : Watched W) (text : List ℕ) : Type 0 where
+pub record Tells {W : Type 0} (contents : W → Option (List ℕ))
+    (old new : Watched W) (text : List ℕ) : Type 0 where
   pub whole : has_failed new ≡ false →
       Appends (contents (device_of old)) (contents (device_of new)) text
   pub begun : AppendsFront (contents (device_of old)) (contents (device_of new)) text
