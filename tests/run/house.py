@@ -43,7 +43,7 @@ MEMORY = {
     "crates/afdx_config/src/read.rt": {"tree_of"},
     "crates/afdx_replay/src/refusing.rt": {"want_memory"},
     "crates/afdx_send/src/fault.rt": {""},  # the row of a table
-    "crates/afdx_replay/src/send_run.rt": {"refusal_of"},
+    "crates/afdx_replay/src/send/run.rt": {"refusal_of"},
     "crates/afdx_send/src/working.rt": {"accept"},
     "crates/afdx_systems/src/end_system.rt": {"pass_on"},
     "crates/afdx_text/src/line.rt": {"room_wanted"},
@@ -99,6 +99,17 @@ def wrong_names() -> list[str]:
     return faults
 
 
+def definitions_of(crate: str) -> list[str]:
+    """The names of its files of definitions, those of a folder as `folder.File`."""
+    specs = CRATES / crate / "specs"
+    files = [path.relative_to(specs).with_suffix("") for path in sorted(specs.glob("**/*.antt"))]
+    return [
+        ".".join(file.parts)
+        for file in files
+        if file.name != "Lib" and not (specs / file).is_dir() and "out" not in file.parts
+    ]
+
+
 def missing_rows() -> list[str]:
     document = "docs/ARCHITECTURE.md"
     rows, faults = {}, []
@@ -112,9 +123,9 @@ def missing_rows() -> list[str]:
             continue
         if f"| {cited} |" not in rows[crate]:
             faults.append(f"{document}: {crate} may cite, by crates.txt, {cited}")
-        for spec in sources(f"crates/{crate}/specs/*.antt"):
-            if spec.stem != "Lib" and f"`{spec.stem}`" not in rows[crate]:
-                faults.append(f"{document}: the row of {crate} doesn't name `{spec.stem}`")
+        for name in definitions_of(crate):
+            if f"`{name}`" not in rows[crate]:
+                faults.append(f"{document}: the row of {crate} doesn't name `{name}`")
     return faults
 
 

@@ -1,0 +1,5 @@
+-- What the policing of one link is held to.
+pub mod Text
+pub mod Told
+pub mod Policed
+pub mod Policers

@@ -1,0 +1,8 @@
+-- What the replays of a list by a configuration is held to.
+pub mod Text
+pub mod Told
+pub mod Replayed
+pub mod Command
+pub mod Promises
+pub mod PromisedRun
+pub mod DefinedRun

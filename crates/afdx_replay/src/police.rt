@@ -1,0 +1,4 @@
+//! Policing one link: the command, and the run that it makes.
+
+pub mod command;
+pub mod run;

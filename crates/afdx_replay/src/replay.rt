@@ -1,0 +1,6 @@
+//! Replaying a list by a configuration: the command, and its runs over admitted and other tables.
+
+pub mod admitted;
+pub mod command;
+mod lines;
+pub mod run;
