@@ -1,4 +1,6 @@
 //! Runs over lists of frames, what they write, and the commands of the program.
+//!
+//! Its tests are in `afdx_run_tests`.
 #![tactic(auto)]
 
 mod check_command;
