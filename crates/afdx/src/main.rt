@@ -3,10 +3,12 @@
 
 mod devices;
 mod explaining;
+mod progress;
 mod words;
 
 use crate::devices::{Heard, Traced};
 use crate::explaining::{Cause, explain, is_asked, line_of, print_lists, print_meaning};
+use crate::progress::{Cleared, Counted, is_told};
 use afdx_explain::meaning_of;
 use afdx_replay::status::{DONE, NO_DEVICE_OR_MEMORY, WRONG_WORDS};
 use afdx_replay::{
@@ -44,7 +46,7 @@ fn memory(rt: &HostRuntime) -> u8 {
 
 /// What follows the line of a fault, if that is asked for.
 fn explain_if_asked(rt: &HostRuntime, matches: &ArgMatches<'_>, line: &str, cause: &Cause<'_>) {
-    if is_asked(matches) {
+    if is_asked(rt, matches) {
         explain(rt, line, cause);
     }
 }
@@ -132,7 +134,7 @@ fn end_run<R: Drop, W: Write + Drop, E: Write + Drop>(
     ended: Ended,
     input: Watched<Traced<R>>,
     mut output: Output<Traced<W>>,
-    mut errors: Watched<Heard<E>>,
+    mut errors: Watched<Heard<Cleared<'_, E>>>,
 ) -> u8 {
     let status = finish(ended.status, &mut output, &mut errors);
     let path = match matches.get_str("LIST").or(matches.get_str("SUBMISSIONS")) {
@@ -146,7 +148,8 @@ fn end_run<R: Drop, W: Write + Drop, E: Write + Drop>(
         path,
         reason: read.or(written),
     };
-    let errors = errors.into_inner();
+    let mut errors = errors.into_inner();
+    errors.device_mut().clear();
     explain_if_asked(rt, matches, errors.line(), &cause);
     match ended.summary {
         Some(summary) if status == DONE && matches.get_flag("summary") => {
@@ -203,8 +206,9 @@ fn run_from<R: Read + Drop>(
     let Ok(mut output) = Output::new(rt.alloc(), output_room(matches), device) else {
         return memory(rt);
     };
-    let mut input = Watched::new(Traced::new(input));
-    let mut errors = Watched::new(Heard::new(rt.stderr()));
+    let told = is_told(rt, matches);
+    let mut input = Watched::new(Traced::new(Counted::new(rt, told, input)));
+    let mut errors = Watched::new(Heard::new(Cleared::new(rt, told, rt.stderr())));
     let ended = run.make(rt, &mut input, &mut output, &mut errors);
     end_run(rt, matches, run.config(), ended, input, output, errors)
 }
