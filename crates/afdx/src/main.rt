@@ -20,7 +20,7 @@ use clap::{ArgMatches, Error};
 use std::alloc::AllocError;
 use std::fs::File;
 use std::io;
-use std::io::{Read, Write};
+use std::io::{IsTerminal, Read, Write};
 use std::process::ExitCode;
 
 const OUTPUT_BUFFER: usize = 65_536;
@@ -115,10 +115,10 @@ fn check_config(rt: &HostRuntime, matches: &ArgMatches<'_>) -> u8 {
     status
 }
 
-/// How many bytes are gathered before they go to standard output: none where each line is to be
-/// seen at once.
-fn output_room(matches: &ArgMatches<'_>) -> usize {
-    if matches.get_flag("line-buffered") {
+/// How many bytes are gathered before they go to standard output: none if each line is to be seen
+/// at once, or a person reads.
+fn output_room(rt: &HostRuntime, matches: &ArgMatches<'_>) -> usize {
+    if matches.get_flag("line-buffered") || rt.stdout().is_terminal() {
         0
     } else {
         OUTPUT_BUFFER
@@ -203,7 +203,7 @@ fn run_from<R: Read + Drop>(
     input: R,
 ) -> u8 {
     let device = Traced::new(rt.stdout());
-    let Ok(mut output) = Output::new(rt.alloc(), output_room(matches), device) else {
+    let Ok(mut output) = Output::new(rt.alloc(), output_room(rt, matches), device) else {
         return memory(rt);
     };
     let told = is_told(rt, matches);
