@@ -5,11 +5,11 @@ use std::io;
 use std::io::{IsTerminal, Read, Write};
 use std::time::{Duration, Instant};
 
-/// For so long nothing is said.
-const SILENT: Duration = Duration::from_secs(2);
+/// For so long nothing is said, in ms.
+const SILENT: u64 = 2000;
 
-/// From one word to the next.
-const APART: Duration = Duration::from_millis(500);
+/// From one word to the next, in ms.
+const APART: u64 = 500;
 
 const MEBIBYTE: u64 = 1_048_576;
 
@@ -35,7 +35,7 @@ impl<'a, R> Counted<'a, R> {
     /// A reader of which nothing was read. It tells nothing unless `is_told`.
     pub fn new(rt: &'a HostRuntime, is_told: bool, device: R) -> Counted<'a, R> {
         let due = match Instant::now(rt) {
-            Ok(now) if is_told => now.checked_add(SILENT),
+            Ok(now) if is_told => now.checked_add(Duration::from_millis(SILENT)),
             _ => None,
         };
         Counted {
@@ -53,7 +53,7 @@ impl<'a, R> Counted<'a, R> {
         };
         match Instant::now(self.rt) {
             Ok(now) if due <= now => {
-                self.due = now.checked_add(APART);
+                self.due = now.checked_add(Duration::from_millis(APART));
                 let read = self.bytes / MEBIBYTE;
                 let _ = eprint!(self.rt; "{CLEAR}{read} MiB read");
             }
