@@ -59,6 +59,7 @@ _afdx_is_option() { [[ -z $before && ${COMP_WORDS[COMP_CWORD]} == -* ]]; }
 
 _afdx() {
     local command=${COMP_WORDS[1]-} given before
+    local told=(--explain --line-buffered --progress --summary --help)
     COMPREPLY=()
     if ((COMP_CWORD == 1)); then
         _afdx_commands check explain police replay send
@@ -67,11 +68,9 @@ _afdx() {
     _afdx_read 2 --vl --port --lmin --policing
     if _afdx_is_option; then
         case $command in
-            replay) _afdx_words --no-admission --explain --line-buffered --summary --help ;;
-            send) _afdx_words --explain --line-buffered --summary --help ;;
-            police)
-                _afdx_words --vl --port --lmin --policing --explain --line-buffered --summary --help
-                ;;
+            replay) _afdx_words --no-admission "${told[@]}" ;;
+            send) _afdx_words "${told[@]}" ;;
+            police) _afdx_words --vl --port --lmin --policing "${told[@]}" ;;
             check) _afdx_words --explain --help ;;
             explain) _afdx_words --list --help ;;
         esac

@@ -8,8 +8,9 @@ local config='configuration:_files -g "*.toml(-.)"'
 local list='frame list:_files -g "*.list(-.)"'
 local recording='recording:_files -g "*.(pcap|pcapng|pcap.gz|pcapng.gz)(-.)"'
 local -a told=(
-    '--explain[explain a fault behind its line]'
+    '--explain=-[when a fault is explained]::when:(auto always never)'
     '--line-buffered[hand over each line at once]'
+    '--progress[say how much was read]'
     '--summary[print the counts of the run at its end]'
 )
 

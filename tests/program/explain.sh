@@ -86,6 +86,24 @@ listed $'F 0 A 1 0\n'
 explained_case 'police explains a line' 3 '' 'list BadHex 1' 'An odd number of digits' \
     police --explain 1 64 500 -
 input=/dev/null
+listed $'F 0 A 1 0\n'
+explained_case 'always' 3 '' 'list BadHex 1' 'An odd number of digits' \
+    police --explain=always 1 64 500 -
+input=/dev/null
+listed $'F 0 A 1 0\n'
+case_of 'never' 3 '' $'list BadHex 1\n' police --explain=never 1 64 500 -
+input=/dev/null
+listed $'F 0 A 1 0\n'
+case_of 'no terminal, no explanation' 3 '' $'list BadHex 1\n' police --explain=auto 1 64 500 -
+input=/dev/null
+on_terminal() { # WORD.. : what the program writes there, of a path that isn't there
+    python3 tests/lib/on_terminal.py "$program" police "$@" 1 64 500 "$work/none"
+}
+tell 'a terminal is told what a fault means' "$(
+    if [[ $(on_terminal) != "$(on_terminal --explain)" ]]; then echo 'no explanation'; fi
+    if ! on_terminal | grep -qF "$work/none: No such file or directory"; then echo 'no path'; fi
+    if [[ $(on_terminal --explain=never) != 'device List' ]]; then echo 'never explained'; fi
+)"
 explained_case 'replay explains admission' 1 '' 'admit A3 7 104 267995' 'A3 port vl bound' \
     replay --explain examples/refused.toml -
 explained_case 'send explains a name' 2 '' 'words NoSuchSystem' 'no SYSTEM of that name' \

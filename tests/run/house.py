@@ -3,8 +3,8 @@
 
     tests/run/house.py
 
-- Each name that README, PROMISES, ARCHITECTURE, DEVELOPING and LIBRARIES set in code occurs in the
-  sources.
+- Each name that README, PROMISES, ARCHITECTURE, DEVELOPING, LIBRARIES, DECISIONS and the tests'
+  README set in code occurs in the sources.
 - Each piece of code in docs/LIBRARIES.md is a part of a file of afdx_surface_tests, white space
   aside.
 - Each crate has its row in docs/ARCHITECTURE.md, which names what it may cite, as crates.txt does,
@@ -32,7 +32,7 @@ import closed_lists as lists  # noqa: E402
 
 CRATES = TOP / "crates"
 DOCUMENTS = ["README.md", "docs/PROMISES.md", "docs/ARCHITECTURE.md", "docs/DEVELOPING.md"]
-DOCUMENTS += ["docs/LIBRARIES.md"]
+DOCUMENTS += ["docs/LIBRARIES.md", "docs/DECISIONS.md", "tests/README.md"]
 CALLS = CRATES / "afdx_surface_tests/src"
 COLUMNS = 100
 PROOF_COLUMNS = 140
@@ -43,7 +43,7 @@ MEMORY = {
     "crates/afdx_config/src/read.rt": {"tree_of"},
     "crates/afdx_replay/src/refusing.rt": {"want_memory"},
     "crates/afdx_send/src/fault.rt": {""},  # the row of a table
-    "crates/afdx_replay/src/send/run.rt": {"refusal_of"},
+    "crates/afdx_replay/src/sending/run.rt": {"refusal_of"},
     "crates/afdx_send/src/sender_state.rt": {"accept"},
     "crates/afdx_systems/src/end_system.rt": {"pass_on"},
     "crates/afdx_text/src/line.rt": {"room_wanted"},

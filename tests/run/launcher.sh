@@ -23,17 +23,12 @@ printf 'low: toml\ntests: afdx low\nafdx: low clap\n' >"$room/house/crates.txt"
 cat >"$room/kit/rt" <<'RT'
 #!/usr/bin/env bash
 echo "$(basename "$PWD"): $1" >>"$CALLS"
-case $1 in
-all)
-    [[ ! -e $BROKEN ]] || { echo 'one goal is open'; exit 1; }
-    echo 'crate low: modules loaded=1 checked=1'
-    ;;
-run)
-    mkdir -p out
-    printf '#!/bin/sh\necho "ran $*"\nexit 3\n' >out/afdx
-    chmod +x out/afdx
-    ;;
-esac
+[[ ! -e $BROKEN ]] || { echo 'one goal is open'; exit 1; }
+echo 'so far: 1 of 2 functions checked'
+echo 'crate low: modules loaded=1 checked=1'
+mkdir -p out
+printf '#!/bin/sh\necho "ran $*"\nexit 3\n' >out/afdx
+chmod +x out/afdx
 RT
 chmod +x "$room/kit/rt"
 export CALLS=$room/calls BROKEN=$room/broken
@@ -61,10 +56,10 @@ called() { [[ $(tr '\n' ';' <"$CALLS") == "$1" ]]; }
 # A function that is written a second time silently takes the place of the first.
 written_once() { [[ -z $(sed -n 's/^\(\w*\)() {.*/\1/p' "$top/bin/afdx" | sort | uniq -d) ]]; }
 
-both='afdx: all;afdx: run;'
+once='afdx: run;'
 
 launch police --help
-expect 'the first call proves what the program stands on, and builds' called "$both"
+expect 'the first call proves what the program stands on, and builds' called "$once"
 expect 'it ends as the program does' [ "$status" = 3 ]
 expect 'standard output is the program'"'"'s alone' cmp -s "$room/out" <(echo 'ran police --help')
 expect 'it says how far it is' grep -q '^afdx: checked low: 1 of 2, after' "$room/err"
@@ -74,10 +69,10 @@ expect 'and says nothing' [ ! -s "$room/err" ]
 sleep 0.01
 touch "$room/house/crates/low/src/lib.rt"
 launch check
-expect 'after an edit it builds again' called "$both"
+expect 'after an edit it builds again' called "$once"
 rm "$room/house/crates/low/src/lib.rt"
 launch check
-expect 'after a file was deleted it builds again' called "$both"
+expect 'after a file was deleted it builds again' called "$once"
 touch "$room/house/crates/low/src/lib.rt" "$BROKEN"
 launch check
 expect 'where a crate is not proved the status is 70' [ "$status" = 70 ]

@@ -104,6 +104,11 @@ impl<W> Heard<W> {
         &self.device
     }
 
+    /// The writer itself, to be called past what is remembered.
+    pub fn device_mut(&mut self) -> &mut W {
+        &mut self.device
+    }
+
     /// The last line, without its line feed.
     pub fn line(&self) -> &str {
         let length = self.last.length.min(LONGEST);

@@ -11,6 +11,7 @@ use afdx_send::SEND_FAULTS;
 use clap::ArgMatches;
 use std::alloc::{AllocError, Global};
 use std::io;
+use std::io::IsTerminal;
 
 /// What the program knows of a fault beside its line: the bytes of the configuration, and the path
 /// of a device and why it failed.
@@ -215,7 +216,11 @@ pub fn explain(rt: &HostRuntime, line: &str, cause: &Cause<'_>) {
     }
 }
 
-/// Whether an explanation is asked for.
-pub fn is_asked(matches: &ArgMatches<'_>) -> bool {
-    matches.get_flag("explain")
+/// Whether an explanation is asked for: by default, if a person reads standard error.
+pub fn is_asked(rt: &HostRuntime, matches: &ArgMatches<'_>) -> bool {
+    match matches.get_str("explain") {
+        Some("always") => true,
+        Some("auto") => rt.stderr().is_terminal(),
+        _ => false,
+    }
 }

@@ -3,10 +3,12 @@
 
 mod devices;
 mod explaining;
+mod progress;
 mod words;
 
 use crate::devices::{Heard, Traced};
 use crate::explaining::{Cause, explain, is_asked, line_of, print_lists, print_meaning};
+use crate::progress::{Cleared, Counted, is_told};
 use afdx_explain::meaning_of;
 use afdx_replay::status::{DONE, NO_DEVICE_OR_MEMORY, WRONG_WORDS};
 use afdx_replay::{
@@ -18,7 +20,7 @@ use clap::{ArgMatches, Error};
 use std::alloc::AllocError;
 use std::fs::File;
 use std::io;
-use std::io::{Read, Write};
+use std::io::{IsTerminal, Read, Write};
 use std::process::ExitCode;
 
 const OUTPUT_BUFFER: usize = 65_536;
@@ -44,7 +46,7 @@ fn memory(rt: &HostRuntime) -> u8 {
 
 /// What follows the line of a fault, if that is asked for.
 fn explain_if_asked(rt: &HostRuntime, matches: &ArgMatches<'_>, line: &str, cause: &Cause<'_>) {
-    if is_asked(matches) {
+    if is_asked(rt, matches) {
         explain(rt, line, cause);
     }
 }
@@ -113,10 +115,10 @@ fn check_config(rt: &HostRuntime, matches: &ArgMatches<'_>) -> u8 {
     status
 }
 
-/// How many bytes are gathered before they go to standard output: none where each line is to be
-/// seen at once.
-fn output_room(matches: &ArgMatches<'_>) -> usize {
-    if matches.get_flag("line-buffered") {
+/// How many bytes are gathered before they go to standard output: none if each line is to be seen
+/// at once, or a person reads.
+fn output_room(rt: &HostRuntime, matches: &ArgMatches<'_>) -> usize {
+    if matches.get_flag("line-buffered") || rt.stdout().is_terminal() {
         0
     } else {
         OUTPUT_BUFFER
@@ -132,7 +134,7 @@ fn end_run<R: Drop, W: Write + Drop, E: Write + Drop>(
     ended: Ended,
     input: Watched<Traced<R>>,
     mut output: Output<Traced<W>>,
-    mut errors: Watched<Heard<E>>,
+    mut errors: Watched<Heard<Cleared<'_, E>>>,
 ) -> u8 {
     let status = finish(ended.status, &mut output, &mut errors);
     let path = match matches.get_str("LIST").or(matches.get_str("SUBMISSIONS")) {
@@ -146,7 +148,8 @@ fn end_run<R: Drop, W: Write + Drop, E: Write + Drop>(
         path,
         reason: read.or(written),
     };
-    let errors = errors.into_inner();
+    let mut errors = errors.into_inner();
+    errors.device_mut().clear();
     explain_if_asked(rt, matches, errors.line(), &cause);
     match ended.summary {
         Some(summary) if status == DONE && matches.get_flag("summary") => {
@@ -155,6 +158,70 @@ fn end_run<R: Drop, W: Write + Drop, E: Write + Drop>(
         _ => {}
     }
     status
+}
+
+/// What is done with the items of a list, and with what it is done.
+enum Run<'a> {
+    Police(CommandedRule),
+    Replay { admission: bool, config: &'a [u8] },
+    Send { config: &'a [u8], system: &'a str },
+}
+
+impl Run<'_> {
+    fn config(&self) -> &[u8] {
+        match self {
+            Run::Police(_) => &[],
+            Run::Replay { config, .. } | Run::Send { config, .. } => config,
+        }
+    }
+
+    /// Makes the run from `input` to `output`, and tells its fault to `errors`.
+    fn make<R: Read + Drop, W: Write + Drop, E: Write + Drop>(
+        &self,
+        rt: &HostRuntime,
+        input: &mut Watched<R>,
+        output: &mut Output<W>,
+        errors: &mut Watched<E>,
+    ) -> Ended {
+        match self {
+            Run::Police(rule) => police_and_count(rt.alloc(), rule, input, output, errors),
+            Run::Replay { admission, config } => {
+                replay_and_count(rt.alloc(), *admission, config, input, output, errors)
+            }
+            Run::Send { config, system } => {
+                send_and_count(rt.alloc(), config, system, input, output, errors)
+            }
+        }
+    }
+}
+
+/// Makes the run over what `input` gives, and hands all its lines to standard output.
+fn run_from<R: Read + Drop>(
+    rt: &HostRuntime,
+    matches: &ArgMatches<'_>,
+    run: &Run<'_>,
+    input: R,
+) -> u8 {
+    let device = Traced::new(rt.stdout());
+    let Ok(mut output) = Output::new(rt.alloc(), output_room(rt, matches), device) else {
+        return memory(rt);
+    };
+    let told = is_told(rt, matches);
+    let mut input = Watched::new(Traced::new(Counted::new(rt, told, input)));
+    let mut errors = Watched::new(Heard::new(Cleared::new(rt, told, rt.stderr())));
+    let ended = run.make(rt, &mut input, &mut output, &mut errors);
+    end_run(rt, matches, run.config(), ended, input, output, errors)
+}
+
+/// Makes the run over a file, or over standard input, which is `-`.
+fn run_list(rt: &HostRuntime, matches: &ArgMatches<'_>, run: &Run<'_>, list: &str) -> u8 {
+    if list == "-" {
+        return run_from(rt, matches, run, rt.stdin());
+    }
+    match File::open(rt, list) {
+        Ok(file) => run_from(rt, matches, run, file),
+        Err(reason) => no_file(rt, matches, "device List", list, reason),
+    }
 }
 
 /// The rule that the words of `police` give.
@@ -174,56 +241,11 @@ fn commanded_rule(matches: &ArgMatches<'_>) -> Option<CommandedRule> {
     })
 }
 
-/// Polices what `input` gives, and hands all verdicts to standard output.
-fn police_from<R: Read + Drop>(rt: &HostRuntime, matches: &ArgMatches<'_>, input: R) -> u8 {
-    let Some(given) = commanded_rule(matches) else {
+fn police_list(rt: &HostRuntime, matches: &ArgMatches<'_>) -> u8 {
+    let (Some(list), Some(rule)) = (matches.get_str("LIST"), commanded_rule(matches)) else {
         return WRONG_WORDS;
     };
-    let device = Traced::new(rt.stdout());
-    let Ok(mut output) = Output::new(rt.alloc(), output_room(matches), device) else {
-        return memory(rt);
-    };
-    let mut input = Watched::new(Traced::new(input));
-    let mut errors = Watched::new(Heard::new(rt.stderr()));
-    let ended = police_and_count(rt.alloc(), &given, &mut input, &mut output, &mut errors);
-    end_run(rt, matches, &[], ended, input, output, errors)
-}
-
-fn police_list(rt: &HostRuntime, matches: &ArgMatches<'_>) -> u8 {
-    match matches.get_str("LIST") {
-        Some("-") => police_from(rt, matches, rt.stdin()),
-        Some(path) => match File::open(rt, path) {
-            Ok(file) => police_from(rt, matches, file),
-            Err(reason) => no_file(rt, matches, "device List", path, reason),
-        },
-        None => WRONG_WORDS,
-    }
-}
-
-/// Replays what `input` gives in the tables of a configuration, and hands all lines to standard
-/// output.
-fn replay_from<R: Read + Drop>(
-    rt: &HostRuntime,
-    matches: &ArgMatches<'_>,
-    config: &[u8],
-    input: R,
-) -> u8 {
-    let admission = !matches.get_flag("no-admission");
-    let device = Traced::new(rt.stdout());
-    let Ok(mut output) = Output::new(rt.alloc(), output_room(matches), device) else {
-        return memory(rt);
-    };
-    let mut input = Watched::new(Traced::new(input));
-    let mut errors = Watched::new(Heard::new(rt.stderr()));
-    let ended = replay_and_count(
-        rt.alloc(),
-        admission,
-        config,
-        &mut input,
-        &mut output,
-        &mut errors,
-    );
-    end_run(rt, matches, config, ended, input, output, errors)
+    run_list(rt, matches, &Run::Police(rule), list)
 }
 
 fn replay_list(rt: &HostRuntime, matches: &ArgMatches<'_>) -> u8 {
@@ -234,58 +256,27 @@ fn replay_list(rt: &HostRuntime, matches: &ArgMatches<'_>) -> u8 {
         Ok(config) => config,
         Err(status) => return status,
     };
-    if list == "-" {
-        return replay_from(rt, matches, config.as_slice(), rt.stdin());
-    }
-    match File::open(rt, list) {
-        Ok(file) => replay_from(rt, matches, config.as_slice(), file),
-        Err(reason) => no_file(rt, matches, "device List", list, reason),
-    }
-}
-
-/// Sends what `input` gives from a system of a configuration, and hands all lines to standard
-/// output.
-fn send_from<R: Read + Drop>(
-    rt: &HostRuntime,
-    matches: &ArgMatches<'_>,
-    config: &[u8],
-    input: R,
-) -> u8 {
-    let Some(system) = matches.get_str("SYSTEM") else {
-        return WRONG_WORDS;
+    let run = Run::Replay {
+        admission: !matches.get_flag("no-admission"),
+        config: config.as_slice(),
     };
-    let device = Traced::new(rt.stdout());
-    let Ok(mut output) = Output::new(rt.alloc(), output_room(matches), device) else {
-        return memory(rt);
-    };
-    let mut input = Watched::new(Traced::new(input));
-    let mut errors = Watched::new(Heard::new(rt.stderr()));
-    let ended = send_and_count(
-        rt.alloc(),
-        config,
-        system,
-        &mut input,
-        &mut output,
-        &mut errors,
-    );
-    end_run(rt, matches, config, ended, input, output, errors)
+    run_list(rt, matches, &run, list)
 }
 
 fn send_list(rt: &HostRuntime, matches: &ArgMatches<'_>) -> u8 {
-    let Some(list) = matches.get_str("SUBMISSIONS") else {
+    let (Some(list), Some(system)) = (matches.get_str("SUBMISSIONS"), matches.get_str("SYSTEM"))
+    else {
         return WRONG_WORDS;
     };
     let config = match read_config(rt, matches) {
         Ok(config) => config,
         Err(status) => return status,
     };
-    if list == "-" {
-        return send_from(rt, matches, config.as_slice(), rt.stdin());
-    }
-    match File::open(rt, list) {
-        Ok(file) => send_from(rt, matches, config.as_slice(), file),
-        Err(reason) => no_file(rt, matches, "device List", list, reason),
-    }
+    let run = Run::Send {
+        config: config.as_slice(),
+        system,
+    };
+    run_list(rt, matches, &run, list)
 }
 
 /// Says what a line means, or what each word of the closed lists means.

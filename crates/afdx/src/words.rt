@@ -81,10 +81,29 @@ fn line_buffered<'a>(alloc: Global) -> Arg<'a> {
     flag(alloc, "line-buffered", help)
 }
 
+const EXPLAIN_HELP: &str = "When a fault is explained, behind its one line: 'auto' is where \
+standard error is a terminal";
+
+/// When a fault is explained; `always` is what the option alone says.
+const TIMES_TO_EXPLAIN: &[&str] = &["auto", "always", "never"];
+
 /// The option by which a fault is explained.
 fn explain_option<'a>(alloc: Global) -> Arg<'a> {
-    let help = "Explains the fault on standard error, behind its one line";
-    flag(alloc, "explain", help)
+    Arg::new(alloc, "explain")
+        .long("explain")
+        .value_name("WHEN")
+        .help(EXPLAIN_HELP)
+        .num_args(0..=1)
+        .require_equals(true)
+        .default_value("auto")
+        .default_missing_value("always")
+        .value_parser(TIMES_TO_EXPLAIN)
+}
+
+/// The option by which a person sees how far a run is.
+fn progress_option<'a>(alloc: Global) -> Arg<'a> {
+    let help = "Says after two seconds how much was read, if standard error is a terminal";
+    flag(alloc, "progress", help)
 }
 
 /// The option by which the counts of a run are printed.
@@ -157,6 +176,7 @@ fn replay_command<'a>(alloc: Global) -> Result<Command<'a>, AllocError> {
         flag(alloc, "no-admission", FREELY_HELP),
         explain_option(alloc),
         line_buffered(alloc),
+        progress_option(alloc),
         summary_option(alloc),
         word(alloc, "CONFIG", CONFIG_HELP),
         word(alloc, "LIST", LIST_HELP),
@@ -200,6 +220,7 @@ fn send_command<'a>(alloc: Global) -> Result<Command<'a>, AllocError> {
     let words = vec![in alloc;
         explain_option(alloc),
         line_buffered(alloc),
+        progress_option(alloc),
         summary_option(alloc),
         word(alloc, "CONFIG", CONFIG_HELP),
         word(alloc, "SYSTEM", SYSTEM_HELP),
@@ -255,6 +276,7 @@ fn police_command<'a>(alloc: Global) -> Result<Command<'a>, AllocError> {
         policing_option(alloc),
         explain_option(alloc),
         line_buffered(alloc),
+        progress_option(alloc),
         summary_option(alloc),
         number_word(alloc, "BAG_MS", BAG_HELP),
         number_word(alloc, "LMAX", LMAX_HELP),

@@ -1,4 +1,6 @@
 //! Admission: whether every frame of a network keeps its link's latency.
+//!
+//! Its tests are in `afdx_part_tests`.
 #![tactic(auto)]
 
 mod admitted;

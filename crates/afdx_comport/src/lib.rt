@@ -1,5 +1,7 @@
 //! Communication ports of an end system (ARINC 664 Part 7): a sampling port keeps the newest
 //! message, a queuing port gives its messages first in, first out.
+//!
+//! Its tests are in `afdx_run_tests`.
 #![tactic(auto)]
 
 mod com_ports;

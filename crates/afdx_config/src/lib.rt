@@ -1,4 +1,6 @@
 //! The tables of a network, read from TOML text and checked in one order.
+//!
+//! Its tests are in `afdx_part_tests`.
 #![tactic(auto)]
 
 mod fault;

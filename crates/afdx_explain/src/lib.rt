@@ -1,4 +1,6 @@
 //! What the lines of the program mean, in plain words.
+//!
+//! Its tests are in `afdx_part_tests`.
 #![tactic(auto)]
 
 mod entry;

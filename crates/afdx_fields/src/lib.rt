@@ -1,4 +1,6 @@
 //! The fields of a line of text.
+//!
+//! Its tests are in `afdx_part_tests`.
 #![tactic(auto)]
 
 ghost use Rattle.std.specs.Prelude.{◌≡◌, ◌<◌, ◌∷◌, ◌==◌, length, IfSome};

@@ -1,4 +1,6 @@
 //! Lists are read, line by line, through devices that are watched.
+//!
+//! Its tests are in `afdx_part_tests`.
 #![tactic(auto)]
 
 mod fault;

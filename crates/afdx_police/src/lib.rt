@@ -1,4 +1,6 @@
 //! Policing of a virtual link: what its frames have to look like, and how much it may send.
+//!
+//! Its tests are in `afdx_part_tests`.
 #![tactic(auto)]
 
 mod account;

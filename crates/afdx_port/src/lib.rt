@@ -1,4 +1,6 @@
 //! An output port: two queues of frames, high before low, that share a buffer and a line.
+//!
+//! Its tests are in `afdx_part_tests`.
 #![tactic(auto)]
 
 mod has_length;

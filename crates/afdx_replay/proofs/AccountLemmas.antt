@@ -8,7 +8,7 @@ use Rattle.afdx_police.specs.Arrival.{Arrival, arrival_with, own}
 use Rattle.afdx_police.specs.LinkAccounts.{StandsForOwn, last_time}
 use Rattle.afdx_police.specs.Rule.{Rule}
 use Rattle.afdx_police.specs.declared.account.LinkAccount.{LinkAccount}
-use Rattle.afdx_replay.specs.police.Accounts.{HaveSeen, AreUntil}
+use Rattle.afdx_replay.specs.policing.Accounts.{HaveSeen, AreUntil}
 
 module _ (accounts : BySide LinkAccount) where
   pub until-on : (time : ℕ) → AreUntil accounts time → (side : Side) → last_time (on side accounts) ≤ time

@@ -18,10 +18,10 @@ use Rattle.afdx_lists.specs.declared.fault.LineFault.{LineFault}
 use Rattle.afdx_lists.specs.declared.fault.RunFault.{RunFault}
 use Rattle.afdx_run.specs.Lists.{items_of, latest_in, with_item}
 use Rattle.afdx_run.specs.Listed.{frames, arrival_at, said_after, arrivals_of}
-use Rattle.afdx_replay.specs.replay.Promises.{IsListed, ArrivalsAreListed}
+use Rattle.afdx_replay.specs.replaying.Promises.{IsListed, ArrivalsAreListed}
 use Rattle.afdx_promises.specs.Lines.{IsIn}
-use Rattle.afdx_replay.specs.replay.PromisedRun.{WritesPromisedSoFar, WritesPromisedSome, PromisedAnswers}
-use Rattle.afdx_replay.specs.replay.Replayed.{WritesSoFar, WritesSome, Answers}
+use Rattle.afdx_replay.specs.replaying.PromisedRun.{WritesPromisedSoFar, WritesPromisedSome, PromisedAnswers}
+use Rattle.afdx_replay.specs.replaying.Replayed.{WritesSoFar, WritesSome, Answers}
 use Rattle.afdx_replay.specs.declared.summary.Summary.{Summary}
 use Rattle.afdx_run.proofs.RunLemmas.{stops-more}
 use Rattle.afdx_replay.proofs.PromisedLemmas.{replay-promised, so-far-told, none-counted}

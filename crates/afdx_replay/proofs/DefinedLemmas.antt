@@ -9,10 +9,10 @@ use Rattle.afdx_lists.specs.declared.fault.RunFault.{RunFault}
 use Rattle.afdx_network.specs.Order.{events_of, events_so_far}
 use Rattle.afdx_network.proofs.OrderedLemmas.{are-events, are-so-far}
 use Rattle.afdx_promises.proofs.DefinitionLemmas.{events-by-definition, so-far-by-definition}
-use Rattle.afdx_replay.specs.replay.DefinedRun.{WritesDefinedSoFar, WritesDefinedSome, DefinedAnswers}
-use Rattle.afdx_replay.specs.replay.DefinedRun.{RunsAreByDefinition}
+use Rattle.afdx_replay.specs.replaying.DefinedRun.{WritesDefinedSoFar, WritesDefinedSome, DefinedAnswers}
+use Rattle.afdx_replay.specs.replaying.DefinedRun.{RunsAreByDefinition}
 use Rattle.afdx_run.specs.Listed.{frames, arrivals_of}
-use Rattle.afdx_replay.specs.replay.Replayed.{WritesSoFar, WritesSome, Answers}
+use Rattle.afdx_replay.specs.replaying.Replayed.{WritesSoFar, WritesSome, Answers}
 use Rattle.afdx_replay.specs.declared.summary.Summary.{Summary}
 use Rattle.afdx_replay.proofs.AdmittedRunLemmas.{arrivals-timed, arrivals-listed}
 use Rattle.afdx_run.proofs.RunLemmas.{stops-more}

@@ -44,9 +44,9 @@ use Rattle.afdx_replay.specs.EndToEnd.{TextsAreLists, AreToldAsTaken}
 use Rattle.afdx_run.specs.Listed.{AreSound, arrivals_of}
 use Rattle.afdx_replay.specs.OneSide.{HoldsFirst, AreToldSoFar, TakenIsToldSoFar, TakenIsToldByOneSide}
 use Rattle.afdx_run.specs.Listed.{Handed}
-use Rattle.afdx_replay.specs.send.Events.{Event, Emitted, Submitted, submissions_in}
-use Rattle.afdx_replay.specs.send.Events.{turns_in, taken_by, calls_in, EachFollows}
-use Rattle.afdx_replay.specs.send.Text.{send_text}
+use Rattle.afdx_replay.specs.sending.Events.{Event, Emitted, Submitted, submissions_in}
+use Rattle.afdx_replay.specs.sending.Events.{turns_in, taken_by, calls_in, EachFollows}
+use Rattle.afdx_replay.specs.sending.Text.{send_text}
 use Rattle.afdx_replay.proofs.PortLineLemmas.{AreSaidBy, said-by}
 use Rattle.afdx_replay.proofs.SaidLemmas.{IsSaid, all-said}
 use Rattle.afdx_replay.proofs.TextListLemmas.{text-is-list}

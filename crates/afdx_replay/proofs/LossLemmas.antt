@@ -12,8 +12,8 @@ use Rattle.afdx_switch.specs.Verdicts.{numbers}
 use Rattle.afdx_switch.specs.declared.ports.PortSet.{PortSet}
 use Rattle.afdx_network.specs.Network.{ports_in}
 use Rattle.afdx_police.specs.declared.shape.Reason.{Reason}
-use Rattle.afdx_replay.specs.police.Text.{verdict_line}
-use Rattle.afdx_replay.specs.replay.Text.{loss_line, loss_lines}
+use Rattle.afdx_replay.specs.policing.Text.{verdict_line}
+use Rattle.afdx_replay.specs.replaying.Text.{loss_line, loss_lines}
 use Rattle.afdx_text.proofs.OutputLemmas.{front-longer, front-more}
 
 count_from : ℕ → ℕ → List ℕ

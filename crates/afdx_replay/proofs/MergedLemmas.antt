@@ -9,7 +9,7 @@ use Rattle.afdx_config.specs.Rows.{SystemRow, Rows}
 use Rattle.afdx_lists.specs.FrameLines.{line_says}
 use Rattle.afdx_lists.specs.Lines.{lines_of}
 use Rattle.afdx_frame.specs.declared.link.Side.TheVariants.{A, B}
-use Rattle.afdx_replay.specs.send.Text.{send_text}
+use Rattle.afdx_replay.specs.sending.Text.{send_text}
 use Rattle.afdx_replay.specs.EndToEnd.{says_at, lines_at, HasSent}
 use Rattle.afdx_replay.specs.Merged.{AreMerged, Sender, is_at, lines_sent, AreTextsMerged, MergedAreToldOnce}
 use Rattle.afdx_replay.proofs.EndToEndLemmas.{Laws, taken-is-told, text-elsewhere}

@@ -24,14 +24,14 @@ use Rattle.afdx_send.proofs.NewLemmas.{distinct_links}
 use Rattle.afdx_send.proofs.NextLemmas.{AllSubs, split_last}
 use Rattle.afdx_send.proofs.OneLemmas.{one-emission, no-turns, order-next, released-once, none-is-next}
 use Rattle.afdx_run.specs.Listed.{Handed}
-use Rattle.afdx_replay.specs.send.Events.{Event, Emitted, Submitted, submissions_in}
-use Rattle.afdx_replay.specs.send.Events.{turns_in, taken_by, calls_in, IsAnswered, EachFollows}
-use Rattle.afdx_replay.specs.send.Events.{AreDone, IsAtSubmission}
-use Rattle.afdx_replay.specs.replay.Text.{with_lines}
-use Rattle.afdx_replay.specs.send.Text.{send_text, send_counts}
+use Rattle.afdx_replay.specs.sending.Events.{Event, Emitted, Submitted, submissions_in}
+use Rattle.afdx_replay.specs.sending.Events.{turns_in, taken_by, calls_in, IsAnswered, EachFollows}
+use Rattle.afdx_replay.specs.sending.Events.{AreDone, IsAtSubmission}
+use Rattle.afdx_replay.specs.replaying.Text.{with_lines}
+use Rattle.afdx_replay.specs.sending.Text.{send_text, send_counts}
 use Rattle.afdx_replay.specs.declared.summary.Summary.{Summary}
-use Rattle.afdx_replay.specs.send.Laws.{EventsAreOne, SendsAreOne}
-use Rattle.afdx_replay.specs.send.Stops.{EventsSoFarAreOne, EventsSoFarBegin, StoppedSendsAreOne}
+use Rattle.afdx_replay.specs.sending.Laws.{EventsAreOne, SendsAreOne}
+use Rattle.afdx_replay.specs.sending.Stops.{EventsSoFarAreOne, EventsSoFarBegin, StoppedSendsAreOne}
 use Rattle.afdx_replay.proofs.TakenLemmas.{same-place, same-row, taken-each, own-taken}
 
 -- ---- a submission has one answer

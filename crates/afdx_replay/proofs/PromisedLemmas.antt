@@ -20,11 +20,11 @@ use Rattle.afdx_promises.proofs.EventLemmas.{as-promised, so-far-promised}
 use Rattle.afdx_promises.proofs.ToldLemmas as promise
 use Rattle.afdx_systems.specs.Handovers.{came_to, arrival_of}
 use Rattle.afdx_systems.specs.Receptions.{line_at, reception_line, is_delivered}
-use Rattle.afdx_replay.specs.police.Text.{verdict_line}
-use Rattle.afdx_replay.specs.replay.Promises.{text_of, ReplayIsAsPromised, ReplaySoFarIsAsPromised, NoneIsCounted}
-use Rattle.afdx_replay.specs.replay.Text.{handed_over, frames_left, loss_lines, departure_line}
-use Rattle.afdx_replay.specs.replay.Text.{heard, lines_after, replay_text, replay_counts}
-use Rattle.afdx_replay.specs.replay.Text.{with_admission, with_departure}
+use Rattle.afdx_replay.specs.policing.Text.{verdict_line}
+use Rattle.afdx_replay.specs.replaying.Promises.{text_of, ReplayIsAsPromised, ReplaySoFarIsAsPromised, NoneIsCounted}
+use Rattle.afdx_replay.specs.replaying.Text.{handed_over, frames_left, loss_lines, departure_line}
+use Rattle.afdx_replay.specs.replaying.Text.{heard, lines_after, replay_text, replay_counts}
+use Rattle.afdx_replay.specs.replaying.Text.{with_admission, with_departure}
 use Rattle.afdx_replay.specs.declared.summary.Summary.{Summary}
 
 -- ---- events of which no copy is lost and none is too old

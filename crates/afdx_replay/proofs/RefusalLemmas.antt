@@ -13,8 +13,8 @@ use Rattle.afdx_admit.specs.declared.fault.AdmitFault.{AdmitFault}
 use Rattle.afdx_lists.specs.declared.watched.Watched.{Watched}
 use Rattle.afdx_replay.specs.Refusals.{admit_line, config_line, RefusesConfig}
 use Rattle.afdx_replay.specs.Refusals.{RefusesTables, IsToldRefused, WantsMemory}
-use Rattle.afdx_replay.specs.replay.Command.{IsNotReplayed}
-use Rattle.afdx_replay.specs.send.Command.{NamesSystem, IsNotSent}
+use Rattle.afdx_replay.specs.replaying.Command.{IsNotReplayed}
+use Rattle.afdx_replay.specs.sending.Command.{NamesSystem, IsNotSent}
 
 -- a configuration was refused: it has the fault that is told, or memory was refused
 module _ {E : Type 0} (bytes : E → Option (List ℕ)) (old new : Watched E) (config : List ℕ)

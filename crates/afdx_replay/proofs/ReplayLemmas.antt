@@ -24,13 +24,13 @@ use Rattle.afdx_network.specs.declared.network.Network.{Network}
 use Rattle.afdx_switch.specs.declared.verdict.Verdict.{Verdict}
 use Rattle.afdx_network.proofs.FirstLemmas.{are-first, so-far}
 use Rattle.afdx_network.proofs.OrderedLemmas.{one-order, one-order-so-far, begins}
-use Rattle.afdx_replay.specs.police.Text.{verdict_line}
-use Rattle.afdx_replay.specs.replay.Text.{handed_over, frames_left, departure_line, heard}
-use Rattle.afdx_replay.specs.replay.Text.{lines_after, loss_lines, admission_lines, replay_text}
-use Rattle.afdx_replay.specs.replay.Text.{no_counts, with_admission, with_departure, replay_counts}
-use Rattle.afdx_replay.specs.replay.Text.{with_lines}
-use Rattle.afdx_replay.specs.replay.Replayed.{WritesSoFar, WritesSome, WritesAll, HasTold, AreTold}
-use Rattle.afdx_replay.specs.replay.Replayed.{ToldAll, TellsDeparture, HasRoom}
+use Rattle.afdx_replay.specs.policing.Text.{verdict_line}
+use Rattle.afdx_replay.specs.replaying.Text.{handed_over, frames_left, departure_line, heard}
+use Rattle.afdx_replay.specs.replaying.Text.{lines_after, loss_lines, admission_lines, replay_text}
+use Rattle.afdx_replay.specs.replaying.Text.{no_counts, with_admission, with_departure, replay_counts}
+use Rattle.afdx_replay.specs.replaying.Text.{with_lines}
+use Rattle.afdx_replay.specs.replaying.Replayed.{WritesSoFar, WritesSome, WritesAll, HasTold, AreTold}
+use Rattle.afdx_replay.specs.replaying.Replayed.{ToldAll, TellsDeparture, HasRoom}
 use Rattle.afdx_run.specs.Listed.{frames, arrivals_of}
 use Rattle.afdx_replay.specs.declared.summary.Summary.{Summary}
 use Rattle.afdx_run.specs.Stops.{StopsAt}

@@ -24,15 +24,15 @@ use Rattle.afdx_send.specs.declared.fault.SendFault.TheVariants.{NotMyLink, NoSu
 use Rattle.afdx_send.specs.declared.fault.SendFault.TheVariants.{TooLarge, QueueFull, Memory}
 use Rattle.afdx_send.specs.declared.sender.Emission.{Emission}
 use Rattle.afdx_send.specs.declared.sender_state.SenderState.{SenderState}
-use Rattle.afdx_replay.specs.replay.Text.{no_counts, with_lines}
+use Rattle.afdx_replay.specs.replaying.Text.{no_counts, with_lines}
 use Rattle.afdx_run.specs.Listed.{Handed, submissions}
-use Rattle.afdx_replay.specs.send.Events.{message_of, Event, Emitted, Submitted}
-use Rattle.afdx_replay.specs.send.Events.{submissions_in, turns_in, taken_by, calls_in, EachFollows}
-use Rattle.afdx_replay.specs.send.Events.{AreDone}
-use Rattle.afdx_replay.specs.send.Text.{emission_lines, event_lines, send_text, with_event, send_counts}
-use Rattle.afdx_replay.specs.send.Sent.{Source, source_at, WritesSoFar, WritesSome, WritesEvents, WritesAll, Answers}
-use Rattle.afdx_replay.specs.send.Command.{Sends}
-use Rattle.afdx_replay.specs.send.Progress.{HasTold, AreTold, ToldUntil, TellsSubmission, HasRoom}
+use Rattle.afdx_replay.specs.sending.Events.{message_of, Event, Emitted, Submitted}
+use Rattle.afdx_replay.specs.sending.Events.{submissions_in, turns_in, taken_by, calls_in, EachFollows}
+use Rattle.afdx_replay.specs.sending.Events.{AreDone}
+use Rattle.afdx_replay.specs.sending.Text.{emission_lines, event_lines, send_text, with_event, send_counts}
+use Rattle.afdx_replay.specs.sending.Sent.{Source, source_at, WritesSoFar, WritesSome, WritesEvents, WritesAll, Answers}
+use Rattle.afdx_replay.specs.sending.Command.{Sends}
+use Rattle.afdx_replay.specs.sending.Progress.{HasTold, AreTold, ToldUntil, TellsSubmission, HasRoom}
 use Rattle.afdx_replay.specs.declared.summary.Summary.{Summary}
 use Rattle.afdx_run.proofs.RunLemmas.{IsDone}
 use Rattle.afdx_replay.proofs.TextLemmas.{front-whole, front-more}

@@ -27,8 +27,8 @@ use Rattle.afdx_send.specs.declared.fault.SendFault.TheVariants.{NotMyLink, NoSu
 use Rattle.afdx_send.specs.declared.fault.SendFault.TheVariants.{TooLarge, QueueFull, Memory}
 use Rattle.afdx_promises.specs.Sent.{frame_on}
 use Rattle.afdx_replay.specs.EndToEnd.{says_at, lines_at}
-use Rattle.afdx_replay.specs.send.Events.{Event, Emitted, Submitted, turns_in}
-use Rattle.afdx_replay.specs.send.Text.{sent_line, refusal_line, event_lines, send_text}
+use Rattle.afdx_replay.specs.sending.Events.{Event, Emitted, Submitted, turns_in}
+use Rattle.afdx_replay.specs.sending.Text.{sent_line, refusal_line, event_lines, send_text}
 use Rattle.afdx_replay.proofs.SendLemmas.{text-none, text-more}
 use Rattle.afdx_replay.proofs.SentLineLemmas.{AtLeast, append-least, lower-least, none-below}
 use Rattle.afdx_replay.proofs.SentLineLemmas.{index-least, decimal-least, line_of, line-feed}

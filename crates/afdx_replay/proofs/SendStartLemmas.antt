@@ -4,10 +4,10 @@ use Rattle.std.specs.List.{slice_get}
 use Rattle.std.proofs.lemmas.Option.{slice_get_cases}
 use Rattle.afdx_config.specs.Rows.{SystemRow, Rows}
 use Rattle.afdx_send.specs.Sender.{StandsFor, no_calls, frames_held, last_time}
-use Rattle.afdx_replay.specs.replay.Text.{no_counts}
-use Rattle.afdx_replay.specs.send.Told.{TellsItems}
-use Rattle.afdx_replay.specs.send.Sent.{source_at}
-use Rattle.afdx_replay.specs.declared.send.run.Sending.{Sending}
+use Rattle.afdx_replay.specs.replaying.Text.{no_counts}
+use Rattle.afdx_replay.specs.sending.Told.{TellsItems}
+use Rattle.afdx_replay.specs.sending.Sent.{source_at}
+use Rattle.afdx_replay.specs.declared.sending.run.Sending.{Sending}
 use Rattle.afdx_replay.proofs.SendLemmas.{are-told-start, stands-start, room-start}
 
 -- a sender that was asked nothing yet has told of no items

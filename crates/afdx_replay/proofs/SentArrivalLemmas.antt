@@ -19,9 +19,9 @@ use Rattle.afdx_send.specs.Sender.{SenderHistory, IsNextIn}
 use Rattle.afdx_send.proofs.NewLemmas.{from_filter, distinct_links}
 use Rattle.afdx_send.specs.Laws.{IsBuildable}
 use Rattle.afdx_run.specs.Listed.{Handed}
-use Rattle.afdx_replay.specs.send.Events.{Event, Emitted, Submitted, submissions_in}
-use Rattle.afdx_replay.specs.send.Events.{turns_in, taken_by, calls_in, EachFollows}
-use Rattle.afdx_replay.specs.send.Laws.{IsTold, SentLinesAreArrivals}
+use Rattle.afdx_replay.specs.sending.Events.{Event, Emitted, Submitted, submissions_in}
+use Rattle.afdx_replay.specs.sending.Events.{turns_in, taken_by, calls_in, EachFollows}
+use Rattle.afdx_replay.specs.sending.Laws.{IsTold, SentLinesAreArrivals}
 use Rattle.afdx_replay.proofs.EndToEndLemmas.{IsGood, taken-good, turn-buildable, of-frame}
 use Rattle.afdx_replay.proofs.SaidLemmas.{IsSaid, all-said}
 use Rattle.afdx_replay.proofs.SentLineLemmas.{sent-line}

@@ -36,9 +36,9 @@ use Rattle.afdx_lists.proofs.LineLemmas.{lines_of_feed, lines_of_nothing}
 use Rattle.afdx_port.proofs.TurnLemmas.{eqb-other}
 use Rattle.afdx_run.specs.Lists.{with_item, items_of, fault_in, fault_said, HaveNoFault}
 use Rattle.afdx_run.specs.Listed.{frames, arrivals_of}
-use Rattle.afdx_replay.specs.police.Text.{side_text}
-use Rattle.afdx_replay.specs.send.Laws.{IsArrival}
-use Rattle.afdx_replay.specs.send.Text.{sent_line}
+use Rattle.afdx_replay.specs.policing.Text.{side_text}
+use Rattle.afdx_replay.specs.sending.Laws.{IsArrival}
+use Rattle.afdx_replay.specs.sending.Text.{sent_line}
 
 -- bytes that a frame may have
 pub record AreOfFrame (bytes : List ℕ) : Type 0 where

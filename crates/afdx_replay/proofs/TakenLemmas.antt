@@ -10,8 +10,8 @@ use Rattle.afdx_send.specs.Complete.{IsFor}
 use Rattle.afdx_send.specs.Releases.{Submission}
 use Rattle.afdx_send.specs.Sender.{IsTaken}
 use Rattle.afdx_run.specs.Listed.{Handed}
-use Rattle.afdx_replay.specs.send.Events.{message_of, Event, Emitted, Submitted}
-use Rattle.afdx_replay.specs.send.Events.{submissions_in, taken_by, calls_in, EachFollows}
+use Rattle.afdx_replay.specs.sending.Events.{message_of, Event, Emitted, Submitted}
+use Rattle.afdx_replay.specs.sending.Events.{submissions_in, taken_by, calls_in, EachFollows}
 
 pub all-more : {Y : Type 0} (P : Y → Type 0) (xs : List Y) (x : Y) → AllByRecursion P xs → P x
     → AllByRecursion P (xs ++ x ∷ [])

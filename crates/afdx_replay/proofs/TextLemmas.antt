@@ -5,7 +5,7 @@ use Rattle.afdx_police.specs.declared.shape.Reason.{Reason}
 use Rattle.afdx_police.specs.Arrival.{Arrival}
 use Rattle.afdx_police.specs.Rule.{Rule}
 use Rattle.afdx_police.specs.Verdicts.{verdict_in}
-use Rattle.afdx_replay.specs.police.Text.{text_of, count_judged, verdict_line}
+use Rattle.afdx_replay.specs.policing.Text.{text_of, count_judged, verdict_line}
 pub use Rattle.afdx_text.proofs.OutputLemmas.{whole_front as front-whole, front-more, front-longer}
 
 pub text_of-none : (rule : Rule) → text_of rule [] ≡ []

@@ -11,7 +11,7 @@ use Rattle.afdx_lists.specs.Calls.{is_failed_read, is_failed_write}
 use Rattle.afdx_lists.specs.Faults.{status_of}
 use Rattle.afdx_text.specs.Telling.{TellsLine}
 use Rattle.afdx_replay.specs.declared.ending.Ended.{Ended}
-use Rattle.afdx_replay.specs.declared.police.command.CommandedRule.{CommandedRule}
+use Rattle.afdx_replay.specs.declared.policing.command.CommandedRule.{CommandedRule}
 use Rattle.afdx_replay.specs.declared.summary.Summary.{Summary}
 
 -- the rule that the command is given

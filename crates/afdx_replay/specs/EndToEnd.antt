@@ -19,11 +19,11 @@ use Rattle.afdx_promises.specs.Lines.{Line, messages_told}
 use Rattle.afdx_promises.specs.Promises.{EachIsToldOnce}
 use Rattle.afdx_run.specs.Listed.{AreSound, arrivals_of}
 use Rattle.afdx_run.specs.Lists.{items_of, HaveNoFault}
-use Rattle.afdx_replay.specs.replay.PromisedRun.{WritesPromised}
+use Rattle.afdx_replay.specs.replaying.PromisedRun.{WritesPromised}
 use Rattle.afdx_run.specs.Listed.{submissions}
-use Rattle.afdx_replay.specs.send.Events.{Event, turns_in, taken_by, AreEventsOf, AreDone}
-use Rattle.afdx_replay.specs.send.Text.{send_text}
-use Rattle.afdx_replay.specs.send.Sent.{source_at, WritesAll}
+use Rattle.afdx_replay.specs.sending.Events.{Event, turns_in, taken_by, AreEventsOf, AreDone}
+use Rattle.afdx_replay.specs.sending.Text.{send_text}
+use Rattle.afdx_replay.specs.sending.Sent.{source_at, WritesAll}
 use Rattle.afdx_replay.specs.declared.summary.Summary.{Summary}
 
 -- what a line says is a frame that comes in at this port on this side

@@ -4,6 +4,6 @@ pub mod Refusals
 pub mod EndToEnd
 pub mod Merged
 pub mod OneSide
-pub mod police
-pub mod replay
-pub mod send
+pub mod policing
+pub mod replaying
+pub mod sending

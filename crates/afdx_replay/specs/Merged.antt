@@ -11,8 +11,8 @@ use Rattle.afdx_promises.specs.Lines.{Line}
 use Rattle.afdx_promises.specs.Promises.{EachIsToldOnce}
 use Rattle.afdx_replay.specs.EndToEnd.{says_at, lines_at, HasSent, EachIsToldAsTaken}
 use Rattle.afdx_run.specs.Listed.{AreSound, arrivals_of}
-use Rattle.afdx_replay.specs.send.Events.{Event}
-use Rattle.afdx_replay.specs.send.Text.{send_text}
+use Rattle.afdx_replay.specs.sending.Events.{Event}
+use Rattle.afdx_replay.specs.sending.Text.{send_text}
 
 -- two lists, each in its order, are merged into one in any way
 abbrev pub AreMerged : List (List ℕ) → List (List ℕ) → List (List ℕ) → Type 0

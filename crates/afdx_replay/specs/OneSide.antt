@@ -11,8 +11,8 @@ use Rattle.afdx_promises.specs.Lines.{Line, messages_told}
 use Rattle.afdx_promises.specs.Promises.{EachIsToldOnceSoFar, most_come}
 use Rattle.afdx_replay.specs.EndToEnd.{lines_at, HasSent, heard_of, EachIsToldAsTaken}
 use Rattle.afdx_run.specs.Listed.{AreSound, arrivals_of}
-use Rattle.afdx_replay.specs.send.Events.{Event, taken_by}
-use Rattle.afdx_replay.specs.send.Text.{send_text}
+use Rattle.afdx_replay.specs.sending.Events.{Event, taken_by}
+use Rattle.afdx_replay.specs.sending.Text.{send_text}
 
 -- on a side the lines of a list at the system's port are the first of those of the text, or all
 abbrev pub HoldsFirst : SystemRow → Side → List (List ℕ) → List ℕ → Type 0

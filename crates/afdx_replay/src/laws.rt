@@ -1,15 +1,15 @@
 //! What is true of the definitions of a replay.
 
-ghost use Rattle.afdx_replay.specs.replay.DefinedRun.{RunsAreByDefinition};
+ghost use Rattle.afdx_replay.specs.replaying.DefinedRun.{RunsAreByDefinition};
 ghost use Rattle.afdx_replay.specs.EndToEnd.{TakenIsToldOnce, WrittenIsSent, RunsTellTakenOnce};
 ghost use Rattle.afdx_replay.specs.EndToEnd.{TextsAreLists};
 ghost use Rattle.afdx_replay.specs.Merged.{MergedAreToldOnce};
 ghost use Rattle.afdx_replay.specs.OneSide.{TakenIsToldByOneSide, TakenIsToldSoFar};
-ghost use Rattle.afdx_replay.specs.replay.Promises.{ArrivalsAreListed, NoneIsCounted};
-ghost use Rattle.afdx_replay.specs.replay.Promises.{ReplayIsAsPromised, ReplaySoFarIsAsPromised};
-ghost use Rattle.afdx_replay.specs.send.Laws.{SentLinesAreArrivals, EventsAreOne, SendsAreOne};
-ghost use Rattle.afdx_replay.specs.send.Stops.{EventsSoFarAreOne, EventsSoFarBegin};
-ghost use Rattle.afdx_replay.specs.send.Stops.{StoppedSendsAreOne};
+ghost use Rattle.afdx_replay.specs.replaying.Promises.{ArrivalsAreListed, NoneIsCounted};
+ghost use Rattle.afdx_replay.specs.replaying.Promises.{ReplayIsAsPromised, ReplaySoFarIsAsPromised};
+ghost use Rattle.afdx_replay.specs.sending.Laws.{SentLinesAreArrivals, EventsAreOne, SendsAreOne};
+ghost use Rattle.afdx_replay.specs.sending.Stops.{EventsSoFarAreOne, EventsSoFarBegin};
+ghost use Rattle.afdx_replay.specs.sending.Stops.{StoppedSendsAreOne};
 
 use afdx_frame::laws::built_is_computed;
 use afdx_promises::laws::sent_is_told_once;

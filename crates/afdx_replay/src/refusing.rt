@@ -6,7 +6,7 @@ ghost use Rattle.afdx_admit.specs.FaultText.{subject};
 ghost use Rattle.afdx_admit.specs.Known.{IsKnown};
 ghost use Rattle.afdx_text.specs.Telling.{Tells};
 ghost use Rattle.afdx_replay.specs.Refusals.{admit_line, config_line, IsToldRefused, WantsMemory};
-ghost use Rattle.afdx_replay.specs.send.Command.{no_system_line};
+ghost use Rattle.afdx_replay.specs.sending.Command.{no_system_line};
 
 use crate::status::{REFUSED, WRONG_WORDS};
 use afdx_admit::{AdmitFault, AdmitText};

@@ -1,5 +1,7 @@
 //! One run: a source gives items, one after another, and a machine tells each before the next is
 //! asked for. The source here is a list that is read line by line.
+//!
+//! Its tests are in `afdx_run_tests`, by the runs of `afdx_replay`.
 #![tactic(auto)]
 
 mod engine;

@@ -1,4 +1,6 @@
 //! One switch: filter and police what arrives, and send it on through the output ports.
+//!
+//! Its tests are in `afdx_run_tests`.
 #![tactic(auto)]
 
 mod build;

@@ -1,0 +1,59 @@
+use Rattle.std.proofs.Common.{◌∙◌, ◌∷◌, List, length, subst, ap, inl, inr}
+use Rattle.afdx_police.specs.Arrival.{Arrival, arrival_with}
+use Rattle.afdx_network.specs.Events.{Came, admission_after, arrivals_in}
+use Rattle.afdx_network.specs.Network as network
+use Rattle.afdx_replay.specs.replaying.Replayed.{WritesSome}
+use Rattle.afdx_replay.proofs.ReplayLemmas.{lines-told, told-came, told-some, begun-came, room-less}
+use Rattle.afdx_text.proofs.OutputLemmas.{on-err}
+use Rattle.afdx_replay.proofs.replaying.run.Replay.tell_arrival.Goals as goal
+
+pub count_admission-requires-clause-room : goal.count_admission-requires-clause-room
+count_admission-requires-clause-room g c =
+    let n = c.requires.room in
+    (n.0, network.frames_held c.tell_departures.new.self.network, n.1, c.in_ok-tell_departures.ensures.room n.0 n.2)
+
+pub returns-clause-room : goal.returns-clause-room
+returns-clause-room g c m h =
+    room-less _ _ _ _ c.arrive.ensures.held
+    (c.count_admission.ensures.room m (network.frames_held c.tell_departures.new.self.network)
+    (c.in_ok-tell_departures.ensures.room m h))
+
+pub returns-clause-told : goal.returns-clause-told
+returns-clause-told g c t start past h =
+    let k = c.in_ok-tell_departures.ensures.told t h.events start h.told in
+    let x = arrival_with c.args.n c.args.heading.now.time c.args.heading.now.side
+    c.args.heading.now.port c.args.arrived.bytes.now in
+    let a = admission_after t (arrivals_in k.0) x in
+    let v = c.in_ok-verdict.ensures.verdict t k.0 k.2.switches_are in
+    record {
+      events = Came a ∷ k.0;
+      arrivals_are = ap (λ (p : List Arrival). x ∷ p) (k.1 ∙ h.arrivals_are);
+      at_arrival = tt;
+      told = told-came t _ _ _ _ _ start _ _ k.0 a c.reason_of.result c.in_ok-lost.lost _ k.2
+          (c.in_ok-verdict.ensures.stands t k.0 k.2.switches_are)
+          (c.reason_of.ensures ∙ v.reason) (c.in_ok-lost.ensures.count ∙ ap length v.lost)
+          c.count_admission.ensures.counted
+          (lines-told c.in_ok-verdict.verdict a v) c.in_ok-lost.ensures.lines;
+    }
+
+pub returns-in_err-verdict-clause-some : goal.returns-in_err-verdict-clause-some
+returns-in_err-verdict-clause-some g c t start past h =
+    let k = c.in_ok-tell_departures.ensures.told t h.events start h.told in
+    on-err c.from_residual-in_err-verdict.result _
+    (inl (subst (λ (p : List Arrival).
+    WritesSome t start (g.O.Sink.written c.tell_departures.new.output) p)
+    (k.1 ∙ h.arrivals_are) (told-some t _ _ _ start _ k.0 k.2)))
+
+pub returns-in_err-lost-clause-some : goal.returns-in_err-lost-clause-some
+returns-in_err-lost-clause-some g c t start past h =
+    let k = c.in_ok-tell_departures.ensures.told t h.events start h.told in
+    let x = arrival_with c.args.n c.args.heading.now.time c.args.heading.now.side
+    c.args.heading.now.port c.args.arrived.bytes.now in
+    let a = admission_after t (arrivals_in k.0) x in
+    let v = c.in_ok-verdict.ensures.verdict t k.0 k.2.switches_are in
+    on-err c.from_residual-in_err-lost.result _
+    (inr (subst (λ (p : List Arrival).
+    WritesSome t start (g.O.Sink.written c.put_admission.new.output) (x ∷ p))
+    (k.1 ∙ h.arrivals_are)
+    (begun-came t _ _ _ _ start _ _ k.0 a _ k.2 (c.in_ok-verdict.ensures.stands t k.0 k.2.switches_are)
+    (lines-told c.in_ok-verdict.verdict a v) c.in_err-lost.ensures.front)))

@@ -1,0 +1,155 @@
+//! The command `police`.
+
+ghost use Rattle.std.specs.Prelude.{◌≡◌, ◌≤◌, ◌+◌, ◌||◌, ◌⊎◌, ◌↔◌, ℕ, Result, IfSome, IsSome, codes, false, true};
+ghost use Rattle.afdx_lists.specs.Lines.{most_reads};
+ghost use Rattle.afdx_text.specs.Telling.{Tells};
+ghost use Rattle.afdx_replay.specs.Commands.{commanded_rule, usual_rule, EndsAs, IsCommanded};
+ghost use Rattle.afdx_replay.specs.policing.Policed.{Answers};
+ghost use Rattle.afdx_replay.specs.declared.ending.Ended.{Ended as End};
+ghost use Rattle.afdx_replay.specs.declared.summary.Summary.{Summary};
+ghost use Rattle.afdx_lists.specs.declared.fault.RunFault.{RunFault};
+ghost use Rattle.afdx_lists.specs.Watching.{calls_of, device_of, has_ended, has_failed};
+
+use crate::ending::{Ended, end};
+use crate::policing::run::police_into;
+use crate::status::WRONG_WORDS;
+use afdx_frame::{LAST_PORT, LEAST_FRAME, Policing, VlId};
+use afdx_lists::Watched;
+use afdx_police::LinkRule;
+use afdx_text::{Sink, tell};
+use std::alloc::Global;
+use std::io::{Read, Write};
+
+const LARGEST_LINK: u64 = 65_535;
+
+/// The rule of a link as a command is given it: its values may be out of their ranges.
+///
+/// `vl` is the link's identifier, `port` the one input port of its frames, `bag_ms` the gap in
+/// milliseconds, `lmin` and `lmax` the least and greatest frame length in bytes with the check
+/// sequence, `jitter_us` the admitted jitter in microseconds.
+#[derive(Clone, Copy, Debug)]
+pub struct CommandedRule {
+    pub vl: u64,
+    pub port: u64,
+    pub bag_ms: u64,
+    pub lmin: u64,
+    pub lmax: u64,
+    pub jitter_us: u64,
+    pub policing: Policing,
+}
+
+impl CommandedRule {
+    ghost use Rattle.afdx_police.specs.RuleOf.{rule_of};
+
+    /// The rule, if each value is in its range.
+    fn rule(&self) -> Option<LinkRule>
+        ensures in_range { IsSome result ↔ IsCommanded self.now }
+        ensures given { IfSome result (λ rule. rule_of rule ≡ commanded_rule self.now) }
+    {
+        if self.vl > LARGEST_LINK || self.port > u64::from(LAST_PORT) {
+            return None;
+        }
+        LinkRule::new(
+            VlId(self.vl as u16),
+            self.port as u8,
+            self.bag_ms,
+            self.lmin,
+            self.lmax,
+            self.jitter_us,
+            self.policing,
+        )
+    }
+}
+
+/// Polices the frames of a list for one virtual link: verdicts go to `output`, a fault's one line
+/// to `errors`. It also gives what the run counted. The exit status is 0 done, 2 a value out of
+/// range, 3 a fault of the list, 4 a device or memory.
+pub fn police_and_count<R: Read, O: Sink, E: Write>(
+    alloc: Global,
+    given: &CommandedRule,
+    input: &mut Watched<R>,
+    output: &mut O,
+    errors: &mut Watched<E>,
+) -> Ended
+    requires sound_input { has_failed input.old ≡ false }
+    requires unended { has_ended input.old ≡ false }
+    requires sound_output { O.failed output.old ≡ false }
+
+    // 0 comes only where the list came to its end, 4 wherever a device failed; counts come with 0.
+    ensures statuses { let status = result.status in
+        (status ≡ 0) ⊎ (status ≡ 2) ⊎ (status ≡ 3) ⊎ (status ≡ 4) }
+    ensures counts { IsSome result.summary ↔ (result.status ≡ 0) }
+    ensures done { result.status ≡ 0 → (has_ended input.new ≡ true) × (has_failed input.new ≡ false)
+        × (O.failed output.new ≡ false) }
+    ensures device { (has_failed input.new || O.failed output.new) ≡ true → result.status ≡ 4 }
+    ensures calls { calls_of input.new ≤ calls_of input.old + most_reads }
+
+    // A value out of range: nothing is read and nothing is written.
+    ensures out_of_range { (IsCommanded given.now → ⊥) → result.status ≡ 2 }
+    ensures words { (IsCommanded given.now → ⊥) →
+        Tells E.contents errors.old errors.new (codes "words BadRule\n") }
+    ensures nothing_read { (IsCommanded given.now → ⊥) →
+        input.new ≡ input.old }
+    ensures nothing_written { (IsCommanded given.now → ⊥) →
+        output.new ≡ output.old }
+
+    // Else the command ends as a run over the list answered, and where the list's bytes are known
+    // what is written is what goes with that answer.
+    ensures polices { IsCommanded given.now →
+        (answer : Result Summary RunFault)
+        × EndsAs E.contents input.new (O.failed output.new) errors.old errors.new result answer
+        × IfSome (R.remaining (device_of input.old)) (λ bytes.
+        Answers (commanded_rule given.now) bytes (R.remaining (device_of input.new))
+        (O.written output.old) (O.written output.new) answer) }
+{
+    let Some(rule) = given.rule() else {
+        tell(errors, b"words BadRule\n");
+        return Ended::without_counts(WRONG_WORDS);
+    };
+    let answer = police_into(alloc, &rule, input, output);
+    end(answer, errors)
+}
+
+/// Polices the frames of link 1 at port 1, of 64 to `lmax` bytes, by bytes, with a gap of `bag_ms`
+/// milliseconds and a jitter of `jitter_us` microseconds, as `police_and_count` does, and gives the
+/// exit status alone.
+pub fn police<R: Read, O: Write, E: Write>(
+    alloc: Global,
+    bag_ms: u64,
+    lmax: u64,
+    jitter_us: u64,
+    input: &mut Watched<R>,
+    output: &mut Watched<O>,
+    errors: &mut Watched<E>,
+) -> u8
+    requires sound_input { has_failed input.old ≡ false }
+    requires unended { has_ended input.old ≡ false }
+    requires sound_output { has_failed output.old ≡ false }
+    ensures statuses { (result ≡ 0) ⊎ (result ≡ 2) ⊎ (result ≡ 3) ⊎ (result ≡ 4) }
+    ensures done { result ≡ 0 → (has_ended input.new ≡ true) × (has_failed input.new ≡ false)
+        × (has_failed output.new ≡ false) }
+    ensures device { (has_failed input.new || has_failed output.new) ≡ true → result ≡ 4 }
+    ensures calls { calls_of input.new ≤ calls_of input.old + most_reads }
+    ensures out_of_range { (IsCommanded (usual_rule bag_ms lmax jitter_us) → ⊥) →
+        (result ≡ 2) × Tells E.contents errors.old errors.new (codes "words BadRule\n")
+        × (input.new ≡ input.old) × (output.new ≡ output.old) }
+    ensures polices { IsCommanded (usual_rule bag_ms lmax jitter_us) →
+        (ended : End) × (ended.status ≡ result) × ((answer : Result Summary RunFault)
+        × EndsAs E.contents input.new (has_failed output.new) errors.old errors.new ended answer
+        × IfSome (R.remaining (device_of input.old)) (λ bytes.
+        Answers (commanded_rule (usual_rule bag_ms lmax jitter_us)) bytes
+        (R.remaining (device_of input.new))
+        (O.contents (device_of output.old)) (O.contents (device_of output.new)) answer)) }
+{
+    let given = CommandedRule {
+        vl: 1,
+        port: 1,
+        bag_ms,
+        lmin: LEAST_FRAME as u64,
+        lmax,
+        jitter_us,
+        policing: Policing::Byte,
+    };
+    let ended = police_and_count(alloc, &given, input, output, errors);
+    ended.status
+}

@@ -1,0 +1,203 @@
+//! A run that polices the frames of one link.
+
+ghost use Rattle.std.specs.Prelude.{◌≡◌, ◌<◌, ◌≤◌, ◌+◌, ◌-◌, ◌^◌, if◌then◌else◌, ◌∷◌, [], ℕ, List, Option, IfSome, OnOk, true, false};
+ghost use Rattle.afdx_lists.specs.Lines.{most_reads};
+ghost use Rattle.afdx_police.specs.Arrival.{Arrival};
+ghost use Rattle.afdx_police.specs.Rule.{Rule};
+ghost use Rattle.afdx_police.specs.RuleOf.{rule_of};
+ghost use Rattle.afdx_police.specs.Verdicts.{verdict_in};
+ghost use Rattle.afdx_lists.specs.Calls.{is_failed_read, is_failed_write};
+ghost use Rattle.afdx_lists.specs.FrameLines.{listed_frame};
+ghost use Rattle.afdx_lists.specs.Watching.{calls_of, device_of, has_ended, has_failed};
+ghost use Rattle.afdx_run.specs.Listed.{arrival_at};
+ghost use Rattle.afdx_replay.specs.policing.Accounts.{AreUntil, HaveSeen};
+ghost use Rattle.afdx_replay.specs.policing.Policed.{Answers};
+
+use crate::summary::{NO_COUNTS, Summary};
+use afdx_frame::{BySide, Checked};
+use afdx_lists::{Heading, RunFault, Watched};
+use afdx_police::{LinkAccount, LinkRule, Reason};
+use afdx_run::{Machine, run_list};
+use afdx_text::{OutLine, Sink, Text};
+use std::alloc::{AllocError, Global};
+use std::io::{Read, Write};
+
+/// The accounts of one link, one at each switch.
+fn new_accounts(rule: &LinkRule) -> BySide<LinkAccount>
+    ensures seen { HaveSeen result (rule_of rule.now) [] }
+    ensures until { AreUntil result 0 }
+{
+    BySide {
+        a: LinkAccount::new(rule),
+        b: LinkAccount::new(rule),
+    }
+}
+
+/// Why an arrival is dropped, if it is.
+fn verdict(
+    accounts: &mut BySide<LinkAccount>,
+    heading: &Heading,
+    arrived: Checked<'_>,
+) -> Option<Reason>
+    requires until { AreUntil accounts.old heading.now.time }
+    ensures until { AreUntil accounts.new heading.now.time }
+    ensures answer { (rule : Rule) (past : List Arrival) (tag : ℕ) →
+        HaveSeen accounts.old rule past →
+        result ≡ verdict_in rule past
+        (arrival_at tag (listed_frame heading.now arrived.entry.bytes.now)) }
+    ensures seen { (rule : Rule) (past : List Arrival) (tag : ℕ) →
+        HaveSeen accounts.old rule past →
+        HaveSeen accounts.new rule
+        (arrival_at tag (listed_frame heading.now arrived.entry.bytes.now) ∷ past) }
+{
+    accounts
+        .get_mut(heading.side)
+        .police(heading.time, heading.port, arrived)
+}
+
+/// One more than `count`, where the test is true.
+fn count_if(count: u64, is_one_more: bool) -> u64
+    requires { count < 2 ^ 64 - 1 }
+    ensures { result ≡ (if is_one_more then count + 1 else count) }
+{
+    if is_one_more { count + 1 } else { count }
+}
+
+/// What a run that polices one link works with.
+struct Police {
+    accounts: BySide<LinkAccount>,
+    text: Text,
+    accepted: u64,
+    dropped: u64,
+}
+
+impl Drop for Police {
+    // (written out, it is one call wherever a value is let go)
+    fn drop(self) {
+        let Self {
+            accounts,
+            text,
+            accepted,
+            dropped,
+        } = self;
+    }
+}
+
+impl Police {
+    ghost use Rattle.afdx_replay.specs.policing.Told.{TellsItems};
+
+    /// It has told nothing yet.
+    fn new(alloc: Global, rule: &LinkRule) -> Police
+        ensures { (output : Option (List ℕ)) →
+            TellsItems (rule_of rule.now) result output output [] }
+    {
+        let accounts = new_accounts(rule);
+        Police {
+            accounts,
+            text: Text::new(alloc),
+            accepted: 0,
+            dropped: 0,
+        }
+    }
+}
+
+impl Machine<Heading> for Police {
+    ghost use Rattle.afdx_replay.specs.policing.Told.{TellsItems, BeginsItems};
+
+    ghost Rules = { Rule };
+
+    ghost Told = { TellsItems };
+
+    ghost Begins = { BeginsItems };
+
+    ghost Done = { TellsItems };
+
+    #[inline(always)]
+    fn tell<O: Sink>(
+        &mut self,
+        n: u64,
+        heading: &Heading,
+        bytes: &[u8],
+        output: &mut O,
+    ) -> Result<(), RunFault> {
+        let arrived = Checked {
+            bytes,
+            sealed: heading.is_sealed,
+        };
+        let reason = verdict(&mut self.accounts, heading, arrived);
+        let is_accepted = reason.is_none();
+        self.accepted = count_if(self.accepted, is_accepted);
+        self.dropped = count_if(self.dropped, !is_accepted);
+        let line = OutLine::Verdict {
+            n,
+            side: heading.side,
+            reason,
+        };
+        output.put(&line, &mut self.text)?;
+        Ok(())
+    }
+
+    fn end<O: Sink>(&mut self, _output: &mut O) -> Result<(), RunFault> {
+        Ok(())
+    }
+}
+
+/// Polices the frames of a list for one virtual link, as `run_police` does, and puts the lines to a
+/// sink.
+pub(crate) fn police_into<R: Read, O: Sink>(
+    alloc: Global,
+    rule: &LinkRule,
+    input: &mut Watched<R>,
+    output: &mut O,
+) -> Result<Summary, RunFault>
+    requires sound_input { has_failed input.old ≡ false }
+    requires unended { has_ended input.old ≡ false }
+    requires sound_output { O.failed output.old ≡ false }
+    ensures ended { OnOk result (has_ended input.new ≡ true) }
+    ensures read { has_failed input.new ≡ is_failed_read result }
+    ensures write { O.failed output.new ≡ is_failed_write result }
+    ensures calls { calls_of input.new ≤ calls_of input.old + most_reads }
+
+    // Where the input's bytes are known: what is answered and written for the list that they are.
+    ensures answer { IfSome (R.remaining (device_of input.old)) (λ bytes.
+        Answers (rule_of rule.now) bytes (R.remaining (device_of input.new))
+        (O.written output.old) (O.written output.new) result) }
+{
+    let mut police = Police::new(alloc, rule);
+    let lines = run_list(alloc, &mut police, input, output)?;
+    Ok(Summary {
+        lines,
+        accepted: police.accepted,
+        dropped: police.dropped,
+        ..NO_COUNTS
+    })
+}
+
+/// Polices the frames of a list for one virtual link, and writes a line for each.
+///
+/// Each switch, A and B, has an account of its own. The whole text of a line is handed to `output`
+/// before the next line is read. A list that can't be read ends the run with its first fault; the
+/// text of the lines before it stands written. `RunFault::Read` and `RunFault::Write` come exactly
+/// where the input's or the output's device failed; neither is tried again. Memory is taken for one
+/// chunk of 64 KiB at the start, for one line and its frame.
+pub fn run_police<R: Read, W: Write>(
+    alloc: Global,
+    rule: &LinkRule,
+    input: &mut Watched<R>,
+    output: &mut Watched<W>,
+) -> Result<Summary, RunFault>
+    requires sound_input { has_failed input.old ≡ false }
+    requires unended { has_ended input.old ≡ false }
+    requires sound_output { has_failed output.old ≡ false }
+    ensures ended { OnOk result (has_ended input.new ≡ true) }
+    ensures read { has_failed input.new ≡ is_failed_read result }
+    ensures write { has_failed output.new ≡ is_failed_write result }
+    ensures calls { calls_of input.new ≤ calls_of input.old + most_reads }
+
+    // Where the input's bytes are known: what is answered and written for the list that they are.
+    ensures answer { IfSome (R.remaining (device_of input.old)) (λ bytes.
+        Answers (rule_of rule.now) bytes (R.remaining (device_of input.new))
+        (W.contents (device_of output.old)) (W.contents (device_of output.new)) result) }
+{
+    police_into(alloc, rule, input, output)
+}

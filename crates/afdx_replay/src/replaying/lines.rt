@@ -1,0 +1,214 @@
+//! The lines of the events of a replay.
+
+ghost use Rattle.std.specs.Prelude.{◌≡◌, ℕ, List, ◌++◌, ◌≤◌, ◌∷◌, [], if◌then◌else◌, OnOk, OnErr, IfOk, IfErr, length, false};
+ghost use Rattle.afdx_frame.specs.Ports.{last_port};
+ghost use Rattle.std.specs.Io.KnownBytes.{Appends};
+ghost use Rattle.afdx_lists.specs.Calls.{AppendsFront, is_failed_write};
+ghost use Rattle.afdx_text.specs.Sinks.{IsOfOutput};
+ghost use Rattle.afdx_config.specs.Rows.{Rows};
+ghost use Rattle.afdx_systems.specs.Handovers.{HandedOver, handed_over};
+ghost use Rattle.afdx_systems.specs.Receptions.{reception_line, is_delivered};
+ghost use Rattle.afdx_systems.specs.StandsFor.{StandsFor};
+ghost use Rattle.afdx_network.specs.Network.{reason_in, ports_in, lost_in};
+ghost use Rattle.afdx_switch.specs.Departures.{as_given, giving_port};
+ghost use Rattle.afdx_replay.specs.policing.Text.{verdict_line};
+ghost use Rattle.afdx_replay.specs.replaying.Text.{loss_line, loss_lines, departure_line};
+
+use afdx_frame::{LAST_PORT, Side};
+use afdx_lists::RunFault;
+use afdx_network::Departed;
+use afdx_police::Reason;
+use afdx_receive::Reception;
+use afdx_switch::{PortSet, Verdict};
+use afdx_systems::{Handover, Systems};
+use afdx_text::{OutLine, Sink, Text};
+
+/// Why the frame was dropped, if it was.
+pub(crate) fn reason_of(verdict: &Verdict) -> Option<Reason>
+    ensures { result ≡ reason_in verdict.now }
+{
+    match verdict {
+        Verdict::Dropped(reason) => Some(*reason),
+        Verdict::Accepted { .. } => None,
+    }
+}
+
+/// Puts the line of a copy that was lost at a port, if it was, and counts it.
+fn put_loss<O: Sink>(
+    output: &mut O,
+    text: &mut Text,
+    n: u64,
+    side: Side,
+    port: u8,
+    is_lost: bool,
+) -> Result<u64, RunFault>
+    requires sound { O.failed output.old ≡ false }
+    ensures failed { O.failed output.new ≡ is_failed_write result }
+    ensures fault { IfErr result IsOfOutput }
+    ensures lines { OnOk result (Appends (O.written output.old) (O.written output.new)
+        (if is_lost then loss_line n side port else [])) }
+    ensures front { OnErr result (AppendsFront (O.written output.old) (O.written output.new)
+        (if is_lost then loss_line n side port else [])) }
+    ensures count { IfOk result (λ count. count ≡ (if is_lost then 1 else 0)) }
+{
+    if !is_lost {
+        return Ok(0);
+    }
+    output.put(&OutLine::Lost { n, side, port }, text)?;
+    Ok(1)
+}
+
+/// Puts the lines of the copies that were lost, and counts them, port by port.
+fn put_each_loss<O: Sink>(
+    output: &mut O,
+    text: &mut Text,
+    n: u64,
+    side: Side,
+    lost: &PortSet,
+) -> Result<u64, RunFault>
+    requires sound { O.failed output.old ≡ false }
+    ensures failed { O.failed output.new ≡ is_failed_write result }
+    ensures fault { IfErr result IsOfOutput }
+    ensures lines { OnOk result (Appends (O.written output.old) (O.written output.new)
+        (loss_lines n side (ports_in lost.now))) }
+    ensures front { OnErr result (AppendsFront (O.written output.old) (O.written output.new)
+        (loss_lines n side (ports_in lost.now))) }
+    ensures count { IfOk result (λ count. count ≡ length (ports_in lost.now)) }
+    ensures few { IfOk result (λ count. count ≤ last_port) }
+{
+    let mut count = 0u64;
+    for place in 0..LAST_PORT {
+        let port = place + 1;
+        let more = put_loss(output, text, n, side, port, lost.holds(port))?;
+        count += more;
+    }
+    Ok(count)
+}
+
+/// Puts the lines of the copies that were lost, and counts them. Mostly none was.
+fn put_losses<O: Sink>(
+    output: &mut O,
+    text: &mut Text,
+    n: u64,
+    side: Side,
+    lost: &PortSet,
+) -> Result<u64, RunFault>
+    requires sound { O.failed output.old ≡ false }
+    ensures failed { O.failed output.new ≡ is_failed_write result }
+    ensures fault { IfErr result IsOfOutput }
+    ensures lines { OnOk result (Appends (O.written output.old) (O.written output.new)
+        (loss_lines n side (ports_in lost.now))) }
+    ensures front { OnErr result (AppendsFront (O.written output.old) (O.written output.new)
+        (loss_lines n side (ports_in lost.now))) }
+    ensures count { IfOk result (λ count. count ≡ length (ports_in lost.now)) }
+    ensures few { IfOk result (λ count. count ≤ last_port) }
+{
+    if lost.is_empty() {
+        return Ok(0);
+    }
+    put_each_loss(output, text, n, side, lost)
+}
+
+/// Puts the V line and the L lines of an arrival, and counts the copies that were lost.
+pub(crate) fn put_admission<O: Sink>(
+    output: &mut O,
+    text: &mut Text,
+    n: u64,
+    side: Side,
+    verdict: &Verdict,
+) -> Result<u64, RunFault>
+    requires sound { O.failed output.old ≡ false }
+    ensures failed { O.failed output.new ≡ is_failed_write result }
+    ensures fault { IfErr result IsOfOutput }
+    ensures lines { OnOk result (Appends (O.written output.old) (O.written output.new)
+        (verdict_line n side (reason_in verdict.now) ++ loss_lines n side (lost_in verdict.now))) }
+    ensures front { OnErr result (AppendsFront (O.written output.old) (O.written output.new)
+        (verdict_line n side (reason_in verdict.now) ++ loss_lines n side (lost_in verdict.now))) }
+    ensures count { IfOk result (λ count. count ≡ length (lost_in verdict.now)) }
+    ensures few { IfOk result (λ count. count ≤ last_port) }
+{
+    let reason = reason_of(verdict);
+    output.put(&OutLine::Verdict { n, side, reason }, text)?;
+    match verdict {
+        Verdict::Accepted { lost } => put_losses(output, text, n, side, lost),
+        Verdict::Dropped(_) => Ok(0),
+    }
+}
+
+/// Puts the D or T line of a departure.
+#[inline(always)]
+pub(crate) fn put_departure<O: Sink>(
+    output: &mut O,
+    text: &mut Text,
+    departed: &Departed,
+) -> Result<(), RunFault>
+    requires sound { O.failed output.old ≡ false }
+    ensures failed { O.failed output.new ≡ is_failed_write result }
+    ensures fault { IfErr result IsOfOutput }
+    ensures line { let left = as_given departed.now.departure in
+        OnOk result (Appends (O.written output.old) (O.written output.new)
+        (departure_line left.too_old left.item.tag left.end departed.now.side
+        (giving_port departed.now.departure))) }
+    ensures front { let left = as_given departed.now.departure in
+        OnErr result (AppendsFront (O.written output.old) (O.written output.new)
+        (departure_line left.too_old left.item.tag left.end departed.now.side
+        (giving_port departed.now.departure))) }
+{
+    let line = OutLine::Left {
+        n: departed.departure.tag(),
+        time: departed.departure.time(),
+        side: departed.side,
+        port: departed.departure.port(),
+        too_old: departed.departure.too_old(),
+    };
+    output.put(&line, text)
+}
+
+/// Hands a frame over to the system of its port, puts the line of what that made of it, and tells
+/// whether it is a message.
+pub(crate) fn hear<O: Sink>(
+    systems: &mut Systems,
+    handover: Handover<'_>,
+    output: &mut O,
+    text: &mut Text,
+) -> Result<bool, RunFault>
+    requires sound { O.failed output.old ≡ false }
+    ensures failed { O.failed output.new ≡ is_failed_write result }
+    ensures fault { IfErr result IsOfOutput }
+    ensures stands { (t : Rows) (before : List HandedOver) → StandsFor t systems.old before →
+        StandsFor t systems.new (handed_over handover.entry ∷ before) }
+    ensures delivered { (t : Rows) (before : List HandedOver) → StandsFor t systems.old before →
+        IfOk result (λ yes. yes ≡ is_delivered t before (handed_over handover.entry)) }
+    ensures line { (t : Rows) (before : List HandedOver) → StandsFor t systems.old before →
+        OnOk result (Appends (O.written output.old) (O.written output.new)
+        (reception_line t before (handed_over handover.entry))) }
+    ensures front { (t : Rows) (before : List HandedOver) → StandsFor t systems.old before →
+        OnErr result (AppendsFront (O.written output.old) (O.written output.new)
+        (reception_line t before (handed_over handover.entry))) }
+{
+    let (time, n, port) = (handover.time, handover.line, handover.port);
+    match systems.receive(handover) {
+        Ok(Some(Reception::Message { vl, bytes, .. })) => {
+            let line = OutLine::Message {
+                time,
+                system: systems.name_at(port),
+                vl,
+                bytes,
+            };
+            output.put(&line, text)?;
+            Ok(true)
+        }
+        Ok(Some(Reception::Dropped(why))) => {
+            let line = OutLine::Unread {
+                time,
+                system: systems.name_at(port),
+                n,
+                why,
+            };
+            output.put(&line, text)?;
+            Ok(false)
+        }
+        Ok(None) => Ok(false),
+        Err(error) => Err(RunFault::from(error)),
+    }
+}

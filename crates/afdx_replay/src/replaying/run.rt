@@ -1,0 +1,302 @@
+//! A run that replays a list through the switches of both sides and the systems behind them.
+
+ghost use Rattle.std.specs.Prelude.{◌≡◌, ℕ, ◌+◌, ◌*◌, ◌-◌, ◌^◌, ◌≤◌, ◌<◌, ◌⊎◌, ◌++◌, ◌∷◌, [], List, Option, length, OnOk, OnErr, IfOk, IfErr, IfSome, true, false};
+ghost use Rattle.afdx_port.specs.Times.{drain_end};
+ghost use Rattle.afdx_frame.specs.Ports.{last_port};
+ghost use Rattle.afdx_frame.specs.Times.{latest_listed};
+ghost use Rattle.afdx_lists.specs.Lines.{most_lines, most_reads};
+ghost use Rattle.afdx_config.specs.Lawful.{IsLawful};
+ghost use Rattle.afdx_config.specs.Rows.{Rows};
+ghost use Rattle.afdx_police.specs.Arrival.{Arrival};
+ghost use Rattle.afdx_police.specs.declared.shape.Reason.{Reason as DropReason};
+ghost use Rattle.afdx_lists.specs.Calls.{AppendsFront, is_failed_read, is_failed_write};
+ghost use Rattle.afdx_systems.specs.StandsFor as systems;
+ghost use Rattle.afdx_network.specs.Events.{Event, Departure, Left, arrivals_in};
+ghost use Rattle.afdx_network.specs.Network as network;
+ghost use Rattle.afdx_lists.specs.FrameLines.{listed_frame};
+ghost use Rattle.afdx_lists.specs.Watching.{calls_of, device_of, has_ended, has_failed};
+ghost use Rattle.afdx_replay.specs.replaying.DefinedRun.{DefinedAnswers};
+ghost use Rattle.afdx_run.specs.Listed.{arrival_at};
+ghost use Rattle.afdx_replay.specs.replaying.Replayed.{WritesSome, Answers, ToldAll, TellsDeparture, HasRoom};
+ghost use Rattle.afdx_text.specs.Sinks.{IsOfOutput};
+ghost use Rattle.afdx_replay.specs.replaying.Text.{replay_counts, frames_left, lines_after, with_admission};
+
+use crate::replaying::lines::{hear, put_admission, put_departure, reason_of};
+use crate::summary::{NO_COUNTS, Summary};
+use afdx_config::Tables;
+use afdx_frame::Checked;
+use afdx_lists::{Heading, RunFault, Watched};
+use afdx_network::{Departed, Network};
+use afdx_police::Reason;
+use afdx_run::{Machine, run_list};
+use afdx_systems::{Handover, Systems};
+use afdx_text::{Sink, Text};
+use std::alloc::{AllocError, Global};
+use std::io::{Read, Write};
+
+/// What a replay works with.
+struct Replay {
+    network: Network,
+    systems: Systems,
+    text: Text,
+    counts: Summary,
+}
+
+impl Drop for Replay {
+    // (written out, it is one call wherever a value is let go)
+    fn drop(self) {
+        let Self {
+            network,
+            systems,
+            text,
+            counts,
+        } = self;
+    }
+}
+
+/// Counts an arrival, and the copies that it lost.
+fn count_admission(counts: &mut Summary, reason: Option<Reason>, lost: u64)
+    requires room { (n held : ℕ) × (n < most_lines) × HasRoom counts.old held n }
+    requires few { lost ≤ last_port }
+    ensures counted { counts.new ≡ with_admission counts.old reason lost }
+    ensures room { (n held : ℕ) →
+        HasRoom counts.old held n → HasRoom counts.new (held + last_port) (n + 1) }
+{
+    match reason {
+        None => {
+            counts.accepted += 1;
+            counts.lost += lost;
+        }
+        Some(_) => counts.dropped += 1,
+    }
+}
+
+impl Replay {
+    ghost use Rattle.afdx_replay.specs.replaying.Replayed.{Tells, TellsMore, TellsArrivals, HasRoomFor};
+    ghost use Rattle.afdx_replay.specs.replaying.Told.{TellsItems};
+
+    /// It has told nothing yet.
+    fn new(alloc: Global, tables: &Tables) -> Result<Replay, AllocError>
+        ensures { (output : Option (List ℕ)) →
+            IfOk result (λ replay. TellsItems tables.now replay output output []) }
+    {
+        let network = Network::new(alloc, tables)?;
+        let systems = Systems::new(alloc, tables)?;
+        Ok(Replay {
+            network,
+            systems,
+            text: Text::new(alloc),
+            counts: NO_COUNTS,
+        })
+    }
+
+    /// Tells a departure: hands its frame over to the port's system if it left, and counts it.
+    fn tell_departure<O: Sink>(
+        &mut self,
+        departed: &Departed,
+        output: &mut O,
+    ) -> Result<(), RunFault>
+        requires room { (n held : ℕ) × (n ≤ most_lines) × HasRoom self.old.counts (held + 1) n }
+        requires sound { O.failed output.old ≡ false }
+        ensures failed { O.failed output.new ≡ is_failed_write result }
+        ensures fault { IfErr result IsOfOutput }
+        ensures network { self.new.network ≡ self.old.network }
+        ensures room { (n held : ℕ) →
+            HasRoom self.old.counts (held + 1) n → OnOk result (HasRoom self.new.counts held n) }
+        ensures told { (t : Rows) (before : List Event) (d : Departure) →
+            systems.StandsFor t self.old.systems (frames_left before) →
+            network.Hands departed.now d → self.old.counts ≡ replay_counts t before →
+            OnOk result (TellsDeparture t self.new.systems self.new.counts before d
+            (O.written output.old) (O.written output.new)) }
+        ensures begun { (t : Rows) (before : List Event) (d : Departure) →
+            systems.StandsFor t self.old.systems (frames_left before) →
+            network.Hands departed.now d →
+            OnErr result (AppendsFront (O.written output.old) (O.written output.new)
+            (lines_after t before (Left d))) }
+    {
+        put_departure(output, &mut self.text, departed)?;
+        let departure = &departed.departure;
+        if departure.too_old() {
+            self.counts.too_old += 1;
+            return Ok(());
+        }
+        let handover = Handover {
+            side: departed.side,
+            port: departure.port(),
+            time: departure.time(),
+            line: departure.tag(),
+            frame: departure.frame(),
+        };
+        self.counts.departed += 1;
+        let is_delivered = hear(&mut self.systems, handover, output, &mut self.text)?;
+        if is_delivered {
+            self.counts.delivered += 1;
+        }
+        Ok(())
+    }
+
+    /// Tells what leaves by `until`.
+    fn tell_departures<O: Sink>(&mut self, until: u64, output: &mut O) -> Result<(), RunFault>
+        requires clock { network.IsUntil self.old.network until }
+        requires room { (n : ℕ) × (n ≤ most_lines) × HasRoomFor self.old n }
+        requires sound { O.failed output.old ≡ false }
+        ensures failed { O.failed output.new ≡ is_failed_write result }
+        ensures fault { IfErr result IsOfOutput }
+        ensures clock { network.IsUntil self.new.network until }
+        ensures quiet { OnOk result (network.IsQuiet self.new.network until) }
+        ensures room { (n : ℕ) → HasRoomFor self.old n → OnOk result (HasRoomFor self.new n) }
+        ensures told { (t : Rows) (events : List Event) (start : Option (List ℕ)) →
+            Tells t self.old start (O.written output.old) events →
+            OnOk result (TellsMore t self.new start (O.written output.new) events) }
+        ensures some { (t : Rows) (events : List Event) (start : Option (List ℕ)) →
+            Tells t self.old start (O.written output.old) events →
+            OnErr result (WritesSome t start (O.written output.new)
+            (arrivals_in events)) }
+        ensures all_done { (t : Rows) (events : List Event) (start : Option (List ℕ)) →
+            Tells t self.old start (O.written output.old) events →
+            drain_end ≤ until →
+            OnOk result (ToldAll t self.new.counts start
+            (O.written output.new) (arrivals_in events)) }
+    {
+        while let Some(departed) = self.network.take(until) {
+            self.tell_departure(&departed, output)?;
+        }
+        Ok(())
+    }
+
+    /// Tells what leaves before an arrival, and then what became of it.
+    fn tell_arrival<O: Sink>(
+        &mut self,
+        n: u64,
+        heading: &Heading,
+        arrived: Checked<'_>,
+        output: &mut O,
+    ) -> Result<(), RunFault>
+        requires limit { heading.now.time ≤ latest_listed }
+        requires clock { network.IsUntil self.old.network heading.now.time }
+        requires room { (m : ℕ) × (m < most_lines) × HasRoomFor self.old m }
+        requires sound { O.failed output.old ≡ false }
+        ensures failed { O.failed output.new ≡ is_failed_write result }
+        ensures fault { IfErr result IsOfOutput }
+        ensures clock { OnOk result (network.IsUntil self.new.network heading.now.time) }
+        ensures room { (m : ℕ) → HasRoomFor self.old m → OnOk result (HasRoomFor self.new (m + 1)) }
+        ensures told { (t : Rows) (start : Option (List ℕ)) (past : List Arrival) →
+            TellsArrivals t self.old start (O.written output.old) past →
+            OnOk result (TellsArrivals t self.new start (O.written output.new)
+            (arrival_at n (listed_frame heading.now arrived.entry.bytes.now) ∷ past)) }
+        ensures some { (t : Rows) (start : Option (List ℕ)) (past : List Arrival) →
+            TellsArrivals t self.old start (O.written output.old) past →
+            OnErr result (WritesSome t start (O.written output.new) past
+            ⊎ WritesSome t start (O.written output.new)
+            (arrival_at n (listed_frame heading.now arrived.entry.bytes.now) ∷ past)) }
+    {
+        self.tell_departures(heading.time, output)?;
+        let verdict = self
+            .network
+            .arrive(heading.side, heading.time, heading.port, n, arrived)?;
+        let lost = put_admission(output, &mut self.text, n, heading.side, &verdict)?;
+        count_admission(&mut self.counts, reason_of(&verdict), lost);
+        Ok(())
+    }
+}
+
+impl Machine<Heading> for Replay {
+    ghost use Rattle.afdx_replay.specs.replaying.Told.{TellsItems, BeginsItems, TellsAll};
+
+    ghost Rules = { Rows };
+
+    ghost Told = { TellsItems };
+
+    ghost Begins = { BeginsItems };
+
+    ghost Done = { TellsAll };
+
+    fn tell<O: Sink>(
+        &mut self,
+        n: u64,
+        heading: &Heading,
+        bytes: &[u8],
+        output: &mut O,
+    ) -> Result<(), RunFault> {
+        let arrived = Checked {
+            bytes,
+            sealed: heading.is_sealed,
+        };
+        self.tell_arrival(n, heading, arrived, output)?;
+        Ok(())
+    }
+
+    fn end<O: Sink>(&mut self, output: &mut O) -> Result<(), RunFault> {
+        self.tell_departures(u64::MAX, output)?;
+        Ok(())
+    }
+}
+
+/// Replays a list of frames as `run_unadmitted` does, and puts the lines of all events to a sink.
+pub(crate) fn replay_into<R: Read, O: Sink>(
+    alloc: Global,
+    tables: &Tables,
+    input: &mut Watched<R>,
+    output: &mut O,
+) -> Result<Summary, RunFault>
+    requires sound_input { has_failed input.old ≡ false }
+    requires unended { has_ended input.old ≡ false }
+    requires sound_output { O.failed output.old ≡ false }
+    ensures ended { OnOk result (has_ended input.new ≡ true) }
+    ensures read { has_failed input.new ≡ is_failed_read result }
+    ensures write { O.failed output.new ≡ is_failed_write result }
+    ensures calls { calls_of input.new ≤ calls_of input.old + most_reads }
+
+    // Where the input's bytes are known: what is answered and written for the list that they are.
+    ensures answer { IfSome (R.remaining (device_of input.old)) (λ bytes.
+        Answers tables.now bytes (R.remaining (device_of input.new))
+        (O.written output.old) (O.written output.new) result) }
+
+    // And what is written is the text of events that are those of the definition of an output port.
+    ensures defined { IsLawful tables.now → IfSome (R.remaining (device_of input.old)) (λ bytes.
+        DefinedAnswers tables.now bytes (R.remaining (device_of input.new))
+        (O.written output.old) (O.written output.new) result) }
+{
+    let mut replay = Replay::new(alloc, tables)?;
+    let lines = run_list(alloc, &mut replay, input, output)?;
+    let mut summary = replay.counts;
+    summary.lines = lines;
+    Ok(summary)
+}
+
+/// Replays a list of frames through the switches of both sides and the systems behind them.
+///
+/// Each line's events are handed to `output` before the next line is read: the frames that leave
+/// before its frame arrives, and then what became of that; at the end, all that is still to leave.
+/// A list that can't be read ends the run with its first fault; the text of the events up to the
+/// line before stands written. The clause `defined`, of lawful tables (as all are; each reader of
+/// `Tables` says so), joins this to the definition: whether the tables are admitted or not, a copy
+/// is lost exactly where the one schedule of its port leaves no room, and the turns of each port
+/// are that schedule. `RunFault::Read` and `RunFault::Write` come exactly where the
+/// input's or the output's device failed; neither is tried again.
+pub fn run_unadmitted<R: Read, W: Write>(
+    alloc: Global,
+    tables: &Tables,
+    input: &mut Watched<R>,
+    output: &mut Watched<W>,
+) -> Result<Summary, RunFault>
+    requires sound_input { has_failed input.old ≡ false }
+    requires unended { has_ended input.old ≡ false }
+    requires sound_output { has_failed output.old ≡ false }
+    ensures ended { OnOk result (has_ended input.new ≡ true) }
+    ensures read { has_failed input.new ≡ is_failed_read result }
+    ensures write { has_failed output.new ≡ is_failed_write result }
+    ensures calls { calls_of input.new ≤ calls_of input.old + most_reads }
+
+    // Where the input's bytes are known: what is answered and written for the list that they are.
+    ensures answer { IfSome (R.remaining (device_of input.old)) (λ bytes.
+        Answers tables.now bytes (R.remaining (device_of input.new))
+        (W.contents (device_of output.old)) (W.contents (device_of output.new)) result) }
+
+    // And what is written is the text of events that are those of the definition of an output port.
+    ensures defined { IsLawful tables.now → IfSome (R.remaining (device_of input.old)) (λ bytes.
+        DefinedAnswers tables.now bytes (R.remaining (device_of input.new))
+        (W.contents (device_of output.old)) (W.contents (device_of output.new)) result) }
+{
+    replay_into(alloc, tables, input, output)
+}
