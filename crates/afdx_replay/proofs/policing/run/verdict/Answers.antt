@@ -6,9 +6,11 @@ use Rattle.afdx_replay.proofs.AccountLemmas.{until-on, until-with, seen-on, seen
 use Rattle.afdx_replay.proofs.policing.run.verdict.Goals as goal
 
 pub police-requires : goal.police-requires
-police-requires c =
-    subst (λ (held : LinkAccount). last_time held ≤ c.args.heading.now.time) (sym c.get_mut.ensures.value)
-    (until-on c.args.accounts.now c.args.heading.now.time c.requires.until c.args.heading.now.side)
+police-requires c = record {
+  in_time = subst (λ (held : LinkAccount). last_time held ≤ c.args.heading.now.time)
+      (sym c.get_mut.ensures.value)
+      (until-on c.args.accounts.now c.args.heading.now.time c.requires.until c.args.heading.now.side);
+}
 
 pub returns-clause-until : goal.returns-clause-until
 returns-clause-until c =
