@@ -161,6 +161,7 @@ fn end_run<R: Drop, W: Write + Drop, E: Write + Drop>(
 }
 
 /// What is done with the items of a list, and with what it is done.
+#[derive(Drop)]
 enum Run<'a> {
     Police(CommandedRule),
     Replay { admission: bool, config: &'a [u8] },
