@@ -106,7 +106,9 @@ impl SenderState {
           ready = self.new.ready;
         } }
     {
-        self.ready = self.output.take(until);
+        if let Some(left) = self.output.take(until) {
+            self.ready = Some(left);
+        }
     }
 
     /// Puts the next release of all into the port.
