@@ -11,7 +11,7 @@ use std::alloc::{AllocError, Global};
 use std::rc::Rc;
 
 /// So many copies are kept.
-const KEPT: usize = 32;
+const KEPT: usize = 128;
 
 /// The copies of the latest frames, in a ring. Where no port holds a frame any more, its memory is
 /// that of a later one.

@@ -108,7 +108,7 @@ impl Model for Switch {
 impl Switch {
     ghost use Rattle.afdx_config.specs.Lawful.{IsLawful};
     ghost use Rattle.afdx_frame.specs.declared.link.Side.{Side};
-    ghost use Rattle.afdx_switch.specs.Calls.{Arrives, TellsDue, Takes};
+    ghost use Rattle.afdx_switch.specs.Calls.{Arrives, TellsDue, TellsOrder, Takes};
     ghost use Rattle.afdx_switch.specs.Switching.{StandsFor, IsQuiet, no_calls, frames_held};
     ghost use Rattle.afdx_switch.specs.Switching.{last_time};
 
@@ -175,6 +175,15 @@ impl Switch {
         ensures { TellsDue self.now result }
     {
         self.state.due()
+    }
+
+    /// Where the turn that `due` tells stands in the order of turns: by time, at one time slots
+    /// before drops; after each turn, if there is none. `afdx_port::is_given` tells of it whether
+    /// the turn is given by a time.
+    pub fn order(&self) -> u64
+        ensures { TellsOrder self.now result }
+    {
+        self.state.order()
     }
 
     /// The next frame that leaves, or is dropped as too old, by `until`, in ns: a slot that ends at

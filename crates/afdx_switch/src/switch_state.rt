@@ -146,7 +146,7 @@ impl SwitchState {
     ghost use Rattle.afdx_frame.specs.declared.link.Side.{Side};
     ghost use Rattle.afdx_frame.specs.Sealing.{is_sealed};
     ghost use Rattle.afdx_police.specs.Arrival.{arrival_with};
-    ghost use Rattle.afdx_switch.specs.Calls.{Arrives, TellsDue, Takes};
+    ghost use Rattle.afdx_switch.specs.Calls.{Arrives, TellsDue, TellsOrder, Takes};
     ghost use Rattle.afdx_switch.specs.Found.{Found, IsFaulted};
     ghost use Rattle.afdx_switch.specs.Lines.{IsPlaceOf};
     ghost use Rattle.afdx_switch.specs.Shares.{AreOffered};
@@ -275,6 +275,14 @@ impl SwitchState {
         ensures { TellsDue self.now result }
     {
         self.ports[self.first].due()
+    }
+
+    /// Where the next turn stands in the order of turns.
+    pub(crate) fn order(&self) -> u64
+        requires { IsSwitchSound self.now }
+        ensures { TellsOrder self.now result }
+    {
+        self.ports[self.first].order()
     }
 
     #[inline(always)]
