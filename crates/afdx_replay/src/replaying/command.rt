@@ -6,9 +6,9 @@ ghost use Rattle.afdx_lists.specs.Watching.{calls_of, device_of, has_ended, has_
 ghost use Rattle.afdx_replay.specs.replaying.Command.{EndsReplay};
 ghost use Rattle.afdx_replay.specs.declared.ending.Ended.{Ended as End};
 
-use crate::replaying::admitted::replay_admitted_into;
 use crate::ending::{Ended, end};
 use crate::refusing::{refuse_config, refuse_tables};
+use crate::replaying::admitted::replay_admitted_into;
 use crate::replaying::run::replay_into;
 use afdx_admit::admit;
 use afdx_config::read_tables;
