@@ -1,9 +1,10 @@
 -- Which side's turn goes first.
-use Rattle.std.specs.Prelude.{ℕ, ◌≡◌, ◌<◌, ◌≤◌, Bool, true, false, Option, Some, None, IfSome}
+use Rattle.std.specs.Prelude.{ℕ, ◌≡◌, ◌<◌, ◌≤◌, Option, Some, None, IfSome}
 use Rattle.afdx_frame.specs.declared.link.Side.{Side}
 use Rattle.afdx_frame.specs.declared.link.Side.TheVariants.{A, B}
 use Rattle.afdx_port.specs.declared.left.Due.{Due}
-use Rattle.afdx_port.specs.Due.{IsBy, IsAfter, order_of}
+use Rattle.afdx_port.specs.Due.{given_at, IsBy, IsAfter, order_of}
+use Rattle.afdx_port.specs.Times.{drain_end}
 
 -- the turn that is due at A is given by then, and goes before that of B or together with it
 pub record IsAFirst (until : ℕ) (a b : Option Due) : Type 0 where
@@ -30,18 +31,6 @@ IsFirstSide until a b None = AreLater until a b
 IsFirstSide until a b (Some A) = IsAFirst until a b
 IsFirstSide until a b (Some B) = IsBFirst until a b
 
--- what is due at A goes before what is due at B or together with it
-abbrev pub GoesFirst : Option Due → Option Due → Type 0
-GoesFirst None b = ⊥
-GoesFirst (Some a) b = IfSome b (λ other. order_of a ≤ order_of other)
-
--- nothing is due at A, or what is due at B goes before it
-abbrev pub GoesSecond : Option Due → Option Due → Type 0
-GoesSecond None b = Unit {0}
-GoesSecond (Some a) None = ⊥
-GoesSecond (Some a) (Some b) = order_of b < order_of a
-
--- whether the turn of A goes first
-abbrev pub IsOrder : Option Due → Option Due → (is_a : Bool) → Type 0
-IsOrder a b true = GoesFirst a b
-IsOrder a b false = GoesSecond a b
+-- what is due is given by 1.2e15 ns
+abbrev pub IsLimited : Option Due → Type 0
+IsLimited o = IfSome o (λ due. given_at due ≤ drain_end)

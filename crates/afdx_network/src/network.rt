@@ -3,11 +3,13 @@
 ghost use Rattle.std.specs.Prelude.{◌≡◌, ℕ, ◌+◌, ◌≤◌, ◌∷◌, [], List, Option, IfSome, IfNone, IfOk, OnOk, OnErr, MatchOption, None};
 ghost use Rattle.afdx_frame.specs.Ports.{last_port};
 ghost use Rattle.afdx_port.specs.Times.{drain_end, latest_put};
-ghost use Rattle.afdx_network.specs.First.{IsFirstSide, IsOrder};
+ghost use Rattle.afdx_port.specs.Ports.{order_at};
+ghost use Rattle.afdx_port.specs.declared.left.Due.{Due};
+ghost use Rattle.afdx_network.specs.First.{IsFirstSide, IsLimited};
 
 use afdx_config::Tables;
 use afdx_frame::{BySide, Checked, Side};
-use afdx_port::Due;
+use afdx_port::is_given;
 use afdx_switch::{Departure, Switch, Verdict};
 use std::alloc::{AllocError, Global};
 
@@ -18,28 +20,22 @@ pub struct Departed {
     pub departure: Departure,
 }
 
-/// Whether the turn that is due at side A goes before that of side B, or together with it.
-fn is_a_first(a: Option<Due>, b: Option<Due>) -> bool
-    ensures { IsOrder a b result }
-{
-    match (a, b) {
-        (Some(a), Some(b)) => !b.is_before(&a),
-        (Some(_), None) => true,
-        (None, _) => false,
-    }
-}
-
 /// The side whose turn goes first, if it is given by `until`: by time, at one time slots before
 /// drops, then side A.
-fn first_side(a: Option<Due>, b: Option<Due>, until: u64) -> Option<Side>
-    ensures { IsFirstSide until a b result }
+fn first_side(order_a: u64, order_b: u64, until: u64) -> Option<Side>
+    ensures { (a b : Option Due) → order_a ≡ order_at a → order_b ≡ order_at b →
+        IsLimited a → IsLimited b → IsFirstSide until a b result }
 {
-    let (due, side) = if is_a_first(a, b) {
-        (a?, Side::A)
+    let (order, side) = if order_a <= order_b {
+        (order_a, Side::A)
     } else {
-        (b?, Side::B)
+        (order_b, Side::B)
     };
-    if due.is_by(until) { Some(side) } else { None }
+    if is_given(order, until) {
+        Some(side)
+    } else {
+        None
+    }
 }
 
 /// The switches of both sides.
@@ -132,7 +128,7 @@ impl Network {
             (λ _. frames_held self.new + 1 ≡ frames_held self.old) }
         ensures clock { IsUntil self.new until }
     {
-        let side = first_side(self.switches.a.due(), self.switches.b.due(), until)?;
+        let side = first_side(self.switches.a.order(), self.switches.b.order(), until)?;
         let departure = self.switches.get_mut(side).take(until)?;
         Some(Departed { side, departure })
     }

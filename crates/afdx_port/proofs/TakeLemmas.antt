@@ -215,6 +215,14 @@ module _ {X : Type 0} where
           given_same (record { time = p.free; too_old = l.too_old }) (due_busy facts p l e)
           (by_kind l.too_old p.free (omega arith))
 
+  pub due_limit : (facts : X → Facts) (p : PortState X) → ((x : X) → AreLawful (facts x))
+      → IsPortSound facts p → IfSome (due_of facts p) (λ d. given_at d ≤ 1200000000000000)
+  due_limit facts p lawful s = by_due (due_of facts p) refl
+    where
+      by_due : (o : Option Due) → due_of facts p ≡ o → IfSome o (λ d. given_at d ≤ 1200000000000000)
+      by_due None e = tt
+      by_due (Some d) e = due_bounded facts p d lawful s e
+
   -- where nothing is held, no entry is without a turn
   none_left : (facts : X → Facts) (p : PortState X) (h : PortHistory X) (place : ℕ) (e : Entry X)
       → StandsFor facts p h → due_of facts p ≡ None → slice_get h.entries place ≡ Some e

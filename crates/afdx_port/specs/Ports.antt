@@ -4,7 +4,7 @@ use Rattle.afdx_port.specs.Times.{drain_end}
 use Rattle.afdx_port.specs.declared.left.Due.{Due}
 use Rattle.afdx_port.specs.declared.port_state.PortState.{PortState}
 use Rattle.afdx_port.specs.Facts.{Facts}
-use Rattle.afdx_port.specs.Due.{given_at, order_of}
+use Rattle.afdx_port.specs.Due.{given_at, order_of, IsBy}
 use Rattle.afdx_port.specs.Held.{due_of, IsQuiet}
 
 -- the order of a port that has no turn to come: 2^52, which is after that of each turn
@@ -15,6 +15,11 @@ order_without_turn = 4503599627370496
 abbrev pub order_at : Option Due → ℕ
 order_at None = order_without_turn
 order_at (Some d) = order_of d
+
+-- a turn is due, and is given by t
+abbrev pub IsGivenBy : ℕ → Option Due → Type 0
+IsGivenBy t None = ⊥
+IsGivenBy t (Some d) = IsBy t d
 
 module _ {X : Type 0} where
   -- what is due at the first n ports is given by 1.2e15 ns

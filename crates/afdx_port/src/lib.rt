@@ -6,11 +6,13 @@
 mod has_length;
 pub mod laws;
 mod left;
+mod order;
 mod port;
 mod port_state;
 mod serving;
 
 pub use has_length::HasLength;
 pub use left::{Due, Left};
+pub use order::is_given;
 pub use port::Port;
 pub use serving::Serving;

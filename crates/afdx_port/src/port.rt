@@ -5,18 +5,14 @@ ghost use Rattle.afdx_frame.specs.Lengths.{least_frame, greatest_buffer};
 ghost use Rattle.afdx_port.specs.Times.{drain_end, latest_put};
 ghost use Rattle.afdx_port.specs.Schedule.{Turn, IsNext, IsSchedule};
 ghost use Rattle.afdx_port.specs.Due.{given_at};
-ghost use Rattle.afdx_port.specs.Ports.{order_at};
 
 use crate::has_length::HasLength;
 use crate::left::{Due, Left};
+use crate::order::{self, is_given, order};
 use crate::port_state::PortState;
 use afdx_frame::Priority;
 use std::alloc::{AllocError, Global};
 use std::marker::Model;
-
-/// The place, in the order in which ports are served together, of one that has no turn to come:
-/// after each turn.
-const ORDER_WITHOUT_TURN: u64 = 1 << 52;
 
 /// An output port (ARINC 664 Part 7): two queues of frames, high before low, that share a buffer
 /// and a line. No frame is interrupted, and the next frame is chosen after all that came by that
@@ -24,21 +20,8 @@ const ORDER_WITHOUT_TURN: u64 = 1 << 52;
 #[derive(Drop)]
 pub struct Port<T: HasLength> {
     state: PortState<T>,
-    /// The next turn.
-    due: Option<Due>,
-    /// Its place in the order in which ports are served together.
+    /// The place of the next turn in the order in which ports are served together.
     order: u64,
-}
-
-/// The place of a turn in the order in which ports are served together.
-fn order(due: Option<Due>) -> u64
-    requires { IfSome due (λ d. given_at d ≤ drain_end) }
-    ensures { result ≡ order_at due }
-{
-    match due {
-        Some(due) => due.order(),
-        None => ORDER_WITHOUT_TURN,
-    }
 }
 
 impl<T: HasLength> Model for Port<T> {
@@ -54,7 +37,7 @@ impl<T: HasLength> Model for Port<T> {
 
     ghost use Rattle.afdx_port.specs.Ports.{order_at};
 
-    ghost invariant = { λ p. IsPortSound T.facts p.state × (p.due ≡ due_of T.facts p.state)
+    ghost invariant = { λ p. IsPortSound T.facts p.state
         × (p.order ≡ order_at (due_of T.facts p.state)) };
 }
 
@@ -78,7 +61,6 @@ impl<T: HasLength> Port<T> {
     {
         Ok(Port {
             state: PortState::new(alloc, byte_ns, buffer)?,
-            due: None,
             order: order(None),
         })
     }
@@ -96,8 +78,7 @@ impl<T: HasLength> Port<T> {
     {
         let taken = self.state.put(time, priority, item);
         if !self.state.is_sending() {
-            self.due = self.state.due();
-            self.order = order(self.due);
+            self.order = order(self.state.due());
         }
         taken
     }
@@ -115,12 +96,12 @@ impl<T: HasLength> Port<T> {
             IfNone result (IsSchedule h.byte_ns h.entries h.taken) }
         ensures limit { IfSome result (λ due. given_at due ≤ drain_end) }
     {
-        self.due
+        order::due_of(self.order)
     }
 
     /// The place of the next turn in the order in which ports are served together; that after each
     /// turn if the port holds nothing.
-    pub(crate) fn order(&self) -> u64
+    pub fn order(&self) -> u64
         ensures is { result ≡ order_at (due_of T.facts self.now) }
         ensures most { result ≤ order_without_turn }
         ensures limit { IfSome (due_of T.facts self.now) (λ due. given_at due ≤ drain_end) }
@@ -132,7 +113,7 @@ impl<T: HasLength> Port<T> {
     pub fn is_quiet(&self, time: u64) -> bool
         ensures { IsTrue result ↔ IsQuiet T.facts self.now time }
     {
-        self.due().is_none_or(|due| !due.is_by(time))
+        !is_given(self.order, time)
     }
 
     /// The next turn, if it is over by `until`, in ns: a slot that ends at or before `until`, or a
@@ -148,8 +129,7 @@ impl<T: HasLength> Port<T> {
             return None;
         }
         let left = self.state.take(until);
-        self.due = self.state.due();
-        self.order = order(self.due);
+        self.order = order(self.state.due());
         left
     }
 }

@@ -8,6 +8,7 @@ use Rattle.afdx_frame.specs.declared.link.Side.{Side}
 use Rattle.afdx_police.specs.Arrival.{arrival_with, names, own}
 use Rattle.afdx_port.specs.Due.{given_at, IsAfter}
 use Rattle.afdx_port.specs.History.{due_at}
+use Rattle.afdx_port.specs.Ports.{order_at}
 use Rattle.afdx_port.specs.Schedule.{Turn}
 use Rattle.afdx_port.specs.Times.{drain_end}
 use Rattle.afdx_port.specs.declared.left.Due.{Due}
@@ -74,6 +75,12 @@ pub record TellsDue (w : SwitchState) (result : Option Due) : Type 0 where
       IfNone result (IsDone t side h port)
   pub quiet : (time : ℕ) → IsQuiet w time ↔ IfSome result (λ due. IsAfter time due)
   pub limit : IfSome result (λ due. given_at due ≤ drain_end)
+
+-- `order` says where the turn that `due` tells stands in the order of turns
+pub record TellsOrder (w : SwitchState) (result : ℕ) : Type 0 where
+  pub due : Option Due
+  pub tells : TellsDue w due
+  pub is : result ≡ order_at due
 
 -- `take` gives the next turn of all ports, if it is over by a time
 pub record Takes (old new : SwitchState) (until : ℕ) (result : Option Departure) : Type 0 where

@@ -3,6 +3,7 @@ use Rattle.std.specs.Prelude.{ℕ, max, min, Option, option_map, List, length}
 use Rattle.afdx_frame.specs.Lengths.{least_frame, greatest_frame}
 use Rattle.afdx_port.specs.Facts.{Facts}
 use Rattle.afdx_port.specs.Times.{greatest_wait}
+use Rattle.afdx_switch.specs.declared.frame.Stored.{Stored}
 
 -- the caller's tag, how long it may wait for its turn in ns if there is a limit, and all bytes
 pub record HeldFrame : Type 0 where
@@ -14,6 +15,10 @@ pub record HeldFrame : Type 0 where
 abbrev pub held_frame : ℕ → Option ℕ → List ℕ → HeldFrame
 held_frame tag longest_wait bytes =
     record { tag = tag; longest_wait = longest_wait; bytes = bytes }
+
+-- what is held of a frame's one copy
+abbrev pub stored_frame : Stored → HeldFrame
+stored_frame s = held_frame s.tag s.longest_wait s.bytes.items
 
 -- what a port knows of it. A frame that is accepted is neither too short nor too long, and its
 -- limit, if there is one, is at most 100 ms

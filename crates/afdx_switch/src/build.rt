@@ -192,7 +192,6 @@ pub(crate) fn build(alloc: Global, tables: &Tables) -> Result<SwitchState, Alloc
     let serving = Serving::of(&ports);
     let first = serving.first::<Frame>();
     Ok(SwitchState {
-        alloc,
         clock: 0,
         lines,
         places,

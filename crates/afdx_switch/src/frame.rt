@@ -1,6 +1,6 @@
 //! The shares of a frame's one copy.
 
-ghost use Rattle.std.specs.Prelude.{◌≡◌, ◌≤◌, length, IfOk, IfSome};
+ghost use Rattle.std.specs.Prelude.{◌≡◌, ◌≤◌, length, IfOk, OnOk, IfSome};
 ghost use Rattle.afdx_frame.specs.Lengths.{least_frame, greatest_frame};
 ghost use Rattle.afdx_port.specs.Times.{greatest_wait};
 
@@ -11,11 +11,47 @@ use std::rc::Rc;
 
 /// What all shares of a frame have in common.
 #[derive(Drop)]
-struct Stored {
+pub(crate) struct Stored {
     tag: u64,
     /// How long the frame may wait for its turn, in ns, if there is a limit.
     longest_wait: Option<u64>,
     bytes: Vec<u8>,
+}
+
+impl Stored {
+    ghost use Rattle.afdx_switch.specs.HeldFrames.{held_frame, stored_frame};
+
+    pub(crate) fn new(
+        alloc: Global,
+        tag: u64,
+        longest_wait: Option<u64>,
+        bytes: &[u8],
+    ) -> Result<Stored, AllocError>
+        ensures { IfOk result (λ s. stored_frame s ≡ held_frame tag longest_wait bytes.now) }
+    {
+        let bytes = Vec::from_slice(alloc, bytes)?;
+        Ok(Stored {
+            tag,
+            longest_wait,
+            bytes,
+        })
+    }
+
+    /// Puts another frame in its place, into the same memory where that suffices.
+    pub(crate) fn renew(
+        &mut self,
+        tag: u64,
+        longest_wait: Option<u64>,
+        bytes: &[u8],
+    ) -> Result<(), AllocError>
+        ensures { OnOk result (stored_frame self.new ≡ held_frame tag longest_wait bytes.now) }
+    {
+        self.bytes.clear();
+        self.bytes.extend_from_slice(bytes)?;
+        self.tag = tag;
+        self.longest_wait = longest_wait;
+        Ok(())
+    }
 }
 
 /// A frame on its way through the switch: one of the shares of its one copy.
@@ -48,29 +84,19 @@ impl Model for Frame {
 impl Frame {
     ghost use Rattle.std.specs.Prelude.{true};
     ghost use Rattle.afdx_frame.specs.Sealing.{is_sealed};
-    ghost use Rattle.afdx_switch.specs.HeldFrames.{HeldFrame, held_frame};
+    ghost use Rattle.afdx_switch.specs.HeldFrames.{HeldFrame, stored_frame};
 
-    /// The one copy of a frame.
-    pub(crate) fn copy(
-        alloc: Global,
-        tag: u64,
-        longest_wait: Option<u64>,
-        bytes: &[u8],
-    ) -> Result<Frame, AllocError>
-        requires shortest { least_frame ≤ length bytes.now }
-        requires longest { length bytes.now ≤ greatest_frame }
-        requires wait { IfSome longest_wait (λ wait. wait ≤ greatest_wait) }
-        requires sealed { is_sealed bytes.now ≡ true }
-        ensures { IfOk result (λ f. f ≡ held_frame tag longest_wait bytes.now) }
+    /// A share of a frame's one copy.
+    pub(crate) fn of(stored: &Rc<Stored>) -> Result<Frame, AllocError>
+        requires shortest { least_frame ≤ length (stored_frame stored.now.value).bytes }
+        requires longest { length (stored_frame stored.now.value).bytes ≤ greatest_frame }
+        requires wait { IfSome (stored_frame stored.now.value).longest_wait
+            (λ wait. wait ≤ greatest_wait) }
+        requires sealed { is_sealed (stored_frame stored.now.value).bytes ≡ true }
+        ensures { IfOk result (λ f. f ≡ stored_frame stored.now.value) }
     {
-        let bytes = Vec::from_slice(alloc, bytes)?;
-        let stored = Stored {
-            tag,
-            longest_wait,
-            bytes,
-        };
         Ok(Frame {
-            stored: Rc::new(alloc, stored)?,
+            stored: stored.clone()?,
         })
     }
 

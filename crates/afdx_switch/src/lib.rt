@@ -8,6 +8,7 @@ mod frame;
 pub mod laws;
 mod line;
 mod ports;
+mod store;
 mod switch;
 mod switch_state;
 mod verdict;

@@ -5,6 +5,7 @@ ghost use Rattle.afdx_port.specs.Times.{latest_put};
 
 use crate::build::build;
 use crate::frame::Frame;
+use crate::store::Store;
 use crate::switch_state::SwitchState;
 use crate::verdict::Verdict;
 use afdx_config::Tables;
@@ -76,6 +77,7 @@ impl Departure {
 /// One switch. It keeps an account for each link, and the frames that still have a turn to come.
 pub struct Switch {
     state: SwitchState,
+    store: Store,
     /// Room for the shares of a frame. Between calls it is empty.
     shares: Vec<Frame>,
 }
@@ -83,7 +85,11 @@ pub struct Switch {
 impl Drop for Switch {
     // (written out, it is one call wherever a value is let go)
     fn drop(self) {
-        let Self { state, shares } = self;
+        let Self {
+            state,
+            store,
+            shares,
+        } = self;
     }
 }
 
@@ -102,7 +108,7 @@ impl Model for Switch {
 impl Switch {
     ghost use Rattle.afdx_config.specs.Lawful.{IsLawful};
     ghost use Rattle.afdx_frame.specs.declared.link.Side.{Side};
-    ghost use Rattle.afdx_switch.specs.Calls.{Arrives, TellsDue, Takes};
+    ghost use Rattle.afdx_switch.specs.Calls.{Arrives, TellsDue, TellsOrder, Takes};
     ghost use Rattle.afdx_switch.specs.Switching.{StandsFor, IsQuiet, no_calls, frames_held};
     ghost use Rattle.afdx_switch.specs.Switching.{last_time};
 
@@ -117,6 +123,7 @@ impl Switch {
     {
         Ok(Switch {
             state: build(alloc, tables)?,
+            store: Store::new(alloc)?,
             shares: Vec::with_capacity(alloc, 24)?,
         })
     }
@@ -156,7 +163,8 @@ impl Switch {
         requires quiet { IsQuiet self.old time }
         ensures { Arrives self.old self.new tag time port frame.entry.bytes.now result }
     {
-        let arrived = self.state.arrive(time, port, tag, frame, &mut self.shares);
+        let (store, shares) = (&mut self.store, &mut self.shares);
+        let arrived = self.state.arrive(time, port, tag, frame, store, shares);
         self.shares.clear();
         arrived
     }
@@ -167,6 +175,15 @@ impl Switch {
         ensures { TellsDue self.now result }
     {
         self.state.due()
+    }
+
+    /// Where the turn that `due` tells stands in the order of turns: by time, at one time slots
+    /// before drops; after each turn, if there is none. `afdx_port::is_given` tells of it whether
+    /// the turn is given by a time.
+    pub fn order(&self) -> u64
+        ensures { TellsOrder self.now result }
+    {
+        self.state.order()
     }
 
     /// The next frame that leaves, or is dropped as too old, by `until`, in ns: a slot that ends at

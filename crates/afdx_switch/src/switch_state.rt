@@ -19,16 +19,16 @@ ghost use Rattle.afdx_switch.specs.Shares.{AreKept, AreShares, IsOffered, share_
 use crate::frame::Frame;
 use crate::line::Line;
 use crate::ports::PortSet;
+use crate::store::Store;
 use crate::switch::Departure;
 use crate::verdict::Verdict;
 use afdx_frame::{Checked, MacView, Priority, VlId};
 use afdx_police::Reason;
 use afdx_port::{Due, Port, Serving};
-use std::alloc::{AllocError, Global};
+use std::alloc::AllocError;
 
 /// What a switch works with.
 pub(crate) struct SwitchState {
-    pub(crate) alloc: Global,
     /// The last time used.
     pub(crate) clock: u64,
     /// By place in the tables.
@@ -47,7 +47,6 @@ impl Drop for SwitchState {
     // (written out, it is one call wherever a value is let go)
     fn drop(self) {
         let Self {
-            alloc,
             clock,
             lines,
             places,
@@ -147,7 +146,7 @@ impl SwitchState {
     ghost use Rattle.afdx_frame.specs.declared.link.Side.{Side};
     ghost use Rattle.afdx_frame.specs.Sealing.{is_sealed};
     ghost use Rattle.afdx_police.specs.Arrival.{arrival_with};
-    ghost use Rattle.afdx_switch.specs.Calls.{Arrives, TellsDue, Takes};
+    ghost use Rattle.afdx_switch.specs.Calls.{Arrives, TellsDue, TellsOrder, Takes};
     ghost use Rattle.afdx_switch.specs.Found.{Found, IsFaulted};
     ghost use Rattle.afdx_switch.specs.Lines.{IsPlaceOf};
     ghost use Rattle.afdx_switch.specs.Shares.{AreOffered};
@@ -232,13 +231,15 @@ impl SwitchState {
         lost
     }
 
-    /// `shares` is room for the shares of the frame: what is left there is of no use.
+    /// `store` makes the frame's copy, and `shares` is room for the shares of it: what is left there
+    /// is of no use.
     pub(crate) fn arrive(
         &mut self,
         time: u64,
         port: u8,
         tag: u64,
         frame: Checked<'_>,
+        store: &mut Store,
         shares: &mut Vec<Frame>,
     ) -> Result<Verdict, AllocError>
         requires shares { shares.old.items ≡ [] }
@@ -258,7 +259,7 @@ impl SwitchState {
         };
         let line = &self.lines[place];
         let count = line.goes.len();
-        let copy = Frame::copy(self.alloc, tag, line.longest_wait, frame.bytes)?;
+        let copy = store.copy(tag, line.longest_wait, frame.bytes)?;
         share_out(&copy, count, shares)?;
         self.clock = time;
         if let Some(reason) = charge(&mut self.lines, place, time, frame.bytes.len() as u64) {
@@ -274,6 +275,14 @@ impl SwitchState {
         ensures { TellsDue self.now result }
     {
         self.ports[self.first].due()
+    }
+
+    /// Where the next turn stands in the order of turns.
+    pub(crate) fn order(&self) -> u64
+        requires { IsSwitchSound self.now }
+        ensures { TellsOrder self.now result }
+    {
+        self.ports[self.first].order()
     }
 
     #[inline(always)]
