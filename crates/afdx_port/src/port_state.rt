@@ -177,7 +177,7 @@ impl<T: HasLength> PortState<T> {
     }
 
     /// Begins the next turn, if its moment is before `time`.
-    #[inline]
+    #[inline(always)]
     fn advance(&mut self, time: u64)
         requires clock { self.old.clock ≤ time }
         requires sound { IsPortSound T.facts self.old }

@@ -231,7 +231,7 @@ impl SwitchState {
         lost
     }
 
-    /// `store` makes the frame's copy, and `shares` is room for the shares of it: what is left there
+    /// `store` makes the copy of the frame; `shares` is room for its shares, and what is left there
     /// is of no use.
     pub(crate) fn arrive(
         &mut self,

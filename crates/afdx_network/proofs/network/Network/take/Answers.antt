@@ -33,22 +33,25 @@ returns-in_err-side-clause-quiet c =
 -- the switch whose turn goes first gives it
 pub returns-in_err-departure-clause-none : goal.returns-in_err-departure-clause-none
 returns-in_err-departure-clause-none c =
-    absurd (must-give c.in_ok-side.side c.args.self.now c.args.until c.order.ensures.due c.order-2.ensures.due (c.in_ok-side.ensures c.order.ensures.due c.order-2.ensures.due c.order.ensures.is
-    c.order-2.ensures.is c.order.ensures.tells.limit c.order-2.ensures.tells.limit)
+    let first = c.in_ok-side.ensures c.order.ensures.due c.order-2.ensures.due c.order.ensures.is
+    c.order-2.ensures.is c.order.ensures.tells.limit c.order-2.ensures.tells.limit in
+    absurd (must-give c.in_ok-side.side c.args.self.now c.args.until c.order.ensures.due c.order-2.ensures.due first
     c.order.ensures.tells.quiet c.order-2.ensures.tells.quiet
     (subst (λ (w : SwitchState). switch.IsQuiet w c.args.until) c.get_mut.ensures.value c.in_err-departure.ensures.gives))
 
 pub returns-in_err-departure-clause-quiet : goal.returns-in_err-departure-clause-quiet
 returns-in_err-departure-clause-quiet c =
-    absurd (must-give c.in_ok-side.side c.args.self.now c.args.until c.order.ensures.due c.order-2.ensures.due (c.in_ok-side.ensures c.order.ensures.due c.order-2.ensures.due c.order.ensures.is
-    c.order-2.ensures.is c.order.ensures.tells.limit c.order-2.ensures.tells.limit)
+    let first = c.in_ok-side.ensures c.order.ensures.due c.order-2.ensures.due c.order.ensures.is
+    c.order-2.ensures.is c.order.ensures.tells.limit c.order-2.ensures.tells.limit in
+    absurd (must-give c.in_ok-side.side c.args.self.now c.args.until c.order.ensures.due c.order-2.ensures.due first
     c.order.ensures.tells.quiet c.order-2.ensures.tells.quiet
     (subst (λ (w : SwitchState). switch.IsQuiet w c.args.until) c.get_mut.ensures.value c.in_err-departure.ensures.gives))
 
 pub returns-in_err-departure-clause-all_done : goal.returns-in_err-departure-clause-all_done
 returns-in_err-departure-clause-all_done c t events st late =
-    absurd (must-give c.in_ok-side.side c.args.self.now c.args.until c.order.ensures.due c.order-2.ensures.due (c.in_ok-side.ensures c.order.ensures.due c.order-2.ensures.due c.order.ensures.is
-    c.order-2.ensures.is c.order.ensures.tells.limit c.order-2.ensures.tells.limit)
+    let first = c.in_ok-side.ensures c.order.ensures.due c.order-2.ensures.due c.order.ensures.is
+    c.order-2.ensures.is c.order.ensures.tells.limit c.order-2.ensures.tells.limit in
+    absurd (must-give c.in_ok-side.side c.args.self.now c.args.until c.order.ensures.due c.order-2.ensures.due first
     c.order.ensures.tells.quiet c.order-2.ensures.tells.quiet
     (subst (λ (w : SwitchState). switch.IsQuiet w c.args.until) c.get_mut.ensures.value c.in_err-departure.ensures.gives))
 
