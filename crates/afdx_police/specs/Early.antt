@@ -42,7 +42,8 @@ arrival_later wait x = arrival_with x.tag (x.time + wait) x.side x.port x.bytes
 
 -- by how much an arrival that comes after these of its link is too early, 0 if it isn't
 abbrev pub early_after : Rule → List Arrival → Arrival → ℕ
-early_after rule past x = least_wait (regulation_of rule) (accepted_own rule past) (charged_by rule x)
+early_after rule past x =
+    least_wait (regulation_of rule) (accepted_own rule past) (charged_by rule x)
 
 -- an arrival that comes after these of its link is so much too early: it would be accepted if it
 -- came this many nanoseconds later, and dropped for its link's rate if it came by less later

@@ -13,7 +13,6 @@ mod sending;
 pub mod status;
 mod summary;
 
-pub use replaying::admitted::run;
 pub use afdx_frame::Policing;
 pub use afdx_lists::{RunFault, Watched};
 pub use afdx_text::{Output, Sink};
@@ -21,7 +20,8 @@ pub use check_command::check;
 pub use ending::{Ended, finish};
 pub use policing::command::{CommandedRule, police, police_and_count};
 pub use policing::run::run_police;
-pub use replaying::command::{replay, replay_and_count};
+pub use replaying::admitted::run;
+pub use replaying::command::{replay, replay_and_count, replay_and_explain};
 pub use replaying::run::run_unadmitted;
 pub use sending::command::{send, send_and_count};
 pub use sending::run::run_send;
