@@ -101,7 +101,7 @@ on_terminal() { # WORD.. : what the program writes there, of a path that isn't t
 }
 tell 'a terminal is told what a fault means' "$(
     if [[ $(on_terminal) != "$(on_terminal --explain)" ]]; then echo 'no explanation'; fi
-    if ! on_terminal | grep -qF "$work/none: No such file or directory"; then echo 'no path'; fi
+    if [[ $(on_terminal) != *"$work/none: No such file or directory"* ]]; then echo 'no path'; fi
     if [[ $(on_terminal --explain=never) != 'device List' ]]; then echo 'never explained'; fi
 )"
 explained_case 'replay explains admission' 1 '' 'admit A3 7 104 267995' 'A3 port vl bound' \

@@ -44,7 +44,7 @@ MEMORY = {
     "crates/afdx_replay/src/refusing.rt": {"want_memory"},
     "crates/afdx_send/src/fault.rt": {""},  # the row of a table
     "crates/afdx_replay/src/sending/run.rt": {"refusal_of"},
-    "crates/afdx_send/src/working.rt": {"accept"},
+    "crates/afdx_send/src/sender_state.rt": {"accept"},
     "crates/afdx_systems/src/end_system.rt": {"pass_on"},
     "crates/afdx_text/src/line.rt": {"room_wanted"},
 }

@@ -99,7 +99,8 @@ each_help() { # FUNCTION WORD.. : calls it with the words, a command's name and 
 }
 
 options_offered() { # SHELL NAME OPTIONS
-    "offered_by_$1" "$2 --" | grep -E '^--' | grep -vx -- --version | sort -u >"$work/offered"
+    "offered_by_$1" "$2 --" | sed -n 's/^\(--[^=]*\)=\?$/\1/p' | grep -vx -- --version |
+        sort -u >"$work/offered"
     if ! diff <(grep -vx -- --version "$3") "$work/offered" >"$work/diff"; then
         echo "$2 --help and what is offered:"
         cat "$work/diff"

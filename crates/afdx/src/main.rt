@@ -149,7 +149,7 @@ fn end_run<R: Drop, W: Write + Drop, E: Write + Drop>(
         reason: read.or(written),
     };
     let mut errors = errors.into_inner();
-    errors.device_mut().clear();
+    errors.device_mut().notice_mut().clear();
     explain_if_asked(rt, matches, errors.line(), &cause);
     match ended.summary {
         Some(summary) if status == DONE && matches.get_flag("summary") => {
@@ -186,38 +186,6 @@ impl Run<'_> {
             _ => false,
         }
     }
-
-    /// Makes the run from `input` to `output`, and tells its fault to `errors`.
-    fn make<R: Read + Drop, W: Write + Drop, E: Write + Drop>(
-        &self,
-        rt: &HostRuntime,
-        input: &mut Watched<R>,
-        output: &mut Output<W>,
-        errors: &mut Watched<E>,
-    ) -> Ended {
-        match self {
-            Run::Police(rule) => police_and_count(rt.alloc(), rule, input, output, errors),
-            Run::Replay { admission, config } => {
-                replay_and_count(rt.alloc(), *admission, config, input, output, errors)
-            }
-            Run::ExplainedReplay { admission, config } => {
-                let drops = Watched::new(rt.stderr());
-                let (ended, _) = replay_and_explain(
-                    rt.alloc(),
-                    *admission,
-                    config,
-                    input,
-                    output,
-                    errors,
-                    drops,
-                );
-                ended
-            }
-            Run::Send { config, system } => {
-                send_and_count(rt.alloc(), config, system, input, output, errors)
-            }
-        }
-    }
 }
 
 /// Makes the run over what `input` gives, and hands all its lines to standard output.
@@ -234,7 +202,20 @@ fn run_from<R: Read + Drop>(
     let told = is_told(rt, matches) && !run.explains_drops();
     let mut input = Watched::new(Traced::new(Counted::new(rt, told, input)));
     let mut errors = Watched::new(Heard::new(Cleared::new(rt, told, rt.stderr())));
-    let ended = run.make(rt, &mut input, &mut output, &mut errors);
+    let (list, lines, faults) = (&mut input, &mut output, &mut errors);
+    let ended = match run {
+        Run::Police(rule) => police_and_count(rt.alloc(), rule, list, lines, faults),
+        Run::Replay { admission, config } => {
+            replay_and_count(rt.alloc(), *admission, config, list, lines, faults)
+        }
+        Run::ExplainedReplay { admission, config } => {
+            let drops = Watched::new(rt.stderr());
+            replay_and_explain(rt.alloc(), *admission, config, list, lines, faults, drops).0
+        }
+        Run::Send { config, system } => {
+            send_and_count(rt.alloc(), config, system, list, lines, faults)
+        }
+    };
     end_run(rt, matches, run.config(), ended, input, output, errors)
 }
 

@@ -21,32 +21,16 @@ pub fn is_told(rt: &HostRuntime, matches: &ArgMatches<'_>) -> bool {
     matches.get_flag("progress") && rt.stderr().is_terminal()
 }
 
-/// A reader that tells from time to time how many bytes it has given. Each call is passed on as it
-/// is.
+/// How many bytes were read, and when that is told next.
 #[derive(Drop)]
-pub struct Counted<'a, R> {
-    device: R,
+struct Count<'a> {
     rt: &'a HostRuntime,
     bytes: u64,
     due: Option<Instant>,
 }
 
-impl<'a, R> Counted<'a, R> {
-    /// A reader of which nothing was read. It tells nothing unless `is_told`.
-    pub fn new(rt: &'a HostRuntime, is_told: bool, device: R) -> Counted<'a, R> {
-        let due = match Instant::now(rt) {
-            Ok(now) if is_told => now.checked_add(Duration::from_millis(SILENT)),
-            _ => None,
-        };
-        Counted {
-            device,
-            rt,
-            bytes: 0,
-            due,
-        }
-    }
-
-    fn count(&mut self, more: usize) {
+impl Count<'_> {
+    fn add(&mut self, more: usize) {
         self.bytes = self.bytes.saturating_add(more as u64);
         let Some(due) = self.due else {
             return;
@@ -62,39 +46,76 @@ impl<'a, R> Counted<'a, R> {
     }
 }
 
+/// A reader that tells from time to time how many bytes it has given. Each call is passed on as it
+/// is.
+#[derive(Drop)]
+pub struct Counted<'a, R> {
+    device: R,
+    count: Count<'a>,
+}
+
+impl<'a, R> Counted<'a, R> {
+    /// A reader of which nothing was read. It tells nothing unless `is_told`.
+    pub fn new(rt: &'a HostRuntime, is_told: bool, device: R) -> Counted<'a, R> {
+        let due = match Instant::now(rt) {
+            Ok(now) if is_told => now.checked_add(Duration::from_millis(SILENT)),
+            _ => None,
+        };
+        let count = Count { rt, bytes: 0, due };
+        Counted { device, count }
+    }
+}
+
 impl<R: Read> Read for Counted<'_, R> {
     ghost remaining = { λ counted. R.remaining counted.device };
 
     fn read(&mut self, buf: &mut [u8]) -> io::Result<usize> {
         let read = self.device.read(buf);
         if let Ok(more) = &read {
-            self.count(*more);
+            self.count.add(*more);
         }
         read
     }
 }
 
-/// A writer on the terminal that clears what was told of progress before its first call, if that is
-/// due. Each call is passed on as it is.
+/// What was told of progress, to be cleared once.
+#[derive(Drop)]
+pub struct Notice<'a> {
+    rt: &'a HostRuntime,
+    is_there: bool,
+}
+
+impl Notice<'_> {
+    /// Clears it, unless that was done.
+    pub fn clear(&mut self) {
+        if self.is_there {
+            let _ = eprint!(self.rt; "{CLEAR}");
+            self.is_there = false;
+        }
+    }
+}
+
+/// A writer on the terminal that first clears what was told of progress. Each call is passed on as
+/// it is.
 #[derive(Drop)]
 pub struct Cleared<'a, W> {
     device: W,
-    rt: &'a HostRuntime,
-    is_due: bool,
+    notice: Notice<'a>,
 }
 
 impl<'a, W> Cleared<'a, W> {
     /// A writer to which nothing was written.
-    pub fn new(rt: &'a HostRuntime, is_due: bool, device: W) -> Cleared<'a, W> {
-        Cleared { device, rt, is_due }
+    pub fn new(rt: &'a HostRuntime, is_told: bool, device: W) -> Cleared<'a, W> {
+        let notice = Notice {
+            rt,
+            is_there: is_told,
+        };
+        Cleared { device, notice }
     }
 
-    /// Clears it now, unless that was done.
-    pub fn clear(&mut self) {
-        if self.is_due {
-            let _ = eprint!(self.rt; "{CLEAR}");
-            self.is_due = false;
-        }
+    /// What is to be cleared of progress.
+    pub fn notice_mut(&mut self) -> &mut Notice<'a> {
+        &mut self.notice
     }
 }
 
@@ -102,7 +123,7 @@ impl<W: Write> Write for Cleared<'_, W> {
     ghost contents = { λ cleared. W.contents cleared.device };
 
     fn write(&mut self, buf: &[u8]) -> io::Result<usize> {
-        self.clear();
+        self.notice.clear();
         self.device.write(buf)
     }
 

@@ -1,7 +1,8 @@
 -- A frame is put.
 use Rattle.std.proofs.Common.{IfSome, ◌≡◌, ℕ, ◌+◌, ◌≤◌, List, [], ◌∷◌, ◌++◌, length, Option, Some}
 use Rattle.std.proofs.Common.{None, sum_by, inl, inr, refl, sym, ap, subst, arith, ◌∙◌, max}
-use Rattle.std.proofs.Common.{length-append, is_some, true}
+use Rattle.std.proofs.Common.{length-append, is_some, true, ◌<◌}
+use Rattle.std.specs.Prelude.{Ok, Err}
 use Rattle.std.specs.List.{AllByRecursion}
 use Rattle.std.proofs.lemmas.List.Sums.{sum_by_push}
 use Rattle.std.proofs.lemmas.Bool.{cases_lt}
@@ -16,10 +17,15 @@ use Rattle.afdx_port.specs.Due.{IsAfter}
 use Rattle.afdx_port.specs.Held.{frames_held, sending_count, ready, choice, choice_of, queue_of, due_of, IsQuiet}
 use Rattle.afdx_port.specs.Sound.{HasRoom, ChangesQueue, IsPortSound}
 use Rattle.afdx_port.specs.History.{PortHistory, at, with_put, entry_of, StandsFor}
+use Rattle.afdx_port.specs.Calls.{Puts}
+use Rattle.afdx_port.specs.Schedule.{Turn, IsSchedule, IsLost}
+use Rattle.afdx_port.specs.ScheduleOf.{schedule_of}
 use Rattle.afdx_port.proofs.TurnLemmas.{nat_lt-true, nat_lt-false}
 use Rattle.afdx_port.proofs.QueueLemmas.{pair_same}
-use Rattle.afdx_port.proofs.DueLemmas.{due, due_busy}
-use Rattle.afdx_port.proofs.HistoryLemmas.{other, put_stands}
+use Rattle.afdx_port.proofs.DueLemmas.{due, due_busy, quiet_stays}
+use Rattle.afdx_port.proofs.HistoryLemmas.{other, put_stands, lost_from, not_lost}
+use Rattle.afdx_port.proofs.ScheduleLemmas.{schedule_of_is}
+use Rattle.afdx_port.proofs.TakeLemmas.{Advances}
 use Rattle.afdx_port.proofs.SoundLemmas.{count_least, stays, idle_quiet}
 
 pub late_high : (hi lo : Option ℕ) (t m : ℕ)
@@ -80,7 +86,7 @@ module _ {X : Type 0} where
       omega arith
 
   -- what is known where a frame is put
-  pub record Puts (facts : X → Facts) (old mid : PortState X) (time : ℕ) (c : Priority) (x : X) (n : ℕ) : Type 0 where
+  pub record Pushes (facts : X → Facts) (old mid : PortState X) (time : ℕ) (c : Priority) (x : X) (n : ℕ) : Type 0 where
     pub lawful : (y : X) → AreLawful (facts y)
     pub sound : IsPortSound facts old
     pub clock : old.clock ≡ time
@@ -98,7 +104,7 @@ module _ {X : Type 0} where
     pub low_times : AllByRecursion (λ v. v.time ≤ 1000032768000000) mid.low.items
 
   pub pushed : (facts : X → Facts) (old mid : PortState X) (time : ℕ) (c : Priority) (x : X) (n : ℕ)
-      → Puts facts old mid time c x n → Pushed facts old mid n
+      → Pushes facts old mid time c x n → Pushed facts old mid n
   pushed facts old mid time High x n p =
       let st = stays High old mid p.changes in
       let P : List (Waiting X) → Type 0 = λ ws. AllByRecursion (λ v. v.time ≤ 1000032768000000) ws in
@@ -160,7 +166,7 @@ module _ {X : Type 0} where
       }
 
   pub pushed_sound : (facts : X → Facts) (old mid : PortState X) (time : ℕ) (c : Priority) (x : X)
-      (n : ℕ) → Puts facts old mid time c x n → IsPortSound facts (record mid { waiting = mid.waiting + n })
+      (n : ℕ) → Pushes facts old mid time c x n → IsPortSound facts (record mid { waiting = mid.waiting + n })
   pushed_sound facts old mid time c x n p =
       let st = stays c old mid p.changes in
       let k = pushed facts old mid time c x n p in
@@ -190,7 +196,7 @@ module _ {X : Type 0} where
       }
 
   pub pushed_stands : (facts : X → Facts) (old mid : PortState X) (time : ℕ) (c : Priority) (x : X)
-      (n : ℕ) → Puts facts old mid time c x n → (h : PortHistory X) → StandsFor facts old (at h time) →
+      (n : ℕ) → Pushes facts old mid time c x n → (h : PortHistory X) → StandsFor facts old (at h time) →
       StandsFor facts (record mid { waiting = mid.waiting + n }) (with_put h (entry_of facts time c x))
   pushed_stands facts old mid time c x n p h s =
       let st = stays c old mid p.changes in
@@ -231,7 +237,7 @@ module _ {X : Type 0} where
   ready_push free t (w ∷ ws) x m late e = late m e
 
   pub pushed_quiet : (facts : X → Facts) (old mid : PortState X) (time : ℕ) (c : Priority) (x : X)
-      (n : ℕ) → Puts facts old mid time c x n → IsQuiet facts old time →
+      (n : ℕ) → Pushes facts old mid time c x n → IsQuiet facts old time →
       ((d : Priority) (moment : ℕ) → old.sending ≡ None → choice_of old ≡ Some (d, moment)
       → time ≤ moment) → IsQuiet facts (record mid { waiting = mid.waiting + n }) time
   pushed_quiet facts old mid time c x n p q late = by_sending old.sending refl
@@ -274,7 +280,7 @@ module _ {X : Type 0} where
           subst P (sym same) q
 
   pub pushed_held : (facts : X → Facts) (old mid : PortState X) (time : ℕ) (c : Priority) (x : X)
-      (n : ℕ) → Puts facts old mid time c x n
+      (n : ℕ) → Pushes facts old mid time c x n
       → frames_held (record mid { waiting = mid.waiting + n }) ≡ frames_held old + 1
   pushed_held facts old mid time c x n p =
       let st = stays c old mid p.changes in
@@ -285,7 +291,7 @@ module _ {X : Type 0} where
 
   -- while a turn has begun, no put changes what is due
   pub pushed_due : (facts : X → Facts) (old mid : PortState X) (time : ℕ) (c : Priority) (x : X)
-      (n : ℕ) → Puts facts old mid time c x n → is_some mid.sending ≡ true
+      (n : ℕ) → Pushes facts old mid time c x n → is_some mid.sending ≡ true
       → due_of facts (record mid { waiting = mid.waiting + n }) ≡ due_of facts old
   pushed_due facts old mid time c x n p busy = by mid.sending refl busy
     where
@@ -297,3 +303,54 @@ module _ {X : Type 0} where
           due_busy facts (record mid { waiting = mid.waiting + n }) l e
           ∙ ap (λ t. Some (due t l.too_old)) st.free
           ∙ sym (due_busy facts old l (sym st.sending ∙ e))
+
+  -- a frame that has room is taken
+  pub taken_puts : {E : Type 0} (facts : X → Facts) (old p mid : PortState X) (time : ℕ) (c : Priority)
+      (x : X) (n : ℕ) (e : E) → Advances facts old p time → IsQuiet facts old time
+      → Pushes facts p mid time c x n →
+      Puts facts old (record mid { waiting = mid.waiting + n }) time c x (Ok e)
+  taken_puts facts old p mid time c x n e a quiet q = record {
+    ok = λ h st. pushed_stands facts p mid time c x n q h (a.stands h st);
+    err = λ h st. tt;
+    back = tt;
+    lost = λ h st. (
+      λ err. cc err,
+      λ lost. absurd (fits h (schedule_of h.byte_ns h.entries) st (schedule_of_is h.byte_ns h.entries st.in_order) lost),
+    );
+    lost_by_any = λ h turns st all. (λ err. cc err, λ lost. absurd (fits h turns st all lost));
+    quiet = pushed_quiet facts p mid time c x n q (quiet_stays facts old p time a.due quiet) a.chosen;
+    held = let held = pushed_held facts p mid time c x n q in let before = a.held in omega (arith, held, before);
+    clock = (stays c p mid q.changes).clock ∙ a.clock;
+  }
+    where
+      fits : (h : PortHistory X) (turns : List (Turn X)) → StandsFor facts old h
+          → IsSchedule h.byte_ns h.entries turns
+          → IsLost h.buffer h.entries turns time (facts x).bytes → ⊥
+      fits h turns st all lost =
+          not_lost facts p h time (facts x).bytes turns (a.stands h st)
+          (quiet_stays facts old p time a.due quiet) a.chosen all
+          (let e = q.bytes in let fit = q.fits in omega (arith, e, fit)) lost
+
+  -- one that hasn't is lost
+  pub lost_puts : {E : Type 0} (facts : X → Facts) (old p : PortState X) (time : ℕ) (c : Priority) (x : X)
+      → Advances facts old p time → IsQuiet facts old time → p.buffer < p.waiting + (facts x).bytes →
+      Puts {E = E} facts old p time c x (Err x)
+  lost_puts facts old p time c x a quiet over = record {
+    ok = λ h st. tt;
+    err = a.stands;
+    back = refl;
+    lost = λ h st. (
+      λ err. overflows h (schedule_of h.byte_ns h.entries) st (schedule_of_is h.byte_ns h.entries st.in_order),
+      λ lost. refl,
+    );
+    lost_by_any = λ h turns st all. (λ err. overflows h turns st all, λ lost. refl);
+    quiet = quiet_stays facts old p time a.due quiet;
+    held = a.held;
+    clock = a.clock;
+  }
+    where
+      overflows : (h : PortHistory X) (turns : List (Turn X)) → StandsFor facts old h
+          → IsSchedule h.byte_ns h.entries turns → IsLost h.buffer h.entries turns time (facts x).bytes
+      overflows h turns st all =
+          lost_from facts p h time (facts x).bytes turns (a.stands h st)
+          (quiet_stays facts old p time a.due quiet) a.chosen all over

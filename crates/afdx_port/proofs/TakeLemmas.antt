@@ -20,7 +20,7 @@ use Rattle.afdx_port.specs.Held.{ready, choice, choice_of, queue_of, is_too_old,
 use Rattle.afdx_port.specs.Held.{last_time, frames_held, sending_count}
 use Rattle.afdx_port.specs.Sound.{IsPortSound}
 use Rattle.afdx_port.specs.History.{PortHistory, at, due_at, IsQueue, HasBegun, StandsFor, Gives}
-use Rattle.afdx_port.specs.Takes.{Takes}
+use Rattle.afdx_port.specs.Calls.{Takes}
 use Rattle.afdx_port.proofs.TurnLemmas.{priority_cases, nat_lt-true, nat_lt-false}
 use Rattle.afdx_port.proofs.DueLemmas.{due, due_idle, due_busy, due_nothing, has_front, quiet_after, quiet_stays, clock_due}
 use Rattle.afdx_port.proofs.HistoryLemmas.{taken_turns, waited_stands}

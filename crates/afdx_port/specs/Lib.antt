@@ -7,7 +7,7 @@ pub mod Due
 pub mod Held
 pub mod Sound
 pub mod History
-pub mod Takes
+pub mod Calls
 pub mod Ports
 pub mod Keys
 pub mod Serving

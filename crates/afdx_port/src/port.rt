@@ -1,12 +1,9 @@
 //! An output port.
 
-ghost use Rattle.std.specs.Prelude.{◌≡◌, ℕ, ◌+◌, ◌<◌, ◌≤◌, ◌↔◌, ◌++◌, List, Some, None, IfOk};
-ghost use Rattle.std.specs.Prelude.{IfErr, OnOk, OnErr, IsErr, IsTrue, IfSome, IfNone, MatchOption};
-ghost use Rattle.std.specs.Prelude.{MatchResult};
+ghost use Rattle.std.specs.Prelude.{◌≡◌, ℕ, ◌≤◌, ◌↔◌, Some, IfOk, IsTrue, IfSome, IfNone};
 ghost use Rattle.afdx_frame.specs.Lengths.{least_frame, greatest_buffer};
 ghost use Rattle.afdx_port.specs.Times.{drain_end, latest_put};
-ghost use Rattle.afdx_port.specs.Schedule.{Turn, IsNext, AreTurns, IsSchedule, IsLost};
-ghost use Rattle.afdx_port.specs.ScheduleOf.{AreInOrder, schedule_of};
+ghost use Rattle.afdx_port.specs.Schedule.{Turn, IsNext, IsSchedule};
 ghost use Rattle.afdx_port.specs.Due.{given_at};
 ghost use Rattle.afdx_port.specs.Ports.{order_at};
 
@@ -62,12 +59,11 @@ impl<T: HasLength> Model for Port<T> {
 }
 
 impl<T: HasLength> Port<T> {
-    ghost use Rattle.afdx_port.specs.Due.{given_at, IsAfter};
+    ghost use Rattle.afdx_port.specs.Due.{given_at};
     ghost use Rattle.afdx_port.specs.Ports.{order_at, order_without_turn};
     ghost use Rattle.afdx_port.specs.Held.{IsByteTime, due_of, IsQuiet, last_time, frames_held};
-    ghost use Rattle.afdx_port.specs.History.{PortHistory, no_calls, at, with_put, entry_of, due_at};
-    ghost use Rattle.afdx_port.specs.History.{StandsFor};
-    ghost use Rattle.afdx_port.specs.Takes.{Takes};
+    ghost use Rattle.afdx_port.specs.Calls.{Puts, Takes};
+    ghost use Rattle.afdx_port.specs.History.{PortHistory, StandsFor, no_calls, due_at};
 
     /// An idle port at time 0, whose line takes `byte_ns` for a byte: 8, 80 or 800 ns.
     /// The frames that wait may have `buffer` bytes together, 64 to 4,194,304; there is room for
@@ -96,22 +92,7 @@ impl<T: HasLength> Port<T> {
         requires clock { last_time self.old ≤ time }
         requires limit { time ≤ latest_put }
         requires quiet { IsQuiet T.facts self.old time }
-        ensures ok { (h : PortHistory T) → StandsFor T.facts self.old h →
-            OnOk result (StandsFor T.facts self.new
-            (with_put h (entry_of T.facts time priority item))) }
-        ensures err { (h : PortHistory T) → StandsFor T.facts self.old h →
-            OnErr result (StandsFor T.facts self.new (at h time)) }
-        ensures back { IfErr result (λ back. back ≡ item) }
-        ensures lost { (h : PortHistory T) → StandsFor T.facts self.old h →
-            (IsErr result ↔ IsLost h.buffer h.entries (schedule_of h.byte_ns h.entries) time
-            (T.facts item).bytes) }
-        ensures lost_by_any { (h : PortHistory T) (turns : List (Turn T)) →
-            StandsFor T.facts self.old h → IsSchedule h.byte_ns h.entries turns →
-            (IsErr result ↔ IsLost h.buffer h.entries turns time (T.facts item).bytes) }
-        ensures quiet { IsQuiet T.facts self.new time }
-        ensures held { MatchResult result (λ _. frames_held self.new ≡ frames_held self.old + 1)
-            (λ _. frames_held self.new ≡ frames_held self.old) }
-        ensures clock { last_time self.new ≡ time }
+        ensures { Puts T.facts self.old self.new time priority item result }
     {
         let taken = self.state.put(time, priority, item);
         if !self.state.is_sending() {

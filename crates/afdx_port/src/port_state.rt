@@ -1,14 +1,14 @@
 //! What a port still has to do: its two queues, and the frame that is being sent.
 
-ghost use Rattle.std.specs.Prelude.{◌≡◌, ℕ, ◌+◌, ◌-◌, ◌*◌, ◌/◌, ◌<◌, ◌≤◌, ◌^◌, ◌⊎◌, ◌↔◌, [], ◌∷◌};
-ghost use Rattle.std.specs.Prelude.{◌++◌, List, Some, None, IfOk, IfErr, OnOk, OnErr, IsErr};
-ghost use Rattle.std.specs.Prelude.{IfSome, OnSome, IfNone, MatchOption, MatchResult};
+ghost use Rattle.std.specs.Prelude.{◌≡◌, ℕ, ◌+◌, ◌-◌, ◌*◌, ◌/◌, ◌<◌, ◌≤◌, ◌^◌, ◌⊎◌, [], ◌∷◌};
+ghost use Rattle.std.specs.Prelude.{◌++◌, Some, None, IfOk};
+ghost use Rattle.std.specs.Prelude.{IfSome, OnSome, IfNone, MatchOption};
 ghost use Rattle.std.specs.Prelude.{is_some, option_copied, slice_get, true};
 ghost use Rattle.afdx_frame.specs.Regulation.{slowest_byte};
 ghost use Rattle.afdx_port.specs.Times.{drain_end, latest_put, longest_slot};
 ghost use Rattle.afdx_frame.specs.Lengths.{least_frame, greatest_buffer};
 ghost use Rattle.afdx_frame.specs.declared.link.Priority.{Priority};
-ghost use Rattle.afdx_port.specs.Schedule.{Entry, Turn, is_past, IsNext, IsSchedule, IsLost};
+ghost use Rattle.afdx_port.specs.Schedule.{is_past};
 
 use crate::has_length::HasLength;
 use crate::left::{Due, Left};
@@ -52,13 +52,12 @@ fn is_too_old(longest_wait: Option<u64>, time: u64, moment: u64) -> bool
 }
 
 impl<T: HasLength> PortState<T> {
-    ghost use Rattle.afdx_port.specs.Due.{given_at, IsAfter};
+    ghost use Rattle.afdx_port.specs.Due.{given_at};
     ghost use Rattle.afdx_port.specs.Held.{IsByteTime, choice_of, queue_of, due_from, due_of};
     ghost use Rattle.afdx_port.specs.Held.{IsQuiet, frames_held};
     ghost use Rattle.afdx_port.specs.Sound.{ChangesQueue, HasRoom, IsPortSound};
-    ghost use Rattle.afdx_port.specs.History.{PortHistory, no_calls, at, with_put, entry_of, due_at};
-    ghost use Rattle.afdx_port.specs.History.{StandsFor};
-    ghost use Rattle.afdx_port.specs.Takes.{Takes};
+    ghost use Rattle.afdx_port.specs.History.{PortHistory, StandsFor, no_calls, at};
+    ghost use Rattle.afdx_port.specs.Calls.{Puts, Takes};
 
     pub(crate) fn new(alloc: Global, byte_ns: u64, buffer: u64) -> Result<PortState<T>, AllocError>
         requires rate { IsByteTime byte_ns }
@@ -225,21 +224,9 @@ impl<T: HasLength> PortState<T> {
         requires quiet { IsQuiet T.facts self.old time }
         requires sound { IsPortSound T.facts self.old }
         ensures sound { IsPortSound T.facts self.new }
-        ensures quiet { IsQuiet T.facts self.new time }
-        ensures clock { self.new.clock ≡ time }
-        ensures held { MatchResult result (λ _. frames_held self.new ≡ frames_held self.old + 1)
-            (λ _. frames_held self.new ≡ frames_held self.old) }
-        ensures ok { (h : PortHistory T) → StandsFor T.facts self.old h →
-            OnOk result (StandsFor T.facts self.new
-            (with_put h (entry_of T.facts time priority item))) }
-        ensures err { (h : PortHistory T) → StandsFor T.facts self.old h →
-            OnErr result (StandsFor T.facts self.new (at h time)) }
-        ensures back { IfErr result (λ back. back ≡ item) }
+        ensures puts { Puts T.facts self.old self.new time priority item result }
         ensures due { is_some self.new.sending ≡ true →
             due_of T.facts self.new ≡ due_of T.facts self.old }
-        ensures lost { (h : PortHistory T) (turns : List (Turn T)) → StandsFor T.facts self.old h →
-            IsSchedule h.byte_ns h.entries turns →
-            (IsErr result ↔ IsLost h.buffer h.entries turns time (T.facts item).bytes) }
     {
         self.advance(time);
         let length = item.length();

@@ -11,6 +11,7 @@ pub mod PromisedLemmas
 pub mod LossLemmas
 pub mod AdmittedRunLemmas
 pub mod DefinedLemmas
+mod AccountLemmas
 mod SaidLemmas
 mod PortLineLemmas
 mod SendLineLemmas

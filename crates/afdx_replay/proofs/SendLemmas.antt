@@ -17,13 +17,13 @@ use Rattle.afdx_lists.specs.declared.fault.RunFault.{RunFault}
 use Rattle.afdx_port.proofs.TurnLemmas.{eqb-same, eqb-other}
 use Rattle.afdx_promises.specs.Sent.{sent_in}
 use Rattle.afdx_send.specs.Releases as send
-use Rattle.afdx_send.specs.Sender.{StandsFor, Emits, IsTaken, IsRefused, LinkTakes, AreAllEmitted, no_calls}
+use Rattle.afdx_send.specs.Sender.{StandsFor, Gives, IsTaken, IsRefused, LinkTakes, AreAllEmitted, no_calls}
 use Rattle.afdx_send.specs.Sender.{at, with_submission, with_emission, sending_of, last_time}
 use Rattle.afdx_send.specs.declared.fault.SendFault.{SendFault}
 use Rattle.afdx_send.specs.declared.fault.SendFault.TheVariants.{NotMyLink, NoSuchSub, Empty}
 use Rattle.afdx_send.specs.declared.fault.SendFault.TheVariants.{TooLarge, QueueFull, Memory}
 use Rattle.afdx_send.specs.declared.sender.Emission.{Emission}
-use Rattle.afdx_send.specs.declared.working.Working.{Working}
+use Rattle.afdx_send.specs.declared.sender_state.SenderState.{SenderState}
 use Rattle.afdx_replay.specs.replaying.Text.{no_counts, with_lines}
 use Rattle.afdx_run.specs.Listed.{Handed, submissions}
 use Rattle.afdx_replay.specs.sending.Events.{message_of, Event, Emitted, Submitted}
@@ -113,7 +113,7 @@ one_link f vl m (x ∷ links) (suc place) l distinct h e =
     other ∙ ap (λ z. f x.vl ∷ z) rest
 
 -- the sender's calls after a message that was taken
-pub calls-taken : (s : Source) (w : Working) (before : List Event) (x : Handed) (time place : ℕ)
+pub calls-taken : (s : Source) (w : SenderState) (before : List Event) (x : Handed) (time place : ℕ)
     (l : LinkRow) → AreDistinct (λ l. l.vl) s.links → slice_get s.links place ≡ Some l
     → l.vl ≡ x.submission.vl →
     StandsFor w (with_submission (calls_in s.row s.links before time) place
@@ -157,7 +157,7 @@ refused-at s before time later t vl sub n TooLarge h = h
 refused-at s before time later t vl sub n QueueFull h = h
 refused-at s before time later t vl sub n Memory h = (h.0, takes-at s before time later t h.0 vl sub n h.1)
 
-pub tells-taken : (s : Source) (w after : Working) (counts counts_after : Summary)
+pub tells-taken : (s : Source) (w after : SenderState) (counts counts_after : Summary)
     (before : List Event) (x : Handed) (time place : ℕ)
     → StandsFor w (calls_in s.row s.links before time) →
     IsTaken (calls_in s.row s.links before time) place x.submission.vl (message_of x.submission)
@@ -174,7 +174,7 @@ tells-taken s w after counts counts_after before x time place st k stands counte
   counted = more ∙ ap one_taken counted ∙ sym (counts-more (Submitted x None) before);
 }
 
-pub tells-refused : (s : Source) (w after : Working) (counts counts_after : Summary)
+pub tells-refused : (s : Source) (w after : SenderState) (counts counts_after : Summary)
     (before : List Event) (x : Handed) (time : ℕ) (fault : SendFault)
     → StandsFor after (at (calls_in s.row s.links before time) x.submission.time) →
     (fault ≡ Memory → ⊥) → IsRefused (calls_in s.row s.links before time) x.submission.time
@@ -206,7 +206,7 @@ none_taken : (links : List LinkRow) → replicate (length links) (the_empty) ≡
 none_taken [] = refl
 none_taken (l ∷ links) = ap (λ (z : List (List send.Submission)). [] ∷ z) (none_taken links)
 
-pub stands-start : (t : Rows) (system : ℕ) (row : SystemRow) (w : Working)
+pub stands-start : (t : Rows) (system : ℕ) (row : SystemRow) (w : SenderState)
     → StandsFor w (no_calls t system row) → StandsFor w (calls_in row (links_from t.links system) [] 0)
 stands-start t system row w stands =
     subst (λ (z : List (List send.Submission)).
@@ -224,9 +224,9 @@ abbrev sent : ℕ → List ℕ → List ℕ → Sending
 sent time a b = record { time = time; a = a; b = b }
 
 -- its lines are those of the event
-lines-emitted : (s : Source) (w after : Working) (port until : ℕ) (before : List Event)
+lines-emitted : (s : Source) (w after : SenderState) (port until : ℕ) (before : List Event)
     (e : Emission) → port ≡ s.row.port
-    → (g : Emits (calls_in s.row s.links before (last_time w)) until e after) →
+    → (g : Gives (calls_in s.row s.links before (last_time w)) until e after) →
     emission_lines port (sending_of e) ≡ event_lines s.row (Emitted g.slot)
 lines-emitted s w after port until before e is g =
     let y = sent_in s.row g.slot in
@@ -235,10 +235,10 @@ lines-emitted s w after port until before e is g =
     ap (λ z. emission_lines port z) sending ∙ ap (λ p. emission_lines p y) is
 
 -- an emission more is told
-pub told-emitted : (s : Source) (w after : Working) (port until : ℕ) (counts counts_after : Summary)
+pub told-emitted : (s : Source) (w after : SenderState) (port until : ℕ) (counts counts_after : Summary)
     (old middle new : Option (List ℕ)) (before : List Event) (e : Emission) (lines : List ℕ) →
     HasTold s w port counts old middle before
-    → (g : Emits (calls_in s.row s.links before (last_time w)) until e after)
+    → (g : Gives (calls_in s.row s.links before (last_time w)) until e after)
     → last_time after ≡ until → lines ≡ emission_lines port (sending_of e) →
     counts_after ≡ one_emitted counts → Appends middle new lines
     → HasTold s after port counts_after old new (Emitted g.slot ∷ before)
@@ -267,17 +267,17 @@ some-of s old new events follow written =
       written = written;
     }
 
-pub told-some : (s : Source) (w : Working) (port : ℕ) (counts : Summary) (old new : Option (List ℕ))
+pub told-some : (s : Source) (w : SenderState) (port : ℕ) (counts : Summary) (old new : Option (List ℕ))
     (events : List Event) → HasTold s w port counts old new events
     → WritesSome s old new (submissions_in events)
 told-some s w port counts old new events h =
     some-of s old new events h.follow (front-whole old new (send_text s.row events) h.written)
 
 -- a beginning of its lines is written
-pub begun-emitted : (s : Source) (w after : Working) (port until : ℕ) (counts : Summary)
+pub begun-emitted : (s : Source) (w after : SenderState) (port until : ℕ) (counts : Summary)
     (old middle new : Option (List ℕ)) (before : List Event) (e : Emission) (lines : List ℕ) →
     HasTold s w port counts old middle before
-    → Emits (calls_in s.row s.links before (last_time w)) until e after
+    → Gives (calls_in s.row s.links before (last_time w)) until e after
     → lines ≡ emission_lines port (sending_of e) →
     AppendsFront middle new lines → WritesSome s old new (submissions_in before)
 begun-emitted s w after port until counts old middle new before e lines h g is written =
@@ -288,7 +288,7 @@ begun-emitted s w after port until counts old middle new before e lines h g is w
     (is ∙ lines-emitted s w after port until before e h.port_is g) written)))
 
 -- nothing more is emitted by then
-pub told-later : (s : Source) (w after : Working) (port until : ℕ) (counts : Summary)
+pub told-later : (s : Source) (w after : SenderState) (port until : ℕ) (counts : Summary)
     (old new : Option (List ℕ)) (events : List Event) → HasTold s w port counts old new events →
     StandsFor after (at (calls_in s.row s.links events (last_time w)) until)
     → last_time after ≡ until → last_time w ≤ until → HasTold s after port counts old new events
@@ -304,7 +304,7 @@ told-later s w after port until counts old new events h stands clock le = record
 -- ---- a submission more
 
 -- its line, if it has one, is written
-follow-submitted : (s : Source) (w after : Working) (port : ℕ) (counts counts_after : Summary)
+follow-submitted : (s : Source) (w after : SenderState) (port : ℕ) (counts counts_after : Summary)
     (old middle : Option (List ℕ)) (events : List Event) (x : Handed) (fault : Option SendFault) →
     (u : ToldUntil s x.submission.time w port counts old middle events)
     → last_time w ≡ x.submission.time → TellsSubmission s after counts_after u.told.more x fault →
@@ -318,7 +318,7 @@ follow-submitted s w after port counts counts_after old middle events x fault u 
   u.told.told.follow,
 )
 
-pub told-submitted : (s : Source) (w after : Working) (port port_after : ℕ)
+pub told-submitted : (s : Source) (w after : SenderState) (port port_after : ℕ)
     (counts counts_after : Summary) (old middle new : Option (List ℕ)) (events : List Event)
     (past : List Handed) (x : Handed) (fault : Option SendFault) →
     (u : ToldUntil s x.submission.time w port counts old middle events)
@@ -346,7 +346,7 @@ told-submitted s w after port port_after counts counts_after old middle new even
     }
 
 -- a beginning of it is
-pub begun-submitted : (s : Source) (w after : Working) (port : ℕ) (counts counts_after : Summary)
+pub begun-submitted : (s : Source) (w after : SenderState) (port : ℕ) (counts counts_after : Summary)
     (old middle new : Option (List ℕ)) (events : List Event) (past : List Handed) (x : Handed)
     (fault : Option SendFault) →
     (u : ToldUntil s x.submission.time w port counts old middle events)
@@ -368,7 +368,7 @@ begun-submitted s w after port counts counts_after old middle new events past x 
     }
 
 -- what is told of the emissions up to then
-pub until-some : (s : Source) (time : ℕ) (w : Working) (port : ℕ) (counts : Summary)
+pub until-some : (s : Source) (time : ℕ) (w : SenderState) (port : ℕ) (counts : Summary)
     (old new : Option (List ℕ)) (events : List Event) (past : List Handed)
     → ToldUntil s time w port counts old new events → submissions_in events ≡ past
     → WritesSome s old new past
@@ -378,7 +378,7 @@ until-some s time w port counts old new events past u are =
 
 -- ---- the start, the end, and between
 
-pub are-told-start : (s : Source) (w : Working) (port : ℕ) (output : Option (List ℕ))
+pub are-told-start : (s : Source) (w : SenderState) (port : ℕ) (output : Option (List ℕ))
     → StandsFor w (calls_in s.row s.links [] 0) → last_time w ≡ 0 → port ≡ s.row.port
     → AreTold s w port no_counts output output []
 are-told-start s w port output stands clock same = record {
@@ -395,7 +395,7 @@ are-told-start s w port output stands clock same = record {
   };
 }
 
-pub are-so-far : (s : Source) (w : Working) (port : ℕ) (counts : Summary)
+pub are-so-far : (s : Source) (w : SenderState) (port : ℕ) (counts : Summary)
     (old new : Option (List ℕ)) (past : List Handed) → AreTold s w port counts old new past
     → WritesSoFar s old new past
 are-so-far s w port counts old new past h = record {
@@ -405,7 +405,7 @@ are-so-far s w port counts old new past h = record {
   written = h.told.written;
 }
 
-pub are-some : (s : Source) (w : Working) (port : ℕ) (counts : Summary) (old new : Option (List ℕ))
+pub are-some : (s : Source) (w : SenderState) (port : ℕ) (counts : Summary) (old new : Option (List ℕ))
     (past : List Handed) → AreTold s w port counts old new past → WritesSome s old new past
 are-some s w port counts old new past h =
     subst (λ p. WritesSome s old new p) h.submissions_are
@@ -420,7 +420,7 @@ start-some s output = record {
 }
 
 -- all is told
-pub told-all : (s : Source) (until : ℕ) (w : Working) (port : ℕ) (counts : Summary)
+pub told-all : (s : Source) (until : ℕ) (w : SenderState) (port : ℕ) (counts : Summary)
     (old new : Option (List ℕ)) (events : List Event) (past : List Handed)
     → ToldUntil s until w port counts old new events → submissions_in events ≡ past →
     1200000000000000 ≤ until → WritesEvents s counts old new past

@@ -5,28 +5,29 @@ use Rattle.std.proofs.Common.{None, arith, IfSome, Bool, true, false, not, is_so
 use Rattle.std.specs.Prelude.{if◌then◌else◌}
 use Rattle.std.specs.Io.KnownBytes.{Appends}
 use Rattle.std.proofs.KnownBytes.{Appends-trans, Appends-nil}
+use Rattle.afdx_frame.specs.declared.by_side.BySide.{BySide}
 use Rattle.afdx_lists.specs.Calls.{AppendsFront}
 use Rattle.afdx_lists.specs.Lines.{lines_of}
 use Rattle.afdx_lists.specs.declared.fault.RunFault.TheVariants as run
+use Rattle.afdx_police.specs.declared.account.LinkAccount.{LinkAccount}
 use Rattle.afdx_police.specs.declared.shape.Reason.{Reason}
 use Rattle.afdx_police.specs.Arrival.{Arrival}
 use Rattle.afdx_police.specs.Rule.{Rule}
 use Rattle.afdx_police.specs.Verdicts.{verdict_in}
-use Rattle.afdx_replay.specs.declared.policing.run.Policers.{Policers}
 use Rattle.afdx_replay.specs.declared.summary.Summary.{Summary}
 use Rattle.afdx_run.specs.Listed.{frames}
 use Rattle.afdx_run.specs.Stops.{StopsAt}
 use Rattle.afdx_replay.specs.policing.Text.{text_of, count_judged, verdict_line}
 use Rattle.afdx_replay.specs.policing.Policed.{WritesText, WritesBeginning, WritesAll}
-use Rattle.afdx_replay.specs.policing.Policers.{HaveSeen}
+use Rattle.afdx_replay.specs.policing.Accounts.{HaveSeen}
 use Rattle.afdx_replay.specs.policing.Told.{HasTold}
 use Rattle.afdx_run.proofs.RunLemmas.{IsDone, stops-at-start}
 use Rattle.afdx_replay.proofs.TextLemmas.{text_of-none, text_of-more, judged-none}
 use Rattle.afdx_replay.proofs.TextLemmas.{judged-more, judged-same, front-whole, front-more}
 
-pub told-start : (rule : Rule) (policers : Policers) (output : Option (List ℕ))
-    → HaveSeen policers rule [] → HasTold rule policers 0 0 output output []
-told-start rule policers output seen = record {
+pub told-start : (rule : Rule) (accounts : BySide LinkAccount) (output : Option (List ℕ))
+    → HaveSeen accounts rule [] → HasTold rule accounts 0 0 output output []
+told-start rule accounts output seen = record {
   seen = seen;
   accepted_is = sym (judged-none is_none rule);
   dropped_is = sym (judged-none is_some rule);
@@ -75,14 +76,14 @@ counted rule x past (Some why) accepted dropped accepted' dropped' e k a d =
     )
 
 -- an arrival more, whose verdict's line was written
-pub told-next : (rule : Rule) (policers after : Policers) (accepted dropped accepted' dropped' : ℕ)
+pub told-next : (rule : Rule) (accounts after : BySide LinkAccount) (accepted dropped accepted' dropped' : ℕ)
     (old new newer : Option (List ℕ)) (x : Arrival) (past : List Arrival) (reason : Option Reason)
     (text : List ℕ)
-    → HasTold rule policers accepted dropped old new past → reason ≡ verdict_in rule past x
+    → HasTold rule accounts accepted dropped old new past → reason ≡ verdict_in rule past x
     → HaveSeen after rule (x ∷ past) → Counts reason accepted dropped accepted' dropped'
     → text ≡ verdict_line x.tag x.side reason → Appends new newer text
     → HasTold rule after accepted' dropped' old newer (x ∷ past)
-told-next rule policers after accepted dropped accepted' dropped' old new newer x past reason text h e seen k t w =
+told-next rule accounts after accepted dropped accepted' dropped' old new newer x past reason text h e seen k t w =
     let counts = counted rule x past reason accepted dropped accepted' dropped' e k h.accepted_is h.dropped_is in
     record {
       seen = seen;
@@ -94,31 +95,31 @@ told-next rule policers after accepted dropped accepted' dropped' old new newer 
     }
 
 -- of an arrival more, of whose verdict's line a beginning was written
-pub begun-next : (rule : Rule) (policers : Policers) (accepted dropped : ℕ)
+pub begun-next : (rule : Rule) (accounts : BySide LinkAccount) (accepted dropped : ℕ)
     (old new newer : Option (List ℕ)) (x : Arrival) (past : List Arrival) (reason : Option Reason)
     (text : List ℕ)
-    → HasTold rule policers accepted dropped old new past → reason ≡ verdict_in rule past x
+    → HasTold rule accounts accepted dropped old new past → reason ≡ verdict_in rule past x
     → text ≡ verdict_line x.tag x.side reason → AppendsFront new newer text
     → WritesBeginning rule old newer (x ∷ past)
-begun-next rule policers accepted dropped old new newer x past reason text h e t w =
+begun-next rule accounts accepted dropped old new newer x past reason text h e t w =
     subst (λ (t : List ℕ). AppendsFront old newer t) (sym (text_of-more rule x past reason e))
     (front-more old new newer (text_of rule past) (verdict_line x.tag x.side reason) h.written
     (subst (λ (t : List ℕ). AppendsFront new newer t) t w))
 
-pub told-text : (rule : Rule) (policers : Policers) (accepted dropped : ℕ)
+pub told-text : (rule : Rule) (accounts : BySide LinkAccount) (accepted dropped : ℕ)
     (old new : Option (List ℕ)) (past : List Arrival)
-    → HasTold rule policers accepted dropped old new past → WritesText rule old new past
-told-text rule policers accepted dropped old new past h = h.written
+    → HasTold rule accounts accepted dropped old new past → WritesText rule old new past
+told-text rule accounts accepted dropped old new past h = h.written
 
-pub told-front : (rule : Rule) (policers : Policers) (accepted dropped : ℕ)
+pub told-front : (rule : Rule) (accounts : BySide LinkAccount) (accepted dropped : ℕ)
     (old new : Option (List ℕ)) (past : List Arrival)
-    → HasTold rule policers accepted dropped old new past → WritesBeginning rule old new past
-told-front rule policers accepted dropped old new past h = front-whole old new (text_of rule past) h.written
+    → HasTold rule accounts accepted dropped old new past → WritesBeginning rule old new past
+told-front rule accounts accepted dropped old new past h = front-whole old new (text_of rule past) h.written
 
 -- all arrivals are told
-done_all : (rule : Rule) (policers : Policers) (accepted dropped n : ℕ) (lines : List (List ℕ))
+done_all : (rule : Rule) (accounts : BySide LinkAccount) (accepted dropped n : ℕ) (lines : List (List ℕ))
     (old new : Option (List ℕ)) (summary : Summary)
-    → IsDone frames (HasTold rule policers accepted dropped old new) n lines
+    → IsDone frames (HasTold rule accounts accepted dropped old new) n lines
     → summary ≡ record {
       lines = n;
       accepted = accepted;
@@ -129,15 +130,15 @@ done_all : (rule : Rule) (policers : Policers) (accepted dropped n : ℕ) (lines
       delivered = 0;
     }
     → WritesAll rule lines old new summary
-done_all rule policers accepted dropped n lines old new summary h e = record {
+done_all rule accounts accepted dropped n lines old new summary h e = record {
   sound = h.sound;
   written = h.are_told.written;
   counted = cc (e, h.all, h.are_told.accepted_is, h.are_told.dropped_is);
 }
 
-pub told-done : (rule : Rule) (policers : Policers) (accepted dropped n : ℕ)
+pub told-done : (rule : Rule) (accounts : BySide LinkAccount) (accepted dropped n : ℕ)
     (input old new : Option (List ℕ)) (summary : Summary)
-    → IfSome input (λ bytes. IsDone frames (HasTold rule policers accepted dropped old new) n
+    → IfSome input (λ bytes. IsDone frames (HasTold rule accounts accepted dropped old new) n
     (lines_of bytes)) → summary ≡ record {
       lines = n;
       accepted = accepted;
@@ -148,9 +149,9 @@ pub told-done : (rule : Rule) (policers : Policers) (accepted dropped n : ℕ)
       delivered = 0;
     }
     → IfSome input (λ bytes. WritesAll rule (lines_of bytes) old new summary)
-told-done rule policers accepted dropped n None old new summary h e = tt
-told-done rule policers accepted dropped n (Some bytes) old new summary h e =
-    done_all rule policers accepted dropped n (lines_of bytes) old new summary h e
+told-done rule accounts accepted dropped n None old new summary h e = tt
+told-done rule accounts accepted dropped n (Some bytes) old new summary h e =
+    done_all rule accounts accepted dropped n (lines_of bytes) old new summary h e
 
 -- memory ran out before anything was read
 pub stops-start : (rule : Rule) (input output : Option (List ℕ)) →

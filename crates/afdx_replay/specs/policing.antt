@@ -2,4 +2,4 @@
 pub mod Text
 pub mod Told
 pub mod Policed
-pub mod Policers
+pub mod Accounts

@@ -20,7 +20,7 @@ use Rattle.afdx_send.specs.declared.fault.SendFault.TheVariants.{TooLarge, Queue
 use Rattle.afdx_send.specs.declared.line.Line.{Line}
 use Rattle.afdx_send.specs.declared.regulator.Queued.{Queued}
 use Rattle.afdx_send.specs.declared.regulator.Regulator.{Regulator}
-use Rattle.afdx_send.specs.declared.working.Working.{Working}
+use Rattle.afdx_send.specs.declared.sender_state.SenderState.{SenderState}
 use Rattle.afdx_send.specs.Agenda.{NoneBefore, IsPlayed, nexts}
 use Rattle.afdx_send.specs.Emissions.{own, own_submissions}
 use Rattle.afdx_send.specs.Lines.{LineStands, LineAdmits, LineRefuses, CanTake, held_by}
@@ -82,12 +82,12 @@ push_later p new index c m k earliest late come t e =
         ∙ e1 in let g : n ≡ b = cc f in let a : n.time ≡ b.time = ap (λ z. z.time) g in
         old_next p index c t b bs has late (omega arith) over
 
-line_next : (w : Working) (place : ℕ) (line : Line) → slice_get w.lines.items place ≡ Some line
+line_next : (w : SenderState) (place : ℕ) (line : Line) → slice_get w.lines.items place ≡ Some line
     → slice_get (nexts_of w) place ≡ Some (next_time_of line.regulator)
 line_next w place line has = slice_get-map (λ l. next_time_of l.regulator) w.lines.items place
     ∙ ap (λ z. option_map (λ l. next_time_of l.regulator) z) has
 
-pub none_after : (w : Working) (place index c : ℕ) (line line' : Line) (m : Queued)
+pub none_after : (w : SenderState) (place index c : ℕ) (line line' : Line) (m : Queued)
     → slice_get w.lines.items place ≡ Some line → Takes line line' index m
     → NoneBefore (nexts_of w) c → c ≤ m.time →
     NoneBefore (map (λ l. next_time_of l.regulator) (slice_set w.lines.items place line')) c
@@ -104,7 +104,7 @@ none_after w place index c line line' m has k none come i u e =
     ]
 
 -- a link takes a submission
-pub record Adds (w : Working) (place index : ℕ) (line line' : Line) (m : Queued) (ag : Agenda) : Type 0 where
+pub record Adds (w : SenderState) (place index : ℕ) (line line' : Line) (m : Queued) (ag : Agenda) : Type 0 where
   pub has : slice_get w.lines.items place ≡ Some line
   pub takes : Takes line line' index m
   pub early : m.time ≤ 1000000000000000
@@ -113,7 +113,7 @@ pub record Adds (w : Working) (place index : ℕ) (line line' : Line) (m : Queue
   pub agenda : nexts ag ≡ slice_set (nexts w.agenda) place (next_time_of line'.regulator)
   pub agenda_count : ag.count ≡ w.agenda.count
 
-pub submission_stands : (w : Working) (h : SenderHistory) (place index : ℕ) (line line' : Line)
+pub submission_stands : (w : SenderState) (h : SenderHistory) (place index : ℕ) (line line' : Line)
     (m : Queued) (ag : Agenda) → StandsFor w h → Adds w place index line line' m ag →
     StandsFor (record w { lines = with_item w.lines place line'; agenda = ag })
     (with_submission h place (submission_of (index + 1) m))
@@ -183,7 +183,7 @@ submission_stands w h place index line line' m ag st k =
       port_clock = (let p = st.port_clock in omega arith);
     }
 
-pub stays_idle : (w : Working) (place index : ℕ) (line line' : Line) (m : Queued) (ag : Agenda)
+pub stays_idle : (w : SenderState) (place index : ℕ) (line line' : Line) (m : Queued) (ag : Agenda)
     → Adds w place index line line' m ag → IsIdle w
     → IsIdle (record w { lines = with_item w.lines place line'; agenda = ag })
 stays_idle w place index line line' m ag k idle = record {
@@ -252,14 +252,14 @@ next_same line line' k =
     ap (λ q. option_map (λ t. max t line'.regulator.earliest) (first_time None q)) k.waiting
     ∙ ap (λ e. option_map (λ t. max t e) (first_time None (waiting_of line.regulator))) k.earliest
 
-nexts_same : (w : Working) (place : ℕ) (line line' : Line)
+nexts_same : (w : SenderState) (place : ℕ) (line line' : Line)
     → line ≡ slice_index_or w.lines.items place line → IsSame line line'
     → map (λ l. next_time_of l.regulator) (slice_set w.lines.items place line') ≡ nexts_of w
 nexts_same w place line line' read k =
     map-set_same (λ l. next_time_of l.regulator) w.lines.items place line' line
     (next_same line line' k ∙ ap (λ z. next_time_of z.regulator) read)
 
-pub same_stands : (w : Working) (h : SenderHistory) (place : ℕ) (line line' : Line) → StandsFor w h
+pub same_stands : (w : SenderState) (h : SenderHistory) (place : ℕ) (line line' : Line) → StandsFor w h
     → slice_get w.lines.items place ≡ Some line → line ≡ slice_index_or w.lines.items place line
     → IsSame line line' →
     StandsFor (record w { lines = with_item w.lines place line' }) h
@@ -298,7 +298,7 @@ same_stands w h place line line' st has read k = record {
   port_clock = st.port_clock;
 }
 
-pub same_idle : (w : Working) (place : ℕ) (line line' : Line)
+pub same_idle : (w : SenderState) (place : ℕ) (line line' : Line)
     → line ≡ slice_index_or w.lines.items place line → IsSame line line' → IsIdle w
     → IsIdle (record w { lines = with_item w.lines place line' })
 same_idle w place line line' read k idle = record {
@@ -395,7 +395,7 @@ count_is ss rs c from (s ∷ rest) ms g h =
             let at : h.0 ≡ from = omega arith in
             let k = rec ms (subst (λ (z : ℕ). IsQueue ss rs c (z + 1) ms) at h.2) in omega arith
 
-pub unreleased : (w : Working) (h : SenderHistory) (st : StandsFor w h) (place index : ℕ) (line : Line)
+pub unreleased : (w : SenderState) (h : SenderHistory) (st : StandsFor w h) (place index : ℕ) (line : Line)
     (l : LinkRow) (ms : List Queued) → IsIdle w
     → LineStands line l (own_submissions h.taken place) (own place st.released) →
     HasQueue (waiting_of line.regulator) index ms → AreUnreleased h w.clock place (index + 1) (length ms)
@@ -415,7 +415,7 @@ unreleased w h st place index line l ms idle ls has = (
     plus_zero : (i : ℕ) → i + 0 ≡ i
     plus_zero i = omega arith
 
-pub frames_more : (w : Working) (place : ℕ) (line line' : Line) (ag : Agenda)
+pub frames_more : (w : SenderState) (place : ℕ) (line line' : Line) (ag : Agenda)
     → slice_get w.lines.items place ≡ Some line → held_by line'.regulator ≡ held_by line.regulator + 1 →
     HoldsMore w (record w { lines = with_item w.lines place line'; agenda = ag })
 frames_more w place line line' ag has one = let m = held_more w place line line' has one in
@@ -430,7 +430,7 @@ queue_at line index lt = (
 )
 
 -- why a line refuses a message is why its sender does
-pub refuses : (w : Working) (h : SenderHistory) (st : StandsFor w h) (place vl sub n : ℕ) (line : Line)
+pub refuses : (w : SenderState) (h : SenderHistory) (st : StandsFor w h) (place vl sub n : ℕ) (line : Line)
     (fault : SendFault) → IsIdle w → IsPlaceOf h.links vl (Some place)
     → slice_get w.lines.items place ≡ Some line →
     LineRefuses line sub n fault → IsRefused h w.clock vl sub n fault
@@ -469,7 +469,7 @@ refuses w h st place vl (suc index) n line QueueFull idle p has r =
 refuses w h st place vl sub n line Memory idle p has r = absurd r
 
 -- what a line admits its link admits
-pub admits : (w : Working) (h : SenderHistory) (st : StandsFor w h) (place vl sub n : ℕ)
+pub admits : (w : SenderState) (h : SenderHistory) (st : StandsFor w h) (place vl sub n : ℕ)
     (line : Line) → IsIdle w → IsPlaceOf h.links vl (Some place) → slice_get w.lines.items place
     ≡ Some line → LineAdmits line sub n → LinkTakes h w.clock place vl sub n
 admits w h st place vl zero n line idle p has a = absurd (let b = a.is_sub.0 in omega arith)
@@ -491,7 +491,7 @@ admits w h st place vl (suc index) n line idle p has a =
       room = a.room index q.0 (omega arith) q.1;
     }
 
-pub place_below : (w : Working) (h : SenderHistory) (vl place : ℕ) → StandsFor w h
+pub place_below : (w : SenderState) (h : SenderHistory) (vl place : ℕ) → StandsFor w h
     → IsPlaceOf h.links vl (Some place) → place < length w.lines.items
 place_below w h vl place st p = let a = slice_get_within h.links place p.0 p.1 in let c = st.count in omega arith
 
@@ -513,7 +513,7 @@ can_take line index sub m n a e k udp bytes = record {
   room = λ ms h. a.room index ms e h;
 }
 
-pub frames_same : (w : Working) (place : ℕ) (line line' : Line) → slice_get w.lines.items place
+pub frames_same : (w : SenderState) (place : ℕ) (line line' : Line) → slice_get w.lines.items place
     ≡ Some line → IsSame line line' → HoldsSame w (record w { lines = with_item w.lines place line' })
 frames_same w place line line' has k =
     let f : Line → ℕ = λ l. held_by l.regulator in

@@ -10,7 +10,7 @@ use Rattle.afdx_port.specs.Schedule.{Turn, IsSchedule}
 use Rattle.afdx_port.specs.declared.left.Left.{Left}
 use Rattle.afdx_send.specs.declared.line.Line.{Line}
 use Rattle.afdx_send.specs.declared.regulator.Queued.{Queued}
-use Rattle.afdx_send.specs.declared.working.Working.{Working}
+use Rattle.afdx_send.specs.declared.sender_state.SenderState.{SenderState}
 use Rattle.afdx_send.specs.Agenda.{NoneBefore}
 use Rattle.afdx_send.specs.Emissions.{own, own_submissions, entries_of}
 use Rattle.afdx_send.specs.Frames.{Frame}
@@ -21,7 +21,7 @@ use Rattle.afdx_send.proofs.RegulatorLemmas.{not_none}
 use Rattle.afdx_send.proofs.ReleaseLemmas.{waits}
 use Rattle.afdx_send.proofs.StandLemmas.{in_limits}
 
-all_released : (w : Working) (h : SenderHistory) (st : StandsFor w h) (t : ℕ) → NoneBefore (nexts_of w) t
+all_released : (w : SenderState) (h : SenderHistory) (st : StandsFor w h) (t : ℕ) → NoneBefore (nexts_of w) t
     → 1000032768000000 < t → (i place : ℕ) (l : LinkRow) → slice_get h.links i ≡ Some l
     → place < length (own_submissions h.taken i) → has_release (own i st.released) place ≡ true
 all_released w h st t none late i place l row lt =
@@ -56,7 +56,7 @@ none_is : {Y : Type 0} (o : Option Y) (P : Type 0) → o ≡ None → IfNone o P
 none_is None P e h = h
 none_is (Some y) P e h = absurd (cc e)
 
-pub all_emitted : (w : Working) (h : SenderHistory) (st : StandsFor w h) (t : ℕ)
+pub all_emitted : (w : SenderState) (h : SenderHistory) (st : StandsFor w h) (t : ℕ)
     (left : Option (Left Frame)) → w.ready ≡ None → NoneBefore (nexts_of w) t → 1200000000000000 ≤ t
     → left ≡ None →
     IfNone left (IsSchedule (byte_ns h.system) (entries_of st.released) st.given) → AreAllEmitted h

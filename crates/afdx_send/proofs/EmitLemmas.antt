@@ -21,11 +21,11 @@ use Rattle.afdx_port.specs.declared.left.Left.{Left}
 use Rattle.afdx_port.specs.declared.port_state.PortState.{PortState}
 use Rattle.afdx_send.specs.declared.line.Line.{Line}
 use Rattle.afdx_send.specs.declared.sender.Emission.{Emission}
-use Rattle.afdx_send.specs.declared.working.Working.{Working}
+use Rattle.afdx_send.specs.declared.sender_state.SenderState.{SenderState}
 use Rattle.afdx_send.specs.Emissions.{LinkRelease, own, AreAllReleases, IsNextOf, entry_for, entries_of, IsSending}
 use Rattle.afdx_send.specs.Frames.{Frame, IsReadAs, facts, address_with}
 use Rattle.afdx_send.specs.Releases.{Submission, Release}
-use Rattle.afdx_send.specs.Sender.{SenderHistory, at, HasGiven, IsIdle, IsNextIn, StandsFor, Emits, port_history, sending_of}
+use Rattle.afdx_send.specs.Sender.{SenderHistory, at, HasGiven, IsIdle, IsNextIn, StandsFor, Gives, port_history, sending_of}
 use Rattle.afdx_send.proofs.LineLemmas.{mul_most}
 use Rattle.afdx_send.proofs.NextLemmas.{AllSubs, comparable, append_none, append_append}
 use Rattle.afdx_send.proofs.OwnLemmas.{next_later}
@@ -176,7 +176,7 @@ abbrev pub QuietIsNext : Type 0
 QuietIsNext = (p : PortState Frame) (h : port.PortHistory Frame) (t : ℕ) → port.StandsFor facts p h →
     (held.IsQuiet facts p t ↔ ((s : Turn Frame) → IsNext h.byte_ns h.entries h.taken s → IsAfter t (due_at s)))
 
-pub all_subs : (w : Working) (h : SenderHistory) → StandsFor w h → AllSubs h.links h.taken
+pub all_subs : (w : SenderState) (h : SenderHistory) → StandsFor w h → AllSubs h.links h.taken
 all_subs w h st i l g j s k = by_line (slice_get w.lines.items i) refl
   where
     none : (xs : List Line) (m : ℕ) → m < length xs → slice_get xs m ≡ None → ⊥
@@ -198,7 +198,7 @@ after_is t b s slot h = by s.too_old slot.kept h
     by false e k = omega arith
 
 -- an idle sender has no further emission by the last time used
-pub no_more : (w : Working) (h : SenderHistory) → QuietIsNext → StandsFor w h → IsIdle w
+pub no_more : (w : SenderState) (h : SenderHistory) → QuietIsNext → StandsFor w h → IsIdle w
     → (s : Turn Frame) → IsNextIn h s → w.clock < s.end
 no_more w h law st idle s n =
     let b = byte_ns h.system in
@@ -247,7 +247,7 @@ pub record LeftNext (h : SenderHistory) (until : ℕ) (left : Left Frame) (given
   pub given_is : given ≡ slot ∷ h.emitted
   pub left_is : left ≡ port.left_of slot
 
-pub left_next : (w : Working) (h : SenderHistory) (until : ℕ) (left : Left Frame)
+pub left_next : (w : SenderState) (h : SenderHistory) (until : ℕ) (left : Left Frame)
     → (st : StandsFor w (at h until)) → w.ready ≡ Some left →
     ((p : PortState Frame) (hp : port.PortHistory Frame) → port.StandsFor facts p hp
     → AreTurns hp.byte_ns hp.entries hp.taken) → LeftNext h until left st.given
@@ -268,7 +268,7 @@ left_next w h until left st ready law =
     }
 
 -- what is ready is the next emission
-pub emits : (w : Working) (h : SenderHistory) (until : ℕ) (left : Left Frame) (e : Emission)
+pub emits : (w : SenderState) (h : SenderHistory) (until : ℕ) (left : Left Frame) (e : Emission)
     → StandsFor w (at h until) → w.ready ≡ Some left →
     ((p : PortState Frame) (hp : port.PortHistory Frame) → port.StandsFor facts p hp
     → AreTurns hp.byte_ns hp.entries hp.taken) →
@@ -278,7 +278,7 @@ pub emits : (w : Working) (h : SenderHistory) (until : ℕ) (left : Left Frame) 
     e.b.items ≡ built_frame (address_with w.system_id w.partition left.item) left.item.number B
     left.item.message.payload →
     IsReadAs e.a.items left.item → IsReadAs e.b.items left.item →
-    IsSending w.system_id w.partition left.end left.item (sending_of e) → Emits h until e (record w { ready = None })
+    IsSending w.system_id w.partition left.end left.item (sending_of e) → Gives h until e (record w { ready = None })
 emits w h until left e st ready law time vl a b a_read b_read sending =
     let g = left_next w h until left st ready law in
     let item : left.item ≡ g.slot.entry.item = ap (λ z. z.item) g.left_is in

@@ -9,7 +9,7 @@ use Rattle.afdx_bounds.specs.Sender.{SenderIsNeverFull}
 use Rattle.afdx_port.specs.Schedule.{Entry, IsSchedule, IsLost}
 use Rattle.afdx_port.specs.ScheduleOf.{AreInOrder, schedule_of}
 use Rattle.afdx_send.specs.declared.line.Line.{Line}
-use Rattle.afdx_send.specs.declared.working.Working.{Working}
+use Rattle.afdx_send.specs.declared.sender_state.SenderState.{SenderState}
 use Rattle.afdx_send.specs.Agenda.{IsSoonest}
 use Rattle.afdx_send.specs.Emissions.{LinkRelease, own, own_submissions, entry_for, entries_of}
 use Rattle.afdx_send.specs.Frames.{Frame, facts}
@@ -35,7 +35,7 @@ order_push es e t order come late i j c d le h k = elim (get_either es e j d k) 
   ]
 ]
 
-pub all_fit : (w : Working) (h : SenderHistory) → StandsFor w h → AllFit h.links h.taken
+pub all_fit : (w : SenderState) (h : SenderHistory) → StandsFor w h → AllFit h.links h.taken
 all_fit w h st i j l s g k = by_line (slice_get w.lines.items i) refl
   where
     none : (xs : List Line) (m : ℕ) → m < length xs → slice_get xs m ≡ None → ⊥
@@ -48,7 +48,7 @@ all_fit w h st i j l s g k = by_line (slice_get w.lines.items i) refl
         (let m = slice_get_within h.links i l g in let c = st.count in omega arith) e)
     by_line (Some line) e = (st.lines i line l e g).fits j s k
 
-pub kept : (w : Working) (h : SenderHistory) (st : StandsFor w h) (time place : ℕ) (line line' : Line)
+pub kept : (w : SenderState) (h : SenderHistory) (st : StandsFor w h) (time place : ℕ) (line line' : Line)
     (f : Frame) → SenderIsNeverFull Frame →
     ((b : ℕ) (es : List (Entry Frame)) → AreInOrder es → IsSchedule b es (schedule_of b es))
     → IsSoonest (nexts_of w) time place → IsDueLine w time place line →

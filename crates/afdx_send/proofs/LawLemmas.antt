@@ -14,7 +14,7 @@ use Rattle.afdx_port.specs.History as port
 use Rattle.afdx_port.specs.Schedule.{Entry, Turn, IsNext, AreTurns, has_turn}
 use Rattle.afdx_port.specs.declared.left.Left.{Left}
 use Rattle.afdx_port.specs.declared.port_state.PortState.{PortState}
-use Rattle.afdx_send.specs.declared.working.Working.{Working}
+use Rattle.afdx_send.specs.declared.sender_state.SenderState.{SenderState}
 use Rattle.afdx_send.specs.Emissions.{LinkRelease, own, AreAllReleases, entry_for}
 use Rattle.afdx_send.specs.Emissions.{entries_of}
 use Rattle.afdx_send.specs.Frames.{Frame, facts}
@@ -33,7 +33,7 @@ TakenAreTurns = (p : PortState Frame) (h : port.PortHistory Frame) → port.Stan
     → AreTurns h.byte_ns h.entries h.taken
 
 -- the emissions are turns
-pub emitted_are : (w : Working) (h : SenderHistory) → TakenAreTurns → (st : StandsFor w h)
+pub emitted_are : (w : SenderState) (h : SenderHistory) → TakenAreTurns → (st : StandsFor w h)
     → AreTurns (byte_ns h.system) (entries_of st.released) h.emitted
 emitted_are w h law st =
     by w.ready st.given st.has_given
@@ -48,7 +48,7 @@ emitted_are w h law st =
         (subst (λ (z : List (Turn Frame)). AreTurns (byte_ns h.system) (entries_of st.released) z)
         g.1 are).1
 
-pub emitted_in_time : (w : Working) (h : SenderHistory) → TakenAreTurns → SenderIsInTime Frame
+pub emitted_in_time : (w : SenderState) (h : SenderHistory) → TakenAreTurns → SenderIsInTime Frame
     → StandsFor w h → All (λ s. s.end
     ≤ s.entry.time + one_of_each (byte_ns h.system) (flows_of h.system h.links)) h.emitted
 emitted_in_time w h law in_time st =

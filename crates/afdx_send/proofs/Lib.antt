@@ -14,6 +14,7 @@ pub mod NewLemmas
 pub mod LawLemmas
 pub mod MessageLemmas
 pub mod StreamLemmas
+mod CallLemmas
 mod NumberLemmas
 mod BuildableLemmas
 mod DoneLemmas

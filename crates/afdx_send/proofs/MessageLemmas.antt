@@ -7,7 +7,7 @@ use Rattle.afdx_config.specs.Lawful.{IsSystem, IsLink}
 use Rattle.afdx_config.specs.Rows.{SystemRow, LinkRow}
 use Rattle.afdx_config.specs.SentList.{Message, CanBeSent}
 use Rattle.afdx_admit.proofs.TakenLemmas.{at_place}
-use Rattle.afdx_send.specs.declared.working.Working.{Working}
+use Rattle.afdx_send.specs.declared.sender_state.SenderState.{SenderState}
 use Rattle.afdx_send.specs.Emissions.{own_submissions}
 use Rattle.afdx_send.specs.Releases.{Submission, IsMessage}
 use Rattle.afdx_send.specs.Sender.{SenderHistory, StandsFor}
@@ -17,7 +17,7 @@ abbrev pub AllMessages : List LinkRow → List (List Submission) → Type 0
 AllMessages links taken = (i j : ℕ) (l : LinkRow) (s : Submission) → slice_get links i ≡ Some l
     → slice_get (own_submissions taken i) j ≡ Some s → IsMessage s.message
 
-pub all_messages : (w : Working) (h : SenderHistory) → StandsFor w h → AllMessages h.links h.taken
+pub all_messages : (w : SenderState) (h : SenderHistory) → StandsFor w h → AllMessages h.links h.taken
 all_messages w h st i j l s row here =
     let below = slice_get_within h.links i l row in
     let count = st.count in

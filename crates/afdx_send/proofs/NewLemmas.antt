@@ -27,7 +27,7 @@ use Rattle.afdx_port.specs.Held as held
 use Rattle.afdx_port.specs.History as port
 use Rattle.afdx_send.specs.declared.line.Line.{Line}
 use Rattle.afdx_send.specs.declared.regulator.Queued.{Queued}
-use Rattle.afdx_send.specs.declared.working.Working.{Working}
+use Rattle.afdx_send.specs.declared.sender_state.SenderState.{SenderState}
 use Rattle.afdx_send.specs.Agenda.{IsPlayed, nexts}
 use Rattle.afdx_send.specs.Emissions.{LinkRelease, own_submissions, AreAllReleases, entries_of}
 use Rattle.afdx_send.specs.Frames.{Frame, facts}
@@ -261,7 +261,7 @@ none_taken (suc n) zero = refl
 none_taken (suc n) (suc i) = none_taken n i
 
 -- a new sender
-pub record IsNew (w : Working) (t : Rows) (place : ℕ) (s : SystemRow) : Type 0 where
+pub record IsNew (w : SenderState) (t : Rows) (place : ℕ) (s : SystemRow) : Type 0 where
   pub system_id : w.system_id ≡ s.id
   pub partition : w.partition ≡ s.partition
   pub clock : w.clock ≡ 0
@@ -276,7 +276,7 @@ pub record IsNew (w : Working) (t : Rows) (place : ℕ) (s : SystemRow) : Type 0
   pub port_clock : held.last_time w.output ≡ 0
   pub empty : held.frames_held w.output ≡ 0
 
-pub stands_new : (w : Working) (t : Rows) (place : ℕ) (s : SystemRow)
+pub stands_new : (w : SenderState) (t : Rows) (place : ℕ) (s : SystemRow)
     → AreSent s (links_from t.links place) → IsNew w t place s → StandsFor w (no_calls t place s)
 stands_new w t place s are n =
     let links = links_from t.links place in
@@ -335,7 +335,7 @@ stands_new w t place s are n =
         (r.0, r.1, sym is ∙ h.2))
 
 -- it has no emission
-pub quiet_new : (w : Working) (t : Rows) (place : ℕ) (s : SystemRow)
+pub quiet_new : (w : SenderState) (t : Rows) (place : ℕ) (s : SystemRow)
     → StandsFor w (no_calls t place s) → (u : ℕ) → IsQuiet w u
 quiet_new w t place s st u = (
   no_calls t place s,
@@ -353,7 +353,7 @@ quiet_new w t place s st u = (
         subst (λ (z : List Submission). slice_get z x.release.place ≡ Some x.release.submission)
         (none_taken (length (links_from t.links place)) x.place) a in cc b
 
-pub held_new : (w : Working) (t : Rows) (place : ℕ) (s : SystemRow) → IsNew w t place s → frames_held w ≡ 0
+pub held_new : (w : SenderState) (t : Rows) (place : ℕ) (s : SystemRow) → IsNew w t place s → frames_held w ≡ 0
 held_new w t place s n =
     let a : messages_held w ≡ 0 = all_empty (links_from t.links place) w.lines.items n.lines in
     let b : ready_count w.ready ≡ 0 = ap ready_count n.ready in

@@ -24,7 +24,7 @@ use Rattle.afdx_port.specs.declared.left.Left.{Left}
 use Rattle.afdx_port.specs.declared.port_state.PortState.{PortState}
 use Rattle.afdx_send.specs.declared.agenda.Agenda.{Agenda}
 use Rattle.afdx_send.specs.declared.line.Line.{Line}
-use Rattle.afdx_send.specs.declared.working.Working.{Working}
+use Rattle.afdx_send.specs.declared.sender_state.SenderState.{SenderState}
 use Rattle.afdx_send.specs.Agenda.{NoneBefore, IsPlayed, IsSoonest, nexts}
 use Rattle.afdx_send.specs.Emissions.{LinkRelease, own, own_submissions, IsNextOf, IsNextOfAll}
 use Rattle.afdx_send.specs.Emissions.{released_frame, entry_for, entries_of}
@@ -42,7 +42,7 @@ pub read_at : {Y : Type 0} (xs : List Y) (i : ℕ) (x : Y) → i < length xs →
 read_at xs i x lt e = slice_get-get_or xs i x lt ∙ ap (λ z. Some z) (sym e)
 
 -- the last time used moves on
-pub later : (w : Working) (h : SenderHistory) (t : ℕ) → h.time ≤ t → StandsFor w h
+pub later : (w : SenderState) (h : SenderHistory) (t : ℕ) → h.time ≤ t → StandsFor w h
     → StandsFor (record w { clock = t }) (at h t)
 later w h t le st = record {
   system_id = st.system_id;
@@ -74,7 +74,7 @@ by_end true e u h = omega arith
 by_end false e u h = omega arith
 
 -- the port gives its next frame, or none
-pub take_stands : (w : Working) (r : Option (Left Frame)) (out : PortState Frame) (until : ℕ)
+pub take_stands : (w : SenderState) (r : Option (Left Frame)) (out : PortState Frame) (until : ℕ)
     → w.ready ≡ None → out.clock ≡ until → until ≤ w.clock → NoneBefore (nexts_of w) until →
     ((hp : port.PortHistory Frame) → port.StandsFor facts w.output hp
     → IfSome r (λ left. port.Gives facts hp until left out)) →
@@ -139,14 +139,14 @@ take_stands w (Some left) out until idle clock early timely given none h st =
     }
 
 -- the line and the row of one place
-pub record IsAt (w : Working) (h : SenderHistory) (st : StandsFor w h) (place : ℕ) (line : Line) : Type 0 where
+pub record IsAt (w : SenderState) (h : SenderHistory) (st : StandsFor w h) (place : ℕ) (line : Line) : Type 0 where
   pub row : LinkRow
   pub link : slice_get h.links place ≡ Some row
   pub stands : LineStands line row (own_submissions h.taken place) (own place st.released)
   pub systems : ℕ
   pub lawful : IsLink systems row
 
-pub line_at : (w : Working) (h : SenderHistory) (st : StandsFor w h) (place : ℕ) (line : Line)
+pub line_at : (w : SenderState) (h : SenderHistory) (st : StandsFor w h) (place : ℕ) (line : Line)
     → slice_get w.lines.items place ≡ Some line → IsAt w h st place line
 line_at w h st place line has =
     let below : place < length h.links =
@@ -164,7 +164,7 @@ line_at w h st place line has =
         record { row = l; link = e; stands = st.lines place line l has e; systems = k.0; lawful = k.1 }
 
 -- its next release is the link's next
-pub next_at : (w : Working) (h : SenderHistory) (st : StandsFor w h) (i : ℕ) (l : LinkRow) (r : Release)
+pub next_at : (w : SenderState) (h : SenderHistory) (st : StandsFor w h) (i : ℕ) (l : LinkRow) (r : Release)
     → slice_get h.links i ≡ Some l → IsNextOf h.taken st.released i l r → slice_get (nexts_of w) i
     ≡ Some (Some r.time)
 next_at w h st i l r g n = by_line (slice_get w.lines.items i) refl
@@ -191,7 +191,7 @@ next_at w h st i l r g n = by_line (slice_get w.lines.items i) refl
         (own i st.released) r ls.regulates n')
 
 -- the next release of all
-pub next_of_all : (w : Working) (h : SenderHistory) (st : StandsFor w h) (t place : ℕ) (line : Line)
+pub next_of_all : (w : SenderState) (h : SenderHistory) (st : StandsFor w h) (t place : ℕ) (line : Line)
     (l : LinkRow) (f : Frame) (new : Line) → IsSoonest (nexts_of w) t place →
     slice_get h.links place ≡ Some l
     → (k : LineReleases line l (own_submissions h.taken place) (own place st.released) t f new) →
@@ -205,13 +205,13 @@ next_of_all w h st t place line l f new s row k = record {
 }
 
 -- no link releases before the last time used: so none releases before it that isn't released yet
-pub none_before : (w : Working) (h : SenderHistory) (st : StandsFor w h) (t : ℕ)
+pub none_before : (w : SenderState) (h : SenderHistory) (st : StandsFor w h) (t : ℕ)
     → NoneBefore (nexts_of w) t → (i : ℕ) (l : LinkRow) (r : Release) → slice_get h.links i ≡ Some l
     → IsNextOf h.taken st.released i l r → t ≤ r.time
 none_before w h st t none i l r g n = none i r.time (next_at w h st i l r g n)
 
 -- each link stands as before, but for the one that released
-line_after : (w : Working) (h : SenderHistory) (st : StandsFor w h) (place : ℕ) (line' : Line)
+line_after : (w : SenderState) (h : SenderHistory) (st : StandsFor w h) (place : ℕ) (line' : Line)
     (l : LinkRow) (r : Release) → slice_get h.links place ≡ Some l →
     LineStands line' l (own_submissions h.taken place) (r ∷ own place st.released) →
     (i : ℕ) (line1 : Line) (l1 : LinkRow) → slice_get (slice_set w.lines.items place line') i
@@ -245,7 +245,7 @@ line_after w h st place line' l r row stands i line1 l1 a b =
     ]
 
 -- after it, no link releases before its time
-timely_after : (w : Working) (time place : ℕ) (line' : Line) → IsSoonest (nexts_of w) time place
+timely_after : (w : SenderState) (time place : ℕ) (line' : Line) → IsSoonest (nexts_of w) time place
     → ((t : ℕ) → next_time_of line'.regulator ≡ Some t → time ≤ t) →
     NoneBefore (map (λ l. next_time_of l.regulator) (slice_set w.lines.items place line')) time
 timely_after w time place line' soonest later i u e =
@@ -259,12 +259,12 @@ timely_after w time place line' soonest later i u e =
     ]
 
 -- the line that is read is the one that releases next
-pub record IsDueLine (w : Working) (time place : ℕ) (line : Line) : Type 0 where
+pub record IsDueLine (w : SenderState) (time place : ℕ) (line : Line) : Type 0 where
   pub below : place < length w.lines.items
   pub has : slice_get w.lines.items place ≡ Some line
   pub due : next_time_of line.regulator ≡ Some time
 
-pub due_place : (w : Working) (time place : ℕ) → IsSoonest (nexts_of w) time place → place < length w.lines.items
+pub due_place : (w : SenderState) (time place : ℕ) → IsSoonest (nexts_of w) time place → place < length w.lines.items
 due_place w time place soonest =
     omega (
       arith,
@@ -272,7 +272,7 @@ due_place w time place soonest =
       length-map w.lines.items (λ l. next_time_of l.regulator),
     )
 
-pub line_read : (w : Working) (time place : ℕ) (line : Line) → IsSoonest (nexts_of w) time place
+pub line_read : (w : SenderState) (time place : ℕ) (line : Line) → IsSoonest (nexts_of w) time place
     → line ≡ slice_index_or w.lines.items place line → IsDueLine w time place line
 line_read w time place line soonest read =
     let below = due_place w time place soonest in
@@ -291,7 +291,7 @@ pub record IsInLimits (line : Line) (time : ℕ) : Type 0 where
   pub gap : line.regulator.bag ≤ 128000000
   pub limit : time ≤ 1000032768000000
 
-pub in_limits : (w : Working) (h : SenderHistory) (time place : ℕ) (line : Line) → StandsFor w h
+pub in_limits : (w : SenderState) (h : SenderHistory) (time place : ℕ) (line : Line) → StandsFor w h
     → IsDueLine w time place line → IsInLimits line time
 in_limits w h time place line st d =
     let k = line_at w h st place line d.has in
@@ -331,7 +331,7 @@ entry_is line l ss rs place time f new st k vl least number =
     ∙ ap (λ z. port.entry_of facts z Low (released_frame l (length rs) k.r)) (sym k.at)
 
 -- the next release of all enters the port
-pub record Releases (w : Working) (time place : ℕ) (line line' : Line) (f : Frame) (ag : Agenda)
+pub record Releases (w : SenderState) (time place : ℕ) (line line' : Line) (f : Frame) (ag : Agenda)
     (out : PortState Frame) : Type 0 where
   pub idle : w.ready ≡ None
   pub soonest : IsSoonest (nexts_of w) time place
@@ -350,7 +350,7 @@ pub record Releases (w : Working) (time place : ℕ) (line line' : Line) (f : Fr
   pub put : (hp : port.PortHistory Frame) → port.StandsFor facts w.output hp
       → port.StandsFor facts out (port.with_put hp (port.entry_of facts time Low f))
 
-pub release_stands : (w : Working) (h : SenderHistory) (time place : ℕ) (line line' : Line) (f : Frame)
+pub release_stands : (w : SenderState) (h : SenderHistory) (time place : ℕ) (line line' : Line) (f : Frame)
     (ag : Agenda) (out : PortState Frame) → StandsFor w h → Releases w time place line line' f ag out →
     StandsFor (record w { lines = with_item w.lines place line'; agenda = ag; output = out }) h
 release_stands w h time place line line' f ag out st q =
@@ -398,7 +398,7 @@ release_stands w h time place line line' f ag out st q =
     }
 
 -- each release takes one message
-pub held_after : (w : Working) (place : ℕ) (line line' : Line) → slice_get w.lines.items place
+pub held_after : (w : SenderState) (place : ℕ) (line line' : Line) → slice_get w.lines.items place
     ≡ Some line → held_by line'.regulator + 1 ≡ held_by line.regulator →
     sum_by (λ l. held_by l.regulator) (slice_set w.lines.items place line') + 1 ≡ messages_held w
 held_after w place line line' has one =
@@ -408,7 +408,7 @@ held_after w place line line' has one =
     let s' = rw e at s in
     omega arith
 
-pub held_more : (w : Working) (place : ℕ) (line line' : Line) → slice_get w.lines.items place
+pub held_more : (w : SenderState) (place : ℕ) (line line' : Line) → slice_get w.lines.items place
     ≡ Some line → held_by line'.regulator ≡ held_by line.regulator + 1 →
     sum_by (λ l. held_by l.regulator) (slice_set w.lines.items place line') ≡ messages_held w + 1
 held_more w place line line' has one =

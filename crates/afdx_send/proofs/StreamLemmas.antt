@@ -2,7 +2,7 @@
 use Rattle.std.proofs.Common.{◌≡◌, ◌≢◌, ℕ, ◌+◌, ◌<◌, ◌≤◌, ◌==◌, Bool, true, false, List, [], ◌∷◌}
 use Rattle.std.proofs.Common.{◌++◌, length, Option, Some, None, ◌⊎◌, inl, inr, refl, sym, ap, subst}
 use Rattle.std.proofs.Common.{arith, ◌∙◌, suc}
-use Rattle.std.specs.Prelude.{All, Result, Ok, Err, IfOk, IfSome}
+use Rattle.std.specs.Prelude.{All}
 use Rattle.std.specs.List.{slice_get}
 use Rattle.std.specs.Option.{option_map}
 use Rattle.std.proofs.lemmas.Option.{slice_get_within}
@@ -19,7 +19,7 @@ use Rattle.afdx_bounds.specs.Sender.{SenderIsInTime, one_of_each}
 use Rattle.afdx_bounds.proofs.ListLemmas.{get_all}
 use Rattle.afdx_port.specs.Schedule.{Entry, Turn, AreTurns}
 use Rattle.afdx_send.specs.declared.sender.Emission.{Emission}
-use Rattle.afdx_send.specs.declared.working.Working.{Working}
+use Rattle.afdx_send.specs.declared.sender_state.SenderState.{SenderState}
 use Rattle.afdx_send.specs.Emissions.{LinkRelease, own, AreAllReleases, released_frame, entry_for}
 use Rattle.afdx_send.specs.Emissions.{entries_of, IsSending, AreSendings, with_sending, sent_list}
 use Rattle.afdx_send.specs.Emissions.{times_of}
@@ -27,7 +27,7 @@ use Rattle.afdx_send.specs.Frames.{Frame}
 use Rattle.afdx_send.specs.Laws.{EachIsInTime, EmissionsAreInTime, EmitsLawfully, EmissionsAreLawful}
 use Rattle.afdx_send.specs.Laws.{GoesOn}
 use Rattle.afdx_send.specs.Releases.{Submission, Release, earliest_after}
-use Rattle.afdx_send.specs.Sender.{SenderHistory, AreSent, flows_of, Emits, with_emission}
+use Rattle.afdx_send.specs.Sender.{SenderHistory, AreSent, flows_of, Gives, with_emission}
 use Rattle.afdx_send.specs.Sender.{sending_of}
 use Rattle.afdx_send.proofs.EmitLemmas.{AreOurs, are_ours, is_slot}
 use Rattle.afdx_send.proofs.FullLemmas.{AllFit}
@@ -334,8 +334,8 @@ are_lawful law in_time w h st place l stream row sends =
     emits_lawfully h place l p.first stream first a
 
 -- so is what goes on with one more emission
-pub goes_on : (w : Working) (h : SenderHistory) (until : ℕ) (e : Emission)
-    → EmissionsAreLawful → Emits h until e w → GoesOn h e
+pub goes_on : (w : SenderState) (h : SenderHistory) (until : ℕ) (e : Emission)
+    → EmissionsAreLawful → Gives h until e w → GoesOn h e
 goes_on w h until e law is place l stream row named sends =
     let all = law w (with_emission h is.slot until) is.stands place l (stream ++ sending_of e ∷ []) row
     (subst (λ (b : Bool). with_sending h.system b (AreSendings h.system l.vl h.emitted) is.slot
@@ -349,10 +349,3 @@ goes_on w h until e law is place l stream row named sends =
       at_releases = all.at_releases;
       in_time = all.in_time;
     }
-
--- what is true of each emission is true of the one that is given, if one is
-pub of_given : {E F : Type 0} (r : Result (Option E) F) (P Q : E → Type 0) → ((e : E) → P e → Q e)
-    → IfOk r (λ o. IfSome o P) → IfOk r (λ o. IfSome o Q)
-of_given (Ok (Some e)) P Q f h = f e h
-of_given (Ok None) P Q f h = tt
-of_given (Err fault) P Q f h = tt

@@ -9,7 +9,7 @@ use Rattle.afdx_port.specs.declared.port_state.PortState.{PortState}
 use Rattle.afdx_send.specs.declared.fault.SendFault.{SendFault}
 use Rattle.afdx_send.specs.declared.fault.SendFault.TheVariants.{NotMyLink, NoSuchSub, Empty}
 use Rattle.afdx_send.specs.declared.fault.SendFault.TheVariants.{TooLarge, QueueFull, Memory}
-use Rattle.afdx_send.specs.declared.working.Working.{Working}
+use Rattle.afdx_send.specs.declared.sender_state.SenderState.{SenderState}
 use Rattle.afdx_send.specs.Emissions.{entries_of}
 use Rattle.afdx_send.specs.Frames.{Frame, facts}
 use Rattle.afdx_send.specs.Releases.{Submission}
@@ -18,7 +18,7 @@ use Rattle.afdx_send.specs.Sender.{IsIdle, IsSenderSound, LinkTakes, IsRefused, 
 use Rattle.afdx_send.proofs.EmitLemmas.{QuietIsNext, no_more}
 
 -- where no emission is left, none is ready
-pub none_ready : (w : Working) (h : SenderHistory) (until : ℕ) → StandsFor w (at h until)
+pub none_ready : (w : SenderState) (h : SenderHistory) (until : ℕ) → StandsFor w (at h until)
     → ((p : PortState Frame) (hp : port.PortHistory Frame) → port.StandsFor facts p hp
     → AreTurns hp.byte_ns hp.entries hp.taken) →
     ((s : Turn Frame) → IsNextIn h s → until < s.end) → w.ready ≡ None
@@ -38,7 +38,7 @@ none_ready w h until st law none = by_ready w.ready refl
         let le = st.in_time left e in
         let p = st.port_clock in omega arith)
 
-pub sound_by : {A : Type 0} (r : Result A SendFault) (new : Working) (h : SenderHistory) (P : ℕ → Type 0)
+pub sound_by : {A : Type 0} (r : Result A SendFault) (new : SenderState) (h : SenderHistory) (P : ℕ → Type 0)
     (s : Submission) → OnOk r ((place : ℕ) × P place × StandsFor new (with_submission h place s))
     → OnErr r (StandsFor new h) → IsSenderSound new
 sound_by (Ok x) new h P s ok err = (with_submission h ok.0 s, ok.2)
@@ -76,7 +76,7 @@ pub map_ok : {A E : Type 0} (r : Result A E) (P Q : Type 0) → (P → Q) → On
 map_ok (Ok x) P Q f h = f h
 map_ok (Err e) P Q f h = search
 
-pub still_quiet : (w : Working) (t : ℕ) → QuietIsNext → IsSenderSound w → IsIdle w → w.clock ≡ t → IsQuiet w t
+pub still_quiet : (w : SenderState) (t : ℕ) → QuietIsNext → IsSenderSound w → IsIdle w → w.clock ≡ t → IsQuiet w t
 still_quiet w t law sound idle clock =
     (sound.0, sound.1, λ s n. (let lt = no_more w sound.0 law sound.1 idle s n in omega arith))
 

@@ -11,7 +11,7 @@ use Rattle.std.specs.List.{AllByRecursion}
 use Rattle.afdx_port.specs.Schedule.{Turn}
 use Rattle.afdx_send.specs.Frames.{Frame, address_with}
 use Rattle.afdx_send.specs.declared.sender.Emission.{Emission}
-use Rattle.afdx_send.specs.declared.working.Working.{Working}
+use Rattle.afdx_send.specs.declared.sender_state.SenderState.{SenderState}
 use Rattle.afdx_send.specs.Emissions.{LinkRelease, own, AreAllReleases, AreSendings, sent_list, times_of}
 use Rattle.afdx_send.specs.Sender.{SenderHistory, sending_of, StandsFor}
 
@@ -23,7 +23,7 @@ EachIsInTime h =
     h.emitted
 
 abbrev pub EmissionsAreInTime : Type 0
-EmissionsAreInTime = (w : Working) (h : SenderHistory) → StandsFor w h → EachIsInTime h
+EmissionsAreInTime = (w : SenderState) (h : SenderHistory) → StandsFor w h → EachIsInTime h
 
 -- the builder takes what was sent in a slot, for each network
 pub record IsBuildable (s : SystemRow) (turn : Turn Frame) : Type 0 where
@@ -37,7 +37,7 @@ abbrev pub EachIsBuildable : SenderHistory → Type 0
 EachIsBuildable h = AllByRecursion (IsBuildable h.system) h.emitted
 
 abbrev pub EmissionsAreBuildable : Type 0
-EmissionsAreBuildable = (w : Working) (h : SenderHistory) → StandsFor w h → EachIsBuildable h
+EmissionsAreBuildable = (w : SenderState) (h : SenderHistory) → StandsFor w h → EachIsBuildable h
 
 -- what a link has emitted is a lawful stream of the beginning of its sent list, whose moments are
 -- those of the releases, and whose frames are in time
@@ -65,7 +65,7 @@ GoesOn h e = (place : ℕ) (l : LinkRow) (stream : List Sending) → slice_get h
     EmitsLawfully h place l (stream ++ sending_of e ∷ [])
 
 abbrev pub EmissionsAreLawful : Type 0
-EmissionsAreLawful = (w : Working) (h : SenderHistory) → StandsFor w h → EachEmitsLawfully h
+EmissionsAreLawful = (w : SenderState) (h : SenderHistory) → StandsFor w h → EachEmitsLawfully h
 
 -- Of a lawful stream only the first frames are built under the number 0: a sender that lets 0
 -- follow 255 has none.
@@ -79,7 +79,7 @@ ZeroComesFirst = (s : SystemRow) (l : LinkRow) (messages : List Message) (stream
 -- of two lists of first releases one begins the other: so the releases before a time, and the
 -- entries of the port, are determined
 abbrev pub FirstReleasesAgree : Type 0
-FirstReleasesAgree = (w : Working) (h : SenderHistory) (these those : List LinkRelease) →
+FirstReleasesAgree = (w : SenderState) (h : SenderHistory) (these those : List LinkRelease) →
     StandsFor w h →
     AreAllReleases h.links h.taken these → AreAllReleases h.links h.taken those →
     ((later : List LinkRelease) × (those ≡ later ++ these))

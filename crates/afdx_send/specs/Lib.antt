@@ -8,5 +8,6 @@ pub mod Lines
 pub mod Sender
 pub mod New
 pub mod Laws
+pub mod Calls
 pub mod Complete
 pub mod Words

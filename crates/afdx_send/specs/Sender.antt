@@ -24,7 +24,7 @@ use Rattle.afdx_send.specs.declared.fault.SendFault.{SendFault}
 use Rattle.afdx_send.specs.declared.fault.SendFault.TheVariants.{NotMyLink, NoSuchSub, Empty, TooLarge, QueueFull, Memory}
 use Rattle.afdx_send.specs.declared.line.Line.{Line}
 use Rattle.afdx_send.specs.declared.sender.Emission.{Emission}
-use Rattle.afdx_send.specs.declared.working.Working.{Working}
+use Rattle.afdx_send.specs.declared.sender_state.SenderState.{SenderState}
 use Rattle.afdx_send.specs.Agenda.{NoneBefore, IsPlayed, nexts}
 use Rattle.afdx_send.specs.Emissions.{LinkRelease, own, own_submissions, AreAllReleases, AreReleasedBefore, entries_of, IsNextEmission, IsSending}
 use Rattle.afdx_send.specs.Frames.{Frame, IsReadAs, facts, address_with}
@@ -98,11 +98,11 @@ abbrev pub flows_of : SystemRow → List LinkRow → List Flow
 flows_of s links = map (sent_flow (byte_ns s) Low links) links
 
 -- when each link's next release is
-abbrev pub nexts_of : Working → List (Option ℕ)
+abbrev pub nexts_of : SenderState → List (Option ℕ)
 nexts_of w = map (λ l. next_time_of l.regulator) w.lines.items
 
 -- how many messages are not released yet
-abbrev pub messages_held : Working → ℕ
+abbrev pub messages_held : SenderState → ℕ
 messages_held w = sum_by (λ l. held_by l.regulator) w.lines.items
 
 abbrev pub ready_count : Option (Left Frame) → ℕ
@@ -110,18 +110,18 @@ ready_count None = 0
 ready_count (Some left) = 1
 
 -- how many messages the sender holds
-abbrev pub frames_held : Working → ℕ
+abbrev pub frames_held : SenderState → ℕ
 frames_held w = messages_held w + held.frames_held w.output + ready_count w.ready
 
 -- one message more
-pub record HoldsMore (old new : Working) : Type 0 where
+pub record HoldsMore (old new : SenderState) : Type 0 where
   pub more : frames_held new ≡ frames_held old + 1
 
 -- or as many
-pub record HoldsSame (old new : Working) : Type 0 where
+pub record HoldsSame (old new : SenderState) : Type 0 where
   pub same : frames_held new ≡ frames_held old
 
-abbrev pub last_time : Working → ℕ
+abbrev pub last_time : SenderState → ℕ
 last_time w = w.clock
 
 -- the slots that the port gave are the emissions, and that of the frame that is ready
@@ -157,7 +157,7 @@ port_history h released given time = record {
 }
 
 -- the sender is what these calls leave
-pub record StandsFor (w : Working) (h : SenderHistory) : Type 0 where
+pub record StandsFor (w : SenderState) (h : SenderHistory) : Type 0 where
   pub system_id : w.system_id ≡ h.system.id
   pub partition : w.partition ≡ h.system.partition
   pub clock : w.clock ≡ h.time
@@ -191,16 +191,16 @@ pub record StandsFor (w : Working) (h : SenderHistory) : Type 0 where
   pub port_clock : w.output.clock ≤ h.time
 
 -- what is true of every sender
-abbrev pub IsSenderSound : Working → Type 0
+abbrev pub IsSenderSound : SenderState → Type 0
 IsSenderSound w = (h : SenderHistory) × StandsFor w h
 
 -- no emission that ends at or before t is left
-abbrev pub IsQuiet : Working → ℕ → Type 0
+abbrev pub IsQuiet : SenderState → ℕ → Type 0
 IsQuiet w t = (h : SenderHistory) × StandsFor w h × ((s : Turn Frame) → IsNextIn h s → t < s.end)
 
 -- nothing that is released before the last time used is left to enter the port, and the port gives
 -- nothing by then
-pub record IsIdle (w : Working) : Type 0 where
+pub record IsIdle (w : SenderState) : Type 0 where
   pub ready : w.ready ≡ None
   pub quiet : held.IsQuiet facts w.output w.clock
   pub none : NoneBefore (nexts_of w) w.clock
@@ -210,7 +210,7 @@ abbrev pub sending_of : Emission → Sending
 sending_of e = record { time = e.time; a = e.a.items; b = e.b.items }
 
 -- the next emission ends at or before `until`, and is given
-pub record Emits (h : SenderHistory) (until : ℕ) (e : Emission) (new : Working) : Type 0 where
+pub record Gives (h : SenderHistory) (until : ℕ) (e : Emission) (new : SenderState) : Type 0 where
   pub slot : Turn Frame
   pub next : IsNextIn h slot
   pub in_time : slot.end ≤ until

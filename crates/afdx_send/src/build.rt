@@ -13,7 +13,7 @@ ghost use Rattle.afdx_send.specs.New.{IsNewLine, AreNewLines, IsPlaceIn};
 use crate::agenda::Agenda;
 use crate::line::Line;
 use crate::regulator::Regulator;
-use crate::working::Working;
+use crate::sender_state::SenderState;
 use afdx_admit::Admitted;
 use afdx_bounds::laws::tables_are_served;
 use afdx_config::{Link, SystemId, Tables};
@@ -74,7 +74,7 @@ pub(crate) fn build(
     alloc: Global,
     tables: &Admitted,
     system: SystemId,
-) -> Result<Working, AllocError>
+) -> Result<SenderState, AllocError>
     requires system { system.0 < length tables.now.systems }
     ensures sound { IfOk result (λ w. IsSenderSound w) }
     ensures stands { (s : SystemRow) → slice_get tables.now.systems system.0 ≡ Some s →
@@ -91,7 +91,7 @@ pub(crate) fn build(
     let agenda = Agenda::new(alloc, lines.len())?;
     let byte_ns = tables.byte_ns(system);
     let output = Port::new(alloc, byte_ns, BUFFER)?;
-    Ok(Working {
+    Ok(SenderState {
         alloc,
         system_id: row.id,
         partition: row.partition,

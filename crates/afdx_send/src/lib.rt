@@ -12,7 +12,7 @@ mod line;
 mod regulator;
 mod released;
 mod sender;
-mod working;
+mod sender_state;
 
 pub use fault::{SEND_FAULTS, SendFault};
 pub use sender::{Emission, Sender};

@@ -1,14 +1,11 @@
 //! A sending end system, as its callers see it.
 
-ghost use Rattle.std.specs.Prelude.{◌≡◌, ℕ, ◌+◌, ◌<◌, ◌≤◌, IfOk, IfErr, OnOk, OnErr, IfSome};
-ghost use Rattle.std.specs.Prelude.{IfNone, MatchOption, length, slice_get, Some};
+ghost use Rattle.std.specs.Prelude.{◌≡◌, ℕ, ◌<◌, ◌≤◌, IfOk, Some, length, slice_get};
 ghost use Rattle.afdx_frame.specs.Times.{latest_listed};
-ghost use Rattle.afdx_port.specs.Times.{drain_end};
 
 use crate::build::build;
 use crate::fault::SendFault;
-use crate::laws::emissions_are_lawful;
-use crate::working::Working;
+use crate::sender_state::SenderState;
 use afdx_admit::Admitted;
 use afdx_config::SystemId;
 use afdx_frame::VlId;
@@ -29,29 +26,24 @@ pub struct Emission {
 /// messages that still have to be emitted.
 #[derive(Drop)]
 pub struct Sender {
-    working: Working,
+    state: SenderState,
 }
 
 impl Model for Sender {
-    ghost use Rattle.afdx_send.specs.declared.working.Working.{Working};
+    ghost use Rattle.afdx_send.specs.declared.sender_state.SenderState.{SenderState};
     ghost use Rattle.afdx_send.specs.Sender.{IsSenderSound};
 
-    ghost Value = { Working };
+    ghost Value = { SenderState };
 
-    ghost view = { λ s. s.working };
+    ghost view = { λ s. s.state };
 
-    ghost invariant = { λ s. IsSenderSound s.working };
+    ghost invariant = { λ s. IsSenderSound s.state };
 }
 
 impl Sender {
     ghost use Rattle.afdx_config.specs.Rows.{SystemRow};
-    ghost use Rattle.afdx_port.specs.Schedule.{Turn};
-    ghost use Rattle.afdx_send.specs.Frames.{Frame};
-    ghost use Rattle.afdx_send.specs.Laws.{EachIsInTime, EachIsBuildable, EachEmitsLawfully, GoesOn};
-    ghost use Rattle.afdx_send.specs.Releases.{Submission};
-    ghost use Rattle.afdx_send.specs.Sender.{SenderHistory, no_calls, at, with_submission, IsNextIn};
-    ghost use Rattle.afdx_send.specs.Sender.{IsQuiet, StandsFor, Emits, AreAllEmitted, IsTaken};
-    ghost use Rattle.afdx_send.specs.Sender.{IsRefused, frames_held, last_time, submission};
+    ghost use Rattle.afdx_send.specs.Calls.{Submits, Emits};
+    ghost use Rattle.afdx_send.specs.Sender.{IsQuiet, StandsFor, no_calls, frames_held, last_time};
 
     /// The sender of a system of these tables, with nothing submitted, at time 0.
     /// The error says that memory was refused.
@@ -64,7 +56,7 @@ impl Sender {
         ensures held { IfOk result (λ w. frames_held w ≡ 0) }
     {
         Ok(Sender {
-            working: build(alloc, tables, system)?,
+            state: build(alloc, tables, system)?,
         })
     }
 
@@ -84,20 +76,9 @@ impl Sender {
         requires clock { last_time self.old ≤ time }
         requires limit { time ≤ latest_listed }
         requires quiet { IsQuiet self.old time }
-        ensures ok { (h : SenderHistory) → StandsFor self.old h →
-            OnOk result ((place : ℕ) × IsTaken h place vl.0
-            (submission time sub udp payload.now) × StandsFor self.new
-            (with_submission h place (submission time sub udp payload.now))) }
-        ensures refused { (h : SenderHistory) → StandsFor self.old h →
-            IfErr result (λ fault. IsRefused h time vl.0 sub (length payload.now) fault) }
-        ensures unchanged { (h : SenderHistory) → StandsFor self.old h →
-            OnErr result (StandsFor self.new (at h time)) }
-        ensures quiet { IsQuiet self.new time }
-        ensures clock { last_time self.new ≡ time }
-        ensures held { OnOk result (frames_held self.new ≡ frames_held self.old + 1) }
-        ensures kept { OnErr result (frames_held self.new ≡ frames_held self.old) }
+        ensures { Submits self.old self.new time vl.0 sub udp payload.now result }
     {
-        self.working.submit(time, vl, sub, udp, payload)
+        self.state.submit(time, vl, sub, udp, payload)
     }
 
     /// The next emission, if it ends at or before `until`, in ns, which isn't before the last time
@@ -112,31 +93,8 @@ impl Sender {
     /// taken again.
     pub fn emit(&mut self, until: u64) -> Result<Option<Emission>, AllocError>
         requires clock { last_time self.old ≤ until }
-        ensures given { (h : SenderHistory) → StandsFor self.old h →
-            IfOk result (λ o. IfSome o (λ e. Emits h until e self.new)) }
-        ensures none { (h : SenderHistory) → StandsFor self.old h →
-            IfOk result (λ o. IfNone o (StandsFor self.new (at h until))) }
-        ensures no_more { (h : SenderHistory) (s : Turn Frame) →
-            StandsFor self.old h → IsNextIn h s →
-            IfOk result (λ o. IfNone o (until < s.end)) }
-        ensures all_done { (h : SenderHistory) → StandsFor self.old h → drain_end ≤ until →
-            IfOk result (λ o. IfNone o (AreAllEmitted h)) }
-        ensures due { (h : SenderHistory) → StandsFor self.old h →
-            OnErr result ((s : Turn Frame) × IsNextIn h s × (s.end ≤ until)) }
-        ensures again { (h : SenderHistory) → StandsFor self.old h →
-            OnErr result (StandsFor self.new (at h until)) }
-        ensures quiet { IfOk result (λ o. IfNone o (IsQuiet self.new until)) }
-        ensures in_time { (h : SenderHistory) → StandsFor self.new h → EachIsInTime h }
-        ensures buildable { (h : SenderHistory) → StandsFor self.new h → EachIsBuildable h }
-        ensures lawful { (h : SenderHistory) → StandsFor self.new h → EachEmitsLawfully h }
-        ensures goes_on { (h : SenderHistory) → StandsFor self.old h →
-            IfOk result (λ o. IfSome o (λ e. GoesOn h e)) }
-        ensures clock { last_time self.new ≡ until }
-        ensures held { IfOk result (λ o. MatchOption o (frames_held self.new
-            ≡ frames_held self.old) (λ _. frames_held self.new + 1 ≡ frames_held self.old)) }
-        ensures kept { OnErr result (frames_held self.new ≡ frames_held self.old) }
+        ensures { Emits self.old self.new until result }
     {
-        emissions_are_lawful();
-        self.working.emit(until)
+        self.state.emit(until)
     }
 }

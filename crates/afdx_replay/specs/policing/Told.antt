@@ -1,7 +1,9 @@
 -- What a run that polices one link has told.
 use Rattle.std.specs.Prelude.{ℕ, ◌≡◌, ◌≤◌, ◌+◌, List, length, Option, is_none, is_some}
+use Rattle.afdx_frame.specs.declared.by_side.BySide.{BySide}
 use Rattle.afdx_police.specs.Arrival.{Arrival}
 use Rattle.afdx_police.specs.Rule.{Rule}
+use Rattle.afdx_police.specs.declared.account.LinkAccount.{LinkAccount}
 use Rattle.afdx_lists.specs.declared.frame_line.Heading.{Heading}
 use Rattle.afdx_run.specs.Engine.{Item}
 use Rattle.afdx_run.specs.Items.{arrivals}
@@ -9,14 +11,13 @@ use Rattle.afdx_run.specs.Listed.{frames}
 use Rattle.afdx_run.specs.Lists.{latest_in}
 use Rattle.afdx_replay.specs.policing.Text.{count_judged}
 use Rattle.afdx_replay.specs.policing.Policed.{WritesText, WritesBeginning}
-use Rattle.afdx_replay.specs.policing.Policers.{HaveSeen, AreUntil}
+use Rattle.afdx_replay.specs.policing.Accounts.{HaveSeen, AreUntil}
 use Rattle.afdx_replay.specs.declared.policing.run.Police.{Police}
-use Rattle.afdx_replay.specs.declared.policing.run.Policers.{Policers}
 
 -- these arrivals are told: the accounts stand for them, they are counted, and their text is written
-pub record HasTold (rule : Rule) (policers : Policers) (accepted dropped : ℕ)
+pub record HasTold (rule : Rule) (accounts : BySide LinkAccount) (accepted dropped : ℕ)
     (old new : Option (List ℕ)) (past : List Arrival) : Type 0 where
-  pub seen : HaveSeen policers rule past
+  pub seen : HaveSeen accounts rule past
   pub accepted_is : accepted ≡ count_judged is_none rule past
   pub dropped_is : dropped ≡ count_judged is_some rule past
   pub written : WritesText rule old new past
@@ -24,8 +25,8 @@ pub record HasTold (rule : Rule) (policers : Policers) (accepted dropped : ℕ)
 -- the same of the items of a source; no account was used after the latest of them
 pub record TellsItems (rule : Rule) (police : Police) (old new : Option (List ℕ))
     (past : List (Item Heading)) : Type 0 where
-  pub told : HasTold rule police.policers police.accepted police.dropped old new (arrivals past)
-  pub until : AreUntil police.policers (latest_in frames (arrivals past))
+  pub told : HasTold rule police.accounts police.accepted police.dropped old new (arrivals past)
+  pub until : AreUntil police.accounts (latest_in frames (arrivals past))
   pub counted : police.accepted + police.dropped ≤ length past
 
 abbrev pub BeginsItems : Rule → Option (List ℕ) → Option (List ℕ) → List (Item Heading) → Type 0

@@ -8,7 +8,7 @@ use Rattle.afdx_port.specs.Schedule.{Turn, end_of}
 use Rattle.afdx_send.specs.Frames.{Frame}
 use Rattle.afdx_send.specs.Sender.{StandsFor, IsNextIn, last_time}
 use Rattle.afdx_send.specs.declared.fault.SendFault.{SendFault}
-use Rattle.afdx_send.specs.declared.working.Working.{Working}
+use Rattle.afdx_send.specs.declared.sender_state.SenderState.{SenderState}
 use Rattle.afdx_run.specs.Listed.{Handed}
 use Rattle.afdx_replay.specs.sending.Events.{Event, Submitted, submissions_in, turns_in, calls_in, EachFollows, IsAnswered, IsAtSubmission, AreDone}
 use Rattle.afdx_replay.specs.sending.Text.{send_text, send_counts}
@@ -20,7 +20,7 @@ abbrev pub handed_at : ℕ → HandedLine → List ℕ → Handed
 handed_at n handed payload = record { line = n; submission = submission_of handed payload }
 
 -- these events are told: the sender stands for them, they are counted, and their text is written
-pub record HasTold (s : Source) (w : Working) (port : ℕ) (counts : Summary)
+pub record HasTold (s : Source) (w : SenderState) (port : ℕ) (counts : Summary)
     (old new : Option (List ℕ)) (events : List Event) : Type 0 where
   pub stands : StandsFor w (calls_in s.row s.links events (last_time w))
   pub port_is : port ≡ s.row.port
@@ -30,7 +30,7 @@ pub record HasTold (s : Source) (w : Working) (port : ℕ) (counts : Summary)
   pub written : Appends old new (send_text s.row events)
 
 -- these submissions are told, and the emissions before the last of them
-pub record AreTold (s : Source) (w : Working) (port : ℕ) (counts : Summary)
+pub record AreTold (s : Source) (w : SenderState) (port : ℕ) (counts : Summary)
     (old new : Option (List ℕ)) (past : List Handed) : Type 0 where
   pub events : List Event
   pub submissions_are : submissions_in events ≡ past
@@ -38,14 +38,14 @@ pub record AreTold (s : Source) (w : Working) (port : ℕ) (counts : Summary)
   pub told : HasTold s w port counts old new events
 
 -- more emissions are told, of the same submissions
-pub record ToldMore (s : Source) (w : Working) (port : ℕ) (counts : Summary)
+pub record ToldMore (s : Source) (w : SenderState) (port : ℕ) (counts : Summary)
     (old new : Option (List ℕ)) (events : List Event) : Type 0 where
   pub more : List Event
   pub submissions_are : submissions_in more ≡ submissions_in events
   pub told : HasTold s w port counts old new more
 
 -- all that end by this time
-pub record ToldUntil (s : Source) (until : ℕ) (w : Working) (port : ℕ) (counts : Summary)
+pub record ToldUntil (s : Source) (until : ℕ) (w : SenderState) (port : ℕ) (counts : Summary)
     (old new : Option (List ℕ)) (events : List Event) : Type 0 where
   pub told : ToldMore s w port counts old new events
   pub no_more : (turn : Turn Frame) →
@@ -55,7 +55,7 @@ pub record ToldUntil (s : Source) (until : ℕ) (w : Working) (port : ℕ) (coun
 
 -- a submission that comes after these events was handed to the sender, which took it or refused
 -- it, and it is counted
-pub record TellsSubmission (s : Source) (w : Working) (counts : Summary) (before : List Event)
+pub record TellsSubmission (s : Source) (w : SenderState) (counts : Summary) (before : List Event)
     (x : Handed) (fault : Option SendFault) : Type 0 where
   pub stands : StandsFor w (calls_in s.row s.links (Submitted x fault ∷ before) x.submission.time)
   pub answered : IsAnswered (calls_in s.row s.links before x.submission.time) x.submission fault

@@ -10,10 +10,11 @@ ghost use Rattle.afdx_lists.specs.Calls.{is_failed_read, is_failed_write};
 ghost use Rattle.afdx_lists.specs.FrameLines.{listed_frame};
 ghost use Rattle.afdx_lists.specs.Watching.{calls_of, device_of, has_ended, has_failed};
 ghost use Rattle.afdx_run.specs.Listed.{arrival_at};
+ghost use Rattle.afdx_replay.specs.policing.Accounts.{AreUntil, HaveSeen};
 ghost use Rattle.afdx_replay.specs.policing.Policed.{Answers};
 
 use crate::summary::{NO_COUNTS, Summary};
-use afdx_frame::{Checked, Side};
+use afdx_frame::{BySide, Checked};
 use afdx_lists::{Heading, RunFault, Watched};
 use afdx_police::{LinkAccount, LinkRule, Reason};
 use afdx_run::{Machine, run_list};
@@ -22,43 +23,36 @@ use std::alloc::{AllocError, Global};
 use std::io::{Read, Write};
 
 /// The accounts of one link, one at each switch.
-#[derive(Drop)]
-struct Policers {
-    a: LinkAccount,
-    b: LinkAccount,
+fn new_accounts(rule: &LinkRule) -> BySide<LinkAccount>
+    ensures seen { HaveSeen result (rule_of rule.now) [] }
+    ensures until { AreUntil result 0 }
+{
+    BySide {
+        a: LinkAccount::new(rule),
+        b: LinkAccount::new(rule),
+    }
 }
 
-impl Policers {
-    ghost use Rattle.afdx_replay.specs.policing.Policers.{HaveSeen, AreUntil};
-
-    fn new(rule: &LinkRule) -> Policers
-        ensures seen { HaveSeen result (rule_of rule.now) [] }
-        ensures until { AreUntil result 0 }
-    {
-        Policers {
-            a: LinkAccount::new(rule),
-            b: LinkAccount::new(rule),
-        }
-    }
-
-    /// Why an arrival is dropped, if it is.
-    fn verdict(&mut self, heading: &Heading, arrived: Checked<'_>) -> Option<Reason>
-        requires until { AreUntil self.old heading.now.time }
-        ensures until { AreUntil self.new heading.now.time }
-        ensures answer { (rule : Rule) (past : List Arrival) (tag : ℕ) →
-            HaveSeen self.old rule past →
-            result ≡ verdict_in rule past
-            (arrival_at tag (listed_frame heading.now arrived.entry.bytes.now)) }
-        ensures seen { (rule : Rule) (past : List Arrival) (tag : ℕ) →
-            HaveSeen self.old rule past →
-            HaveSeen self.new rule
-            (arrival_at tag (listed_frame heading.now arrived.entry.bytes.now) ∷ past) }
-    {
-        match heading.side {
-            Side::A => self.a.police(heading.time, heading.port, arrived),
-            Side::B => self.b.police(heading.time, heading.port, arrived),
-        }
-    }
+/// Why an arrival is dropped, if it is.
+fn verdict(
+    accounts: &mut BySide<LinkAccount>,
+    heading: &Heading,
+    arrived: Checked<'_>,
+) -> Option<Reason>
+    requires until { AreUntil accounts.old heading.now.time }
+    ensures until { AreUntil accounts.new heading.now.time }
+    ensures answer { (rule : Rule) (past : List Arrival) (tag : ℕ) →
+        HaveSeen accounts.old rule past →
+        result ≡ verdict_in rule past
+        (arrival_at tag (listed_frame heading.now arrived.entry.bytes.now)) }
+    ensures seen { (rule : Rule) (past : List Arrival) (tag : ℕ) →
+        HaveSeen accounts.old rule past →
+        HaveSeen accounts.new rule
+        (arrival_at tag (listed_frame heading.now arrived.entry.bytes.now) ∷ past) }
+{
+    accounts
+        .get_mut(heading.side)
+        .police(heading.time, heading.port, arrived)
 }
 
 /// One more than `count`, where the test is true.
@@ -71,7 +65,7 @@ fn count_if(count: u64, is_one_more: bool) -> u64
 
 /// What a run that polices one link works with.
 struct Police {
-    policers: Policers,
+    accounts: BySide<LinkAccount>,
     text: Text,
     accepted: u64,
     dropped: u64,
@@ -81,7 +75,7 @@ impl Drop for Police {
     // (written out, it is one call wherever a value is let go)
     fn drop(self) {
         let Self {
-            policers,
+            accounts,
             text,
             accepted,
             dropped,
@@ -97,9 +91,9 @@ impl Police {
         ensures { (output : Option (List ℕ)) →
             TellsItems (rule_of rule.now) result output output [] }
     {
-        let policers = Policers::new(rule);
+        let accounts = new_accounts(rule);
         Police {
-            policers,
+            accounts,
             text: Text::new(alloc),
             accepted: 0,
             dropped: 0,
@@ -130,7 +124,7 @@ impl Machine<Heading> for Police {
             bytes,
             sealed: heading.is_sealed,
         };
-        let reason = self.policers.verdict(heading, arrived);
+        let reason = verdict(&mut self.accounts, heading, arrived);
         let is_accepted = reason.is_none();
         self.accepted = count_if(self.accepted, is_accepted);
         self.dropped = count_if(self.dropped, !is_accepted);

@@ -6,7 +6,7 @@ use Rattle.afdx_config.specs.Rows.{SystemRow, Rows, system_row}
 use Rattle.afdx_bounds.proofs.TableLemmas.{system-time}
 use Rattle.afdx_port.specs.Held.{IsByteTime}
 use Rattle.afdx_port.specs.History as port
-use Rattle.afdx_send.specs.declared.working.Working.{Working}
+use Rattle.afdx_send.specs.declared.sender_state.SenderState.{SenderState}
 use Rattle.afdx_send.specs.Frames.{facts}
 use Rattle.afdx_send.specs.New.{AreNewLines}
 use Rattle.afdx_send.specs.Sender.{no_calls}
@@ -14,7 +14,7 @@ use Rattle.afdx_send.proofs.NewLemmas.{are_sent, stands_new, quiet_new, held_new
 use Rattle.afdx_send.proofs.OwnLemmas.{same_get}
 use Rattle.afdx_send.proofs.build.build.Goals as goal
 
-made : goal.In_ok-output → Working
+made : goal.In_ok-output → SenderState
 made c = record {
   alloc = c.args.alloc;
   system_id = c.system-row.result.now.id;

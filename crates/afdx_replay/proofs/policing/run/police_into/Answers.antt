@@ -33,8 +33,8 @@ returns-clause-answer g c =
     let new = g.O.Sink.written c.run_list.new.output in
     let police = c.run_list.new.machine in
     let tells = TellsItems rule police old new in
-    told-done rule police.policers police.accepted police.dropped _ _ old new _
+    told-done rule police.accounts police.accepted police.dropped _ _ old new _
     (answers-ok frames (thing_of frames listed_frame) tells tells (BeginsItems rule old new)
-    (HasTold rule police.policers police.accepted police.dropped old new)
+    (HasTold rule police.accounts police.accepted police.dropped old new)
     (g.R.Read.remaining c.args.input.now.inner) (g.R.Read.remaining c.run_list.new.input.inner) c.in_ok-lines.lines
     (λ past h. h.told) (c.in_ok-lines.ensures.answer rule (c.new-police.ensures old))) refl

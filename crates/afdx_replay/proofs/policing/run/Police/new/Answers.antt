@@ -5,7 +5,7 @@ use Rattle.afdx_replay.proofs.policing.run.Police.new.Goals as goal
 
 pub returns : goal.returns
 returns c = λ output. record {
-  told = told-start (rule_of c.args.rule.now) _ output c.new-policers.ensures.seen;
-  until = c.new-policers.ensures.until;
+  told = told-start (rule_of c.args.rule.now) _ output c.new_accounts-accounts.ensures.seen;
+  until = c.new_accounts-accounts.ensures.until;
   counted = omega arith;
 }

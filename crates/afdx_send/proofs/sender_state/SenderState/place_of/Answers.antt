@@ -1,7 +1,7 @@
 use Rattle.std.proofs.Common.{arith, ap, sym, ◌∙◌, subst, ◌≡◌, ◌<◌, length, slice_get, Some, None, ℕ}
 use Rattle.afdx_send.specs.Sender.{IsPlaceOf}
 use Rattle.afdx_send.proofs.StandLemmas.{read_at}
-use Rattle.afdx_send.proofs.working.Working.place_of.Goals as goal
+use Rattle.afdx_send.proofs.sender_state.SenderState.place_of.Goals as goal
 
 pub returns-in-Some : goal.returns-in-Some
 returns-in-Some c = λ h st.

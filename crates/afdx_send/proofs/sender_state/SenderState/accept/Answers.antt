@@ -8,7 +8,7 @@ use Rattle.afdx_send.specs.Sender.{StandsFor, submission, with_submission}
 use Rattle.afdx_send.proofs.AddLemmas.{refuses, admits, place_below, submission_is, can_take}
 use Rattle.afdx_send.proofs.OwnLemmas.{same_get}
 use Rattle.afdx_send.proofs.StandLemmas.{read_at}
-use Rattle.afdx_send.proofs.working.Working.accept.Goals as goal
+use Rattle.afdx_send.proofs.sender_state.SenderState.accept.Goals as goal
 
 pub index-requires : goal.index-requires
 index-requires c =

@@ -1,7 +1,7 @@
 use Rattle.afdx_send.specs.Sender.{port_history}
 use Rattle.afdx_send.proofs.DoneLemmas.{all_emitted}
 use Rattle.afdx_send.proofs.StandLemmas.{take_stands}
-use Rattle.afdx_send.proofs.working.Working.take.Goals as goal
+use Rattle.afdx_send.proofs.sender_state.SenderState.take.Goals as goal
 
 pub returns-clause-stands : goal.returns-clause-stands
 returns-clause-stands c = take_stands c.args.self.now c.take.result c.take.new.self c.args.until

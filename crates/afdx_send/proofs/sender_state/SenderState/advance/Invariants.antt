@@ -1,6 +1,6 @@
 use Rattle.std.proofs.Common.{◌≡◌, None}
 use Rattle.afdx_send.specs.Sender.{SenderHistory, StandsFor, IsSenderSound, messages_held, frames_held}
-use Rattle.afdx_send.proofs.working.Working.advance.Given as goal
+use Rattle.afdx_send.proofs.sender_state.SenderState.advance.Given as goal
 
 abbrev pub invariant-loop-time : goal.invariant-loop-time
 invariant-loop-time l = record {

@@ -1,7 +1,7 @@
 use Rattle.std.proofs.Common.{arith, ap, sym, ◌∙◌, ◌≡◌, None}
 use Rattle.afdx_send.specs.Sender.{messages_held, ready_count}
 use Rattle.afdx_send.proofs.EmitLemmas.{none_of}
-use Rattle.afdx_send.proofs.working.Working.advance.Goals as goal
+use Rattle.afdx_send.proofs.sender_state.SenderState.advance.Goals as goal
 
 pub release-requires-clause-sound : goal.release-requires-clause-sound
 release-requires-clause-sound c = (

@@ -2,7 +2,7 @@ use Rattle.std.proofs.Common.{arith}
 use Rattle.afdx_send.specs.Sender.{at}
 use Rattle.afdx_send.proofs.DoneLemmas.{emitted_at}
 use Rattle.afdx_send.proofs.StandLemmas.{later}
-use Rattle.afdx_send.proofs.working.Working.prepare.Goals as goal
+use Rattle.afdx_send.proofs.sender_state.SenderState.prepare.Goals as goal
 
 pub advance-requires-clause-sound : goal.advance-requires-clause-sound
 advance-requires-clause-sound c =

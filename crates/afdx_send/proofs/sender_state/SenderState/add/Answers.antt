@@ -7,7 +7,7 @@ use Rattle.afdx_send.proofs.AddLemmas.{submission_stands, stays_idle, same_stand
 use Rattle.afdx_send.proofs.AddLemmas.{pushed_sum, frames_more, frames_same}
 use Rattle.afdx_send.proofs.RegulatorLemmas.{on_err}
 use Rattle.afdx_send.proofs.StandLemmas.{read_at}
-use Rattle.afdx_send.proofs.working.Working.add.Goals as goal
+use Rattle.afdx_send.proofs.sender_state.SenderState.add.Goals as goal
 
 pub returns-in_err-push-clause-err : goal.returns-in_err-push-clause-err
 returns-in_err-push-clause-err c = λ h st.

@@ -1,13 +1,14 @@
 //! What a sender does with its links and its output port.
 
 ghost use Rattle.std.specs.Prelude.{◌≡◌, ℕ, ◌+◌, ◌^◌, ◌<◌, ◌≤◌, ◌↔◌, Option, Some, None, IfSome};
-ghost use Rattle.std.specs.Prelude.{IfNone, IfOk, IfErr, OnOk, OnErr, MatchOption, length};
+ghost use Rattle.std.specs.Prelude.{IfNone, IfOk, IfErr, OnOk, OnErr, length};
 ghost use Rattle.std.specs.Prelude.{slice_get, sum_by, vec_len};
 ghost use Rattle.afdx_frame.specs.Times.{latest_listed};
 ghost use Rattle.afdx_port.specs.Times.{drain_end};
 
 use crate::agenda::Agenda;
 use crate::fault::SendFault;
+use crate::laws::emissions_are_lawful;
 use crate::line::Line;
 use crate::regulator::Queued;
 use crate::released::Released;
@@ -19,7 +20,7 @@ use afdx_port::{Left, Port};
 use std::alloc::{AllocError, Global};
 
 /// What a sender works with.
-pub(crate) struct Working {
+pub(crate) struct SenderState {
     pub(crate) alloc: Global,
     pub(crate) system_id: u16,
     pub(crate) partition: u8,
@@ -36,7 +37,7 @@ pub(crate) struct Working {
     pub(crate) ready: Option<Left<Released>>,
 }
 
-impl Drop for Working {
+impl Drop for SenderState {
     // (written out, it is one call wherever a value is let go)
     fn drop(self) {
         let Self {
@@ -53,20 +54,20 @@ impl Drop for Working {
     }
 }
 
-impl Working {
+impl SenderState {
     ghost use Rattle.afdx_frame.specs.declared.link.Side.TheVariants.{A, B};
     ghost use Rattle.afdx_frame.specs.Grammar.{built_frame};
-    ghost use Rattle.afdx_port.specs.Schedule.{Turn};
     ghost use Rattle.afdx_port.specs.Held as held;
     ghost use Rattle.afdx_send.specs.declared.line.Line.{Line};
+    ghost use Rattle.afdx_send.specs.Calls.{Submits, Emits};
     ghost use Rattle.afdx_send.specs.Agenda.{NoneBefore, IsPlayed, IsSoonest, nexts};
     ghost use Rattle.afdx_send.specs.Emissions.{IsSending};
-    ghost use Rattle.afdx_send.specs.Frames.{Frame, IsReadAs, facts, address_with};
+    ghost use Rattle.afdx_send.specs.Frames.{IsReadAs, facts, address_with};
     ghost use Rattle.afdx_send.specs.Lines.{CanTake};
     ghost use Rattle.afdx_send.specs.Regulator.{sub_count, submission_of, next_time_of};
     ghost use Rattle.afdx_send.specs.Sender.{SenderHistory, at, with_submission, submission, sending_of};
-    ghost use Rattle.afdx_send.specs.Sender.{IsNextIn, IsPlaceOf, IsTaken, IsRefused, IsSenderSound};
-    ghost use Rattle.afdx_send.specs.Sender.{IsQuiet, IsIdle, StandsFor, Emits, AreAllEmitted};
+    ghost use Rattle.afdx_send.specs.Sender.{IsPlaceOf, IsTaken, IsRefused, IsSenderSound};
+    ghost use Rattle.afdx_send.specs.Sender.{IsQuiet, IsIdle, StandsFor, AreAllEmitted};
     ghost use Rattle.afdx_send.specs.Sender.{nexts_of, messages_held, frames_held, ready_count};
     ghost use Rattle.afdx_send.specs.Sender.{HoldsMore, HoldsSame, last_time};
 
@@ -205,27 +206,11 @@ impl Working {
         requires sound { IsSenderSound self.old }
         requires clock { self.old.clock ≤ until }
         ensures sound { IsSenderSound self.new }
-        ensures given { (h : SenderHistory) → StandsFor self.old h →
-            IfOk result (λ o. IfSome o (λ e. Emits h until e self.new)) }
-        ensures none { (h : SenderHistory) → StandsFor self.old h →
-            IfOk result (λ o. IfNone o (StandsFor self.new (at h until))) }
-        ensures no_more { (h : SenderHistory) (s : Turn Frame) →
-            StandsFor self.old h → IsNextIn h s →
-            IfOk result (λ o. IfNone o (until < s.end)) }
-        ensures all_done { (h : SenderHistory) → StandsFor self.old h → drain_end ≤ until →
-            IfOk result (λ o. IfNone o (AreAllEmitted h)) }
-        ensures due { (h : SenderHistory) → StandsFor self.old h →
-            OnErr result ((s : Turn Frame) × IsNextIn h s × (s.end ≤ until)) }
-        ensures again { (h : SenderHistory) → StandsFor self.old h →
-            OnErr result (StandsFor self.new (at h until)) }
-        ensures quiet { IfOk result (λ o. IfNone o (IsQuiet self.new until)) }
-        ensures clock { last_time self.new ≡ until }
-        ensures held { IfOk result (λ o. MatchOption o (frames_held self.new
-            ≡ frames_held self.old) (λ _. frames_held self.new + 1 ≡ frames_held self.old)) }
-        ensures kept { OnErr result (frames_held self.new ≡ frames_held self.old) }
+        ensures emits { Emits self.old self.new until result }
     {
         taken_are_on_schedule::<Released>();
         due_is_next::<Released>();
+        emissions_are_lawful();
         self.prepare(until);
         let Some(left) = self.ready.take() else {
             return Ok(None);
@@ -322,18 +307,7 @@ impl Working {
         requires limit { time ≤ latest_listed }
         requires quiet { IsQuiet self.old time }
         ensures sound { IsSenderSound self.new }
-        ensures ok { (h : SenderHistory) → StandsFor self.old h →
-            OnOk result ((place : ℕ) × IsTaken h place vl.0
-            (submission time sub udp payload.now) × StandsFor self.new
-            (with_submission h place (submission time sub udp payload.now))) }
-        ensures refused { (h : SenderHistory) → StandsFor self.old h →
-            IfErr result (λ fault. IsRefused h time vl.0 sub (length payload.now) fault) }
-        ensures unchanged { (h : SenderHistory) → StandsFor self.old h →
-            OnErr result (StandsFor self.new (at h time)) }
-        ensures quiet { IsQuiet self.new time }
-        ensures clock { last_time self.new ≡ time }
-        ensures held { OnOk result (frames_held self.new ≡ frames_held self.old + 1) }
-        ensures kept { OnErr result (frames_held self.new ≡ frames_held self.old) }
+        ensures submits { Submits self.old self.new time vl.0 sub udp payload.now result }
     {
         taken_are_on_schedule::<Released>();
         due_is_next::<Released>();

@@ -5,7 +5,7 @@ use Rattle.afdx_send.specs.Agenda.{nexts}
 use Rattle.afdx_send.specs.Sender.{port_history}
 use Rattle.afdx_send.proofs.KeptLemmas.{kept}
 use Rattle.afdx_send.proofs.StandLemmas.{due_place, line_read, in_limits, release_stands, held_after}
-use Rattle.afdx_send.proofs.working.Working.release.Goals as goal
+use Rattle.afdx_send.proofs.sender_state.SenderState.release.Goals as goal
 
 pub release-released-requires-clause-limit : goal.release-released-requires-clause-limit
 release-released-requires-clause-limit c =
