@@ -68,7 +68,7 @@ _afdx() {
     _afdx_read 2 --vl --port --lmin --policing
     if _afdx_is_option; then
         case $command in
-            replay) _afdx_words --no-admission "${told[@]}" ;;
+            replay) _afdx_words --no-admission --explain-drops "${told[@]}" ;;
             send) _afdx_words "${told[@]}" ;;
             police) _afdx_words --vl --port --lmin --policing "${told[@]}" ;;
             check) _afdx_words --explain --help ;;

@@ -66,6 +66,7 @@ complete -c afdx -n '__afdx_in police replay send' -l line-buffered -d 'Hand ove
 complete -c afdx -n '__afdx_in police replay send' -l progress -d 'Say how much was read'
 complete -c afdx -n '__afdx_in police replay send' -l summary -d 'Print the counts at the end'
 complete -c afdx -n '__afdx_in replay' -l no-admission -d 'Also where the network is refused'
+complete -c afdx -n '__afdx_in replay' -l explain-drops -d 'Print how much too early frames came'
 complete -c afdx -n '__afdx_in police' -x -l vl -d 'The identifier of the link'
 complete -c afdx -n '__afdx_in police' -x -l port -d 'The input port of its frames'
 complete -c afdx -n '__afdx_in police' -x -l lmin -d 'The least length of a frame'

@@ -33,7 +33,7 @@ _afdx_program() {
             ;;
         replay)
             _arguments $help $told '--no-admission[also where the network is refused]' \
-                ":$config" ":$list"
+                '--explain-drops[print how much too early frames came]' ":$config" ":$list"
             ;;
         send)
             _arguments $help $told ":$config" ':system:_afdx_systems' \

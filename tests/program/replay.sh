@@ -207,6 +207,67 @@ listed "$all_sent"
 case_of 'each message once and in order' 0 "$all_told" '' replay "$work/tables.toml" -
 input=/dev/null
 
+# ---- replay: by how much frames came too early ---------------------------------------------
+
+early_of() { # NAME LIST OUT ERR : with --explain-drops; without it the same output alone
+    spelled "$2" >"$work/list"
+    case_of "$1" 0 "$(lines_of "$3")${3:+$'\n'}" "$(lines_of "$4")${4:+$'\n'}" \
+        replay --explain-drops "$work/tables.toml" "$work/list"
+    case_of "$1, unexplained" 0 "$(lines_of "$3")${3:+$'\n'}" '' \
+        replay "$work/tables.toml" "$work/list"
+}
+
+# Link 1 has a gap of 1 ms, a jitter of 500 us and frames of 84 bytes on the line: its account is
+# filled by 84 bytes in 1,000,000 ns up to 126 bytes. A first frame leaves 42, so the second lacks
+# 42, which 500,000 ns give.
+tables ''
+first="V 1 A accept / $(hello_at 1 6720)"
+early_of 'a frame that came half a gap too early' 'F 0 A 1 H1 / F 0 A 1 H1(01)' \
+    "V 1 A accept / V 2 A drop over-rate / $(hello_at 1 6720)" 'early 2 500000'
+early_of 'it comes 1 ns before that' 'F 0 A 1 H1 / F 499999 A 1 H1(01)' \
+    "$first / V 2 A drop over-rate" 'early 2 1'
+early_of 'it comes then' 'F 0 A 1 H1 / F 500000 A 1 H1(01)' \
+    "$first / V 2 A accept / $(hello_at 2 506720)" ''
+# What was dropped costs nothing, each side has its own account, and each drop its line.
+early_of 'several too early' \
+    'F 0 A 1 H1 / F 100 B 1 H1 / F 200 A 1 H1 / F 300 B 1 H1 / F 400 A 2 H1 / F 500 A 1 H1' \
+    "V 1 A accept / V 2 B accept / V 3 A drop over-rate / V 4 B drop over-rate \
+/ V 5 A drop wrong-port / V 6 A drop over-rate / $(hello_at 1 6720) / D 2 6820 B 3 \
+/ X 6820 s3 2 redundant" 'early 3 499800 / early 4 499800 / early 6 499500'
+# Policed by bytes, with frames of up to 87 bytes on the line: filled by 87 bytes in 1,000,000 ns up
+# to 130.5. A frame of 84 leaves 46.5, the next lacks 37.5, which 431,034.48.. ns give.
+tables 's/^lmax = 64/lmax = 67/; s/"frame"/"byte"/; s/^buffer = 252/buffer = 400/
+    s/^latency_us = .*/latency_us = 40/'
+early_of 'the wait is rounded up' 'F 0 A 1 H1 / F 0 A 1 H1(01)' \
+    "V 1 A accept / V 2 A drop over-rate / $(hello_at 1 6720)" 'early 2 431035'
+early_of 'it comes 1 ns before that, policed by bytes' 'F 0 A 1 H1 / F 431034 A 1 H1(01)' \
+    "$first / V 2 A drop over-rate" 'early 2 1'
+early_of 'it comes then, policed by bytes' 'F 0 A 1 H1 / F 431035 A 1 H1(01)' \
+    "$first / V 2 A accept / $(hello_at 2 437755)" ''
+# The same policed by frames: each is charged 87, so a first one leaves 43.5, as much as is lacked,
+# which 500,000 ns give.
+tables 's/^lmax = 64/lmax = 67/; s/^buffer = 252/buffer = 400/; s/^latency_us = .*/latency_us = 40/'
+early_of 'each frame is charged the greatest' 'F 0 A 1 H1 / F 0 A 1 H1(01)' \
+    "V 1 A accept / V 2 A drop over-rate / $(hello_at 1 6720)" 'early 2 500000'
+
+tables ''
+spelled 'F 0 A 1 H1 / F 0 A 1 H1(01) / F 1 A 1 H1(01) / F 0' >"$work/list"
+case_of 'too early before a fault of the list' 3 \
+    $'V 1 A accept\nV 2 A drop over-rate\nV 3 A drop over-rate\n' \
+    $'early 2 500000\nearly 3 499999\nlist BadLine 4\n' \
+    replay --explain-drops "$work/tables.toml" "$work/list"
+spelled 'F 0 A 1 H1 / F 0 A 1 H1(01)' >"$work/list"
+one_of_two='summary lines 2 accepted 1 dropped 1 lost 0 departed 1 too-old 0 delivered 1'
+case_of 'too early before the counts' 0 \
+    "$(lines_of "V 1 A accept / V 2 A drop over-rate / $(hello_at 1 6720)")"$'\n' \
+    $'early 2 500000\n'"$one_of_two"$'\n' \
+    replay --explain-drops --summary "$work/tables.toml" "$work/list"
+case_of 'too early without admission' 0 \
+    "$(lines_of "V 1 A accept / V 2 A drop over-rate / $(hello_at 1 6720)")"$'\n' \
+    $'early 2 500000\n' replay --explain-drops --no-admission "$work/tables.toml" "$work/list"
+case_of 'nothing is too early in a refused network' 1 '' $'admit A3 7 104 267995\n' \
+    replay --explain-drops examples/refused.toml examples/bench.list
+
 # ---- replay: tables that are not admitted --------------------------------------------------
 
 tables 's/^buffer = 252/buffer = 64/'

@@ -13,7 +13,7 @@ use afdx_explain::meaning_of;
 use afdx_replay::status::{DONE, NO_DEVICE_OR_MEMORY, WRONG_WORDS};
 use afdx_replay::{
     CommandedRule, Ended, Output, Policing, RunFault, Watched, check, finish, police_and_count,
-    replay_and_count, send_and_count,
+    replay_and_count, replay_and_explain, send_and_count,
 };
 use clap::error::ErrorKind;
 use clap::{ArgMatches, Error};
@@ -165,6 +165,7 @@ fn end_run<R: Drop, W: Write + Drop, E: Write + Drop>(
 enum Run<'a> {
     Police(CommandedRule),
     Replay { admission: bool, config: &'a [u8] },
+    ExplainedReplay { admission: bool, config: &'a [u8] },
     Send { config: &'a [u8], system: &'a str },
 }
 
@@ -172,7 +173,17 @@ impl Run<'_> {
     fn config(&self) -> &[u8] {
         match self {
             Run::Police(_) => &[],
-            Run::Replay { config, .. } | Run::Send { config, .. } => config,
+            Run::Replay { config, .. } => config,
+            Run::ExplainedReplay { config, .. } => config,
+            Run::Send { config, .. } => config,
+        }
+    }
+
+    /// Whether lines come on standard error while it goes on.
+    fn explains_drops(&self) -> bool {
+        match self {
+            Run::ExplainedReplay { .. } => true,
+            _ => false,
         }
     }
 }
@@ -188,29 +199,22 @@ fn run_from<R: Read + Drop>(
     let Ok(mut output) = Output::new(rt.alloc(), output_room(rt, matches), device) else {
         return memory(rt);
     };
-    let told = is_told(rt, matches);
+    let told = is_told(rt, matches) && !run.explains_drops();
     let mut input = Watched::new(Traced::new(Counted::new(rt, told, input)));
     let mut errors = Watched::new(Heard::new(Cleared::new(rt, told, rt.stderr())));
+    let (list, lines, faults) = (&mut input, &mut output, &mut errors);
     let ended = match run {
-        Run::Police(rule) => {
-            police_and_count(rt.alloc(), rule, &mut input, &mut output, &mut errors)
+        Run::Police(rule) => police_and_count(rt.alloc(), rule, list, lines, faults),
+        Run::Replay { admission, config } => {
+            replay_and_count(rt.alloc(), *admission, config, list, lines, faults)
         }
-        Run::Replay { admission, config } => replay_and_count(
-            rt.alloc(),
-            *admission,
-            config,
-            &mut input,
-            &mut output,
-            &mut errors,
-        ),
-        Run::Send { config, system } => send_and_count(
-            rt.alloc(),
-            config,
-            system,
-            &mut input,
-            &mut output,
-            &mut errors,
-        ),
+        Run::ExplainedReplay { admission, config } => {
+            let drops = Watched::new(rt.stderr());
+            replay_and_explain(rt.alloc(), *admission, config, list, lines, faults, drops).0
+        }
+        Run::Send { config, system } => {
+            send_and_count(rt.alloc(), config, system, list, lines, faults)
+        }
     };
     end_run(rt, matches, run.config(), ended, input, output, errors)
 }
@@ -258,9 +262,12 @@ fn replay_list(rt: &HostRuntime, matches: &ArgMatches<'_>) -> u8 {
         Ok(config) => config,
         Err(status) => return status,
     };
-    let run = Run::Replay {
-        admission: !matches.get_flag("no-admission"),
-        config: config.as_slice(),
+    let admission = !matches.get_flag("no-admission");
+    let config = config.as_slice();
+    let run = if matches.get_flag("explain-drops") {
+        Run::ExplainedReplay { admission, config }
+    } else {
+        Run::Replay { admission, config }
     };
     run_list(rt, matches, &run, list)
 }

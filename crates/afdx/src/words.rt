@@ -171,9 +171,13 @@ Example:
 
 const FREELY_HELP: &str = "Replays also in tables that are not admitted";
 
+const EARLY_HELP: &str = "Prints on standard error, for each frame that was dropped as over-rate, \
+'early n NS': it came NS ns too early";
+
 fn replay_command<'a>(alloc: Global) -> Result<Command<'a>, AllocError> {
     let words = vec![in alloc;
         flag(alloc, "no-admission", FREELY_HELP),
+        flag(alloc, "explain-drops", EARLY_HELP),
         explain_option(alloc),
         line_buffered(alloc),
         progress_option(alloc),

@@ -3,13 +3,20 @@
 use crate::entry::Entry;
 
 /// Lines of the output.
-pub const LINES: [Entry; 10] = [
+pub const LINES: [Entry; 11] = [
     (
         "\
 accept
 V n A|B accept",
         "\
 accept: the frame of line n was accepted at the switch of this side.",
+    ),
+    (
+        "early n n",
+        "\
+early n NS: on standard error, with --explain-drops: the frame of line n was dropped as
+over-rate: it came NS ns too early. It would have been accepted that much later, and no
+sooner.",
     ),
     (
         "\

@@ -53,6 +53,7 @@ impl Drop for Network {
 impl Network {
     ghost use Rattle.afdx_config.specs.Rows.{Rows};
     ghost use Rattle.afdx_police.specs.Arrival.{arrival_with};
+    ghost use Rattle.afdx_switch.specs.Early.{IsEarlyBy};
     ghost use Rattle.afdx_switch.specs.Verdicts.{shape_fault};
     ghost use Rattle.afdx_network.specs.Events.{Event, Came, admission_after, arrivals_in};
     ghost use Rattle.afdx_network.specs.Order.{AreEvents};
@@ -110,6 +111,18 @@ impl Network {
         self.switches
             .get_mut(side)
             .arrive_checked(time, port, tag, frame)
+    }
+
+    /// By how many nanoseconds a frame comes too early that arrives at one side's switch at `time`,
+    /// if none comes before it: the least wait after which its link's account there covers it, 0
+    /// for one that would be accepted. Of one with something wrong in its shape it says nothing.
+    pub fn early(&self, side: Side, time: u64, port: u8, frame: Checked<'_>) -> u64
+        requires { IsUntil self.now time }
+        ensures { (t : Rows) (events : List Event) (tag : ℕ) → StandsFor t self.now events →
+            let arrival = arrival_with tag time side port frame.entry.bytes.now in
+            shape_fault t arrival ≡ None → IsEarlyBy t (arrivals_in events) arrival result }
+    {
+        self.switches.get(side).early(time, port, frame)
     }
 
     /// The next departure of both sides by `until`, in ns: a slot that ends at or before `until`,

@@ -140,6 +140,28 @@ fn whole_frames(rt: HostRuntime) -> Result<(), Fail> {
     Ok(())
 }
 
+/// By how much a second frame of 64 bytes is too early at these times, at a new policer of this
+/// rule.
+fn early_at<C: Charge>(rule: &LinkRule, times: [u64; 3]) -> [u64; 3] {
+    let mut policer = Policer::<C>::new(rule);
+    let _ = policer.offer(0, 64);
+    [
+        policer.early(times[0], 64),
+        policer.early(times[1], 64),
+        policer.early(times[2], 64),
+    ]
+}
+
+#[test]
+fn early() -> Result<(), Fail> {
+    // By bytes 37.5 of 87 bytes are lacked at first, by frames half of them.
+    let rule = rule_of_link_1(67).ok_or("range")?;
+    let by_byte = early_at::<ByteCharge>(&rule, [0, 431_034, 431_035]);
+    equal(by_byte, [431_035, 1, 0])?;
+    let by_frame = early_at::<FrameCharge>(&rule, [0, 499_999, u64::MAX]);
+    equal(by_frame, [500_000, 1, 0])
+}
+
 /// How many frames of 64 bytes a new policer of this rule takes at once, of 20.
 fn taken_at_once(rule: &LinkRule) -> usize {
     let mut policer = Policer::<ByteCharge>::new(rule);
@@ -289,6 +311,7 @@ fn account_over_time(rt: HostRuntime) -> Result<(), Fail> {
 fn laws_hold() {
     laws::fits_is_each_window();
     laws::fits_is_account_test();
+    laws::least_wait_is_fill();
     laws::accounts_move();
     laws::arrivals_are_offers();
     laws::regular_is_accepted();

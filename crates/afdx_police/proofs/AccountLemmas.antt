@@ -72,7 +72,7 @@ into-units m ms s n p b j is-bag e h =
     let units : m * (b * n) ≡ byte_units * n = left ∙ rw is-bag refl in
     omega (arith, scaled, units)
 
-factor_positive : (ms m : ℕ) → ms * m ≡ 128 → 0 < m
+pub factor_positive : (ms m : ℕ) → ms * m ≡ 128 → 0 < m
 factor_positive ms zero h = absurd (omega (arith, h))
 factor_positive ms (suc m) h = omega arith
 

@@ -1,5 +1,6 @@
 pub mod AccountLemmas
 pub mod DelayLemmas
+pub mod EarlyLemmas
 pub mod FirstOfLemmas
 pub mod FrameLemmas
 pub mod PolicerLemmas

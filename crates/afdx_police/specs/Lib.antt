@@ -2,6 +2,7 @@ pub mod Account
 pub mod Arrival
 pub mod Charge
 pub mod Delayed
+pub mod Early
 pub mod Laws
 pub mod LinkAccounts
 pub mod Offers

@@ -26,6 +26,7 @@ pub enum LinkAccount {
 }
 
 impl LinkAccount {
+    ghost use Rattle.afdx_police.specs.Early.{IsEarlyBy, early_after};
     ghost use Rattle.afdx_police.specs.LinkAccounts.{IsOfferedAs, StandsForOwn, account_of};
     ghost use Rattle.afdx_police.specs.LinkAccounts.{last_time};
 
@@ -112,6 +113,30 @@ impl LinkAccount {
             None
         } else {
             Some(Reason::OverRate)
+        }
+    }
+
+    /// By how many nanoseconds an arrival of the link without a fault in its shape comes too early,
+    /// by its time in nanoseconds and its length in bytes: 0 if it would be accepted.
+    pub fn early(&self, time: u64, length: u64) -> u64
+        requires in_time { last_time self.now ≤ time }
+        requires shortest { least_frame ≤ length }
+        requires longest { length ≤ (account_of self.now).rule.lmax }
+
+        // Whatever own arrivals led here, it is the least wait after which the arrival would be
+        // accepted, which until then is over its link's rate.
+        ensures least { (rule : Rule) (past : List Arrival) (x : Arrival) →
+            StandsForOwn rule self.now past →
+            IsOfferedAs rule x (record { time = time; length = length }) →
+            IsEarlyBy rule past x result }
+        ensures fill { (rule : Rule) (past : List Arrival) (x : Arrival) →
+            StandsForOwn rule self.now past →
+            IsOfferedAs rule x (record { time = time; length = length }) →
+            result ≡ early_after rule past x }
+    {
+        match self {
+            LinkAccount::ByByte(policer) => policer.early(time, length),
+            LinkAccount::ByFrame(policer) => policer.early(time, length),
         }
     }
 

@@ -5,6 +5,7 @@ ghost use Rattle.afdx_police.specs.Laws.{ArrivalsAreOffers, EachOwnSteps, Strang
 ghost use Rattle.afdx_police.specs.Laws.{FaultsChangeNothing, SoundHasNoFault, SoundIsChargedFor};
 ghost use Rattle.afdx_police.specs.Laws.{VerdictsDecide, NoFrameIsRefused, FaultsKeepTheirWords};
 ghost use Rattle.afdx_police.specs.Delayed.{DelayedAreAccepted, RoomIsNeeded};
+ghost use Rattle.afdx_police.specs.Early.{LeastWaitIsFill};
 ghost use Rattle.afdx_police.specs.Stream.{RegularIsAccepted};
 
 /// The window rule's test is that of each window.
@@ -15,6 +16,11 @@ pub fn fits_is_each_window()
 /// The window rule's fit is the test of an account.
 pub fn fits_is_account_test()
     ensures { FitsIsAccountTest }
+{}
+
+/// A frame that doesn't fit does so once the account is filled with what it lacks, and no sooner.
+pub fn least_wait_is_fill()
+    ensures { LeastWaitIsFill }
 {}
 
 /// How an account moves.

@@ -37,7 +37,9 @@ impl<C> Model for Policer<C> {
 
 impl<C: Charge> Policer<C> {
     ghost use Rattle.afdx_frame.specs.Regulation.{cap};
+    ghost use Rattle.afdx_police.specs.Early.{IsLeastWait, least_wait};
     ghost use Rattle.afdx_police.specs.Policer.{Offer, StandsFor, is_accepted};
+    ghost use Rattle.afdx_police.specs.Policer.{accepted_offers, charged_offer};
     ghost use Rattle.afdx_police.specs.Rule.{regulation_of};
     ghost use Rattle.afdx_police.specs.RuleOf.{rule_of};
 
@@ -86,6 +88,33 @@ impl<C: Charge> Policer<C> {
         self.time = time;
         self.level = if passes { level - charge } else { level };
         passes
+    }
+
+    /// The least number of nanoseconds after which a frame of `length` bytes that comes at `time`
+    /// would be accepted, if none comes before: 0 if it is accepted at once.
+    pub fn early(&self, time: u64, length: u64) -> u64
+        requires in_time { self.now.time ≤ time }
+        requires shortest { least_frame ≤ length }
+        requires longest { length ≤ self.now.rule.lmax }
+
+        // Whatever offers led here, it is the window rule's least wait over those that were
+        // accepted, and the time in which the account is filled with what it lacks.
+        ensures least { (offers : List Offer) → StandsFor C.charge_of self.now offers →
+            let link = regulation_of self.now.rule in
+            let last : Offer = record { time = time; length = length } in
+            IsLeastWait link (accepted_offers C.charge_of link offers)
+            (charged_offer C.charge_of link last) result }
+        ensures fill { (offers : List Offer) → StandsFor C.charge_of self.now offers →
+            let link = regulation_of self.now.rule in
+            let last : Offer = record { time = time; length = length } in
+            result ≡ least_wait link (accepted_offers C.charge_of link offers)
+            (charged_offer C.charge_of link last) }
+    {
+        let level = self.level_at(time);
+        let charge = C::charge(self.rule.smax(), length + WIRE_EXTRA) * BYTE_UNITS;
+        let lack = charge.saturating_sub(level);
+        let rate = self.rule.fill_rate();
+        lack.div_ceil(rate)
     }
 
     /// The level of the account at this time, if nothing is charged until then.

@@ -1,5 +1,6 @@
 pub mod TextLemmas
 pub mod ToldLemmas
+pub mod EarlyLemmas
 pub mod CheckLemmas
 pub mod RefusalLemmas
 pub mod ReplayLemmas

@@ -21,7 +21,7 @@ pub use ending::{Ended, finish};
 pub use policing::command::{CommandedRule, police, police_and_count};
 pub use policing::run::run_police;
 pub use replaying::admitted::run;
-pub use replaying::command::{replay, replay_and_count};
+pub use replaying::command::{replay, replay_and_count, replay_and_explain};
 pub use replaying::run::run_unadmitted;
 pub use sending::command::{send, send_and_count};
 pub use sending::run::run_send;

@@ -2,5 +2,6 @@
 
 pub mod admitted;
 pub mod command;
+mod explained;
 mod lines;
 pub mod run;

@@ -5,6 +5,7 @@ pub mod TakeLemmas
 pub mod ArrivalLemmas
 pub mod StandsLemmas
 pub mod FoundLemmas
+pub mod EarlyLemmas
 pub mod NewLemmas
 pub mod PlaceLemmas
 pub mod LawLemmas

@@ -3,6 +3,7 @@ pub mod HeldFrames
 pub mod HeldFramesLaw
 pub mod Tables
 pub mod Verdicts
+pub mod Early
 pub mod Lines
 pub mod Departures
 pub mod Switching

@@ -1,6 +1,6 @@
 //! One switch, as its callers see it.
 
-ghost use Rattle.std.specs.Prelude.{◌≡◌, ℕ, ◌≤◌, IfOk, OnOk, true};
+ghost use Rattle.std.specs.Prelude.{◌≡◌, ℕ, ◌≤◌, IfOk, OnOk, None, true};
 ghost use Rattle.afdx_port.specs.Times.{latest_put};
 
 use crate::build::build;
@@ -107,10 +107,14 @@ impl Model for Switch {
 
 impl Switch {
     ghost use Rattle.afdx_config.specs.Lawful.{IsLawful};
+    ghost use Rattle.afdx_config.specs.Rows.{Rows};
     ghost use Rattle.afdx_frame.specs.declared.link.Side.{Side};
     ghost use Rattle.afdx_switch.specs.Calls.{Arrives, TellsDue, TellsOrder, Takes};
+    ghost use Rattle.afdx_police.specs.Arrival.{arrival_with};
+    ghost use Rattle.afdx_switch.specs.Early.{IsEarlyBy};
     ghost use Rattle.afdx_switch.specs.Switching.{StandsFor, IsQuiet, no_calls, frames_held};
-    ghost use Rattle.afdx_switch.specs.Switching.{last_time};
+    ghost use Rattle.afdx_switch.specs.Switching.{SwitchHistory, last_time};
+    ghost use Rattle.afdx_switch.specs.Verdicts.{shape_fault};
 
     /// A switch of these tables at time 0, with full accounts and idle ports.
     /// The error says that memory was refused.
@@ -167,6 +171,19 @@ impl Switch {
         let arrived = self.state.arrive(time, port, tag, frame, store, shares);
         self.shares.clear();
         arrived
+    }
+
+    /// By how many nanoseconds a frame comes too early that arrives at `time`, if none comes before
+    /// it: the least wait after which its link's account covers it, 0 for one that would be
+    /// accepted. Of a frame with something wrong in its shape it says nothing.
+    pub fn early(&self, time: u64, port: u8, frame: Checked<'_>) -> u64
+        requires clock { last_time self.now ≤ time }
+        ensures { (t : Rows) (side : Side) (h : SwitchHistory) (tag : ℕ) →
+            StandsFor t side self.now h →
+            let arrival = arrival_with tag time side port frame.entry.bytes.now in
+            shape_fault t arrival ≡ None → IsEarlyBy t h.arrivals arrival result }
+    {
+        self.state.early(time, port, frame)
     }
 
     /// When the next turn of all ports will be over if no frame arrives before, and whether it is a

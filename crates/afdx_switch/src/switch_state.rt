@@ -1,7 +1,7 @@
 //! What a switch does with its accounts and its ports.
 
 ghost use Rattle.std.specs.Prelude.{[], ◌≡◌, ℕ, ◌≤◌, ◌<◌, ◌+◌, List, Some, IfOk, IfErr, OnOk, IfSome};
-ghost use Rattle.std.specs.Prelude.{length, slice_get, true, All, vec_len};
+ghost use Rattle.std.specs.Prelude.{length, slice_get, true, All, vec_len, None};
 ghost use Rattle.afdx_frame.specs.Lengths.{least_frame, greatest_frame};
 ghost use Rattle.afdx_frame.specs.Ports.{last_port};
 ghost use Rattle.afdx_police.specs.LinkAccounts as accounts;
@@ -147,6 +147,7 @@ impl SwitchState {
     ghost use Rattle.afdx_frame.specs.Sealing.{is_sealed};
     ghost use Rattle.afdx_police.specs.Arrival.{arrival_with};
     ghost use Rattle.afdx_switch.specs.Calls.{Arrives, TellsDue, TellsOrder, Takes};
+    ghost use Rattle.afdx_switch.specs.Early.{IsEarlyBy};
     ghost use Rattle.afdx_switch.specs.Found.{Found, IsFaulted};
     ghost use Rattle.afdx_switch.specs.Lines.{IsPlaceOf};
     ghost use Rattle.afdx_switch.specs.Shares.{AreOffered};
@@ -154,6 +155,7 @@ impl SwitchState {
     ghost use Rattle.afdx_switch.specs.Switching.{SwitchHistory, StandsFor, IsQuiet};
     ghost use Rattle.afdx_switch.specs.Switching.{frames_held, last_time};
     ghost use Rattle.afdx_switch.specs.Tables.{rows_of};
+    ghost use Rattle.afdx_switch.specs.Verdicts.{shape_fault};
 
     /// The place of the link of this identifier.
     fn place_of(&self, vl: VlId) -> Option<usize>
@@ -267,6 +269,24 @@ impl SwitchState {
         }
         let lost = self.send_on(place, shares);
         Ok(Verdict::Accepted { lost })
+    }
+
+    /// By how many nanoseconds a frame comes too early for its link's account.
+    pub(crate) fn early(&self, time: u64, port: u8, frame: Checked<'_>) -> u64
+        requires sound { IsSwitchSound self.now }
+        requires clock { last_time self.now ≤ time }
+        ensures { (t : Rows) (side : Side) (h : SwitchHistory) (tag : ℕ) →
+            StandsFor t side self.now h →
+            let arrival = arrival_with tag time side port frame.entry.bytes.now in
+            shape_fault t arrival ≡ None → IsEarlyBy t h.arrivals arrival result }
+    {
+        match self.judged(port, frame) {
+            Ok(place) => {
+                let line = &self.lines[place];
+                line.account.early(time, frame.bytes.len() as u64)
+            }
+            Err(_) => 0,
+        }
     }
 
     /// When the next turn is over.

@@ -19,6 +19,7 @@ ghost use Rattle.afdx_replay.specs.replaying.DefinedRun.{DefinedAnswers};
 ghost use Rattle.afdx_run.specs.Listed.{arrival_at};
 ghost use Rattle.afdx_replay.specs.replaying.Replayed.{WritesSome, Answers, ToldAll, TellsDeparture, HasRoom};
 ghost use Rattle.afdx_text.specs.Sinks.{IsOfOutput};
+ghost use Rattle.afdx_switch.specs.Verdicts.{reason_of as reason_after};
 ghost use Rattle.afdx_replay.specs.replaying.Text.{replay_counts, frames_left, lines_after, with_admission};
 
 use crate::replaying::lines::{hear, put_admission, put_departure, reason_of};
@@ -35,11 +36,11 @@ use std::alloc::{AllocError, Global};
 use std::io::{Read, Write};
 
 /// What a replay works with.
-struct Replay {
-    network: Network,
+pub(crate) struct Replay {
+    pub(crate) network: Network,
     systems: Systems,
     text: Text,
-    counts: Summary,
+    pub(crate) counts: Summary,
 }
 
 impl Drop for Replay {
@@ -76,7 +77,7 @@ impl Replay {
     ghost use Rattle.afdx_replay.specs.replaying.Told.{TellsItems};
 
     /// It has told nothing yet.
-    fn new(alloc: Global, tables: &Tables) -> Result<Replay, AllocError>
+    pub(crate) fn new(alloc: Global, tables: &Tables) -> Result<Replay, AllocError>
         ensures { (output : Option (List ℕ)) →
             IfOk result (λ replay. TellsItems tables.now replay output output []) }
     {
@@ -136,7 +137,11 @@ impl Replay {
     }
 
     /// Tells what leaves by `until`.
-    fn tell_departures<O: Sink>(&mut self, until: u64, output: &mut O) -> Result<(), RunFault>
+    pub(crate) fn tell_departures<O: Sink>(
+        &mut self,
+        until: u64,
+        output: &mut O,
+    ) -> Result<(), RunFault>
         requires clock { network.IsUntil self.old.network until }
         requires room { (n : ℕ) × (n ≤ most_lines) × HasRoomFor self.old n }
         requires sound { O.failed output.old ≡ false }
@@ -164,14 +169,15 @@ impl Replay {
         Ok(())
     }
 
-    /// Tells what leaves before an arrival, and then what became of it.
-    fn tell_arrival<O: Sink>(
+    /// Tells what leaves before an arrival, and then what became of it. Answers why it was dropped,
+    /// if it was.
+    pub(crate) fn tell_arrival<O: Sink>(
         &mut self,
         n: u64,
         heading: &Heading,
         arrived: Checked<'_>,
         output: &mut O,
-    ) -> Result<(), RunFault>
+    ) -> Result<Option<Reason>, RunFault>
         requires limit { heading.now.time ≤ latest_listed }
         requires clock { network.IsUntil self.old.network heading.now.time }
         requires room { (m : ℕ) × (m < most_lines) × HasRoomFor self.old m }
@@ -189,14 +195,19 @@ impl Replay {
             OnErr result (WritesSome t start (O.written output.new) past
             ⊎ WritesSome t start (O.written output.new)
             (arrival_at n (listed_frame heading.now arrived.entry.bytes.now) ∷ past)) }
+        ensures reason { (t : Rows) (start : Option (List ℕ)) (past : List Arrival) →
+            TellsArrivals t self.old start (O.written output.old) past →
+            IfOk result (λ reason. reason ≡ reason_after t past
+            (arrival_at n (listed_frame heading.now arrived.entry.bytes.now))) }
     {
         self.tell_departures(heading.time, output)?;
         let verdict = self
             .network
             .arrive(heading.side, heading.time, heading.port, n, arrived)?;
         let lost = put_admission(output, &mut self.text, n, heading.side, &verdict)?;
-        count_admission(&mut self.counts, reason_of(&verdict), lost);
-        Ok(())
+        let reason = reason_of(&verdict);
+        count_admission(&mut self.counts, reason, lost);
+        Ok(reason)
     }
 }
 

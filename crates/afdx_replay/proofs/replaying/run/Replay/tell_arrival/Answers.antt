@@ -2,6 +2,7 @@ use Rattle.std.proofs.Common.{◌∙◌, ◌∷◌, List, length, subst, ap, inl
 use Rattle.afdx_police.specs.Arrival.{Arrival, arrival_with}
 use Rattle.afdx_network.specs.Events.{Came, admission_after, arrivals_in}
 use Rattle.afdx_network.specs.Network as network
+use Rattle.afdx_switch.specs.Verdicts.{reason_of}
 use Rattle.afdx_replay.specs.replaying.Replayed.{WritesSome}
 use Rattle.afdx_replay.proofs.ReplayLemmas.{lines-told, told-came, told-some, begun-came, room-less}
 use Rattle.afdx_text.proofs.OutputLemmas.{on-err}
@@ -29,9 +30,9 @@ returns-clause-told g c t start past h =
       events = Came a ∷ k.0;
       arrivals_are = ap (λ (p : List Arrival). x ∷ p) (k.1 ∙ h.arrivals_are);
       at_arrival = tt;
-      told = told-came t _ _ _ _ _ start _ _ k.0 a c.reason_of.result c.in_ok-lost.lost _ k.2
+      told = told-came t _ _ _ _ _ start _ _ k.0 a c.reason_of-reason.result c.in_ok-lost.lost _ k.2
           (c.in_ok-verdict.ensures.stands t k.0 k.2.switches_are)
-          (c.reason_of.ensures ∙ v.reason) (c.in_ok-lost.ensures.count ∙ ap length v.lost)
+          (c.reason_of-reason.ensures ∙ v.reason) (c.in_ok-lost.ensures.count ∙ ap length v.lost)
           c.count_admission.ensures.counted
           (lines-told c.in_ok-verdict.verdict a v) c.in_ok-lost.ensures.lines;
     }
@@ -57,3 +58,12 @@ returns-in_err-lost-clause-some g c t start past h =
     (k.1 ∙ h.arrivals_are)
     (begun-came t _ _ _ _ start _ _ k.0 a _ k.2 (c.in_ok-verdict.ensures.stands t k.0 k.2.switches_are)
     (lines-told c.in_ok-verdict.verdict a v) c.in_err-lost.ensures.front)))
+
+pub returns-clause-reason : goal.returns-clause-reason
+returns-clause-reason g c t start past h =
+    let k = c.in_ok-tell_departures.ensures.told t h.events start h.told in
+    let x = arrival_with c.args.n c.args.heading.now.time c.args.heading.now.side
+    c.args.heading.now.port c.args.arrived.bytes.now in
+    let v = c.in_ok-verdict.ensures.verdict t k.0 k.2.switches_are in
+    c.reason_of-reason.ensures ∙ v.reason
+    ∙ ap (λ (p : List Arrival). reason_of t p x) (k.1 ∙ h.arrivals_are)

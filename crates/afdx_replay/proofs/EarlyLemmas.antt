@@ -1,0 +1,75 @@
+-- What is told of the frames that came too early.
+use Rattle.std.proofs.Common.{◌≡◌, ℕ, true, false, List, [], ◌∷◌, ◌++◌, Option, Some, None, refl, sym, ap, ◌∙◌}
+use Rattle.std.proofs.Common.{Bool, IfSome, length, subst}
+use Rattle.afdx_config.specs.Rows.{Rows}
+use Rattle.afdx_police.specs.Arrival.{Arrival}
+use Rattle.afdx_police.specs.declared.shape.Reason.{Reason}
+use Rattle.afdx_police.specs.declared.shape.Reason.TheVariants.{TooShort, TooLong, BadFcs, BadAddress, UnknownLink}
+use Rattle.afdx_police.specs.declared.shape.Reason.TheVariants.{WrongPort, OverLmax, UnderLmin, OverRate}
+use Rattle.afdx_lists.specs.Lines.{lines_of}
+use Rattle.afdx_lists.specs.declared.watched.Watched.{Watched}
+use Rattle.afdx_run.specs.ListRun.{IsDone}
+use Rattle.afdx_run.specs.Listed.{arrivals_of, frames}
+use Rattle.afdx_switch.specs.Early.{IsEarlyBy}
+use Rattle.afdx_switch.specs.Verdicts.{reason_of, shape_fault}
+use Rattle.afdx_switch.proofs.EarlyLemmas.{early-dropped, over-rate-sound}
+use Rattle.afdx_text.specs.Telling.{Tells}
+use Rattle.afdx_text.proofs.TellingLemmas.{Tells-more, Tells-none}
+use Rattle.afdx_replay.specs.replaying.Early.{TellsEarly, IsLineOn, early_line, is_over_rate}
+
+over-rate : (reason : Option Reason) → is_over_rate reason ≡ true → reason ≡ Some OverRate
+over-rate None is = absurd (cc)
+over-rate (Some TooShort) is = absurd (cc)
+over-rate (Some TooLong) is = absurd (cc)
+over-rate (Some BadFcs) is = absurd (cc)
+over-rate (Some BadAddress) is = absurd (cc)
+over-rate (Some UnknownLink) is = absurd (cc)
+over-rate (Some WrongPort) is = absurd (cc)
+over-rate (Some OverLmax) is = absurd (cc)
+over-rate (Some UnderLmin) is = absurd (cc)
+over-rate (Some OverRate) is = refl
+
+module _ {D : Type 0} (contents : D → Option (List ℕ)) (t : Rows) where
+  -- no arrival is told yet
+  pub early-start : (drops : Watched D) → TellsEarly contents t drops drops []
+  early-start drops = record { text = []; lines = refl; told = Tells-none contents drops }
+
+  more : (start before after : Watched D) (past : List Arrival) (x : Arrival) (over : Bool) (line : List ℕ)
+      → TellsEarly contents t start before past → is_over_rate (reason_of t past x) ≡ over
+      → IsLineOn t past x over line → Tells contents before after line
+      → TellsEarly contents t start after (x ∷ past)
+  more start before after past x over line h is on told = record {
+    text = h.text ++ line;
+    lines = record {
+      before = h.text;
+      line = line;
+      are_before = h.lines;
+      is = subst (λ (b : Bool). IsLineOn t past x b line) (sym is) on;
+      whole = refl;
+    };
+    told = Tells-more contents start before after h.text line h.told told;
+  }
+
+  -- one arrival more, which was dropped for its link's rate
+  pub early-more : (start before after : Watched D) (past : List Arrival) (x : Arrival) (reason : Option Reason)
+      (wait : ℕ) → TellsEarly contents t start before past → reason ≡ reason_of t past x → is_over_rate reason ≡ true
+      → (shape_fault t x ≡ None → IsEarlyBy t (x ∷ past) x wait) → Tells contents before after (early_line x.tag wait)
+      → TellsEarly contents t start after (x ∷ past)
+  early-more start before after past x reason wait h is over early told =
+      let dropped : reason_of t past x ≡ Some OverRate = sym is ∙ over-rate reason over in
+      more start before after past x true (early_line x.tag wait) h (ap is_over_rate (sym is) ∙ over)
+      (wait, early-dropped t past x OverRate wait dropped (early (over-rate-sound t past x dropped)), refl) told
+
+  -- or wasn't
+  pub early-same : (start drops : Watched D) (past : List Arrival) (x : Arrival) (reason : Option Reason)
+      → TellsEarly contents t start drops past → reason ≡ reason_of t past x → is_over_rate reason ≡ false
+      → TellsEarly contents t start drops (x ∷ past)
+  early-same start drops past x reason h is kept =
+      more start drops drops past x false [] h (ap is_over_rate (sym is) ∙ kept) refl (Tells-none contents drops)
+
+-- what is true of all that the lines of a list say
+pub done-told : (told : List Arrival → Type 0) (n : ℕ) (input : Option (List ℕ))
+    → IfSome input (λ bytes. IsDone frames told n (lines_of bytes))
+    → IfSome input (λ bytes. told (arrivals_of (lines_of bytes) (length (lines_of bytes))))
+done-told told n None h = tt
+done-told told n (Some bytes) h = h.are_told

@@ -1,0 +1,80 @@
+-- What is told of the frames that were dropped for their link's rate: by how much each came too
+-- early. A list of arrivals has the newest first.
+use Rattle.std.specs.Prelude.{ℕ, ◌≡◌, Bool, true, false, Option, Some, List, [], ◌∷◌, ◌++◌, length}
+use Rattle.std.specs.Prelude.{Result, Ok, Err, codes, decimal}
+use Rattle.afdx_config.specs.Rows.{Rows}
+use Rattle.afdx_police.specs.Arrival.{Arrival}
+use Rattle.afdx_police.specs.declared.shape.Reason.{Reason}
+use Rattle.afdx_police.specs.declared.shape.Reason.TheVariants.{OverRate}
+use Rattle.afdx_lists.specs.Lines.{lines_of}
+use Rattle.afdx_lists.specs.declared.fault.RunFault.{RunFault}
+use Rattle.afdx_lists.specs.declared.frame_line.Heading.{Heading}
+use Rattle.afdx_lists.specs.declared.watched.Watched.{Watched}
+use Rattle.afdx_switch.specs.Early.{IsEarlyBy}
+use Rattle.afdx_switch.specs.Verdicts.{reason_of}
+use Rattle.afdx_text.specs.Telling.{Tells}
+use Rattle.afdx_run.specs.Engine.{Item}
+use Rattle.afdx_run.specs.Items.{arrivals}
+use Rattle.afdx_run.specs.Listed.{arrivals_of}
+use Rattle.afdx_run.specs.Stops.{StopsAt}
+use Rattle.afdx_replay.specs.replaying.Replayed.{Known}
+use Rattle.afdx_replay.specs.replaying.Told.{TellsItems, TellsAll}
+use Rattle.afdx_replay.specs.declared.replaying.run.Replay.{Replay}
+use Rattle.afdx_replay.specs.declared.summary.Summary.{Summary}
+
+abbrev pub is_over_rate : Option Reason → Bool
+is_over_rate (Some OverRate) = true
+is_over_rate reason = false
+
+-- the frame of line n came so many nanoseconds too early
+abbrev pub early_line : ℕ → ℕ → List ℕ
+early_line n wait = codes "early " ++ decimal n ++ codes " " ++ decimal wait ++ codes "\n"
+
+-- the line of an arrival that comes after these: if it is dropped for its link's rate, by how much
+-- it came too early; else there is none
+abbrev pub IsLineOn : Rows → List Arrival → Arrival → Bool → List ℕ → Type 0
+IsLineOn t past x true line =
+    (wait : ℕ) × IsEarlyBy t past x wait × (line ≡ early_line x.tag wait)
+IsLineOn t past x false line = line ≡ []
+
+-- one more line, behind the text of those before it
+pub record IsOneMore (holds is_line : List ℕ → Type 0) (text : List ℕ) : Type 0 where
+  pub before : List ℕ
+  pub line : List ℕ
+  pub are_before : holds before
+  pub is : is_line line
+  pub whole : text ≡ before ++ line
+
+-- the text has the line of each of these arrivals that has one, in order
+abbrev pub AreEarlyLines : Rows → List Arrival → List ℕ → Type 0
+AreEarlyLines t [] text = text ≡ []
+AreEarlyLines t (x ∷ past) text =
+    IsOneMore (AreEarlyLines t past) (IsLineOn t past x (is_over_rate (reason_of t past x))) text
+
+module _ {D : Type 0} (contents : D → Option (List ℕ)) where
+  -- a device was told of these arrivals
+  pub record TellsEarly (t : Rows) (old new : Watched D) (past : List Arrival) : Type 0 where
+    pub text : List ℕ
+    pub lines : AreEarlyLines t past text
+    pub told : Tells contents old new text
+
+  -- a replay has told of the items of a source, and a device of those that came too early
+  abbrev pub ExplainsItems : Rows × Watched D → Replay → Watched D → Known → Known →
+      List (Item Heading) → Type 0
+  ExplainsItems rules replay drops old new past =
+      TellsItems rules.0 replay old new past × TellsEarly rules.0 rules.1 drops (arrivals past)
+
+  -- the same with all that is told at the end
+  abbrev pub ExplainsAll : Rows × Watched D → Replay → Watched D → Known → Known →
+      List (Item Heading) → Type 0
+  ExplainsAll rules replay drops old new past =
+      TellsAll rules.0 replay old new past × TellsEarly rules.0 rules.1 drops (arrivals past)
+
+  -- what a device is told by a replay with this answer that is given a list of these bytes, after
+  -- which the input has `rest`; after a failed write, or want of memory, nothing is said of it
+  abbrev pub ExplainsAnswer : Rows → List ℕ → Option (List ℕ) → (old new : Watched D) →
+      Result Summary RunFault → Type 0
+  ExplainsAnswer t bytes rest old new (Ok summary) =
+      TellsEarly t old new (arrivals_of (lines_of bytes) (length (lines_of bytes)))
+  ExplainsAnswer t bytes rest old new (Err fault) =
+      StopsAt (TellsEarly t old new) (λ past. Unit {0}) bytes rest fault
