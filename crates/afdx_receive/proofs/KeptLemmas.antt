@@ -1,33 +1,18 @@
 -- Memories that are found by the identifiers of their links.
-use Rattle.std.proofs.Common.{◌≡◌, ℕ, zero, suc, ◌<◌, ◌≤◌, Bool, true, false, cond, inl, inr}
-use Rattle.std.proofs.Common.{Option, Some, None, List, [], ◌∷◌, ◌++◌, length, unwrap_or, Bor}
-use Rattle.std.proofs.Common.{nat_eq, refl, sym, subst, ◌∙◌, ap, arith}
+use Rattle.std.proofs.Common.{◌≡◌, ℕ, zero, suc, ◌+◌, ◌<◌, ◌≤◌, Bool, true, false, cond, inl, inr}
+use Rattle.std.proofs.Common.{Option, Some, None, List, [], ◌∷◌, ◌++◌, length}
+use Rattle.std.proofs.Common.{nat_eq, refl, sym, ◌∙◌, ap, arith}
 use Rattle.std.specs.Prelude.{slice_get, slice_set, option_and_then, ◌⊎◌}
-use Rattle.std.specs.Option.{option_copied, option_flatten}
-use Rattle.std.specs.Slice.{IsItemAt}
-use Rattle.std.proofs.lemmas.Bool.{cases_eq, eqb-true, eqb-false}
-use Rattle.std.proofs.lemmas.List.{length_push, get_or-set_same, get_or-set_other}
-use Rattle.std.proofs.lemmas.Option.{slice_get-get_or, slice_get_past, slice_get_cases, slice_get_read, unwrap_or-slice_get}
-use Rattle.std.proofs.Math.ListN.{get_or, length-set}
-use Rattle.afdx_receive.specs.Kept.{Kept, IsKept, place_in, memory_at}
+use Rattle.std.proofs.lemmas.Bool.{cases_eq, eqb-true, eqb-false, eq-eqb, ne_eqb}
+use Rattle.std.proofs.lemmas.List.{length_push}
+use Rattle.std.proofs.lemmas.Option.{slice_get_read}
+use Rattle.std.proofs.Math.ListN.{get_or}
+use Rattle.afdx_receive.specs.Places.{Paged, place_in}
+use Rattle.afdx_receive.specs.Kept.{Kept, IsKept, memory_at}
+use Rattle.afdx_receive.proofs.PlacesLemmas.{set_here, set_there}
 use Rattle.afdx_receive.specs.declared.memory.LinkMemory.{LinkMemory}
 
 module _ {X : Type 0} where
-  set_here : (xs : List X) (i : ℕ) (x : X) → i < length xs → slice_get (slice_set xs i x) i ≡ Some x
-  set_here xs i x within =
-      slice_get-get_or (slice_set xs i x) i x (subst (λ n. i < n) (sym (length-set xs i x)) within)
-      ∙ ap Some (get_or-set_same xs i x x within)
-
-  set_there : (xs : List X) (i j : ℕ) (x : X) → (j ≡ i → ⊥) → slice_get (slice_set xs i x) j ≡ slice_get xs j
-  set_there xs i j x other =
-      elim (slice_get_cases xs j).1 [
-        | inl found ↦
-            slice_get-get_or (slice_set xs i x) j found.0 (subst (λ n. j < n) (sym (length-set xs i x)) found.1)
-            ∙ ap Some (get_or-set_other xs i j x found.0 other ∙ found.3) ∙ sym found.2
-        | inr past ↦ slice_get_past (slice_set xs i x) j
-            (subst (λ n. n ≤ j) (sym (length-set xs i x)) past.0) ∙ sym past.1
-      ]
-
   push_here : (xs : List X) (y : X) → slice_get (xs ++ y ∷ []) (length xs) ≡ Some y
   push_here [] y = refl
   push_here (x ∷ xs) y = push_here xs y
@@ -42,50 +27,51 @@ module _ {X : Type 0} where
 some_none : (a : ℕ) → None ≡ Some a → ⊥
 some_none a e = cc
 
-module _ (places : List (Option ℕ)) (memories : List LinkMemory) (none : places ≡ []) where
-  nowhere : (vl : ℕ) → place_in places vl ≡ None
-  nowhere vl = ap (λ ps. place_in ps vl) none
-
+module _ (places : Paged) (memories : List LinkMemory) (none : (vl : ℕ) → place_in places vl ≡ None)
+    (empty : length places.slots ≡ 0) where
   pub first_kept : IsKept (record { places = places; memories = memories })
   first_kept = record {
-    within = λ vl place e. absurd (some_none place (sym (nowhere vl) ∙ e));
-    own = λ a b place e f. absurd (some_none place (sym (nowhere a) ∙ e));
+    within = λ vl place e. absurd (some_none place (sym (none vl) ∙ e));
+    own = λ a b place e f. absurd (some_none place (sym (none a) ∙ e));
+    few = omega (arith, empty);
   }
 
   pub none_kept : (vl : ℕ) → memory_at (record { places = places; memories = memories }) vl ≡ None
   unfolding memory_at
-  none_kept vl = ap (option_and_then (λ place. slice_get memories place)) (nowhere vl)
+  none_kept vl = ap (option_and_then (λ place. slice_get memories place)) (none vl)
 
--- ---- room for more identifiers
+-- ---- a memory more, at no place
 
-module _ (kept : Kept) (places : List (Option ℕ))
-    (same : (q : ℕ) → place_in places q ≡ place_in kept.places q) where
-  pub grown_kept : IsKept kept → IsKept (record kept { places = places })
-  grown_kept is = record {
-    within = λ q place e. is.within q place (sym (same q) ∙ e);
+module _ (kept : Kept) (is : IsKept kept) (memory : LinkMemory) (memories : List LinkMemory)
+    (pushed : memories ≡ kept.memories ++ memory ∷ []) (places : Paged)
+    (few : length places.slots ≤ length kept.places.slots + 16) where
+  longer : length memories ≡ length kept.memories + 1
+  longer = ap length pushed ∙ length_push kept.memories memory
+
+  pub unplaced_kept : ((q : ℕ) → place_in places q ≡ place_in kept.places q)
+      → IsKept (record { places = places; memories = memories })
+  unplaced_kept same = record {
+    within = λ q place e. omega (arith, is.within q place (sym (same q) ∙ e), longer);
     own = λ a b place e f. is.own a b place (sym (same a) ∙ e) (sym (same b) ∙ f);
+    few = omega (arith, is.few, few, longer);
   }
-
-  pub grown_memory : (q : ℕ) → memory_at (record kept { places = places }) q ≡ memory_at kept q
-  unfolding memory_at
-  grown_memory q = ap (option_and_then (λ place. slice_get kept.memories place)) (same q)
 
 -- ---- a link more
 
-module _ (kept : Kept) (is : IsKept kept) (vl : ℕ) (memory : LinkMemory) (room : vl < length kept.places) where
+module _ (kept : Kept) (is : IsKept kept) (vl : ℕ) (memory : LinkMemory) (places : Paged)
+    (few : length places.slots ≤ length kept.places.slots + 16)
+    (updates : (q : ℕ) → place_in places q
+    ≡ cond (nat_eq vl q) (Some (length kept.memories)) (place_in kept.places q)) where
   abbrev pub with_link : Kept
-  with_link = record {
-    places = slice_set kept.places vl (Some (length kept.memories));
-    memories = kept.memories ++ memory ∷ [];
-  }
+  with_link = record { places = places; memories = kept.memories ++ memory ∷ [] }
 
   placed_here : place_in with_link.places vl ≡ Some (length kept.memories)
-  placed_here = ap option_flatten
-      (set_here kept.places vl (Some (length kept.memories)) room)
+  placed_here = updates vl ∙ ap (λ b. cond b (Some (length kept.memories)) (place_in kept.places vl))
+      (eq-eqb vl vl refl)
 
   placed_there : (q : ℕ) → (q ≡ vl → ⊥) → place_in with_link.places q ≡ place_in kept.places q
-  placed_there q other = ap option_flatten
-      (set_there kept.places vl q (Some (length kept.memories)) other)
+  placed_there q other = updates q ∙ ap (λ b. cond b (Some (length kept.memories)) (place_in kept.places q))
+      (ne_eqb vl q (λ e. other (sym e)))
 
   some_same : (a b : ℕ) → Some a ≡ Some b → a ≡ b
   some_same a b e = cc
@@ -94,6 +80,7 @@ module _ (kept : Kept) (is : IsKept kept) (vl : ℕ) (memory : LinkMemory) (room
   link_kept = record {
     within = λ q place e. within q place e (cases_eq q vl);
     own = λ a b place e f. own a b place e f (cases_eq a vl) (cases_eq b vl);
+    few = omega (arith, is.few, few, length_push kept.memories memory);
   }
     where
       within : (q place : ℕ) → place_in with_link.places q ≡ Some place → (q ≡ vl) ⊎ (q ≡ vl → ⊥)
@@ -144,23 +131,21 @@ module _ (kept : Kept) (is : IsKept kept) (vl : ℕ) (memory : LinkMemory) (room
           (placed_there q (λ same. eqb-false vl q e (sym same)))
           ∙ old (place_in kept.places q) (is.within q)
 
--- the same, where room was made for it
-module _ (kept : Kept) (is : IsKept kept) (places : List (Option ℕ))
-    (same : (q : ℕ) → place_in places q ≡ place_in kept.places q) (vl : ℕ) (room : vl < length places)
-    (memory : LinkMemory) (place : ℕ) (last : place ≡ length kept.memories)
+-- the same, where the memories are those that were pushed
+module _ (kept : Kept) (is : IsKept kept) (vl place : ℕ) (memory : LinkMemory) (places : Paged)
+    (few : length places.slots ≤ length kept.places.slots + 16) (last : place ≡ length kept.memories)
+    (updates : (q : ℕ) → place_in places q ≡ cond (nat_eq vl q) (Some place) (place_in kept.places q))
     (memories : List LinkMemory) (pushed : memories ≡ kept.memories ++ memory ∷ []) where
-  abbrev grown : Kept
-  grown = record kept { places = places }
+  at_last : (q : ℕ) → place_in places q
+      ≡ cond (nat_eq vl q) (Some (length kept.memories)) (place_in kept.places q)
+  at_last q = rw (← last) (updates q)
 
-  pub added_kept : IsKept (record { places = slice_set places vl (Some place); memories = memories })
-  added_kept = rw (last, pushed) (link_kept grown (grown_kept kept places same is) vl memory room)
+  pub added_kept : IsKept (record { places = places; memories = memories })
+  added_kept = rw pushed (link_kept kept is vl memory places few at_last)
 
-  pub added_updates : (q : ℕ) →
-      memory_at (record { places = slice_set places vl (Some place); memories = memories }) q
+  pub added_updates : (q : ℕ) → memory_at (record { places = places; memories = memories }) q
       ≡ cond (nat_eq vl q) (Some memory) (memory_at kept q)
-  added_updates q =
-      rw (last, pushed) (link_updates grown (grown_kept kept places same is) vl memory room q
-      ∙ ap (cond (nat_eq vl q) (Some memory)) (grown_memory kept places same q))
+  added_updates q = rw pushed (link_updates kept is vl memory places few at_last q)
 
 -- ---- a frame of a link
 
@@ -187,20 +172,6 @@ module _ (kept : Kept) (is : IsKept kept) (vl place : ℕ)
           ∙ set_here kept.memories place moved (is.within vl place placed)
       at false e = other (place_in kept.places q) (λ p here same.
           eqb-false vl q e (is.own vl q place placed (here ∙ ap Some same)))
-
--- what is read of the places and of the memories
-flattened : (o : Option (Option ℕ)) → option_flatten o ≡ unwrap_or o None
-flattened None = refl
-flattened (Some place) = refl
-
-pub placed_at : (places lent : List (Option ℕ)) (vl : ℕ) (item : Option (Bor (Option ℕ)))
-    (read : Option (Option ℕ)) (o : Option ℕ) → lent ≡ places → IsItemAt lent vl item →
-    read ≡ option_copied item → o ≡ option_flatten read → place_in places vl ≡ o
-placed_at places lent vl item read o e f g h =
-    let there : unwrap_or (option_copied item) None ≡ get_or places vl None =
-    subst (λ xs. unwrap_or (option_copied item) None ≡ get_or xs vl None) e (f.4 (omega arith) None) in
-    flattened (slice_get places vl) ∙ unwrap_or-slice_get places vl None ∙ sym there
-    ∙ ap (λ r. unwrap_or r None) (sym g) ∙ sym (flattened read) ∙ sym h
 
 pub memory_found : (kept : Kept) → IsKept kept → (vl place : ℕ) → place_in kept.places vl
     ≡ Some place → (memory : LinkMemory) →

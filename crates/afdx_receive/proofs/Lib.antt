@@ -3,6 +3,7 @@ pub mod CopyLemmas
 pub mod DeliveryLemmas
 pub mod KeptLemmas
 pub mod OnceLemmas
+pub mod PlacesLemmas
 pub mod ReceiverLemmas
 pub mod ReceptionLemmas
 pub mod StepsLemmas

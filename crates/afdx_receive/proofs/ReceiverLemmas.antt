@@ -11,19 +11,19 @@ use Rattle.afdx_receive.specs.Kept.{Kept, memory_at, IsConsidered}
 use Rattle.afdx_receive.specs.Arrivals.{Arrived, incoming, frames_of}
 use Rattle.afdx_frame.specs.Carried.{carried_by}
 use Rattle.afdx_config.specs.Reading.{has_port}
-use Rattle.afdx_receive.specs.Answers.{subscription, answer_to_carried, answer_by, answer_to}
-use Rattle.afdx_receive.specs.Reception.{IsReceived}
+use Rattle.afdx_receive.specs.Answers.{Answer, Message, Dropped, subscription, answer_to_carried}
+use Rattle.afdx_receive.specs.Answers.{answer_by, answer_to, at_ports}
+use Rattle.afdx_receive.specs.Reception.{IsReceived, IsAnswer}
 use Rattle.afdx_receive.specs.Standing.{standing}
 use Rattle.afdx_receive.specs.declared.memory.Standing.{Standing}
 use Rattle.afdx_frame.specs.declared.link.Side.{Side}
 use Rattle.afdx_frame.specs.declared.link.Side.TheVariants.{A, B}
-use Rattle.afdx_receive.specs.StandsFor.{LinkStandsFor, memory_at_first}
+use Rattle.afdx_receive.specs.StandsFor.{LinkStandsFor, LinksStandFor, PortsStandFor}
+use Rattle.afdx_receive.specs.StandsFor.{Receives, Selects, memory_at_first}
+use Rattle.afdx_receive.specs.declared.reception.DropReason.TheVariants.{NoPort}
+use Rattle.afdx_receive.specs.declared.receiver.Receiver.{Receiver}
 use Rattle.afdx_receive.specs.declared.memory.LinkMemory.{LinkMemory}
 use Rattle.afdx_receive.proofs.ReceptionLemmas.{frames_with, frames_other, answer_received}
-
--- each link's memory stands for its own frames
-abbrev pub LinksStandFor : Rows → ℕ → List Arrived → Kept → Type 0
-LinksStandFor tables system past links = (vl : ℕ) → LinkStandsFor tables system past vl (memory_at links vl)
 
 -- what stands of a link that has a memory
 pub record Subscribed (tables : Rows) (system : ℕ) (past : List Arrived) (vl : ℕ) (memory : LinkMemory) : Type 0 where
@@ -143,3 +143,19 @@ link_at_first tables system vl (Some link) e = (link, e, refl, record { numbers 
     numbers : (side : Side) → kept_number (memory_at_first link) side ≡ option_map sequence_number_of (previous side [])
     numbers A = refl
     numbers B = refl
+
+-- an answer where it is known whether the system has its UDP port
+pub port_is : (tables : Rows) (system vl udp : ℕ) (payload : List ℕ) (is : Bool)
+    → has_port tables.ports system vl udp ≡ is →
+    at_ports tables system (Message vl udp payload) ≡ cond is (Message vl udp payload) (Dropped NoPort)
+port_is tables system vl udp payload is e = ap (λ b. cond b (Message vl udp payload) (Dropped NoPort)) e
+
+-- what a receiver of links selects, once the UDP port is looked up
+pub looked_up : (tables : Rows) (system : ℕ) (past : List Arrived) (x : Arrived) (answer told : Answer) (new : Receiver) →
+    Selects tables system past x answer new.links → at_ports tables system answer ≡ told →
+    PortsStandFor tables system new.ports → Receives tables system past x told new
+looked_up tables system past x answer told new selected is ports = record {
+  computed = sym is ∙ selected.computed;
+  right = subst (IsAnswer tables system past x) is selected.right;
+  stands = record { links = selected.stands; ports = ports };
+}

@@ -5,14 +5,13 @@ use Rattle.afdx_frame.specs.declared.fault.MacFault.{MacFault}
 use Rattle.afdx_frame.specs.declared.fault.IpFault.{IpFault}
 use Rattle.afdx_frame.specs.Parts.{FrameParts, frame_of}
 use Rattle.afdx_frame.specs.Carried.{Carried, carried_by}
-use Rattle.afdx_frame.specs.Grammar.{Read}
-use Rattle.afdx_frame.specs.declared.link.VlId.{VlId}
+use Rattle.afdx_frame.specs.Reading.{Reads}
 use Rattle.afdx_config.specs.Rows.{Rows, LinkRow}
 use Rattle.afdx_config.specs.Reading.{has_port}
 use Rattle.afdx_receive.specs.Standing.{standing}
 use Rattle.afdx_receive.specs.Answers.{Answer, Message, Dropped, subscription, answer_to_carried}
 use Rattle.afdx_receive.specs.Answers.{answer_by, answer_after, answer_on, answer_to_frame}
-use Rattle.afdx_receive.specs.Answers.{answer_to}
+use Rattle.afdx_receive.specs.Answers.{answer_to, at_ports}
 use Rattle.afdx_receive.specs.Reception.{IsReceived, IsReadAs, IsAnswer}
 use Rattle.afdx_receive.specs.declared.memory.Standing.{Standing}
 use Rattle.afdx_receive.specs.declared.memory.Standing.TheVariants as stands
@@ -103,6 +102,19 @@ answer_message vl is_open read carried e open_port =
     ∙ cond-true (is_open carried.to_port) (Message vl carried.to_port carried.payload)
     (Dropped NoPort) open_port)
 
+-- a datagram that is read is delivered if the system has its UDP port
+pub message_read : (tables : Rows) (system : ℕ) (bytes : List ℕ) (frame : FrameParts) (carried : Carried)
+    → Reads bytes frame carried → IsReadAs tables system bytes frame
+    (at_ports tables system (Message frame.link.0 carried.to_port carried.payload))
+message_read tables system bytes frame carried reads =
+    by (has_port tables.ports system frame.link.0 carried.to_port) refl
+  where
+    by : (b : Bool) → has_port tables.ports system frame.link.0 carried.to_port ≡ b →
+        IsReadAs tables system bytes frame
+        (cond b (Message frame.link.0 carried.to_port carried.payload) (Dropped NoPort))
+    by true e = (carried.from_port, refl, reads, e)
+    by false e = (carried, reads, e)
+
 -- what is made of a frame that won is the whole answer
 pub read_right : (tables : Rows) (system : ℕ) (past : List Arrived) (x : Arrived)
     (frame : FrameParts) (answer : Answer) →
@@ -115,20 +127,3 @@ read_right tables system past x frame (Dropped Sequence) read received = absurd 
 read_right tables system past x frame (Dropped Redundant) read received = absurd read
 read_right tables system past x frame (Dropped (Ip fault)) read received = (frame, received, read)
 read_right tables system past x frame (Dropped NoPort) read received = (frame, received, read)
-
--- ---- a UDP port of the system
-
-pub port_known : (tables : Rows) (system : ℕ) (link vl : VlId) (udp port : ℕ) (known : Bool)
-    → known ≡ has_port tables.ports system link.0 udp → link ≡ vl →
-    udp ≡ port → has_port tables.ports system vl.0 port ≡ known
-port_known tables system link vl udp port known e named to =
-    sym (e ∙ ap (λ (v : VlId). has_port tables.ports system v.0 udp) named
-    ∙ ap (λ (n : ℕ). has_port tables.ports system vl.0 n) to)
-
-pub same_message : (a b m n : ℕ) (xs ys : List ℕ) (answer : Answer) → a ≡ b → m ≡ n → xs ≡ ys
-    → Message b n ys ≡ answer → Message a m xs ≡ answer
-same_message a b m n xs ys answer e f g h = rw (e, f, g) h
-
-pub same_read : (bytes xs ys : List ℕ) (a b from m n number : ℕ) → a ≡ b → m ≡ n → xs ≡ ys
-    → Read bytes b from n ys number → Read bytes a from m xs number
-same_read bytes xs ys a b from m n number e f g h = rw (e, f, g) h

@@ -43,6 +43,12 @@ answer_to_carried vl is_open (Ok carried) =
     if is_open carried.to_port then Message vl carried.to_port carried.payload else Dropped NoPort
 answer_to_carried vl is_open (Err fault) = Dropped (Ip fault)
 
+-- an answer once it is known which UDP ports the system has: a message to another one is dropped
+abbrev pub at_ports : Rows → ℕ → Answer → Answer
+at_ports tables system (Message vl udp payload) =
+    if has_port tables.ports system vl udp then Message vl udp payload else Dropped NoPort
+at_ports tables system (Dropped why) = Dropped why
+
 -- to a frame, by how it stands
 abbrev pub answer_by : Standing → Answer → Answer
 answer_by stands.Winner read = read

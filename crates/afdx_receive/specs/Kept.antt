@@ -1,21 +1,18 @@
 -- What a receiver keeps of all its links, each found by its identifier.
-use Rattle.std.specs.Prelude.{◌≡◌, ℕ, ◌<◌, cond, nat_eq, Option, Some, List, ◌∷◌, length}
-use Rattle.std.specs.Prelude.{option_and_then, slice_get}
-use Rattle.std.specs.Option.{option_flatten}
+use Rattle.std.specs.Prelude.{◌≡◌, ℕ, ◌*◌, ◌<◌, ◌≤◌, cond, nat_eq, Option, Some, List, ◌∷◌}
+use Rattle.std.specs.Prelude.{length, option_and_then, slice_get}
 use Rattle.afdx_frame.specs.declared.link.Side.{Side}
 use Rattle.afdx_receive.specs.Integrity.{Incoming}
 use Rattle.afdx_receive.specs.Memory.{Remembers}
+use Rattle.afdx_receive.specs.Places.{Paged, place_in}
 use Rattle.afdx_receive.specs.Standing.{standing}
 use Rattle.afdx_receive.specs.declared.memory.LinkMemory.{LinkMemory}
 use Rattle.afdx_receive.specs.declared.memory.Standing.{Standing}
 
 -- by identifier the place of its link's memory, as far as there are such, and the memories
 pub record Kept : Type 0 where
-  pub places : List (Option ℕ)
+  pub places : Paged
   pub memories : List LinkMemory
-
-abbrev pub place_in : List (Option ℕ) → ℕ → Option ℕ
-place_in places vl = option_flatten (slice_get places vl)
 
 -- the memory of the link of an identifier, if it is kept
 unfoldable pub memory_at : Kept → ℕ → Option LinkMemory
@@ -29,6 +26,7 @@ pub record IsKept (kept : Kept) : Type 0 where
       place_in kept.places a ≡ Some place →
       place_in kept.places b ≡ Some place →
       a ≡ b
+  pub few : length kept.places.slots ≤ 16 * length kept.memories
 
 -- a frame of a link that is kept stands so, and the link's memory, and no other, takes it in
 pub record IsConsidered (old : Kept) (vl time : ℕ) (side : Side) (number : ℕ) (how : Standing)

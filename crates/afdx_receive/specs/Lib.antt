@@ -6,6 +6,7 @@ pub mod Arrivals
 pub mod Answers
 pub mod Reception
 pub mod Memory
+pub mod Places
 pub mod Kept
 pub mod StandsFor
 pub mod TwoStreams

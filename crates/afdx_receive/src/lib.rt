@@ -5,11 +5,14 @@
 #![tactic(auto)]
 
 pub mod laws;
+mod link_receiver;
 mod links;
 mod memory;
+mod places;
 mod receiver;
 mod reception;
 mod sequence;
 
+pub use link_receiver::LinkReceiver;
 pub use receiver::Receiver;
 pub use reception::{DROP_REASONS, DropReason, Reception};

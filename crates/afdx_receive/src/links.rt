@@ -3,9 +3,10 @@
 ghost use Rattle.std.specs.Prelude.{◌≡◌, ℕ, ◌+◌, ◌<◌, cond, nat_eq, None, Some, length};
 ghost use Rattle.std.specs.Prelude.{OnOk, IfNone, IfSome};
 ghost use Rattle.afdx_frame.specs.Layout.{identifier_count};
-ghost use Rattle.afdx_receive.specs.Kept.{place_in, memory_at, IsConsidered};
+ghost use Rattle.afdx_receive.specs.Kept.{memory_at, IsConsidered};
 
 use crate::memory::{LinkMemory, Standing};
+use crate::places::Places;
 use afdx_frame::{Side, VlId};
 use std::alloc::{AllocError, Global};
 use std::marker::Model;
@@ -13,8 +14,8 @@ use std::marker::Model;
 /// The memories of the links that go to a system.
 #[derive(Drop)]
 pub(crate) struct Links {
-    /// By identifier, the place of its link's memory. No longer than the greatest one needs.
-    places: Vec<Option<u16>>,
+    /// By identifier, the place of its link's memory.
+    places: Places,
     memories: Vec<LinkMemory>,
 }
 
@@ -23,22 +24,10 @@ impl Model for Links {
 
     ghost Value = { Kept };
 
-    ghost view = { λ l. record { places = l.places.items; memories = l.memories.items } };
+    ghost view = { λ l. record { places = l.places; memories = l.memories.items } };
 
     ghost invariant = { λ l.
-        IsKept (record { places = l.places.items; memories = l.memories.items }) };
-}
-
-/// Fills up with `None` until there is a place for this identifier.
-fn make_room(places: &mut Vec<Option<u16>>, vl: VlId) -> Result<(), AllocError>
-    ensures same { (q : ℕ) → place_in places.new.items q ≡ place_in places.old.items q }
-    ensures room { OnOk result (vl.0 < length places.new.items) }
-{
-    let least = vl.0 as usize + 1;
-    if places.len() < least {
-        places.resize(least, None)?;
-    }
-    Ok(())
+        IsKept (record { places = l.places; memories = l.memories.items }) };
 }
 
 impl Links {
@@ -48,13 +37,12 @@ impl Links {
         ensures count { length result.memories ≡ 0 }
     {
         Links {
-            places: Vec::new(alloc),
+            places: Places::new(alloc),
             memories: Vec::new(alloc),
         }
     }
 
-    /// Keeps the memory of a link. It takes room for that, and for the places of the identifiers up
-    /// to the link's.
+    /// Keeps the memory of a link. It takes room for that, and for its place.
     pub(crate) fn insert(&mut self, vl: VlId, memory: LinkMemory) -> Result<(), AllocError>
         requires { length self.old.memories < identifier_count }
         ensures updates { OnOk result ((q : ℕ) →
@@ -63,9 +51,8 @@ impl Links {
             (length self.new.memories ≡ length self.old.memories + 1) }
     {
         let place = self.memories.len() as u16;
-        make_room(&mut self.places, vl)?;
         self.memories.push(memory)?;
-        self.places[vl.0 as usize] = Some(place);
+        self.places.insert(vl, place)?;
         Ok(())
     }
 
@@ -82,7 +69,7 @@ impl Links {
         ensures considered { IfSome result (λ how.
             IsConsidered self.old vl.0 time side number how self.new) }
     {
-        let place = self.places.get(vl.0 as usize).copied().flatten()?;
+        let place = self.places.get(vl)?;
         Some(self.memories[place as usize].consider(time, side, number))
     }
 }

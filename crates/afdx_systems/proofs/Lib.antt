@@ -1,4 +1,5 @@
 mod PassLemmas
+mod FoundLemmas
 mod NewestLemmas
 mod EndLemmas
 mod SystemsLemmas

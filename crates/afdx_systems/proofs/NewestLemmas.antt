@@ -58,9 +58,6 @@ unfolding newest_to
 newest_step rows system vl udp x past answer is =
     ap (λ (a : Answer). newer vl udp x.time a (newest_to rows system vl udp past)) (sym is)
 
-none_some : {n : ℕ} → None ≡ Some n → ⊥
-none_some e = cc
-
 some_same : {n m : ℕ} → Some n ≡ Some m → n ≡ m
 some_same e = cc
 
@@ -102,23 +99,6 @@ module _ (rows : Rows) (system : ℕ) (past : List Arrived) (x : Arrived) where
       subst (λ (n : Option TimedMessage). HoldsNewest n held)
       (sym (newest_step rows system vl udp x past (Message link to payload) is
       ∙ ap (λ b. cond b message before) other)) holds
-
-  -- nor one for a port that isn't found
-  pub newest_unfound : (link to : ℕ) (payload : List ℕ) (ports : List ComPort)
-      → Message link to payload ≡ answer_to rows system past x → None ≡ position (is_for link to) ports
-      → HoldNewest rows system past ports → HoldNewest rows system (x ∷ past) ports
-  newest_unfound link to payload ports is none hold = λ vl udp place port found here.
-      newest_other vl udp link to payload port.held is
-      (at vl udp place found (nat_eq link vl && nat_eq to udp) refl) (hold vl udp place port found here)
-    where
-      at : (vl udp place : ℕ) → position (is_for vl udp) ports ≡ Some place → (b : Bool)
-          → (nat_eq link vl && nat_eq to udp) ≡ b → b ≡ false
-      at vl udp place found true e =
-          let both = and_parts (nat_eq link vl) (nat_eq to udp) e in
-          let same : position (is_for link to) ports ≡ position (is_for vl udp) ports =
-          rw (eqb-true link vl both.0, eqb-true to udp both.1) refl in
-          absurd (none_some (none ∙ same ∙ found))
-      at vl udp place found false e = refl
 
   -- a message that is passed on is the newest of its port
   pub newest_passed : (link to place : ℕ) (payload : List ℕ) (ports after : List ComPort) (port : ComPort)

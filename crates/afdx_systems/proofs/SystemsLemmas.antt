@@ -1,11 +1,13 @@
 -- The systems at the ports of the switch.
-use Rattle.std.proofs.Common.{◌≡◌, ℕ, ◌+◌, ◌<◌, ◌≤◌, ◌==◌, Bool, true, false, cond, List, [], ◌∷◌}
+use Rattle.std.proofs.Common.{◌≡◌, ℕ, zero, suc, ◌+◌, ◌<◌, ◌≤◌, ◌==◌, ◌++◌, true, false, cond, List, []}
+use Rattle.std.proofs.Common.{◌∷◌}
 use Rattle.std.proofs.Common.{length, Option, Some, None, IfOk, Result, Ok, Err, Vec, Global}
 use Rattle.std.proofs.Common.{vec_len, get_or, refl, sym, ap, ◌∙◌, subst, arith, ◌⊎◌, inl, inr}
-use Rattle.std.specs.Prelude.{slice_get, slice_set, option_and_then, option_map, IfSome}
+use Rattle.std.specs.Prelude.{slice_get, slice_set, option_and_then, option_map}
 use Rattle.std.specs.Option.{option_map_or}
 use Rattle.std.specs.List.{position_from, AllByRecursion}
 use Rattle.std.proofs.lemmas.Bool.{cases_eq, ne_eqb}
+use Rattle.std.proofs.lemmas.List.{length_push}
 use Rattle.std.proofs.lemmas.Bool.Decides.{nat_tests}
 use Rattle.std.proofs.lemmas.Option.{slice_get_past, slice_get_cases, slice_get_within, slice_get_read}
 use Rattle.std.proofs.lemmas.Iterator.Adapters.{position_from-zero}
@@ -17,7 +19,7 @@ use Rattle.afdx_systems.specs.declared.end_system.EndSystem.{EndSystem}
 use Rattle.afdx_systems.specs.declared.systems.Systems.{Systems}
 use Rattle.afdx_systems.specs.Handovers.{HandedOver, arrival_of, came_to}
 use Rattle.afdx_receive.specs.Answers.{Answer, answer_of}
-use Rattle.afdx_systems.specs.ReadPorts.{ReadsBack}
+use Rattle.afdx_systems.specs.ReadPorts.{ReadsBack, HoldNewest}
 use Rattle.afdx_receive.specs.declared.reception.Reception.{Reception}
 use Rattle.afdx_systems.specs.Receptions.{answered, answered_at, name_at, name_of}
 use Rattle.afdx_systems.specs.StandsFor.{IsAfter, IsAt, StandsFor, HasNewest, HaveNewest, ReadsBackAt}
@@ -34,6 +36,32 @@ pub record HasBuilt (rows : Rows) (count : ℕ) (systems : List (Option EndSyste
       → IsAt rows [] (system_at_port rows.systems port) at
   pub newest : (port : ℕ) (at : Option EndSystem) → slice_get systems port ≡ Some at
       → HasNewest rows [] (system_at_port rows.systems port) at
+
+some_same : {X : Type 0} {x y : X} → Some x ≡ Some y → x ≡ y
+some_same e = cc
+
+none_some : {X : Type 0} {x : X} → None ≡ Some x → ⊥
+none_some e = cc
+
+-- what holds of each of a list, and of one behind it, holds of each
+with_one : {X : Type 0} (P : ℕ → X → Type 0) (xs : List X) (x : X) → ((i : ℕ) (y : X) → slice_get xs i ≡ Some y → P i y)
+    → P (length xs) x → (i : ℕ) (y : X) → slice_get (xs ++ x ∷ []) i ≡ Some y → P i y
+with_one P [] x each last zero y e = subst (P 0) (some_same e) last
+with_one P [] x each last (suc i) y e = absurd (none_some e)
+with_one P (z ∷ zs) x each last zero y e = each zero y e
+with_one P (z ∷ zs) x each last (suc i) y e = with_one (λ n. P (suc n)) zs x (λ n w h. each (suc n) w h) last i y e
+
+pub built_more : (rows : Rows) (count : ℕ) (systems : List (Option EndSystem)) (at : Option EndSystem)
+    → HasBuilt rows count systems → IsLawful rows → IsAt rows [] (system_at_port rows.systems count) at
+    → HasNewest rows [] (system_at_port rows.systems count) at → HasBuilt rows (count + 1) (systems ++ at ∷ [])
+built_more rows count systems at has lawful is newest = record {
+  long = omega (arith, length_push systems at, has.long);
+  lawful = λ _. lawful;
+  each = with_one (λ port e. IsAt rows [] (system_at_port rows.systems port) e) systems at has.each
+      (subst (λ n. IsAt rows [] (system_at_port rows.systems n) at) (sym has.long) is);
+  newest = with_one (λ port e. HasNewest rows [] (system_at_port rows.systems port) e) systems at has.newest
+      (subst (λ n. HasNewest rows [] (system_at_port rows.systems n) at) (sym has.long) newest);
+}
 
 none_from : (n port : ℕ) (systems : List SystemRow) (profile : ℕ)
     → AllByRecursion (IsSystem profile) systems → 24 < port
@@ -99,29 +127,26 @@ goes_on rows past x (Some system) old e new is takes at =
     takes system (subst (λ o. IsAt rows past (Some system) o) is at)
 
 -- what it reads back
-pub passes_on : {E : Type 0} (rows : Rows) (past : List Arrived) (place : Option ℕ) (old : Option EndSystem)
-    (e new : EndSystem) (time : ℕ) (answer : ℕ → Answer) (r : Result (Option Reception) E) → old ≡ Some e →
-    ((system : ℕ) → IsAfter rows system e past →
-    IfOk r (λ told. option_map answer_of told ≡ Some (answer system))) →
-    ((system : ℕ) → IsAfter rows system e past →
-    IfOk r (λ told. IfSome told (λ reception. ReadsBack e.ports new.ports time (answer_of reception)))) →
-    IsAt rows past place old →
-    IfOk r (λ told. ReadsBackAt old (Some new) time (option_map answer_of told))
-passes_on {E = E} rows past place old e new time answer r is answers reads at = by r place answers reads
-    (subst (λ o. IsAt rows past place o) is at)
-  where
-    by : (r : Result (Option Reception) E) (place : Option ℕ) →
-        ((system : ℕ) → IsAfter rows system e past →
-        IfOk r (λ told. option_map answer_of told ≡ Some (answer system))) →
-        ((system : ℕ) → IsAfter rows system e past →
-        IfOk r (λ told. IfSome told (λ reception. ReadsBack e.ports new.ports time (answer_of reception)))) →
-        IsAt rows past place (Some e) →
-        IfOk r (λ told. ReadsBackAt old (Some new) time (option_map answer_of told))
-    by (Err fault) place answers reads at = tt
-    by (Ok told) None answers reads at = absurd at
-    by (Ok None) (Some system) answers reads at = absurd (let none = answers system at in cc)
-    by (Ok (Some reception)) (Some system) answers reads at =
-        subst (λ o. ReadsBackAt o (Some new) time (Some (answer_of reception))) (sym is) (reads system at)
+pub passes_on : (rows : Rows) (past : List Arrived) (place : Option ℕ) (old : Option EndSystem)
+    (e new : EndSystem) (time : ℕ) (answer : Answer) → old ≡ Some e →
+    ((system : ℕ) → IsAfter rows system e past → ReadsBack e.ports new.ports time answer) →
+    IsAt rows past place old → ReadsBackAt old (Some new) time (Some answer)
+passes_on rows past None old e new time answer is reads at =
+    absurd (subst (λ o. IsAt rows past None o) is at)
+passes_on rows past (Some system) old e new time answer is reads at =
+    subst (λ o. ReadsBackAt o (Some new) time (Some answer)) (sym is)
+    (reads system (subst (λ o. IsAt rows past (Some system) o) is at))
+
+-- and what its ports hold
+pub newest_on : (rows : Rows) (past after : List Arrived) (place : Option ℕ) (old : Option EndSystem)
+    (e new : EndSystem) → old ≡ Some e →
+    ((system : ℕ) → IsAfter rows system e past → HoldNewest rows system past e.ports
+    → HoldNewest rows system after new.ports) →
+    IsAt rows past place old → HasNewest rows past place old → HasNewest rows after place (Some new)
+newest_on rows past after None old e new is holds at have = absurd (subst (λ o. IsAt rows past None o) is at)
+newest_on rows past after (Some system) old e new is holds at have =
+    holds system (subst (λ o. IsAt rows past (Some system) o) is at)
+    (subst (λ o. HasNewest rows past (Some system) o) is have)
 
 pub same : (a b : ℕ) → a ≡ b → (a == b) ≡ true
 same a b e = grind (arith, nat_tests)

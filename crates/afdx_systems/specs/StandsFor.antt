@@ -4,7 +4,7 @@ use Rattle.afdx_config.specs.Rows.{Rows}
 use Rattle.afdx_config.specs.Reading.{system_at_port}
 use Rattle.afdx_receive.specs.Arrivals.{Arrived}
 use Rattle.afdx_receive.specs.Answers.{Answer}
-use Rattle.afdx_receive.specs.StandsFor as receiver
+use Rattle.afdx_receive.specs.StandsFor.{HasReceived}
 use Rattle.afdx_systems.specs.declared.end_system.EndSystem.{EndSystem}
 use Rattle.afdx_systems.specs.declared.systems.Systems.{Systems}
 use Rattle.afdx_systems.specs.Handovers.{HandedOver, came_to}
@@ -14,7 +14,7 @@ use Rattle.afdx_systems.specs.Receptions.{name_of}
 -- the system at this place of the tables, after what arrived at it
 pub record IsAfter (rows : Rows) (system : ℕ) (e : EndSystem) (past : List Arrived) : Type 0 where
   pub name : string_bytes e.name ≡ name_of rows system
-  pub receives : receiver.StandsFor rows system e.receiver past
+  pub receives : HasReceived rows system past e.receiver
   pub read : AreRead e.ports
   pub found : AreFound rows system e.ports
 

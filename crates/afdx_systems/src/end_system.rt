@@ -1,6 +1,6 @@
 //! One end system.
 
-ghost use Rattle.std.specs.Prelude.{◌≡◌, ℕ, ◌<◌, ◌∷◌, [], IfOk, IfSome, OnOk, Some, List, length, option_map, position};
+ghost use Rattle.std.specs.Prelude.{◌≡◌, ℕ, ◌<◌, ◌∷◌, [], IfOk, OnOk, List, length, position};
 ghost use Rattle.afdx_config.specs.Rows.{Rows};
 ghost use Rattle.afdx_receive.specs.Answers.{answer_of};
 ghost use Rattle.afdx_receive.specs.Arrivals.{Arrived};
@@ -12,13 +12,14 @@ ghost use Rattle.afdx_systems.specs.Receptions.{answer_at};
 use crate::handover::Handover;
 use afdx_comport::ComPorts;
 use afdx_config::{SystemId, Tables};
-use afdx_receive::{Receiver, Reception};
+use afdx_receive::{DropReason, LinkReceiver, Reception};
 use std::alloc::{AllocError, Global};
 
-/// An end system: its receiver, and its communication ports, in which nothing is left to read.
+/// An end system: the receiver of its links, and its communication ports, in which nothing is left
+/// to read.
 pub(crate) struct EndSystem {
     pub(crate) name: String,
-    pub(crate) receiver: Receiver,
+    pub(crate) receiver: LinkReceiver,
     pub(crate) ports: ComPorts,
 }
 
@@ -75,7 +76,7 @@ impl EndSystem {
         ensures newest { IfOk result (λ e. HoldNewest tables.now system.0 [] e.ports) }
     {
         let name = tables.system(system).name.clone()?;
-        let receiver = Receiver::new(alloc, tables, system)?;
+        let receiver = LinkReceiver::new(alloc, tables, system)?;
         let ports = ComPorts::new(alloc, tables, system)?;
         Ok(EndSystem {
             name,
@@ -89,18 +90,18 @@ impl EndSystem {
     pub(crate) fn receive<'a>(
         &mut self,
         handover: Handover<'a>,
-    ) -> Result<Option<Reception<'a>>, AllocError>
+    ) -> Result<Reception<'a>, AllocError>
         ensures stands { (rows : Rows) (system : ℕ) (past : List Arrived) →
             IsAfter rows system self.old past →
             IsAfter rows system self.new (arrival_of (handed_over handover.entry) ∷ past) }
         ensures answer { (rows : Rows) (system : ℕ) (past : List Arrived) →
             IsAfter rows system self.old past →
-            IfOk result (λ told. option_map answer_of told
-            ≡ Some (answer_at rows past (handed_over handover.entry) system)) }
+            IfOk result (λ told. answer_of told
+            ≡ answer_at rows past (handed_over handover.entry) system) }
         ensures passed { (rows : Rows) (system : ℕ) (past : List Arrived) →
             IsAfter rows system self.old past →
-            IfOk result (λ told. IfSome told (λ reception.
-            ReadsBack self.old.ports self.new.ports handover.entry.time (answer_of reception))) }
+            IfOk result (λ told.
+            ReadsBack self.old.ports self.new.ports handover.entry.time (answer_of told)) }
         ensures newest { (rows : Rows) (system : ℕ) (past : List Arrived) →
             IsAfter rows system self.old past → HoldNewest rows system past self.old.ports →
             OnOk result (HoldNewest rows system
@@ -112,15 +113,14 @@ impl EndSystem {
             frame,
             ..
         } = handover;
-        match self.receiver.receive_checked(time, side, frame) {
-            Reception::Dropped(why) => Ok(Some(Reception::Dropped(why))),
+        match self.receiver.receive(time, side, frame) {
+            Reception::Dropped(why) => Ok(Reception::Dropped(why)),
             Reception::Message { vl, udp, bytes } => {
-                // The receiver delivers to the ports of the tables alone, and they are all here.
                 let Some(place) = self.ports.find(vl, udp) else {
-                    return Ok(None);
+                    return Ok(Reception::Dropped(DropReason::NoPort));
                 };
                 pass_on(&mut self.ports, place, time, bytes)?;
-                Ok(Some(Reception::Message { vl, udp, bytes }))
+                Ok(Reception::Message { vl, udp, bytes })
             }
         }
     }

@@ -61,7 +61,10 @@ fn receive_at<'a>(
         (HasNewest rows (arrival_of (handed_over handover.entry) ∷ past) place at.new) }
 {
     match at {
-        Some(system) => system.receive(handover),
+        Some(system) => {
+            let told = system.receive(handover)?;
+            Ok(Some(told))
+        }
         None => Ok(None),
     }
 }

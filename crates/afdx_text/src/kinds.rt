@@ -13,11 +13,12 @@ use afdx_frame::Side;
 use afdx_police::Reason;
 use afdx_receive::DropReason;
 
-/// The numbers that were put last.
+/// The numbers that were put last: a time, a line of a list, and a link.
 #[derive(Debug, Drop)]
 pub(crate) struct Kept {
-    pub(crate) time: Numeral,
-    pub(crate) n: Numeral,
+    time: Numeral,
+    n: Numeral,
+    vl: Numeral,
 }
 
 /// Puts what became of a frame at a switch, in words.
@@ -37,15 +38,30 @@ fn put_words(room: &mut [u8], at: usize, reason: Option<Reason>) -> usize
     }
 }
 
-/// Puts why a receiver dropped a frame, in a word.
+/// Puts the word of a reason to drop a frame.
 #[inline(always)]
 #[tactic(auto, using(crate::proofs::WordLemmas::drop_word_short))]
-fn put_why(room: &mut [u8], at: usize, why: DropReason) -> usize
+fn put_reason(room: &mut [u8], at: usize, why: DropReason) -> usize
     requires { at + 32 ≤ length room.old }
     ensures within { result ≤ at + 20 }
     ensures text { take result room.new ≡ take at room.old ++ drop_word why }
 {
     put_piece(room, at, why.word().as_bytes())
+}
+
+/// Puts why a receiver dropped a frame, in a word. The length of a word that comes often is known
+/// to the compiler: it is a store or two.
+#[inline(always)]
+fn put_why(room: &mut [u8], at: usize, why: DropReason) -> usize
+    requires { at + 32 ≤ length room.old }
+    ensures within { result ≤ at + 20 }
+    ensures text { take result room.new ≡ take at room.old ++ drop_word why }
+{
+    match why {
+        DropReason::Redundant => put_reason(room, at, DropReason::Redundant),
+        DropReason::NoPort => put_reason(room, at, DropReason::NoPort),
+        other => put_reason(room, at, other),
+    }
 }
 
 /// `V n side accept`, or `V n side drop WORD`.
@@ -106,11 +122,72 @@ impl Kept {
         Kept {
             time: Numeral::zero(),
             n: Numeral::zero(),
+            vl: Numeral::zero(),
         }
     }
 
-    /// `D n time side port`, or `T ..`.
+    /// The line of a departure, with the numbers that are kept.
     #[inline(never)]
+    fn put_left(&self, room: &mut [u8], at: usize, side: Side, port: u8, too_old: bool) -> usize
+        requires { at + 128 ≤ length room.old }
+        ensures within { result ≤ at + 128 }
+        ensures text { take result room.new
+            ≡ take at room.old
+            ++ departure_line too_old self.now.n.number self.now.time.number side port }
+    {
+        let at = put_letter(room, at, too_old);
+        let at = self.n.put(room, at);
+        let at = put(room, at, b" ");
+        let at = self.time.put(room, at);
+        let at = put(room, at, b" ");
+        let at = put_side(room, at, side);
+        let at = put(room, at, b" ");
+        let at = put_small(room, at, port);
+        put(room, at, b"\n")
+    }
+
+    /// The line of a message, with the numbers that are kept.
+    #[inline(never)]
+    fn put_read(&self, room: &mut [u8], at: usize, name: &str, message: &[u8]) -> usize
+        requires { at + 128 + length name.now + 2 * length message.now ≤ length room.old }
+        ensures within { result ≤ at + 128 + length name.now + 2 * length message.now }
+        ensures text { take result room.new
+            ≡ take at room.old
+            ++ message_line self.now.time.number name.now self.now.vl.number message.now }
+    {
+        let at = put(room, at, b"M ");
+        let at = self.time.put(room, at);
+        let at = put(room, at, b" ");
+        let at = put_piece(room, at, name.as_bytes());
+        let at = put(room, at, b" ");
+        let at = self.vl.put(room, at);
+        let at = put(room, at, b" ");
+        let at = put_digits(room, at, message);
+        put(room, at, b"\n")
+    }
+
+    /// The line of a frame that was dropped, with the numbers that are kept.
+    #[inline(never)]
+    fn put_unread(&self, room: &mut [u8], at: usize, name: &str, why: DropReason) -> usize
+        requires { at + 128 + length name.now ≤ length room.old }
+        ensures within { result ≤ at + 128 + length name.now }
+        ensures text { take result room.new
+            ≡ take at room.old
+            ++ drop_line self.now.time.number name.now self.now.n.number (drop_word why) }
+    {
+        let at = put(room, at, b"X ");
+        let at = self.time.put(room, at);
+        let at = put(room, at, b" ");
+        let at = put_piece(room, at, name.as_bytes());
+        let at = put(room, at, b" ");
+        let at = self.n.put(room, at);
+        let at = put(room, at, b" ");
+        let at = put_why(room, at, why);
+        put(room, at, b"\n")
+    }
+
+    /// `D n time side port`, or `T ..`.
+    #[inline(always)]
     pub(crate) fn put_departure(
         &mut self,
         room: &mut [u8],
@@ -126,19 +203,13 @@ impl Kept {
         ensures text { take result room.new
             ≡ take at room.old ++ departure_line too_old n time side port }
     {
-        let at = put_letter(room, at, too_old);
-        let at = self.n.put(n, room, at);
-        let at = put(room, at, b" ");
-        let at = self.time.put(time, room, at);
-        let at = put(room, at, b" ");
-        let at = put_side(room, at, side);
-        let at = put(room, at, b" ");
-        let at = put_small(room, at, port);
-        put(room, at, b"\n")
+        self.n.set(n);
+        self.time.set(time);
+        self.put_left(room, at, side, port, too_old)
     }
 
     /// `M time system vl hex`.
-    #[inline(never)]
+    #[inline(always)]
     pub(crate) fn put_message(
         &mut self,
         room: &mut [u8],
@@ -153,19 +224,13 @@ impl Kept {
         ensures text { take result room.new
             ≡ take at room.old ++ message_line time name.now vl message.now }
     {
-        let at = put(room, at, b"M ");
-        let at = self.time.put(time, room, at);
-        let at = put(room, at, b" ");
-        let at = put_piece(room, at, name.as_bytes());
-        let at = put(room, at, b" ");
-        let at = put_number(room, at, u64::from(vl));
-        let at = put(room, at, b" ");
-        let at = put_digits(room, at, message);
-        put(room, at, b"\n")
+        self.time.set(time);
+        self.vl.set(u64::from(vl));
+        self.put_read(room, at, name, message)
     }
 
     /// `X time system n WORD`.
-    #[inline(never)]
+    #[inline(always)]
     pub(crate) fn put_drop(
         &mut self,
         room: &mut [u8],
@@ -180,15 +245,9 @@ impl Kept {
         ensures text { take result room.new
             ≡ take at room.old ++ drop_line time name.now n (drop_word why) }
     {
-        let at = put(room, at, b"X ");
-        let at = self.time.put(time, room, at);
-        let at = put(room, at, b" ");
-        let at = put_piece(room, at, name.as_bytes());
-        let at = put(room, at, b" ");
-        let at = self.n.put(n, room, at);
-        let at = put(room, at, b" ");
-        let at = put_why(room, at, why);
-        put(room, at, b"\n")
+        self.time.set(time);
+        self.n.set(n);
+        self.put_unread(room, at, name, why)
     }
 
     /// `R time side port hex`.
@@ -207,8 +266,9 @@ impl Kept {
         ensures text { take result room.new
             ≡ take at room.old ++ sent_line side port time bytes.now }
     {
+        self.time.set(time);
         let at = put(room, at, b"R ");
-        let at = self.time.put(time, room, at);
+        let at = self.time.put(room, at);
         let at = put(room, at, b" ");
         let at = put_side(room, at, side);
         let at = put(room, at, b" ");

@@ -10,7 +10,7 @@ pub(crate) const MOST_DIGITS: usize = 20;
 /// A number and its digits.
 #[derive(Debug, Drop)]
 pub(crate) struct Numeral {
-    number: u64,
+    pub(crate) number: u64,
     /// The digits begin at `start` and end before place 20.
     digits: [u8; 52],
     start: usize,
@@ -37,9 +37,9 @@ impl Numeral {
         self.number = number;
     }
 
-    /// Makes it this number, if it is another one.
+    /// Makes it this number. It is quick where it is this number already.
     #[inline(always)]
-    fn set(&mut self, number: u64)
+    pub(crate) fn set(&mut self, number: u64)
         ensures { self.new.number ≡ number }
     {
         if self.number != number {
@@ -49,7 +49,7 @@ impl Numeral {
 
     /// Puts its digits at a place of the room, and tells where they end.
     #[inline(always)]
-    fn put_at(&self, room: &mut [u8], at: usize) -> usize
+    pub(crate) fn put(&self, room: &mut [u8], at: usize) -> usize
         requires { at + 32 ≤ length room.old }
         ensures within { result ≤ at + 20 }
         ensures digits { take result room.new ≡ take at room.old ++ decimal self.now.number }
@@ -60,17 +60,5 @@ impl Numeral {
             &self.digits[self.start..],
             MOST_DIGITS - self.start,
         )
-    }
-
-    /// Puts a number's digits, and tells where they end. It is quick where it is the number that
-    /// was put last.
-    #[inline(always)]
-    pub(crate) fn put(&mut self, number: u64, room: &mut [u8], at: usize) -> usize
-        requires { at + 32 ≤ length room.old }
-        ensures within { result ≤ at + 20 }
-        ensures text { take result room.new ≡ take at room.old ++ decimal number }
-    {
-        self.set(number);
-        self.put_at(room, at)
     }
 }

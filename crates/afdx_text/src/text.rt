@@ -8,8 +8,8 @@ use std::alloc::{AllocError, Global};
 
 /// Lines that are added at its end, in memory that is used again after each `clear`.
 ///
-/// The lines of a run often have the time of the line before, or tell of the same line of a list.
-/// So the digits of such a number are kept until another one is put.
+/// The lines of a run often have the time of the line before, or tell of the same line of a list or
+/// of the same link. So the digits of such a number are kept until another one is put.
 #[derive(Debug, Drop)]
 pub struct Text {
     room: Vec<u8>,

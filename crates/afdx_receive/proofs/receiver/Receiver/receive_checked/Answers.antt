@@ -1,78 +1,26 @@
-use Rattle.std.proofs.Common.{◌∷◌, sym, ◌∙◌}
-use Rattle.afdx_frame.specs.Parts.{FrameParts, parts_of}
-use Rattle.afdx_receive.specs.Arrivals.{Arrived}
-use Rattle.afdx_receive.specs.Answers.{answer_of}
-use Rattle.afdx_receive.specs.declared.memory.Standing.TheVariants.{OutOfSequence, Redundant, Winner}
-use Rattle.afdx_receive.proofs.ReceptionLemmas.{frames_damaged, answer_damaged, answer_of_others, read_right}
-use Rattle.afdx_receive.proofs.ReceiverLemmas.{taken, unsubscribed_at, all_stay, others_stay}
+use Rattle.std.proofs.Common.{sym, refl, true, false, ◌∙◌}
+use Rattle.afdx_receive.proofs.ReceiverLemmas.{looked_up, port_is}
 use Rattle.afdx_receive.proofs.receiver.Receiver.receive_checked.Goals as goal
 
-pub returns-in-Err-clause-received : goal.returns-in-Err-clause-received
-returns-in-Err-clause-received c tables system past stands =
-    let x : Arrived = record { time = c.args.time; side = c.args.side; bytes = c.args.frame.bytes.now } in
-    record {
-      computed = answer_damaged tables system past x c.in-Err.fault c.in-Err.ensures.computed;
-      right = c.in-Err.ensures.err;
-      stands = record {
-        links = all_stay tables system past (x ∷ past) c.args.self.now.links stands.links
-            (λ vl. frames_damaged x past c.in-Err.fault vl c.in-Err.ensures.computed);
-        ports = stands.ports;
-      };
-    }
+pub returns-in-Dropped-clause-received : goal.returns-in-Dropped-clause-received
+returns-in-Dropped-clause-received c tables system past stands =
+    looked_up tables system past _ _ _ _
+    (c.in-Dropped.ensures.selected tables system past stands.links) refl stands.ports
 
-pub returns-in_default-clause-received : goal.returns-in_default-clause-received
-returns-in_default-clause-received c tables system past stands =
-    let x : Arrived = record { time = c.args.time; side = c.args.side; bytes = c.args.frame.bytes.now } in
-    let frame : FrameParts = parts_of c.in-Ok.view in
-    let missing = rw c.vl.ensures at c.in_default.ensures.none in
-    let other = unsubscribed_at tables system past c.args.self.now.links frame.link.0 stands.links (sym missing) in
-    record {
-      computed = answer_of_others tables system past x frame c.in-Ok.ensures.computed other;
-      right = (frame, c.in-Ok.ensures.ok, other);
-      stands = record {
-        links = rw c.in_default.ensures.unchanged
-            (others_stay tables system past x frame c.args.self.now.links stands.links
-            c.in-Ok.ensures.computed (sym missing));
-        ports = stands.ports;
-      };
-    }
+pub returns-then-not-contains-clause-received : goal.returns-then-not-contains-clause-received
+returns-then-not-contains-clause-received c tables system past stands =
+    looked_up tables system past _ _ _ _
+    (c.in-Message.ensures.selected tables system past stands.links)
+    (port_is tables system c.in-Message.vl.0 c.in-Message.udp c.in-Message.bytes.now false
+    (sym (c.contains.ensures ∙ stands.ports (record { link = c.in-Message.vl; udp = c.in-Message.udp }))
+    ∙ c.if-not-contains.true))
+    stands.ports
 
-pub returns-in-OutOfSequence-clause-received : goal.returns-in-OutOfSequence-clause-received
-returns-in-OutOfSequence-clause-received c tables system past stands =
-    let x : Arrived = record { time = c.args.time; side = c.args.side; bytes = c.args.frame.bytes.now } in
-    let frame : FrameParts = parts_of c.in-Ok.view in
-    let all = taken tables system past x frame c.args.self.now.links c.consider.new.self
-    OutOfSequence stands.links c.in-Ok.ensures.ok c.in-Ok.ensures.computed
-    (rw (c.vl.ensures, c.sequence-number.ensures, c.in-OutOfSequence.is) at c.in-Some.ensures.considered) in
-    record {
-      computed = all.answers;
-      right = (frame, all.received);
-      stands = record { links = all.links; ports = stands.ports };
-    }
-
-pub returns-in-Redundant-clause-received : goal.returns-in-Redundant-clause-received
-returns-in-Redundant-clause-received c tables system past stands =
-    let x : Arrived = record { time = c.args.time; side = c.args.side; bytes = c.args.frame.bytes.now } in
-    let frame : FrameParts = parts_of c.in-Ok.view in
-    let all = taken tables system past x frame c.args.self.now.links c.consider.new.self Redundant
-    stands.links c.in-Ok.ensures.ok c.in-Ok.ensures.computed
-    (rw (c.vl.ensures, c.sequence-number.ensures, c.in-Redundant.is) at c.in-Some.ensures.considered) in
-    record {
-      computed = all.answers;
-      right = (frame, all.received);
-      stands = record { links = all.links; ports = stands.ports };
-    }
-
-pub returns-in-Winner-clause-received : goal.returns-in-Winner-clause-received
-returns-in-Winner-clause-received c tables system past stands =
-    let x : Arrived = record { time = c.args.time; side = c.args.side; bytes = c.args.frame.bytes.now } in
-    let frame : FrameParts = parts_of c.in-Ok.view in
-    let all = taken tables system past x frame c.args.self.now.links c.consider.new.self Winner
-    stands.links c.in-Ok.ensures.ok c.in-Ok.ensures.computed
-    (rw (c.vl.ensures, c.sequence-number.ensures, c.in-Winner.is) at c.in-Some.ensures.considered) in
-    record {
-      computed = c.read.ensures.answer tables system c.args.frame.bytes.now stands.ports c.in-Ok.ensures.ok ∙ all.answers;
-      right = read_right tables system past x frame (answer_of c.read.result)
-          (c.read.ensures.right tables system c.args.frame.bytes.now stands.ports c.in-Ok.ensures.ok) all.received;
-      stands = record { links = all.links; ports = stands.ports };
-    }
+pub returns-else-not-contains-clause-received : goal.returns-else-not-contains-clause-received
+returns-else-not-contains-clause-received c tables system past stands =
+    looked_up tables system past _ _ _ _
+    (c.in-Message.ensures.selected tables system past stands.links)
+    (port_is tables system c.in-Message.vl.0 c.in-Message.udp c.in-Message.bytes.now true
+    (sym (c.contains.ensures ∙ stands.ports (record { link = c.in-Message.vl; udp = c.in-Message.udp }))
+    ∙ c.if-not-contains.false))
+    stands.ports

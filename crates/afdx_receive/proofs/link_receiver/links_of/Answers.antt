@@ -1,8 +1,8 @@
 use Rattle.std.proofs.Common.{refl, arith}
 use Rattle.afdx_config.specs.Rows.{link_row}
 use Rattle.afdx_receive.proofs.TableLemmas.{link_passed, link_added}
-use Rattle.afdx_receive.proofs.receiver.links_of.Goals as goal
-use Rattle.afdx_receive.proofs.receiver.links_of.Goals.{then-goes_to+in_ok-insert, else-goes_to}
+use Rattle.afdx_receive.proofs.link_receiver.links_of.Goals as goal
+use Rattle.afdx_receive.proofs.link_receiver.links_of.Goals.{then-goes_to+in_ok-insert, else-goes_to}
 
 pub loop-index-preserved : goal.loop-index-preserved
 loop-index-preserved c =

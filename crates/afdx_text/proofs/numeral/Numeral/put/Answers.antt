@@ -1,6 +1,6 @@
 use Rattle.std.proofs.Common.{ℕ, List, take, drop, ap, arith, ◌-◌, ◌++◌, ◌∙◌}
 use Rattle.std.proofs.lemmas.List.{take-take}
-use Rattle.afdx_text.proofs.numeral.Numeral.put_at.Goals as goal
+use Rattle.afdx_text.proofs.numeral.Numeral.put.Goals as goal
 
 pub returns-clause-digits : goal.returns-clause-digits
 returns-clause-digits c =

@@ -3,7 +3,7 @@ use Rattle.std.specs.Prelude.{find, option_map, nat_eq, ◌&&◌}
 use Rattle.afdx_config.specs.Rows.{is_to}
 use Rattle.afdx_receive.specs.StandsFor.{memory_at_first}
 use Rattle.afdx_receive.specs.Kept.{memory_at}
-use Rattle.afdx_receive.proofs.receiver.links_of.Given as goal
+use Rattle.afdx_receive.proofs.link_receiver.links_of.Given as goal
 
 -- the memories of the links so far
 abbrev pub invariant-loop-index : goal.invariant-loop-index
