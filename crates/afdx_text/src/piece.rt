@@ -37,6 +37,19 @@ fn put_of_8(room: &mut [u8], at: usize, bytes: &[u8], size: usize) -> usize
     at + size
 }
 
+/// Puts the first of 4 bytes, so many.
+#[inline(always)]
+fn put_of_4(room: &mut [u8], at: usize, bytes: &[u8], size: usize) -> usize
+    requires size { size ≤ 4 }
+    requires bytes { 4 ≤ length bytes.now }
+    requires room { at + 4 ≤ length room.old }
+    ensures ends { result ≡ at + size }
+    ensures text { take result room.new ≡ take at room.old ++ take size bytes.now }
+{
+    u8x4::from_slice(bytes).copy_to_slice(&mut room[at..]);
+    at + size
+}
+
 /// Puts the first of 2 bytes, so many.
 #[inline(always)]
 fn put_of_2(room: &mut [u8], at: usize, bytes: &[u8], size: usize) -> usize
@@ -50,8 +63,21 @@ fn put_of_2(room: &mut [u8], at: usize, bytes: &[u8], size: usize) -> usize
     at + size
 }
 
-/// Puts a piece of any length. The names of systems are 1 to 16 bytes: the last 8 or 2 of these may
-/// begin among those that stand there already.
+/// Puts a piece of any length.
+#[cold]
+#[inline(never)]
+fn put_any(room: &mut [u8], at: usize, piece: &[u8]) -> usize
+    requires { at + length piece.now ≤ length room.old }
+    ensures ends { result ≡ at + length piece.now }
+    ensures text { take result room.new ≡ take at room.old ++ piece.now }
+{
+    let len = piece.len();
+    room[at..at + len].copy_from_slice(piece);
+    at + len
+}
+
+/// Puts a piece. The names of systems are 1 to 16 bytes: the last 8, 4 or 2 of these may begin
+/// among those that stand there already.
 #[inline(always)]
 pub(crate) fn put_piece(room: &mut [u8], at: usize, piece: &[u8]) -> usize
     requires { at + length piece.now ≤ length room.old }
@@ -63,12 +89,15 @@ pub(crate) fn put_piece(room: &mut [u8], at: usize, piece: &[u8]) -> usize
         let middle = put_of_2(room, at, piece, len - 2);
         return put_of_2(room, middle, &piece[len - 2..], 2);
     }
+    if 4 < len && len < 8 {
+        let middle = put_of_4(room, at, piece, len - 4);
+        return put_of_4(room, middle, &piece[len - 4..], 4);
+    }
     if 8 <= len && len <= 16 {
         let middle = put_of_8(room, at, piece, len - 8);
         return put_of_8(room, middle, &piece[len - 8..], 8);
     }
-    room[at..at + len].copy_from_slice(piece);
-    at + len
+    put_any(room, at, piece)
 }
 
 /// So many bytes are always copied with the digits of a number, so that it is no loop. Those behind

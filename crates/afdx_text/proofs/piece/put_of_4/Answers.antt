@@ -1,0 +1,10 @@
+use Rattle.std.proofs.Common.{ℕ, List, arith, length, drop, take, ap, ◌++◌, ◌+◌, ◌≡◌, ◌∙◌, length-take}
+use Rattle.std.proofs.lemmas.List.{take-take}
+use Rattle.std.proofs.lemmas.Simd.{put_chunk_is}
+use Rattle.afdx_text.proofs.TextLemmas.{put_at_place}
+use Rattle.afdx_text.proofs.piece.put_of_4.Goals as goal
+
+pub returns-clause-text : goal.returns-clause-text
+returns-clause-text c =
+    put_at_place c.args.room.now c.args.bytes.now c.args.at c.args.size 4 c.requires.size c.requires.bytes
+    c.requires.room
