@@ -22,7 +22,9 @@ _afdx_systems() { # the names of the systems of the configuration that was given
 
 _afdx_program() {
     case $1 in
-        check) _arguments $help $told[1] ":$config" ;;
+        check)
+            _arguments $help $told[1] '--all[print each line that is false]' ":$config"
+            ;;
         explain) _arguments $help '--list[print each word and each form of a line]' '*:text:' ;;
         police)
             _arguments $help $told '--vl[the identifier of the link]:number:' \

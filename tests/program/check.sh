@@ -33,14 +33,27 @@ check_with 'A3' 1 "$base"$'no A3 3 1 16800\n' '' 's/^latency_us = 17/latency_us 
 check_with 'A4' 1 "$base"$'no A4 3 2 20297\n' '' 's/^latency_us = 21/latency_us = 20/'
 check_with 'A7' 1 "$base"$'no A7 1\n' '' '0,/^skew_us = 1000/s//skew_us = 16/'
 
-ends_with() { # NAME STATUS LINES : `check` on the changed base.toml, whose output ends with them
-    launch check "$work/changed.toml"
+ends_with() { # NAME STATUS LINES [OPTION] : `check` on the changed base.toml, which ends with them
+    launch check ${4+"$4"} "$work/changed.toml"
     tail -c "${#3}" "$work/out" >"$work/end"
     tell "$1" "$(
         has_status "$2"
         differs 'the end of standard output' "$3" "$work/end"
     )"
 }
+
+all_with() { # NAME STATUS OUT SED_SCRIPT : all false lines of base.toml as the script changes it
+    sed -E "$4" examples/base.toml >"$work/changed.toml"
+    case_of "$1" "$2" "$3" '' check --all "$work/changed.toml"
+}
+all_with 'all lines: none is false' 0 "$base"$'ok\n' ''
+all_with 'all lines: four are false' 1 \
+    "$base"$'no A2 3 252\nno A3 3 1 16800\nno A4 3 2 20297\nno A7 1\n' \
+    's/^buffer = 252/buffer = 251/; s/^latency_us = 17/latency_us = 16/
+    s/^latency_us = 21/latency_us = 20/; 0,/^skew_us = 1000/s//skew_us = 15/'
+all_with 'all lines: an overloaded port' 1 \
+    "$idle"$'P 3 1912800 - 2433\nno A1 3\nno A2 3 2433\nno A3 3 1 1912800\nno A4 3 2 -\n' \
+    '0,/^lmax = 64/s//lmax = 1518/; /^id = 3/,/^rate/s/^rate = 100/rate = 10/'
 
 sed '0,/^jitter_us = 500/s//jitter_us = 46/' examples/base.toml >"$work/changed.toml"
 ends_with 'A6' 1 $'no A6 1 46720\n'
@@ -60,6 +73,8 @@ long_links() { # COUNT : so many links of s1 to s3, each of the longest frames a
 }
 long_links 4 >"$work/changed.toml"
 ends_with 'A5' 1 $'\nno A5 s1 532160\n'
+ends_with 'A5 and A6, all of them' 1 \
+    $'\nno A5 s1 532160\nno A6 0 532160\nno A6 1 532160\nno A6 2 532160\nno A6 3 532160\n' --all
 long_links 3 >"$work/changed.toml"
 ends_with 'the jitter of a sender' 0 $'\nP 3 370562 371634 4633\nok\n'
 

@@ -12,8 +12,8 @@ use crate::progress::{Cleared, Counted, is_told};
 use afdx_explain::meaning_of;
 use afdx_replay::status::{DONE, NO_DEVICE_OR_MEMORY, WRONG_WORDS};
 use afdx_replay::{
-    CommandedRule, Ended, Output, Policing, RunFault, Watched, check, finish, police_and_count,
-    replay_and_count, replay_and_explain, send_and_count,
+    CommandedRule, Ended, Output, Policing, RunFault, Watched, check_lines, finish,
+    police_and_count, replay_and_count, replay_and_explain, send_and_count,
 };
 use clap::error::ErrorKind;
 use clap::{ArgMatches, Error};
@@ -98,7 +98,8 @@ fn check_config(rt: &HostRuntime, matches: &ArgMatches<'_>) -> u8 {
     };
     let mut output = Watched::new(Heard::new(Traced::new(rt.stdout())));
     let mut errors = Watched::new(Heard::new(rt.stderr()));
-    let status = check(rt.alloc(), config.as_slice(), &mut output, &mut errors);
+    let all = matches.get_flag("all");
+    let status = check_lines(rt.alloc(), all, config.as_slice(), &mut output, &mut errors);
     let (output, errors) = (output.into_inner(), errors.into_inner());
     let line = match errors.line() {
         "" => output.line(),

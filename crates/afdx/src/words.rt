@@ -133,7 +133,9 @@ these lines that is false:
   A7 vl              a link's latency is at most its skew
 
 The last number of A2 is in bytes, those of A3 to A6 are in ns. Ports come first, A1
-to A4 at each; then systems, then links in the file's order.
+to A4 at each; then systems, then links in the file's order. With --all comes a 'no'
+for each line that is false, in that order; the bound of A4 is '-' where the high
+links leave nothing of the line.
 
 A closed pipe, as with '| head', is the fault 'device Write', status 4.
 
@@ -141,7 +143,15 @@ Example:
   afdx check examples/network.toml";
 
 fn check_command<'a>(alloc: Global) -> Result<Command<'a>, AllocError> {
-    let words = vec![in alloc; explain_option(alloc), word(alloc, "CONFIG", CONFIG_HELP)]?;
+    let words = vec![in alloc;
+        flag(
+            alloc,
+            "all",
+            "Prints each line that is false, and not the first alone"
+        ),
+        explain_option(alloc),
+        word(alloc, "CONFIG", CONFIG_HELP),
+    ]?;
     command(alloc, "check", CHECK_ABOUT, CHECK_AFTER).args(words)
 }
 

@@ -4,7 +4,6 @@ use Rattle.std.proofs.Common.{false, nat_le, List, [], ◌∷◌, ◌++◌, leng
 use Rattle.std.proofs.Common.{Some, None, if◌then◌else◌, slice_get, refl, sym, ap, subst, ◌∙◌, arith}
 use Rattle.std.specs.List.{AllByRecursion}
 use Rattle.std.specs.Option.{option_map_or}
-use Rattle.std.specs.Int.{div_ceil}
 use Rattle.std.proofs.lemmas.List.Elements.{All-from_recursion, recursion_from_All}
 use Rattle.std.proofs.lemmas.Option.{slice_get_within}
 use Rattle.std.proofs.lemmas.Bool.{cases_eq}
@@ -27,9 +26,9 @@ use Rattle.afdx_admit.specs.declared.fault.AdmitFault.TheVariants.{LinkJitter, S
 use Rattle.afdx_admit.specs.Lines.{Line, line, first_false, each_from, lines, LoadedOutput}
 use Rattle.afdx_admit.specs.Lines.{loaded_output_to, output_lines, port_lines}
 use Rattle.afdx_admit.specs.Lines.{sender_lines, link_lines}
-use Rattle.afdx_admit.specs.Lines.{lines_of_link, jitter_at, high_line, low_line, high_bound_of, buffer_need_of}
+use Rattle.afdx_admit.specs.Lines.{lines_of_link, jitter_at, high_line, low_line, high_bound_of, buffer_need_of, told_low_bound_of}
 use Rattle.afdx_admit.proofs.FirstFalseLemmas.{first_false-skip, first_false-nil, first_false-append, le-true, true-le}
-use Rattle.afdx_admit.proofs.OutputLemmas.{late_line}
+use Rattle.afdx_admit.specs.Late.{class_line}
 use Rattle.afdx_admit.proofs.PortLemmas.{loaded_output_at-some, loaded_output_at-none, found_within}
 use Rattle.afdx_admit.proofs.TakenLemmas.{at_place}
 
@@ -99,7 +98,7 @@ module _ (class : Priority) (wait left : ℕ) (fault : ℕ → AdmitFault) where
   IsSoon f = f.priority ≡ class → wait ≤ f.latency * left
 
   abbrev late_lines_of : List Flow → List Line
-  late_lines_of fs = map (late_line wait left fault) fs
+  late_lines_of fs = map (class_line wait left fault) fs
 
   soon_cons : (f : Flow) (fs : List Flow)
       → (first_false (late_lines_of (of_class class fs)) ≡ None → AllByRecursion IsSoon fs) → (b : Bool) →
@@ -107,7 +106,7 @@ module _ (class : Priority) (wait left : ℕ) (fault : ℕ → AdmitFault) where
       first_false (late_lines_of (cond b (f ∷ of_class class fs) (of_class class fs))) ≡ None
       → IsSoon f × AllByRecursion IsSoon fs
   soon_cons f fs later true e h =
-      let both = cons_holds (late_line wait left fault f) (late_lines_of (of_class class fs)) h in
+      let both = cons_holds (class_line wait left fault f) (late_lines_of (of_class class fs)) h in
       (λ _. true-le wait (f.latency * left) both.one, later both.rest)
   soon_cons f fs later false e h = (λ is. absurd (cc (e, class_is class f.priority is)), later h)
 
@@ -120,7 +119,7 @@ module _ (class : Priority) (wait left : ℕ) (fault : ℕ → AdmitFault) where
       → is_class class f.priority ≡ b →
       first_false (late_lines_of (cond b (f ∷ of_class class fs) (of_class class fs))) ≡ None
   lines_cons f fs here later true e =
-      holds_cons (late_line wait left fault f) (late_lines_of (of_class class fs))
+      holds_cons (class_line wait left fault f) (late_lines_of (of_class class fs))
       (le-true wait (f.latency * left) (here (is_one class f.priority e))) later
   lines_cons f fs here later false e = later
 
@@ -134,8 +133,7 @@ abbrev high_fault : ℕ → LoadedOutput → ℕ → AdmitFault
 high_fault port o v = HighLatency port (record { 0 = v }) (high_bound_of o)
 
 abbrev low_fault : ℕ → LoadedOutput → ℕ → AdmitFault
-low_fault port o v = LowLatency port (record { 0 = v })
-    (div_ceil (low_wait o.byte_ns o.flows) (byte_units - high_load o.byte_ns o.flows))
+low_fault port o v = LowLatency port (record { 0 = v }) (told_low_bound_of o)
 
 output_admitted : (buffer port : ℕ) (o : LoadedOutput) → first_false (output_lines buffer port o)
     ≡ None → IsPortAdmitted o.byte_ns buffer o.flows

@@ -63,7 +63,7 @@ drop_at (y ∷ ys) zero x h = ap (λ z. z ∷ ys) (same y x h)
     same y x h = cc
 drop_at (y ∷ ys) (suc i) x h = drop_at ys i x h
 
-drop_next : {X : Type 0} (xs : List X) (i : ℕ) (x : X) → slice_get xs i ≡ Some x → drop i xs ≡ x ∷ drop (i + 1) xs
+pub drop_next : {X : Type 0} (xs : List X) (i : ℕ) (x : X) → slice_get xs i ≡ Some x → drop i xs ≡ x ∷ drop (i + 1) xs
 drop_next xs i x at = let e : suc i ≡ i + 1 = omega arith in drop_at xs i x at ∙ ap (λ n. x ∷ drop n xs) e
 
 module _ {X : Type 0} (p : X → Bool) (xs : List X) (i : ℕ) (x : X) (all : Option X)

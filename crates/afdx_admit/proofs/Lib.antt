@@ -1,5 +1,7 @@
 pub mod ExactLemmas
+pub mod FalseLinesLemmas
 pub mod FirstFalseLemmas
+pub mod KnownLemmas
 pub mod LateLemmas
 pub mod LowBoundLemmas
 pub mod OutputLemmas

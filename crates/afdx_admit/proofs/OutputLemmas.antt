@@ -2,7 +2,6 @@
 use Rattle.std.proofs.Common.{length, ◌≡◌, ℕ, ◌+◌, ◌-◌, ◌*◌, ◌<◌, ◌≤◌, ◌⊎◌, inl, inr, Bool, true}
 use Rattle.std.proofs.Common.{false, nat_le, List, [], ◌∷◌, ◌++◌, map, cond, Option, Some}
 use Rattle.std.proofs.Common.{None, if◌then◌else◌, refl, ap, ◌∙◌, arith}
-use Rattle.std.specs.Int.{div_ceil}
 use Rattle.std.specs.List.{AllByRecursion, Contains}
 use Rattle.std.specs.Option.{option_map}
 use Rattle.std.proofs.Math.Nat.{mul-le-mul_left}
@@ -18,27 +17,24 @@ use Rattle.afdx_config.specs.Admission.{flows_to, links_to}
 use Rattle.afdx_admit.specs.declared.fault.AdmitFault.{AdmitFault}
 use Rattle.afdx_admit.specs.declared.fault.AdmitFault.TheVariants.{Overload, Buffer, HighLatency, LowLatency}
 use Rattle.afdx_admit.specs.Lines.{Line, line, first_false, LoadedOutput, output_lines, high_line}
-use Rattle.afdx_admit.specs.Lines.{low_line, buffer_need_of, high_bound_of}
-use Rattle.afdx_admit.specs.Late.{first_late}
+use Rattle.afdx_admit.specs.Lines.{low_line, buffer_need_of, high_bound_of, told_low_bound_of}
+use Rattle.afdx_admit.specs.Late.{first_late, class_line}
 use Rattle.afdx_admit.proofs.FirstFalseLemmas.{first_false-skip, first_false-stop, first_false-append}
 use Rattle.afdx_admit.proofs.FirstFalseLemmas.{first_false-before, le-true, le-false}
 use Rattle.afdx_admit.proofs.SmallLemmas.{rate_some}
 
 -- the lines of flows that may be late
 module _ (wait left : ℕ) (fault : ℕ → AdmitFault) where
-  abbrev pub late_line : Flow → Line
-  late_line f = line (nat_le wait (f.latency * left)) (fault f.vl)
-
   late_by : (b : Bool) (v : ℕ) (rest : Option ℕ) (lines : Option AdmitFault) → lines ≡ option_map fault rest →
       (if b then lines else Some (fault v)) ≡ option_map fault (if b then rest else Some v)
   late_by true v rest lines h = h
   late_by false v rest lines h = refl
 
-  late_lines : (fs : List Flow) → first_false (map late_line fs) ≡ option_map fault (first_late wait left fs)
+  late_lines : (fs : List Flow) → first_false (map (class_line wait left fault) fs) ≡ option_map fault (first_late wait left fs)
   unfolding first_false first_late
   late_lines [] = refl
   late_lines (f ∷ fs) = late_by (nat_le wait (f.latency * left)) f.vl (first_late wait left fs)
-      (first_false (map late_line fs)) (late_lines fs)
+      (first_false (map (class_line wait left fault) fs)) (late_lines fs)
 
 module _ (buffer port : ℕ) (o : LoadedOutput) where
   abbrev high_fault : ℕ → AdmitFault
@@ -48,7 +44,7 @@ module _ (buffer port : ℕ) (o : LoadedOutput) where
   left = byte_units - high_load o.byte_ns o.flows
 
   abbrev low_fault : ℕ → AdmitFault
-  low_fault v = LowLatency port (record { 0 = v }) (div_ceil (low_wait o.byte_ns o.flows) left)
+  low_fault v = LowLatency port (record { 0 = v }) (told_low_bound_of o)
 
   abbrev late_high : Option ℕ
   late_high = first_late (high_wait o.byte_ns o.flows) byte_units (of_class High o.flows)
@@ -151,17 +147,6 @@ module _ (byte_ns : ℕ) (some : 1 ≤ byte_ns) where
       elim s.less [
         | inl none ↦ let within : stands.0 < length (of_class Low fs) = stands.1 in
             absurd (omega (arith, within, ap length none))
-        | inr fewer ↦ omega (arith, fewer, fits)
-      ]
-
-  pub left_some : (fs : List Flow) (wait rest v : ℕ) → AllByRecursion (λ f. 1 ≤ fill_rate f.link) fs
-      → load byte_ns fs ≤ byte_units →
-      first_late wait rest (of_class Low fs) ≡ Some v → 0 < byte_units - load byte_ns (of_class High fs)
-  unfolding first_late
-  left_some fs wait rest v rates fits late =
-      let s = split fs rates in
-      elim s.less [
-        | inl none ↦ absurd (cc (ap (first_late wait rest) none, late))
         | inr fewer ↦ omega (arith, fewer, fits)
       ]
 

@@ -1,10 +1,10 @@
 -- The lines of admission in their order, each with the fault that is answered where it is false.
 -- Bounds are in ns and buffers in bytes, rounded up.
-use Rattle.std.specs.Prelude.{ℕ, zero, suc, ◌+◌, ◌-◌, ◌*◌, Bool, nat_le, nat_lt, List, [], ◌∷◌}
-use Rattle.std.specs.Prelude.{◌++◌, length, map, Option, Some, None, slice_get, option_map}
+use Rattle.std.specs.Prelude.{ℕ, zero, suc, ◌+◌, ◌-◌, ◌*◌, Bool, not, nat_le, nat_lt, List, []}
+use Rattle.std.specs.Prelude.{◌∷◌, ◌++◌, length, map, filter, Option, Some, None, slice_get, option_map}
 use Rattle.std.specs.Prelude.{option_and_then, if◌then◌else◌}
 use Rattle.std.specs.Int.{div_ceil}
-use Rattle.std.specs.Option.{option_map_or}
+use Rattle.std.specs.Option.{option_map_or, unwrap_or}
 use Rattle.afdx_frame.specs.declared.link.Priority.TheVariants.{High, Low}
 use Rattle.afdx_frame.specs.Regulation.{byte_units}
 use Rattle.afdx_config.specs.Rows.{SystemRow, LinkRow, Rows}
@@ -30,6 +30,10 @@ unfoldable pub first_false : List Line → Option AdmitFault
 first_false [] = None
 first_false (l ∷ ls) = if l.holds then first_false ls else Some l.fault
 
+-- the faults of all lines that are false
+unfoldable pub false_lines : List Line → List AdmitFault
+false_lines ls = map (λ l. l.fault) (filter (λ l. not l.holds) ls)
+
 -- ---- the bounds of an output port
 
 -- an output port with what loads it: the ns of a byte on its line, and what sends to it
@@ -47,6 +51,10 @@ low_bound_of o =
     if nat_lt (high_load o.byte_ns o.flows) byte_units
     then Some (div_ceil (low_wait o.byte_ns o.flows) (byte_units - high_load o.byte_ns o.flows))
     else None
+
+-- the low one as a fault tells it: 0 where the high ones leave nothing
+abbrev pub told_low_bound_of : LoadedOutput → ℕ
+told_low_bound_of o = unwrap_or (low_bound_of o) 0
 
 unfoldable pub buffer_need_of : LoadedOutput → ℕ
 buffer_need_of o = div_ceil (burst o.flows) byte_units
@@ -82,7 +90,7 @@ abbrev pub low_line : ℕ → LoadedOutput → Flow → Line
 low_line port o f =
     let left = byte_units - high_load o.byte_ns o.flows in
     line (nat_le (low_wait o.byte_ns o.flows) (f.latency * left))
-    (LowLatency port (record { 0 = f.vl }) (div_ceil (low_wait o.byte_ns o.flows) left))
+    (LowLatency port (record { 0 = f.vl }) (told_low_bound_of o))
 
 unfoldable pub output_lines : ℕ → ℕ → LoadedOutput → List Line
 output_lines buffer port o =

@@ -1,6 +1,6 @@
 -- The sums that are kept of an output port's links.
 use Rattle.std.specs.Prelude.{◌≡◌, ℕ, ◌+◌, ◌*◌, ◌≤◌, ◌<◌, max, List, length, slice_index, slice_get}
-use Rattle.std.specs.Prelude.{Option, Some, if◌then◌else◌}
+use Rattle.std.specs.Prelude.{Option, Some, ◌++◌, if◌then◌else◌}
 use Rattle.afdx_frame.specs.declared.link.Priority.TheVariants.{High, Low}
 use Rattle.afdx_frame.specs.Lengths.{greatest_frame}
 use Rattle.afdx_frame.specs.Ports.{last_port}
@@ -11,7 +11,7 @@ use Rattle.afdx_frame.specs.Flows.{Flow, is_class}
 use Rattle.afdx_frame.specs.Flows as port
 use Rattle.afdx_admit.specs.declared.fault.AdmitFault.{AdmitFault}
 use Rattle.afdx_admit.specs.declared.sums.Sums.{Sums}
-use Rattle.afdx_admit.specs.Lines.{LoadedOutput, loaded_output_to, output_lines, first_false}
+use Rattle.afdx_admit.specs.Lines.{LoadedOutput, loaded_output_to, output_lines, first_false, false_lines}
 use Rattle.afdx_admit.specs.Lines.{jitter_at}
 
 pub record IsSums (o : LoadedOutput) (r : Sums) : Type 0 where
@@ -74,3 +74,9 @@ pub record IsFaultAt (t : Rows) (port place : ℕ) (result : Option AdmitFault) 
   pub row : SystemRow
   pub stands : slice_get t.systems place ≡ Some row
   pub first : result ≡ first_false (output_lines t.buffer port (loaded_output_to t place row))
+
+-- the faults of all its false lines are added to those of before
+pub record AreFaultsAt (t : Rows) (port place : ℕ) (old new : List AdmitFault) : Type 0 where
+  pub row : SystemRow
+  pub stands : slice_get t.systems place ≡ Some row
+  pub added : new ≡ old ++ false_lines (output_lines t.buffer port (loaded_output_to t place row))

@@ -13,7 +13,8 @@ pub enum AdmitFault {
     Buffer(u8, u64),
     /// At this output port the high frames of this link may take so many ns.
     HighLatency(u8, VlId, u64),
-    /// At this output port the low frames of this link may take so many ns.
+    /// At this output port the low frames of this link may take so many ns; 0 where the high ones
+    /// take the whole line, so that there is no bound.
     LowLatency(u8, VlId, u64),
     /// The jitter at this system's output is so many ns.
     SenderJitter(SystemId, u64),
@@ -53,7 +54,7 @@ link to bound / 1000 or more, 1 to 100000; lmax of low links to that system).",
     ),
     (
         "A4",
-        "?\nno|admit ? n n n",
+        "?\nno|admit ? n n n\nno ? n n -",
         "\
 A4 port vl bound: the low link vl allows less than bound ns there.
 What may help: a larger latency, less traffic (latency_us of the link to bound / 1000 or
@@ -146,6 +147,9 @@ impl fmt::Display for AdmitText<'_> {
             AdmitFault::Overload(port) => write!(f, "{word} {port}"),
             AdmitFault::Buffer(port, needed) => write!(f, "{word} {port} {needed}"),
             AdmitFault::HighLatency(port, vl, bound) => write!(f, "{word} {port} {} {bound}", vl.0),
+            AdmitFault::LowLatency(port, vl, bound) if bound == 0 => {
+                write!(f, "{word} {port} {} -", vl.0)
+            }
             AdmitFault::LowLatency(port, vl, bound) => write!(f, "{word} {port} {} {bound}", vl.0),
             AdmitFault::SenderJitter(_, ns) => write!(f, "{word} {} {ns}", self.name),
             AdmitFault::LinkJitter(vl, needed) => write!(f, "{word} {} {needed}", vl.0),

@@ -1,6 +1,6 @@
 //! Laws over the definitions.
 
-ghost use Rattle.afdx_admit.specs.Laws.{LinesAreAdmission, LowBoundIsANumber};
+ghost use Rattle.afdx_admit.specs.Laws.{FirstIsOfAll, LinesAreAdmission, LowBoundIsANumber};
 
 /// In lawful tables no line is false exactly where they are admitted.
 pub fn lines_are_admission()
@@ -10,4 +10,9 @@ pub fn lines_are_admission()
 /// Where a low link goes through a port that isn't overloaded, the low bound is a number.
 pub fn low_bound_is_a_number()
     ensures { LowBoundIsANumber }
+{}
+
+/// The first false line of some is the first of all that are false.
+pub fn first_is_of_all()
+    ensures { FirstIsOfAll }
 {}

@@ -4,6 +4,7 @@
 #![tactic(auto)]
 
 mod admitted;
+mod all;
 mod bounds;
 mod fault;
 pub mod laws;
@@ -11,5 +12,6 @@ mod lines;
 mod sums;
 
 pub use admitted::{Admitted, admit};
+pub use all::all_faults;
 pub use bounds::{PortBounds, bounds_of, buffer_need, high_bound, low_bound};
 pub use fault::{ADMISSION, AdmitFault, AdmitText};

@@ -22,7 +22,7 @@ use afdx_frame::{BYTE_UNITS, LAST_PORT, Priority, VlId};
 const FIXED_JITTER: u64 = 40_000;
 
 /// The greatest jitter that a system may have, in ns (ARINC 664 Part 7).
-const GREATEST_JITTER: u64 = 500_000;
+pub(crate) const GREATEST_JITTER: u64 = 500_000;
 
 fn is_class(class: Priority, priority: Priority) -> bool
     ensures { result ≡ is_class class priority }
@@ -32,7 +32,7 @@ fn is_class(class: Priority, priority: Priority) -> bool
 
 /// Whether a link goes to the system, has the class, and its latency times `left` is less than
 /// `wait`.
-fn is_late(link: &Link, system: SystemId, class: Priority, wait: u64, left: u64) -> bool
+pub(crate) fn is_late(link: &Link, system: SystemId, class: Priority, wait: u64, left: u64) -> bool
     requires lawful { CanSend (link_row link.now) }
     requires small { left ≤ byte_units }
     ensures { result ≡ late.is_late system.0 class wait left (link_row link.now) }
@@ -82,7 +82,7 @@ fn output_fault(tables: &Tables, port: u8, system: SystemId) -> Option<AdmitFaul
     let left = BYTE_UNITS - sums.high_load;
     let wait = sums.low_wait();
     match first_late(tables, system, Priority::Low, wait, left) {
-        Some(vl) => Some(AdmitFault::LowLatency(port, vl, wait.div_ceil(left))),
+        Some(vl) => Some(AdmitFault::LowLatency(port, vl, sums.told_low_bound())),
         None => None,
     }
 }
@@ -130,7 +130,7 @@ fn sender_jitter(tables: &Tables, id: SystemId) -> u64
 }
 
 /// The jitters at all systems' outputs, in ns.
-fn sender_jitters(tables: &Tables) -> [u64; 24]
+pub(crate) fn sender_jitters(tables: &Tables) -> [u64; 24]
     ensures jitters { AreJitters tables.now result }
     ensures lawful { IsLawful tables.now }
 {

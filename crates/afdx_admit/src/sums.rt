@@ -27,7 +27,7 @@ pub(crate) struct Sums {
 impl Sums {
     ghost use Rattle.afdx_frame.specs.Flows.{high_wait, low_wait};
     ghost use Rattle.afdx_admit.specs.Lines.{LoadedOutput, high_bound_of, low_bound_of};
-    ghost use Rattle.afdx_admit.specs.Lines.{buffer_need_of};
+    ghost use Rattle.afdx_admit.specs.Lines.{buffer_need_of, told_low_bound_of};
     ghost use Rattle.afdx_admit.specs.Sums.{Adds};
 
     fn empty(byte_ns: u64) -> Sums
@@ -115,6 +115,14 @@ impl Sums {
         } else {
             None
         }
+    }
+
+    /// The same as a fault tells it: 0 where they leave nothing.
+    pub(crate) fn told_low_bound(&self) -> u64
+        requires { IsSmall most_links self.now }
+        ensures { (o : LoadedOutput) → IsSums o self.now → result ≡ told_low_bound_of o }
+    {
+        self.low_bound().unwrap_or(0)
     }
 }
 

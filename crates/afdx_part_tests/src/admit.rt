@@ -4,7 +4,8 @@
 //! Each reading that lacks memory is made again, so the tests pass where any one growth is refused.
 
 use afdx_admit::{
-    AdmitFault, AdmitText, Admitted, admit, bounds_of, buffer_need, high_bound, low_bound,
+    AdmitFault, AdmitText, Admitted, admit, all_faults, bounds_of, buffer_need, high_bound,
+    low_bound,
 };
 use afdx_config::Tables;
 use afdx_frame::VlId;
@@ -87,4 +88,37 @@ fn fault_prints(rt: HostRuntime) -> Result<(), Fail> {
     let tables = read(rt.alloc(), base())?;
     let text = written(AdmitFault::Buffer(3, 252).text(&tables))?;
     equal(text.as_str(), "A2 3 252")
+}
+
+/// All false lines of the tables of a text.
+fn all_judged(alloc: Global, text: &str) -> Result<Vec<AdmitFault>, Fail> {
+    let tables = read(alloc, text)?;
+    match all_faults(alloc, &tables) {
+        Ok(found) => Ok(found),
+        Err(_) => Ok(all_faults(alloc, &tables)?),
+    }
+}
+
+#[test]
+fn refused_lists_of_faults_are_made_again(rt: HostRuntime) -> Result<(), Fail> {
+    let text = changed(base(), "buffer = 252", "buffer = 251")?;
+    let text = changed(text.as_str(), "latency_us = 17", "latency_us = 16")?;
+    let text = changed(text.as_str(), "latency_us = 21", "latency_us = 20")?;
+    let text = changed(text.as_str(), "skew_us = 1000", "skew_us = 15")?;
+    let found = all_judged(rt.alloc(), text.as_str())?;
+    let wanted = [
+        AdmitFault::Buffer(3, 252),
+        AdmitFault::HighLatency(3, VlId(1), 16_800),
+        AdmitFault::LowLatency(3, VlId(2), 20_297),
+        AdmitFault::Skew(VlId(1)),
+    ];
+    equal(found.as_slice(), wanted.as_slice())?;
+    equal(all_judged(rt.alloc(), base())?.len(), 0)
+}
+
+#[test]
+fn no_bound_prints(rt: HostRuntime) -> Result<(), Fail> {
+    let tables = read(rt.alloc(), base())?;
+    let text = written(AdmitFault::LowLatency(3, VlId(2), 0).text(&tables))?;
+    equal(text.as_str(), "A4 3 2 -")
 }

@@ -1,6 +1,8 @@
 -- What the command `check` writes of some tables: the bounds of each output port that has a system,
 -- and the answer.
-use Rattle.std.specs.Prelude.{ℕ, zero, suc, ◌≡◌, true, List, [], ◌++◌, Option, Some, None, is_some, if◌then◌else◌}
+use Rattle.std.specs.Prelude.{ℕ, zero, suc, ◌≡◌, Bool, true, false, List, [], ◌∷◌, ◌++◌}
+use Rattle.std.specs.Prelude.{Option, Some, None, is_some, if◌then◌else◌}
+use Rattle.std.specs.List.{flat_map}
 use Rattle.std.specs.Io.KnownBytes.{Appends}
 use Rattle.afdx_frame.specs.Ports.{last_port}
 use Rattle.afdx_config.specs.Rows.{Rows}
@@ -10,7 +12,8 @@ use Rattle.afdx_config.specs.Lawful.{IsLawful}
 use Rattle.afdx_admit.specs.declared.fault.AdmitFault.{AdmitFault}
 use Rattle.afdx_admit.specs.FaultText.{fault_text}
 use Rattle.afdx_admit.specs.Known.{name_of}
-use Rattle.afdx_admit.specs.Lines.{high_bound_at, low_bound_at, buffer_need_at, first_false, lines}
+use Rattle.afdx_admit.specs.Lines.{high_bound_at, low_bound_at, buffer_need_at, first_false}
+use Rattle.afdx_admit.specs.Lines.{false_lines, lines}
 use Rattle.afdx_lists.specs.Calls.{AppendsFront}
 use Rattle.afdx_text.specs.OutLines.{bounds_line, admitted_line, denied_line}
 use Rattle.afdx_text.specs.Telling.{TellsLine}
@@ -33,38 +36,60 @@ used_port_lines t zero = []
 used_port_lines t (suc count) = used_port_lines t count ++ line_if_used t (suc count)
 
 -- admitted, or the first line of admission that is false
+abbrev pub fault_line : Rows → AdmitFault → List ℕ
+fault_line t fault = denied_line (fault_text (name_of t fault) fault)
+
 abbrev pub answer_line : Rows → Option AdmitFault → List ℕ
 answer_line t None = admitted_line
-answer_line t (Some fault) = denied_line (fault_text (name_of t fault) fault)
+answer_line t (Some fault) = fault_line t fault
+
+-- a line for each of several faults, and admitted where there is none
+abbrev pub fault_lines : Rows → List AdmitFault → List ℕ
+fault_lines t faults = flat_map (fault_line t) faults
+
+abbrev pub answer_lines : Rows → List AdmitFault → List ℕ
+answer_lines t [] = admitted_line
+answer_lines t (fault ∷ faults) = fault_lines t (fault ∷ faults)
+
+-- the first of the false lines, or all of them
+abbrev pub answer : Bool → Rows → List ℕ
+answer false t = answer_line t (first_false (lines t))
+answer true t = answer_lines t (false_lines (lines t))
+
+abbrev pub check_text_of : Bool → Rows → List ℕ
+check_text_of all t = used_port_lines t last_port ++ answer all t
 
 abbrev pub check_text : Rows → List ℕ
-check_text t = used_port_lines t last_port ++ answer_line t (first_false (lines t))
+check_text t = check_text_of false t
 
--- the text of the tables that these bytes spell, which are lawful, is written
-pub record WritesCheck (config : List ℕ) (old new : Option (List ℕ)) (t : Rows) : Type 0 where
+-- this text of the tables that these bytes spell, which are lawful, is written
+pub record WritesCheck (text : Rows → List ℕ) (config : List ℕ) (old new : Option (List ℕ))
+    (t : Rows) : Type 0 where
   pub spelled : Spells config t
   pub lawful : IsLawful t
-  pub written : Appends old new (check_text t)
+  pub written : Appends old new (text t)
 
 -- a beginning of it is written
-pub record BeginsCheck (config : List ℕ) (old new : Option (List ℕ)) (t : Rows) : Type 0 where
+pub record BeginsCheck (text : Rows → List ℕ) (config : List ℕ) (old new : Option (List ℕ))
+    (t : Rows) : Type 0 where
   pub spelled : Spells config t
-  pub written : AppendsFront old new (check_text t)
+  pub written : AppendsFront old new (text t)
 
 -- how the command ends, by what its output and its error output were and are
-module _ {O E : Type 0} (bytes : O → Option (List ℕ)) (error_bytes : E → Option (List ℕ))
-    (config : List ℕ) (old new : Watched O) (old_errors new_errors : Watched E) where
+module _ {O E : Type 0} (text : Rows → List ℕ) (bytes : O → Option (List ℕ))
+    (error_bytes : E → Option (List ℕ)) (config : List ℕ)
+    (old new : Watched O) (old_errors new_errors : Watched E) where
   -- the configuration is read, its tables are admitted, and that is written
   pub record IsChecked : Type 0 where
     pub tables : Rows
-    pub writes : WritesCheck config (bytes (device_of old)) (bytes (device_of new)) tables
+    pub writes : WritesCheck text config (bytes (device_of old)) (bytes (device_of new)) tables
     pub admitted : IsAdmitted tables
     pub told : new_errors ≡ old_errors
 
   -- it is read, its tables are not admitted, and that is written
   pub record IsDenied : Type 0 where
     pub tables : Rows
-    pub writes : WritesCheck config (bytes (device_of old)) (bytes (device_of new)) tables
+    pub writes : WritesCheck text config (bytes (device_of old)) (bytes (device_of new)) tables
     pub denied : IsAdmitted tables → ⊥
     pub told : new_errors ≡ old_errors
 
@@ -77,7 +102,7 @@ module _ {O E : Type 0} (bytes : O → Option (List ℕ)) (error_bytes : E → O
   pub record IsCut : Type 0 where
     pub failed : has_failed new ≡ true
     pub tables : Rows
-    pub begins : BeginsCheck config (bytes (device_of old)) (bytes (device_of new)) tables
+    pub begins : BeginsCheck text config (bytes (device_of old)) (bytes (device_of new)) tables
     pub told : TellsLine error_bytes old_errors new_errors
 
   -- memory was refused, and nothing is written

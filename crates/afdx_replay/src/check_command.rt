@@ -1,20 +1,23 @@
 //! The command `check`.
 
-ghost use Rattle.std.specs.Prelude.{◌≡◌, ◌⊎◌, ◌++◌, OnOk, IfOk, true, false};
+ghost use Rattle.std.specs.Prelude.{◌≡◌, ◌⊎◌, ◌++◌, All, OnOk, IfOk, true, false};
 ghost use Rattle.afdx_frame.specs.Ports.{last_port};
 ghost use Rattle.afdx_config.specs.Admission.{IsAdmitted};
 ghost use Rattle.afdx_admit.specs.Bounds.{IsBounds};
-ghost use Rattle.afdx_admit.specs.Lines.{first_false, lines};
+ghost use Rattle.afdx_admit.specs.Known.{IsKnown};
+ghost use Rattle.afdx_admit.specs.Lines.{false_lines, first_false, lines};
 ghost use Rattle.afdx_config.specs.Rows.{Rows};
 ghost use Rattle.afdx_replay.specs.CheckText.{port_line, line_if_used, used_port_lines, answer_line};
-ghost use Rattle.afdx_replay.specs.CheckText.{check_text, IsChecked, IsDenied, IsFaulty, IsCut};
+ghost use Rattle.afdx_replay.specs.CheckText.{fault_line, fault_lines, answer_lines, answer};
+ghost use Rattle.afdx_replay.specs.CheckText.{check_text, check_text_of};
+ghost use Rattle.afdx_replay.specs.CheckText.{IsChecked, IsDenied, IsFaulty, IsCut};
 ghost use Rattle.afdx_replay.specs.CheckText.{IsUnchecked};
 ghost use Rattle.afdx_lists.specs.Watching.{has_failed};
 ghost use Rattle.afdx_text.specs.Texts.{text_bytes};
 
 use crate::refusing::{refuse_config, want_memory};
 use crate::status::{DONE, REFUSED};
-use afdx_admit::{PortBounds, admit, bounds_of};
+use afdx_admit::{AdmitFault, PortBounds, admit, all_faults, bounds_of};
 use afdx_config::{Tables, read_tables};
 use afdx_frame::LAST_PORT;
 use afdx_lists::Watched;
@@ -60,8 +63,44 @@ fn put_ports(text: &mut Text, tables: &Tables) -> Result<(), AllocError>
     Ok(())
 }
 
-/// Adds the answer, and tells whether it is that the tables are admitted.
-fn put_answer(alloc: Global, text: &mut Text, tables: Tables) -> Result<bool, AllocError>
+/// Adds a false line of admission.
+fn put_fault(
+    alloc: Global,
+    text: &mut Text,
+    tables: &Tables,
+    fault: AdmitFault,
+) -> Result<(), AllocError>
+    requires { IsKnown tables.now fault }
+    ensures { OnOk result
+        (text_bytes text.new ≡ text_bytes text.old ++ fault_line tables.now fault) }
+{
+    let fault = fault.text(tables);
+    let line = format!(in alloc; "{fault}")?;
+    OutLine::Denied {
+        line: line.as_str(),
+    }
+    .put(text)
+}
+
+/// Adds several.
+fn put_faults(
+    alloc: Global,
+    text: &mut Text,
+    tables: &Tables,
+    faults: &[AdmitFault],
+) -> Result<(), AllocError>
+    requires { All (IsKnown tables.now) faults.now }
+    ensures { OnOk result
+        (text_bytes text.new ≡ text_bytes text.old ++ fault_lines tables.now faults.now) }
+{
+    for fault in faults {
+        put_fault(alloc, text, tables, *fault)?;
+    }
+    Ok(())
+}
+
+/// Adds that the tables are admitted, or the first line that is false, and tells which.
+fn put_first(alloc: Global, text: &mut Text, tables: Tables) -> Result<bool, AllocError>
     ensures text { OnOk result (text_bytes text.new ≡ text_bytes text.old
         ++ answer_line tables (first_false (lines tables))) }
     ensures admitted { IfOk result (λ yes. yes ≡ true → IsAdmitted tables) }
@@ -73,38 +112,64 @@ fn put_answer(alloc: Global, text: &mut Text, tables: Tables) -> Result<bool, Al
             Ok(true)
         }
         Err((tables, fault)) => {
-            let fault = fault.text(&tables);
-            let line = format!(in alloc; "{fault}")?;
-            OutLine::Denied {
-                line: line.as_str(),
-            }
-            .put(text)?;
+            put_fault(alloc, text, &tables, fault)?;
             Ok(false)
         }
     }
 }
 
+/// Adds that the tables are admitted, or all lines that are false, and tells which.
+fn put_all(alloc: Global, text: &mut Text, tables: &Tables) -> Result<bool, AllocError>
+    ensures text { OnOk result (text_bytes text.new ≡ text_bytes text.old
+        ++ answer_lines tables.now (false_lines (lines tables.now))) }
+    ensures admitted { IfOk result (λ yes. yes ≡ true → IsAdmitted tables.now) }
+    ensures refused { IfOk result (λ yes. yes ≡ false → IsAdmitted tables.now → ⊥) }
+{
+    let faults = all_faults(alloc, tables)?;
+    if faults.is_empty() {
+        OutLine::Admitted.put(text)?;
+        return Ok(true);
+    }
+    put_faults(alloc, text, tables, faults.as_slice())?;
+    Ok(false)
+}
+
+/// Adds the answer, and tells whether it is that the tables are admitted.
+fn put_answer(alloc: Global, all: bool, text: &mut Text, tables: Tables) -> Result<bool, AllocError>
+    ensures text { OnOk result
+        (text_bytes text.new ≡ text_bytes text.old ++ answer all tables) }
+    ensures admitted { IfOk result (λ yes. yes ≡ true → IsAdmitted tables) }
+    ensures refused { IfOk result (λ yes. yes ≡ false → IsAdmitted tables → ⊥) }
+{
+    if all {
+        put_all(alloc, text, &tables)
+    } else {
+        put_first(alloc, text, tables)
+    }
+}
+
 /// What is to be said of the tables, and whether they are admitted.
-fn checked_text(alloc: Global, tables: Tables) -> Result<(Text, bool), AllocError>
-    ensures text { IfOk result (λ checked. text_bytes checked.0 ≡ check_text tables) }
+fn checked_text(alloc: Global, all: bool, tables: Tables) -> Result<(Text, bool), AllocError>
+    ensures text { IfOk result (λ checked. text_bytes checked.0 ≡ check_text_of all tables) }
     ensures admitted { IfOk result (λ checked. checked.1 ≡ true → IsAdmitted tables) }
     ensures denied { IfOk result (λ checked. checked.1 ≡ false → IsAdmitted tables → ⊥) }
 {
     let mut text = Text::new(alloc);
     put_ports(&mut text, &tables)?;
-    let is_admitted = put_answer(alloc, &mut text, tables)?;
+    let is_admitted = put_answer(alloc, all, &mut text, tables)?;
     Ok((text, is_admitted))
 }
 
 /// Reads a configuration and writes the bounds of each output port, `P port high low buffer`, and
-/// then `ok`, or `no` and the first line of admission that is false. A fault's one line goes to
-/// `errors`.
+/// then `ok`, or `no` and the first line of admission that is false; with `all`, each that is, in
+/// their order. A fault's one line goes to `errors`.
 ///
 /// It gives the exit status: 0 where the network is admitted, 1 where it isn't or the configuration
 /// has a fault, 4 for a device, of which a beginning of the text is written, or memory, of which
 /// nothing is.
-pub fn check<O: Write, E: Write>(
+pub fn check_lines<O: Write, E: Write>(
     alloc: Global,
+    all: bool,
     config: &[u8],
     output: &mut Watched<O>,
     errors: &mut Watched<E>,
@@ -112,20 +177,24 @@ pub fn check<O: Write, E: Write>(
     requires { has_failed output.old ≡ false }
     ensures statuses { (result ≡ 0) ⊎ (result ≡ 1) ⊎ (result ≡ 4) }
     ensures device { has_failed output.new ≡ true → result ≡ 4 }
-    ensures checked { result ≡ 0 →
-        IsChecked O.contents E.contents config.now output.old output.new errors.old errors.new }
+    ensures checked { result ≡ 0 → IsChecked (check_text_of all) O.contents E.contents config.now
+        output.old output.new errors.old errors.new }
     ensures refused { result ≡ 1 →
-        IsDenied O.contents E.contents config.now output.old output.new errors.old errors.new
-        ⊎ IsFaulty O.contents E.contents config.now output.old output.new errors.old errors.new }
+        IsDenied (check_text_of all) O.contents E.contents config.now
+        output.old output.new errors.old errors.new
+        ⊎ IsFaulty (check_text_of all) O.contents E.contents config.now
+        output.old output.new errors.old errors.new }
     ensures stopped { result ≡ 4 →
-        IsCut O.contents E.contents config.now output.old output.new errors.old errors.new
-        ⊎ IsUnchecked O.contents E.contents config.now output.old output.new errors.old errors.new }
+        IsCut (check_text_of all) O.contents E.contents config.now
+        output.old output.new errors.old errors.new
+        ⊎ IsUnchecked (check_text_of all) O.contents E.contents config.now
+        output.old output.new errors.old errors.new }
 {
     let tables = match read_tables(alloc, config) {
         Ok(tables) => tables,
         Err(fault) => return refuse_config(fault, errors),
     };
-    let Ok((text, is_admitted)) = checked_text(alloc, tables) else {
+    let Ok((text, is_admitted)) = checked_text(alloc, all, tables) else {
         return want_memory(errors);
     };
     match write_text(output, text.as_bytes()) {
@@ -136,4 +205,30 @@ pub fn check<O: Write, E: Write>(
             fault.status()
         }
     }
+}
+
+/// The same, with the first line that is false.
+pub fn check<O: Write, E: Write>(
+    alloc: Global,
+    config: &[u8],
+    output: &mut Watched<O>,
+    errors: &mut Watched<E>,
+) -> u8
+    requires { has_failed output.old ≡ false }
+    ensures statuses { (result ≡ 0) ⊎ (result ≡ 1) ⊎ (result ≡ 4) }
+    ensures device { has_failed output.new ≡ true → result ≡ 4 }
+    ensures checked { result ≡ 0 → IsChecked check_text O.contents E.contents config.now
+        output.old output.new errors.old errors.new }
+    ensures refused { result ≡ 1 →
+        IsDenied check_text O.contents E.contents config.now
+        output.old output.new errors.old errors.new
+        ⊎ IsFaulty check_text O.contents E.contents config.now
+        output.old output.new errors.old errors.new }
+    ensures stopped { result ≡ 4 →
+        IsCut check_text O.contents E.contents config.now
+        output.old output.new errors.old errors.new
+        ⊎ IsUnchecked check_text O.contents E.contents config.now
+        output.old output.new errors.old errors.new }
+{
+    check_lines(alloc, false, config, output, errors)
 }

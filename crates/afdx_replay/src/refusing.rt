@@ -2,7 +2,7 @@
 
 ghost use Rattle.std.specs.Prelude.{◌≡◌, ◌++◌, Some, codes, decimal};
 ghost use Rattle.afdx_config.specs.FaultText.{behind, place_of};
-ghost use Rattle.afdx_admit.specs.FaultText.{subject};
+ghost use Rattle.afdx_admit.specs.FaultText.{low_bound_text, subject};
 ghost use Rattle.afdx_admit.specs.Known.{IsKnown};
 ghost use Rattle.afdx_text.specs.Telling.{Tells};
 ghost use Rattle.afdx_replay.specs.Refusals.{admit_line, config_line, IsToldRefused, WantsMemory};
@@ -91,6 +91,27 @@ fn tell_bound<E: Write>(errors: &mut Watched<E>, port: u8, vl: VlId, bound: u64)
     tell_number(errors, bound);
 }
 
+/// Tells the bound of a low link, which is `-` where there is none.
+fn tell_low_number<E: Write>(errors: &mut Watched<E>, bound: u64)
+    ensures { Tells E.contents errors.old errors.new (low_bound_text bound) }
+{
+    if bound == 0 {
+        tell(errors, b"-");
+    } else {
+        tell_number(errors, bound);
+    }
+}
+
+/// Tells that a low link has this bound at a port.
+fn tell_low_bound<E: Write>(errors: &mut Watched<E>, port: u8, vl: VlId, bound: u64)
+    ensures { Tells E.contents errors.old errors.new
+        (decimal port ++ codes " " ++ decimal vl.0 ++ codes " " ++ low_bound_text bound) }
+{
+    tell_both(errors, u64::from(port), u64::from(vl.0));
+    tell(errors, b" ");
+    tell_low_number(errors, bound);
+}
+
 /// Tells what a false line of admission speaks of.
 fn tell_subject<E: Write>(errors: &mut Watched<E>, text: &AdmitText<'_>)
     ensures { Tells E.contents errors.old errors.new
@@ -100,7 +121,7 @@ fn tell_subject<E: Write>(errors: &mut Watched<E>, text: &AdmitText<'_>)
         AdmitFault::Overload(port) => tell_number(errors, u64::from(port)),
         AdmitFault::Buffer(port, needed) => tell_both(errors, u64::from(port), needed),
         AdmitFault::HighLatency(port, vl, bound) => tell_bound(errors, port, vl, bound),
-        AdmitFault::LowLatency(port, vl, bound) => tell_bound(errors, port, vl, bound),
+        AdmitFault::LowLatency(port, vl, bound) => tell_low_bound(errors, port, vl, bound),
         AdmitFault::SenderJitter(_, ns) => {
             tell(errors, text.name.as_bytes());
             tell(errors, b" ");

@@ -1,14 +1,13 @@
-use Rattle.std.proofs.Common.{◌≡◌, ◌<◌, ◌≤◌, ◌-◌, ◌*◌, length, Some, None, sym, ap, ◌∙◌, arith}
-use Rattle.std.specs.Int.{div_ceil}
+use Rattle.std.proofs.Common.{◌≡◌, ◌<◌, ◌≤◌, ◌-◌, ◌*◌, Some, None, sym, ap, ◌∙◌, arith}
 use Rattle.std.specs.Option.{option_map}
 use Rattle.afdx_frame.specs.declared.link.Priority.TheVariants.{High, Low}
 use Rattle.afdx_frame.specs.Regulation.{byte_units}
 use Rattle.afdx_frame.specs.Flows.{of_class, burst, load, high_wait, low_wait, high_load}
 use Rattle.afdx_admit.specs.declared.fault.AdmitFault.TheVariants.{Buffer, HighLatency, LowLatency}
-use Rattle.afdx_admit.specs.Lines.{loaded_output_to}
+use Rattle.afdx_admit.specs.Lines.{loaded_output_to, told_low_bound_of}
 use Rattle.afdx_admit.specs.Late.{first_late}
 use Rattle.afdx_admit.proofs.FirstFalseLemmas.{none_of}
-use Rattle.afdx_admit.proofs.OutputLemmas.{overload, short_buffer, high_late, highs_soon, left_some, rates_some}
+use Rattle.afdx_admit.proofs.OutputLemmas.{overload, short_buffer, high_late, highs_soon}
 use Rattle.afdx_admit.proofs.lines.output_fault.Goals as goal
 
 pub returns-then-sums-gt-BYTE_UNITS-clause-fault : goal.returns-then-sums-gt-BYTE_UNITS-clause-fault
@@ -49,19 +48,6 @@ returns-in-Some-clause-fault c =
           (high_late c.args.tables.now.buffer c.args.port o fits room c.in-Some.vl.0 late);
     }
 
-pub div_ceil-requires : goal.div_ceil-requires
-div_ceil-requires c =
-    let s = c.sums_to-sums.ensures.sums in
-    let t = c.args.tables.now in
-    let o = loaded_output_to t c.args.system.0 s.row in
-    let fits : load o.byte_ns o.flows ≤ byte_units = omega (arith, s.sums.load) in
-    let rates = rates_some (length t.systems) c.args.system.0 t.links c.buffer.ensures.lawful.links.each in
-    let some : 1 ≤ o.byte_ns = omega (arith, s.some, s.sums.byte_ns) in
-    let left = left_some o.byte_ns some o.flows c.low_wait-wait.result
-    (byte_units - c.sums_to-sums.result.high_load) c.in-Some-first_late.vl.0 rates fits
-    (sym c.in-Some-first_late.ensures) in
-    omega (arith, left, s.sums.high_load)
-
 pub returns-in-Some-first_late-clause-fault : goal.returns-in-Some-first_late-clause-fault
 returns-in-Some-first_late-clause-fault c =
     let s = c.sums_to-sums.ensures.sums in
@@ -83,11 +69,9 @@ returns-in-Some-first_late-clause-fault c =
       row = s.row;
       stands = s.stands;
       first = ap (λ n. Some (LowLatency c.args.port c.in-Some-first_late.vl n))
-          (c.div_ceil.ensures ∙ ap (λ w. div_ceil w (byte_units - c.sums_to-sums.result.high_load)) wait ∙ ap
-          (λ h. div_ceil (low_wait o.byte_ns o.flows) (byte_units - h)) s.sums.high_load)
+          (c.told_low_bound.ensures o s.sums)
           ∙ sym (highs_soon c.args.tables.now.buffer c.args.port o fits room soon ∙ ap
-          (option_map (λ v. LowLatency c.args.port (record { 0 = v })
-          (div_ceil (low_wait o.byte_ns o.flows) (byte_units - high_load o.byte_ns o.flows)))) late);
+          (option_map (λ v. LowLatency c.args.port (record { 0 = v }) (told_low_bound_of o))) late);
     }
 
 pub returns-in-None-clause-fault : goal.returns-in-None-clause-fault
@@ -111,6 +95,5 @@ returns-in-None-clause-fault c =
       row = s.row;
       stands = s.stands;
       first = sym (highs_soon c.args.tables.now.buffer c.args.port o fits room soon ∙ ap
-          (option_map (λ v. LowLatency c.args.port (record { 0 = v })
-          (div_ceil (low_wait o.byte_ns o.flows) (byte_units - high_load o.byte_ns o.flows)))) late);
+          (option_map (λ v. LowLatency c.args.port (record { 0 = v }) (told_low_bound_of o))) late);
     }

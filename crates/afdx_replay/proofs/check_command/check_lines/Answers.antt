@@ -1,6 +1,6 @@
 use Rattle.std.proofs.Common.{refl, inl, inr, ◌∙◌}
 use Rattle.afdx_replay.proofs.RefusalLemmas.{config-refused, config-faulty}
-use Rattle.afdx_replay.proofs.check_command.check.Goals as goal
+use Rattle.afdx_replay.proofs.check_command.check_lines.Goals as goal
 
 pub returns-in-Err-clause-refused : goal.returns-in-Err-clause-refused
 returns-in-Err-clause-refused g c = λ is. inr (record {
