@@ -15,6 +15,7 @@ KEYS = {
     "sides": ("link", "side"),
     "skews": ("link",),
     "ports": ("port", "side"),
+    "early_ns": ("link", "side"),
 }
 COMPARED = {
     "links": ("frames", "accepted", "dropped", "lost", "late", "too_old", "delivered", "redundant",
@@ -24,7 +25,9 @@ COMPARED = {
     "sides": ("missing", "least_gap_ns", "jitter_ns", "table_jitter_ns"),
     "skews": ("at_inputs_ns", "at_receivers_ns", "table_skew_ns"),
     "ports": ("left", "backlog", "bound"),
+    "early_ns": ("greatest",),
 }
+RARE = {"early_ns": []}  # what a report hasn't where no frame was over-rate
 FRAME = ("link", "side", "number", "time_ns", "port", "what")
 
 
@@ -33,6 +36,7 @@ def other_report(path: str) -> Row:
     try:
         with open(path, encoding="utf-8") as file:
             report = json.load(file)
+        report = {**RARE, **report}
         for name, key in KEYS.items():
             for row in report[name]:
                 [row[word] for word in (*key, *COMPARED[name])]
@@ -52,7 +56,7 @@ def where(key: tuple[str, ...], row: Row) -> str:
 def differing(name: str, this: Row, other: Row) -> Iterator[Row]:
     """What differs in one table, row by row; a row that one run hasn't counts as none."""
     key = KEYS[name]
-    here = {tuple(str(row[word]) for word in key): row for row in this[name]}
+    here = {tuple(str(row[word]) for word in key): row for row in this.get(name, [])}
     there = {tuple(str(row[word]) for word in key): row for row in other[name]}
     for place in [*here, *(place for place in there if place not in here)]:
         mine, its = here.get(place, {}), there.get(place, {})

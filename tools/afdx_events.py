@@ -7,6 +7,7 @@ from typing import IO, Callable
 
 import numpy as np
 
+from afdx_early import Early
 from afdx_lines import SPACE, Block, blocks_of
 from afdx_listing import SIDES, Listing
 from afdx_tools import Refused, program
@@ -45,7 +46,7 @@ class Events:
     """What a replay wrote. Of each line of the list `verdict`, the place of its word in
     `verdicts.names`; of each copy that came to its end, in the order of the lines, the list's line,
     the output port, the time, the fate (the place in FATES), and what its receiver did with it (the
-    place in `ends.names`)."""
+    place in `ends.names`). `early` is what standard error said."""
 
     def __init__(self, listing: Listing) -> None:
         self.listing = listing
@@ -70,6 +71,11 @@ class Events:
         self.parts = []
         self.line, self.time, self.port = joined["line"], joined["time"], joined["port"]
         self.fate, self.end = joined["fate"], joined["end"]
+
+    def read_errors(self, file: IO[bytes]) -> str:
+        """Takes the lines of standard error, a file that was written; the fault line there."""
+        self.early = Early(file, self.listing)
+        return self.early.fault
 
     def take(self, text: bytes, told: Callable[[int], None]) -> None:
         """Takes a block's lines."""

@@ -6,10 +6,10 @@ from typing import Sequence
 import numpy as np
 
 from afdx_checked import Checked
-from afdx_counting import SHARES, Counting, Path
+from afdx_counting import SHARES, Counting, Path, sorted_by
 from afdx_events import ACCEPT, DELIVERED, FATES, LEFT, LOST, OLD, REDUNDANT, side_name
 from afdx_listing import NO_LINK
-from afdx_tables import Row
+from afdx_tables import Row, in_us
 from afdx_traffic import pairs_of, skews_at_inputs, skews_at_receivers, traffic_of
 
 MOST_TROUBLES = 10_000
@@ -251,6 +251,36 @@ def frame_key(counting: Counting, line: int) -> Row:
         "number": int(listing.number[line]),
         "time_ns": int(listing.time[line]),
     }
+
+
+def early_rows(counting: Counting) -> list[Row]:
+    """A row for each link and side with over-rate frames: how many; of the ns that they came too
+    early by, the least that half of them don't exceed, and the greatest."""
+    early = counting.events.early
+    keys = counting.place[early.lines].astype(np.int64) * 2 + counting.listing.side[early.lines]
+    order = sorted_by(keys, early.amounts)
+    keys, amounts = keys[order], early.amounts[order]
+    bounds = np.flatnonzero(np.diff(keys, prepend=-1, append=-1))
+    return [
+        {
+            "link": vl_text(counting.vls[keys[begin] // 2]),
+            "side": side_name(keys[begin] % 2),
+            "count": int(end - begin),
+            "median": int(amounts[(begin + end - 1) // 2]),
+            "greatest": int(amounts[end - 1]),
+        }
+        for begin, end in zip(bounds[:-1], bounds[1:])
+    ]
+
+
+def early_frames(counting: Counting, most: int) -> list[Row]:
+    """The over-rate frames that came too early by most, of equal ones the earlier first."""
+    early = counting.events.early
+    rows = []
+    for place in largest(early.amounts, min(most, len(early.amounts))):
+        line, amount = int(early.lines[place]), in_us(int(early.amounts[place]))
+        rows.append({**frame_key(counting, line), "line": line, "early_us": amount})
+    return rows
 
 
 def trouble_rows(counting: Counting, most: int = MOST_TROUBLES) -> list[Row]:

@@ -9,11 +9,24 @@ import afdx_figures as figures
 import afdx_tracks as tracks
 from afdx_compare import words_of
 from afdx_counting import Counting
+from afdx_numbers import early_frames
 from afdx_ranking import FEWEST, nearest, ranked
 from afdx_style import SCRIPT, STYLE
-from afdx_tables import COUNTED, NAMES, PROVED, UNPROMISED, Row, cell, heads, percent
+from afdx_tables import (
+    COUNTED,
+    EARLY,
+    NAMES,
+    PROVED,
+    UNPROMISED,
+    Row,
+    cell,
+    heads,
+    in_us,
+    percent,
+)
 
 MOST_ROWS = 10_000  # of a table on a page
+EARLY_FRAMES = "Over-rate frames that came too early by most, in us"
 CARDS = {
     "frames": "frames in",
     "accepted": "accepted",
@@ -33,6 +46,8 @@ PLAIN = ("link", "port", "number", "line", "at_line", "gap_line", "jitter_line",
 
 def kind_of(name: str, rows: Sequence[Row]) -> str:
     """How a column stands: numbers to the right, long words broken."""
+    if name.endswith("_us"):
+        return "number"
     values = [row[name] for row in rows[:50] if row[name] is not None]
     if any(isinstance(value, dict) for value in values):
         return "words"
@@ -255,6 +270,28 @@ def compared_sections(report: Row) -> str:
     return section("other", "Compared with another run", " ".join(words_of(pair)), "") + rows
 
 
+def early_sections(report: Row, counting: Counting, most: int) -> dict[str, str]:
+    """By how much over-rate frames came too early: sums behind the table of sides, the frames
+    behind that of the worst ones. Nothing where there are none."""
+    if "early_ns" not in report:
+        return {}
+    sums = [
+        {
+            "link": row["link"],
+            "side": row["side"],
+            "over-rate": row["count"],
+            "median_us": in_us(row["median"]),
+            "greatest_us": in_us(row["greatest"]),
+        }
+        for row in report["early_ns"]
+    ]
+    frames = early_frames(counting, most)
+    return {
+        "frames": table_section("early-frames", EARLY_FRAMES, frames),
+        "sides": table_section("early", f"{EARLY}, in us", sums),
+    }
+
+
 def links_to(names: dict[str, str]) -> str:
     """Anchors to the parts of the page."""
     parts = [f'<a href="#{name}">{escape(words)}</a>' for name, words in names.items()]
@@ -268,6 +305,8 @@ def page(report: Row, counting: Counting, args: argparse.Namespace) -> str:
     words = f"{report['totals']['frames']:,} frames over {span:,.3f} ms at both switches."
     names = {"picture": "latency", "drops": "drops"}
     names |= {name: f"table of {name}" for name in NAMES}
+    early = early_sections(report, counting, args.worst)
+    names |= {"early": "table of over-rate frames"} if early else {}
     parts = [
         "<!doctype html><html lang='en'><head><meta charset='utf-8'>",
         "<meta name='viewport' content='width=device-width, initial-scale=1'>",
@@ -282,5 +321,6 @@ def page(report: Row, counting: Counting, args: argparse.Namespace) -> str:
         "placeholder='links and names, as 304 A'></label> <span id='found' role='status'></span>"
         "</p>",
     ]
-    parts += [table_section(name, head, report[name]) for name, head in NAMES.items()]
+    for name, head in NAMES.items():
+        parts += [table_section(name, head, report[name]), early.get(name, "")]
     return "".join(parts) + foot(report) + f"</main><script>{SCRIPT}</script></body></html>\n"

@@ -21,6 +21,7 @@ from afdx_page import page
 from afdx_ranking import FEWEST, latency_text, nearest, ranked
 from afdx_tables import (
     COUNTED,
+    EARLY,
     NAMES,
     PROVED,
     UNPROMISED,
@@ -58,7 +59,7 @@ def replay(words: list[str], events: Events, progress: Progress) -> tuple[str, i
                 run.stdout, lambda line: progress.tell(f"{100 * line // most} % of the replay")
             )
         errors.seek(0)
-        fault = errors.read().decode("utf-8", "replace").strip()
+        fault = events.read_errors(errors)
     if run.returncode < 0:
         return fault or f"the program was ended by signal {-run.returncode}", 128 - run.returncode
     return fault, run.returncode
@@ -104,8 +105,8 @@ def report_of(
     tables = read_config(config)
     listing = listing_of(path, progress)
     events = Events(listing)
-    words = [afdx, "replay", *(["--no-admission"] if args.no_admission else []), config, path]
-    fault, status = replay(words, events, progress)
+    options = ["--explain-drops", *(["--no-admission"] if args.no_admission else [])]
+    fault, status = replay([afdx, "replay", *options, config, path], events, progress)
     progress.tell("counting")
     counting = Counting(tables, listing, events)
     links, sides = numbers.link_rows(counting), numbers.side_rows(counting)
@@ -130,6 +131,8 @@ def report_of(
         "proved": PROVED,
         "counted": COUNTED,
     }
+    if len(events.early.lines):
+        report["early_ns"] = numbers.early_rows(counting)
     return report, counting
 
 
@@ -160,6 +163,8 @@ def print_text(report: Row) -> None:
     print_head(report)
     for name, head in NAMES.items():
         print(f"\n{head}\n{as_text(report[name])}", end="")
+    if "early_ns" in report:
+        print(f"\n{EARLY}, in ns\n{as_text(report['early_ns'])}", end="")
     if "compared" in report:
         print("\n" + "\n".join(words_of(report["compared"])))
         print(as_text(report["compared"]["rows"]), end="")

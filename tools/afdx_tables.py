@@ -16,6 +16,7 @@ NAMES = {
     "skews": "Links: greatest time between the two copies of a frame, in ns",
     "ports": "Ports: load, greatest backlog in bytes, and frames that left",
 }
+EARLY = "Links and sides: over-rate frames, and by how much they came too early"
 PROVED = (
     "Proved: each verdict (V), loss (L), departure with its time (D), drop for age (T), message "
     "(M) and refusal at a receiver (X) is a line of the proved program, and so are the bounds of "
@@ -41,6 +42,11 @@ def percent(share: float) -> str:
     if share < 1:
         return f"{min(math.floor(tenths + 1e-6), 999) / 10:.1f}%"
     return f"{max(math.ceil(tenths - 1e-6), 1000 + (share > 1)) / 10:.1f}%"
+
+
+def in_us(amount: int) -> str:
+    """A time in ns as us, each ns of it."""
+    return f"{amount // 1000:,}.{amount % 1000:03}"
 
 
 def cell(value: object) -> str:
@@ -98,6 +104,8 @@ def write_all(folder: str, report: Row) -> None:
     """The tables as CSV files, and all of the report as JSON."""
     for name in NAMES:
         write_csv(os.path.join(folder, f"{name}.csv"), report[name])
+    if "early_ns" in report:
+        write_csv(os.path.join(folder, "early.csv"), report["early_ns"])
     if report.get("compared"):
         write_csv(os.path.join(folder, "compared.csv"), report["compared"]["rows"])
     with open(os.path.join(folder, "report.json"), "w", encoding="utf-8") as file:

@@ -72,7 +72,7 @@ else
     skip 'afdx-report' 'there is no package numpy (apt-get install python3-numpy)'
 fi
 
-parts="recordings report hardening criteria page capture_faults wireshark completion around"
+parts="recordings report hardening criteria early page capture_faults wireshark completion around"
 for part in $parts campaigns package; do
     # shellcheck source=/dev/null
     source "$top/tests/tools/$part.sh"
