@@ -3,7 +3,7 @@
 # shellcheck disable=SC2154  # what it uses is set by tests/run/tools.sh, which sources it
 
 early_lines() { # CONFIG LIST : the program's lines of standard error
-    "$program" replay --explain-drops "$1" "$2" 2>&1 >/dev/null
+    { "$program" replay --explain-drops "$1" "$2" >/dev/null; } 2>&1
 }
 
 wants_early() { # CONFIG LIST FOLDER : report and page against the program's lines
