@@ -255,14 +255,15 @@ full_case 'no counts of output that is not there' 4 $'device Write\n' \
 
 # a list of two lines, between which a person waits; on the terminal a return is shown as <
 waited() { # LAST LINE, WORD..
-    { echo 'F 0 A 1 00' && sleep 2.3 && echo "$1"; } |
+    { echo 'F 0 A 1 00' && sleep 3 && echo "$1"; } |
         python3 tests/lib/on_terminal.py "$program" police "${@:2}" --explain=never 1 64 500 - |
         tr '\r\033' '<e'
 }
 clear='<e[K'
 tell 'a person who waits is told how much was read' "$(
-    if [[ $(waited '# done' --progress) != "${clear}0 MiB read$clear" ]]; then echo 'not told'; fi
-    if [[ $(waited 'F' --progress) != "${clear}0 MiB read${clear}list BadLine 2" ]]; then
+    told=${clear}0' MiB read' # once or, on a busy machine, more often
+    if [[ $(waited '# done' --progress) != "$told"*"$clear" ]]; then echo 'not told'; fi
+    if [[ $(waited 'F' --progress) != "$told"*"${clear}list BadLine 2" ]]; then
         echo 'not cleared before a fault'
     fi
     if [[ $(waited '# done') != '' ]]; then echo 'told unasked'; fi
