@@ -14,6 +14,7 @@ from afdx_tools import Refused, program
 
 ACCEPT = "accept"
 DELIVERED, REDUNDANT = "delivered", "redundant"
+OVER_RATE = "over-rate"
 LOST, OLD, LEFT = "lost", "too-old", "left"
 FATES = (LEFT, LOST, OLD)
 NOT_YET = -1  # stands for a line without a verdict, and for a departure without a receiver's line
@@ -134,6 +135,11 @@ class Events:
     def verdict_of(self, line: int) -> str:
         """The verdict of a line, as a word."""
         return self.verdicts.names[self.verdict[line]]
+
+    def lines_of(self, verdict: str) -> np.ndarray:
+        """The lines with that verdict."""
+        places = [n for n, name in enumerate(self.verdicts.names) if name == verdict]
+        return np.flatnonzero(np.isin(self.verdict, places))
 
     def end_of(self, copy: int) -> str:
         """What the receiver did with a copy, as a word; nothing where no line says it."""

@@ -10,12 +10,14 @@ import subprocess
 import sys
 import tempfile
 
+import numpy as np
+
 import afdx_numbers as numbers
 from afdx_checked import Checked, checked_of
 from afdx_compare import compared, other_report, words_of
 from afdx_counting import Counting
 from afdx_criteria import judged, status_of, suite_of, write_junit
-from afdx_events import Events
+from afdx_events import OVER_RATE, Events
 from afdx_listing import Listing
 from afdx_page import page
 from afdx_ranking import FEWEST, latency_text, nearest, ranked
@@ -31,6 +33,8 @@ from afdx_tables import (
 )
 from afdx_tools import program, read_config
 from afdx_words import Failed, Progress, as_file, at_hand, shown
+
+ENDED = (0, 3)  # the list came to its end or has a fault: each over-rate frame has its line
 
 
 def check(afdx: str, config: str) -> Checked:
@@ -62,7 +66,21 @@ def replay(words: list[str], events: Events, progress: Progress) -> tuple[str, i
         fault = events.read_errors(errors)
     if run.returncode < 0:
         return fault or f"the program was ended by signal {-run.returncode}", 128 - run.returncode
+    if run.returncode in ENDED:
+        want_whole(events)
     return fault, run.returncode
+
+
+def want_whole(events: Events) -> None:
+    """Failed where only a part of the `early` lines came: the program says nothing of those that it
+    couldn't write."""
+    got, wanted = events.early.lines, events.lines_of(OVER_RATE)
+    if len(got) and not np.array_equal(got, wanted):
+        raise Failed(
+            f"{len(got)} lines 'early' came for {len(wanted)} over-rate frames: is there no room "
+            f"in {shown(tempfile.gettempdir())}?",
+            4,
+        )
 
 
 def digest(path: str) -> str:

@@ -125,6 +125,22 @@ END_OF_FILE
     )"
 }
 
+part_tests() { # the program says nothing of lines that it couldn't write
+    cat >"$work/full" <<END_OF_FILE
+#!/bin/bash
+if [[ \$1 != replay ]]; then exec "$program" "\$@"; fi
+"$program" "\$@" 2>"$work/early" || exit
+head -n -1 "$work/early" >&2
+END_OF_FILE
+    chmod +x "$work/full"
+    launch env AFDX="$work/full" tools/afdx-report examples/network.toml examples/bench.list --json
+    tell 'a part of them' "$(
+        is_status 4
+        one_line
+        says err "22 lines 'early' came for 23 over-rate frames"
+    )"
+}
+
 dated() { # FOLDER : its page and JSON without the date
     sed -E 's/(written "?|"written": ")[-0-9: ]+/\1/' "$1/report.html" "$1/report.json"
 }
@@ -181,6 +197,7 @@ early_compare_tests() {
 if [[ -n $reporting ]]; then
     early_tests
     early_fault_tests
+    part_tests
     no_early_tests
     early_compare_tests
 else
