@@ -85,7 +85,7 @@ def most_shown(rows: Sequence[Row]) -> Sequence[Row]:
 def table(all_rows: Sequence[Row], head: str) -> str:
     """Rows as a table."""
     rows = most_shown(all_rows)
-    count = f"{len(all_rows):,} rows"
+    count = f"{len(all_rows):,} rows" if len(all_rows) != 1 else "1 row"
     if len(rows) < len(all_rows):
         count = f"the {len(rows):,} with the greatest share of {count}; the CSV file has all"
     caption = f"<caption>{escape(head)}: {count}</caption>"
