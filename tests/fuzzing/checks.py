@@ -17,7 +17,10 @@ CONFIG_FAULT = re.compile(
     rf" (top 0|({'|'.join(lists.PARTS[1:])}) [1-9][0-9]*) key [0-9]+)\n"
 )
 LINES = lists.table("ADMISSION")
-FORMS = [forms.split("|admit ")[1].replace("?", word) for word, forms, _ in LINES]
+# the form behind `admit`; one that --all alone writes stands behind it, in a line of its own
+FORMS = [
+    forms.split("|admit ")[1].split("\n")[0].replace("?", word) for word, forms, _ in LINES
+]
 ADMISSION = f"({'|'.join(FORMS)})".replace("*", r"\w+").replace(" n", " [0-9]+")
 ADMIT_FAULT = re.compile(rf"admit {ADMISSION}\n")
 LIST_FAULTS = [form for form in lists.RUN_FAULTS if form.startswith("list ")]
