@@ -165,9 +165,15 @@ fn end_run<R: Drop, W: Write + Drop, E: Write + Drop>(
 #[derive(Drop)]
 enum Run<'a> {
     Police(CommandedRule),
-    Replay { admission: bool, config: &'a [u8] },
-    ExplainedReplay { admission: bool, config: &'a [u8] },
-    Send { config: &'a [u8], system: &'a str },
+    Replay {
+        config: &'a [u8],
+        admission: bool,
+        explains_drops: bool,
+    },
+    Send {
+        config: &'a [u8],
+        system: &'a str,
+    },
 }
 
 impl Run<'_> {
@@ -175,7 +181,6 @@ impl Run<'_> {
         match self {
             Run::Police(_) => &[],
             Run::Replay { config, .. } => config,
-            Run::ExplainedReplay { config, .. } => config,
             Run::Send { config, .. } => config,
         }
     }
@@ -183,8 +188,8 @@ impl Run<'_> {
     /// Whether lines come on standard error while it goes on.
     fn explains_drops(&self) -> bool {
         match self {
-            Run::ExplainedReplay { .. } => true,
-            _ => false,
+            Run::Replay { explains_drops, .. } => *explains_drops,
+            Run::Police(_) | Run::Send { .. } => false,
         }
     }
 }
@@ -206,10 +211,16 @@ fn run_from<R: Read + Drop>(
     let (list, lines, faults) = (&mut input, &mut output, &mut errors);
     let ended = match run {
         Run::Police(rule) => police_and_count(rt.alloc(), rule, list, lines, faults),
-        Run::Replay { admission, config } => {
-            replay_and_count(rt.alloc(), *admission, config, list, lines, faults)
-        }
-        Run::ExplainedReplay { admission, config } => {
+        Run::Replay {
+            config,
+            admission,
+            explains_drops: false,
+        } => replay_and_count(rt.alloc(), *admission, config, list, lines, faults),
+        Run::Replay {
+            config,
+            admission,
+            explains_drops: true,
+        } => {
             let drops = Watched::new(rt.stderr());
             replay_and_explain(rt.alloc(), *admission, config, list, lines, faults, drops).0
         }
@@ -263,12 +274,10 @@ fn replay_list(rt: &HostRuntime, matches: &ArgMatches<'_>) -> u8 {
         Ok(config) => config,
         Err(status) => return status,
     };
-    let admission = !matches.get_flag("no-admission");
-    let config = config.as_slice();
-    let run = if matches.get_flag("explain-drops") {
-        Run::ExplainedReplay { admission, config }
-    } else {
-        Run::Replay { admission, config }
+    let run = Run::Replay {
+        config: config.as_slice(),
+        admission: !matches.get_flag("no-admission"),
+        explains_drops: matches.get_flag("explain-drops"),
     };
     run_list(rt, matches, &run, list)
 }

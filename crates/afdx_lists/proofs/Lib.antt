@@ -8,3 +8,4 @@ pub mod SubmissionLemmas
 mod DigitLemmas
 mod SpaceLemmas
 pub mod FrameLemmas
+mod PeekLemmas

@@ -1,5 +1,6 @@
 pub mod Calls
 pub mod Watching
+pub mod Peeking
 pub mod Faults
 pub mod Letters
 pub mod Lines

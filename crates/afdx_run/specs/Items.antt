@@ -26,20 +26,25 @@ arrivals past = map (thing_of frames listed_frame) past
 abbrev pub handed : List (Item Handed) → List listed.Handed
 handed past = map (thing_of submissions submission_of) past
 
--- the limits of a list: an item may come after these, no earlier than they, not too late, and there
+-- the most frames that a run can count: those of any recording, and far more than a list has
+abbrev pub most_frames : ℕ
+most_frames = 200000000000000000
+
+-- the limits of a run: an item may come after these, no earlier than they, not too late, and there
 -- are not too many
-pub record IsInOrder {H Y X : Type 0} (k : Kind Y X) (said : Item H → X) (time : H → ℕ)
+pub record IsInOrder {H Y X : Type 0} (k : Kind Y X) (said : Item H → X) (time : H → ℕ) (most : ℕ)
     (past : List (Item H)) (x : Item H) : Type 0 where
   pub order : latest_in k (map said past) ≤ time x.head
   pub early : time x.head ≤ latest_listed
-  pub few : length past < most_lines
+  pub few : length past < most
 
 -- a frame may come after these: in order, and what is said of its check sequence is true
 pub record CanFollow (past : List (Item Heading)) (x : Item Heading) : Type 0 where
-  pub in_order : IsInOrder frames (thing_of frames listed_frame) (λ head. head.time) past x
+  pub in_order :
+      IsInOrder frames (thing_of frames listed_frame) (λ head. head.time) most_frames past x
   pub sealed : x.head.is_sealed ≡ is_sealed x.bytes
 
 -- a message may come after these
 abbrev pub CanBeHanded : List (Item Handed) → Item Handed → Type 0
 CanBeHanded past x =
-    IsInOrder submissions (thing_of submissions submission_of) (λ head. head.time) past x
+    IsInOrder submissions (thing_of submissions submission_of) (λ head. head.time) most_lines past x

@@ -68,7 +68,7 @@ pub trait Machine<H: Head> {
     ghost Told: { Rules → Self → Bytes → Bytes → List (Item H) → Type 0 };
 
     /// The output now holds, behind what it held, a beginning of the text of these items.
-    ghost Begins: { Rules → Bytes → Bytes → List (Item H) → Type 0 };
+    ghost Begins: { Rules → Self → Bytes → Bytes → List (Item H) → Type 0 };
 
     /// Or all of it, with all that is told at the end.
     ghost Done: { Rules → Self → Bytes → Bytes → List (Item H) → Type 0 };
@@ -94,8 +94,8 @@ pub trait Machine<H: Head> {
             (item_of n head.now bytes.now ∷ past)) }
         ensures begins { (rules : Rules) (start : Bytes) (past : List (Item H)) →
             Told rules self.old start (O.written output.old) past →
-            OnErr result (Begins rules start (O.written output.new) past
-            ⊎ Begins rules start (O.written output.new)
+            OnErr result (Begins rules self.new start (O.written output.new) past
+            ⊎ Begins rules self.new start (O.written output.new)
             (item_of n head.now bytes.now ∷ past)) };
 
     /// Tells what is still to be told.
@@ -110,7 +110,7 @@ pub trait Machine<H: Head> {
             OnOk result (Done rules self.new start (O.written output.new) past) }
         ensures begins { (rules : Rules) (start : Bytes) (past : List (Item H)) →
             Told rules self.old start (O.written output.old) past →
-            OnErr result (Begins rules start (O.written output.new) past) };
+            OnErr result (Begins rules self.new start (O.written output.new) past) };
 }
 
 /// Lets a machine tell all that a source gives.
@@ -136,7 +136,7 @@ pub fn drive<H: Head, I, S: Source<H, I>, M: Machine<H>, O: Sink>(
         (O.written output.new))
         (M.Told rules machine.new (O.written output.old)
         (O.written output.new))
-        (M.Begins rules (O.written output.old) (O.written output.new))
+        (M.Begins rules machine.new (O.written output.old) (O.written output.new))
         (S.Stopped input.old source.new input.new) result }
 {
     while source.next(input)? {

@@ -45,7 +45,7 @@ pub fn run_list<H: Listed, R: Read, M: Machine<H>, O: Sink>(
         (O.written output.new))
         (M.Told rules machine.new (O.written output.old)
         (O.written output.new))
-        (M.Begins rules (O.written output.old) (O.written output.new))
+        (M.Begins rules machine.new (O.written output.old) (O.written output.new))
         bytes (R.remaining (device_of input.new)) result) }
 {
     let mut list: ReadList<H> = ReadList::new(alloc)?;

@@ -2,11 +2,10 @@
 use Rattle.std.specs.Prelude.{◌≤◌, List, length}
 use Rattle.afdx_frame.specs.Times.{latest_listed}
 use Rattle.afdx_config.specs.Rows.{Rows}
-use Rattle.afdx_lists.specs.Lines.{most_lines}
 use Rattle.afdx_lists.specs.declared.frame_line.Heading.{Heading}
 use Rattle.afdx_network.specs.Network as network
 use Rattle.afdx_run.specs.Engine.{Item}
-use Rattle.afdx_run.specs.Items.{arrivals}
+use Rattle.afdx_run.specs.Items.{arrivals, most_frames}
 use Rattle.afdx_run.specs.Listed.{frames}
 use Rattle.afdx_run.specs.Lists.{latest_in}
 use Rattle.afdx_replay.specs.replaying.Replayed.{Known, TellsArrivals, HasRoomFor, WritesSome, ToldAll}
@@ -18,7 +17,7 @@ pub record TellsItems (t : Rows) (replay : Replay) (old new : Known) (past : Lis
   pub told : TellsArrivals t replay old new (arrivals past)
   pub early : latest_in frames (arrivals past) ≤ latest_listed
   pub clock : network.IsUntil replay.network (latest_in frames (arrivals past))
-  pub few : length past ≤ most_lines
+  pub few : length past ≤ most_frames
   pub room : HasRoomFor replay (length past)
 
 abbrev pub BeginsItems : Rows → Known → Known → List (Item Heading) → Type 0

@@ -108,7 +108,7 @@ impl Machine<Heading> for Police {
 
     ghost Told = { TellsItems };
 
-    ghost Begins = { BeginsItems };
+    ghost Begins = { λ rules police old new past. BeginsItems rules old new past };
 
     ghost Done = { TellsItems };
 

@@ -50,15 +50,15 @@ fn tell_early<D: Write>(drops: &mut Watched<D>, n: u64, wait: u64)
 }
 
 impl<D: Write> Machine<Heading> for Explaining<D> {
-    ghost use Rattle.afdx_replay.specs.replaying.Early.{ExplainsItems, ExplainsAll};
-    ghost use Rattle.afdx_replay.specs.replaying.Told.{BeginsItems};
+    ghost use Rattle.afdx_replay.specs.replaying.Early.{ExplainsItems, ExplainsSome, ExplainsAll};
 
     ghost Rules = { Rows × Device D };
 
     ghost Told = { λ rules all old new past.
         ExplainsItems D.contents rules all.replay all.drops old new past };
 
-    ghost Begins = { λ rules old new past. BeginsItems rules.0 old new past };
+    ghost Begins = { λ rules all old new past.
+        ExplainsSome D.contents rules all.drops old new past };
 
     ghost Done = { λ rules all old new past.
         ExplainsAll D.contents rules all.replay all.drops old new past };

@@ -4,7 +4,8 @@ ghost use Rattle.std.specs.Prelude.{◌≡◌, ℕ, ◌+◌, ◌*◌, ◌-◌, �
 ghost use Rattle.afdx_port.specs.Times.{drain_end};
 ghost use Rattle.afdx_frame.specs.Ports.{last_port};
 ghost use Rattle.afdx_frame.specs.Times.{latest_listed};
-ghost use Rattle.afdx_lists.specs.Lines.{most_lines, most_reads};
+ghost use Rattle.afdx_lists.specs.Lines.{most_reads};
+ghost use Rattle.afdx_run.specs.Items.{most_frames};
 ghost use Rattle.afdx_config.specs.Lawful.{IsLawful};
 ghost use Rattle.afdx_config.specs.Rows.{Rows};
 ghost use Rattle.afdx_police.specs.Arrival.{Arrival};
@@ -57,7 +58,7 @@ impl Drop for Replay {
 
 /// Counts an arrival, and the copies that it lost.
 fn count_admission(counts: &mut Summary, reason: Option<Reason>, lost: u64)
-    requires room { (n held : ℕ) × (n < most_lines) × HasRoom counts.old held n }
+    requires room { (n held : ℕ) × (n < most_frames) × HasRoom counts.old held n }
     requires few { lost ≤ last_port }
     ensures counted { counts.new ≡ with_admission counts.old reason lost }
     ensures room { (n held : ℕ) →
@@ -97,7 +98,7 @@ impl Replay {
         departed: &Departed,
         output: &mut O,
     ) -> Result<(), RunFault>
-        requires room { (n held : ℕ) × (n ≤ most_lines) × HasRoom self.old.counts (held + 1) n }
+        requires room { (n held : ℕ) × (n ≤ most_frames) × HasRoom self.old.counts (held + 1) n }
         requires sound { O.failed output.old ≡ false }
         ensures failed { O.failed output.new ≡ is_failed_write result }
         ensures fault { IfErr result IsOfOutput }
@@ -143,7 +144,7 @@ impl Replay {
         output: &mut O,
     ) -> Result<(), RunFault>
         requires clock { network.IsUntil self.old.network until }
-        requires room { (n : ℕ) × (n ≤ most_lines) × HasRoomFor self.old n }
+        requires room { (n : ℕ) × (n ≤ most_frames) × HasRoomFor self.old n }
         requires sound { O.failed output.old ≡ false }
         ensures failed { O.failed output.new ≡ is_failed_write result }
         ensures fault { IfErr result IsOfOutput }
@@ -180,7 +181,7 @@ impl Replay {
     ) -> Result<Option<Reason>, RunFault>
         requires limit { heading.now.time ≤ latest_listed }
         requires clock { network.IsUntil self.old.network heading.now.time }
-        requires room { (m : ℕ) × (m < most_lines) × HasRoomFor self.old m }
+        requires room { (m : ℕ) × (m < most_frames) × HasRoomFor self.old m }
         requires sound { O.failed output.old ≡ false }
         ensures failed { O.failed output.new ≡ is_failed_write result }
         ensures fault { IfErr result IsOfOutput }
@@ -218,7 +219,7 @@ impl Machine<Heading> for Replay {
 
     ghost Told = { TellsItems };
 
-    ghost Begins = { BeginsItems };
+    ghost Begins = { λ rules replay old new past. BeginsItems rules old new past };
 
     ghost Done = { TellsAll };
 

@@ -231,7 +231,7 @@ impl Machine<Handed> for Sending {
 
     ghost Told = { TellsItems };
 
-    ghost Begins = { BeginsItems };
+    ghost Begins = { λ rules sending old new past. BeginsItems rules old new past };
 
     ghost Done = { TellsAll };
 

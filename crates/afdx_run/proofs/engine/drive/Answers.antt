@@ -64,7 +64,7 @@ returns-in_err-tell-clause-answer g c law start =
       inr (
         c.in_err-tell.ensures.fault,
         inl item.0,
-        told-some (g.M.Machine.Begins law (g.O.Sink.written c.args.output.now)
+        told-some (g.M.Machine.Begins law c.tell.new.self (g.O.Sink.written c.args.output.now)
             (g.O.Sink.written c.tell.new.output)) i.0 same begins,
       ),
     )

@@ -9,7 +9,7 @@ pub returns-in_err-list-clause-answer : goal.returns-in_err-list-clause-answer
 returns-in_err-list-clause-answer g c law start =
     let old = g.O.Sink.written c.args.output.now in
     let stop = start-answers g.H.Listed.kind (thing_of g.H.Listed.kind g.H.Listed.says_of) (g.M.Machine.Done law c.args.machine.now old old)
-    (g.M.Machine.Told law c.args.machine.now old old) (g.M.Machine.Begins law old old)
+    (g.M.Machine.Told law c.args.machine.now old old) (g.M.Machine.Begins law c.args.machine.now old old)
     (g.R.Read.remaining c.args.input.now.inner) start in
     search rules
 
@@ -29,7 +29,7 @@ returns-in_err-drive-clause-read g c =
     c.args.input.now c.drive.new.input
     c.drive.new.source.reader (g.H.Listed.time_of c.drive.new.source.head)
     (g.M.Machine.Done law c.drive.new.machine old new) (g.M.Machine.Told law c.drive.new.machine old new)
-    (g.M.Machine.Begins law old new)
+    (g.M.Machine.Begins law c.drive.new.machine old new)
     c.in_err-drive.field-0.0 (c.in_err-drive.ensures.answer law told.1))
 
 pub returns-in_err-drive-clause-calls : goal.returns-in_err-drive-clause-calls
@@ -42,7 +42,7 @@ returns-in_err-drive-clause-calls g c =
     c.args.input.now c.drive.new.input
     c.drive.new.source.reader (g.H.Listed.time_of c.drive.new.source.head)
     (g.M.Machine.Done law c.drive.new.machine old new) (g.M.Machine.Told law c.drive.new.machine old new)
-    (g.M.Machine.Begins law old new)
+    (g.M.Machine.Begins law c.drive.new.machine old new)
     c.in_err-drive.field-0.0 (c.in_err-drive.ensures.answer law told.1)
 
 pub returns-in_err-drive-clause-answer : goal.returns-in_err-drive-clause-answer
@@ -53,7 +53,7 @@ returns-in_err-drive-clause-answer g c law start =
     c.args.input.now c.drive.new.input
     c.drive.new.source.reader (g.H.Listed.time_of c.drive.new.source.head)
     (g.M.Machine.Done law c.drive.new.machine old new) (g.M.Machine.Told law c.drive.new.machine old new)
-    (g.M.Machine.Begins law old new)
+    (g.M.Machine.Begins law c.drive.new.machine old new)
     c.in_err-drive.field-0.0 (c.in_err-drive.ensures.answer law start) in
     search rules
 
@@ -67,7 +67,7 @@ returns-clause-ended g c =
     c.args.input.now c.drive.new.input
     c.drive.new.source.reader (g.H.Listed.time_of c.drive.new.source.head)
     (g.M.Machine.Done law c.drive.new.machine old new) (g.M.Machine.Told law c.drive.new.machine old new)
-    (g.M.Machine.Begins law old new)
+    (g.M.Machine.Begins law c.drive.new.machine old new)
     (c.in_ok-drive.ensures.answer law told.1)
 
 pub returns-clause-read : goal.returns-clause-read
@@ -80,7 +80,7 @@ returns-clause-read g c =
     c.args.input.now c.drive.new.input
     c.drive.new.source.reader (g.H.Listed.time_of c.drive.new.source.head)
     (g.M.Machine.Done law c.drive.new.machine old new) (g.M.Machine.Told law c.drive.new.machine old new)
-    (g.M.Machine.Begins law old new)
+    (g.M.Machine.Begins law c.drive.new.machine old new)
     (c.in_ok-drive.ensures.answer law told.1)
 
 pub returns-clause-calls : goal.returns-clause-calls
@@ -93,7 +93,7 @@ returns-clause-calls g c =
     c.args.input.now c.drive.new.input
     c.drive.new.source.reader (g.H.Listed.time_of c.drive.new.source.head)
     (g.M.Machine.Done law c.drive.new.machine old new) (g.M.Machine.Told law c.drive.new.machine old new)
-    (g.M.Machine.Begins law old new)
+    (g.M.Machine.Begins law c.drive.new.machine old new)
     (c.in_ok-drive.ensures.answer law told.1)
 
 pub returns-clause-answer : goal.returns-clause-answer
@@ -104,5 +104,5 @@ returns-clause-answer g c law start =
     c.args.input.now c.drive.new.input
     c.drive.new.source.reader (g.H.Listed.time_of c.drive.new.source.head)
     (g.M.Machine.Done law c.drive.new.machine old new) (g.M.Machine.Told law c.drive.new.machine old new)
-    (g.M.Machine.Begins law old new)
+    (g.M.Machine.Begins law c.drive.new.machine old new)
     _ c.lines.ensures (c.in_ok-drive.ensures.answer law start)

@@ -1,12 +1,11 @@
-use Rattle.std.proofs.Common.{refl}
+use Rattle.std.proofs.Common.{refl, inl}
 use Rattle.afdx_lists.specs.FrameLines.{listed_frame}
 use Rattle.afdx_run.specs.Items.{thing_of}
 use Rattle.afdx_run.specs.Listed.{frames}
 use Rattle.afdx_run.proofs.ListRunLemmas.{answers-err, answers-ok}
 use Rattle.afdx_run.proofs.RunLemmas.{stops-at-start}
-use Rattle.afdx_replay.specs.replaying.Early.{ExplainsAll, ExplainsItems, TellsEarly}
+use Rattle.afdx_replay.specs.replaying.Early.{ExplainsAll, ExplainsItems, ExplainsSome, TellsEarly, TellsMost}
 use Rattle.afdx_replay.specs.replaying.Replayed.{WritesSoFar, WritesSome, ToldAll}
-use Rattle.afdx_replay.specs.replaying.Told.{BeginsItems}
 use Rattle.afdx_replay.proofs.EarlyLemmas.{done-told, early-start}
 use Rattle.afdx_replay.proofs.ReplayLemmas.{are-some, are-so-far, told-done, stops-start}
 use Rattle.afdx_replay.proofs.replaying.explained.explain_into.Goals as goal
@@ -20,8 +19,9 @@ returns-in-Err-clause-answer g c =
 pub returns-in-Err-clause-explains : goal.returns-in-Err-clause-explains
 returns-in-Err-clause-explains g c =
     rw c.from.ensures (stops-at-start frames
-    (TellsEarly g.D.Write.contents c.args.tables.now c.args.drops c.args.drops) (λ past. Unit {0})
-    (g.R.Read.remaining c.args.input.now.inner) tt)
+    (TellsEarly g.D.Write.contents c.args.tables.now c.args.drops c.args.drops) (TellsMost g.D.Write.contents c.args.tables.now
+    c.args.drops c.args.drops)
+    (g.R.Read.remaining c.args.input.now.inner) (inl (early-start g.D.Write.contents c.args.tables.now c.args.drops)))
 
 pub run_list-lines-requires-clause-told : goal.run_list-lines-requires-clause-told
 run_list-lines-requires-clause-told g c =
@@ -41,7 +41,7 @@ returns-in-Ok-lines-clause-answer g c =
     (answers-ok frames (thing_of frames listed_frame)
     (ExplainsAll g.D.Write.contents (t, c.args.drops) all.replay all.drops old new)
     (ExplainsItems g.D.Write.contents (t, c.args.drops) all.replay all.drops old new)
-    (BeginsItems t old new) (ToldAll t all.replay.counts old new) (g.R.Read.remaining c.args.input.now.inner)
+    (ExplainsSome g.D.Write.contents (t, c.args.drops) all.drops old new) (ToldAll t all.replay.counts old new) (g.R.Read.remaining c.args.input.now.inner)
     (g.R.Read.remaining c.run_list-lines.new.input.inner) c.in-Ok-lines.lines (λ past h. h.0)
     (c.in-Ok-lines.ensures.answer (t, c.args.drops) (c.in-Ok.ensures old, early-start g.D.Write.contents t c.args.drops)))
     (λ past h. h) refl
@@ -57,7 +57,7 @@ returns-in-Ok-lines-clause-explains g c =
     (answers-ok frames (thing_of frames listed_frame)
     (ExplainsAll g.D.Write.contents (t, c.args.drops) all.replay all.drops old new)
     (ExplainsItems g.D.Write.contents (t, c.args.drops) all.replay all.drops old new)
-    (BeginsItems t old new) early (g.R.Read.remaining c.args.input.now.inner)
+    (ExplainsSome g.D.Write.contents (t, c.args.drops) all.drops old new) early (g.R.Read.remaining c.args.input.now.inner)
     (g.R.Read.remaining c.run_list-lines.new.input.inner) c.in-Ok-lines.lines (λ past h. h.1)
     (c.in-Ok-lines.ensures.answer (t, c.args.drops) (c.in-Ok.ensures old, early-start g.D.Write.contents t c.args.drops)))
 
@@ -71,10 +71,10 @@ returns-clause-answer g c =
     answers-err frames (thing_of frames listed_frame)
     (ExplainsAll g.D.Write.contents (t, c.args.drops) all.replay all.drops old new)
     (ExplainsItems g.D.Write.contents (t, c.args.drops) all.replay all.drops old new)
-    (BeginsItems t old new) (WritesSoFar t old new) (WritesSome t old new)
+    (ExplainsSome g.D.Write.contents (t, c.args.drops) all.drops old new) (WritesSoFar t old new) (WritesSome t old new)
     (g.R.Read.remaining c.args.input.now.inner) (g.R.Read.remaining c.run_list-lines.new.input.inner)
     c.in-Err-lines.fault
-    (λ past h. (are-so-far _ _ _ _ _ _ _ h.0.told, are-some _ _ _ _ _ _ _ h.0.told)) (λ past h. h)
+    (λ past h. (are-so-far _ _ _ _ _ _ _ h.0.told, are-some _ _ _ _ _ _ _ h.0.told)) (λ past h. h.0)
     (c.in-Err-lines.ensures.answer (t, c.args.drops) (c.in-Ok.ensures old, early-start g.D.Write.contents t c.args.drops))
 
 pub returns-clause-explains : goal.returns-clause-explains
@@ -86,7 +86,8 @@ returns-clause-explains g c =
     answers-err frames (thing_of frames listed_frame)
     (ExplainsAll g.D.Write.contents (t, c.args.drops) all.replay all.drops old new)
     (ExplainsItems g.D.Write.contents (t, c.args.drops) all.replay all.drops old new)
-    (BeginsItems t old new) (TellsEarly g.D.Write.contents t c.args.drops all.drops) (λ past. Unit {0})
+    (ExplainsSome g.D.Write.contents (t, c.args.drops) all.drops old new) (TellsEarly g.D.Write.contents t c.args.drops all.drops)
+    (TellsMost g.D.Write.contents t c.args.drops all.drops)
     (g.R.Read.remaining c.args.input.now.inner) (g.R.Read.remaining c.run_list-lines.new.input.inner)
-    c.in-Err-lines.fault (λ past h. (h.1, tt)) (λ past h. tt)
+    c.in-Err-lines.fault (λ past h. (h.1, inl h.1)) (λ past h. h.1)
     (c.in-Err-lines.ensures.answer (t, c.args.drops) (c.in-Ok.ensures old, early-start g.D.Write.contents t c.args.drops))

@@ -1,0 +1,122 @@
+//! A reader whose first bytes can be looked at before they are read.
+
+ghost use Rattle.std.specs.Prelude.{◌≤◌, ◌<◌, ◌≡◌, take, length, IfSome, true, false};
+ghost use Rattle.std.specs.Io.KnownBytes.{Keeps, IsAtEnd};
+
+ghost use Rattle.afdx_lists.specs.Watching.{device_of};
+
+use crate::watched::Watched;
+use std::io;
+use std::io::Read;
+
+/// The most bytes that are looked at.
+const LOOKED_AT: usize = 4;
+
+/// Holds a reader whose first bytes may be looked at. Reads give them all the same.
+///
+/// Behind its end, or a failure, the reader isn't asked again: whoever reads meets that in its place.
+#[derive(Debug, Drop)]
+pub struct Peeked<R> {
+    inner: Watched<R>,
+    first: [u8; LOOKED_AT],
+    start: usize,
+    end: usize,
+    ghost ordered: { start ≤ end },
+    ghost within: { end ≤ 4 },
+}
+
+impl<R: Read> Peeked<R> {
+    ghost use Rattle.afdx_lists.specs.Watching.{still_in};
+    ghost use Rattle.afdx_lists.specs.Peeking.{held, looked_at, is_untouched, left_in, has_broken};
+
+    /// A reader of which nothing was read.
+    pub fn new(inner: R) -> Peeked<R>
+        ensures untouched { is_untouched result }
+        ensures left { left_in R.remaining result ≡ R.remaining inner }
+    {
+        Peeked {
+            inner: Watched::new(inner),
+            first: [0; LOOKED_AT],
+            start: 0,
+            end: 0,
+        }
+    }
+
+    /// The reader, as it then is.
+    pub fn into_inner(self) -> R {
+        self.inner.into_inner()
+    }
+
+    /// Reads its first four bytes, to be looked at. Fewer: it has no more, or failed behind them.
+    pub fn look(&mut self)
+        requires { is_untouched self.old }
+        ensures left { Keeps (left_in R.remaining self.old) (left_in R.remaining self.new) }
+        ensures first { has_broken self.new ≡ false → IfSome (left_in R.remaining self.old)
+            (λ bytes. held self.new ≡ take looked_at bytes) }
+    {
+        while self.end < LOOKED_AT && self.look_further() {}
+    }
+
+    /// Reads once, behind what is held. False: there is no more, or it failed.
+    fn look_further(&mut self) -> bool
+        requires first { self.old.start ≡ 0 }
+        requires few { self.old.end < looked_at }
+        ensures first { self.new.start ≡ 0 }
+        ensures seen { length (held self.new) ≡ self.new.end }
+        ensures left { Keeps (left_in R.remaining self.old) (left_in R.remaining self.new) }
+        ensures more { result ≡ true → self.old.end < self.new.end }
+        ensures last { result ≡ false → has_broken self.new ≡ false →
+            IsAtEnd (still_in R.remaining self.new.inner) }
+    {
+        let end = self.end;
+        match self.inner.read(&mut self.first[end..]) {
+            Ok(count) => {
+                self.end += count;
+                count > 0
+            }
+            Err(_) => false,
+        }
+    }
+
+    /// The bytes that are to be looked at, and that no read gave as yet.
+    pub fn seen(&self) -> &[u8]
+        ensures { result.now ≡ held self.now }
+    {
+        &self.first[self.start..self.end]
+    }
+}
+
+impl<R: Read> Watched<Peeked<R>> {
+    ghost use Rattle.afdx_lists.specs.Peeking.{held, is_untouched, HasLooked};
+
+    /// Reads the first four bytes of its reader, to be looked at, as `Peeked::look` does.
+    pub fn look(&mut self)
+        requires { is_untouched (device_of self.old) }
+        ensures { HasLooked R.remaining self.old self.new }
+    {
+        self.inner.look();
+    }
+
+    /// The bytes that are to be looked at, and that no read gave as yet.
+    pub fn seen(&self) -> &[u8]
+        ensures { result.now ≡ held (device_of self.now) }
+    {
+        self.inner.seen()
+    }
+}
+
+impl<R: Read> Read for Peeked<R> {
+    ghost use Rattle.afdx_lists.specs.Peeking.{left_in};
+
+    ghost remaining = { left_in R.remaining };
+
+    fn read(&mut self, buf: &mut [u8]) -> io::Result<usize> {
+        if self.start == self.end {
+            return self.inner.read(buf);
+        }
+        let count = buf.len().min(self.end - self.start);
+        buf[..count].copy_from_slice(&self.first[self.start..self.start + count]);
+        self.start += count;
+        Ok(count)
+    }
+}
