@@ -8,11 +8,13 @@ mod fields;
 mod frame_line;
 pub mod laws;
 mod line_reader;
+mod recording_fault;
 mod submission_line;
 mod watched;
 
 pub use fault::{LineError, LineFault, RUN_FAULTS, RunFault};
 pub use frame_line::{Heading, read_frame_line};
 pub use line_reader::LineReader;
+pub use recording_fault::{RECORDING_FAULTS, RecordingFault};
 pub use submission_line::{Handed, read_submission_line};
 pub use watched::Watched;
