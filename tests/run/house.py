@@ -203,7 +203,7 @@ def rows_below(document: str, heading: str) -> list[list[str]]:
 def word_of(cell: str) -> str:
     """The word of a list in a cell: alone, or behind the first word of its line."""
     first, *rest = cell.split()
-    return rest[0] if rest and first in ("no", "config") else first
+    return rest[0] if rest and first in ("no", "config", "recording") else first
 
 
 def lists_apart() -> list[str]:

@@ -19,8 +19,8 @@ abbrev pub or_else : Option (List ℕ) → Option (List ℕ) → Option (List �
 or_else (Some text) other = Some text
 or_else None other = other
 
--- ---- faults: of the words and files, of a run, of a recording, of a whole configuration, of a key,
--- and the lines of admission
+-- ---- faults: of the words and files, of a run, of a recording, of a whole configuration, of a
+-- key, and the lines of admission
 
 unfoldable pub fault : List ℕ → Option (List ℕ)
 fault line = text_among (map (λ entry. (entry.0.now, entry.1.now)) FAULTS) line

@@ -53,80 +53,79 @@ pub const RECORDING_FAULTS: [(&str, &str); 12] = [
     (
         "recording NotRecording n",
         "\
-The input isn't a recording: its first four bytes are those of no pcap and no pcapng.
-The option that was given, or the command, needs one. Unpack a compressed recording (gunzip);
-make one of another format by: editcap -F pcapng IN OUT.",
+The input isn't a recording: its first four bytes are those of no pcap and no pcapng. The
+option that was given, or the command, needs one. Unpack a compressed recording (gunzip); make
+one of another format by: editcap -F pcapng IN OUT.",
     ),
     (
         "recording BadVersion n",
         "\
 A pcap has another version than 2.4, or a section of a pcapng another than 1.0 and 1.2.
-n is how many numbers come before. Write it anew by: editcap -F pcapng IN OUT.",
+n is how many numbers come before it. Write it anew by: editcap -F pcapng IN OUT.",
     ),
     (
         "recording Damaged n",
         "\
 A length, a version's mark, an interface's number or an option that can't be right.
-n is how many numbers come before. Were pcap files put together by 'cat'? mergecap joins them.
-Else editcap IN OUT keeps the whole frames before.",
+n is how many numbers come before it. Were pcap files put together by 'cat'? mergecap joins
+them. Else editcap IN OUT keeps the whole frames before it.",
     ),
     (
         "recording Ended n",
         "\
-The recording ends within its head, a frame or a block: the recorder was stopped, or a copy
-is incomplete. n is how many numbers come before.
-Keep the whole frames by: editcap IN OUT.",
+The recording ends within its head, a frame or a block: the recorder was stopped, or the file
+is cut short. n is how many numbers come before it. Keep the whole frames by: editcap IN OUT.",
     ),
     (
         "recording NoArrival n",
         "\
 The recording has n numbers, and none is an arrival.
-With --summary the counts of skipped ones say why; --interface K=SIDE:PORT says where the
-frames of interface K came in.",
+'afdx list' says why each was skipped; --interface K=SIDE:PORT says where the frames of
+interface K came in.",
     ),
     (
         "recording NotEthernet n",
         "\
-The frame's interface has another link type than Ethernet, which is 1.
+The frame can't be an arrival: its interface has another link type than Ethernet.
 Leave the interface out: --interface K=-.",
     ),
     (
         "recording NoTime n",
         "\
-The frame has no stamp: its block is a simple packet.
+The frame can't be an arrival: it has no stamp, as in each simple packet block.
 Record enhanced packets, or leave the interface out: --interface K=-.",
     ),
     (
         "recording BadTime n",
         "\
-The frame's stamp isn't 0 to 2^63 - 1 ns since 1970, or its fraction is a second or more.
-The recorder is at fault; text2pcap or editcap -t can put stamps right.",
+The frame can't be an arrival: its stamp isn't 0 to 2^63 - 1 ns since 1970, or its fraction is
+a second or more. The recorder's clock is at fault; editcap -t SECONDS IN OUT moves all stamps.",
     ),
     (
         "recording Cut n",
         "\
-Fewer bytes were recorded of the frame than it had on the wire.
-Record whole frames (dumpcap -s 0). If the recorder took the check sequence off and counts it
-in the length, say --fcs no.",
+The frame isn't whole: fewer bytes were recorded of it than it had on the wire. Record without
+a snap length (dumpcap -s 0). If the recorder took the check sequence off but counts it in the
+frame's length, say --fcs no.",
     ),
     (
         "recording FcsUnclear n",
         "\
-The recording doesn't say whether frames end with their check sequence, and this one's last
-four bytes are that of the others.
-Say --fcs yes if all frames end with it, --fcs no if none does.",
+It isn't clear what the frame was: the recording doesn't say whether frames end with their
+check sequence, and its last four bytes are that of the others.
+Say --fcs yes if each frame ends with it, --fcs no if none does.",
     ),
     (
         "recording TimeBack n",
         "\
-The frame's moment is before that of an arrival in front of it.
+The frame came too early: its moment is before that of an arrival in front of it.
 Put the frames in order by: reordercap IN OUT.",
     ),
     (
         "recording TimeTooLarge n",
         "\
-The frame's moment is more than 10^15 ns behind the origin, about eleven days and a half.
-The origin is the moment of the first arrival, or that of --origin.
+The frame came too late: its moment is more than 10^15 ns behind the origin, about eleven days
+and a half. The origin is the moment of the first arrival, or that of --origin.
 Cut the recording in pieces by: editcap -A START -B STOP IN OUT.",
     ),
 ];
