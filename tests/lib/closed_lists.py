@@ -22,6 +22,7 @@ FILES = [
     "afdx_receive/src/reception.rt",
     "afdx_send/src/fault.rt",
     "afdx_lists/src/fault.rt",
+    "afdx_lists/src/recording_fault.rt",
 ]
 SOURCES = "\n".join((CRATES / file).read_text(encoding="utf-8") for file in FILES)
 
@@ -57,6 +58,7 @@ SEND_FAULTS = words("SEND_FAULTS")
 ADMISSION = words("ADMISSION")
 CONFIG_FAULTS = words("CONFIG_FAULTS")
 RUN_FAULTS = words("RUN_FAULTS")
+RECORDING_FAULTS = words("RECORDING_FAULTS")
 # of each part its keys in their order: name, least, greatest, forms, meaning
 KEY_ROWS = {part: table(f"{part.upper()}_KEYS") for part in PARTS}
 KEYS = {part: [row[0] for row in rows] for part, rows in KEY_ROWS.items()}

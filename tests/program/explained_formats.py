@@ -77,6 +77,8 @@ def wanted_answers(texts: str) -> list[tuple[str, list[str]]]:
     for _, line, when in rows_below("| Order | Line on standard error | When |", texts):
         if line.startswith("`"):
             wanted.append((example_of(line), [when]))
+    for line, _, when in rows_below("| Recording fault | n | When |", texts):
+        wanted.append((example_of(line), [when]))
     for line, wrong, remedy in rows_below("| Last line | What is wrong | What may help |", texts):
         for first in ("no", "admit"):
             wanted.append((re.sub("^no", first, example_of(line)), [wrong, remedy]))

@@ -178,6 +178,7 @@ def wrong_edits() -> list[str]:
 # of each list that a document has a table of: the document, the heading, the column, and the words
 RECEIVER = lists.DROP_REASONS[:3] + lists.IP_FAULTS + lists.DROP_REASONS[3:]
 LIST_LINES = [form for form in lists.RUN_FAULTS if form.startswith("list ")]
+RECORDING_WORDS = [form.split()[1] for form in lists.RECORDING_FAULTS]
 LISTED = [
     ("docs/NETWORK.md", "| Line | Must hold | In plain words |", 0, lists.ADMISSION),
     ("docs/FORMATS.md", "| WORD | The frame |", 0, lists.REASONS),
@@ -185,6 +186,7 @@ LISTED = [
     ("docs/FORMATS.md", "| Last line | What is wrong | What may help |", 0, lists.ADMISSION),
     ("docs/FORMATS.md", "| Text | When |", 0, lists.SEND_FAULTS[:5]),
     ("docs/FORMATS.md", "| Line on standard error | When |", 0, lists.CONFIG_FAULTS[:8]),
+    ("docs/FORMATS.md", "| Recording fault | n | When |", 0, RECORDING_WORDS),
 ]
 LIST_TABLE = ("docs/FORMATS.md", "| Order | Line on standard error | When |")
 KEY_TABLE = ("docs/FORMATS.md", "| Part | Number | Key | Value |")
@@ -201,7 +203,7 @@ def rows_below(document: str, heading: str) -> list[list[str]]:
 def word_of(cell: str) -> str:
     """The word of a list in a cell: alone, or behind the first word of its line."""
     first, *rest = cell.split()
-    return rest[0] if rest and first in ("no", "config") else first
+    return rest[0] if rest and first in ("no", "config", "recording") else first
 
 
 def lists_apart() -> list[str]:
@@ -216,9 +218,11 @@ def lists_apart() -> list[str]:
     told = {row[1] for row in rows_below(*LIST_TABLE) if row[1].startswith("list ")}
     if told != set(LIST_LINES):
         faults.append(f"{LIST_TABLE[0]} has other faults of a list: {told ^ set(LIST_LINES)}")
-    derived = re.findall(r'#\[error\("(.*?)"\)\]', text_of(CRATES / "afdx_lists/src/fault.rt"))
-    if [text.replace("{0}", "n") for text in derived] != lists.RUN_FAULTS:
-        faults.append(f"the texts of a run's faults are {derived}")
+    for file, forms in (("fault", lists.RUN_FAULTS), ("recording_fault", lists.RECORDING_FAULTS)):
+        source = text_of(CRATES / f"afdx_lists/src/{file}.rt")
+        derived = re.findall(r'#\[error\("(.*?)"\)\]', source)
+        if [text.replace("{0}", "n") for text in derived] != forms:
+            faults.append(f"the texts of the faults of {file}.rt are {derived}")
     return faults
 
 

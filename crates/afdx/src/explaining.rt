@@ -4,7 +4,7 @@ use afdx_admit::ADMISSION;
 use afdx_config::{CONFIG_FAULTS, Key, LINK_KEYS, PORT_KEYS, SYSTEM_KEYS, TOP_KEYS, UNKNOWN_KEYS};
 use afdx_explain::{FAULTS, LINES, kind_of, meaning_of};
 use afdx_frame::{IP_FAULTS, MAC_FAULTS};
-use afdx_lists::RUN_FAULTS;
+use afdx_lists::{RECORDING_FAULTS, RUN_FAULTS};
 use afdx_police::REASONS;
 use afdx_receive::DROP_REASONS;
 use afdx_send::SEND_FAULTS;
@@ -144,6 +144,11 @@ fn print_run_faults(rt: &HostRuntime) -> io::Result<()> {
     print_forms(rt, "fault", &RUN_FAULTS)
 }
 
+/// Prints the faults of a recording.
+fn print_recording_faults(rt: &HostRuntime) -> io::Result<()> {
+    print_forms(rt, "fault", &RECORDING_FAULTS)
+}
+
 /// Prints the other faults.
 fn print_faults(rt: &HostRuntime) -> io::Result<()> {
     print_forms(rt, "fault", &FAULTS)
@@ -170,6 +175,7 @@ pub fn print_lists(rt: &HostRuntime) -> io::Result<()> {
     print_port_keys(rt)?;
     print_unknown_keys(rt)?;
     print_run_faults(rt)?;
+    print_recording_faults(rt)?;
     print_faults(rt)?;
     print_lines(rt)
 }

@@ -9,6 +9,7 @@ use Rattle.afdx_admit.specs.declared.fault.TheConstants.{ADMISSION}
 use Rattle.afdx_receive.specs.declared.reception.TheConstants.{DROP_REASONS}
 use Rattle.afdx_send.specs.declared.fault.TheConstants.{SEND_FAULTS}
 use Rattle.afdx_lists.specs.declared.fault.TheConstants.{RUN_FAULTS}
+use Rattle.afdx_lists.specs.declared.recording_fault.TheConstants.{RECORDING_FAULTS}
 use Rattle.afdx_explain.specs.Forms.{text_among, row_among, formed_row, formed_among}
 use Rattle.afdx_explain.specs.declared.faults.TheConstants.{FAULTS}
 use Rattle.afdx_explain.specs.declared.kinds.TheConstants.{KINDS}
@@ -18,14 +19,18 @@ abbrev pub or_else : Option (List ℕ) → Option (List ℕ) → Option (List �
 or_else (Some text) other = Some text
 or_else None other = other
 
--- ---- faults: of the words and files, of a run, of a whole configuration, of a key, and the lines
--- of admission
+-- ---- faults: of the words and files, of a run, of a recording, of a whole configuration, of a
+-- key, and the lines of admission
 
 unfoldable pub fault : List ℕ → Option (List ℕ)
 fault line = text_among (map (λ entry. (entry.0.now, entry.1.now)) FAULTS) line
 
 unfoldable pub run_fault : List ℕ → Option (List ℕ)
 run_fault line = text_among (map (λ entry. (entry.0.now, entry.1.now)) RUN_FAULTS) line
+
+unfoldable pub recording_fault : List ℕ → Option (List ℕ)
+recording_fault line =
+    text_among (map (λ entry. (entry.0.now, entry.1.now)) RECORDING_FAULTS) line
 
 unfoldable pub config_fault : List ℕ → Option (List ℕ)
 config_fault line =
@@ -85,8 +90,8 @@ told line = text_among (map (λ entry. (entry.0.now, entry.1.now)) LINES) line
 
 unfoldable pub any_fault : List ℕ → Option (List ℕ)
 any_fault line =
-    or_else (fault line) (or_else (run_fault line) (or_else (config_fault line)
-    (or_else (key line) (admission line))))
+    or_else (fault line) (or_else (run_fault line) (or_else (recording_fault line)
+    (or_else (config_fault line) (or_else (key line) (admission line)))))
 
 unfoldable pub any_line : List ℕ → Option (List ℕ)
 any_line line =

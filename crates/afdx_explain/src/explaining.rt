@@ -11,7 +11,7 @@ use crate::lines::LINES;
 use afdx_admit::ADMISSION;
 use afdx_config::{CONFIG_FAULTS, LINK_KEYS, PORT_KEYS, SYSTEM_KEYS, TOP_KEYS, UNKNOWN_KEYS};
 use afdx_frame::{IP_FAULTS, MAC_FAULTS};
-use afdx_lists::RUN_FAULTS;
+use afdx_lists::{RECORDING_FAULTS, RUN_FAULTS};
 use afdx_police::REASONS;
 use afdx_receive::DROP_REASONS;
 use afdx_send::SEND_FAULTS;
@@ -39,6 +39,14 @@ fn run_fault(line: &[u8]) -> Option<&'static str>
     ensures { option_copied result ≡ spec.run_fault line.now }
 {
     text_among(&RUN_FAULTS, line)
+}
+
+/// What the fault of a recording means.
+#[tactic(auto, unfolding(crate::specs::Explained::recording_fault))]
+fn recording_fault(line: &[u8]) -> Option<&'static str>
+    ensures { option_copied result ≡ spec.recording_fault line.now }
+{
+    text_among(&RECORDING_FAULTS, line)
 }
 
 /// What the fault of a whole configuration means.
@@ -174,6 +182,9 @@ fn any_fault(line: &[u8]) -> Option<&'static str>
         return Some(text);
     }
     if let Some(text) = run_fault(line) {
+        return Some(text);
+    }
+    if let Some(text) = recording_fault(line) {
         return Some(text);
     }
     if let Some(text) = config_fault(line) {

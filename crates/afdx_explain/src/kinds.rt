@@ -3,12 +3,18 @@
 use crate::entry::Entry;
 
 /// What the lines of a kind have in common.
-pub const KINDS: [Entry; 5] = [
+pub const KINDS: [Entry; 6] = [
     (
         "list * n",
         "\
 The list has a fault in the line of this number, counted from 1; empty lines and remarks
 count. What the lines before it gave stands on standard output.",
+    ),
+    (
+        "recording * n",
+        "\
+The recording can't be replayed beyond this place; what the arrivals before it gave stands on
+standard output. Numbers are those of the frames in Wireshark, from 1.",
     ),
     (
         "\

@@ -37,7 +37,7 @@ abbrev pub fault_at : ℕ → LineError → RunFault
 fault_at n (line.Fault fault) = fault_of_line n fault
 fault_at n line.Memory = run.Memory
 
--- the exit status: 3 for a fault of the list, 4 for a device or memory
+-- the exit status: 3 for a fault of the list or the recording, 4 for a device or memory
 abbrev pub status_of : RunFault → ℕ
 status_of run.Read = 4
 status_of run.Write = 4

@@ -1,7 +1,8 @@
-//! Why a line says nothing, and why a run ended before the end of its list.
+//! Why a line says nothing, and why a run ended before the end of its list or recording.
 
 ghost use Rattle.std.specs.Prelude.{◌≡◌};
 
+use crate::recording_fault::RecordingFault;
 use std::alloc::AllocError;
 use thiserror::Error;
 
@@ -40,7 +41,7 @@ impl From<AllocError> for LineError {
     }
 }
 
-/// Why a run ended before the end of its list. Lines are counted from 1, all of them.
+/// Why a run ended before the end of its list or recording. Lines are counted from 1, all of them.
 ///
 /// Its text is the line of the fault on standard error, without its line feed.
 #[derive(Debug, Drop, PartialEq, Eq, Error)]
@@ -67,7 +68,10 @@ pub enum RunFault {
     /// There is a byte after 1,000,000 lines.
     #[error("list TooManyLines")]
     TooManyLines,
-    /// The list could not be read.
+    /// The recording, or a frame of it, has this fault.
+    #[error(transparent)]
+    Recording(RecordingFault),
+    /// The list or recording could not be read.
     #[error("device Read")]
     Read,
     /// The text could not be written.
@@ -79,7 +83,8 @@ pub enum RunFault {
 }
 
 /// Each fault of a run, in the order of `RunFault`: the form of its line (`n` is the number of a
-/// line of the list), and what it means, with what may be done.
+/// line of the list), and what it means, with what may be done. Those of a recording are
+/// `RECORDING_FAULTS`.
 pub const RUN_FAULTS: [(&str, &str); 10] = [
     (
         "list BadLine n",
@@ -147,8 +152,8 @@ has a system, two queues of buffer / 64 places of 16 bytes. Replay one list at a
 impl RunFault {
     ghost use Rattle.afdx_lists.specs.Faults.{status_of};
 
-    /// The exit status of a command that ends with this fault: 3 for a fault of the list, 4 for a
-    /// device or memory.
+    /// The exit status of a command that ends with this fault: 3 for a fault of the list or the
+    /// recording, 4 for a device or memory.
     pub fn status(&self) -> u8
         ensures { result ≡ status_of self.now }
     {

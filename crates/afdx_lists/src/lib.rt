@@ -9,6 +9,7 @@ mod frame_line;
 pub mod laws;
 mod line_reader;
 mod peeked;
+mod recording_fault;
 mod submission_line;
 mod watched;
 
@@ -16,5 +17,6 @@ pub use fault::{LineError, LineFault, RUN_FAULTS, RunFault};
 pub use frame_line::{Heading, read_frame_line};
 pub use line_reader::LineReader;
 pub use peeked::Peeked;
+pub use recording_fault::{RECORDING_FAULTS, RecordingFault};
 pub use submission_line::{Handed, read_submission_line};
 pub use watched::Watched;

@@ -1,7 +1,7 @@
 //! Lines that are put into a text, written and held, and faults that are told.
 
 use afdx_frame::{IpFault, MacFault, Side, VlId};
-use afdx_lists::{LineError, LineFault, RunFault, Watched, read_frame_line};
+use afdx_lists::{LineError, LineFault, RecordingFault, RunFault, Watched, read_frame_line};
 use afdx_police::Reason;
 use afdx_receive::DropReason;
 use afdx_samples::{Break, WeakWriter, all_right, equal};
@@ -121,7 +121,7 @@ fn told(alloc: Global, fault: &RunFault) -> Vec<u8> {
 }
 
 /// Each fault of a run, what is told of it, and its exit status.
-const FAULTS: [(RunFault, &str, u8); 11] = [
+const FAULTS: [(RunFault, &str, u8); 23] = [
     (RunFault::BadLine(20), "list BadLine 20\n", 3),
     (RunFault::BadHex(1), "list BadHex 1\n", 3),
     (RunFault::TimeBack(2), "list TimeBack 2\n", 3),
@@ -134,6 +134,66 @@ const FAULTS: [(RunFault, &str, u8); 11] = [
     (RunFault::BadPort(1_000_000), "list BadPort 1000000\n", 3),
     (RunFault::LineTooLong(4), "list LineTooLong 4\n", 3),
     (RunFault::TooManyLines, "list TooManyLines\n", 3),
+    (
+        RunFault::Recording(RecordingFault::NotRecording(0)),
+        "recording NotRecording 0\n",
+        3,
+    ),
+    (
+        RunFault::Recording(RecordingFault::BadVersion(1)),
+        "recording BadVersion 1\n",
+        3,
+    ),
+    (
+        RunFault::Recording(RecordingFault::Damaged(2)),
+        "recording Damaged 2\n",
+        3,
+    ),
+    (
+        RunFault::Recording(RecordingFault::Ended(3)),
+        "recording Ended 3\n",
+        3,
+    ),
+    (
+        RunFault::Recording(RecordingFault::NoArrival(4)),
+        "recording NoArrival 4\n",
+        3,
+    ),
+    (
+        RunFault::Recording(RecordingFault::NotEthernet(100_000_000_000_000_000)),
+        "recording NotEthernet 100000000000000000\n",
+        3,
+    ),
+    (
+        RunFault::Recording(RecordingFault::NoTime(6)),
+        "recording NoTime 6\n",
+        3,
+    ),
+    (
+        RunFault::Recording(RecordingFault::BadTime(7)),
+        "recording BadTime 7\n",
+        3,
+    ),
+    (
+        RunFault::Recording(RecordingFault::Cut(8)),
+        "recording Cut 8\n",
+        3,
+    ),
+    (
+        RunFault::Recording(RecordingFault::FcsUnclear(9)),
+        "recording FcsUnclear 9\n",
+        3,
+    ),
+    (
+        RunFault::Recording(RecordingFault::TimeBack(10)),
+        "recording TimeBack 10\n",
+        3,
+    ),
+    (
+        RunFault::Recording(RecordingFault::TimeTooLarge(u64::MAX)),
+        "recording TimeTooLarge 18446744073709551615\n",
+        3,
+    ),
     (RunFault::Read, "device Read\n", 4),
     (RunFault::Write, "device Write\n", 4),
     (RunFault::Memory, "memory\n", 4),

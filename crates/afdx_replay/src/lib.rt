@@ -14,7 +14,7 @@ pub mod status;
 mod summary;
 
 pub use afdx_frame::Policing;
-pub use afdx_lists::{RunFault, Watched};
+pub use afdx_lists::{RecordingFault, RunFault, Watched};
 pub use afdx_text::{Output, Sink};
 pub use check_command::{check, check_lines};
 pub use ending::{Ended, finish};

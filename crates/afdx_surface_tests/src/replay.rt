@@ -8,8 +8,8 @@ use afdx_config::{SystemId, Tables};
 use afdx_frame::{Policing, VlId};
 use afdx_police::LinkRule;
 use afdx_replay::{
-    RunFault, Summary, Watched, check, police, replay, run, run_police, run_send, run_unadmitted,
-    send,
+    RecordingFault, RunFault, Summary, Watched, check, police, replay, run, run_police, run_send,
+    run_unadmitted, send,
 };
 use afdx_samples::{admitted, base, base_tables, equal};
 use std::alloc::Global;
@@ -146,8 +146,26 @@ fn sent(alloc: Global, config: &[u8], system: &str) -> u8 {
     status
 }
 
-/// Whether the fault is one of a list, with the number of its line.
-fn line_of(fault: &RunFault) -> Option<u64> {
+/// The number in the fault of a recording.
+fn number_in(fault: RecordingFault) -> u64 {
+    match fault {
+        RecordingFault::NotRecording(n) => n,
+        RecordingFault::BadVersion(n) => n,
+        RecordingFault::Damaged(n) => n,
+        RecordingFault::Ended(n) => n,
+        RecordingFault::NoArrival(n) => n,
+        RecordingFault::NotEthernet(n) => n,
+        RecordingFault::NoTime(n) => n,
+        RecordingFault::BadTime(n) => n,
+        RecordingFault::Cut(n) => n,
+        RecordingFault::FcsUnclear(n) => n,
+        RecordingFault::TimeBack(n) => n,
+        RecordingFault::TimeTooLarge(n) => n,
+    }
+}
+
+/// The number in a fault: of a line of a list, or in the fault of a recording.
+fn number_of(fault: &RunFault) -> Option<u64> {
     match fault {
         RunFault::BadLine(n) => Some(*n),
         RunFault::BadHex(n) => Some(*n),
@@ -155,14 +173,19 @@ fn line_of(fault: &RunFault) -> Option<u64> {
         RunFault::TimeTooLarge(n) => Some(*n),
         RunFault::BadPort(n) => Some(*n),
         RunFault::LineTooLong(n) => Some(*n),
+        RunFault::Recording(fault) => Some(number_in(*fault)),
         RunFault::TooManyLines | RunFault::Read | RunFault::Write | RunFault::Memory => None,
     }
 }
 
 #[test]
 fn faults(_rt: HostRuntime) -> Result<(), Fail> {
-    equal(line_of(&RunFault::BadPort(7)), Some(7))?;
-    equal(line_of(&RunFault::TooManyLines), None)
+    equal(number_of(&RunFault::BadPort(7)), Some(7))?;
+    equal(
+        number_of(&RunFault::Recording(RecordingFault::Cut(9))),
+        Some(9),
+    )?;
+    equal(number_of(&RunFault::TooManyLines), None)
 }
 
 #[test]

@@ -1,0 +1,131 @@
+//! Why a run over a recording ended before the end of its recording.
+
+use thiserror::Error;
+
+/// What is wrong with a recording, or with a frame of it. Frames are counted from 1, and so are
+/// blocks that take a number.
+///
+/// Its text is the line of the fault on standard error, without its line feed.
+#[derive(Clone, Copy, Debug, PartialEq, Eq, Error)]
+pub enum RecordingFault {
+    /// It doesn't begin as a recording does: 0.
+    #[error("recording NotRecording {0}")]
+    NotRecording(u64),
+    /// It has another version, or its section has, behind so many numbers.
+    #[error("recording BadVersion {0}")]
+    BadVersion(u64),
+    /// What comes behind so many numbers can't be read.
+    #[error("recording Damaged {0}")]
+    Damaged(u64),
+    /// It ends within what comes behind so many numbers.
+    #[error("recording Ended {0}")]
+    Ended(u64),
+    /// So many numbers, and no arrival.
+    #[error("recording NoArrival {0}")]
+    NoArrival(u64),
+    /// The interface of the frame of this number isn't Ethernet.
+    #[error("recording NotEthernet {0}")]
+    NotEthernet(u64),
+    /// The frame of this number has no stamp.
+    #[error("recording NoTime {0}")]
+    NoTime(u64),
+    /// The stamp of the frame of this number isn't 0 to 2^63 - 1 ns, or its fraction is a second or
+    /// more.
+    #[error("recording BadTime {0}")]
+    BadTime(u64),
+    /// The frame of this number was longer than what was recorded of it.
+    #[error("recording Cut {0}")]
+    Cut(u64),
+    /// Nobody says whether the frame of this number ends with its check sequence, and it seems to.
+    #[error("recording FcsUnclear {0}")]
+    FcsUnclear(u64),
+    /// The arrival of this number has an earlier moment than one before it.
+    #[error("recording TimeBack {0}")]
+    TimeBack(u64),
+    /// The arrival of this number has a time over 10^15 ns.
+    #[error("recording TimeTooLarge {0}")]
+    TimeTooLarge(u64),
+}
+
+/// Each fault of a recording, in the order of `RecordingFault`: the form of its line (`n` is the
+/// number of a frame, or a count of numbers), and what it means, with what may be done.
+pub const RECORDING_FAULTS: [(&str, &str); 12] = [
+    (
+        "recording NotRecording n",
+        "\
+The input isn't a recording: its first four bytes are those of no pcap and no pcapng. The
+option that was given, or the command, needs one. Unpack a compressed recording (gunzip); make
+one of another format by: editcap -F pcapng IN OUT.",
+    ),
+    (
+        "recording BadVersion n",
+        "\
+A pcap has another version than 2.4, or a section of a pcapng another than 1.0 and 1.2.
+n is how many numbers come before it. Write it anew by: editcap -F pcapng IN OUT.",
+    ),
+    (
+        "recording Damaged n",
+        "\
+A length, a version's mark, an interface's number or an option that can't be right.
+n is how many numbers come before it. Were pcap files put together by 'cat'? mergecap joins
+them. Else editcap IN OUT keeps the whole frames before it.",
+    ),
+    (
+        "recording Ended n",
+        "\
+The recording ends within its head, a frame or a block: the recorder was stopped, or the file
+is cut short. n is how many numbers come before it. Keep the whole frames by: editcap IN OUT.",
+    ),
+    (
+        "recording NoArrival n",
+        "\
+The recording has n numbers, and none is an arrival.
+'afdx list' says why each was skipped; --interface K=SIDE:PORT says where the frames of
+interface K came in.",
+    ),
+    (
+        "recording NotEthernet n",
+        "\
+The frame can't be an arrival: its interface has another link type than Ethernet.
+Leave the interface out: --interface K=-.",
+    ),
+    (
+        "recording NoTime n",
+        "\
+The frame can't be an arrival: it has no stamp, as in each simple packet block.
+Record enhanced packets, or leave the interface out: --interface K=-.",
+    ),
+    (
+        "recording BadTime n",
+        "\
+The frame can't be an arrival: its stamp isn't 0 to 2^63 - 1 ns since 1970, or its fraction is
+a second or more. The recorder's clock is at fault; editcap -t SECONDS IN OUT moves all stamps.",
+    ),
+    (
+        "recording Cut n",
+        "\
+The frame isn't whole: fewer bytes were recorded of it than it had on the wire. Record without
+a snap length (dumpcap -s 0). If the recorder took the check sequence off but counts it in the
+frame's length, say --fcs no.",
+    ),
+    (
+        "recording FcsUnclear n",
+        "\
+It isn't clear what the frame was: the recording doesn't say whether frames end with their
+check sequence, and its last four bytes are that of the others.
+Say --fcs yes if each frame ends with it, --fcs no if none does.",
+    ),
+    (
+        "recording TimeBack n",
+        "\
+The frame came too early: its moment is before that of an arrival in front of it.
+Put the frames in order by: reordercap IN OUT.",
+    ),
+    (
+        "recording TimeTooLarge n",
+        "\
+The frame came too late: its moment is more than 10^15 ns behind the origin, about eleven days
+and a half. The origin is the moment of the first arrival, or that of --origin.
+Cut the recording in pieces by: editcap -A START -B STOP IN OUT.",
+    ),
+];
