@@ -20,7 +20,7 @@ use clap::{ArgMatches, Error};
 use std::alloc::AllocError;
 use std::fs::File;
 use std::io;
-use std::io::{IsTerminal, Read, Write};
+use std::io::{IsTerminal, LineWriter, Read, Write};
 use std::process::ExitCode;
 
 const OUTPUT_BUFFER: usize = 65_536;
@@ -221,7 +221,10 @@ fn run_from<R: Read + Drop>(
             admission,
             explains_drops: true,
         } => {
-            let drops = Watched::new(rt.stderr());
+            let Ok(early) = LineWriter::new(rt.alloc(), rt.stderr()) else {
+                return memory(rt);
+            };
+            let drops = Watched::new(early);
             replay_and_explain(rt.alloc(), *admission, config, list, lines, faults, drops).0
         }
         Run::Send { config, system } => {
