@@ -1,6 +1,6 @@
 -- What is told of the frames that came too early.
 use Rattle.std.proofs.Common.{◌≡◌, ℕ, true, false, List, [], ◌∷◌, ◌++◌, Option, Some, None, refl, sym, ap, ◌∙◌}
-use Rattle.std.proofs.Common.{Bool, IfSome, length, subst}
+use Rattle.std.proofs.Common.{Bool, IfSome, length, subst, ◌⊎◌, inl, inr}
 use Rattle.afdx_config.specs.Rows.{Rows}
 use Rattle.afdx_police.specs.Arrival.{Arrival}
 use Rattle.afdx_police.specs.declared.shape.Reason.{Reason}
@@ -73,3 +73,8 @@ pub done-told : (told : List Arrival → Type 0) (n : ℕ) (input : Option (List
     → IfSome input (λ bytes. told (arrivals_of (lines_of bytes) (length (lines_of bytes))))
 done-told told n None h = tt
 done-told told n (Some bytes) h = h.are_told
+
+-- an arrival wasn't told whole: the device was told of those before it
+pub begun-early : {A B C D E : Type 0} → A ⊎ B → C → (A × (C ⊎ D)) ⊎ (B × (E ⊎ C))
+begun-early (inl a) c = inl (a, inl c)
+begun-early (inr b) c = inr (b, inr c)

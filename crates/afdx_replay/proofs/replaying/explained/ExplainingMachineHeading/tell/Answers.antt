@@ -1,10 +1,10 @@
-use Rattle.std.proofs.Common.{List, sym, subst, arith, add-one, length}
+use Rattle.std.proofs.Common.{rules, ◌≡◌, Err, List, sym, subst, arith, add-one, length}
 use Rattle.afdx_lists.specs.FrameLines.{listed_frame}
 use Rattle.afdx_police.specs.Arrival.{Arrival}
 use Rattle.afdx_run.specs.Items.{arrivals}
 use Rattle.afdx_run.specs.Listed.{arrival_at}
 use Rattle.afdx_switch.specs.Early.{IsEarlyBy}
-use Rattle.afdx_replay.proofs.EarlyLemmas.{early-more, early-same}
+use Rattle.afdx_replay.proofs.EarlyLemmas.{begun-early, early-more, early-same}
 use Rattle.afdx_replay.proofs.replaying.explained.ExplainingMachineHeading.tell.Goals as goal
 
 pub returns-then-is_over_rate-clause-told : goal.returns-then-is_over_rate-clause-told
@@ -41,3 +41,8 @@ returns-else-is_over_rate-clause-told g c = λ rules start past h follows.
       early-same g.D.Write.contents t rules.1 c.args.self.now.drops (arrivals past) x c.in_ok-reason.reason h.1
           (c.in_ok-reason.ensures.reason t start (arrivals past) h.0.told) (sym c.if-is_over_rate.ensures),
     )
+
+pub returns-in_err-reason-clause-begins : goal.returns-in_err-reason-clause-begins
+returns-in_err-reason-clause-begins g c = λ by start past h.
+    let e : c.from_residual.result ≡ Err c.in_err-reason.field-0.0 = search rules in
+    rw e (begun-early (c.in_err-reason.ensures.some by.0 start (arrivals past) h.0.told) h.1)
