@@ -26,8 +26,8 @@ has_broken peeked = has_failed peeked.inner
 abbrev pub left_in : {R : Type 0} → (R → Option (List ℕ)) → Peeked R → Option (List ℕ)
 left_in remaining peeked = prepend_known (held peeked) (still_in remaining peeked.inner)
 
--- its first bytes were looked at: it still gives what it gave, the bytes that are held are the first
--- four of that, or all, unless it failed, and for whoever watches it nothing has happened
+-- its first bytes were looked at: it still gives what it gave, the bytes that are held are the
+-- first four of that, or all, unless it failed, and for whoever watches it nothing has happened
 pub record HasLooked {R : Type 0} (remaining : R → Option (List ℕ)) (old new : Watched (Peeked R)) :
     Type 0 where
   pub left : Keeps (left_in remaining (device_of old)) (left_in remaining (device_of new))

@@ -14,7 +14,8 @@ const LOOKED_AT: usize = 4;
 
 /// Holds a reader whose first bytes may be looked at. Reads give them all the same.
 ///
-/// Behind its end, or a failure, the reader isn't asked again: whoever reads meets that in its place.
+/// Behind its end, or a failure, the reader isn't asked again: whoever reads meets that in its
+/// place.
 #[derive(Debug, Drop)]
 pub struct Peeked<R> {
     inner: Watched<R>,

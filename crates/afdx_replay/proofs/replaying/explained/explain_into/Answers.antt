@@ -41,7 +41,8 @@ returns-in-Ok-lines-clause-answer g c =
     (answers-ok frames (thing_of frames listed_frame)
     (ExplainsAll g.D.Write.contents (t, c.args.drops) all.replay all.drops old new)
     (ExplainsItems g.D.Write.contents (t, c.args.drops) all.replay all.drops old new)
-    (ExplainsSome g.D.Write.contents (t, c.args.drops) all.drops old new) (ToldAll t all.replay.counts old new) (g.R.Read.remaining c.args.input.now.inner)
+    (ExplainsSome g.D.Write.contents (t, c.args.drops) all.drops old new) (ToldAll t all.replay.counts old new)
+    (g.R.Read.remaining c.args.input.now.inner)
     (g.R.Read.remaining c.run_list-lines.new.input.inner) c.in-Ok-lines.lines (λ past h. h.0)
     (c.in-Ok-lines.ensures.answer (t, c.args.drops) (c.in-Ok.ensures old, early-start g.D.Write.contents t c.args.drops)))
     (λ past h. h) refl
