@@ -3,7 +3,7 @@
  *     police_baseline BAG_MS LMAX JITTER_US LIST        (LIST "-" is standard input)
  *
  * It does the same job in the same order: read a frame list as a stream, check each line, decode
- * the hexadecimal digits, seal the frame or check its seal (CRC-32), judge the frame, keep one
+ * the hexadecimal digits, check the seal of an R line's frame (CRC-32), judge the frame, keep one
  * account per side, and print one V line per frame. Faults of the list are the same lines on
  * standard error with the same statuses.
  *
@@ -229,15 +229,14 @@ static enum verdict judge(int side, uint64_t time, uint64_t port, int sealed, si
     return passes(&accounts[side], time, length) ? ACCEPT : OVER_RATE;
 }
 
-/* Seals the frame, or checks its seal, and gives its length with it. */
+/* Whether the frame's check sequence is right, and the frame's length with it. That of an F or B
+ * line is known to be right, or wrong, and isn't found: nothing prints it. */
 static int is_sealed(char kind, size_t *length) {
     if (kind == 'R') {
         if (*length < 4) return 0;
         return check_sequence(frame, *length - 4) == four_bytes(frame + *length - 4);
     }
-    uint32_t fcs = check_sequence(frame, *length);
-    if (kind == 'B') fcs = ~fcs;
-    for (int k = 0; k < 4; k++) frame[(*length)++] = (uint8_t)(fcs >> 8 * k);
+    *length += 4;
     return kind == 'F';
 }
 

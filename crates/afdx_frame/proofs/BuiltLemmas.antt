@@ -18,8 +18,8 @@ use Rattle.afdx_frame.proofs.ReadingLemmas.{reading_is_computed}
 use Rattle.afdx_frame.proofs.PartsLemmas.{frame_is_computed}
 
 -- bytes, so that the list is found by what is known of it
-record Bytes (l : List ℕ) : Type 0 where
-  each : AreBytes l
+pub record Bytes (l : List ℕ) : Type 0 where
+  pub each : AreBytes l
 
 none : Bytes []
 none = record { each = λ i. omega arith }
@@ -30,7 +30,7 @@ more b {bs} h k = record { each = each } where
   each zero = h
   each (suc i) = k.each i
 
-AreBytes-append : (xs ys : List ℕ) → AreBytes xs → AreBytes ys → AreBytes (xs ++ ys)
+pub AreBytes-append : (xs ys : List ℕ) → AreBytes xs → AreBytes ys → AreBytes (xs ++ ys)
 AreBytes-append [] ys h k i = k i
 AreBytes-append (x ∷ xs) ys h k zero = h 0
 AreBytes-append (x ∷ xs) ys h k (suc i) = AreBytes-append xs ys (λ j. h (suc j)) k i
@@ -45,7 +45,7 @@ zeros (suc n) = more 0 (omega arith) (zeros n)
 word : (n : ℕ) → Bytes (to_be_bytes w16 n)
 word n = more (n / 256 % 256) (omega arith) (more (n % 256) (omega arith) none)
 
-check : (n : ℕ) → Bytes (to_le_bytes w32 n)
+pub check : (n : ℕ) → Bytes (to_le_bytes w32 n)
 check n = more (n % 256) (omega arith)
     (more (n / 256 % 256) (omega arith)
     (more (n / 65536 % 256) (omega arith) (more (n / 16777216 % 256) (omega arith) none)))

@@ -74,7 +74,7 @@ sequence_lt message = omega arith
 
 -- ---- what is sealed
 
-is_sealed-long : (bytes : List ℕ) → 4 ≤ length bytes
+pub is_sealed-long : (bytes : List ℕ) → 4 ≤ length bytes
     → is_sealed bytes ≡ bytes_eq (drop (length bytes - 4) bytes)
     (to_le_bytes w32 (sequence_of (take (length bytes - 4) bytes)))
 unfolding is_sealed

@@ -7,8 +7,10 @@ use Rattle.afdx_frame.specs.declared.link.VlId.{VlId}
 use Rattle.afdx_frame.specs.declared.fault.MacFault.{MacFault}
 use Rattle.afdx_frame.specs.declared.fault.MacFault.TheVariants.{TooShort, TooLong, BadFcs}
 use Rattle.afdx_frame.specs.declared.fault.MacFault.TheVariants.{BadAddress}
+use Rattle.afdx_frame.specs.declared.checked.Checked.{Checked}
 use Rattle.afdx_frame.specs.declared.mac.MacView.{MacView}
 use Rattle.afdx_frame.specs.Sealing.{AreBytes, is_sealed}
+use Rattle.afdx_frame.specs.Seals.{whole}
 use Rattle.afdx_frame.specs.Layout.{IsFrame, FrameFault, link_named_by}
 
 -- the link, the type, what stands between type and sequence number, and that number
@@ -22,6 +24,10 @@ pub record FrameParts : Type 0 where
 abbrev pub parts_of : MacView → FrameParts
 parts_of view =
     record { link = view.vl; kind = view.ether_type; body = view.body.now; number = view.sequence }
+
+-- all bytes of a frame
+abbrev pub bytes_of : Checked → List ℕ
+bytes_of frame = whole frame.seal frame.message.now
 
 -- the word of 16 bits at a place, the high byte first
 abbrev pub word_at : List ℕ → ℕ → ℕ

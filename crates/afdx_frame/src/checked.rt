@@ -1,32 +1,50 @@
-//! Bytes whose check sequence has been looked at.
+//! Frames whose check sequence is known to be right or not, and isn't held.
 
-ghost use Rattle.std.specs.Prelude.{◌≡◌};
-ghost use Rattle.afdx_frame.specs.Sealing.{AreBytes, is_sealed};
+ghost use Rattle.std.specs.Prelude.{◌≡◌, length};
+ghost use Rattle.afdx_frame.specs.Sealing.{AreBytes};
+ghost use Rattle.afdx_frame.specs.Seals.{IsSealedAs};
 
 use crate::check_sequence::is_sealed;
+use crate::lengths::CHECK_SEQUENCE;
+use crate::seals::Seal;
 
-/// Bytes, and whether their last four are the check sequence of the others (IEEE 802.3 clause 3).
+/// The bytes of a frame, as its message and its seal.
 ///
-/// What filters, polices or receives a frame takes this, so that a frame's check sequence is read
-/// once on its road.
+/// What filters, polices or receives a frame takes this: nobody on its road asks what the check
+/// sequence is, but only whether it is right.
 #[derive(Clone, Copy, Debug)]
 pub struct Checked<'a> {
-    /// All bytes.
-    pub bytes: &'a [u8],
-    /// What `is_sealed` answers of them.
-    pub sealed: bool,
-    pub ghost known: { sealed ≡ is_sealed bytes.now },
-    ghost fits: { AreBytes bytes.now },
+    /// All bytes before those of the seal.
+    pub message: &'a [u8],
+    /// What follows them.
+    pub seal: Seal,
+    pub ghost known: { IsSealedAs seal message.now },
+    pub ghost fits: { AreBytes message.now },
 }
 
 impl<'a> Checked<'a> {
+    ghost use Rattle.afdx_frame.specs.Parts.{bytes_of};
+
     /// Reads the check sequence of these bytes.
     pub fn new(bytes: &'a [u8]) -> Checked<'a>
-        ensures { result.bytes.now ≡ bytes.now }
+        ensures { bytes_of result ≡ bytes.now }
     {
-        Checked {
-            bytes,
-            sealed: is_sealed(bytes),
+        if !is_sealed(bytes) {
+            return Checked {
+                message: bytes,
+                seal: Seal::Missing,
+            };
         }
+        Checked {
+            message: &bytes[..bytes.len() - CHECK_SEQUENCE],
+            seal: Seal::Right,
+        }
+    }
+
+    /// How many bytes they are, with those of the seal.
+    pub fn length(&self) -> u64
+        ensures { result ≡ length (bytes_of self.now) }
+    {
+        (self.message.len() + self.seal.length()) as u64
     }
 }

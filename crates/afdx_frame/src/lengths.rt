@@ -6,6 +6,9 @@ pub const LEAST_FRAME: usize = 64;
 /// The greatest length of a frame, with its check sequence (IEEE 802.3).
 pub const GREATEST_FRAME: usize = 1518;
 
+/// The length of a check sequence (IEEE 802.3).
+pub const CHECK_SEQUENCE: usize = 4;
+
 /// What a frame has beside its payload: the Ethernet, IPv4 and UDP headers (14, 20 and 8), the
 /// sequence number and the check sequence.
 pub const FRAME_OVERHEAD: usize = 47;

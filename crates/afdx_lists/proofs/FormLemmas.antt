@@ -1,6 +1,6 @@
 -- What a line says, whatever list it stands in. The last of its fields isn't searched for a space.
 use Rattle.std.proofs.Common.{◌≡◌, ℕ, List, [], ◌∷◌, Bool, cond, true, false, refl, ap}
-use Rattle.std.proofs.Common.{sym, ◌∙◌, Option, Some, None, Result, Ok, Err, IfErr, IsErrAnd, subst}
+use Rattle.std.proofs.Common.{sym, ◌∙◌, Option, Some, None, Ok, Err}
 use Rattle.std.specs.Option.{option_map}
 use Rattle.std.specs.Str.Lines.{strip_carriage_return}
 use Rattle.afdx_lists.specs.declared.fault.LineFault.{LineFault}
@@ -13,11 +13,6 @@ use Rattle.afdx_lists.specs.Fields.{holds_space, is_skipped, bytes_of_digits}
 use Rattle.afdx_lists.specs.Forms.{Form, from_five, five_of, if_five, said_with, fields_say_with}
 use Rattle.afdx_lists.specs.Forms.{fields_say, said_by}
 use Rattle.afdx_lists.proofs.SpaceLemmas.{one_part, more_parts, none_either, first_of, none_of}
-
--- the error that `?` passes on
-pub passed_on : {T E : Type 0} (r : Result T E) (e : E) (P : E → Type 0) → IsErrAnd r (λ y. y ≡ e) → P e → IfErr r P
-passed_on (Err y) e P h p = subst P (sym h) p
-passed_on (Ok x) e P h p = tt
 
 -- ---- five fields
 

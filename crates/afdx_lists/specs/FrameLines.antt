@@ -2,6 +2,7 @@
 use Rattle.std.specs.Prelude.{ℕ, ◌==◌, nat_lt, ◌||◌, List, [], ◌∷◌, Option, Some, None, Result}
 use Rattle.std.specs.Prelude.{if◌then◌else◌}
 use Rattle.afdx_frame.specs.Sealing.{sealed, sealed_wrongly}
+use Rattle.afdx_frame.specs.Seals.{whole}
 use Rattle.afdx_frame.specs.declared.link.Side.{Side}
 use Rattle.afdx_frame.specs.declared.link.Side.TheVariants.{A, B}
 use Rattle.afdx_frame.specs.Ports.{last_port}
@@ -98,10 +99,14 @@ frame_form = record {
 unfoldable pub line_says : ℕ → List ℕ → Result (Option ListedFrame) LineFault
 line_says latest line = said_by frame_form latest line
 
--- the frame of a heading and its bytes
+-- the frame of a heading and its message
 abbrev pub listed_frame : Heading → List ℕ → ListedFrame
-listed_frame heading bytes =
-    record { time = heading.time; side = heading.side; port = heading.port; bytes = bytes }
+listed_frame heading message = record {
+  time = heading.time;
+  side = heading.side;
+  port = heading.port;
+  bytes = whole heading.seal message;
+}
 
 -- the fields that the program read
 abbrev pub frame_fields_of : Fields → FrameFields

@@ -1,7 +1,8 @@
 //! One line of a frame list.
 
 ghost use Rattle.std.specs.Prelude.{◌≡◌, ◌^◌, ◌≤◌, None, Ok, Err, IfOk, IfSome, IfErr, OnOk, option_map};
-ghost use Rattle.afdx_frame.specs.Sealing.{is_sealed, sealed_wrongly};
+ghost use Rattle.afdx_frame.specs.Parts.{bytes_of};
+ghost use Rattle.afdx_frame.specs.Seals.{whole, IsSealedAs};
 ghost use Rattle.afdx_lists.specs.Faults.{IsErrorOf};
 ghost use Rattle.afdx_frame.specs.Times.{latest_listed};
 ghost use Rattle.afdx_lists.specs.Forms.{from_five, if_five};
@@ -16,8 +17,7 @@ use crate::fields::{
     fault_of_time, first_error, read_bytes, says_nothing, split_number, trim_line,
 };
 use afdx_fields::first_field;
-use afdx_frame::{LAST_PORT, Side, fcs, is_sealed, seal};
-use std::alloc::AllocError;
+use afdx_frame::{Checked, LAST_PORT, Seal, Side, unseal};
 
 /// When and where a frame comes in at a switch.
 #[derive(Clone, Copy, Debug, PartialEq, Eq)]
@@ -28,16 +28,29 @@ pub struct Heading {
     pub side: Side,
     /// The port at which it comes in, 1 to 24.
     pub port: u8,
-    /// Whether its last four bytes are the check sequence of the others.
-    pub is_sealed: bool,
+    /// How it is sealed: what follows its message.
+    pub seal: Seal,
+}
+
+impl Heading {
+    /// The frame of this heading that has this message.
+    pub fn frame<'a>(&self, message: &'a [u8]) -> Checked<'a>
+        requires known { IsSealedAs self.now.seal message.now }
+        ensures { bytes_of result ≡ whole self.now.seal message.entry.now }
+    {
+        Checked {
+            message,
+            seal: self.seal,
+        }
+    }
 }
 
 /// What is done with the bytes of a line.
 #[derive(Clone, Copy, Debug)]
 enum Kind {
-    /// `F`: sealed
+    /// `F`: to be sealed
     Good,
-    /// `B`: sealed with the complement of the check sequence
+    /// `B`: to be sealed with the complement of the check sequence
     Bad,
     /// `R`: taken as they are
     Raw,
@@ -149,34 +162,20 @@ fn fault_of_numbers(time: u64, port: u64, latest: u64) -> Option<LineFault>
     }
 }
 
-/// Appends the complement of the check sequence.
-fn seal_wrongly(frame: &mut Vec<u8>) -> Result<(), AllocError>
-    ensures { OnOk result (frame.new.items ≡ sealed_wrongly frame.old.items) }
-{
-    let sequence = !fcs(frame.as_slice());
-    frame.extend_from_slice(&sequence.to_le_bytes())
-}
-
-/// Makes the frame of a line's bytes. True: it is sealed.
-fn finish_frame(kind: Kind, frame: &mut Vec<u8>) -> Result<bool, AllocError>
-    ensures bytes { OnOk result (frame.new.items ≡ frame_bytes kind frame.old.items) }
-    ensures sealed { IfOk result (λ b. b ≡ is_sealed frame.new.items) }
+/// How the frame of a line's bytes is sealed; its message is left in `frame`.
+fn seal_of(kind: Kind, frame: &mut Vec<u8>) -> Seal
+    ensures bytes { whole result frame.new.items ≡ frame_bytes kind frame.old.items }
+    ensures known { IsSealedAs result frame.new.items }
 {
     match kind {
-        Kind::Good => {
-            seal(frame)?;
-            Ok(true)
-        }
-        Kind::Bad => {
-            seal_wrongly(frame)?;
-            Ok(false)
-        }
-        Kind::Raw => Ok(is_sealed(frame.as_slice())),
+        Kind::Good => Seal::Right,
+        Kind::Bad => Seal::Wrong,
+        Kind::Raw => unseal(frame),
     }
 }
 
-/// What a line says that comes after one of this time: a frame, whose bytes are put in the place of
-/// `frame`, or nothing if it is to be skipped.
+/// What a line says that comes after one of this time: a frame, whose message is put in the place
+/// of `frame`, or nothing if it is to be skipped.
 ///
 /// The line stands without its line feed. An error is the first check of the line that is false, or
 /// want of memory: where `frame` can't grow, and no check is false before that of the digits.
@@ -192,7 +191,7 @@ pub fn read_frame_line(
     ensures some_port { IfOk result (λ heading. IfSome heading (λ h. 1 ≤ h.port)) }
     ensures port { IfOk result (λ heading. IfSome heading (λ h. h.port ≤ last_port)) }
     ensures sealed { IfOk result (λ heading.
-        IfSome heading (λ h. h.is_sealed ≡ is_sealed frame.new.items)) }
+        IfSome heading (λ h. IsSealedAs h.seal frame.new.items)) }
     ensures ok { IfOk result (λ heading. line_says latest line.now
         ≡ Ok (option_map (λ h. listed_frame h frame.new.items) heading)) }
     ensures err { IfErr result (IsErrorOf (line_says latest line.now)) }
@@ -211,11 +210,11 @@ pub fn read_frame_line(
     if let Err(error) = read_bytes(fields.digits, frame) {
         return Err(first_error(fields.digits, error));
     }
-    let is_sealed = finish_frame(fields.kind, frame)?;
+    let seal = seal_of(fields.kind, frame);
     Ok(Some(Heading {
         time: fields.time,
         side: fields.side,
         port: fields.port as u8,
-        is_sealed,
+        seal,
     }))
 }

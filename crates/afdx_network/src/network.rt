@@ -1,6 +1,7 @@
 //! The switches of both sides as one.
 
 ghost use Rattle.std.specs.Prelude.{◌≡◌, ℕ, ◌+◌, ◌≤◌, ◌∷◌, [], List, Option, IfSome, IfNone, IfOk, OnOk, OnErr, MatchOption, None};
+ghost use Rattle.afdx_frame.specs.Parts.{bytes_of};
 ghost use Rattle.afdx_frame.specs.Ports.{last_port};
 ghost use Rattle.afdx_port.specs.Times.{drain_end, latest_put};
 ghost use Rattle.afdx_port.specs.Ports.{order_at};
@@ -93,15 +94,15 @@ impl Network {
         requires clock { IsUntil self.old time }
         requires quiet { IsQuiet self.old time }
         ensures verdict { (t : Rows) (events : List Event) → StandsFor t self.old events →
-            let arrival = arrival_with tag time side port frame.entry.bytes.now in
+            let arrival = arrival_with tag time side port (bytes_of frame.entry) in
             let admission = admission_after t (arrivals_in events) arrival in
             IfOk result (λ verdict. Tells verdict admission) }
         ensures stands { (t : Rows) (events : List Event) → StandsFor t self.old events →
-            let arrival = arrival_with tag time side port frame.entry.bytes.now in
+            let arrival = arrival_with tag time side port (bytes_of frame.entry) in
             let admission = admission_after t (arrivals_in events) arrival in
             OnOk result (StandsFor t self.new (Came admission ∷ events)) }
         ensures judged { (t : Rows) (events : List Event) → StandsFor t self.old events →
-            let arrival = arrival_with tag time side port frame.entry.bytes.now in
+            let arrival = arrival_with tag time side port (bytes_of frame.entry) in
             OnErr result (shape_fault t arrival ≡ None) }
         ensures refused { OnErr result (self.new ≡ self.old) }
         ensures quiet { IsQuiet self.new time }
@@ -119,7 +120,7 @@ impl Network {
     pub fn early(&self, side: Side, time: u64, port: u8, frame: Checked<'_>) -> u64
         requires { IsUntil self.now time }
         ensures { (t : Rows) (events : List Event) (tag : ℕ) → StandsFor t self.now events →
-            let arrival = arrival_with tag time side port frame.entry.bytes.now in
+            let arrival = arrival_with tag time side port (bytes_of frame.entry) in
             shape_fault t arrival ≡ None → IsEarlyBy t (arrivals_in events) arrival result }
     {
         self.switches.get(side).early(time, port, frame)

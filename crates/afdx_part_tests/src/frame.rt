@@ -2,11 +2,12 @@
 
 ghost use Rattle.std.specs.Prelude.{ℕ, ◌≤◌, MatchOption, length};
 ghost use Rattle.afdx_frame.specs.Grammar.{Read};
+ghost use Rattle.afdx_frame.specs.Parts.{bytes_of};
 ghost use Rattle.afdx_frame.specs.Reading.{NoneRead};
 
 use afdx_frame::{
-    Address, Checked, Datagram, IpFault, MacFault, MacView, Side, VlId, build, build_both, fcs,
-    is_sealed, seal, vl_of,
+    Address, Checked, Datagram, IpFault, MacFault, MacView, Seal, Side, VlId, build, build_both,
+    fcs, is_sealed, seal, unseal, vl_of,
 };
 use afdx_samples::{HELLO, all_right, equal, hello, sealed};
 use std::alloc::{AllocError, Global};
@@ -47,10 +48,10 @@ fn answer_to(bytes: &[u8]) -> Answer {
 
 /// The two views together say whether bytes are read, and what.
 fn payload_of(frame: Checked<'_>) -> Option<&[u8]>
-    ensures { MatchOption result (NoneRead frame.entry.bytes.now)
+    ensures { MatchOption result (NoneRead (bytes_of frame.entry))
         (λ payload.
         (vl from_port to_port number : ℕ)
-        × Read frame.entry.bytes.now vl from_port to_port payload.now number) }
+        × Read (bytes_of frame.entry) vl from_port to_port payload.now number) }
 {
     let Ok(view) = MacView::of(frame) else {
         return None;
@@ -144,6 +145,34 @@ fn seals_or_is_refused(rt: HostRuntime) -> Result<(), Fail> {
     let mut bytes = copied(rt.alloc(), b"123456789")?;
     seal_them(&mut bytes, b"123456789")?;
     equal(bytes.as_slice(), b"123456789\x26\x39\xf4\xcb".as_slice())
+}
+
+/// What is left of bytes where their check sequence is taken off, and how they are sealed.
+fn unsealed(alloc: Global, bytes: &[u8]) -> Result<(Vec<u8>, Seal), AllocError> {
+    let mut left = Vec::from_slice(alloc, bytes)?;
+    let seal = unseal(&mut left);
+    Ok((left, seal))
+}
+
+#[test]
+fn leaves_the_message(rt: HostRuntime) -> Result<(), Fail> {
+    let (right, seal) = unsealed(rt.alloc(), b"123456789\x26\x39\xf4\xcb")?;
+    equal(
+        (right.as_slice(), seal),
+        (b"123456789".as_slice(), Seal::Right),
+    )?;
+    let (wrong, seal) = unsealed(rt.alloc(), b"123456789\x26\x39\xf4\xcc")?;
+    equal((wrong.len(), seal), (13, Seal::Missing))
+}
+
+#[test]
+fn tells_lengths_with_the_seal() -> Result<(), Fail> {
+    let lengths = [
+        Checked::new(b"123456789\x26\x39\xf4\xcb").length(),
+        Checked::new(b"123456789\x26\x39\xf4\xcc").length(),
+        Checked::new(b"").length(),
+    ];
+    equal(lengths, [13, 13, 0])
 }
 
 #[test]

@@ -3,7 +3,7 @@
 
 ghost use Rattle.std.specs.Prelude.{◌≡◌, ℕ, ◌≤◌, if◌then◌else◌, List, [], ◌∷◌, length, IfNone, Ok};
 ghost use Rattle.afdx_frame.specs.Lengths.{least_frame};
-ghost use Rattle.afdx_frame.specs.Parts.{frame_of, parts_of};
+ghost use Rattle.afdx_frame.specs.Parts.{bytes_of, frame_of, parts_of};
 ghost use Rattle.afdx_police.specs.Shape.{fault_of};
 ghost use Rattle.afdx_police.specs.declared.shape.Reason.{Reason};
 ghost use Rattle.afdx_frame.specs.declared.link.Side.{Side};
@@ -53,14 +53,16 @@ impl LinkAccount {
 
     /// The first fault of a frame by the rule of the account's link, but for the link's rate.
     /// `port` is the input port at which it came, `view` the view of its bytes.
-    pub fn fault(&self, port: u8, view: &MacView<'_>, bytes: &[u8]) -> Option<Reason>
-        requires viewed { frame_of bytes.now ≡ Ok (parts_of view.now) }
-        ensures reason { result ≡ fault_of (Some (account_of self.now).rule) port bytes.now }
+    pub fn fault(&self, port: u8, view: &MacView<'_>, frame: Checked<'_>) -> Option<Reason>
+        requires viewed { frame_of (bytes_of frame) ≡ Ok (parts_of view.now) }
+        ensures reason { result
+            ≡ fault_of (Some (account_of self.now).rule) port (bytes_of frame.entry) }
 
         // What has no fault may be offered.
-        ensures longest { IfNone result (length bytes.now ≤ (account_of self.now).rule.lmax) }
+        ensures longest { IfNone result
+            (length (bytes_of frame.entry) ≤ (account_of self.now).rule.lmax) }
     {
-        fault_by(self.rule(), port, view.vl(), bytes)
+        fault_by(self.rule(), port, view.vl(), frame)
     }
 
     /// Whether the account covers an arrival of this length, in bytes, at this time, in
@@ -153,31 +155,31 @@ impl LinkAccount {
         // Whatever own arrivals led here, the answer is the one on this arrival after them.
         ensures reason { (rule : Rule) (past : List Arrival) (tag : ℕ) (side : Side) →
             StandsForOwn rule self.old past →
-            let x = arrival_with tag time side port frame.entry.bytes.now in
+            let x = arrival_with tag time side port (bytes_of frame.entry) in
             result ≡ reason_after rule past x }
         ensures stands { (rule : Rule) (past : List Arrival) (tag : ℕ) (side : Side) →
             StandsForOwn rule self.old past →
-            let x = arrival_with tag time side port frame.entry.bytes.now in
+            let x = arrival_with tag time side port (bytes_of frame.entry) in
             StandsForOwn rule self.new (x ∷ past) }
 
         // The same where arrivals of any link and side led here, and this one need not name the
         // link.
         ensures verdict { (rule : Rule) (all : List Arrival) (tag : ℕ) (side : Side) →
             StandsForOwn rule self.old (own rule.vl side all) →
-            let x = arrival_with tag time side port frame.entry.bytes.now in
+            let x = arrival_with tag time side port (bytes_of frame.entry) in
             result ≡ verdict_in rule all x }
         ensures stands_in { (rule : Rule) (all : List Arrival) (tag : ℕ) (side : Side) →
             StandsForOwn rule self.old (own rule.vl side all) →
-            let x = arrival_with tag time side port frame.entry.bytes.now in
+            let x = arrival_with tag time side port (bytes_of frame.entry) in
             StandsForOwn rule self.new (own rule.vl side (x ∷ all)) }
 
         // An arrival with a fault in its shape leaves the account as it was.
         ensures unchanged { (fault : Reason) →
-            fault_of (Some (account_of self.old).rule) port frame.entry.bytes.now ≡ Some fault →
+            fault_of (Some (account_of self.old).rule) port (bytes_of frame.entry) ≡ Some fault →
             self.new ≡ self.old }
     {
         match judge_checked(Some(self.rule()), port, frame) {
-            None => self.offer(time, frame.bytes.len() as u64),
+            None => self.offer(time, frame.length()),
             Some(reason) => Some(reason),
         }
     }

@@ -3,6 +3,7 @@
 ghost use Rattle.std.specs.Prelude.{◌≡◌, ◌≤◌, ◌==◌, IfNone, IfSome, length, option_map, true};
 ghost use Rattle.std.specs.Option.{option_copied};
 ghost use Rattle.afdx_frame.specs.Lengths.{least_frame};
+ghost use Rattle.afdx_frame.specs.Parts.{bytes_of};
 ghost use Rattle.afdx_frame.specs.Sealing.{is_sealed};
 ghost use Rattle.afdx_police.specs.RuleOf.{rule_of};
 ghost use Rattle.afdx_police.specs.Shape.{first_of};
@@ -163,31 +164,31 @@ pub fn judge(rule: Option<&LinkRule>, port: u8, bytes: &[u8]) -> Option<Reason>
 /// isn't read again.
 pub fn judge_checked(rule: Option<&LinkRule>, port: u8, frame: Checked<'_>) -> Option<Reason>
     ensures reason { result ≡
-        fault_of (option_map rule_of (option_copied rule.entry)) port frame.entry.bytes.now }
+        fault_of (option_map rule_of (option_copied rule.entry)) port (bytes_of frame.entry) }
 
     // What has no fault may be offered to a policer.
-    ensures shortest { IfNone result (least_frame ≤ length frame.entry.bytes.now) }
-    ensures sealed { IfNone result (is_sealed frame.entry.bytes.now ≡ true) }
+    ensures shortest { IfNone result (least_frame ≤ length (bytes_of frame.entry)) }
+    ensures sealed { IfNone result (is_sealed (bytes_of frame.entry) ≡ true) }
     ensures longest { IfNone result (IfSome (option_copied rule.entry)
-        (λ r. length frame.entry.bytes.now ≤ r.lmax)) }
+        (λ r. length (bytes_of frame.entry) ≤ r.lmax)) }
 {
     let view = match MacView::of(frame) {
         Ok(view) => view,
         Err(fault) => return Some(fault.into()),
     };
     match rule {
-        Some(rule) => fault_by(rule, port, view.vl(), frame.bytes),
+        Some(rule) => fault_by(rule, port, view.vl(), frame),
         None => Some(Reason::UnknownLink),
     }
 }
 
 /// The first fault of a frame that names this link, by this rule, but for the link's rate.
-pub(crate) fn fault_by(rule: &LinkRule, port: u8, vl: VlId, bytes: &[u8]) -> Option<Reason>
-    ensures reason { result ≡
-        first_of (rule_faults (rule_of rule.now) port (vl.0 == rule.now.vl.0) bytes.now) }
-    ensures longest { IfNone result (length bytes.now ≤ rule.now.lmax) }
+pub(crate) fn fault_by(rule: &LinkRule, port: u8, vl: VlId, frame: Checked<'_>) -> Option<Reason>
+    ensures reason { result ≡ first_of
+        (rule_faults (rule_of rule.now) port (vl.0 == rule.now.vl.0) (bytes_of frame.entry)) }
+    ensures longest { IfNone result (length (bytes_of frame.entry) ≤ rule.now.lmax) }
 {
-    let length = bytes.len() as u64;
+    let length = frame.length();
     if vl.0 != rule.vl.0 {
         return Some(Reason::UnknownLink);
     }

@@ -1,7 +1,7 @@
 //! The receiving side of an end system, as far as its links go.
 
 ghost use Rattle.std.specs.Prelude.{◌≡◌, ℕ, false, List, [], IsTrue, IfOk, option_map};
-ghost use Rattle.afdx_frame.specs.Parts.{parts_of, IsFrameOf};
+ghost use Rattle.afdx_frame.specs.Parts.{bytes_of, parts_of, IsFrameOf};
 ghost use Rattle.afdx_frame.specs.Carried.{carried_by};
 ghost use Rattle.afdx_config.specs.Rows.{Rows};
 ghost use Rattle.afdx_config.specs.Reading.{has_port};
@@ -89,7 +89,7 @@ impl LinkReceiver {
     pub fn receive<'a>(&mut self, time: u64, side: Side, frame: Checked<'a>) -> Reception<'a>
         ensures selected { (tables : Rows) (system : ℕ) (past : List Arrived) →
             HasReceived tables system past self.old →
-            let x = arrived time side frame.entry.bytes.now in
+            let x = arrived time side (bytes_of frame.entry) in
             Selects tables system past x (answer_of result) self.new }
         ensures unchanged { IsTrue (is_ignored (answer_of result)) → self.new ≡ self.old }
     {

@@ -2,6 +2,7 @@
 
 ghost use Rattle.std.specs.Prelude.{◌≡◌, ℕ, List, [], IsTrue, IfOk};
 ghost use Rattle.afdx_config.specs.Rows.{Rows};
+ghost use Rattle.afdx_frame.specs.Parts.{bytes_of};
 ghost use Rattle.afdx_receive.specs.Arrivals.{Arrived, arrived};
 ghost use Rattle.afdx_receive.specs.Answers.{answer_of, is_ignored};
 ghost use Rattle.afdx_receive.specs.StandsFor.{StandsFor, Receives, PortsStandFor};
@@ -99,7 +100,7 @@ impl Receiver {
     ) -> Reception<'a>
         ensures received { (tables : Rows) (system : ℕ) (past : List Arrived) →
             StandsFor tables system self.old past →
-            let x = arrived time side frame.entry.bytes.now in
+            let x = arrived time side (bytes_of frame.entry) in
             Receives tables system past x (answer_of result) self.new }
         ensures unchanged { IsTrue (is_ignored (answer_of result)) → self.new ≡ self.old }
     {

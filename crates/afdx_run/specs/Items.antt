@@ -1,6 +1,6 @@
 -- What the items of a list say, whatever kind of list it is.
-use Rattle.std.specs.Prelude.{ℕ, ◌≡◌, ◌≤◌, ◌<◌, List, length, map}
-use Rattle.afdx_frame.specs.Sealing.{is_sealed}
+use Rattle.std.specs.Prelude.{ℕ, ◌≤◌, ◌<◌, List, length, map}
+use Rattle.afdx_frame.specs.Seals.{IsSealedAs}
 use Rattle.afdx_frame.specs.Times.{latest_listed}
 use Rattle.afdx_police.specs.Arrival.{Arrival}
 use Rattle.afdx_lists.specs.FrameLines.{listed_frame}
@@ -38,11 +38,11 @@ pub record IsInOrder {H Y X : Type 0} (k : Kind Y X) (said : Item H → X) (time
   pub early : time x.head ≤ latest_listed
   pub few : length past < most
 
--- a frame may come after these: in order, and what is said of its check sequence is true
+-- a frame may come after these: in order, and what is said of its seal is true
 pub record CanFollow (past : List (Item Heading)) (x : Item Heading) : Type 0 where
   pub in_order :
       IsInOrder frames (thing_of frames listed_frame) (λ head. head.time) most_frames past x
-  pub sealed : x.head.is_sealed ≡ is_sealed x.bytes
+  pub sealed : IsSealedAs x.head.seal x.bytes
 
 -- a message may come after these
 abbrev pub CanBeHanded : List (Item Handed) → Item Handed → Type 0

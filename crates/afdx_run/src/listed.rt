@@ -11,7 +11,7 @@ ghost use Rattle.afdx_run.specs.Listed as listed;
 
 use crate::engine::Head;
 use crate::read_list::Listed;
-use afdx_frame::Side;
+use afdx_frame::{Seal, Side};
 use afdx_lists::{Handed, Heading, LineError, read_frame_line, read_submission_line};
 
 impl Head for Heading {
@@ -36,7 +36,7 @@ impl Listed for Heading {
             time: 0,
             side: Side::A,
             port: 1,
-            is_sealed: false,
+            seal: Seal::Missing,
         }
     }
 

@@ -31,7 +31,8 @@ fn parts(departure: &Departure) -> (u64, u8, u64, bool, usize) {
     let port: u8 = departure.port();
     let tag: u64 = departure.tag();
     let too_old: bool = departure.too_old();
-    let bytes: &[u8] = departure.bytes();
+    let held = departure.bytes();
+    let bytes: &[u8] = held.as_slice();
     (time, port, tag, too_old, bytes.len())
 }
 

@@ -1,9 +1,11 @@
 //! The shares of a frame's one copy.
 
-ghost use Rattle.std.specs.Prelude.{◌≡◌, ◌≤◌, length, IfOk, OnOk, IfSome};
+ghost use Rattle.std.specs.Prelude.{◌≡◌, ◌≤◌, ◌+◌, length, IfOk, OnOk, IfSome};
 ghost use Rattle.afdx_frame.specs.Lengths.{least_frame, greatest_frame};
+ghost use Rattle.afdx_frame.specs.Sealing.{sealed};
 ghost use Rattle.afdx_port.specs.Times.{greatest_wait};
 
+use afdx_frame::CHECK_SEQUENCE;
 use afdx_port::HasLength;
 use std::alloc::{AllocError, Global};
 use std::marker::Model;
@@ -15,7 +17,8 @@ pub(crate) struct Stored {
     tag: u64,
     /// How long the frame may wait for its turn, in ns, if there is a limit.
     longest_wait: Option<u64>,
-    bytes: Vec<u8>,
+    /// All bytes but the check sequence, which is theirs.
+    message: Vec<u8>,
 }
 
 impl Stored {
@@ -25,15 +28,16 @@ impl Stored {
         alloc: Global,
         tag: u64,
         longest_wait: Option<u64>,
-        bytes: &[u8],
+        message: &[u8],
     ) -> Result<Stored, AllocError>
-        ensures { IfOk result (λ s. stored_frame s ≡ held_frame tag longest_wait bytes.now) }
+        ensures { IfOk result
+            (λ s. stored_frame s ≡ held_frame tag longest_wait (sealed message.now)) }
     {
-        let bytes = Vec::from_slice(alloc, bytes)?;
+        let message = Vec::from_slice(alloc, message)?;
         Ok(Stored {
             tag,
             longest_wait,
-            bytes,
+            message,
         })
     }
 
@@ -42,12 +46,13 @@ impl Stored {
         &mut self,
         tag: u64,
         longest_wait: Option<u64>,
-        bytes: &[u8],
+        message: &[u8],
     ) -> Result<(), AllocError>
-        ensures { OnOk result (stored_frame self.new ≡ held_frame tag longest_wait bytes.now) }
+        ensures { OnOk result
+            (stored_frame self.new ≡ held_frame tag longest_wait (sealed message.now)) }
     {
-        self.bytes.clear();
-        self.bytes.extend_from_slice(bytes)?;
+        self.message.clear();
+        self.message.extend_from_slice(message)?;
         self.tag = tag;
         self.longest_wait = longest_wait;
         Ok(())
@@ -61,9 +66,9 @@ pub struct Frame {
 }
 
 impl Model for Frame {
-    ghost use Rattle.std.specs.Prelude.{◌≡◌, ◌≤◌, true, length, IfSome};
+    ghost use Rattle.std.specs.Prelude.{◌≤◌, ◌+◌, length, IfSome};
     ghost use Rattle.afdx_frame.specs.Lengths.{least_frame, greatest_frame};
-    ghost use Rattle.afdx_frame.specs.Sealing.{is_sealed};
+    ghost use Rattle.afdx_frame.specs.Sealing.{sealed};
     ghost use Rattle.afdx_port.specs.Times.{greatest_wait};
     ghost use Rattle.afdx_switch.specs.HeldFrames.{HeldFrame};
 
@@ -72,18 +77,15 @@ impl Model for Frame {
     ghost view = { λ f. record {
       tag = f.stored.value.tag;
       longest_wait = f.stored.value.longest_wait;
-      bytes = f.stored.value.bytes.items;
+      bytes = sealed f.stored.value.message.items;
     } };
 
-    ghost invariant = { λ f. (least_frame ≤ length f.stored.value.bytes.items)
-        × (length f.stored.value.bytes.items ≤ greatest_frame)
-        × IfSome f.stored.value.longest_wait (λ wait. wait ≤ greatest_wait)
-        × (is_sealed f.stored.value.bytes.items ≡ true) };
+    ghost invariant = { λ f. (least_frame ≤ length f.stored.value.message.items + 4)
+        × (length f.stored.value.message.items + 4 ≤ greatest_frame)
+        × IfSome f.stored.value.longest_wait (λ wait. wait ≤ greatest_wait) };
 }
 
 impl Frame {
-    ghost use Rattle.std.specs.Prelude.{true};
-    ghost use Rattle.afdx_frame.specs.Sealing.{is_sealed};
     ghost use Rattle.afdx_switch.specs.HeldFrames.{HeldFrame, stored_frame};
 
     /// A share of a frame's one copy.
@@ -92,7 +94,6 @@ impl Frame {
         requires longest { length (stored_frame stored.now.value).bytes ≤ greatest_frame }
         requires wait { IfSome (stored_frame stored.now.value).longest_wait
             (λ wait. wait ≤ greatest_wait) }
-        requires sealed { is_sealed (stored_frame stored.now.value).bytes ≡ true }
         ensures { IfOk result (λ f. f ≡ stored_frame stored.now.value) }
     {
         Ok(Frame {
@@ -115,11 +116,12 @@ impl Frame {
         self.stored.as_ref().tag
     }
 
-    pub(crate) fn bytes(&self) -> &[u8]
-        ensures bytes { result.now ≡ self.now.bytes }
-        ensures sealed { is_sealed result.now ≡ true }
+    /// All bytes but the check sequence.
+    pub(crate) fn message(&self) -> &[u8]
+        ensures message { sealed result.now ≡ self.now.bytes }
+        ensures longest { length result.now + 4 ≤ greatest_frame }
     {
-        self.stored.as_ref().bytes.as_slice()
+        self.stored.as_ref().message.as_slice()
     }
 }
 
@@ -130,7 +132,7 @@ impl HasLength for Frame {
     ghost facts = { facts };
 
     fn length(&self) -> u64 {
-        self.stored.as_ref().bytes.len() as u64
+        (self.stored.as_ref().message.len() + CHECK_SEQUENCE) as u64
     }
 
     fn longest_wait(&self) -> Option<u64> {

@@ -1,8 +1,8 @@
 //! The copies of frames, whose memory is used again.
 
-ghost use Rattle.std.specs.Prelude.{◌≡◌, ◌≤◌, true, length, IfOk, IfSome, OnOk, IsTrue};
+ghost use Rattle.std.specs.Prelude.{◌≡◌, ◌≤◌, length, IfOk, IfSome, OnOk, IsTrue};
 ghost use Rattle.afdx_frame.specs.Lengths.{least_frame, greatest_frame};
-ghost use Rattle.afdx_frame.specs.Sealing.{is_sealed};
+ghost use Rattle.afdx_frame.specs.Sealing.{sealed};
 ghost use Rattle.afdx_port.specs.Times.{greatest_wait};
 ghost use Rattle.afdx_switch.specs.HeldFrames.{held_frame, stored_frame};
 
@@ -28,14 +28,14 @@ fn renew(
     kept: &mut Rc<Stored>,
     tag: u64,
     longest_wait: Option<u64>,
-    bytes: &[u8],
+    message: &[u8],
 ) -> Result<bool, AllocError>
     ensures { IfOk result (λ is_new. IsTrue is_new →
-        stored_frame kept.new.value ≡ held_frame tag longest_wait bytes.now) }
+        stored_frame kept.new.value ≡ held_frame tag longest_wait (sealed message.now)) }
 {
     match Rc::get_mut(kept) {
         Some(stored) => {
-            stored.renew(tag, longest_wait, bytes)?;
+            stored.renew(tag, longest_wait, message)?;
             Ok(true)
         }
         None => Ok(false),
@@ -48,12 +48,13 @@ fn replace(
     kept: &mut Rc<Stored>,
     tag: u64,
     longest_wait: Option<u64>,
-    bytes: &[u8],
+    message: &[u8],
 ) -> Result<(), AllocError>
-    ensures { OnOk result (stored_frame kept.new.value ≡ held_frame tag longest_wait bytes.now) }
+    ensures { OnOk result
+        (stored_frame kept.new.value ≡ held_frame tag longest_wait (sealed message.now)) }
 {
-    if !renew(kept, tag, longest_wait, bytes)? {
-        *kept = Rc::new(alloc, Stored::new(alloc, tag, longest_wait, bytes)?)?;
+    if !renew(kept, tag, longest_wait, message)? {
+        *kept = Rc::new(alloc, Stored::new(alloc, tag, longest_wait, message)?)?;
     }
     Ok(())
 }
@@ -67,27 +68,26 @@ impl Store {
         })
     }
 
-    /// The one copy of a frame.
+    /// The one copy of a frame that is sealed right.
     pub(crate) fn copy(
         &mut self,
         tag: u64,
         longest_wait: Option<u64>,
-        bytes: &[u8],
+        message: &[u8],
     ) -> Result<Frame, AllocError>
-        requires shortest { least_frame ≤ length bytes.now }
-        requires longest { length bytes.now ≤ greatest_frame }
+        requires shortest { least_frame ≤ length (sealed message.now) }
+        requires longest { length (sealed message.now) ≤ greatest_frame }
         requires wait { IfSome longest_wait (λ wait. wait ≤ greatest_wait) }
-        requires sealed { is_sealed bytes.now ≡ true }
-        ensures { IfOk result (λ f. f ≡ held_frame tag longest_wait bytes.now) }
+        ensures { IfOk result (λ f. f ≡ held_frame tag longest_wait (sealed message.now)) }
     {
         let place = self.next % KEPT;
         self.next = place + 1;
         if place < self.kept.len() {
             let kept = &mut self.kept[place];
-            replace(self.alloc, kept, tag, longest_wait, bytes)?;
+            replace(self.alloc, kept, tag, longest_wait, message)?;
             return Frame::of(kept);
         }
-        let stored = Stored::new(self.alloc, tag, longest_wait, bytes)?;
+        let stored = Stored::new(self.alloc, tag, longest_wait, message)?;
         let kept = Rc::new(self.alloc, stored)?;
         let frame = Frame::of(&kept)?;
         self.kept.push(kept)?;

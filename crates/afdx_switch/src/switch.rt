@@ -1,6 +1,7 @@
 //! One switch, as its callers see it.
 
-ghost use Rattle.std.specs.Prelude.{◌≡◌, ℕ, ◌≤◌, IfOk, OnOk, None, true};
+ghost use Rattle.std.specs.Prelude.{◌≡◌, ℕ, ◌+◌, ◌≤◌, ◌++◌, length, IfOk, OnOk, None, true};
+ghost use Rattle.afdx_frame.specs.Lengths.{greatest_frame};
 ghost use Rattle.afdx_port.specs.Times.{latest_put};
 
 use crate::build::build;
@@ -9,10 +10,21 @@ use crate::store::Store;
 use crate::switch_state::SwitchState;
 use crate::verdict::Verdict;
 use afdx_config::Tables;
-use afdx_frame::Checked;
+use afdx_frame::{Checked, GREATEST_FRAME, Seal, fcs};
 use afdx_port::{Due, Left};
+use arrayvec::ArrayVec;
 use std::alloc::{AllocError, Global};
 use std::marker::Model;
+
+/// Puts more bytes of a frame behind those that are there.
+fn append(bytes: &mut ArrayVec<u8, GREATEST_FRAME>, more: &[u8])
+    requires { length bytes.old.items + length more.now ≤ greatest_frame }
+    ensures { bytes.new.items ≡ bytes.old.items ++ more.now }
+{
+    let Ok(()) = bytes.try_extend_from_slice(more) else {
+        unreachable!()
+    };
+}
 
 /// A frame whose turn at an output port is over.
 #[derive(Drop)]
@@ -22,6 +34,7 @@ pub struct Departure {
 }
 
 impl Departure {
+    ghost use Rattle.afdx_frame.specs.Parts.{bytes_of};
     ghost use Rattle.afdx_frame.specs.Sealing.{is_sealed};
     ghost use Rattle.afdx_switch.specs.Departures.{as_given, giving_port};
 
@@ -46,23 +59,26 @@ impl Departure {
         self.left.item.tag()
     }
 
-    /// All bytes of the frame, the check sequence with them.
-    pub fn bytes(&self) -> &[u8]
-        ensures bytes { result.now ≡ (as_given self.now).item.bytes }
-        ensures sealed { is_sealed result.now ≡ true }
+    /// All bytes of the frame, the check sequence with them, which is found here.
+    pub fn bytes(&self) -> ArrayVec<u8, GREATEST_FRAME>
+        ensures bytes { result.items ≡ (as_given self.now).item.bytes }
+        ensures sealed { is_sealed result.items ≡ true }
     {
-        self.left.item.bytes()
+        let message = self.left.item.message();
+        let mut bytes = ArrayVec::new();
+        append(&mut bytes, message);
+        append(&mut bytes, &fcs(message).to_le_bytes());
+        bytes
     }
 
-    /// The same as a frame whose check sequence is right. It was read when the frame arrived, and
-    /// isn't read again.
+    /// The same by its message and its seal, which is right. No check sequence is found.
     pub fn frame(&self) -> Checked<'_>
-        ensures { result.bytes.now ≡ (as_given self.now).item.bytes }
+        ensures { bytes_of result ≡ (as_given self.now).item.bytes }
     {
-        let bytes = self.bytes();
+        let message = self.left.item.message();
         Checked {
-            bytes,
-            sealed: true,
+            message,
+            seal: Seal::Right,
         }
     }
 
@@ -107,6 +123,7 @@ impl Model for Switch {
 
 impl Switch {
     ghost use Rattle.afdx_config.specs.Lawful.{IsLawful};
+    ghost use Rattle.afdx_frame.specs.Parts.{bytes_of};
     ghost use Rattle.afdx_config.specs.Rows.{Rows};
     ghost use Rattle.afdx_frame.specs.declared.link.Side.{Side};
     ghost use Rattle.afdx_switch.specs.Calls.{Arrives, TellsDue, TellsOrder, Takes};
@@ -165,7 +182,7 @@ impl Switch {
         requires limit { time ≤ latest_put }
         requires clock { last_time self.old ≤ time }
         requires quiet { IsQuiet self.old time }
-        ensures { Arrives self.old self.new tag time port frame.entry.bytes.now result }
+        ensures { Arrives self.old self.new tag time port (bytes_of frame.entry) result }
     {
         let (store, shares) = (&mut self.store, &mut self.shares);
         let arrived = self.state.arrive(time, port, tag, frame, store, shares);
@@ -180,7 +197,7 @@ impl Switch {
         requires clock { last_time self.now ≤ time }
         ensures { (t : Rows) (side : Side) (h : SwitchHistory) (tag : ℕ) →
             StandsFor t side self.now h →
-            let arrival = arrival_with tag time side port frame.entry.bytes.now in
+            let arrival = arrival_with tag time side port (bytes_of frame.entry) in
             shape_fault t arrival ≡ None → IsEarlyBy t h.arrivals arrival result }
     {
         self.state.early(time, port, frame)

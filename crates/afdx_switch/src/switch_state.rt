@@ -144,7 +144,8 @@ fn renew(serving: &mut Serving, ports: &[Port<Frame>], places: &[u8])
 impl SwitchState {
     ghost use Rattle.afdx_config.specs.Rows.{Rows};
     ghost use Rattle.afdx_frame.specs.declared.link.Side.{Side};
-    ghost use Rattle.afdx_frame.specs.Sealing.{is_sealed};
+    ghost use Rattle.afdx_frame.specs.Parts.{bytes_of};
+    ghost use Rattle.afdx_frame.specs.Sealing.{sealed};
     ghost use Rattle.afdx_police.specs.Arrival.{arrival_with};
     ghost use Rattle.afdx_switch.specs.Calls.{Arrives, TellsDue, TellsOrder, Takes};
     ghost use Rattle.afdx_switch.specs.Early.{IsEarlyBy};
@@ -176,19 +177,19 @@ impl SwitchState {
         requires { IsSwitchSound self.now }
         ensures found { (t : Rows) (side : Side) (h : SwitchHistory) (tag time : ℕ) →
             StandsFor t side self.now h →
-            let arrival = arrival_with tag time side port frame.entry.bytes.now in
+            let arrival = arrival_with tag time side port (bytes_of frame.entry) in
             IfOk result (Found t arrival self.now h) }
         ensures faulted { (t : Rows) (side : Side) (h : SwitchHistory) (tag time : ℕ) →
             StandsFor t side self.now h →
-            let arrival = arrival_with tag time side port frame.entry.bytes.now in
+            let arrival = arrival_with tag time side port (bytes_of frame.entry) in
             IfErr result (IsFaulted t arrival) }
         ensures within { IfOk result (λ place. place < vec_len self.now.lines) }
         ensures at_most { IfOk result (λ place. (line : Line) →
             slice_get self.now.lines.items place ≡ Some line →
-            length frame.entry.bytes.now ≤ (accounts.account_of line.account).rule.lmax) }
-        ensures shortest { OnOk result (least_frame ≤ length frame.entry.bytes.now) }
-        ensures longest { OnOk result (length frame.entry.bytes.now ≤ greatest_frame) }
-        ensures sealed { OnOk result (is_sealed frame.entry.bytes.now ≡ true) }
+            length (bytes_of frame.entry) ≤ (accounts.account_of line.account).rule.lmax) }
+        ensures shortest { OnOk result (least_frame ≤ length (bytes_of frame.entry)) }
+        ensures longest { OnOk result (length (bytes_of frame.entry) ≤ greatest_frame) }
+        ensures sealed { OnOk result (bytes_of frame.entry ≡ sealed frame.entry.message.now) }
     {
         let view = match MacView::of(frame) {
             Ok(view) => view,
@@ -197,7 +198,7 @@ impl SwitchState {
         let Some(place) = self.place_of(view.vl()) else {
             return Err(Reason::UnknownLink);
         };
-        match self.lines[place].account.fault(port, &view, frame.bytes) {
+        match self.lines[place].account.fault(port, &view, frame) {
             Some(reason) => Err(reason),
             None => Ok(place),
         }
@@ -249,7 +250,7 @@ impl SwitchState {
         requires sound { IsSwitchSound self.old }
         requires clock { last_time self.old ≤ time }
         requires quiet { IsQuiet self.old time }
-        ensures arrives { Arrives self.old self.new tag time port frame.entry.bytes.now result }
+        ensures arrives { Arrives self.old self.new tag time port (bytes_of frame.entry) result }
         ensures sound { IsSwitchSound self.new }
     {
         let place = match self.judged(port, frame) {
@@ -261,10 +262,10 @@ impl SwitchState {
         };
         let line = &self.lines[place];
         let count = line.goes.len();
-        let copy = store.copy(tag, line.longest_wait, frame.bytes)?;
+        let copy = store.copy(tag, line.longest_wait, frame.message)?;
         share_out(&copy, count, shares)?;
         self.clock = time;
-        if let Some(reason) = charge(&mut self.lines, place, time, frame.bytes.len() as u64) {
+        if let Some(reason) = charge(&mut self.lines, place, time, frame.length()) {
             return Ok(Verdict::Dropped(reason));
         }
         let lost = self.send_on(place, shares);
@@ -277,13 +278,13 @@ impl SwitchState {
         requires clock { last_time self.now ≤ time }
         ensures { (t : Rows) (side : Side) (h : SwitchHistory) (tag : ℕ) →
             StandsFor t side self.now h →
-            let arrival = arrival_with tag time side port frame.entry.bytes.now in
+            let arrival = arrival_with tag time side port (bytes_of frame.entry) in
             shape_fault t arrival ≡ None → IsEarlyBy t h.arrivals arrival result }
     {
         match self.judged(port, frame) {
             Ok(place) => {
                 let line = &self.lines[place];
-                line.account.early(time, frame.bytes.len() as u64)
+                line.account.early(time, frame.length())
             }
             Err(_) => 0,
         }

@@ -1,12 +1,12 @@
 -- The line of what a system answers, and whether that is a message.
-use Rattle.std.proofs.Common.{◌≡◌, ℕ, true, false, List, [], Option, Some, None, ap, refl, sym}
+use Rattle.std.proofs.Common.{◌≡◌, ℕ, false, List, [], Option, Some, None, ap, refl, sym}
 use Rattle.std.specs.Option.{option_map_or}
 use Rattle.afdx_config.specs.Rows.{Rows}
 use Rattle.afdx_config.specs.Reading.{system_at_port}
 use Rattle.afdx_receive.specs.Answers.{Answer}
 use Rattle.afdx_systems.specs.Handovers.{HandedOver, came_to}
 use Rattle.afdx_systems.specs.Receptions.{answer_line, is_message, name_of}
-use Rattle.afdx_systems.specs.Receptions.{answer_at, answered_at, answered, line_at, is_delivered_at}
+use Rattle.afdx_systems.specs.Receptions.{answered_at, answered, line_at, is_delivered_at}
 use Rattle.afdx_systems.specs.Receptions.{name_at, reception_line, is_delivered}
 
 same_answer : {x y : Answer} → Some x ≡ Some y → x ≡ y

@@ -1,6 +1,7 @@
 -- The frames that the switches hand over to the systems. A list of them has the newest first.
 use Rattle.std.specs.Prelude.{ℕ, ◌==◌, List, [], ◌∷◌, if◌then◌else◌}
 use Rattle.afdx_frame.specs.declared.link.Side.{Side}
+use Rattle.afdx_frame.specs.Parts.{bytes_of}
 use Rattle.afdx_receive.specs.Integrity.{Incoming}
 use Rattle.afdx_receive.specs.Arrivals.{Arrived, arrived, frames_of}
 use Rattle.afdx_systems.specs.declared.handover.Handover.{Handover}
@@ -17,7 +18,7 @@ pub record HandedOver : Type 0 where
 -- what the code's struct tells
 abbrev pub handed_over : Handover → HandedOver
 handed_over h =
-    record { side = h.side; port = h.port; time = h.time; line = h.line; bytes = h.frame.bytes.now }
+    record { side = h.side; port = h.port; time = h.time; line = h.line; bytes = bytes_of h.frame }
 
 -- it arrives at the port's system as it leaves
 abbrev pub arrival_of : HandedOver → Arrived

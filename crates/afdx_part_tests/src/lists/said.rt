@@ -1,12 +1,12 @@
 //! What a line says, and its faults.
 
-use afdx_frame::Side;
+use afdx_frame::{Seal, Side};
 use afdx_lists::{Handed, Heading, LineError, LineFault, read_frame_line, read_submission_line};
 use afdx_samples::{all_right, equal};
 use std::alloc::Global;
 use std::test::Fail;
 
-/// What a line says after a frame at time 5, and the bytes of its frame.
+/// What a line says after a frame at time 5, and the message of its frame.
 fn said(alloc: Global, line: &str) -> (Result<Option<Heading>, LineError>, Vec<u8>) {
     let mut frame = Vec::new(alloc);
     let heading = read_frame_line(line.as_bytes(), 5, &mut frame);
@@ -86,29 +86,29 @@ fn lines_with_another_fault(rt: HostRuntime) -> Result<(), Fail> {
     equal(others, [None, None, None, None])
 }
 
-/// A line that says a frame at port 24: the line, what it says, and the bytes of the frame.
+/// A line that says a frame at port 24: the line, what it says, and the frame's message.
 type Said<'a> = (&'a str, Heading, &'a [u8]);
 
 /// What a line with a frame at port 24 says.
-fn heading(time: u64, side: Side, is_sealed: bool) -> Heading {
+fn heading(time: u64, side: Side, seal: Seal) -> Heading {
     Heading {
         time,
         side,
         port: 24,
-        is_sealed,
+        seal,
     }
 }
 
-/// Whether a line says a frame with this heading and these bytes.
-fn says_frame(alloc: Global, line: &str, heading: Heading, bytes: &[u8]) -> bool {
+/// Whether a line says a frame with this heading and message.
+fn says_frame(alloc: Global, line: &str, heading: Heading, message: &[u8]) -> bool {
     let (found, frame) = said(alloc, line);
-    (found, frame.as_slice()) == (Ok(Some(heading)), bytes)
+    (found, frame.as_slice()) == (Ok(Some(heading)), message)
 }
 
 /// The first of the lines that doesn't say its frame.
 fn says_another<'a>(alloc: Global, lines: &[Said<'a>]) -> Option<&'a str> {
-    for (line, heading, bytes) in lines {
-        if !says_frame(alloc, line, *heading, bytes) {
+    for (line, heading, message) in lines {
+        if !says_frame(alloc, line, *heading, message) {
             return Some(line);
         }
     }
@@ -117,18 +117,17 @@ fn says_another<'a>(alloc: Global, lines: &[Said<'a>]) -> Option<&'a str> {
 
 #[test]
 fn sealed_lines_that_say_a_frame(rt: HostRuntime) -> Result<(), Fail> {
-    let good = b"123456789\x26\x39\xf4\xcb".as_slice();
-    let bad = b"123456789\xd9\xc6\x0b\x34".as_slice();
+    let message = b"123456789".as_slice();
     let lines = [
         (
             "F 6 A 24 313233343536373839",
-            heading(6, Side::A, true),
-            good,
+            heading(6, Side::A, Seal::Right),
+            message,
         ),
         (
             "B 6 B 24 313233343536373839",
-            heading(6, Side::B, false),
-            bad,
+            heading(6, Side::B, Seal::Wrong),
+            message,
         ),
     ];
     all_right(says_another(rt.alloc(), &lines))
@@ -139,18 +138,18 @@ fn raw_lines_that_say_a_frame(rt: HostRuntime) -> Result<(), Fail> {
     let lines = [
         (
             "R 6 B 24 3132333435363738392639f4cb\r",
-            heading(6, Side::B, true),
-            b"123456789\x26\x39\xf4\xcb".as_slice(),
+            heading(6, Side::B, Seal::Right),
+            b"123456789".as_slice(),
         ),
         (
             "R 6 B 24 3132333435363738392639F4Cc",
-            heading(6, Side::B, false),
+            heading(6, Side::B, Seal::Missing),
             b"123456789\x26\x39\xf4\xcc",
         ),
-        ("R 5 A 24 -", heading(5, Side::A, false), b""),
+        ("R 5 A 24 -", heading(5, Side::A, Seal::Missing), b""),
         (
             "R 0001000000000000000 A 000000000000000000000024 aBcD",
-            heading(1_000_000_000_000_000, Side::A, false),
+            heading(1_000_000_000_000_000, Side::A, Seal::Missing),
             b"\xab\xcd",
         ),
     ];

@@ -1,6 +1,7 @@
 //! A run that polices the frames of one link.
 
 ghost use Rattle.std.specs.Prelude.{◌≡◌, ◌<◌, ◌≤◌, ◌+◌, ◌-◌, ◌^◌, if◌then◌else◌, ◌∷◌, [], ℕ, List, Option, IfSome, OnOk, true, false};
+ghost use Rattle.afdx_frame.specs.Seals.{IsSealedAs};
 ghost use Rattle.afdx_lists.specs.Lines.{most_reads};
 ghost use Rattle.afdx_police.specs.Arrival.{Arrival};
 ghost use Rattle.afdx_police.specs.Rule.{Rule};
@@ -14,7 +15,7 @@ ghost use Rattle.afdx_replay.specs.policing.Accounts.{AreUntil, HaveSeen};
 ghost use Rattle.afdx_replay.specs.policing.Policed.{Answers};
 
 use crate::summary::{NO_COUNTS, Summary};
-use afdx_frame::{BySide, Checked};
+use afdx_frame::BySide;
 use afdx_lists::{Heading, RunFault, Watched};
 use afdx_police::{LinkAccount, LinkRule, Reason};
 use afdx_run::{Machine, run_list};
@@ -34,25 +35,22 @@ fn new_accounts(rule: &LinkRule) -> BySide<LinkAccount>
 }
 
 /// Why an arrival is dropped, if it is.
-fn verdict(
-    accounts: &mut BySide<LinkAccount>,
-    heading: &Heading,
-    arrived: Checked<'_>,
-) -> Option<Reason>
+fn verdict(accounts: &mut BySide<LinkAccount>, heading: &Heading, message: &[u8]) -> Option<Reason>
     requires until { AreUntil accounts.old heading.now.time }
+    requires known { IsSealedAs heading.now.seal message.now }
     ensures until { AreUntil accounts.new heading.now.time }
     ensures answer { (rule : Rule) (past : List Arrival) (tag : ℕ) →
         HaveSeen accounts.old rule past →
         result ≡ verdict_in rule past
-        (arrival_at tag (listed_frame heading.now arrived.entry.bytes.now)) }
+        (arrival_at tag (listed_frame heading.now message.now)) }
     ensures seen { (rule : Rule) (past : List Arrival) (tag : ℕ) →
         HaveSeen accounts.old rule past →
         HaveSeen accounts.new rule
-        (arrival_at tag (listed_frame heading.now arrived.entry.bytes.now) ∷ past) }
+        (arrival_at tag (listed_frame heading.now message.now) ∷ past) }
 {
     accounts
         .get_mut(heading.side)
-        .police(heading.time, heading.port, arrived)
+        .police(heading.time, heading.port, heading.frame(message))
 }
 
 /// One more than `count`, where the test is true.
@@ -117,14 +115,10 @@ impl Machine<Heading> for Police {
         &mut self,
         n: u64,
         heading: &Heading,
-        bytes: &[u8],
+        message: &[u8],
         output: &mut O,
     ) -> Result<(), RunFault> {
-        let arrived = Checked {
-            bytes,
-            sealed: heading.is_sealed,
-        };
-        let reason = verdict(&mut self.accounts, heading, arrived);
+        let reason = verdict(&mut self.accounts, heading, message);
         let is_accepted = reason.is_none();
         self.accepted = count_if(self.accepted, is_accepted);
         self.dropped = count_if(self.dropped, !is_accepted);

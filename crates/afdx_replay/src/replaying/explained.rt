@@ -13,7 +13,6 @@ ghost use Rattle.afdx_text.specs.Telling.{Tells};
 use crate::replaying::run::Replay;
 use crate::summary::Summary;
 use afdx_config::Tables;
-use afdx_frame::Checked;
 use afdx_lists::{Heading, RunFault, Watched};
 use afdx_police::Reason;
 use afdx_run::{Machine, run_list};
@@ -67,17 +66,14 @@ impl<D: Write> Machine<Heading> for Explaining<D> {
         &mut self,
         n: u64,
         heading: &Heading,
-        bytes: &[u8],
+        message: &[u8],
         output: &mut O,
     ) -> Result<(), RunFault> {
-        let arrived = Checked {
-            bytes,
-            sealed: heading.is_sealed,
-        };
-        let reason = self.replay.tell_arrival(n, heading, arrived, output)?;
+        let reason = self.replay.tell_arrival(n, heading, message, output)?;
         if is_over_rate(reason) {
             let (side, time, port) = (heading.side, heading.time, heading.port);
-            let wait = self.replay.network.early(side, time, port, arrived);
+            let frame = heading.frame(message);
+            let wait = self.replay.network.early(side, time, port, frame);
             tell_early(&mut self.drops, n, wait);
         }
         Ok(())

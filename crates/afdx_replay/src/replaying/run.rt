@@ -3,6 +3,7 @@
 ghost use Rattle.std.specs.Prelude.{◌≡◌, ℕ, ◌+◌, ◌*◌, ◌-◌, ◌^◌, ◌≤◌, ◌<◌, ◌⊎◌, ◌++◌, ◌∷◌, [], List, Option, length, OnOk, OnErr, IfOk, IfErr, IfSome, true, false};
 ghost use Rattle.afdx_port.specs.Times.{drain_end};
 ghost use Rattle.afdx_frame.specs.Ports.{last_port};
+ghost use Rattle.afdx_frame.specs.Seals.{IsSealedAs};
 ghost use Rattle.afdx_frame.specs.Times.{latest_listed};
 ghost use Rattle.afdx_lists.specs.Lines.{most_reads};
 ghost use Rattle.afdx_run.specs.Items.{most_frames};
@@ -26,7 +27,6 @@ ghost use Rattle.afdx_replay.specs.replaying.Text.{replay_counts, frames_left, l
 use crate::replaying::lines::{hear, put_admission, put_departure, reason_of};
 use crate::summary::{NO_COUNTS, Summary};
 use afdx_config::Tables;
-use afdx_frame::Checked;
 use afdx_lists::{Heading, RunFault, Watched};
 use afdx_network::{Departed, Network};
 use afdx_police::Reason;
@@ -176,10 +176,11 @@ impl Replay {
         &mut self,
         n: u64,
         heading: &Heading,
-        arrived: Checked<'_>,
+        message: &[u8],
         output: &mut O,
     ) -> Result<Option<Reason>, RunFault>
         requires limit { heading.now.time ≤ latest_listed }
+        requires known { IsSealedAs heading.now.seal message.now }
         requires clock { network.IsUntil self.old.network heading.now.time }
         requires room { (m : ℕ) × (m < most_frames) × HasRoomFor self.old m }
         requires sound { O.failed output.old ≡ false }
@@ -190,22 +191,22 @@ impl Replay {
         ensures told { (t : Rows) (start : Option (List ℕ)) (past : List Arrival) →
             TellsArrivals t self.old start (O.written output.old) past →
             OnOk result (TellsArrivals t self.new start (O.written output.new)
-            (arrival_at n (listed_frame heading.now arrived.entry.bytes.now) ∷ past)) }
+            (arrival_at n (listed_frame heading.now message.now) ∷ past)) }
         ensures some { (t : Rows) (start : Option (List ℕ)) (past : List Arrival) →
             TellsArrivals t self.old start (O.written output.old) past →
             OnErr result (WritesSome t start (O.written output.new) past
             ⊎ WritesSome t start (O.written output.new)
-            (arrival_at n (listed_frame heading.now arrived.entry.bytes.now) ∷ past)) }
+            (arrival_at n (listed_frame heading.now message.now) ∷ past)) }
         ensures reason { (t : Rows) (start : Option (List ℕ)) (past : List Arrival) →
             TellsArrivals t self.old start (O.written output.old) past →
             IfOk result (λ reason. reason ≡ reason_after t past
-            (arrival_at n (listed_frame heading.now arrived.entry.bytes.now))) }
+            (arrival_at n (listed_frame heading.now message.now))) }
     {
         self.tell_departures(heading.time, output)?;
-        let verdict = self
-            .network
-            .arrive(heading.side, heading.time, heading.port, n, arrived)?;
-        let lost = put_admission(output, &mut self.text, n, heading.side, &verdict)?;
+        let (side, time, port) = (heading.side, heading.time, heading.port);
+        let frame = heading.frame(message);
+        let verdict = self.network.arrive(side, time, port, n, frame)?;
+        let lost = put_admission(output, &mut self.text, n, side, &verdict)?;
         let reason = reason_of(&verdict);
         count_admission(&mut self.counts, reason, lost);
         Ok(reason)
@@ -227,14 +228,10 @@ impl Machine<Heading> for Replay {
         &mut self,
         n: u64,
         heading: &Heading,
-        bytes: &[u8],
+        message: &[u8],
         output: &mut O,
     ) -> Result<(), RunFault> {
-        let arrived = Checked {
-            bytes,
-            sealed: heading.is_sealed,
-        };
-        self.tell_arrival(n, heading, arrived, output)?;
+        self.tell_arrival(n, heading, message, output)?;
         Ok(())
     }
 

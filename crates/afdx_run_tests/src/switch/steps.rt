@@ -169,7 +169,10 @@ fn brings(switch: &mut Switch, until: u64, left: (u64, u64, u8), frame: &[u8]) -
     ensures { last_time switch.new ≡ until }
 {
     match switch.take(until) {
-        Some(gone) => { (gone.tag(), gone.time(), gone.port()) == left && gone.bytes() == frame }
+        Some(gone) => {
+            let bytes = gone.bytes();
+            (gone.tag(), gone.time(), gone.port()) == left && bytes.as_slice() == frame
+        }
         None => false,
     }
 }

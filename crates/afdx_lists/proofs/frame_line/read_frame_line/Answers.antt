@@ -1,10 +1,9 @@
 use Rattle.std.proofs.Common.{◌≡◌, refl, sym, ◌∙◌}
+use Rattle.afdx_frame.specs.Seals.{whole}
 use Rattle.afdx_lists.specs.FrameLines.{frame_form, cut_frame, frame_fields_of, line_says}
 use Rattle.afdx_lists.specs.FrameLines.{frame_bytes}
 use Rattle.afdx_lists.proofs.FormLemmas.{says_nothing, says_bad_line, says_first_fault}
-use Rattle.afdx_lists.proofs.FormLemmas.{says_bytes_error, says_memory, says_whole, passed_on}
-use Rattle.afdx_lists.specs.Faults.{IsErrorOf}
-use Rattle.afdx_lists.specs.declared.fault.LineError.TheVariants.{Memory}
+use Rattle.afdx_lists.proofs.FormLemmas.{says_bytes_error, says_whole}
 use Rattle.afdx_lists.proofs.FrameLemmas.{frame_is_cut}
 use Rattle.afdx_lists.proofs.SpaceLemmas.{bytes_hold_none, first_of}
 use Rattle.afdx_lists.proofs.frame_line.read_frame_line.Goals as goal
@@ -37,17 +36,6 @@ returns-in-Err-clause-err c =
     (frame_is_cut _ c.requires) (frame_fields_of c.in-Some.fields) c.in-Err.error c.in-Some.ensures
     (sym c.fault_of_numbers.ensures.fault ∙ c.in_default.is) c.in-Err.ensures.err)
 
-pub returns-in_err-is_sealed-clause-err : goal.returns-in_err-is_sealed-clause-err
-unfolding line_says
-returns-in_err-is_sealed-clause-err c =
-    let bytes = c.in_default-read_bytes.ensures.read in
-    let five = first_of _ (frame_fields_of c.in-Some.fields) _
-    (bytes_hold_none c.in-Some.fields.digits.now _ bytes) c.in-Some.ensures in
-    passed_on c.from_residual.result Memory (IsErrorOf (line_says c.args.latest c.args.line.now))
-    c.from_residual.ensures.1 (says_memory frame_form c.args.latest c.args.line.now _ c.trim_line-text.ensures
-    (sym c.says_nothing.ensures ∙ c.if-says_nothing.false) cut_frame (frame_is_cut _ c.requires)
-    (frame_fields_of c.in-Some.fields) five (sym c.fault_of_numbers.ensures.fault ∙ c.in_default.is))
-
 pub returns-clause-ok : goal.returns-clause-ok
 unfolding line_says
 returns-clause-ok c =
@@ -57,7 +45,7 @@ returns-clause-ok c =
     let says = says_whole frame_form c.args.latest c.args.line.now _ c.trim_line-text.ensures
     (sym c.says_nothing.ensures ∙ c.if-says_nothing.false) cut_frame (frame_is_cut _ c.requires)
     (frame_fields_of c.in-Some.fields) five (sym c.fault_of_numbers.ensures.fault ∙ c.in_default.is) in
-    let made : c.finish_frame.new.frame.items
+    let made : whole c.seal_of-seal.result c.seal_of-seal.new.frame.items
     ≡ frame_bytes c.in-Some.fields.kind c.read_bytes.new.bytes.items =
-    c.in_ok-is_sealed.ensures.bytes in
+    c.seal_of-seal.ensures.bytes in
     says ∙ rw (bytes, made) refl

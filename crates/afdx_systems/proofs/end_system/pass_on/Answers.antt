@@ -1,4 +1,4 @@
-use Rattle.std.proofs.Common.{◌∙◌, arith}
+use Rattle.std.proofs.Common.{arith}
 use Rattle.afdx_systems.proofs.PassLemmas.{put_at, sampled, taken, given_back, none_left}
 use Rattle.afdx_systems.proofs.PassLemmas.{sample_passed, queue_passed}
 use Rattle.afdx_systems.proofs.end_system.pass_on.Goals as goal

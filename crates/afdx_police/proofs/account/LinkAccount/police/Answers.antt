@@ -1,11 +1,16 @@
-use Rattle.std.proofs.Common.{◌≡◌, ℕ, List, refl, sym, ◌∙◌, ap}
+use Rattle.std.proofs.Common.{◌≡◌, ℕ, List, sym, ◌∙◌, ap}
 use Rattle.std.specs.Prelude.{Option, Some, None}
+use Rattle.afdx_frame.specs.Parts.{bytes_of}
 use Rattle.afdx_police.specs.Arrival.{Arrival, own}
+use Rattle.afdx_police.specs.Policer.{Offer}
 use Rattle.afdx_police.specs.Rule.{Rule}
 use Rattle.afdx_police.specs.Shape.{fault_of}
 use Rattle.afdx_police.specs.declared.shape.Reason.{Reason}
 use Rattle.afdx_police.proofs.VerdictLemmas.{reason-fault, fault_changes_nothing, fault-stands_in, sound-stands_in}
 use Rattle.afdx_police.proofs.account.LinkAccount.police.Goals as goal
+
+offer_at : ℕ → ℕ → Offer
+offer_at time length = record { time = time; length = length }
 
 -- what was judged by the account's own rule
 judged : (rule held : Rule) (port : ℕ) (bytes : List ℕ) (answer : Option Reason) → held ≡ rule
@@ -20,9 +25,9 @@ returns-in-Some-clause-reason c rule past tag side stands =
       time = c.args.time;
       side = side;
       port = c.args.port;
-      bytes = c.args.frame.bytes.now;
+      bytes = (bytes_of c.args.frame);
     }) c.in-Some.reason
-    (judged rule _ c.args.port c.args.frame.bytes.now _ (c.rule.ensures ∙ stands.by_rule) c.in-Some.ensures.reason))
+    (judged rule _ c.args.port (bytes_of c.args.frame) _ (c.rule.ensures ∙ stands.by_rule) c.in-Some.ensures.reason))
 
 pub returns-in-Some-clause-stands : goal.returns-in-Some-clause-stands
 returns-in-Some-clause-stands c rule past tag side stands =
@@ -32,9 +37,9 @@ returns-in-Some-clause-stands c rule past tag side stands =
       time = c.args.time;
       side = side;
       port = c.args.port;
-      bytes = c.args.frame.bytes.now;
+      bytes = (bytes_of c.args.frame);
     }) c.in-Some.reason
-    (judged rule _ c.args.port c.args.frame.bytes.now _ (c.rule.ensures ∙ stands.by_rule)
+    (judged rule _ c.args.port (bytes_of c.args.frame) _ (c.rule.ensures ∙ stands.by_rule)
     c.in-Some.ensures.reason)).stands stands
 
 pub returns-in-Some-clause-verdict : goal.returns-in-Some-clause-verdict
@@ -45,9 +50,9 @@ returns-in-Some-clause-verdict c rule all tag side stands =
       time = c.args.time;
       side = side;
       port = c.args.port;
-      bytes = c.args.frame.bytes.now;
+      bytes = (bytes_of c.args.frame);
     }) c.in-Some.reason
-    (judged rule _ c.args.port c.args.frame.bytes.now _ (c.rule.ensures ∙ stands.by_rule) c.in-Some.ensures.reason))
+    (judged rule _ c.args.port (bytes_of c.args.frame) _ (c.rule.ensures ∙ stands.by_rule) c.in-Some.ensures.reason))
 
 pub returns-in-Some-clause-stands_in : goal.returns-in-Some-clause-stands_in
 returns-in-Some-clause-stands_in c rule all tag side stands =
@@ -57,11 +62,12 @@ returns-in-Some-clause-stands_in c rule all tag side stands =
       time = c.args.time;
       side = side;
       port = c.args.port;
-      bytes = c.args.frame.bytes.now;
+      bytes = (bytes_of c.args.frame);
     }) all c.in-Some.reason
-    (judged rule _ c.args.port c.args.frame.bytes.now _ (c.rule.ensures ∙ stands.by_rule) c.in-Some.ensures.reason) stands
+    (judged rule _ c.args.port (bytes_of c.args.frame) _ (c.rule.ensures ∙ stands.by_rule) c.in-Some.ensures.reason) stands
 
 pub returns-in-None-clause-stands : goal.returns-in-None-clause-stands
+unfolding offer_at
 returns-in-None-clause-stands c rule past tag side stands =
     c.offer.ensures.stands rule past
     (record {
@@ -69,29 +75,30 @@ returns-in-None-clause-stands c rule past tag side stands =
       time = c.args.time;
       side = side;
       port = c.args.port;
-      bytes = c.args.frame.bytes.now;
+      bytes = (bytes_of c.args.frame);
     }) stands
     (record {
-      sound = judged rule _ c.args.port c.args.frame.bytes.now _ (c.rule.ensures ∙ stands.by_rule)
+      sound = judged rule _ c.args.port (bytes_of c.args.frame) _ (c.rule.ensures ∙ stands.by_rule)
           c.in-None.ensures.reason;
-      same = refl;
+      same = ap (offer_at c.args.time) (sym c.length.ensures);
     })
 
 pub returns-in-None-clause-stands_in : goal.returns-in-None-clause-stands_in
+unfolding offer_at
 returns-in-None-clause-stands_in c rule all tag side stands =
     let x : Arrival = record {
       tag = tag;
       time = c.args.time;
       side = side;
       port = c.args.port;
-      bytes = c.args.frame.bytes.now;
+      bytes = (bytes_of c.args.frame);
     } in
     let sound : fault_of (Some rule) x.port x.bytes ≡ None =
-    judged rule _ c.args.port c.args.frame.bytes.now _ (c.rule.ensures ∙ stands.by_rule)
+    judged rule _ c.args.port (bytes_of c.args.frame) _ (c.rule.ensures ∙ stands.by_rule)
     c.in-None.ensures.reason in
     sound-stands_in rule c.offer.new.self x all sound
     (c.offer.ensures.stands rule (own rule.vl side all) x stands
-    (record { sound = sound; same = refl }))
+    (record { sound = sound; same = ap (offer_at c.args.time) (sym c.length.ensures) }))
 
 -- an arrival that was judged without a fault has none
 faultless : (held : Rule) (port : ℕ) (bytes : List ℕ) (fault : Reason)
@@ -100,5 +107,5 @@ faultless held port bytes fault none some = absurd (cc)
 
 pub returns-in-None-clause-unchanged : goal.returns-in-None-clause-unchanged
 returns-in-None-clause-unchanged c fault e =
-    absurd (faultless _ c.args.port c.args.frame.bytes.now fault
+    absurd (faultless _ c.args.port (bytes_of c.args.frame) fault
     (rw c.rule.ensures at c.in-None.ensures.reason) e)

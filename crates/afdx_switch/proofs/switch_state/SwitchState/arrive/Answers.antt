@@ -1,6 +1,7 @@
 use Rattle.std.proofs.Common.{◌≡◌, ◌∙◌, sym, ap, subst, arith, refl, length, Some, None}
 use Rattle.std.specs.Prelude.{vec_len}
 use Rattle.std.proofs.lemmas.Option.{slice_get_read}
+use Rattle.afdx_frame.specs.Parts.{bytes_of}
 use Rattle.afdx_police.specs.Arrival.{arrival_with}
 use Rattle.afdx_switch.specs.HeldFrames.{HeldFrame, held_frame}
 use Rattle.afdx_switch.specs.Shares.{AreShares}
@@ -22,7 +23,7 @@ use Rattle.afdx_switch.proofs.switch_state.SwitchState.arrive.Goals as goal
 pub returns-in-Err-clause-arrives : goal.returns-in-Err-clause-arrives
 returns-in-Err-clause-arrives c =
     let w = c.args.self.now in
-    let bytes = c.args.frame.bytes.now in
+    let bytes = (bytes_of c.args.frame) in
     arrived w _ c.args.tag c.args.time c.args.port bytes (Dropped c.in-Err.reason)
     (λ t side h st. faulted-reason t (arrival_with c.args.tag c.args.time side c.args.port bytes) c.in-Err.reason
     (c.in-Err.ensures.faulted t side h c.args.tag c.args.time st) h.arrivals)
@@ -34,7 +35,7 @@ returns-in-Err-clause-arrives c =
 pub returns-in_err-copy-clause-arrives : goal.returns-in_err-copy-clause-arrives
 returns-in_err-copy-clause-arrives c =
     let w = c.args.self.now in
-    let bytes = c.args.frame.bytes.now in
+    let bytes = (bytes_of c.args.frame) in
     lacked w _ c.args.tag c.args.time c.args.port bytes c.from_residual.result c.from_residual.ensures.0 refl
     (λ t side h st. (let f = c.in-Ok.ensures.found t side h c.args.tag c.args.time st in
     shape-named t (arrival_with c.args.tag c.args.time side c.args.port bytes) h.arrivals c.in-Ok.place f.named
@@ -43,7 +44,7 @@ returns-in_err-copy-clause-arrives c =
 pub returns-in_err-share_out-clause-arrives : goal.returns-in_err-share_out-clause-arrives
 returns-in_err-share_out-clause-arrives c =
     let w = c.args.self.now in
-    let bytes = c.args.frame.bytes.now in
+    let bytes = (bytes_of c.args.frame) in
     lacked w _ c.args.tag c.args.time c.args.port bytes c.from_residual-in_err-share_out.result
     c.from_residual-in_err-share_out.ensures.0 refl
     (λ t side h st. (let f = c.in-Ok.ensures.found t side h c.args.tag c.args.time st in
@@ -54,16 +55,16 @@ returns-in_err-share_out-clause-arrives c =
 pub returns-in-Some-clause-arrives : goal.returns-in-Some-clause-arrives
 returns-in-Some-clause-arrives c =
     let w = c.args.self.now in
-    let bytes = c.args.frame.bytes.now in
+    let bytes = (bytes_of c.args.frame) in
     let reason = c.in-Some.reason in
     arrived w _ c.args.tag c.args.time c.args.port bytes (Dropped reason)
     (λ t side h st. (let f = c.in-Ok.ensures.found t side h c.args.tag c.args.time st in
     charged-reason t (arrival_with c.args.tag c.args.time side c.args.port bytes) w h st c.in-Ok.place f (Some reason) _
-    (c.in-Some.ensures.charged f.line f.stands)))
+    (rw c.length.ensures at (c.in-Some.ensures.charged f.line f.stands))))
     (λ t side h st. (
     let x = arrival_with c.args.tag c.args.time side c.args.port bytes in
     let f = c.in-Ok.ensures.found t side h c.args.tag c.args.time st in
-    let charged = c.in-Some.ensures.charged f.line f.stands in
+    let charged = rw c.length.ensures at (c.in-Some.ensures.charged f.line f.stands) in
     let dropped = charged-reason t x w h st c.in-Ok.place f (Some reason) _ charged in
     stands-dropped t x w h st _
     (λ port. dropped-sent t x h.arrivals (Some c.in-Ok.place) (output_at t x.side port) reason f.named dropped)
@@ -123,7 +124,7 @@ send_on-lost-requires-clause-share_count c line there =
 pub returns-clause-arrives : goal.returns-clause-arrives
 returns-clause-arrives c =
     let w = c.args.self.now in
-    let bytes = c.args.frame.bytes.now in
+    let bytes = (bytes_of c.args.frame) in
     let new = c.send_on-lost.new.self in
     let rest = c.send_on-lost.ensures.rest in
     let mine = c.index-line.result.now in
@@ -131,7 +132,8 @@ returns-clause-arrives c =
     let charged = c.in_default.ensures.charged mine at in
     let carried : HeldFrame = held_frame c.args.tag mine.longest_wait bytes in
     let shared : AreShares carried c.share_out.new.shares.items =
-    subst (λ (g : HeldFrame). AreShares g c.share_out.new.shares.items) c.in_ok-copy.ensures
+    subst (λ (g : HeldFrame). AreShares g c.share_out.new.shares.items)
+    (c.in_ok-copy.ensures ∙ ap (held_frame c.args.tag mine.longest_wait) (sym c.in-Ok.ensures.sealed))
     c.in_ok-share_out.ensures.each in
     let old_count : length w.ports.items ≡ 24 = omega (arith, w.ports.ok.0, c.requires.sound.port_count) in
     let new_count : length new.ports.items ≡ 24 = omega (arith, new.ports.ok.0, c.send_on-lost.ensures.sound.port_count) in
@@ -142,7 +144,8 @@ returns-clause-arrives c =
     (λ t side h st. (
     let x = arrival_with c.args.tag c.args.time side c.args.port bytes in
     let f = c.in-Ok.ensures.found t side h c.args.tag c.args.time st in
-    let accepted = charged-reason t x w h st c.in-Ok.place f None _ (c.in_default.ensures.charged f.line f.stands) in (
+    let of_line = rw c.length.ensures at (c.in_default.ensures.charged f.line f.stands) in
+    let accepted = charged-reason t x w h st c.in-Ok.place f None _ of_line in (
       accepted,
       lost-is t x w h st c.in-Ok.place f.named mine at accepted c.in-Ok.ensures.shortest
           c.in-Ok.ensures.longest small new.ports.items c.send_on-lost.result old_count new_count offered,
@@ -150,7 +153,7 @@ returns-clause-arrives c =
     (λ t side h st. (
     let x = arrival_with c.args.tag c.args.time side c.args.port bytes in
     let f = c.in-Ok.ensures.found t side h c.args.tag c.args.time st in
-    let of_line = c.in_default.ensures.charged f.line f.stands in
+    let of_line = rw c.length.ensures at (c.in_default.ensures.charged f.line f.stands) in
     let accepted = charged-reason t x w h st c.in-Ok.place f None _ of_line in
     stands-accepted t x w h st c.in-Ok.place f.named mine at accepted c.in-Ok.ensures.shortest
     c.in-Ok.ensures.longest small new.ports.items c.send_on-lost.result old_count new_count offered new

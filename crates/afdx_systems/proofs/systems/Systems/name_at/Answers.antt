@@ -1,4 +1,4 @@
-use Rattle.std.proofs.Common.{[], arith, sym, ap, ◌∙◌}
+use Rattle.std.proofs.Common.{[], arith, sym, ap}
 use Rattle.std.specs.Option.{option_map_or}
 use Rattle.afdx_config.specs.Reading.{system_at_port}
 use Rattle.afdx_systems.specs.Handovers.{came_to}

@@ -11,7 +11,7 @@ returns-clause-told g c rule start past h follows =
     c.is_none-is_accepted.result c.is_none-is_accepted.ensures c.count_if-self.ensures
     c.count_if-self-2.ensures in
     record {
-      told = told-next _ _ _ _ _ _ _ _ _ _ (arrival_at c.args.n (listed_frame c.args.heading.now c.args.bytes.now))
+      told = told-next _ _ _ _ _ _ _ _ _ _ (arrival_at c.args.n (listed_frame c.args.heading.now c.args.message.now))
           (arrivals past) _ _ h.told
           (c.verdict-reason.ensures.answer rule (arrivals past) c.args.n h.told.seen)
           (c.verdict-reason.ensures.seen rule (arrivals past) c.args.n h.told.seen)
@@ -22,7 +22,7 @@ returns-clause-told g c rule start past h follows =
 
 pub returns-in_err-put-clause-begins : goal.returns-in_err-put-clause-begins
 returns-in_err-put-clause-begins g c rule start past h =
-    let begun = begun-next _ _ _ _ _ _ _ (arrival_at c.args.n (listed_frame c.args.heading.now c.args.bytes.now))
+    let begun = begun-next _ _ _ _ _ _ _ (arrival_at c.args.n (listed_frame c.args.heading.now c.args.message.now))
     (arrivals past) _ _ h.told
     (c.verdict-reason.ensures.answer rule (arrivals past) c.args.n h.told.seen)
     refl c.in_err-put.ensures.front in

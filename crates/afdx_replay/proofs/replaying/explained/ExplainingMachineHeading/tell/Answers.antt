@@ -10,9 +10,9 @@ use Rattle.afdx_replay.proofs.replaying.explained.ExplainingMachineHeading.tell.
 pub returns-then-is_over_rate-clause-told : goal.returns-then-is_over_rate-clause-told
 returns-then-is_over_rate-clause-told g c = λ rules start past h follows.
     let t = rules.0 in
-    let x = arrival_at c.args.n (listed_frame c.args.heading.now c.args.bytes.now) in
+    let x = arrival_at c.args.n (listed_frame c.args.heading.now c.args.message.now) in
     let now = c.in_ok-reason.ensures.told t start (arrivals past) h.0.told in
-    let early = c.early-wait.ensures t now.events c.args.n now.told.switches_are in (
+    let early = rw c.frame-frame.ensures at (c.early-wait.ensures t now.events c.args.n now.told.switches_are) in (
       record {
         told = now;
         early = follows.in_order.early;
@@ -30,7 +30,7 @@ returns-then-is_over_rate-clause-told g c = λ rules start past h follows.
 pub returns-else-is_over_rate-clause-told : goal.returns-else-is_over_rate-clause-told
 returns-else-is_over_rate-clause-told g c = λ rules start past h follows.
     let t = rules.0 in
-    let x = arrival_at c.args.n (listed_frame c.args.heading.now c.args.bytes.now) in (
+    let x = arrival_at c.args.n (listed_frame c.args.heading.now c.args.message.now) in (
       record {
         told = c.in_ok-reason.ensures.told t start (arrivals past) h.0.told;
         early = follows.in_order.early;

@@ -1,4 +1,5 @@
 use Rattle.std.proofs.Common.{◌∙◌, ◌∷◌, List, length, subst, ap, inl, inr}
+use Rattle.afdx_frame.specs.Seals.{whole}
 use Rattle.afdx_police.specs.Arrival.{Arrival, arrival_with}
 use Rattle.afdx_network.specs.Events.{Came, admission_after, arrivals_in}
 use Rattle.afdx_network.specs.Network as network
@@ -23,15 +24,15 @@ pub returns-clause-told : goal.returns-clause-told
 returns-clause-told g c t start past h =
     let k = c.in_ok-tell_departures.ensures.told t h.events start h.told in
     let x = arrival_with c.args.n c.args.heading.now.time c.args.heading.now.side
-    c.args.heading.now.port c.args.arrived.bytes.now in
+    c.args.heading.now.port (whole c.args.heading.now.seal c.args.message.now) in
     let a = admission_after t (arrivals_in k.0) x in
-    let v = c.in_ok-verdict.ensures.verdict t k.0 k.2.switches_are in
+    let v = rw c.frame-frame.ensures at (c.in_ok-verdict.ensures.verdict t k.0 k.2.switches_are) in
     record {
       events = Came a ∷ k.0;
       arrivals_are = ap (λ (p : List Arrival). x ∷ p) (k.1 ∙ h.arrivals_are);
       at_arrival = tt;
       told = told-came t _ _ _ _ _ start _ _ k.0 a c.reason_of-reason.result c.in_ok-lost.lost _ k.2
-          (c.in_ok-verdict.ensures.stands t k.0 k.2.switches_are)
+          (rw c.frame-frame.ensures at (c.in_ok-verdict.ensures.stands t k.0 k.2.switches_are))
           (c.reason_of-reason.ensures ∙ v.reason) (c.in_ok-lost.ensures.count ∙ ap length v.lost)
           c.count_admission.ensures.counted
           (lines-told c.in_ok-verdict.verdict a v) c.in_ok-lost.ensures.lines;
@@ -49,21 +50,22 @@ pub returns-in_err-lost-clause-some : goal.returns-in_err-lost-clause-some
 returns-in_err-lost-clause-some g c t start past h =
     let k = c.in_ok-tell_departures.ensures.told t h.events start h.told in
     let x = arrival_with c.args.n c.args.heading.now.time c.args.heading.now.side
-    c.args.heading.now.port c.args.arrived.bytes.now in
+    c.args.heading.now.port (whole c.args.heading.now.seal c.args.message.now) in
     let a = admission_after t (arrivals_in k.0) x in
-    let v = c.in_ok-verdict.ensures.verdict t k.0 k.2.switches_are in
+    let v = rw c.frame-frame.ensures at (c.in_ok-verdict.ensures.verdict t k.0 k.2.switches_are) in
     on-err c.from_residual-in_err-lost.result _
     (inr (subst (λ (p : List Arrival).
     WritesSome t start (g.O.Sink.written c.put_admission.new.output) (x ∷ p))
     (k.1 ∙ h.arrivals_are)
-    (begun-came t _ _ _ _ start _ _ k.0 a _ k.2 (c.in_ok-verdict.ensures.stands t k.0 k.2.switches_are)
+    (begun-came t _ _ _ _ start _ _ k.0 a _ k.2
+    (rw c.frame-frame.ensures at (c.in_ok-verdict.ensures.stands t k.0 k.2.switches_are))
     (lines-told c.in_ok-verdict.verdict a v) c.in_err-lost.ensures.front)))
 
 pub returns-clause-reason : goal.returns-clause-reason
 returns-clause-reason g c t start past h =
     let k = c.in_ok-tell_departures.ensures.told t h.events start h.told in
     let x = arrival_with c.args.n c.args.heading.now.time c.args.heading.now.side
-    c.args.heading.now.port c.args.arrived.bytes.now in
-    let v = c.in_ok-verdict.ensures.verdict t k.0 k.2.switches_are in
+    c.args.heading.now.port (whole c.args.heading.now.seal c.args.message.now) in
+    let v = rw c.frame-frame.ensures at (c.in_ok-verdict.ensures.verdict t k.0 k.2.switches_are) in
     c.reason_of-reason.ensures ∙ v.reason
     ∙ ap (λ (p : List Arrival). reason_of t p x) (k.1 ∙ h.arrivals_are)

@@ -1,5 +1,6 @@
 use Rattle.std.proofs.Common.{◌≡◌, ◌∙◌, ◌∷◌, sym, ap, refl, subst, true, false}
 use Rattle.std.specs.Io.KnownBytes.{Appends}
+use Rattle.afdx_frame.specs.Parts.{bytes_of}
 use Rattle.afdx_lists.specs.Calls.{AppendsFront}
 use Rattle.afdx_systems.specs.Receptions.{is_delivered}
 use Rattle.afdx_systems.specs.StandsFor as systems
@@ -34,7 +35,7 @@ returns-in_err-is_delivered-clause-begun g c t before d stands is =
     let left : d.turn.too_old ≡ false = sym (old-is c.args.departed.now d is)
     ∙ sym c.too_old.ensures ∙ c.if-too_old.false in
     let handed = handed-is c.args.departed.now d is c.port.result c.time.result c.tag.result
-    c.frame.result.bytes.now c.port.ensures c.time.ensures c.tag.ensures c.frame.ensures in
+    (bytes_of c.frame.result) c.port.ensures c.time.ensures c.tag.ensures c.frame.ensures in
     let a = g.O.Sink.written c.args.output.now in
     let m = g.O.Sink.written c.put_departure.new.output in
     let b = g.O.Sink.written c.hear.new.output in
@@ -51,7 +52,7 @@ returns-then-is_delivered-clause-told g c t before d stands is counted =
     let left : d.turn.too_old ≡ false = sym (old-is c.args.departed.now d is)
     ∙ sym c.too_old.ensures ∙ c.if-too_old.false in
     let handed = handed-is c.args.departed.now d is c.port.result c.time.result c.tag.result
-    c.frame.result.bytes.now c.port.ensures c.time.ensures c.tag.ensures c.frame.ensures in
+    (bytes_of c.frame.result) c.port.ensures c.time.ensures c.tag.ensures c.frame.ensures in
     let a = g.O.Sink.written c.args.output.now in
     let m = g.O.Sink.written c.put_departure.new.output in
     let b = g.O.Sink.written c.hear.new.output in
@@ -73,7 +74,7 @@ returns-else-is_delivered-clause-told g c t before d stands is counted =
     let left : d.turn.too_old ≡ false = sym (old-is c.args.departed.now d is)
     ∙ sym c.too_old.ensures ∙ c.if-too_old.false in
     let handed = handed-is c.args.departed.now d is c.port.result c.time.result c.tag.result
-    c.frame.result.bytes.now c.port.ensures c.time.ensures c.tag.ensures c.frame.ensures in
+    (bytes_of c.frame.result) c.port.ensures c.time.ensures c.tag.ensures c.frame.ensures in
     let a = g.O.Sink.written c.args.output.now in
     let m = g.O.Sink.written c.put_departure.new.output in
     let b = g.O.Sink.written c.hear.new.output in
