@@ -1,7 +1,7 @@
 -- What a replay has told, one event more, and what it answers then.
 use Rattle.std.proofs.Common.{◌≡◌, ℕ, ◌+◌, ◌≤◌, List, [], ◌∷◌, ◌++◌, length, refl, ap, sym, ◌∙◌}
 use Rattle.std.proofs.Common.{subst, Option, Some, None, Bool, true, false, arith, append_assoc}
-use Rattle.std.proofs.Common.{if◌then◌else◌, Result, Ok, Err, OnErr}
+use Rattle.std.proofs.Common.{if◌then◌else◌}
 use Rattle.std.specs.Prelude.{IfSome}
 use Rattle.std.specs.Io.KnownBytes.{Appends}
 use Rattle.std.proofs.KnownBytes.{Appends-trans, Appends-nil}

@@ -1,6 +1,6 @@
 -- The text and the counts of one arrival more.
-use Rattle.std.proofs.Common.{◌≡◌, ℕ, ◌+◌, suc, List, [], ◌∷◌, ◌++◌, refl, ap, sym, ◌∙◌, Option}
-use Rattle.std.proofs.Common.{Bool, true, false, arith, cond, append_assoc}
+use Rattle.std.proofs.Common.{◌≡◌, ◌+◌, suc, List, [], ◌∷◌, ◌++◌, refl, ap, sym, ◌∙◌, Option}
+use Rattle.std.proofs.Common.{Bool, true, false, arith, cond}
 use Rattle.afdx_police.specs.declared.shape.Reason.{Reason}
 use Rattle.afdx_police.specs.Arrival.{Arrival}
 use Rattle.afdx_police.specs.Rule.{Rule}

@@ -1,4 +1,4 @@
-use Rattle.std.proofs.Common.{◌∙◌, ◌∷◌, List, subst, refl, arith}
+use Rattle.std.proofs.Common.{◌∷◌, List, subst, refl, arith}
 use Rattle.afdx_replay.specs.sending.Sent.{WritesSome}
 use Rattle.afdx_run.specs.Listed.{Handed}
 use Rattle.afdx_replay.specs.sending.Events.{Emitted}

@@ -1,4 +1,4 @@
-use Rattle.std.proofs.Common.{◌≡◌, ◌∙◌, None, Some, inr, inl}
+use Rattle.std.proofs.Common.{◌≡◌, None, Some, inr, inl}
 use Rattle.std.proofs.KnownBytes.{Appends-nil}
 use Rattle.afdx_replay.specs.sending.Progress.{handed_at}
 use Rattle.afdx_text.proofs.OutputLemmas.{on-err}
