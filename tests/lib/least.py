@@ -1,0 +1,294 @@
+"""What `check` and `solve` must say of a network, computed apart from the program by the formulas
+of docs/NETWORK.md, in whole numbers: the bounds of its ports, the lines of admission that are
+false, and the least jitters, buffer, latencies and skews with which it is admitted.
+"""
+from __future__ import annotations
+
+from typing import Collection, Iterator, NamedTuple
+
+from first_fault import RANGES, faults_of, is_whole
+from frames import OVERHEAD, byte_ns
+from tables import system_named, tomllib
+
+UNITS = 128_000_000  # an account's units in a byte, so that all sums are whole
+FIXED_JITTER, GREATEST_JITTER = 40_000, 500_000  # of a system's output, in ns
+# what --keep calls the keys that are solved, in the order in which they are
+SOLVED = {"jitter": "jitter_us", "buffer": "buffer", "latency": "latency_us", "skew": "skew_us"}
+
+
+def quotient_up(amount: int, divisor: int) -> int:
+    """The quotient, rounded up."""
+    return -(-amount // divisor)
+
+
+# ---- an output port, and a sender ----------------------------------------------------------------
+
+
+def wire_size(link: dict) -> int:
+    """Smax, the bytes that the link's longest frame takes on the wire."""
+    return link["lmax"] + OVERHEAD
+
+
+def fill_rate(link: dict) -> int:
+    """The units that the link may send in a ns."""
+    return wire_size(link) * (128 // link["bag_ms"])
+
+
+def burst(link: dict) -> int:
+    """The units that the link may send at once."""
+    return fill_rate(link) * (1_000_000 * link["bag_ms"] + 1000 * link["jitter_us"])
+
+
+def is_high(link: dict) -> bool:
+    return link["priority"] == "high"
+
+
+class Output(NamedTuple):
+    """The output port of a system: its number, the ns of a byte on its line, and its links."""
+
+    port: int
+    byte_ns: int
+    links: list[dict]
+
+    def high(self) -> list[dict]:
+        """Its links of high priority."""
+        return [link for link in self.links if is_high(link)]
+
+    def load(self, links: list[dict]) -> int:
+        """The units that these may send in the time of a byte; UNITS is the whole line."""
+        return self.byte_ns * sum(map(fill_rate, links))
+
+    def buffer_need(self) -> int:
+        """The bytes that wait at most, rounded up."""
+        return quotient_up(sum(map(burst, self.links)), UNITS)
+
+    def high_bound(self) -> int:
+        """The ns that a high frame takes at most, rounded up."""
+        longest = max((wire_size(link) for link in self.links if not is_high(link)), default=0)
+        units = sum(map(burst, self.high())) + UNITS * longest
+        return quotient_up(self.byte_ns * units, UNITS)
+
+    def low_bound(self) -> int | None:
+        """The ns that a low frame takes at most, rounded up; None where the high links take the
+        whole line."""
+        left = UNITS - self.load(self.high())
+        if left <= 0:
+            return None
+        return quotient_up(self.byte_ns * sum(map(burst, self.links)), left)
+
+
+def outputs_of(tables: dict) -> list[Output]:
+    """The output ports that have a system, ascending."""
+    links_to: dict[str, list[dict]] = {system["name"]: [] for system in tables["system"]}
+    for link in tables["link"]:
+        for name in link["to"]:
+            links_to[name].append(link)
+    systems = sorted(tables["system"], key=lambda system: system["port"])
+    return [Output(s["port"], byte_ns(s), links_to[s["name"]]) for s in systems]
+
+
+def jitters_of(tables: dict) -> dict[str, int]:
+    """The jitter of each system's output, in ns: its own, and one frame of each of its links."""
+    jitters = {system["name"]: FIXED_JITTER for system in tables["system"]}
+    for link in tables["link"]:
+        jitters[link["from"]] += wire_size(link) * byte_ns(system_named(tables, link["from"]))
+    return jitters
+
+
+# ---- what `check` writes -------------------------------------------------------------------------
+
+
+def told(bound: int | None) -> str:
+    """A bound in a line."""
+    return "-" if bound is None else str(bound)
+
+
+def margins(output: Output) -> Iterator[tuple[dict, int | None]]:
+    """The links of an output port, in the order of the file, each with its bound there."""
+    high, low = output.high_bound(), output.low_bound()
+    for link in output.links:
+        yield link, high if is_high(link) else low
+
+
+def port_line(output: Output) -> str:
+    """The bounds of an output port."""
+    low = told(output.low_bound())
+    return f"P {output.port} {output.high_bound()} {low} {output.buffer_need()}"
+
+
+def false_at(output: Output, buffer: int) -> Iterator[str]:
+    """The lines that are false at an output port: A1, A2, A3 of high links, A4 of low ones."""
+    if output.load(output.links) > UNITS:
+        yield f"no A1 {output.port}"
+    if output.buffer_need() > buffer:
+        yield f"no A2 {output.port} {output.buffer_need()}"
+    bounds = list(margins(output))
+    for name, high in (("A3", True), ("A4", False)):
+        for link, bound in bounds:
+            in_time = bound is not None and bound <= 1000 * link["latency_us"]
+            if is_high(link) == high and not in_time:
+                yield f"no {name} {output.port} {link['vl']} {told(bound)}"
+
+
+def false_lines(tables: dict) -> list[str]:
+    """Each line of admission that is false, in their order."""
+    lines = [line for output in outputs_of(tables) for line in false_at(output, tables["buffer"])]
+    jitters = jitters_of(tables)
+    lines += [f"no A5 {name} {ns}" for name, ns in jitters.items() if ns > GREATEST_JITTER]
+    for link in tables["link"]:
+        needed = jitters[link["from"]]
+        if needed > 1000 * link["jitter_us"]:
+            lines.append(f"no A6 {link['vl']} {needed}")
+        if link["latency_us"] > link["skew_us"]:
+            lines.append(f"no A7 {link['vl']}")
+    return lines
+
+
+def check_text(tables: dict, is_all: bool) -> bytes:
+    """What `check` writes of tables without a fault, with `--all` or without it."""
+    answer = false_lines(tables) or ["ok"]
+    lines = [*map(port_line, outputs_of(tables)), *(answer if is_all else answer[:1])]
+    return "".join(f"{line}\n" for line in lines).encode()
+
+
+# ---- what `solve` answers ------------------------------------------------------------------------
+
+
+class Solved(NamedTuple):
+    """The tables with their four keys: each the least that is enough, or the greatest in its range
+    where none is; and the first line of admission that is false then, or nothing."""
+
+    tables: dict
+    fault: str
+
+
+class Choice(NamedTuple):
+    """What is asked of the values that are written: which keys stay as they are, and whether none
+    may be less than in the file."""
+
+    keep: Collection[str] = ()
+    raise_only: bool = False
+
+    def written(self, row: dict, part: str, key: str, enough: int | None) -> int:
+        """The value of a key, of which so much is enough (None: no value is)."""
+        if key in self.keep:
+            return row[key]
+        least, greatest = RANGES[part, key]
+        if key == "jitter_us":
+            greatest = 1000 * row["bag_ms"]
+        asked = row.get(key, 0) if self.raise_only else 0
+        return greatest if enough is None else min(max(least, asked, enough), greatest)
+
+
+def with_jitters(tables: dict, choice: Choice) -> dict:
+    """The jitters, from those of the senders."""
+    jitters = jitters_of(tables)
+    links = []
+    for link in tables["link"]:
+        enough = quotient_up(jitters[link["from"]], 1000)
+        links.append(link | {"jitter_us": choice.written(link, "link", "jitter_us", enough)})
+    return tables | {"link": links}
+
+
+def with_buffer(tables: dict, choice: Choice) -> dict:
+    """The buffer, from the needs of all ports."""
+    enough = max((output.buffer_need() for output in outputs_of(tables)), default=0)
+    return tables | {"buffer": choice.written(tables, "top", "buffer", enough)}
+
+
+def with_latencies(tables: dict, choice: Choice) -> dict:
+    """The latencies, from the bounds at all ports of a link."""
+    enough: dict[int, int | None] = {link["vl"]: 0 for link in tables["link"]}
+    for output in outputs_of(tables):
+        for link, bound in margins(output):
+            most = enough[link["vl"]]
+            us = None if bound is None else quotient_up(bound, 1000)
+            enough[link["vl"]] = None if None in (us, most) else max(us, most)
+    links = []
+    for link in tables["link"]:
+        latency = choice.written(link, "link", "latency_us", enough[link["vl"]])
+        links.append(link | {"latency_us": latency})
+    return tables | {"link": links}
+
+
+def with_skews(tables: dict, choice: Choice) -> dict:
+    """The skews, from the latencies."""
+    links = []
+    for link in tables["link"]:
+        skew = choice.written(link, "link", "skew_us", link["latency_us"])
+        links.append(link | {"skew_us": skew})
+    return tables | {"link": links}
+
+
+def solved(tables: dict, keep: Collection[str] = (), raise_only: bool = False) -> Solved:
+    """What `solve` makes of tables that have no fault for it: each key from those before it as
+    written."""
+    choice = Choice([SOLVED[word] for word in keep], raise_only)
+    for step in (with_jitters, with_buffer, with_latencies, with_skews):
+        tables = step(tables, choice)
+    return Solved(tables, next(iter(false_lines(tables)), ""))
+
+
+def needs(asked: dict, tables: dict) -> list[str]:
+    """What is told of each link and port where more is needed than the file asks, in the order of
+    ports and then of links; a latency that isn't there asks nothing."""
+    latencies = {link["vl"]: link.get("latency_us") for link in asked["link"]}
+    lines = []
+    for output in outputs_of(tables):
+        for link, bound in margins(output):
+            latency = latencies[link["vl"]]
+            if None not in (latency, bound) and bound > 1000 * latency:
+                lines.append(
+                    f"vl {link['vl']} at {output.port}: {bound} ns needed, {latency} us asked"
+                )
+    return lines
+
+
+def lawful_in(part: str, row: dict, keep: Collection[str]) -> dict:
+    """The row where a key that is solved, absent or any whole number from 0, has a value in
+    range."""
+    solved_keys = [key for key in SOLVED.values() if (part, key) in RANGES and key not in keep]
+    return row | {
+        key: RANGES[part, key][0]
+        for key in solved_keys
+        if key not in row or (is_whole(row[key]) and row[key] >= 0)
+    }
+
+
+def solve_fault(text: bytes, keep: Collection[str] = ()) -> str:
+    """The fault of a configuration for `solve`; nothing where there is none."""
+    try:
+        tables = tomllib.loads(text.decode("utf-8"))
+    except ValueError:
+        return "config NotToml"
+    kept = [SOLVED[word] for word in keep]
+    tables = lawful_in("top", tables, kept)
+    if isinstance(tables.get("link"), list):
+        rows = tables["link"]
+        tables["link"] = [
+            lawful_in("link", row, kept) if isinstance(row, dict) else row for row in rows
+        ]
+    fault = next(faults_of(tables), None)
+    return "" if fault is None else f"config {fault}"
+
+
+class Told(NamedTuple):
+    """How `solve` answers: its status, the tables that it writes or the line in their place, and
+    the lines on standard error."""
+
+    status: int
+    tables: dict | None
+    line: str
+    errors: list[str]
+
+
+def solve_answer(text: bytes, keep: Collection[str] = (), raise_only: bool = False) -> Told:
+    """What `solve` answers to a configuration."""
+    fault = solve_fault(text, keep)
+    if fault:
+        return Told(1, None, "", [fault])
+    tables = {"system": [], "link": [], "port": []} | tomllib.loads(text.decode("utf-8"))
+    found = solved(tables, keep, raise_only)
+    if found.fault:
+        return Told(1, None, found.fault, [])
+    return Told(0, found.tables, "", needs(tables, found.tables))

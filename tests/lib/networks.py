@@ -1,0 +1,58 @@
+"""Networks made at random, or for one purpose: lawful tables, admitted or not."""
+from __future__ import annotations
+
+import random
+
+from first_fault import BAGS
+from tables import base_tables, system_of
+
+
+def link_between(chance: random.Random, vl: int, names: list[str], is_light: bool) -> dict:
+    """A link, whose four keys have any value in range."""
+    sender = names[vl % len(names)]
+    others = [name for name in names if name != sender]
+    bag = chance.choice(BAGS[3:] if is_light else BAGS)
+    lmin = chance.choice([64, 64, 70, 100])
+    return {
+        "vl": vl,
+        "from": sender,
+        "to": chance.sample(others, chance.randint(1, min(3, len(others)))),
+        "bag_ms": bag,
+        "lmin": lmin,
+        "lmax": chance.randint(lmin, 200 if is_light else 1518),
+        "jitter_us": chance.choice([0, 40, 100, 250, 500, 1000 * bag]),
+        "priority": chance.choice(["high", "low"]),
+        "policing": chance.choice(["byte", "frame"]),
+        "latency_us": chance.choice([1, 20, 200, 2000, 100_000]),
+        "skew_us": chance.choice([1, 20, 200, 2000, 100_000]),
+        "subs": 1,
+    }
+
+
+def network(chance: random.Random, links: int, is_light: bool) -> dict:
+    """A network of so many links, each system of which sends about as many; a light one has values
+    with which it is admitted, unless it has many links to a slow line."""
+    profile = chance.choice([1, 2])
+    rates = [10, 100, 100, 100] if links <= 40 else [100]
+    rates += [1000] if profile == 2 else []
+    count = 24 if links > 100 else chance.randint(2, 24)
+    ports = chance.sample(range(1, 25), count)
+    systems = [system_of(port, chance.choice(rates)) for port in ports]
+    names = [system["name"] for system in systems]
+    return {
+        "profile": profile,
+        "buffer": chance.choice([64, 300, 3000, 65536]),
+        "system": systems,
+        "link": [link_between(chance, vl, names, is_light) for vl in range(links)],
+        "port": [],
+    }
+
+
+def one_port(profile: int, senders: int, links: int, lmax: int, rate: int) -> dict:
+    """Links of the longest gap from some senders to the system s24, whose line has that rate."""
+    fastest = 1000 if profile == 2 else 100
+    systems = [system_of(port, fastest) for port in range(1, senders + 1)]
+    tables = base_tables(profile)
+    row = tables["link"][0] | {"to": ["s24"], "bag_ms": 128, "lmax": lmax}
+    rows = [row | {"vl": vl, "from": f"s{vl % senders + 1}"} for vl in range(links)]
+    return tables | {"system": [*systems, system_of(24, rate)], "link": rows, "port": []}
