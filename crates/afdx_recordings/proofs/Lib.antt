@@ -1,0 +1,5 @@
+pub mod OrderLemmas
+pub mod HeldLemmas
+pub mod BlockLemmas
+pub mod ReadingLemmas
+pub mod PacketLemmas
