@@ -43,10 +43,10 @@ next_block-within n following meaning k bytes some = by (eqb (length bytes) 0) r
     by false e = with_first-within n bytes k (λ head. by_length n (following head) meaning k bytes)
         (λ _. by_length-within n (following (take n bytes)) meaning k bytes some)
 
-not_less : (a b : ℕ) → b ≤ a → ltb a b ≡ false
+pub not_less : (a b : ℕ) → b ≤ a → ltb a b ≡ false
 not_less a b h = grind arith
 
-less : (a b : ℕ) → a < b → ltb a b ≡ true
+pub less : (a b : ℕ) → a < b → ltb a b ≡ true
 less a b h = grind arith
 
 not_none : (a : ℕ) → 0 < a → eqb a 0 ≡ false

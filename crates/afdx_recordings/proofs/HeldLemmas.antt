@@ -61,15 +61,19 @@ Passes-nothing old new held left over calls = record {
   parts = append-nil old.held ∙ sym held;
 }
 
+pub Gives-then : (a b c : Standing) (first next : List ℕ) → Gives a b first → Gives b c next
+    → Gives a c (first ++ next)
+Gives-then a b c first next h k = record {
+  consumed = Consumes-trans a.left b.left c.left first next h.consumed k.consumed;
+  calls = let size : length (first ++ next) ≡ length first + length next = grind (arith, common_steps) in
+      omega (arith, h.calls, k.calls, size);
+}
+
 pub Passes-then : (a b c : Standing) (first next : List ℕ) → Passes a b first → Passes b c next
     → Passes a c (first ++ next)
 Passes-then a b c first next h k = record {
   given = h.given ++ k.given;
-  gives = record {
-    consumed = Consumes-trans a.left b.left c.left h.given k.given h.gives.consumed k.gives.consumed;
-    calls = let size : length (h.given ++ k.given) ≡ length h.given + length k.given = grind (arith, common_steps) in
-        omega (arith, h.gives.calls, k.gives.calls, size);
-  };
+  gives = Gives-then a b c h.given k.given h.gives k.gives;
   parts = sym (append_assoc a.held h.given k.given)
       ∙ ap (λ (bytes : List ℕ). bytes ++ k.given) h.parts
       ∙ append_assoc first b.held k.given
@@ -106,3 +110,11 @@ pub same_front : (xs ys zs : List ℕ) (n start end : ℕ) → end ≤ length xs
 same_front xs ys zs n start end within all h =
     let whole : take n xs ≡ xs = grind (arith, common_steps) in
     rw (h, whole) (grind (arith, common_steps))
+
+-- what is held says nothing of what was given
+pub Gives-same : (old mid new : Standing) (given : List ℕ) → Gives old mid given → new.left ≡ mid.left
+    → new.over ≡ mid.over → new.calls ≡ mid.calls → Gives old new given
+Gives-same old mid new given gives left over calls = record {
+  consumed = rw left gives.consumed;
+  calls = rw (over, calls) gives.calls;
+}

@@ -3,3 +3,4 @@ pub mod HeldLemmas
 pub mod BlockLemmas
 pub mod ReadingLemmas
 pub mod PacketLemmas
+pub mod OpeningLemmas

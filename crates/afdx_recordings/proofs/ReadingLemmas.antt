@@ -6,12 +6,17 @@ use Rattle.std.proofs.lemmas.List.{drop-append-le, append-nil}
 use Rattle.std.proofs.lemmas.Grind.{common_steps}
 use Rattle.afdx_recordings.specs.declared.form.Form.{Form}
 use Rattle.afdx_recordings.specs.declared.form.Form.TheVariants as form
-use Rattle.afdx_recordings.specs.Holding.{Standing, Gives, Passes}
+use Rattle.std.proofs.Common.{Result, Ok, Err, ltb}
+use Rattle.afdx_lists.specs.Calls.{is_read}
+use Rattle.afdx_lists.specs.declared.fault.RunFault.{RunFault}
+use Rattle.afdx_lists.specs.declared.fault.RunFault.TheVariants as run
+use Rattle.afdx_lists.specs.declared.recording_fault.RecordingFault.TheVariants.{Ended}
+use Rattle.afdx_recordings.specs.Holding.{Standing, Gives, Passes, IsOfReading}
 use Rattle.afdx_recordings.specs.Recordings.{State, Step, Ends, Takes, Ending, Over, Faulted, Recording, Numbered}
 use Rattle.afdx_recordings.specs.Recordings.{no_more, in_front, lost_by}
 use Rattle.afdx_recordings.specs.Pcap.{packet_head, captured_by, packet_meaning}
 use Rattle.afdx_recordings.specs.Reading.{step_by, by_step, said_within, blocks_from, recorded_from, recorded_by}
-use Rattle.afdx_recordings.specs.Reading.{SaysFirst, SaysEnding, SaysNothing, CanFollow, is_unfinished}
+use Rattle.afdx_recordings.specs.Reading.{SaysFirst, SaysEnding, SaysNothing, CanFollow, is_unfinished, Tells}
 use Rattle.afdx_recordings.proofs.BlockLemmas.{IsWithin, next_block-within}
 
 step_by-within : (form : Option Form) (state : State) (bytes : List ℕ) → IsWithin bytes (step_by form state bytes)
@@ -109,3 +114,35 @@ SaysNothing-block old new before form ending given h gives ends unfinished = rec
       ∙ ap (by_step blocks_from before (old.held ++ given)) ends;
   unfinished = unfinished;
 }
+
+-- a read failed, or there was no memory
+pub Tells-of_reading : (fault : RunFault) (old new : Standing) (before after : State) (item : Numbered)
+    → IsOfReading fault → (is_read fault ≡ true → SaysNothing old new before)
+    → Tells (Err fault) old new before after item
+Tells-of_reading run.Read old new before after item h says = says refl
+Tells-of_reading run.Memory old new before after item h says = tt
+Tells-of_reading (run.BadLine n) old new before after item h says = absurd h
+Tells-of_reading (run.BadHex n) old new before after item h says = absurd h
+Tells-of_reading (run.TimeBack n) old new before after item h says = absurd h
+Tells-of_reading (run.TimeTooLarge n) old new before after item h says = absurd h
+Tells-of_reading (run.BadPort n) old new before after item h says = absurd h
+Tells-of_reading (run.LineTooLong n) old new before after item h says = absurd h
+Tells-of_reading run.TooManyLines old new before after item h says = absurd h
+Tells-of_reading (run.Recording f) old new before after item h says = absurd h
+Tells-of_reading run.Write old new before after item h says = absurd h
+
+-- the input ended between two blocks, or within a head
+pub Tells-end : (result : Result Bool RunFault) (old new : Standing) (before after : State) (item : Numbered)
+    → new.ended ≡ true
+    → (length new.held ≡ 0 → result ≡ Ok false)
+    → (0 < length new.held → result ≡ Err (run.Recording (Ended before.numbers)))
+    → (length new.held ≡ 0 → SaysEnding old new before Over (lost_by after))
+    → (0 < length new.held → SaysEnding old new before (Faulted (Ended before.numbers)) (lost_by before))
+    → Tells result old new before after item
+Tells-end result old new before after item ended over short says_over says_short = by (ltb 0 (length new.held)) refl
+  where
+    by : (b : Bool) → ltb 0 (length new.held) ≡ b → Tells result old new before after item
+    by true e = let some : 0 < length new.held = grind (arith, e) in
+        rw (short some) (lost_by before, says_short some)
+    by false e = let none : length new.held ≡ 0 = grind (arith, e) in
+        rw (over none) (ended, says_over none)

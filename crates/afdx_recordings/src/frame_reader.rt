@@ -1,6 +1,6 @@
 //! The frames of a recording, one at a time.
 
-ghost use Rattle.std.specs.Prelude.{◌≡◌, ◌≤◌, ◌<◌, ◌+◌, ◌-◌, [], List, ℕ, Ok, Err, Some, length, take, drop};
+ghost use Rattle.std.specs.Prelude.{◌≡◌, ◌≤◌, ◌<◌, ◌+◌, ◌-◌, [], List, ℕ, Ok, Err, Some, None, length, take, drop};
 ghost use Rattle.std.specs.Prelude.{vec_len, true, false, IfOk, IfErr, OnOk, MatchResult};
 ghost use Rattle.afdx_lists.specs.Calls.{is_failed_read};
 
@@ -9,7 +9,7 @@ use crate::held::Held;
 use crate::interface::Interface;
 use crate::order::Order;
 use crate::packet::frame_of;
-use crate::recorded::{Recorded, RecordedFrame};
+use crate::recorded::Recorded;
 use afdx_lists::{RecordingFault, RunFault, Watched};
 use std::alloc::{AllocError, Global};
 use std::io::Read;
@@ -43,9 +43,10 @@ pub struct FrameReader {
 impl FrameReader {
     ghost use Rattle.afdx_lists.specs.Watching.{has_ended, has_failed};
     ghost use Rattle.afdx_recordings.specs.Holding.{unread, standing, IsTrueToEnd};
-    ghost use Rattle.afdx_recordings.specs.Recordings.{at_start, after_number};
+    ghost use Rattle.afdx_recordings.specs.Recordings.{at_start, after_number, lost_by, most_numbers};
     ghost use Rattle.afdx_recordings.specs.Pcap.{captured_by};
-    ghost use Rattle.afdx_recordings.specs.Reading.{state_of, latest, Tells};
+    ghost use Rattle.afdx_recordings.specs.Reading.{state_of, latest, magic_of, Tells, SaysSame};
+    ghost use Rattle.afdx_recordings.specs.Orders.{number_in};
     ghost use Rattle.afdx_recordings.specs.declared.form.Form.TheVariants.{Pcap};
 
     /// A reader that has taken nothing yet.
@@ -87,6 +88,130 @@ impl FrameReader {
         self.held.lent()
     }
 
+    /// Frames that the recorder lost so far, by the statistics of a pcapng; 2^64 - 1 if it is more.
+    pub fn lost(&self) -> u64
+        ensures { result ≡ lost_by (state_of self.now) }
+    {
+        let mut lost = self.lost_before;
+        for interface in &self.interfaces {
+            lost = lost.saturating_add(interface.interface_lost);
+            lost = lost.saturating_add(interface.system_lost);
+        }
+        lost
+    }
+
+    /// Takes the next number. False: there is none, and the input gave its end.
+    ///
+    /// `Recording` comes for what is wrong with the recording, `Read` exactly where the input failed
+    /// and the next byte was needed, `Memory` where there is no room for a block. The input isn't
+    /// read once a frame stands whole, nor after its end or a fault.
+    pub fn next<R: Read>(&mut self, input: &mut Watched<R>) -> Result<bool, RunFault>
+        requires sound { has_failed input.old ≡ false }
+        requires honest { IsTrueToEnd (standing R.remaining self.old.held input.old) }
+        ensures honest { IsTrueToEnd (standing R.remaining self.new.held input.new) }
+        ensures failed { has_failed input.new ≡ is_failed_read result }
+        ensures tells { Tells result (standing R.remaining self.old.held input.old)
+            (standing R.remaining self.new.held input.new)
+            (state_of self.old) (state_of self.new) (latest self.new) }
+        ensures number { result ≡ Ok true →
+            (state_of self.new).numbers ≡ (state_of self.old).numbers + 1 }
+        ensures few { (state_of self.new).numbers ≤ most_numbers }
+    {
+        match self.form {
+            Some(form) => self.next_of(form, input),
+            None => {
+                let form = self.open(input)?;
+                self.next_of(form, input)
+            }
+        }
+    }
+
+    /// The next number of a recording of this form.
+    fn next_of<R: Read>(&mut self, form: Form, input: &mut Watched<R>) -> Result<bool, RunFault>
+        requires sound { has_failed input.old ≡ false }
+        requires honest { IsTrueToEnd (standing R.remaining self.old.held input.old) }
+        requires form { self.old.form ≡ Some form }
+        ensures honest { IsTrueToEnd (standing R.remaining self.new.held input.new) }
+        ensures failed { has_failed input.new ≡ is_failed_read result }
+        ensures tells { Tells result (standing R.remaining self.old.held input.old)
+            (standing R.remaining self.new.held input.new)
+            (state_of self.old) (state_of self.new) (latest self.new) }
+        ensures number { result ≡ Ok true →
+            (state_of self.new).numbers ≡ (state_of self.old).numbers + 1 }
+        ensures few { (state_of self.new).numbers ≤ most_numbers }
+    {
+        match form {
+            Form::Pcap(pcap) => self.next_packet(pcap, input),
+        }
+    }
+
+    /// Reads how the recording begins.
+    fn open<R: Read>(&mut self, input: &mut Watched<R>) -> Result<Form, RunFault>
+        requires sound { has_failed input.old ≡ false }
+        requires honest { IsTrueToEnd (standing R.remaining self.old.held input.old) }
+        requires form { self.old.form ≡ None }
+        ensures honest { IsTrueToEnd (standing R.remaining self.new.held input.new) }
+        ensures failed { has_failed input.new ≡ is_failed_read result }
+        ensures form { IfOk result (λ form. self.new.form ≡ Some form) }
+        ensures number { (state_of self.new).numbers ≡ (state_of self.old).numbers }
+        ensures opens { IfOk result (λ form. SaysSame
+            (standing R.remaining self.old.held input.old)
+            (standing R.remaining self.new.held input.new)
+            (state_of self.old) (state_of self.new)) }
+        ensures tells { IfErr result (λ fault. Tells (Err fault)
+            (standing R.remaining self.old.held input.old)
+            (standing R.remaining self.new.held input.new)
+            (state_of self.old) (state_of self.new) (latest self.new)) }
+    {
+        if !self.held.fill(input, MAGIC)? {
+            return Err(RunFault::Recording(RecordingFault::NotRecording(0)));
+        }
+        let number = Order::HighFirst.word(self.held.bytes(), 0);
+        match magic_named(number) {
+            Some(Magic::Pcap(order, nanoseconds)) => self.open_pcap(order, nanoseconds, input),
+            None => Err(RunFault::Recording(RecordingFault::NotRecording(0))),
+        }
+    }
+
+    /// Reads the header of a pcap, of which the first bytes are held.
+    fn open_pcap<R: Read>(
+        &mut self,
+        order: Order,
+        nanoseconds: bool,
+        input: &mut Watched<R>,
+    ) -> Result<Form, RunFault>
+        requires sound { has_failed input.old ≡ false }
+        requires honest { IsTrueToEnd (standing R.remaining self.old.held input.old) }
+        requires form { self.old.form ≡ None }
+        requires held { 4 ≤ length (unread self.old.held) }
+        requires magic { magic_of (number_in Order.HighFirst 4 (unread self.old.held))
+            ≡ Some (Magic.Pcap order nanoseconds) }
+        ensures honest { IsTrueToEnd (standing R.remaining self.new.held input.new) }
+        ensures failed { has_failed input.new ≡ is_failed_read result }
+        ensures form { IfOk result (λ form. self.new.form ≡ Some form) }
+        ensures number { (state_of self.new).numbers ≡ (state_of self.old).numbers }
+        ensures opens { IfOk result (λ form. SaysSame
+            (standing R.remaining self.old.held input.old)
+            (standing R.remaining self.new.held input.new)
+            (state_of self.old) (state_of self.new)) }
+        ensures tells { IfErr result (λ fault. Tells (Err fault)
+            (standing R.remaining self.old.held input.old)
+            (standing R.remaining self.new.held input.new)
+            (state_of self.old) (state_of self.new) (latest self.new)) }
+    {
+        if !self.held.fill(input, PCAP_HEAD)? {
+            return Err(RunFault::Recording(RecordingFault::Ended(0)));
+        }
+        if !is_known_version(order, self.held.bytes()) {
+            return Err(RunFault::Recording(RecordingFault::BadVersion(0)));
+        }
+        let pcap = form_of(order, nanoseconds, self.held.bytes());
+        self.held.pass(PCAP_HEAD, 0, 0);
+        self.order = order;
+        self.form = Some(Form::Pcap(pcap));
+        Ok(Form::Pcap(pcap))
+    }
+
     /// The next frame of a pcap.
     fn next_packet<R: Read>(
         &mut self,
@@ -101,6 +226,9 @@ impl FrameReader {
         ensures tells { Tells result (standing R.remaining self.old.held input.old)
             (standing R.remaining self.new.held input.new)
             (state_of self.old) (state_of self.new) (latest self.new) }
+        ensures number { result ≡ Ok true →
+            (state_of self.new).numbers ≡ (state_of self.old).numbers + 1 }
+        ensures few { (state_of self.new).numbers ≤ most_numbers }
     {
         if !self.held.fill(input, PACKET_HEAD)? {
             return self.end();
@@ -119,7 +247,8 @@ impl FrameReader {
     #[tactic(auto, unfolding(crate::specs::Pcap::captured_by))]
     fn captured(&self) -> Result<u32, RunFault>
         requires { 16 ≤ length (unread self.now.held) }
-        ensures { MatchResult result
+        ensures few { OnOk result (self.now.blocks < 100000000000000000) }
+        ensures told { MatchResult result
             (λ n. captured_by (state_of self.now) (unread self.now.held) ≡ Some n)
             (λ fault. (fault ≡ RunFault.Recording (RecordingFault.Damaged self.now.numbers))
             × (captured_by (state_of self.now) (unread self.now.held) ≡ None)) }
