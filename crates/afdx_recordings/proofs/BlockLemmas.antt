@@ -1,9 +1,8 @@
 -- What stands next, by the lengths that are told.
-use Rattle.std.proofs.Common.{◌≡◌, Bool, true, false, eqb, ltb, ℕ, ◌+◌, ◌-◌, ◌<◌, ◌≤◌, cond}
-use Rattle.std.proofs.Common.{List, [], ◌++◌, length, take, drop, refl, ap, sym, ◌∙◌, arith, Option, Some, None}
-use Rattle.std.proofs.lemmas.Grind.{common_steps}
+use Rattle.std.proofs.Common.{◌≡◌, Bool, true, false, eqb, ltb, ℕ, ◌+◌, ◌<◌, ◌≤◌, cond}
+use Rattle.std.proofs.Common.{List, length, take, refl, arith, Option, Some, None}
 use Rattle.afdx_lists.specs.declared.recording_fault.RecordingFault.TheVariants.{Damaged, Ended}
-use Rattle.afdx_recordings.specs.Recordings.{State, Step, Ends, Takes, Over, Faulted, Meaning, Wrong, Says, Numbered}
+use Rattle.afdx_recordings.specs.Recordings.{Step, Ends, Takes, Over, Faulted, Meaning, Wrong, Says}
 use Rattle.afdx_recordings.specs.Recordings.{by_meaning, with_first, by_length, next_block}
 
 -- a block that is taken has some bytes, which are there

@@ -1,15 +1,14 @@
 -- Places of a chunk, and what reads behind them give.
-use Rattle.std.proofs.Common.{◌≡◌, Bool, true, false, ℕ, ◌+◌, ◌-◌, ◌<◌, ◌≤◌, min, ◌^◌, cond}
-use Rattle.std.proofs.Common.{List, [], ◌++◌, length, take, drop, refl, ap, sym, ◌∙◌, arith, Option, ◌≢◌, ◌||◌}
-use Rattle.std.proofs.Common.{slice_range, append_assoc, subst}
-use Rattle.std.specs.Io.KnownBytes.{Consumes}
+use Rattle.std.proofs.Common.{◌≡◌, Bool, true, false, ℕ, ◌+◌, ◌-◌, ◌≤◌, min, ◌^◌, cond}
+use Rattle.std.proofs.Common.{List, [], ◌++◌, length, take, drop, refl, ap, sym, ◌∙◌, arith, ◌≢◌, ◌||◌}
+use Rattle.std.proofs.Common.{slice_range, append_assoc}
 use Rattle.std.proofs.KnownBytes.{Consumes-trans, Consumes-nil}
-use Rattle.std.proofs.lemmas.List.{append-nil, drop-take, drop-append-le, take-take, take_at, take-append-drop}
+use Rattle.std.proofs.lemmas.List.{append-nil, drop-take, drop-append-le}
 use Rattle.std.proofs.lemmas.Bool.{false≢true}
 use Rattle.std.proofs.lemmas.Grind.{common_steps}
 use Rattle.afdx_lists.proofs.ReaderLemmas.{read_behind, kept_before}
 use Rattle.afdx_recordings.specs.declared.held.Held.{Held}
-use Rattle.afdx_recordings.specs.Holding.{unread, Standing, Gives, Passes, last_calls}
+use Rattle.afdx_recordings.specs.Holding.{unread, Standing, Gives, Passes}
 
 pub unread_length : (held : Held) → length (unread held) ≡ held.end - held.start
 unfolding unread

@@ -1,24 +1,22 @@
 -- How a recording begins, by what is held.
-use Rattle.std.proofs.Common.{◌≡◌, ℕ, ◌+◌, ◌<◌, ◌≤◌, Bool, true, false, ltb, List, [], ◌++◌, length, take, drop}
-use Rattle.std.proofs.Common.{refl, ap, sym, ◌∙◌, arith, subst, Option, Some, None, Ok, Err, Result, append_assoc}
-use Rattle.std.proofs.lemmas.List.{append-nil, take-append-le, take-append-drop, drop-append-le}
+use Rattle.std.proofs.Common.{◌≡◌, ℕ, ◌<◌, ◌≤◌, Bool, true, false, List, [], ◌++◌, length, drop}
+use Rattle.std.proofs.Common.{refl, ap, sym, ◌∙◌, arith, Option, Some, None, Ok, Err, Result, append_assoc}
+use Rattle.std.proofs.lemmas.List.{append-nil, drop-append-le}
 use Rattle.std.proofs.lemmas.Grind.{common_steps}
-use Rattle.std.proofs.KnownBytes.{Consumes-trans}
 use Rattle.afdx_lists.specs.declared.fault.RunFault.{RunFault}
 use Rattle.afdx_lists.specs.declared.fault.RunFault.TheVariants as run
 use Rattle.afdx_lists.specs.declared.recording_fault.RecordingFault.{RecordingFault}
 use Rattle.afdx_lists.specs.declared.recording_fault.RecordingFault.TheVariants.{NotRecording, BadVersion, Ended}
-use Rattle.afdx_recordings.specs.declared.form.PcapForm.{PcapForm}
 use Rattle.afdx_recordings.specs.declared.form.Form.{Form}
 use Rattle.afdx_recordings.specs.declared.form.Form.TheVariants as form
 use Rattle.afdx_recordings.specs.declared.form.Magic.TheVariants as magic
 use Rattle.afdx_recordings.specs.declared.order.Order.{Order}
 use Rattle.afdx_recordings.specs.declared.order.Order.TheVariants.{HighFirst}
 use Rattle.afdx_recordings.specs.Orders.{number_in}
-use Rattle.afdx_recordings.specs.Holding.{Standing, Gives, Passes}
-use Rattle.afdx_recordings.specs.Recordings.{State, Ending, Over, Faulted, Numbered, no_more, in_front, lost_by}
+use Rattle.afdx_recordings.specs.Holding.{Standing, Passes}
+use Rattle.afdx_recordings.specs.Recordings.{State, Ending, Over, Faulted, Numbered, lost_by}
 use Rattle.afdx_recordings.specs.Pcap.{pcap_form, is_pcap_version}
-use Rattle.afdx_recordings.specs.Reading.{magic_of, Opening, Refused, Opens, opening, opening_by, from_opening, blocks_from}
+use Rattle.afdx_recordings.specs.Reading.{magic_of, Opening, Refused, Opens, opening, from_opening, blocks_from}
 use Rattle.afdx_recordings.specs.Reading.{recorded_from, recorded_by, SaysFirst, SaysSame, SaysEnding, SaysNothing, CanFollow, Tells, is_unfinished}
 use Rattle.afdx_recordings.proofs.OrderLemmas.{number_in-append, number_at-append}
 use Rattle.afdx_recordings.proofs.HeldLemmas.{Gives-then, Gives-same}

@@ -1,6 +1,6 @@
 -- Frames of a pcap, by what is held.
 use Rattle.std.proofs.Common.{◌≡◌, ℕ, ◌+◌, ◌<◌, ◌≤◌, Bool, true, false, ltb, List, [], ◌++◌, length, take, drop}
-use Rattle.std.proofs.Common.{refl, ap, sym, ◌∙◌, arith, subst, Some, None}
+use Rattle.std.proofs.Common.{refl, ap, sym, ◌∙◌, arith, Some, None}
 use Rattle.std.proofs.lemmas.List.{append-nil, take-append-le, take-append-drop, drop-take, length-take-le}
 use Rattle.std.proofs.lemmas.Grind.{common_steps}
 use Rattle.afdx_lists.specs.declared.recording_fault.RecordingFault.TheVariants.{Damaged, Ended}
@@ -10,10 +10,10 @@ use Rattle.afdx_recordings.specs.declared.order.Order.{Order}
 use Rattle.afdx_recordings.specs.declared.recorded.Recorded.{Recorded}
 use Rattle.afdx_recordings.specs.declared.recorded.Recorded.TheVariants.{Frame}
 use Rattle.afdx_recordings.specs.Orders.{number_in}
-use Rattle.afdx_recordings.specs.Holding.{Standing, Gives, Passes}
-use Rattle.afdx_recordings.specs.Recordings.{State, Step, Ends, Takes, Ending, Over, Faulted, Numbered, by_meaning}
+use Rattle.afdx_recordings.specs.Holding.{Standing, Passes}
+use Rattle.afdx_recordings.specs.Recordings.{State, Ends, Takes, Ending, Over, Faulted, Numbered, by_meaning}
 use Rattle.afdx_recordings.specs.Recordings.{lost_by, after_number}
-use Rattle.afdx_recordings.specs.Pcap.{packet_head, captured_by, packet_meaning, pcap_frame}
+use Rattle.afdx_recordings.specs.Pcap.{captured_by, packet_meaning, pcap_frame}
 use Rattle.afdx_recordings.specs.Reading.{step_by, SaysFirst, SaysEnding, SaysNothing}
 use Rattle.afdx_recordings.proofs.OrderLemmas.{number_at-append}
 use Rattle.afdx_recordings.proofs.HeldLemmas.{Gives-same}
@@ -144,6 +144,7 @@ SaysNothing-short old new before pcap h passes few = by (ltb 0 (length new.held)
   where
     all : old.held ++ passes.given ≡ new.held
     all = passes.parts
+
     by : (b : Bool) → ltb 0 (length new.held) ≡ b → SaysNothing old new before
     by true e = SaysNothing-block old new before (form.Pcap pcap) (Faulted (Ended before.numbers)) passes.given h
         passes.gives (rw all (short before pcap new.held (grind (arith, e)) few)) refl

@@ -1,8 +1,7 @@
 -- All that a recording says is what stands next, and then what the rest says.
-use Rattle.std.proofs.Common.{◌≡◌, Bool, true, false, ℕ, zero, suc, ◌+◌, ◌-◌, ◌<◌, ◌≤◌}
-use Rattle.std.proofs.Common.{List, [], ◌++◌, length, take, drop, refl, ap, sym, ◌∙◌, arith, subst, Option, Some, None}
-use Rattle.std.proofs.Common.{append_assoc}
-use Rattle.std.proofs.lemmas.List.{drop-append-le, append-nil}
+use Rattle.std.proofs.Common.{◌≡◌, Bool, true, false, ℕ, zero, suc, ◌<◌, ◌≤◌}
+use Rattle.std.proofs.Common.{List, ◌++◌, length, drop, refl, ap, sym, ◌∙◌, arith, subst, Option, Some, None}
+use Rattle.std.proofs.lemmas.List.{drop-append-le}
 use Rattle.std.proofs.lemmas.Grind.{common_steps}
 use Rattle.afdx_recordings.specs.declared.form.Form.{Form}
 use Rattle.afdx_recordings.specs.declared.form.Form.TheVariants as form
@@ -11,9 +10,9 @@ use Rattle.afdx_lists.specs.Calls.{is_read}
 use Rattle.afdx_lists.specs.declared.fault.RunFault.{RunFault}
 use Rattle.afdx_lists.specs.declared.fault.RunFault.TheVariants as run
 use Rattle.afdx_lists.specs.declared.recording_fault.RecordingFault.TheVariants.{Ended}
-use Rattle.afdx_recordings.specs.Holding.{Standing, Gives, Passes, IsOfReading}
+use Rattle.afdx_recordings.specs.Holding.{Standing, Gives, IsOfReading}
 use Rattle.afdx_recordings.specs.Recordings.{State, Step, Ends, Takes, Ending, Over, Faulted, Recording, Numbered}
-use Rattle.afdx_recordings.specs.Recordings.{no_more, in_front, lost_by}
+use Rattle.afdx_recordings.specs.Recordings.{in_front, lost_by}
 use Rattle.afdx_recordings.specs.Pcap.{packet_head, captured_by, packet_meaning}
 use Rattle.afdx_recordings.specs.Reading.{step_by, by_step, said_within, blocks_from, recorded_from, recorded_by}
 use Rattle.afdx_recordings.specs.Reading.{SaysFirst, SaysEnding, SaysNothing, CanFollow, is_unfinished, Tells}

@@ -1,5 +1,5 @@
 -- What is held of an input, and what reads of it do.
-use Rattle.std.specs.Prelude.{ℕ, Bool, true, ◌≡◌, ◌≤◌, ◌<◌, ◌+◌, List, ◌++◌, length, Option, slice_range, if◌then◌else◌}
+use Rattle.std.specs.Prelude.{ℕ, Bool, true, ◌≡◌, ◌≤◌, ◌+◌, List, ◌++◌, length, Option, slice_range, if◌then◌else◌}
 use Rattle.std.specs.Io.KnownBytes.{Consumes, IsAtEnd}
 use Rattle.afdx_lists.specs.Watching.{device_of, has_ended, is_over, calls_of}
 use Rattle.afdx_lists.specs.declared.watched.Watched.{Watched}

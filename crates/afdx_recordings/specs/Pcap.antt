@@ -1,5 +1,5 @@
 -- A pcap: a header, and then frames.
-use Rattle.std.specs.Prelude.{ℕ, Bool, true, false, ◌+◌, ◌*◌, ◌/◌, ◌%◌, ◌^◌, ◌==◌, ◌&&◌, nat_lt, nat_le, List, drop, Option, Some, None, if◌then◌else◌}
+use Rattle.std.specs.Prelude.{ℕ, Bool, false, ◌*◌, ◌/◌, ◌%◌, ◌^◌, ◌==◌, ◌&&◌, nat_lt, nat_le, List, drop, Option, Some, None, if◌then◌else◌}
 use Rattle.afdx_recordings.specs.declared.order.Order.{Order}
 use Rattle.afdx_recordings.specs.declared.form.PcapForm.{PcapForm}
 use Rattle.afdx_recordings.specs.declared.recorded.CheckSequence.{CheckSequence}
@@ -8,7 +8,7 @@ use Rattle.afdx_recordings.specs.declared.recorded.Recorded.TheVariants.{Frame}
 use Rattle.afdx_recordings.specs.declared.recorded.RecordedFrame.{RecordedFrame}
 use Rattle.afdx_recordings.specs.Orders.{half_at, word_at}
 use Rattle.afdx_recordings.specs.Stamps.{pcap_stamp}
-use Rattle.afdx_recordings.specs.Recordings.{State, Meaning, Says, Numbered, after_number, most_numbers, longest_capture}
+use Rattle.afdx_recordings.specs.Recordings.{State, Meaning, Says, after_number, most_numbers, longest_capture}
 
 -- the bytes of a pcap's header, and of a frame's
 abbrev pub pcap_head : ℕ

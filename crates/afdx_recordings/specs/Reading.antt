@@ -1,5 +1,5 @@
 -- All that a recording says, from its bytes.
-use Rattle.std.specs.Prelude.{ℕ, zero, suc, Bool, true, false, ◌≡◌, ◌+◌, ◌==◌, ◌++◌, List, [], length, drop, nat_lt, Option, Some, None, Result, Ok, Err, if◌then◌else◌}
+use Rattle.std.specs.Prelude.{ℕ, zero, suc, Bool, true, false, ◌≡◌, ◌==◌, ◌++◌, List, [], length, drop, nat_lt, Option, Some, None, Result, Ok, Err, if◌then◌else◌}
 use Rattle.afdx_lists.specs.declared.fault.RunFault.{RunFault}
 use Rattle.afdx_lists.specs.declared.fault.RunFault.TheVariants as run
 use Rattle.afdx_lists.specs.declared.recording_fault.RecordingFault.{RecordingFault}
@@ -124,11 +124,12 @@ pub record SaysSame (old new : Standing) (before after : State) : Type 0 where
       ≡ recorded_from after (new.held ++ more)
 
 -- nothing more is said, and all ends so, whatever can follow
-pub record SaysEnding (old new : Standing) (before : State) (ending : Ending) (lost : ℕ) : Type 0 where
+pub record SaysEnding (old new : Standing) (before : State) (ending : Ending) (lost : ℕ)
+    : Type 0 where
   pub given : List ℕ
   pub gives : Gives old new given
-  pub says : (more : List ℕ) → CanFollow new more → recorded_from before ((old.held ++ given) ++ more)
-      ≡ no_more ending lost
+  pub says : (more : List ℕ) → CanFollow new more
+      → recorded_from before ((old.held ++ given) ++ more) ≡ no_more ending lost
 
 -- what was given says nothing yet that takes a number, and no end for sure
 pub record SaysNothing (old new : Standing) (before : State) : Type 0 where
@@ -140,7 +141,8 @@ pub record SaysNothing (old new : Standing) (before : State) : Type 0 where
   pub unfinished : is_unfinished ending ≡ true
 
 -- the answer to a call for the next item
-abbrev pub Tells : Result Bool RunFault → (old new : Standing) → (before after : State) → Numbered → Type 0
+abbrev pub Tells : Result Bool RunFault → (old new : Standing) → (before after : State)
+    → Numbered → Type 0
 Tells (Ok true) old new before after item = SaysFirst old new before after item
 Tells (Ok false) old new before after item =
     (new.ended ≡ true) × SaysEnding old new before Over (lost_by after)

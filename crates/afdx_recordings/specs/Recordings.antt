@@ -1,7 +1,7 @@
 -- What a recording says: its numbers one by one, and how it ends.
-use Rattle.std.specs.Prelude.{ℕ, Bool, true, false, ◌≡◌, ◌+◌, ◌-◌, ◌^◌, ◌==◌, min, List, [], ◌∷◌, length, take, drop, nat_lt, Option, Some, None, if◌then◌else◌}
+use Rattle.std.specs.Prelude.{ℕ, ◌+◌, ◌-◌, ◌^◌, ◌==◌, min, List, [], ◌∷◌, length, take, nat_lt, Option, Some, None, if◌then◌else◌}
 use Rattle.afdx_lists.specs.declared.recording_fault.RecordingFault.{RecordingFault}
-use Rattle.afdx_lists.specs.declared.recording_fault.RecordingFault.TheVariants.{Damaged, Ended, NotRecording}
+use Rattle.afdx_lists.specs.declared.recording_fault.RecordingFault.TheVariants.{Damaged, Ended}
 use Rattle.afdx_recordings.specs.declared.recorded.Recorded.{Recorded}
 use Rattle.afdx_recordings.specs.declared.interface.Interface.{Interface}
 use Rattle.afdx_recordings.specs.declared.form.Form.{Form}
@@ -101,7 +101,8 @@ by_meaning n (Says state item) = Takes n state item
 
 -- the first n bytes say this; with fewer the recording ended behind k numbers
 abbrev pub with_first : ℕ → List ℕ → ℕ → (List ℕ → Step) → Step
-with_first n bytes k says = if nat_lt (length bytes) n then Ends (Faulted (Ended k)) else says (take n bytes)
+with_first n bytes k says =
+    if nat_lt (length bytes) n then Ends (Faulted (Ended k)) else says (take n bytes)
 
 -- a head of n bytes that so many follow, or that can't be right; then the whole has a meaning
 abbrev pub by_length : ℕ → Option ℕ → (List ℕ → Meaning) → ℕ → List ℕ → Step

@@ -1,7 +1,7 @@
 -- Stamps: ns since 1970.
 use Rattle.std.specs.Prelude.{ℕ, Bool, ◌+◌, ◌*◌, nat_lt, if◌then◌else◌}
 use Rattle.afdx_recordings.specs.declared.recorded.Stamp.{Stamp}
-use Rattle.afdx_recordings.specs.declared.recorded.Stamp.TheVariants.{Missing, Bad, At}
+use Rattle.afdx_recordings.specs.declared.recorded.Stamp.TheVariants.{Bad, At}
 
 -- ns in a second
 abbrev pub second : ℕ

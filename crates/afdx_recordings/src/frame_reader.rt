@@ -88,7 +88,8 @@ impl FrameReader {
         self.held.lent()
     }
 
-    /// Frames that the recorder lost so far, by the statistics of a pcapng; 2^64 - 1 if it is more.
+    /// Frames that the recorder lost so far, by its statistics; 2^64 - 1 if it is more. A pcap has
+    /// none.
     pub fn lost(&self) -> u64
         ensures { result ≡ lost_by (state_of self.now) }
     {
@@ -102,9 +103,9 @@ impl FrameReader {
 
     /// Takes the next number. False: there is none, and the input gave its end.
     ///
-    /// `Recording` comes for what is wrong with the recording, `Read` exactly where the input failed
-    /// and the next byte was needed, `Memory` where there is no room for a block. The input isn't
-    /// read once a frame stands whole, nor after its end or a fault.
+    /// `Recording` comes for what is wrong with the recording, `Read` exactly where the input
+    /// failed and the next byte was needed, `Memory` where there is no room for a frame. The input
+    /// isn't read once a frame stands whole, nor after its end or a fault.
     pub fn next<R: Read>(&mut self, input: &mut Watched<R>) -> Result<bool, RunFault>
         requires sound { has_failed input.old ≡ false }
         requires honest { IsTrueToEnd (standing R.remaining self.old.held input.old) }
@@ -264,7 +265,8 @@ impl FrameReader {
     /// What is answered where the input ended and less than a header is held.
     fn end(&self) -> Result<bool, RunFault>
         ensures over { length (unread self.now.held) ≡ 0 → result ≡ Ok false }
-        ensures ended { 0 < length (unread self.now.held) → result ≡ Err (RunFault.Recording (RecordingFault.Ended self.now.numbers)) }
+        ensures ended { 0 < length (unread self.now.held) →
+            result ≡ Err (RunFault.Recording (RecordingFault.Ended self.now.numbers)) }
     {
         if self.held.count() == 0 {
             return Ok(false);

@@ -17,7 +17,11 @@ pub fn frame_of(form: PcapForm, order: Order, header: &[u8]) -> RecordedFrame
     RecordedFrame {
         interface: 0,
         link_type: form.link_type,
-        stamp: stamp_of(form.nanoseconds, order.word(header, 0), order.word(header, 4)),
+        stamp: stamp_of(
+            form.nanoseconds,
+            order.word(header, 0),
+            order.word(header, 4),
+        ),
         original: order.word(header, 12),
         check_sequence: form.check_sequence,
         found_wrong: false,

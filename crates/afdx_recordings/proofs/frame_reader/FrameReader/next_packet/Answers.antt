@@ -1,12 +1,10 @@
-use Rattle.std.proofs.Common.{rules, arith, ◌≡◌, ◌≤◌, ◌<◌, ◌+◌, ◌-◌, [], List, ℕ, Bool, true, false, Ok, Err, Some, length, take, drop}
-use Rattle.std.proofs.Common.{refl, ap, sym, ◌∙◌}
-use Rattle.afdx_lists.specs.declared.fault.RunFault.{RunFault}
-use Rattle.afdx_lists.specs.Calls.{is_read}
+use Rattle.std.proofs.Common.{rules, arith, ◌≡◌, ◌+◌, ◌-◌, [], ℕ, Err, take, drop}
+use Rattle.std.proofs.Common.{refl, ap, ◌∙◌}
 use Rattle.afdx_recordings.specs.Holding.{unread, lent, standing}
 use Rattle.afdx_recordings.specs.declared.recorded.Recorded.TheVariants.{Frame}
 use Rattle.afdx_recordings.specs.Pcap.{pcap_frame}
-use Rattle.afdx_recordings.specs.Recordings.{State, Numbered, Over, after_number, lost_by}
-use Rattle.afdx_recordings.specs.Reading.{state_of, latest, Tells, SaysNothing, SaysEnding}
+use Rattle.afdx_recordings.specs.Recordings.{lost_by}
+use Rattle.afdx_recordings.specs.Reading.{state_of}
 use Rattle.afdx_recordings.proofs.HeldLemmas.{Passes-then}
 use Rattle.afdx_recordings.proofs.PacketLemmas.{SaysFirst-packet, SaysEnding-wrong, SaysEnding-short, SaysEnding-over, SaysEnding-cut}
 use Rattle.afdx_recordings.proofs.PacketLemmas.{SaysNothing-short, SaysNothing-cut, captured_by-later, numbered}

@@ -1,11 +1,8 @@
-use Rattle.std.proofs.Common.{rules, arith, ◌≡◌, ◌∙◌, sym, ap, Err, None, Some, true, false, refl}
-use Rattle.afdx_recordings.specs.declared.order.Order.TheVariants.{HighFirst}
-use Rattle.afdx_recordings.specs.declared.form.Form.TheVariants as form
-use Rattle.afdx_recordings.specs.Orders.{number_in}
+use Rattle.std.proofs.Common.{rules, ◌≡◌, ◌∙◌, sym, ap, Err, true, false, refl}
 use Rattle.afdx_recordings.specs.Holding.{unread, standing}
 use Rattle.afdx_recordings.specs.Recordings.{lost_by}
 use Rattle.afdx_recordings.specs.Pcap.{pcap_form, is_pcap_version}
-use Rattle.afdx_recordings.specs.Reading.{state_of, magic_of}
+use Rattle.afdx_recordings.specs.Reading.{state_of}
 use Rattle.afdx_recordings.proofs.OpeningLemmas.{magic_of-later, SaysNothing-header, SaysEnding-header, SaysEnding-version}
 use Rattle.afdx_recordings.proofs.OpeningLemmas.{SaysSame-opened}
 use Rattle.afdx_recordings.proofs.ReadingLemmas.{Tells-of_reading}

@@ -1,5 +1,5 @@
-use Rattle.std.proofs.Common.{rules, arith, ◌≡◌, ◌∙◌, [], sym, ap, subst, refl}
-use Rattle.afdx_recordings.proofs.HeldLemmas.{unread_length, Passes-then, Passes-nothing}
+use Rattle.std.proofs.Common.{rules, arith}
+use Rattle.afdx_recordings.proofs.HeldLemmas.{unread_length}
 use Rattle.afdx_recordings.proofs.held.Held.fill.Goals as goal
 
 pub returns-in_err-refill-clause-few : goal.returns-in_err-refill-clause-few

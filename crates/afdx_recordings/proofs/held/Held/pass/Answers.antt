@@ -5,16 +5,37 @@ use Rattle.afdx_recordings.proofs.HeldLemmas.{unread_length, part_between}
 use Rattle.afdx_recordings.proofs.held.Held.pass.Goals as goal
 
 pub overflow_add-self : goal.overflow_add-self
-overflow_add-self c = omega (arith, unread_length c.args.self.now, c.args.self.now.ordered, c.args.self.now.within,
-    c.requires.held, c.requires.within, c.requires.ordered, c.args.self.now.chunk.ok.0)
+overflow_add-self c = omega (
+  arith,
+  unread_length c.args.self.now,
+  c.args.self.now.ordered,
+  c.args.self.now.within,
+  c.requires.held,
+  c.requires.within,
+  c.requires.ordered,
+  c.args.self.now.chunk.ok.0,
+)
 
 pub overflow_add-self-2 : goal.overflow_add-self-2
-overflow_add-self-2 c = omega (arith, unread_length c.args.self.now, c.args.self.now.ordered, c.args.self.now.within,
-    c.requires.held, c.requires.within, c.args.self.now.chunk.ok.0)
+overflow_add-self-2 c = omega (
+  arith,
+  unread_length c.args.self.now,
+  c.args.self.now.ordered,
+  c.args.self.now.within,
+  c.requires.held,
+  c.requires.within,
+  c.args.self.now.chunk.ok.0,
+)
 
 pub overflow_add-self-3 : goal.overflow_add-self-3
-overflow_add-self-3 c = omega (arith, unread_length c.args.self.now, c.args.self.now.ordered, c.args.self.now.within,
-    c.requires.held, c.args.self.now.chunk.ok.0)
+overflow_add-self-3 c = omega (
+  arith,
+  unread_length c.args.self.now,
+  c.args.self.now.ordered,
+  c.args.self.now.within,
+  c.requires.held,
+  c.args.self.now.chunk.ok.0,
+)
 
 pub invariant_of-self : goal.invariant_of-self
 invariant_of-self c =

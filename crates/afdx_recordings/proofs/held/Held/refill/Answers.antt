@@ -1,6 +1,5 @@
-use Rattle.std.proofs.Common.{rules, arith, ◌≡◌, ◌-◌, ◌≤◌, ◌+◌, ◌++◌, ◌||◌, [], List, ℕ, length, take, drop, sym, ap}
+use Rattle.std.proofs.Common.{rules, arith, ◌≡◌, ◌-◌, ◌≤◌, ◌++◌, ◌||◌, [], List, ℕ, length, take, drop, sym, ap}
 use Rattle.std.proofs.Common.{◌∙◌, slice_range, false, true, refl}
-use Rattle.std.proofs.lemmas.Grind.{common_steps}
 use Rattle.std.proofs.lemmas.List.{append-nil, length-take-le}
 use Rattle.std.proofs.KnownBytes.{Consumes-nil, Consumes-kept}
 use Rattle.afdx_recordings.specs.Holding.{unread}

@@ -1,7 +1,7 @@
-use Rattle.std.proofs.Common.{rules, arith, ◌≡◌, ◌∙◌, ◌+◌, ◌++◌, [], List, ℕ, length, take, drop, sym, ap, refl}
+use Rattle.std.proofs.Common.{rules, arith, ◌≡◌, ◌∙◌, ◌+◌, ◌++◌, [], List, ℕ, length, take, sym, ap, refl}
 use Rattle.std.proofs.lemmas.Grind.{common_steps}
 use Rattle.std.proofs.lemmas.List.{append-nil, length-take-le, take-append-drop}
-use Rattle.afdx_recordings.specs.Holding.{unread, standing, Passes}
+use Rattle.afdx_recordings.specs.Holding.{unread}
 use Rattle.afdx_recordings.proofs.HeldLemmas.{unread_length, Passes-then, Passes-held}
 use Rattle.afdx_recordings.proofs.held.Held.skip.Goals as goal
 
@@ -15,8 +15,18 @@ returns-in_err-refill-clause-few g c = λ _.
       Passes-then _ _ _ (past.0 ++ u) [] (Passes-then _ _ _ past.0 u past.1 (Passes-held _ _ u
           (sym (append-nil u) ∙ ap (λ (xs : List ℕ). u ++ xs) (sym c.clear.ensures.unread)) refl refl refl))
           c.refill.ensures.passes,
-      omega (arith, size, past.2, unread_length c.refill.new.self, c.in_err-refill.ensures.same,
-          c.refill.ensures.start, c.clear.ensures.start, c.clear.ensures.end, c.reads-test.true, c.count.ensures),
+      omega (
+        arith,
+        size,
+        past.2,
+        unread_length c.refill.new.self,
+        c.in_err-refill.ensures.same,
+        c.refill.ensures.start,
+        c.clear.ensures.start,
+        c.clear.ensures.end,
+        c.reads-test.true,
+        c.count.ensures,
+      ),
     )
 
 pub returns-then-not-branch-clause-last : goal.returns-then-not-branch-clause-last
@@ -31,8 +41,18 @@ returns-then-not-branch-clause-last g c = λ _.
       Passes-then _ _ _ (past.0 ++ u) [] (Passes-then _ _ _ past.0 u past.1 (Passes-held _ _ u
           (sym (append-nil u) ∙ ap (λ (xs : List ℕ). u ++ xs) (sym c.clear.ensures.unread)) refl refl refl))
           c.refill.ensures.passes,
-      omega (arith, size, past.2, unread_length c.refill.new.self, same,
-          c.refill.ensures.start, c.clear.ensures.start, c.clear.ensures.end, c.reads-test.true, c.count.ensures),
+      omega (
+        arith,
+        size,
+        past.2,
+        unread_length c.refill.new.self,
+        same,
+        c.refill.ensures.start,
+        c.clear.ensures.start,
+        c.clear.ensures.end,
+        c.reads-test.true,
+        c.count.ensures,
+      ),
     )
 
 pub returns-clause-all : goal.returns-clause-all
@@ -68,6 +88,14 @@ reads-preserved g c =
     }
 
 pub reads-smaller : goal.reads-smaller
-reads-smaller g c = omega (arith, c.reads-test.true, c.count.ensures, c.count-in-reads.ensures,
-    unread_length c.reads.self, c.refill.ensures.more (search rules), c.refill.ensures.start, c.clear.ensures.start,
-    c.clear.ensures.end)
+reads-smaller g c = omega (
+  arith,
+  c.reads-test.true,
+  c.count.ensures,
+  c.count-in-reads.ensures,
+  unread_length c.reads.self,
+  c.refill.ensures.more (search rules),
+  c.refill.ensures.start,
+  c.clear.ensures.start,
+  c.clear.ensures.end,
+)

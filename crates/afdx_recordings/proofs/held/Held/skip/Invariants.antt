@@ -1,4 +1,4 @@
-use Rattle.std.proofs.Common.{◌≡◌, ◌≤◌, ◌+◌, ◌-◌, List, ℕ, length, false}
+use Rattle.std.proofs.Common.{◌≡◌, ◌+◌, ◌-◌, List, ℕ, length, false}
 use Rattle.afdx_recordings.specs.Holding.{standing, Passes, IsTrueToEnd}
 use Rattle.afdx_recordings.proofs.held.Held.skip.Given as goal
 
