@@ -1,1 +1,6 @@
+pub mod Orders
+pub mod Holding
 pub mod Recordings
+pub mod Stamps
+pub mod Pcap
+pub mod Reading

@@ -1,8 +1,117 @@
 -- What a recording says: its numbers one by one, and how it ends.
-use Rattle.std.specs.Prelude.{ℕ, List, ◌∷◌}
+use Rattle.std.specs.Prelude.{ℕ, ◌+◌, ◌-◌, ◌^◌, ◌==◌, min, List, [], ◌∷◌, length, take, nat_lt, Option, Some, None, if◌then◌else◌}
+use Rattle.afdx_lists.specs.declared.recording_fault.RecordingFault.{RecordingFault}
+use Rattle.afdx_lists.specs.declared.recording_fault.RecordingFault.TheVariants.{Damaged, Ended}
 use Rattle.afdx_recordings.specs.declared.recorded.Recorded.{Recorded}
+use Rattle.afdx_recordings.specs.declared.interface.Interface.{Interface}
+use Rattle.afdx_recordings.specs.declared.form.Form.{Form}
+use Rattle.afdx_recordings.specs.declared.order.Order.{Order}
+use Rattle.afdx_recordings.specs.declared.order.Order.TheVariants.{LowFirst}
 
 -- what takes a number, and its captured bytes: none where it is no frame
 pub record Numbered : Type 0 where
   pub what : Recorded
   pub bytes : List ℕ
+
+-- how a recording ends: well, or with a fault
+pub data Ending : Type 0 where
+  Over : Ending
+  Faulted : RecordingFault → Ending
+
+-- all that a recording says; by its end the recorder lost so many frames
+pub record Recording : Type 0 where
+  pub items : List Numbered
+  pub ending : Ending
+  pub lost : ℕ
+
+-- nothing more: it ends so
+abbrev pub no_more : Ending → ℕ → Recording
+no_more ending lost = record { items = []; ending = ending; lost = lost }
+
+-- this item first
+abbrev pub in_front : Numbered → Recording → Recording
+in_front item recording = record {
+  items = item ∷ recording.items;
+  ending = recording.ending;
+  lost = recording.lost;
+}
+
+-- the most numbers, and the most blocks
+abbrev pub most_numbers : ℕ
+most_numbers = 100000000000000000
+
+-- the most bytes that are captured of a frame
+abbrev pub longest_capture : ℕ
+longest_capture = 262144
+
+-- what is known before a block: the form; the order of bytes and the interfaces of the section; how
+-- many frames were lost in the sections before; how many numbers and blocks there were
+pub record State : Type 0 where
+  pub form : Option Form
+  pub order : Order
+  pub interfaces : List Interface
+  pub lost : ℕ
+  pub numbers : ℕ
+  pub blocks : ℕ
+
+-- before the first byte
+abbrev pub at_start : State
+at_start = record {
+  form = None;
+  order = LowFirst;
+  interfaces = [];
+  lost = 0;
+  numbers = 0;
+  blocks = 0;
+}
+
+-- a sum of counts, which stops at the greatest u64
+abbrev pub plus_lost : ℕ → ℕ → ℕ
+plus_lost a b = min (a + b) (2 ^ 64 - 1)
+
+-- what the recorder lost at these interfaces, and before
+abbrev pub lost_at : ℕ → List Interface → ℕ
+lost_at before [] = before
+lost_at before (first ∷ rest) =
+    lost_at (plus_lost (plus_lost before first.interface_lost) first.system_lost) rest
+
+unfoldable pub lost_by : State → ℕ
+lost_by state = lost_at state.lost state.interfaces
+
+-- one block more, which takes no number, or one
+abbrev pub after_block : State → State
+after_block state = record state { blocks = state.blocks + 1 }
+
+abbrev pub after_number : State → State
+after_number state = record state { numbers = state.numbers + 1; blocks = state.blocks + 1 }
+
+-- what a block means: a fault; or what is known behind it, and what takes a number
+pub data Meaning : Type 0 where
+  Wrong : RecordingFault → Meaning
+  Says : State → Option Numbered → Meaning
+
+-- what stands next: an end, or a block of so many bytes
+pub data Step : Type 0 where
+  Ends : Ending → Step
+  Takes : ℕ → State → Option Numbered → Step
+
+abbrev pub by_meaning : ℕ → Meaning → Step
+by_meaning n (Wrong fault) = Ends (Faulted fault)
+by_meaning n (Says state item) = Takes n state item
+
+-- the first n bytes say this; with fewer the recording ended behind k numbers
+abbrev pub with_first : ℕ → List ℕ → ℕ → (List ℕ → Step) → Step
+with_first n bytes k says =
+    if nat_lt (length bytes) n then Ends (Faulted (Ended k)) else says (take n bytes)
+
+-- a head of n bytes that so many follow, or that can't be right; then the whole has a meaning
+abbrev pub by_length : ℕ → Option ℕ → (List ℕ → Meaning) → ℕ → List ℕ → Step
+by_length n None meaning k bytes = Ends (Faulted (Damaged k))
+by_length n (Some more) meaning k bytes =
+    with_first (n + more) bytes k (λ whole. by_meaning (n + more) (meaning whole))
+
+-- what stands next: nothing, or a head of n bytes which tells how many follow it, and then those
+unfoldable pub next_block : ℕ → (List ℕ → Option ℕ) → (List ℕ → Meaning) → ℕ → List ℕ → Step
+next_block n following meaning k bytes =
+    if length bytes == 0 then Ends Over
+    else with_first n bytes k (λ head. by_length n (following head) meaning k bytes)

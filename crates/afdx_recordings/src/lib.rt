@@ -3,6 +3,14 @@
 //! Its tests are in `afdx_part_tests`.
 #![tactic(auto)]
 
+mod form;
+mod frame_reader;
+mod held;
+mod interface;
+mod order;
+mod packet;
 mod recorded;
+mod stamp;
 
+pub use frame_reader::FrameReader;
 pub use recorded::{CheckSequence, Recorded, RecordedFrame, Stamp};

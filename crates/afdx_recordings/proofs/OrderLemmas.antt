@@ -1,0 +1,33 @@
+-- Numbers in the bytes of a recording.
+use Rattle.std.proofs.Common.{◌≡◌, ℕ, ◌+◌, ◌-◌, ◌<◌, ◌≤◌, ◌^◌, List, ◌++◌, length, take, drop, ap, ◌∙◌, arith, get_or}
+use Rattle.std.proofs.lemmas.List.{drop-append-le}
+use Rattle.std.proofs.lemmas.Grind.{common_steps}
+use Rattle.byteorder.specs.Numbers.{big_from-append, little_from-append, big_from-lt, little_from-lt}
+use Rattle.afdx_recordings.specs.declared.order.Order.{Order}
+use Rattle.afdx_recordings.specs.declared.order.Order.TheVariants.{LowFirst, HighFirst}
+use Rattle.afdx_recordings.specs.Orders.{number_in}
+
+pub rest_from : (place : ℕ) (bytes : List ℕ) → take (length bytes - place) (drop place bytes) ≡ drop place bytes
+rest_from place bytes = grind (arith, common_steps)
+
+-- a number reads only its own bytes
+pub number_in-append : (order : Order) (n : ℕ) (xs ys : List ℕ) → n ≤ length xs
+    → number_in order n (xs ++ ys) ≡ number_in order n xs
+unfolding number_in
+number_in-append LowFirst n xs ys h = little_from-append n xs ys h
+number_in-append HighFirst n xs ys h = big_from-append n xs ys h
+
+-- of bytes it is below 256^n
+pub number_in-lt : (order : Order) (n : ℕ) (xs : List ℕ) → ((k : ℕ) → get_or xs k 0 < 256)
+    → number_in order n xs < 256 ^ n
+unfolding number_in
+number_in-lt LowFirst n xs h = little_from-lt 0 n xs h
+number_in-lt HighFirst n xs h = big_from-lt 0 n xs h
+
+-- so does one that stands behind others
+pub number_at-append : (order : Order) (n place : ℕ) (xs ys : List ℕ) → place + n ≤ length xs
+    → number_in order n (drop place (xs ++ ys)) ≡ number_in order n (drop place xs)
+number_at-append order n place xs ys h =
+    let size : n ≤ length (drop place xs) = grind (arith, common_steps) in
+    ap (number_in order n) (drop-append-le place xs ys (omega arith))
+    ∙ number_in-append order n (drop place xs) ys size

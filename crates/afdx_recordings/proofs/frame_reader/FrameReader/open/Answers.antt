@@ -1,0 +1,41 @@
+use Rattle.std.proofs.Common.{rules, ◌≡◌, ◌∙◌, sym, ap, Err, None}
+use Rattle.std.proofs.lemmas.Result.{IfOk-weaker, IfErr-weaker}
+use Rattle.afdx_recordings.specs.declared.order.Order.TheVariants.{HighFirst}
+use Rattle.afdx_recordings.specs.Orders.{number_in}
+use Rattle.afdx_recordings.specs.Holding.{unread}
+use Rattle.afdx_recordings.specs.Recordings.{lost_by}
+use Rattle.afdx_recordings.specs.Reading.{state_of, magic_of}
+use Rattle.afdx_recordings.proofs.OpeningLemmas.{SaysNothing-too_short, SaysEnding-too_short, SaysEnding-unknown}
+use Rattle.afdx_recordings.proofs.OpeningLemmas.{SaysSame-held, SaysSame-then, Tells-then}
+use Rattle.afdx_recordings.proofs.ReadingLemmas.{Tells-of_reading}
+use Rattle.afdx_recordings.proofs.frame_reader.FrameReader.open.Goals as goal
+
+pub returns-in_err-fill-clause-tells : goal.returns-in_err-fill-clause-tells
+returns-in_err-fill-clause-tells g c =
+    let e : c.from_residual.result ≡ Err c.in_err-fill.field-0.0 = search rules in
+    rw e (Tells-of_reading c.in_err-fill.field-0.0 _ _ _ _ _ c.in_err-fill.ensures.fault
+    (λ is. SaysNothing-too_short _ _ _ c.requires.form c.fill.ensures.passes (c.in_err-fill.ensures.few is)))
+
+pub returns-then-not-branch-clause-tells : goal.returns-then-not-branch-clause-tells
+returns-then-not-branch-clause-tells g c =
+    let last = c.fill.ensures.last (search rules) in (
+      lost_by (state_of c.args.self.now),
+      SaysEnding-too_short _ _ _ c.requires.form c.fill.ensures.passes last.0 last.1,
+    )
+
+pub returns-in-Some-Pcap-clause-opens : goal.returns-in-Some-Pcap-clause-opens
+returns-in-Some-Pcap-clause-opens g c = IfOk-weaker c.open_pcap.result _ _
+    (λ _ h. SaysSame-then _ _ _ _ _ _ (SaysSame-held _ _ _ c.fill.ensures.passes) h) c.open_pcap.ensures.opens
+
+pub returns-in-Some-Pcap-clause-tells : goal.returns-in-Some-Pcap-clause-tells
+returns-in-Some-Pcap-clause-tells g c = IfErr-weaker c.open_pcap.result _ _
+    (λ fault h. Tells-then (Err fault) _ _ _ _ _ _ _ (SaysSame-held _ _ _ c.fill.ensures.passes) h)
+    c.open_pcap.ensures.tells
+
+pub returns-in-None-clause-tells : goal.returns-in-None-clause-tells
+returns-in-None-clause-tells g c =
+    let unknown : magic_of (number_in HighFirst 4 (unread c.fill.new.self)) ≡ None =
+    ap magic_of (sym (c.word-number.ensures ∙ ap (number_in HighFirst 4) c.bytes.ensures)) ∙ sym c.in-None.ensures in (
+      lost_by (state_of c.args.self.now),
+      SaysEnding-unknown _ _ _ c.requires.form c.fill.ensures.passes (c.fill.ensures.enough (search rules)) unknown,
+    )

@@ -1,0 +1,295 @@
+//! The frames of a recording, one at a time.
+
+ghost use Rattle.std.specs.Prelude.{◌≡◌, ◌≤◌, ◌<◌, ◌+◌, ◌-◌, [], List, ℕ, Ok, Err, Some, None, length, take, drop};
+ghost use Rattle.std.specs.Prelude.{vec_len, true, false, IfOk, IfErr, OnOk, MatchResult};
+ghost use Rattle.afdx_lists.specs.Calls.{is_failed_read};
+
+use crate::form::{Form, Magic, PcapForm, form_of, is_known_version, magic_named};
+use crate::held::Held;
+use crate::interface::Interface;
+use crate::order::Order;
+use crate::packet::frame_of;
+use crate::recorded::Recorded;
+use afdx_lists::{RecordingFault, RunFault, Watched};
+use std::alloc::{AllocError, Global};
+use std::io::Read;
+
+/// The most numbers, and the most blocks.
+const MOST_NUMBERS: u64 = 100_000_000_000_000_000;
+/// The most bytes that are captured of a frame.
+const LONGEST_CAPTURE: u32 = 262_144;
+/// The bytes that tell the form.
+const MAGIC: usize = 4;
+/// The bytes of a pcap's header.
+const PCAP_HEAD: usize = 24;
+/// The bytes of a frame's header in a pcap.
+const PACKET_HEAD: usize = 16;
+
+/// Takes the frames of a recording one by one, in memory that doesn't grow with it.
+#[derive(Debug, Drop)]
+pub struct FrameReader {
+    held: Held,
+    form: Option<Form>,
+    order: Order,
+    interfaces: Vec<Interface>,
+    lost_before: u64,
+    numbers: u64,
+    blocks: u64,
+    recorded: Recorded,
+    ghost few: { numbers ≤ blocks },
+    ghost within: { blocks ≤ 100000000000000000 },
+}
+
+impl FrameReader {
+    ghost use Rattle.afdx_lists.specs.Watching.{has_ended, has_failed};
+    ghost use Rattle.afdx_recordings.specs.Holding.{unread, standing, IsTrueToEnd};
+    ghost use Rattle.afdx_recordings.specs.Recordings.{at_start, after_number, lost_by, most_numbers};
+    ghost use Rattle.afdx_recordings.specs.Pcap.{captured_by};
+    ghost use Rattle.afdx_recordings.specs.Reading.{state_of, latest, magic_of, Tells, SaysSame};
+    ghost use Rattle.afdx_recordings.specs.Orders.{number_in};
+    ghost use Rattle.afdx_recordings.specs.declared.form.Form.TheVariants.{Pcap};
+
+    /// A reader that has taken nothing yet.
+    pub fn new(alloc: Global) -> Result<FrameReader, AllocError>
+        ensures unread { IfOk result (λ reader. unread reader.held ≡ []) }
+        ensures state { IfOk result (λ reader. state_of reader ≡ at_start) }
+    {
+        Ok(FrameReader {
+            held: Held::new(alloc)?,
+            form: None,
+            order: Order::LowFirst,
+            interfaces: Vec::new(alloc),
+            lost_before: 0,
+            numbers: 0,
+            blocks: 0,
+            recorded: Recorded::NoFrame,
+        })
+    }
+
+    /// The number that was taken last: 1, 2, 3 ..
+    pub fn number(&self) -> u64
+        ensures { result ≡ (state_of self.now).numbers }
+    {
+        self.numbers
+    }
+
+    /// What took it.
+    pub fn recorded(&self) -> Recorded
+        ensures { result ≡ (latest self.now).what }
+    {
+        self.recorded
+    }
+
+    /// The bytes that were captured of it: none where it is no frame. They stand until the next
+    /// number is asked for.
+    pub fn bytes(&self) -> &[u8]
+        ensures { result.now ≡ (latest self.now).bytes }
+    {
+        self.held.lent()
+    }
+
+    /// Frames that the recorder lost so far, by its statistics; 2^64 - 1 if it is more. A pcap has
+    /// none.
+    pub fn lost(&self) -> u64
+        ensures { result ≡ lost_by (state_of self.now) }
+    {
+        let mut lost = self.lost_before;
+        for interface in &self.interfaces {
+            lost = lost.saturating_add(interface.interface_lost);
+            lost = lost.saturating_add(interface.system_lost);
+        }
+        lost
+    }
+
+    /// Takes the next number. False: there is none, and the input gave its end.
+    ///
+    /// `Recording` comes for what is wrong with the recording, `Read` exactly where the input
+    /// failed and the next byte was needed, `Memory` where there is no room for a frame. The input
+    /// isn't read once a frame stands whole, nor after its end or a fault.
+    pub fn next<R: Read>(&mut self, input: &mut Watched<R>) -> Result<bool, RunFault>
+        requires sound { has_failed input.old ≡ false }
+        requires honest { IsTrueToEnd (standing R.remaining self.old.held input.old) }
+        ensures honest { IsTrueToEnd (standing R.remaining self.new.held input.new) }
+        ensures failed { has_failed input.new ≡ is_failed_read result }
+        ensures tells { Tells result (standing R.remaining self.old.held input.old)
+            (standing R.remaining self.new.held input.new)
+            (state_of self.old) (state_of self.new) (latest self.new) }
+        ensures number { result ≡ Ok true →
+            (state_of self.new).numbers ≡ (state_of self.old).numbers + 1 }
+        ensures few { (state_of self.new).numbers ≤ most_numbers }
+    {
+        match self.form {
+            Some(form) => self.next_of(form, input),
+            None => {
+                let form = self.open(input)?;
+                self.next_of(form, input)
+            }
+        }
+    }
+
+    /// The next number of a recording of this form.
+    fn next_of<R: Read>(&mut self, form: Form, input: &mut Watched<R>) -> Result<bool, RunFault>
+        requires sound { has_failed input.old ≡ false }
+        requires honest { IsTrueToEnd (standing R.remaining self.old.held input.old) }
+        requires form { self.old.form ≡ Some form }
+        ensures honest { IsTrueToEnd (standing R.remaining self.new.held input.new) }
+        ensures failed { has_failed input.new ≡ is_failed_read result }
+        ensures tells { Tells result (standing R.remaining self.old.held input.old)
+            (standing R.remaining self.new.held input.new)
+            (state_of self.old) (state_of self.new) (latest self.new) }
+        ensures number { result ≡ Ok true →
+            (state_of self.new).numbers ≡ (state_of self.old).numbers + 1 }
+        ensures few { (state_of self.new).numbers ≤ most_numbers }
+    {
+        match form {
+            Form::Pcap(pcap) => self.next_packet(pcap, input),
+        }
+    }
+
+    /// Reads how the recording begins.
+    fn open<R: Read>(&mut self, input: &mut Watched<R>) -> Result<Form, RunFault>
+        requires sound { has_failed input.old ≡ false }
+        requires honest { IsTrueToEnd (standing R.remaining self.old.held input.old) }
+        requires form { self.old.form ≡ None }
+        ensures honest { IsTrueToEnd (standing R.remaining self.new.held input.new) }
+        ensures failed { has_failed input.new ≡ is_failed_read result }
+        ensures form { IfOk result (λ form. self.new.form ≡ Some form) }
+        ensures number { (state_of self.new).numbers ≡ (state_of self.old).numbers }
+        ensures opens { IfOk result (λ form. SaysSame
+            (standing R.remaining self.old.held input.old)
+            (standing R.remaining self.new.held input.new)
+            (state_of self.old) (state_of self.new)) }
+        ensures tells { IfErr result (λ fault. Tells (Err fault)
+            (standing R.remaining self.old.held input.old)
+            (standing R.remaining self.new.held input.new)
+            (state_of self.old) (state_of self.new) (latest self.new)) }
+    {
+        if !self.held.fill(input, MAGIC)? {
+            return Err(RunFault::Recording(RecordingFault::NotRecording(0)));
+        }
+        let number = Order::HighFirst.word(self.held.bytes(), 0);
+        match magic_named(number) {
+            Some(Magic::Pcap(order, nanoseconds)) => self.open_pcap(order, nanoseconds, input),
+            None => Err(RunFault::Recording(RecordingFault::NotRecording(0))),
+        }
+    }
+
+    /// Reads the header of a pcap, of which the first bytes are held.
+    fn open_pcap<R: Read>(
+        &mut self,
+        order: Order,
+        nanoseconds: bool,
+        input: &mut Watched<R>,
+    ) -> Result<Form, RunFault>
+        requires sound { has_failed input.old ≡ false }
+        requires honest { IsTrueToEnd (standing R.remaining self.old.held input.old) }
+        requires form { self.old.form ≡ None }
+        requires held { 4 ≤ length (unread self.old.held) }
+        requires magic { magic_of (number_in Order.HighFirst 4 (unread self.old.held))
+            ≡ Some (Magic.Pcap order nanoseconds) }
+        ensures honest { IsTrueToEnd (standing R.remaining self.new.held input.new) }
+        ensures failed { has_failed input.new ≡ is_failed_read result }
+        ensures form { IfOk result (λ form. self.new.form ≡ Some form) }
+        ensures number { (state_of self.new).numbers ≡ (state_of self.old).numbers }
+        ensures opens { IfOk result (λ form. SaysSame
+            (standing R.remaining self.old.held input.old)
+            (standing R.remaining self.new.held input.new)
+            (state_of self.old) (state_of self.new)) }
+        ensures tells { IfErr result (λ fault. Tells (Err fault)
+            (standing R.remaining self.old.held input.old)
+            (standing R.remaining self.new.held input.new)
+            (state_of self.old) (state_of self.new) (latest self.new)) }
+    {
+        if !self.held.fill(input, PCAP_HEAD)? {
+            return Err(RunFault::Recording(RecordingFault::Ended(0)));
+        }
+        if !is_known_version(order, self.held.bytes()) {
+            return Err(RunFault::Recording(RecordingFault::BadVersion(0)));
+        }
+        let pcap = form_of(order, nanoseconds, self.held.bytes());
+        self.held.pass(PCAP_HEAD, 0, 0);
+        self.order = order;
+        self.form = Some(Form::Pcap(pcap));
+        Ok(Form::Pcap(pcap))
+    }
+
+    /// The next frame of a pcap.
+    fn next_packet<R: Read>(
+        &mut self,
+        form: PcapForm,
+        input: &mut Watched<R>,
+    ) -> Result<bool, RunFault>
+        requires sound { has_failed input.old ≡ false }
+        requires honest { IsTrueToEnd (standing R.remaining self.old.held input.old) }
+        requires form { self.old.form ≡ Some (Pcap form) }
+        ensures honest { IsTrueToEnd (standing R.remaining self.new.held input.new) }
+        ensures failed { has_failed input.new ≡ is_failed_read result }
+        ensures tells { Tells result (standing R.remaining self.old.held input.old)
+            (standing R.remaining self.new.held input.new)
+            (state_of self.old) (state_of self.new) (latest self.new) }
+        ensures number { result ≡ Ok true →
+            (state_of self.new).numbers ≡ (state_of self.old).numbers + 1 }
+        ensures few { (state_of self.new).numbers ≤ most_numbers }
+    {
+        if !self.held.fill(input, PACKET_HEAD)? {
+            return self.end();
+        }
+        let length = PACKET_HEAD + self.captured()? as usize;
+        if !self.held.fill(input, length)? {
+            return Err(self.ended());
+        }
+        let frame = frame_of(form, self.order, self.held.bytes());
+        self.held.pass(length, PACKET_HEAD, length);
+        self.give(Recorded::Frame(frame));
+        Ok(true)
+    }
+
+    /// The bytes that follow the header of a frame in a pcap.
+    #[tactic(auto, unfolding(crate::specs::Pcap::captured_by))]
+    fn captured(&self) -> Result<u32, RunFault>
+        requires { 16 ≤ length (unread self.now.held) }
+        ensures few { OnOk result (self.now.blocks < 100000000000000000) }
+        ensures told { MatchResult result
+            (λ n. captured_by (state_of self.now) (unread self.now.held) ≡ Some n)
+            (λ fault. (fault ≡ RunFault.Recording (RecordingFault.Damaged self.now.numbers))
+            × (captured_by (state_of self.now) (unread self.now.held) ≡ None)) }
+    {
+        let captured = self.order.word(self.held.bytes(), 8);
+        if self.blocks < MOST_NUMBERS && captured <= LONGEST_CAPTURE {
+            Ok(captured)
+        } else {
+            Err(RunFault::Recording(RecordingFault::Damaged(self.numbers)))
+        }
+    }
+
+    /// What is answered where the input ended and less than a header is held.
+    fn end(&self) -> Result<bool, RunFault>
+        ensures over { length (unread self.now.held) ≡ 0 → result ≡ Ok false }
+        ensures ended { 0 < length (unread self.now.held) →
+            result ≡ Err (RunFault.Recording (RecordingFault.Ended self.now.numbers)) }
+    {
+        if self.held.count() == 0 {
+            return Ok(false);
+        }
+        Err(self.ended())
+    }
+
+    /// The fault of a recording that ends here.
+    fn ended(&self) -> RunFault
+        ensures { result ≡ RunFault.Recording (RecordingFault.Ended self.now.numbers) }
+    {
+        RunFault::Recording(RecordingFault::Ended(self.numbers))
+    }
+
+    /// Counts a number.
+    fn give(&mut self, recorded: Recorded)
+        requires { self.old.blocks < 100000000000000000 }
+        ensures held { self.new.held ≡ self.old.held }
+        ensures state { state_of self.new ≡ after_number (state_of self.old) }
+        ensures recorded { self.new.recorded ≡ recorded }
+    {
+        self.recorded = recorded;
+        self.numbers += 1;
+        self.blocks += 1;
+    }
+}
