@@ -105,7 +105,27 @@ fn put_margins(
     }
 }
 
-/// Adds the line of an output port, if it has a system, and the margins there, if they are wanted.
+/// Adds the line of an output port that has a system, and the margins there, if they are wanted.
+fn put_used(
+    text: &mut Text,
+    tables: &Tables,
+    margins: bool,
+    port: u8,
+    bounds: &PortBounds,
+) -> Result<(), AllocError>
+    requires { IsBounds tables.now port bounds.now }
+    ensures { OnOk result (text_bytes text.new ≡ text_bytes text.old
+        ++ (port_line tables.now port ++ margin_lines_if margins tables.now port)) }
+{
+    put_bounds(text, port, bounds)?;
+    if margins {
+        put_margins(text, tables, port, bounds)
+    } else {
+        Ok(())
+    }
+}
+
+/// Adds the lines of an output port, if it has a system.
 fn put_port(
     text: &mut Text,
     tables: &Tables,
@@ -115,14 +135,10 @@ fn put_port(
     ensures { OnOk result (text_bytes text.new ≡ text_bytes text.old
         ++ (line_if_used tables.now port ++ margin_lines_if margins tables.now port)) }
 {
-    let Some(bounds) = bounds_of(tables, port) else {
-        return Ok(());
-    };
-    put_bounds(text, port, &bounds)?;
-    if margins {
-        put_margins(text, tables, port, &bounds)?;
+    match bounds_of(tables, port) {
+        Some(bounds) => put_used(text, tables, margins, port, &bounds),
+        None => Ok(()),
     }
-    Ok(())
 }
 
 /// Adds the lines of the ports that have a system.
