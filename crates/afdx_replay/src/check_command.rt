@@ -1,6 +1,6 @@
 //! The command `check`.
 
-ghost use Rattle.std.specs.Prelude.{◌≡◌, ◌<◌, ◌++◌, All, OnOk, IfOk, true, false, length, Some};
+ghost use Rattle.std.specs.Prelude.{◌≡◌, ◌⊎◌, ◌<◌, ◌++◌, All, OnOk, IfOk, true, false, length, Some};
 ghost use Rattle.std.specs.List.{flat_map};
 ghost use Rattle.afdx_frame.specs.Ports.{last_port};
 ghost use Rattle.afdx_config.specs.Admission.{IsAdmitted, links_to};
@@ -14,6 +14,8 @@ ghost use Rattle.afdx_replay.specs.CheckText.{port_line, line_if_used, used_port
 ghost use Rattle.afdx_replay.specs.CheckText.{link_line, margin_lines, margin_lines_if};
 ghost use Rattle.afdx_replay.specs.CheckText.{fault_line, fault_lines, answer_lines, answer};
 ghost use Rattle.afdx_replay.specs.CheckText.{check_text, check_text_of, Checks};
+ghost use Rattle.afdx_replay.specs.CheckText.{IsChecked, IsDenied, IsFaulty, IsCut};
+ghost use Rattle.afdx_replay.specs.CheckText.{IsUnchecked};
 ghost use Rattle.afdx_lists.specs.Watching.{has_failed};
 ghost use Rattle.afdx_text.specs.Texts.{text_bytes};
 
@@ -263,6 +265,47 @@ fn checked_text(
     Ok((text, is_admitted))
 }
 
+/// What `check_lines` does, a clause for each part of `Checks`.
+fn check_with<O: Write, E: Write>(
+    alloc: Global,
+    options: CheckOptions,
+    config: &[u8],
+    output: &mut Watched<O>,
+    errors: &mut Watched<E>,
+) -> u8
+    requires { has_failed output.old ≡ false }
+    ensures statuses { (result ≡ 0) ⊎ (result ≡ 1) ⊎ (result ≡ 4) }
+    ensures device { has_failed output.new ≡ true → result ≡ 4 }
+    ensures checked { result ≡ 0 → IsChecked (check_text_of options) O.contents E.contents
+        config.now output.old output.new errors.old errors.new }
+    ensures refused { result ≡ 1 →
+        IsDenied (check_text_of options) O.contents E.contents config.now
+        output.old output.new errors.old errors.new
+        ⊎ IsFaulty (check_text_of options) O.contents E.contents config.now
+        output.old output.new errors.old errors.new }
+    ensures stopped { result ≡ 4 →
+        IsCut (check_text_of options) O.contents E.contents config.now
+        output.old output.new errors.old errors.new
+        ⊎ IsUnchecked (check_text_of options) O.contents E.contents config.now
+        output.old output.new errors.old errors.new }
+{
+    let tables = match read_tables(alloc, config) {
+        Ok(tables) => tables,
+        Err(fault) => return refuse_config(fault, errors),
+    };
+    let Ok((text, is_admitted)) = checked_text(alloc, options, tables) else {
+        return want_memory(errors);
+    };
+    match write_text(output, text.as_bytes()) {
+        Ok(()) if is_admitted => DONE,
+        Ok(()) => REFUSED,
+        Err(fault) => {
+            tell_fault(errors, &fault);
+            fault.status()
+        }
+    }
+}
+
 /// Reads a configuration and writes the bounds of each output port, `P port high low buffer`, and
 /// then `ok`, or `no` and the first line of admission that is false. With `all` comes each that is,
 /// in their order. With `margins` a line `m port vl bound latency` comes behind a port's bounds for
@@ -283,21 +326,7 @@ pub fn check_lines<O: Write, E: Write>(
     ensures checks { Checks (check_text_of options) O.contents E.contents config.now
         output.old output.new errors.old errors.new result }
 {
-    let tables = match read_tables(alloc, config) {
-        Ok(tables) => tables,
-        Err(fault) => return refuse_config(fault, errors),
-    };
-    let Ok((text, is_admitted)) = checked_text(alloc, options, tables) else {
-        return want_memory(errors);
-    };
-    match write_text(output, text.as_bytes()) {
-        Ok(()) if is_admitted => DONE,
-        Ok(()) => REFUSED,
-        Err(fault) => {
-            tell_fault(errors, &fault);
-            fault.status()
-        }
-    }
+    check_with(alloc, options, config, output, errors)
 }
 
 /// The same, with the bounds and the first line that is false alone.
