@@ -1,4 +1,5 @@
 pub mod AmongOthersLemmas
+pub mod ChangedLemmas
 pub mod DistinctLemmas
 pub mod EachRowLemmas
 pub mod EntryLemmas

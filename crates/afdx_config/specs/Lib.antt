@@ -1,4 +1,5 @@
 pub mod Rows
+pub mod Changed
 pub mod Kept
 pub mod Fault
 pub mod FaultText

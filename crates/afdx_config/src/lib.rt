@@ -19,5 +19,5 @@ mod tables;
 pub use fault::{CONFIG_FAULTS, ConfigFault, Part, Place};
 pub use key_tables::{Key, LINK_KEYS, PORT_KEYS, SYSTEM_KEYS, TOP_KEYS, UNKNOWN_KEYS};
 pub use read::read_tables;
-pub use rows::{ComRow, Kind, Link, System, SystemId};
+pub use rows::{ComRow, Kind, Link, System, SystemId, Times};
 pub use tables::Tables;

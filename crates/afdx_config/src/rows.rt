@@ -54,6 +54,14 @@ impl Link {
     }
 }
 
+/// The keys of a link that follow from the traffic, in us.
+#[derive(Clone, Copy, Debug, PartialEq, Eq)]
+pub struct Times {
+    pub jitter_us: u64,
+    pub latency_us: u64,
+    pub skew_us: u64,
+}
+
 /// What a communication port does with its messages.
 #[derive(Clone, Copy, Debug, PartialEq, Eq)]
 pub enum Kind {
