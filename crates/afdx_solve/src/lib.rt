@@ -1,0 +1,13 @@
+//! The least jitter, buffer, latency and skew with which a network is admitted.
+//!
+//! Its tests are in `afdx_part_tests`.
+#![tactic(auto)]
+
+mod delays;
+mod jitters;
+pub mod laws;
+mod options;
+mod solving;
+
+pub use options::SolveOptions;
+pub use solving::solve;
