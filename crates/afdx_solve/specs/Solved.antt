@@ -78,20 +78,17 @@ unfoldable pub latency_over : (ℕ → ℕ) → List ℕ → ℕ
 latency_over delay [] = 1
 latency_over delay (place ∷ places) = max (delay place) (latency_over delay places)
 
-abbrev pub least_latency : (ℕ → ℕ) → LinkRow → ℕ
-least_latency delay l = min greatest_delay (latency_over delay l.to)
-
--- the least skew is the latency
-abbrev pub with_delays_for : SolveOptions → (ℕ → ℕ) → LinkRow → LinkRow
-with_delays_for o delay l =
-    let latency = chosen o.keep_latency o.raise_only l.latency_us (least_latency delay l) in
+-- where so many us are needed; the least skew is the latency
+abbrev pub with_delays_for : SolveOptions → ℕ → LinkRow → LinkRow
+with_delays_for o needed l =
+    let latency = chosen o.keep_latency o.raise_only l.latency_us (min greatest_delay needed) in
     record l {
       latency_us = latency;
       skew_us = chosen o.keep_skew o.raise_only l.skew_us latency;
     }
 
 abbrev pub with_delay : SolveOptions → Rows → LinkRow → LinkRow
-with_delay o t l = with_delays_for o (delay_to t l.priority) l
+with_delay o t l = with_delays_for o (latency_over (delay_to t l.priority) l.to) l
 
 unfoldable pub with_delays : SolveOptions → Rows → Rows
 with_delays o t = record t { links = map (with_delay o t) t.links }

@@ -42,7 +42,7 @@ fn delay_to(tables: &Tables, class: Priority, system: SystemId) -> u64
 
 /// The latencies that links of a class need at the output ports to all systems, by their places, in
 /// us.
-fn delays(tables: &Tables, class: Priority) -> [u64; 24]
+fn delays_of(tables: &Tables, class: Priority) -> [u64; 24]
     ensures { AreDelays tables.now class result }
 {
     let mut delays = [0; 24];
@@ -54,6 +54,7 @@ fn delays(tables: &Tables, class: Priority) -> [u64; 24]
 }
 
 /// The greatest latency that is needed at the output ports to some systems, in us, at least 1.
+#[tactic(auto, unfolding(crate::specs::Solved::latency_over))]
 fn latency_over(delays: &[u64], to: &[SystemId]) -> u64
     requires count { length delays.now ≡ last_port }
     requires within { AllByRecursion (λ i. i < last_port) (system_places to.now) }
@@ -69,8 +70,8 @@ fn latency_over(delays: &[u64], to: &[SystemId]) -> u64
 fn times_of(link: &Link, delays: &[u64], options: SolveOptions) -> Times
     requires count { length delays.now ≡ last_port }
     requires within { AllByRecursion (λ i. i < last_port) (link_row link.now).to }
-    ensures { with_times result (link_row link.now)
-        ≡ spec.with_delays_for options (slice_index delays.now) (link_row link.now) }
+    ensures { with_times result (link_row link.now) ≡ spec.with_delays_for options
+        (spec.latency_over (slice_index delays.now) (link_row link.now).to) (link_row link.now) }
 {
     let least = GREATEST_DELAY.min(latency_over(delays, link.to.as_slice()));
     let latency = chosen(options.keep_latency, options.raise_only, link.latency_us, least);
@@ -109,7 +110,7 @@ fn times_at(tables: &Tables, delays: &Delays, options: SolveOptions, index: usiz
     requires low { length delays.now.low ≡ last_port }
     ensures changed { (l : LinkRow) → slice_get tables.now.links index ≡ Some l →
         with_times result l ≡ spec.with_delays_for options
-        (slice_index (spec_delays.of_class l.priority delays.now)) l }
+        (spec.latency_over (slice_index (spec_delays.of_class l.priority delays.now)) l.to) l }
     ensures lawful { (l : LinkRow) → slice_get tables.now.links index ≡ Some l →
         IsLink (length tables.now.systems) (with_times result l) }
 {
@@ -122,8 +123,8 @@ pub(crate) fn set_delays(tables: &mut Tables, options: SolveOptions)
     ensures { tables.new ≡ spec.with_delays options tables.old }
 {
     let delays = Delays {
-        high: delays(tables, Priority::High),
-        low: delays(tables, Priority::Low),
+        high: delays_of(tables, Priority::High),
+        low: delays_of(tables, Priority::Low),
     };
     let count = tables.link_count();
     for i in 0..count {

@@ -1,6 +1,6 @@
 //! The solution.
 
-ghost use Rattle.std.specs.Prelude.{◌≡◌, ◌×◌, IfOk, OnOk, IfErr, Some, length};
+ghost use Rattle.std.specs.Prelude.{◌≡◌, ◌<◌, IfOk, OnOk, IfErr, Some, length};
 ghost use Rattle.afdx_config.specs.Admission.{IsAdmitted};
 ghost use Rattle.afdx_admit.specs.Lines.{first_false, lines};
 ghost use Rattle.afdx_admit.specs.Known.{IsKnown};
@@ -16,6 +16,15 @@ use afdx_config::{SystemId, Tables};
 const LEAST_BUFFER: u64 = 64;
 const GREATEST_BUFFER: u64 = 4_194_304;
 
+/// The most bytes that wait at the output port to a system.
+fn need_to(tables: &Tables, system: SystemId) -> u64
+    requires { system.0 < length tables.now.systems }
+    ensures { result ≡ spec.need_to tables.now system.0 }
+{
+    let bounds = bounds_to(tables, system);
+    bounds.buffer
+}
+
 /// The most bytes that wait at one of the output ports.
 fn greatest_need(tables: &Tables) -> u64
     ensures { result ≡ spec.greatest_need tables.now (length tables.now.systems) }
@@ -23,8 +32,8 @@ fn greatest_need(tables: &Tables) -> u64
     let count = tables.system_count();
     let mut greatest = 0_u64;
     for i in 0..count {
-        let bounds = bounds_to(tables, SystemId(i as u8));
-        greatest = greatest.max(bounds.buffer);
+        let needed = need_to(tables, SystemId(i as u8));
+        greatest = greatest.max(needed);
     }
     greatest
 }
