@@ -1,2 +1,4 @@
 pub mod DelayLemmas
+pub mod LeastLemmas
+pub mod SameLemmas
 pub mod StageLemmas

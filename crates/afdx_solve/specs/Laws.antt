@@ -68,7 +68,7 @@ pub record IsLeast (o : SolveOptions) (t : Rows) : Type 0 where
 abbrev pub EachIsLeast : Type 0
 EachIsLeast =
     (o : SolveOptions) (t : Rows) →
-    IsLawful t →
     o.raise_only ≡ false →
+    IsLawful (solved o t) →
     IsAdmitted (solved o t) →
     IsLeast o (solved o t)
