@@ -5,5 +5,6 @@ pub mod EachRowLemmas
 pub mod EntryLemmas
 pub mod GatheredLemmas
 pub mod GrownLemmas
+pub mod KeptLemmas
 pub mod LookUpLemmas
 pub mod NumberLemmas

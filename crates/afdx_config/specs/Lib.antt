@@ -6,6 +6,7 @@ pub mod FaultText
 pub mod Trees
 pub mod Keys
 pub mod Reading
+pub mod ToSolve
 pub mod New
 pub mod Lawful
 pub mod Flows

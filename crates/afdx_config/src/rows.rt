@@ -62,6 +62,15 @@ pub struct Times {
     pub skew_us: u64,
 }
 
+/// Which of the keys that follow from the traffic stay as they are.
+#[derive(Clone, Copy, Debug, PartialEq, Eq)]
+pub struct KeptKeys {
+    pub jitter: bool,
+    pub buffer: bool,
+    pub latency: bool,
+    pub skew: bool,
+}
+
 /// What a communication port does with its messages.
 #[derive(Clone, Copy, Debug, PartialEq, Eq)]
 pub enum Kind {

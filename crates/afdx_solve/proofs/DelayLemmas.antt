@@ -64,7 +64,7 @@ latency_over-some f (p ∷ ps) = omega (arith, latency_over-some f ps)
 delays-lawful : (o : SolveOptions) (needed systems : ℕ) (l : LinkRow) → 1 ≤ needed → IsLink systems l
     → IsLink systems (with_delays_for o needed l)
 delays-lawful o needed systems l some h =
-    let latency = chosen-within o.keep_latency o.raise_only 1 greatest_delay l.latency_us (min greatest_delay needed)
+    let latency = chosen-within o.kept.latency o.raise_only 1 greatest_delay l.latency_us (min greatest_delay needed)
     h.latency_us (omega (arith, some), omega arith) in
     record {
       vl = h.vl;
@@ -77,7 +77,7 @@ delays-lawful o needed systems l some h =
       lmax = h.lmax;
       jitter_us = h.jitter_us;
       latency_us = latency;
-      skew_us = chosen-within o.keep_skew o.raise_only 1 greatest_delay l.skew_us _ h.skew_us latency;
+      skew_us = chosen-within o.kept.skew o.raise_only 1 greatest_delay l.skew_us _ h.skew_us latency;
       subs = h.subs;
     }
 

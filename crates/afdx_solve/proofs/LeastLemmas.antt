@@ -59,7 +59,7 @@ unfolding jitter_at
 jitter_at-stands t place s at =
     ap (λ (o : Option SystemRow). option_map_or (λ r. sender_jitter (byte_ns r) (links_from t.links place)) o 0) at
 
-pub least_jitters : (o : SolveOptions) (t : Rows) → o.keep_jitter ≡ false → o.raise_only ≡ false
+pub least_jitters : (o : SolveOptions) (t : Rows) → o.kept.jitter ≡ false → o.raise_only ≡ false
     → AreLeastJitters (solved o t)
 unfolding with_jitters with_least_buffer with_delays
 least_jitters o t keep raise = λ i l s at sender us enough.
@@ -69,7 +69,7 @@ least_jitters o t keep raise = λ i l s at sender us enough.
     let from : y.0.from ≡ l.from = ap (λ r. r.from) y.2 ∙ ap (λ r. r.from) x.2 in
     let jitter : l.jitter_us ≡ (with_jitter o t y.0).jitter_us =
     sym (ap (λ r. r.jitter_us) x.2) ∙ sym (ap (λ r. r.jitter_us) y.2) in
-    let taken = chosen-least o.keep_jitter o.raise_only y.0.jitter_us
+    let taken = chosen-least o.kept.jitter o.raise_only y.0.jitter_us
     (min (1000 * y.0.bag_ms) (div_ceil (jitter_at t y.0.from) 1000)) keep raise in
     let needed : jitter_at t y.0.from ≡ sender_jitter (byte_ns s) (links_from (solved o t).links l.from) =
     ap (jitter_at t) from ∙ jitter_at-stands t l.from s sender
@@ -96,7 +96,7 @@ unfolding greatest_need
 needs-least t bytes each zero = omega arith
 needs-least t bytes each (suc place) = omega (arith, needs-least t bytes each place, each place)
 
-pub least_buffer-least : (o : SolveOptions) (t : Rows) → o.keep_buffer ≡ false → o.raise_only ≡ false
+pub least_buffer-least : (o : SolveOptions) (t : Rows) → o.kept.buffer ≡ false → o.raise_only ≡ false
     → IsLeastBuffer (solved o t)
 unfolding with_least_buffer with_delays
 least_buffer-least o t keep raise = λ bytes some enough.
@@ -104,7 +104,7 @@ least_buffer-least o t keep raise = λ bytes some enough.
     let t2 = with_least_buffer o t1 in
     let each = need-least t1 bytes (λ i s at. omega (arith, burst-same o t2 t1.links i, enough i s at)) in
     let most = needs-least t1 bytes each (length t1.systems) in
-    let taken = chosen-least o.keep_buffer o.raise_only t1.buffer (least_buffer t1) keep raise in
+    let taken = chosen-least o.kept.buffer o.raise_only t1.buffer (least_buffer t1) keep raise in
     omega (arith, taken, most, some)
 
 -- ---- latencies
@@ -203,7 +203,7 @@ in_time-before o t place ns latency Low soon =
     (subst (λ n. n ≤ latency * (byte_units - high_load ns (flows_to (map (with_delay o t) t.links) place)))
     (low_wait-same o t t.links place ns) soon)
 
-pub least_latencies : (o : SolveOptions) (t : Rows) → o.keep_latency ≡ false → o.raise_only ≡ false
+pub least_latencies : (o : SolveOptions) (t : Rows) → o.kept.latency ≡ false → o.raise_only ≡ false
     → IsLawful (with_delays o t) → IsAdmitted (with_delays o t) → AreLeastLatencies (with_delays o t)
 unfolding with_delays
 least_latencies o t keep raise lawful admitted = λ i l at us some soon.
@@ -224,16 +224,16 @@ least_latencies o t keep raise lawful admitted = λ i l at us some soon.
         (λ low. subst (λ n. 0 < byte_units - n) (high_load-same o t t.links p (byte_ns s.0))
         (left_some t3 lawful admitted p s.0 s.1 i l at goes low))) in
     let most = latency_over-least (delay_to t x.0.priority) us (length t.systems) some x.0.to before each in
-    let taken = chosen-least o.keep_latency o.raise_only x.0.latency_us
+    let taken = chosen-least o.kept.latency o.raise_only x.0.latency_us
     (min 100000 (latency_over (delay_to t x.0.priority) x.0.to)) keep raise in
     omega (arith, ap (λ r. r.latency_us) x.2, taken, most)
 
 -- ---- skews
 
-pub least_skews : (o : SolveOptions) (t : Rows) → o.keep_skew ≡ false → o.raise_only ≡ false → AreLeastSkews (with_delays o t)
+pub least_skews : (o : SolveOptions) (t : Rows) → o.kept.skew ≡ false → o.raise_only ≡ false → AreLeastSkews (with_delays o t)
 unfolding with_delays
 least_skews o t keep raise = λ i l at us room.
     let f = with_delay o t in
     let x = mapped f t.links i l at in
-    let taken = chosen-least o.keep_skew o.raise_only x.0.skew_us (f x.0).latency_us keep raise in
+    let taken = chosen-least o.kept.skew o.raise_only x.0.skew_us (f x.0).latency_us keep raise in
     omega (arith, ap (λ r. r.latency_us) x.2, ap (λ r. r.skew_us) x.2, taken, room)

@@ -60,10 +60,10 @@ AreLeastSkews t =
 
 -- of the keys that aren't kept
 pub record IsLeast (o : SolveOptions) (t : Rows) : Type 0 where
-  pub jitters : o.keep_jitter ≡ false → AreLeastJitters t
-  pub buffer : o.keep_buffer ≡ false → IsLeastBuffer t
-  pub latencies : o.keep_latency ≡ false → AreLeastLatencies t
-  pub skews : o.keep_skew ≡ false → AreLeastSkews t
+  pub jitters : o.kept.jitter ≡ false → AreLeastJitters t
+  pub buffer : o.kept.buffer ≡ false → IsLeastBuffer t
+  pub latencies : o.kept.latency ≡ false → AreLeastLatencies t
+  pub skews : o.kept.skew ≡ false → AreLeastSkews t
 
 abbrev pub EachIsLeast : Type 0
 EachIsLeast =

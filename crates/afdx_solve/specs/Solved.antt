@@ -28,7 +28,7 @@ least_jitter needed l = min (jitter_from_system l.bag_ms) (div_ceil needed 1000)
 
 abbrev pub with_jitter_for : SolveOptions → ℕ → LinkRow → LinkRow
 with_jitter_for o needed l =
-    record l { jitter_us = chosen o.keep_jitter o.raise_only l.jitter_us (least_jitter needed l) }
+    record l { jitter_us = chosen o.kept.jitter o.raise_only l.jitter_us (least_jitter needed l) }
 
 abbrev pub with_jitter : SolveOptions → Rows → LinkRow → LinkRow
 with_jitter o t l = with_jitter_for o (jitter_at t l.from) l
@@ -53,7 +53,7 @@ least_buffer t = min greatest_buffer (max least_frame (greatest_need t (length t
 
 unfoldable pub with_least_buffer : SolveOptions → Rows → Rows
 with_least_buffer o t =
-    record t { buffer = chosen o.keep_buffer o.raise_only t.buffer (least_buffer t) }
+    record t { buffer = chosen o.kept.buffer o.raise_only t.buffer (least_buffer t) }
 
 -- ---- latencies and skews
 
@@ -81,10 +81,10 @@ latency_over delay (place ∷ places) = max (delay place) (latency_over delay pl
 -- where so many us are needed; the least skew is the latency
 abbrev pub with_delays_for : SolveOptions → ℕ → LinkRow → LinkRow
 with_delays_for o needed l =
-    let latency = chosen o.keep_latency o.raise_only l.latency_us (min greatest_delay needed) in
+    let latency = chosen o.kept.latency o.raise_only l.latency_us (min greatest_delay needed) in
     record l {
       latency_us = latency;
-      skew_us = chosen o.keep_skew o.raise_only l.skew_us latency;
+      skew_us = chosen o.kept.skew o.raise_only l.skew_us latency;
     }
 
 abbrev pub with_delay : SolveOptions → Rows → LinkRow → LinkRow

@@ -7,7 +7,10 @@ mod delays;
 mod jitters;
 pub mod laws;
 mod options;
+mod same;
 mod solving;
+mod writing;
 
 pub use options::SolveOptions;
 pub use solving::solve;
+pub use writing::config_text;

@@ -3,13 +3,12 @@
 ghost use Rattle.std.specs.Prelude.{◌≡◌};
 ghost use Rattle.afdx_solve.specs.Solved as spec;
 
+use afdx_config::KeptKeys;
+
 /// Which of the four keys stay as they are, and whether the others are raised only.
 #[derive(Clone, Copy, Debug)]
 pub struct SolveOptions {
-    pub keep_jitter: bool,
-    pub keep_buffer: bool,
-    pub keep_latency: bool,
-    pub keep_skew: bool,
+    pub kept: KeptKeys,
     /// A key that isn't kept takes the greater of its value and the least.
     pub raise_only: bool,
 }

@@ -43,7 +43,7 @@ fn set_buffer(tables: &mut Tables, options: SolveOptions)
     ensures { tables.new ≡ spec.with_least_buffer options tables.old }
 {
     let least = GREATEST_BUFFER.min(LEAST_BUFFER.max(greatest_need(tables)));
-    let buffer = chosen(options.keep_buffer, options.raise_only, tables.buffer(), least);
+    let buffer = chosen(options.kept.buffer, options.raise_only, tables.buffer(), least);
     tables.set_buffer(buffer);
 }
 

@@ -13,5 +13,5 @@ returns c =
     c.min-least.ensures ∙ ap (min greatest_buffer) (c.max.ensures ∙ ap (max least_frame) c.greatest_need.ensures) in
     c.set_buffer.ensures.changed
     ∙ ap (λ b. with_buffer b t) (c.chosen-buffer.ensures
-    ∙ ap (λ n. chosen o.keep_buffer o.raise_only n c.min-least.result) c.buffer.ensures.buffer
-    ∙ ap (chosen o.keep_buffer o.raise_only t.buffer) least)
+    ∙ ap (λ n. chosen o.kept.buffer o.raise_only n c.min-least.result) c.buffer.ensures.buffer
+    ∙ ap (chosen o.kept.buffer o.raise_only t.buffer) least)
