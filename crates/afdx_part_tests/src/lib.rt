@@ -21,4 +21,6 @@ mod police;
 #[cfg(test)]
 mod port;
 #[cfg(test)]
+mod solve;
+#[cfg(test)]
 mod text;

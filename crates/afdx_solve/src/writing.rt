@@ -89,13 +89,13 @@ fn kind_word(kind: Kind) -> &'static str {
 }
 
 /// Adds a communication port.
-fn put_port(text: &mut String, tables: &Tables, com: &ComRow) -> Result<(), AllocError>
-    requires { IsPort (length tables.now.systems) tables.now.links (port_row com.now) }
+fn put_port(text: &mut String, tables: &Tables, port: &ComRow) -> Result<(), AllocError>
+    requires { IsPort (length tables.now.systems) tables.now.links (port_row port.now) }
 {
-    let system = &tables.system(com.system).name;
-    let kind = kind_word(com.kind);
-    write!(text, "\n[[port]]\nsystem = \"{system}\"\nlink = {}\n", com.link.0)?;
-    write!(text, "udp = {}\nkind = \"{kind}\"\ndepth = {}\n", com.udp, com.depth)
+    let system = &tables.system(port.system).name;
+    let kind = kind_word(port.kind);
+    write!(text, "\n[[port]]\nsystem = \"{system}\"\nlink = {}\n", port.link.0)?;
+    write!(text, "udp = {}\nkind = \"{kind}\"\ndepth = {}\n", port.udp, port.depth)
 }
 
 /// The tables in the layout of the program: the keys of each table in the order of their numbers.
