@@ -1,7 +1,7 @@
 //! Whether tables are the same.
 
 ghost use Rattle.std.specs.Prelude.{◌≡◌, ◌<◌, true, length};
-ghost use Rattle.afdx_config.specs.Rows.{system_row, link_row, port_row};
+ghost use Rattle.afdx_config.specs.Rows.{system_row, link_row, port_row, system_places};
 
 use afdx_config::{ComRow, Link, System, SystemId, Tables};
 
@@ -15,20 +15,63 @@ fn same_system(a: &System, b: &System) -> bool
         && a.rate == b.rate
 }
 
+/// Whether the same systems stand in both, in the same order.
+fn same_places(a: &[SystemId], b: &[SystemId]) -> bool
+    ensures { result ≡ true → system_places a.now ≡ system_places b.now }
+{
+    match a {
+        [] => match b {
+            [] => true,
+            _ => false,
+        },
+        [first, rest @ ..] => match b {
+            [] => false,
+            [other, others @ ..] => first.0 == other.0 && same_places(rest, others),
+        },
+    }
+}
+
+/// Whether they have the same identifier and go the same way.
+fn same_way(a: &Link, b: &Link) -> bool
+    ensures vl { result ≡ true → a.now.vl ≡ b.now.vl }
+    ensures from { result ≡ true → a.now.from ≡ b.now.from }
+    ensures to { result ≡ true → system_places a.now.to.items ≡ system_places b.now.to.items }
+{
+    a.vl == b.vl && a.from == b.from && same_places(a.to.as_slice(), b.to.as_slice())
+}
+
+/// Whether they may send as much.
+fn same_traffic(a: &Link, b: &Link) -> bool
+    ensures bag_ms { result ≡ true → a.now.bag_ms ≡ b.now.bag_ms }
+    ensures lmin { result ≡ true → a.now.lmin ≡ b.now.lmin }
+    ensures lmax { result ≡ true → a.now.lmax ≡ b.now.lmax }
+    ensures jitter_us { result ≡ true → a.now.jitter_us ≡ b.now.jitter_us }
+    ensures policing { result ≡ true → a.now.policing ≡ b.now.policing }
+{
+    a.bag_ms == b.bag_ms
+        && a.lmin == b.lmin
+        && a.lmax == b.lmax
+        && a.jitter_us == b.jitter_us
+        && a.policing == b.policing
+}
+
+/// Whether their frames are treated in the same way.
+fn same_treatment(a: &Link, b: &Link) -> bool
+    ensures priority { result ≡ true → a.now.priority ≡ b.now.priority }
+    ensures latency_us { result ≡ true → a.now.latency_us ≡ b.now.latency_us }
+    ensures skew_us { result ≡ true → a.now.skew_us ≡ b.now.skew_us }
+    ensures subs { result ≡ true → a.now.subs ≡ b.now.subs }
+{
+    a.priority == b.priority
+        && a.latency_us == b.latency_us
+        && a.skew_us == b.skew_us
+        && a.subs == b.subs
+}
+
 fn same_link(a: &Link, b: &Link) -> bool
     ensures { result ≡ true → link_row a.now ≡ link_row b.now }
 {
-    let same_ends = a.vl == b.vl && a.from == b.from && a.to == b.to;
-    let same_traffic = a.bag_ms == b.bag_ms
-        && a.lmin == b.lmin
-        && a.lmax == b.lmax
-        && a.jitter_us == b.jitter_us;
-    let same_treatment = a.priority == b.priority
-        && a.policing == b.policing
-        && a.latency_us == b.latency_us
-        && a.skew_us == b.skew_us
-        && a.subs == b.subs;
-    same_ends && same_traffic && same_treatment
+    same_way(a, b) && same_traffic(a, b) && same_treatment(a, b)
 }
 
 fn same_port(a: &ComRow, b: &ComRow) -> bool
