@@ -1,5 +1,5 @@
--- The reading of tables that are to be solved: four keys, but for those that are kept, may be absent
--- or any whole number from 0. All else is as in the reading of tables, in its order.
+-- The reading of tables that are to be solved: four keys, but for those that are kept, may be
+-- absent or any whole number from 0. All else is as in the reading of tables, in its order.
 use Rattle.std.specs.Prelude.{◌≡◌, ◌⊎◌, ℕ, ◌+◌, ◌*◌, ℤ, pos, negsuc, min, max, Bool, true, false, not, List}
 use Rattle.std.specs.Prelude.{[], ◌∷◌, length, map, codes, Option, Some, None, is_some, Result, Ok, Err}
 use Rattle.std.specs.Prelude.{IsUtf8, option_and_then}

@@ -31,8 +31,8 @@ fn profile_of(tree: &Table) -> Result<u64, ConfigFault>
     }
 }
 
-/// The tables that a tree states, or the first check that fails. Of the four keys that may be solved
-/// for, those that aren't kept may be absent or out of range.
+/// The tables that a tree states, or the first check that fails. Of the four keys that may be
+/// solved for, those that aren't kept may be absent or out of range.
 #[tactic(auto, unfolding(crate::specs::ToSolve::tables_at, crate::specs::Keys::top_keys))]
 fn tables_of(alloc: Global, tree: &Table, kept: KeptKeys) -> Result<Tables, ConfigFault>
     ensures { Gives (λ t. t) result (to_solve.tables_at kept (table_view tree.now)) }
@@ -82,9 +82,9 @@ pub fn read_tables(alloc: Global, text: &[u8]) -> Result<Tables, ConfigFault>
     all_tables_of(alloc, &tree)
 }
 
-/// The tables that the text spells, which are to be solved, or the first check that fails. Of jitter,
-/// buffer, latency and skew those that aren't kept may be absent, which stands for the least value,
-/// or any whole number from 0 on, which stands for the nearest in the key's range.
+/// The tables that the text spells, which are to be solved, or the first check that fails. Of
+/// jitter, buffer, latency and skew those that aren't kept may be absent, which stands for the
+/// least value, or any whole number from 0 on, which stands for the nearest in the key's range.
 ///
 /// Memory is answered as by `read_tables`.
 pub fn read_to_solve(alloc: Global, text: &[u8], kept: KeptKeys) -> Result<Tables, ConfigFault>

@@ -1,5 +1,5 @@
 -- What is needed at one output port, and at one more.
-use Rattle.std.proofs.Common.{◌≡◌, ℕ, ◌+◌, ◌<◌, ◌≤◌, max, List, [], ◌∷◌, length, Option, Some, slice_get, refl, sym, ap}
+use Rattle.std.proofs.Common.{◌≡◌, ℕ, ◌+◌, ◌<◌, ◌≤◌, max, List, [], ◌∷◌, Option, Some, slice_get, refl, sym, ap}
 use Rattle.std.proofs.Common.{◌∙◌, add-one, arith, min, subst, Bool, true, false}
 use Rattle.std.specs.List.{AllByRecursion}
 use Rattle.std.specs.Option.{option_map_or}
@@ -10,7 +10,7 @@ use Rattle.afdx_config.specs.Rows.{SystemRow, LinkRow, Rows}
 use Rattle.afdx_config.specs.Reading.{greatest_delay}
 use Rattle.afdx_config.specs.Lawful.{IsWithin, IsLink}
 use Rattle.afdx_config.specs.Changed.{with_times}
-use Rattle.afdx_admit.specs.Lines.{loaded_output_to, high_bound_of, low_bound_of, buffer_need_of}
+use Rattle.afdx_admit.specs.Lines.{loaded_output_to, buffer_need_of}
 use Rattle.afdx_solve.specs.declared.options.SolveOptions.{SolveOptions}
 use Rattle.afdx_solve.specs.declared.delays.Delays.{Delays}
 use Rattle.afdx_solve.specs.Solved.{class_bound, in_us, delay_to, latency_over, need_to, greatest_need}

@@ -1,6 +1,6 @@
 -- Each key that is solved for is the least that does.
-use Rattle.std.proofs.Common.{◌≡◌, ℕ, zero, suc, ◌+◌, ◌*◌, ◌-◌, ◌<◌, ◌≤◌, max, min, nat_lt, nat_le, nat_eq, Bool, true, false}
-use Rattle.std.proofs.Common.{cond, ◌||◌, if◌then◌else◌, List, [], ◌∷◌, length, map, filter, Option, Some, None, slice_get}
+use Rattle.std.proofs.Common.{◌≡◌, ℕ, zero, suc, ◌+◌, ◌*◌, ◌-◌, ◌<◌, ◌≤◌, min, nat_lt, nat_eq, Bool, true, false}
+use Rattle.std.proofs.Common.{cond, ◌||◌, if◌then◌else◌, List, [], ◌∷◌, length, map, Option, Some, None, slice_get}
 use Rattle.std.proofs.Common.{Contains, refl, sym, ap, subst, ◌∙◌, arith}
 use Rattle.std.specs.Int.{div_ceil}
 use Rattle.std.specs.List.{AllByRecursion, list_any}
@@ -10,9 +10,8 @@ use Rattle.std.proofs.lemmas.Grind.{div_ceil_times}
 use Rattle.std.proofs.Math.Nat.{lt_of_mul-lt-mul_right}
 use Rattle.afdx_frame.specs.declared.link.Priority.{Priority}
 use Rattle.afdx_frame.specs.declared.link.Priority.TheVariants.{High, Low}
-use Rattle.afdx_frame.specs.Lengths.{least_frame, greatest_buffer}
 use Rattle.afdx_frame.specs.Regulation.{byte_units}
-use Rattle.afdx_frame.specs.Flows.{Flow, of_class, is_class, burst, load, high_wait, low_wait, high_load}
+use Rattle.afdx_frame.specs.Flows.{Flow, of_class, is_class, burst, high_wait, low_wait, high_load}
 use Rattle.afdx_config.specs.Rows.{SystemRow, LinkRow, Rows, is_to}
 use Rattle.afdx_config.specs.Flows.{flow_of_link}
 use Rattle.afdx_config.specs.Lawful.{IsSystem, IsLink, IsLawful}
@@ -24,9 +23,9 @@ use Rattle.afdx_admit.proofs.SmallLemmas.{is_rate}
 use Rattle.afdx_admit.proofs.TakenLemmas.{at_place}
 use Rattle.afdx_solve.specs.declared.options.SolveOptions.{SolveOptions}
 use Rattle.afdx_solve.specs.Solved.{chosen, with_jitter, with_jitters, need_to, greatest_need, least_buffer, with_least_buffer}
-use Rattle.afdx_solve.specs.Solved.{class_bound, in_us, delay_to, latency_over, with_delay, with_delays, solved}
-use Rattle.afdx_solve.specs.Laws.{AreLeastJitters, IsLeastBuffer, IsInTime, AreLeastLatencies, AreLeastSkews, IsLeast, EachIsLeast}
-use Rattle.afdx_solve.proofs.DelayLemmas.{delay-stands, need-stands, greatest_need-more}
+use Rattle.afdx_solve.specs.Solved.{in_us, delay_to, latency_over, with_delay, with_delays, solved}
+use Rattle.afdx_solve.specs.Laws.{AreLeastJitters, IsLeastBuffer, IsInTime, AreLeastLatencies, AreLeastSkews}
+use Rattle.afdx_solve.proofs.DelayLemmas.{delay-stands}
 use Rattle.afdx_solve.proofs.SameLemmas.{jitter-with_jitter, jitter-with_delay, burst-same, high_load-same, high_wait-same, low_wait-same}
 
 -- rounded up, no more than what suffices
@@ -178,11 +177,14 @@ low_stands place (x ∷ ls) (suc i) l at goes low =
     in_more false b h = h
     in_more true b h = by b (is_class Low x.priority) refl h
       where
-        by : (b c : Bool) → is_class Low x.priority ≡ c → Contains (of_class Low (flows_to ls place)) (flow_of_link l)
+        by : (b c : Bool) → is_class Low x.priority ≡ c
+            → Contains (of_class Low (flows_to ls place)) (flow_of_link l)
             → Contains (of_class Low (map flow_of_link (x ∷ links_to ls place))) (flow_of_link l)
-        by b true e h = subst (λ c. Contains (cond c (flow_of_link x ∷ of_class Low (flows_to ls place)) (of_class Low (flows_to ls place)))
+        by b true e h = subst (λ c. Contains (cond c (flow_of_link x ∷ of_class Low (flows_to ls place))
+            (of_class Low (flows_to ls place)))
             (flow_of_link l)) (sym e) (suc h.0, omega (arith, h.1), h.2)
-        by b false e h = subst (λ c. Contains (cond c (flow_of_link x ∷ of_class Low (flows_to ls place)) (of_class Low (flows_to ls place)))
+        by b false e h = subst (λ c. Contains (cond c (flow_of_link x ∷ of_class Low (flows_to ls place))
+            (of_class Low (flows_to ls place)))
             (flow_of_link l)) (sym e) h
 
 -- the high ones leave it some of the line

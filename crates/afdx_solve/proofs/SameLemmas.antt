@@ -1,5 +1,5 @@
 -- What a port and a sender see of links whose jitters, latencies or skews are other ones.
-use Rattle.std.proofs.Common.{◌≡◌, ℕ, ◌+◌, ◌*◌, ◌-◌, max, Bool, true, false, cond, List, [], ◌∷◌, map, filter, refl, sym, ap}
+use Rattle.std.proofs.Common.{◌≡◌, ℕ, ◌+◌, ◌*◌, max, Bool, true, false, cond, List, [], ◌∷◌, map, filter, refl, sym, ap}
 use Rattle.std.proofs.Common.{◌∙◌, nat_eq}
 use Rattle.std.specs.List.{sum_by}
 use Rattle.std.proofs.lemmas.List.Sums.{sum_by-cons}

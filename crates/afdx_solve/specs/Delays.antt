@@ -10,7 +10,9 @@ use Rattle.afdx_solve.specs.Solved.{delay_to}
 -- what links of a class need at the output ports to all systems, by their places
 pub record AreDelays (t : Rows) (class : Priority) (delays : List ℕ) : Type 0 where
   pub count : length delays ≡ last_port
-  pub each : (place : ℕ) → place < length t.systems → slice_index delays place ≡ delay_to t class place
+  pub each : (place : ℕ) →
+      place < length t.systems →
+      slice_index delays place ≡ delay_to t class place
 
 abbrev pub of_class : Priority → Delays → List ℕ
 of_class High delays = delays.high

@@ -1,7 +1,7 @@
 -- The least values of four keys with which tables are admitted: each link's jitter from its sender,
 -- then the buffer, then each link's latency from the bounds at all its ports, then its skew; each
 -- from those before it.
-use Rattle.std.specs.Prelude.{ℕ, zero, suc, ◌*◌, min, max, Bool, List, [], ◌∷◌, length, map, Option}
+use Rattle.std.specs.Prelude.{ℕ, zero, suc, min, max, Bool, List, [], ◌∷◌, length, map, Option}
 use Rattle.std.specs.Prelude.{Some, None, slice_get, if◌then◌else◌}
 use Rattle.std.specs.Int.{div_ceil}
 use Rattle.std.specs.Option.{option_map_or}

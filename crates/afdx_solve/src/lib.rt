@@ -13,4 +13,4 @@ mod writing;
 
 pub use options::SolveOptions;
 pub use solving::solve;
-pub use writing::config_text;
+pub use writing::{TextFault, config_text};

@@ -7,7 +7,7 @@ ghost use Rattle.afdx_config.specs.Lawful.{IsLink, IsPort};
 ghost use Rattle.afdx_config.specs.Reading.{Spells};
 
 use crate::same::same_tables;
-use afdx_config::{ComRow, Kind, Link, System, SystemId, Tables, read_tables};
+use afdx_config::{ComRow, ConfigFault, Kind, Link, System, SystemId, Tables, read_tables};
 use afdx_frame::{Policing, Priority};
 use std::alloc::{AllocError, Global};
 use std::fmt::Write;
@@ -117,20 +117,50 @@ fn written(alloc: Global, tables: &Tables) -> Result<String, AllocError> {
     Ok(text)
 }
 
-/// A text that spells these tables, as `read_tables` reads them: it was read back and compared.
-///
-/// `AllocError` is answered where a growth of memory was refused. That every text reads back is
-/// tested and not proved; one that didn't would be answered so, too.
-pub fn config_text(alloc: Global, tables: &Tables) -> Result<String, AllocError>
-    ensures { IfOk result (λ text. Spells (string_bytes text) tables.now) }
+/// Why there is no text of tables.
+#[derive(Clone, Copy, Debug, PartialEq, Eq)]
+pub enum TextFault {
+    /// A growth of memory was refused.
+    Memory,
+    /// What was written doesn't read back as the tables. No test has met it.
+    Unread,
+}
+
+impl From<AllocError> for TextFault {
+    ghost use Rattle.std.specs.Prelude.{◌≡◌};
+    ghost use Rattle.afdx_solve.specs.declared.writing.TextFault.TheVariants.{Memory};
+
+    ghost from_gives = { λ _ e. e ≡ Memory };
+
+    fn from(_e: AllocError) -> TextFault {
+        TextFault::Memory
+    }
+}
+
+impl From<ConfigFault> for TextFault {
+    ghost use Rattle.std.specs.Prelude.{◌≡◌};
+    ghost use Rattle.afdx_config.specs.declared.fault.ConfigFault.TheVariants as config;
+    ghost use Rattle.afdx_solve.specs.declared.writing.TextFault.TheVariants.{Memory};
+
+    ghost from_gives = { λ fault e. e ≡ Memory → fault ≡ config.Memory };
+
+    fn from(fault: ConfigFault) -> TextFault {
+        match fault {
+            ConfigFault::Memory => TextFault::Memory,
+            _ => TextFault::Unread,
+        }
+    }
+}
+
+/// A text that spells these tables: it was read back and compared.
+pub fn config_text(alloc: Global, tables: &Tables) -> Result<String, TextFault>
+    ensures text { IfOk result (λ text. Spells (string_bytes text) tables.now) }
 {
     let text = written(alloc, tables)?;
-    let Ok(back) = read_tables(alloc, text.as_bytes()) else {
-        return Err(AllocError);
-    };
+    let back = read_tables(alloc, text.as_bytes())?;
     if same_tables(&back, tables) {
         Ok(text)
     } else {
-        Err(AllocError)
+        Err(TextFault::Unread)
     }
 }

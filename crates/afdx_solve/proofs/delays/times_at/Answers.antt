@@ -1,7 +1,5 @@
 use Rattle.std.proofs.Common.{length, slice_index, sym, ◌∙◌}
 use Rattle.afdx_config.specs.Rows.{link_row}
-use Rattle.afdx_solve.specs.Delays.{of_class}
-use Rattle.afdx_solve.specs.Solved.{latency_over}
 use Rattle.afdx_solve.proofs.DelayLemmas.{latency_over-some, times-lawful}
 use Rattle.afdx_solve.proofs.delays.times_at.Goals as goal
 

@@ -1,4 +1,4 @@
-use Rattle.std.proofs.Common.{◌≡◌, ◌+◌, ◌<◌, length, arith}
+use Rattle.std.proofs.Common.{◌≡◌, length, arith}
 use Rattle.afdx_solve.proofs.RowLemmas.{same_rows}
 use Rattle.afdx_solve.proofs.same.same_systems.Goals as goal
 

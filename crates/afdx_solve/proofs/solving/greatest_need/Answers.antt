@@ -1,5 +1,5 @@
 use Rattle.std.proofs.Common.{refl, sym, ap, ◌∙◌, max}
-use Rattle.afdx_solve.specs.Solved.{greatest_need, need_to}
+use Rattle.afdx_solve.specs.Solved.{greatest_need}
 use Rattle.afdx_solve.proofs.DelayLemmas.{greatest_need-more}
 use Rattle.afdx_solve.proofs.solving.greatest_need.Goals as goal
 
