@@ -71,7 +71,7 @@ _afdx() {
             replay) _afdx_words --no-admission --explain-drops "${told[@]}" ;;
             send) _afdx_words "${told[@]}" ;;
             police) _afdx_words --vl --port --lmin --policing "${told[@]}" ;;
-            check) _afdx_words --all --explain --help ;;
+            check) _afdx_words --all --margins --explain --help ;;
             explain) _afdx_words --list --help ;;
         esac
         return

@@ -62,6 +62,7 @@ complete -c afdx -n '__afdx_at - 0 0' -a send -d 'Send the messages of a system'
 complete -c afdx -n '__afdx_in check police replay send' -l explain \
     -a 'auto always never' -d 'When is a fault explained?'
 complete -c afdx -n '__afdx_in check' -l all -d 'Print each line that is false'
+complete -c afdx -n '__afdx_in check' -l margins -d 'Print bound and latency of links at ports'
 complete -c afdx -n '__afdx_in explain' -l list -d 'Print each word with its meaning'
 complete -c afdx -n '__afdx_in police replay send' -l line-buffered -d 'Hand over each line at once'
 complete -c afdx -n '__afdx_in police replay send' -l progress -d 'Say how much was read'

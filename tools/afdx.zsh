@@ -23,7 +23,8 @@ _afdx_systems() { # the names of the systems of the configuration that was given
 _afdx_program() {
     case $1 in
         check)
-            _arguments $help $told[1] '--all[print each line that is false]' ":$config"
+            _arguments $help $told[1] '--all[print each line that is false]' \
+                '--margins[print bound and latency of each link at each port]' ":$config"
             ;;
         explain) _arguments $help '--list[print each word and each form of a line]' '*:text:' ;;
         police)

@@ -55,6 +55,21 @@ all_with 'all lines: an overloaded port' 1 \
     "$idle"$'P 3 1912800 - 2433\nno A1 3\nno A2 3 2433\nno A3 3 1 1912800\nno A4 3 2 -\n' \
     '0,/^lmax = 64/s//lmax = 1518/; /^id = 3/,/^rate/s/^rate = 100/rate = 10/'
 
+margins=$idle$'P 3 16800 20297 252\nm 3 1 16800 17000\nm 3 2 20297 21000\n'
+case_of 'margins: base.toml' 0 "$margins"$'ok\n' '' check --margins examples/base.toml
+sed 's/^latency_us = 21/latency_us = 20/; s/^buffer = 252/buffer = 251/' examples/base.toml \
+    >"$work/changed.toml"
+margins=${margins/21000/20000}
+case_of 'margins: a late link' 1 "$margins"$'no A2 3 252\n' '' \
+    check --margins "$work/changed.toml"
+case_of 'margins: with all lines' 1 "$margins"$'no A2 3 252\nno A4 3 2 20297\n' '' \
+    check --all --margins "$work/changed.toml"
+sed '0,/^lmax = 64/s//lmax = 1518/; /^id = 3/,/^rate/s/^rate = 100/rate = 10/' \
+    examples/base.toml >"$work/changed.toml"
+case_of 'margins: high links that take the whole line' 1 \
+    "$idle"$'P 3 1912800 - 2433\nm 3 1 1912800 17000\nm 3 2 - 21000\nno A1 3\n' '' \
+    check --margins "$work/changed.toml"
+
 sed '0,/^jitter_us = 500/s//jitter_us = 46/' examples/base.toml >"$work/changed.toml"
 ends_with 'A6' 1 $'no A6 1 46720\n'
 sed '0,/^jitter_us = 500/s//jitter_us = 47/' examples/base.toml >"$work/changed.toml"

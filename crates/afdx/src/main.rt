@@ -12,7 +12,7 @@ use crate::progress::{Cleared, Counted, is_told};
 use afdx_explain::meaning_of;
 use afdx_replay::status::{DONE, NO_DEVICE_OR_MEMORY, WRONG_WORDS};
 use afdx_replay::{
-    CommandedRule, Ended, Output, Policing, RunFault, Watched, check_lines, finish,
+    CheckOptions, CommandedRule, Ended, Output, Policing, RunFault, Watched, check_lines, finish,
     police_and_count, replay_and_count, replay_and_explain, send_and_count,
 };
 use clap::error::ErrorKind;
@@ -98,8 +98,12 @@ fn check_config(rt: &HostRuntime, matches: &ArgMatches<'_>) -> u8 {
     };
     let mut output = Watched::new(Heard::new(Traced::new(rt.stdout())));
     let mut errors = Watched::new(Heard::new(rt.stderr()));
-    let all = matches.get_flag("all");
-    let status = check_lines(rt.alloc(), all, config.as_slice(), &mut output, &mut errors);
+    let options = CheckOptions {
+        all: matches.get_flag("all"),
+        margins: matches.get_flag("margins"),
+    };
+    let config_bytes = config.as_slice();
+    let status = check_lines(rt.alloc(), options, config_bytes, &mut output, &mut errors);
     let (output, errors) = (output.into_inner(), errors.into_inner());
     let line = match errors.line() {
         "" => output.line(),

@@ -135,12 +135,19 @@ these lines that is false:
 The last number of A2 is in bytes, those of A3 to A6 are in ns. Ports come first, A1
 to A4 at each; then systems, then links in the file's order. With --all comes a 'no'
 for each line that is false, in that order; the bound of A4 is '-' where the high
-links leave nothing of the line.
+links leave nothing of the line. With --margins comes behind the line of a port, for
+each link that goes there, in the order of the file:
+
+  m port vl bound latency
+
+bound is that of the link's priority at the port, latency its own, both in ns.
 
 A closed pipe, as with '| head', is the fault 'device Write', status 4.
 
 Example:
   afdx check examples/network.toml";
+
+const MARGINS_HELP: &str = "Prints of each link at each port the bound there and its latency";
 
 fn check_command<'a>(alloc: Global) -> Result<Command<'a>, AllocError> {
     let words = vec![in alloc;
@@ -149,6 +156,7 @@ fn check_command<'a>(alloc: Global) -> Result<Command<'a>, AllocError> {
             "all",
             "Prints each line that is false, and not the first alone"
         ),
+        flag(alloc, "margins", MARGINS_HELP),
         explain_option(alloc),
         word(alloc, "CONFIG", CONFIG_HELP),
     ]?;
@@ -306,7 +314,7 @@ const EXPLAIN_AFTER: &str = "\
 TEXT is a line that the program printed, as it was printed: a fault on standard
 error, the line of --summary, a line of 'check', 'replay', 'police' or 'send'. Or it
 is a word of such a line: 'accept', why a frame was dropped, a line of admission,
-why a message was refused, or one of the letters D, L, M, P, R and T. With a text
+why a message was refused, or one of the letters D, L, M, m, P, R and T. With a text
 that is none of these the line is 'words UnknownText' and the status 2.
 
 With --list each word and each form of a line is printed with what it means: the

@@ -1,12 +1,12 @@
 //! The bounds of an output port.
 
-ghost use Rattle.std.specs.Prelude.{◌≡◌, IfSome, is_some, Some, None};
+ghost use Rattle.std.specs.Prelude.{◌≡◌, ◌<◌, length, IfSome, is_some, Some, None};
 ghost use Rattle.afdx_config.specs.Reading.{system_at_port};
-ghost use Rattle.afdx_admit.specs.Bounds.{IsBounds};
+ghost use Rattle.afdx_admit.specs.Bounds.{IsBounds, AreBoundsTo};
 ghost use Rattle.afdx_admit.specs.Lines.{high_bound_at, low_bound_at, buffer_need_at};
 
 use crate::sums::sums_to;
-use afdx_config::Tables;
+use afdx_config::{SystemId, Tables};
 
 /// What is known of an output port of the switch, rounded up.
 #[derive(Clone, Copy, Debug)]
@@ -21,6 +21,19 @@ pub struct PortBounds {
     pub buffer: u64,
 }
 
+/// The bounds of the output port to a system, whose links are summed once.
+pub fn bounds_to(tables: &Tables, system: SystemId) -> PortBounds
+    requires { system.0 < length tables.now.systems }
+    ensures bounds { AreBoundsTo tables.now system.0 result }
+{
+    let sums = sums_to(tables, system);
+    PortBounds {
+        high: sums.high_bound(),
+        low: sums.low_bound(),
+        buffer: sums.buffer_need(),
+    }
+}
+
 /// The bounds of a port of the switch, if a system is there. The links are summed once, where
 /// `high_bound`, `low_bound` and `buffer_need` do so each.
 pub fn bounds_of(tables: &Tables, port: u8) -> Option<PortBounds>
@@ -29,12 +42,8 @@ pub fn bounds_of(tables: &Tables, port: u8) -> Option<PortBounds>
 {
     match tables.system_at(port) {
         Some(system) => {
-            let sums = sums_to(tables, system);
-            Some(PortBounds {
-                high: sums.high_bound(),
-                low: sums.low_bound(),
-                buffer: sums.buffer_need(),
-            })
+            let bounds = bounds_to(tables, system);
+            Some(bounds)
         }
         None => None,
     }

@@ -13,5 +13,6 @@ mod sums;
 
 pub use admitted::{Admitted, admit};
 pub use all::all_faults;
-pub use bounds::{PortBounds, bounds_of, buffer_need, high_bound, low_bound};
+pub use bounds::{PortBounds, bounds_of, bounds_to, buffer_need, high_bound, low_bound};
 pub use fault::{ADMISSION, AdmitFault, AdmitText};
+pub use lines::sender_jitters;

@@ -129,8 +129,8 @@ fn sender_jitter(tables: &Tables, id: SystemId) -> u64
     sum
 }
 
-/// The jitters at all systems' outputs, in ns.
-pub(crate) fn sender_jitters(tables: &Tables) -> [u64; 24]
+/// The jitters at the outputs of all systems, by their places, in ns.
+pub fn sender_jitters(tables: &Tables) -> [u64; 24]
     ensures jitters { AreJitters tables.now result }
     ensures lawful { IsLawful tables.now }
 {

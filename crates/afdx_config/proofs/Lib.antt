@@ -1,8 +1,10 @@
 pub mod AmongOthersLemmas
+pub mod ChangedLemmas
 pub mod DistinctLemmas
 pub mod EachRowLemmas
 pub mod EntryLemmas
 pub mod GatheredLemmas
 pub mod GrownLemmas
+pub mod KeptLemmas
 pub mod LookUpLemmas
 pub mod NumberLemmas

@@ -1,10 +1,12 @@
 pub mod Rows
+pub mod Changed
 pub mod Kept
 pub mod Fault
 pub mod FaultText
 pub mod Trees
 pub mod Keys
 pub mod Reading
+pub mod ToSolve
 pub mod New
 pub mod Lawful
 pub mod Flows

@@ -111,7 +111,7 @@ impl At {
     }
 }
 
-fn member<'a>(table: &'a Table, key: &str) -> Option<&'a Value>
+pub(crate) fn member<'a>(table: &'a Table, key: &str) -> Option<&'a Value>
     ensures { option_map (λ v. view v.now) result ≡ get_member key.now (table_view table.now) }
 {
     table.get(key)

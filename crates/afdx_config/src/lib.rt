@@ -3,6 +3,7 @@
 //! Its tests are in `afdx_part_tests`.
 #![tactic(auto)]
 
+mod choices;
 mod fault;
 mod key_tables;
 mod keys;
@@ -18,6 +19,6 @@ mod tables;
 
 pub use fault::{CONFIG_FAULTS, ConfigFault, Part, Place};
 pub use key_tables::{Key, LINK_KEYS, PORT_KEYS, SYSTEM_KEYS, TOP_KEYS, UNKNOWN_KEYS};
-pub use read::read_tables;
-pub use rows::{ComRow, Kind, Link, System, SystemId};
+pub use read::{read_tables, read_to_solve};
+pub use rows::{ComRow, KeptKeys, Kind, Link, System, SystemId, Times};
 pub use tables::Tables;

@@ -3,9 +3,10 @@
 ghost use Rattle.std.specs.Prelude.{◌≡◌, ◌<◌, ◌≤◌, ◌++◌, [], ◌∷◌, length, slice_get, None, Some};
 ghost use Rattle.std.specs.Prelude.{OnOk, IfSome};
 ghost use Rattle.afdx_config.specs.Rows.{link_row};
+ghost use Rattle.afdx_config.specs.Changed.{changed_at};
 ghost use Rattle.afdx_config.specs.Reading.{link_of, goes_to, most_links};
 
-use crate::rows::{Link, SystemId};
+use crate::rows::{Link, SystemId, Times};
 use afdx_frame::VlId;
 use indexmap::IndexMap;
 use std::alloc::{AllocError, Global};
@@ -77,6 +78,17 @@ impl Links {
         ensures { slice_get self.now index ≡ Some (link_row result.now) }
     {
         &self.by_vl[index]
+    }
+
+    /// Changes the times of the link at a place.
+    pub(crate) fn set_times(&mut self, index: usize, times: Times)
+        requires { index < length self.old }
+        ensures { self.new ≡ changed_at index times self.old }
+    {
+        let link = &mut self.by_vl[index];
+        link.jitter_us = times.jitter_us;
+        link.latency_us = times.latency_us;
+        link.skew_us = times.skew_us;
     }
 
     pub(crate) fn push(&mut self, link: Link) -> Result<(), AllocError>

@@ -15,12 +15,14 @@ ghost use Rattle.afdx_config.specs.Fault.{Gives, or_fault};
 ghost use Rattle.afdx_config.specs.Trees.{trees, lent_texts};
 ghost use Rattle.afdx_config.specs.Keys as keys;
 ghost use Rattle.afdx_config.specs.Reading as spec;
+ghost use Rattle.afdx_config.specs.ToSolve as to_solve;
 
+use crate::choices::choice;
 use crate::fault::{ConfigFault, Place};
 use crate::keys::{At, link_at, one_of, only_link_keys, text, texts, whole};
 use crate::links::Links;
 use crate::read_systems::named;
-use crate::rows::{Link, SystemId};
+use crate::rows::{KeptKeys, Link, SystemId};
 use crate::systems::Systems;
 use afdx_frame::{GAPS_MS, Policing, Priority, VlId};
 use std::alloc::Global;
@@ -144,19 +146,19 @@ struct Treatment {
     subs: u64,
 }
 
-#[tactic(auto, unfolding(crate::specs::Reading::traffic_at, crate::specs::Keys::link_keys))]
-fn traffic_of(table: &Table, index: usize) -> Result<Traffic, ConfigFault>
+#[tactic(auto, unfolding(crate::specs::ToSolve::traffic_at, crate::specs::Keys::link_keys))]
+fn traffic_of(table: &Table, index: usize, kept: KeptKeys) -> Result<Traffic, ConfigFault>
     ensures gap { IfOk result (λ x. IsTrue (is_bag x.bag_ms)) }
     ensures least { IfOk result (λ x. IsWithin least_frame greatest_frame x.lmin) }
     ensures greatest { IfOk result (λ x. IsWithin x.lmin greatest_frame x.lmax) }
     ensures jitter { IfOk result (λ x. IsWithin 0 (1000 * x.bag_ms) x.jitter_us) }
     ensures value { Gives (λ x. x) result
-        (spec.traffic_at index (table_view table.now)) }
+        (to_solve.traffic_at kept index (table_view table.now)) }
 {
     let bag_ms = one_of(table, link_at(index, 4), &GAPS_MS)?;
     let lmin = whole(table, link_at(index, 5))?;
     let lmax = whole(table, link_at(index, 6).at_least(lmin))?;
-    let jitter_us = whole(table, link_at(index, 7).at_most(1000 * bag_ms))?;
+    let jitter_us = choice(table, link_at(index, 7).at_most(1000 * bag_ms), kept.jitter)?;
     Ok(Traffic {
         bag_ms,
         lmin,
@@ -165,18 +167,18 @@ fn traffic_of(table: &Table, index: usize) -> Result<Traffic, ConfigFault>
     })
 }
 
-#[tactic(auto, unfolding(crate::specs::Reading::treatment_at, crate::specs::Keys::link_keys))]
-fn treatment_of(table: &Table, index: usize) -> Result<Treatment, ConfigFault>
+#[tactic(auto, unfolding(crate::specs::ToSolve::treatment_at, crate::specs::Keys::link_keys))]
+fn treatment_of(table: &Table, index: usize, kept: KeptKeys) -> Result<Treatment, ConfigFault>
     ensures latency { IfOk result (λ x. IsWithin 1 spec.greatest_delay x.latency_us) }
     ensures skew { IfOk result (λ x. IsWithin 1 spec.greatest_delay x.skew_us) }
     ensures subs { IfOk result (λ x. IsWithin 1 4 x.subs) }
     ensures value { Gives (λ x. x) result
-        (spec.treatment_at index (table_view table.now)) }
+        (to_solve.treatment_at kept index (table_view table.now)) }
 {
     let priority = priority_at(table, link_at(index, 8))?;
     let policing = policing_at(table, link_at(index, 9))?;
-    let latency_us = whole(table, link_at(index, 10))?;
-    let skew_us = whole(table, link_at(index, 11))?;
+    let latency_us = choice(table, link_at(index, 10), kept.latency)?;
+    let skew_us = choice(table, link_at(index, 11), kept.skew)?;
     let subs = whole(table, link_at(index, 12))?;
     Ok(Treatment {
         priority,
@@ -218,15 +220,16 @@ fn to_of(
 }
 
 /// The link that a table states, after those before it.
-#[tactic(auto, unfolding(crate::specs::Reading::link_at))]
+#[tactic(auto, unfolding(crate::specs::ToSolve::link_at))]
 fn link_of(
     alloc: Global,
     table: &Table,
     systems: &Systems,
     before: &Links,
+    kept: KeptKeys,
 ) -> Result<Link, ConfigFault>
     ensures value { Gives link_row result
-        (spec.link_at systems.now before.now (table_view table.now)) }
+        (to_solve.link_at kept systems.now before.now (table_view table.now)) }
     ensures fresh { IfOk result (λ l. spec.link_of before.now l.vl.0 ≡ None) }
     ensures lawful { IfOk result (λ l. IsLink (length systems.now) (link_row l)) }
 {
@@ -237,8 +240,8 @@ fn link_of(
     }
     let from = named(table, link_at(index, 2), systems)?;
     let to = to_of(alloc, table, index, systems, from)?;
-    let traffic = traffic_of(table, index)?;
-    let treatment = treatment_of(table, index)?;
+    let traffic = traffic_of(table, index, kept)?;
+    let treatment = treatment_of(table, index, kept)?;
     only_link_keys(table, index)?;
     Ok(Link {
         vl,
@@ -261,15 +264,16 @@ pub(crate) fn links_of(
     alloc: Global,
     tables: &[&Table],
     systems: &Systems,
+    kept: KeptKeys,
 ) -> Result<Links, ConfigFault>
     requires { length tables.now ≤ spec.most_links }
     ensures lawful { IfOk result (AreLinks (length systems.now)) }
     ensures value { Gives (λ l. l) result
-        (spec.each (spec.link_at systems.now) [] (trees tables.now)) }
+        (spec.each (to_solve.link_at kept systems.now) [] (trees tables.now)) }
 {
     let mut links = Links::new(alloc);
     for table in tables {
-        let link = link_of(alloc, table, systems, &links)?;
+        let link = link_of(alloc, table, systems, &links, kept)?;
         links.push(link)?;
     }
     Ok(links)

@@ -54,6 +54,23 @@ impl Link {
     }
 }
 
+/// The keys of a link that follow from the traffic, in us.
+#[derive(Clone, Copy, Debug, PartialEq, Eq)]
+pub struct Times {
+    pub jitter_us: u64,
+    pub latency_us: u64,
+    pub skew_us: u64,
+}
+
+/// Which of the keys that follow from the traffic stay as they are.
+#[derive(Clone, Copy, Debug, PartialEq, Eq)]
+pub struct KeptKeys {
+    pub jitter: bool,
+    pub buffer: bool,
+    pub latency: bool,
+    pub skew: bool,
+}
+
 /// What a communication port does with its messages.
 #[derive(Clone, Copy, Debug, PartialEq, Eq)]
 pub enum Kind {

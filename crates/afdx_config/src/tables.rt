@@ -1,7 +1,7 @@
 //! The tables of a network.
 
 use crate::links::Links;
-use crate::rows::{ComRow, Link, System, SystemId};
+use crate::rows::{ComRow, Link, System, SystemId, Times};
 use crate::systems::Systems;
 use afdx_frame::VlId;
 use std::marker::Model;
@@ -50,7 +50,9 @@ impl Tables {
     ghost use Rattle.afdx_frame.specs.Regulation.{slowest_byte};
     ghost use Rattle.afdx_config.specs.Admission.{byte_ns};
     ghost use Rattle.afdx_config.specs.Reading.{system_named, system_at_port, link_of};
-    ghost use Rattle.afdx_config.specs.Lawful.{IsLawful, IsSystem, IsLink, IsPort};
+    ghost use Rattle.afdx_config.specs.Lawful.{IsLawful, IsSystem, IsLink, IsPort, IsWithin};
+    ghost use Rattle.afdx_config.specs.Changed.{with_buffer, with_times, with_link_at};
+    ghost use Rattle.afdx_frame.specs.Lengths.{least_frame, greatest_buffer};
 
     pub(crate) fn new(
         profile: u64,
@@ -166,6 +168,24 @@ impl Tables {
             result ≡ is_to system.0 l }
     {
         self.links.at(link).goes_to(system)
+    }
+
+    /// Changes the buffer of each output port, to so many bytes.
+    pub fn set_buffer(&mut self, buffer: u64)
+        requires { IsWithin least_frame greatest_buffer buffer }
+        ensures changed { self.new ≡ with_buffer buffer self.old }
+    {
+        self.buffer = buffer;
+    }
+
+    /// Changes the times of the link at this place, to ones that the link may have.
+    pub fn set_times(&mut self, index: usize, times: Times)
+        requires within { index < length self.old.links }
+        requires lawful { (l : LinkRow) → slice_get self.old.links index ≡ Some l →
+            IsLink (length self.old.systems) (with_times times l) }
+        ensures changed { self.new ≡ with_link_at index times self.old }
+    {
+        self.links.set_times(index, times);
     }
 
     /// How many communication ports there are, at most 4,096.

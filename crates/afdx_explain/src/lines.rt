@@ -3,7 +3,7 @@
 use crate::entry::Entry;
 
 /// Lines of the output.
-pub const LINES: [Entry; 11] = [
+pub const LINES: [Entry; 12] = [
     (
         "\
 accept
@@ -61,6 +61,18 @@ P n n - n",
 P port high low buffer: of this switch port the longest time in ns that a high frame can
 take there, rounded up; the same for a low frame; - where the high links alone take the
 whole line; bytes of buffer that the port needs, rounded up.",
+    ),
+    (
+        "\
+m
+m n n n n
+m n n - n",
+        "\
+m port vl bound latency: with --margins: the link vl goes to this switch port; bound is the
+longest time in ns that its frames can take there, rounded up, - where the high links alone
+take the whole line; latency is the link's, in ns.
+The link's frames are in time there if latency is bound or more, and the port isn't
+overloaded.",
     ),
     (
         "ok",

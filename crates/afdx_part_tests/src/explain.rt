@@ -31,6 +31,7 @@ fn lines_are_explained() -> Result<(), Fail> {
         ("no A2 3 252", "A2 port needed"),
         ("P 3 16800 20297 252", "P port high low buffer"),
         ("P 3 16800 - 252", "P port high low buffer"),
+        ("m 3 2 - 21000", "m port vl bound latency"),
         ("admit A5 s1 600000", "A5 system ns"),
         ("V 7 A drop over-rate", "over-rate:"),
         ("over-rate", "over-rate:"),

@@ -23,4 +23,6 @@ mod port;
 #[cfg(test)]
 mod recordings;
 #[cfg(test)]
+mod solve;
+#[cfg(test)]
 mod text;

@@ -328,7 +328,21 @@ fn what_is_sent_and_what_is_checked(rt: HostRuntime) -> Result<(), Fail> {
         low: None,
         buffer: 64,
     };
+    let margin = OutLine::Margin {
+        port: 24,
+        vl: VlId(65_535),
+        bound: Some(u64::MAX),
+        latency: 17_000,
+    };
+    let no_bound = OutLine::Margin {
+        port: 3,
+        vl: VlId(2),
+        bound: None,
+        latency: u64::MAX,
+    };
     let rows = [
+        (margin, "m 24 65535 18446744073709551615 17000\n"),
+        (no_bound, "m 3 2 - 18446744073709551615\n"),
         (sent, "R 5 B 1 \n"),
         (refused, "# 3 too-large\n"),
         (bounds, "P 24 0 18446744073709551615 1518\n"),

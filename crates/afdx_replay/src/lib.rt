@@ -16,7 +16,7 @@ mod summary;
 pub use afdx_frame::Policing;
 pub use afdx_lists::{RecordingFault, RunFault, Watched};
 pub use afdx_text::{Output, Sink};
-pub use check_command::{check, check_lines};
+pub use check_command::{CheckOptions, check, check_lines};
 pub use ending::{Ended, finish};
 pub use policing::command::{CommandedRule, police, police_and_count};
 pub use policing::run::run_police;

@@ -9,7 +9,8 @@ use Rattle.afdx_police.specs.Words.{reason_word}
 use Rattle.afdx_receive.specs.Words.{drop_word}
 use Rattle.afdx_text.specs.declared.line.OutLine.{OutLine}
 use Rattle.afdx_text.specs.declared.line.OutLine.TheVariants.{Verdict, Lost, Left, Message, Unread}
-use Rattle.afdx_text.specs.declared.line.OutLine.TheVariants.{Sent, Refused, Bounds, Admitted, Denied}
+use Rattle.afdx_text.specs.declared.line.OutLine.TheVariants.{Sent, Refused, Bounds, Margin, Admitted}
+use Rattle.afdx_text.specs.declared.line.OutLine.TheVariants.{Denied}
 
 abbrev pub side_text : Side → List ℕ
 side_text A = codes "A"
@@ -75,6 +76,12 @@ bounds_line port high low buffer =
     codes "P " ++ decimal port ++ codes " " ++ decimal high ++ codes " " ++ bound_text low
     ++ codes " " ++ decimal buffer ++ codes "\n"
 
+-- a link that goes to an output port: the bound of its class there, and its latency, in ns
+abbrev pub margin_line : ℕ → ℕ → Option ℕ → ℕ → List ℕ
+margin_line port vl bound latency =
+    codes "m " ++ decimal port ++ codes " " ++ decimal vl ++ codes " " ++ bound_text bound
+    ++ codes " " ++ decimal latency ++ codes "\n"
+
 -- the tables are admitted, or not, by a line of admission
 abbrev pub admitted_line : List ℕ
 admitted_line = codes "ok\n"
@@ -91,6 +98,7 @@ line_text (Unread time system n why) = drop_line time system.now n (drop_word wh
 line_text (Sent time side port bytes) = sent_line side port time bytes.now
 line_text (Refused n word) = refused_line n word.now
 line_text (Bounds port high low buffer) = bounds_line port high low buffer
+line_text (Margin port vl bound latency) = margin_line port vl.0 bound latency
 line_text Admitted = admitted_line
 line_text (Denied line) = denied_line line.now
 
@@ -104,5 +112,6 @@ longest (Unread time system n why) = 128 + length system.now
 longest (Sent time side port bytes) = 128 + 2 * length bytes.now
 longest (Refused n word) = 128 + length word.now
 longest (Bounds port high low buffer) = 128
+longest (Margin port vl bound latency) = 128
 longest Admitted = 128
 longest (Denied line) = 128 + length line.now

@@ -5,7 +5,8 @@ ghost use Rattle.std.specs.Prelude.{◌≡◌, ◌≤◌, ◌+◌, ◌*◌, ◌+
 ghost use Rattle.afdx_receive.specs.Words.{drop_word};
 ghost use Rattle.afdx_text.specs.OutLines.{verdict_text, letter_of, verdict_line, loss_line};
 ghost use Rattle.afdx_text.specs.OutLines.{departure_line, message_line, drop_line, sent_line};
-ghost use Rattle.afdx_text.specs.OutLines.{refused_line, bound_text, bounds_line, denied_line};
+ghost use Rattle.afdx_text.specs.OutLines.{refused_line, bound_text, bounds_line, margin_line};
+ghost use Rattle.afdx_text.specs.OutLines.{denied_line};
 
 use crate::numeral::Numeral;
 use crate::piece::{put, put_digits, put_number, put_piece, put_side, put_small};
@@ -328,6 +329,31 @@ pub(crate) fn put_bounds(
     let at = put_bound(room, at, low);
     let at = put(room, at, b" ");
     let at = put_number(room, at, buffer);
+    put(room, at, b"\n")
+}
+
+/// `m port vl bound latency`.
+#[inline(never)]
+pub(crate) fn put_margin(
+    room: &mut [u8],
+    at: usize,
+    port: u8,
+    vl: u16,
+    bound: Option<u64>,
+    latency: u64,
+) -> usize
+    requires { at + 128 ≤ length room.old }
+    ensures within { result ≤ at + 128 }
+    ensures text { take result room.new ≡ take at room.old ++ margin_line port vl bound latency }
+{
+    let at = put(room, at, b"m ");
+    let at = put_small(room, at, port);
+    let at = put(room, at, b" ");
+    let at = put_number(room, at, u64::from(vl));
+    let at = put(room, at, b" ");
+    let at = put_bound(room, at, bound);
+    let at = put(room, at, b" ");
+    let at = put_number(room, at, latency);
     put(room, at, b"\n")
 }
 

@@ -2,7 +2,7 @@
 
 ghost use Rattle.std.specs.Prelude.{◌≡◌, ◌≤◌, ◌+◌, ◌++◌, length, take};
 
-use crate::kinds::{Kept, put_bounds, put_denial, put_loss, put_refusal, put_verdict};
+use crate::kinds::{Kept, put_bounds, put_denial, put_loss, put_margin, put_refusal, put_verdict};
 use crate::piece::put;
 use afdx_frame::{Side, VlId};
 use afdx_police::Reason;
@@ -64,6 +64,14 @@ pub enum OutLine<'a> {
         high: u64,
         low: Option<u64>,
         buffer: u64,
+    },
+    /// A link that goes to an output port: `m port vl bound latency`, the bound of its class there,
+    /// or `-`, and its latency, both in ns.
+    Margin {
+        port: u8,
+        vl: VlId,
+        bound: Option<u64>,
+        latency: u64,
     },
     /// The tables are admitted: `ok`.
     Admitted,
@@ -155,6 +163,12 @@ impl OutLine<'_> {
                 low,
                 buffer,
             } => put_bounds(room, at, *port, *high, *low, *buffer),
+            OutLine::Margin {
+                port,
+                vl,
+                bound,
+                latency,
+            } => put_margin(room, at, *port, vl.0, *bound, *latency),
             OutLine::Admitted => put(room, at, b"ok\n"),
             OutLine::Denied { line } => put_denial(room, at, line),
         }

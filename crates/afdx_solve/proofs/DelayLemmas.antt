@@ -1,0 +1,94 @@
+-- What is needed at one output port, and at one more.
+use Rattle.std.proofs.Common.{◌≡◌, ℕ, ◌+◌, ◌<◌, ◌≤◌, max, List, [], ◌∷◌, Option, Some, slice_get, refl, sym, ap}
+use Rattle.std.proofs.Common.{◌∙◌, add-one, arith, min, subst, Bool, true, false}
+use Rattle.std.specs.List.{AllByRecursion}
+use Rattle.std.specs.Option.{option_map_or}
+use Rattle.afdx_frame.specs.declared.link.Priority.{Priority}
+use Rattle.afdx_frame.specs.declared.link.Priority.TheVariants.{High, Low}
+use Rattle.afdx_config.specs.declared.rows.Times.{Times}
+use Rattle.afdx_config.specs.Rows.{SystemRow, LinkRow, Rows}
+use Rattle.afdx_config.specs.Reading.{greatest_delay}
+use Rattle.afdx_config.specs.Lawful.{IsWithin, IsLink}
+use Rattle.afdx_config.specs.Changed.{with_times}
+use Rattle.afdx_admit.specs.Lines.{loaded_output_to, buffer_need_of}
+use Rattle.afdx_solve.specs.declared.options.SolveOptions.{SolveOptions}
+use Rattle.afdx_solve.specs.declared.delays.Delays.{Delays}
+use Rattle.afdx_solve.specs.Solved.{class_bound, in_us, delay_to, latency_over, need_to, greatest_need}
+use Rattle.afdx_solve.specs.Solved.{chosen, with_delays_for}
+use Rattle.afdx_solve.specs.Delays.{AreDelays, of_class}
+
+pub delay-stands : (t : Rows) (class : Priority) (place : ℕ) (s : SystemRow) → slice_get t.systems place ≡ Some s
+    → delay_to t class place ≡ in_us (class_bound class (loaded_output_to t place s))
+unfolding delay_to
+delay-stands t class place s at =
+    ap (λ (o : Option SystemRow). option_map_or (λ r. in_us (class_bound class (loaded_output_to t place r))) o 0) at
+
+pub need-stands : (t : Rows) (place : ℕ) (s : SystemRow) → slice_get t.systems place ≡ Some s
+    → need_to t place ≡ buffer_need_of (loaded_output_to t place s)
+need-stands t place s at =
+    ap (λ (o : Option SystemRow). option_map_or (λ r. buffer_need_of (loaded_output_to t place r)) o 0) at
+
+pub greatest_need-more : (t : Rows) (place : ℕ) → greatest_need t (place + 1) ≡ max (greatest_need t place) (need_to t place)
+unfolding greatest_need
+greatest_need-more t place = rw add-one refl
+
+-- places that are all within agree where the delays do
+pub latency_over-same : (f g : ℕ → ℕ) (count : ℕ) → ((place : ℕ) → place < count → f place ≡ g place) → (places : List ℕ)
+    → AllByRecursion (λ p. p < count) places → latency_over f places ≡ latency_over g places
+unfolding latency_over
+latency_over-same f g count same [] h = refl
+latency_over-same f g count same (p ∷ ps) h =
+    ap (λ n. max n (latency_over f ps)) (same p h.0) ∙ ap (max (g p)) (latency_over-same f g count same ps h.1)
+
+pub all_within : (few many : ℕ) → few ≤ many → (places : List ℕ) → AllByRecursion (λ p. p < few) places
+    → AllByRecursion (λ p. p < many) places
+all_within few many le [] h = tt
+all_within few many le (p ∷ ps) h = (omega (arith, le, h.0), all_within few many le ps h.1)
+
+-- ---- what a link takes, it may have
+
+same_of_some : {X : Type 0} (x y : X) → Some x ≡ Some y → x ≡ y
+same_of_some x y e = cc
+
+pub chosen-within : (keep raise_only : Bool) (low high as_is least : ℕ) → IsWithin low high as_is → IsWithin low high least
+    → IsWithin low high (chosen keep raise_only as_is least)
+chosen-within true raise_only low high as_is least a b = a
+chosen-within false true low high as_is least a b = (omega (arith, a.0), omega (arith, a.1, b.1))
+chosen-within false false low high as_is least a b = b
+
+pub latency_over-some : (f : ℕ → ℕ) (places : List ℕ) → 1 ≤ latency_over f places
+unfolding latency_over
+latency_over-some f [] = omega arith
+latency_over-some f (p ∷ ps) = omega (arith, latency_over-some f ps)
+
+delays-lawful : (o : SolveOptions) (needed systems : ℕ) (l : LinkRow) → 1 ≤ needed → IsLink systems l
+    → IsLink systems (with_delays_for o needed l)
+delays-lawful o needed systems l some h =
+    let latency = chosen-within o.kept.latency o.raise_only 1 greatest_delay l.latency_us (min greatest_delay needed)
+    h.latency_us (omega (arith, some), omega arith) in
+    record {
+      vl = h.vl;
+      from = h.from;
+      to = h.to;
+      to_count = h.to_count;
+      apart = h.apart;
+      bag_ms = h.bag_ms;
+      lmin = h.lmin;
+      lmax = h.lmax;
+      jitter_us = h.jitter_us;
+      latency_us = latency;
+      skew_us = chosen-within o.kept.skew o.raise_only 1 greatest_delay l.skew_us _ h.skew_us latency;
+      subs = h.subs;
+    }
+
+pub times-lawful : (o : SolveOptions) (times : Times) (needed systems : ℕ) (link l : LinkRow) → Some link ≡ Some l
+    → with_times times link ≡ with_delays_for o needed link → 1 ≤ needed → IsLink systems link
+    → IsLink systems (with_times times l)
+times-lawful o times needed systems link l same e some h =
+    subst (λ r. IsLink systems (with_times times r)) (same_of_some link l same)
+    (subst (IsLink systems) (sym e) (delays-lawful o needed systems link some h))
+
+pub delays-of_class : (t : Rows) (d : Delays) → AreDelays t High d.high → AreDelays t Low d.low → (class : Priority)
+    → AreDelays t class (of_class class d)
+delays-of_class t d high low High = high
+delays-of_class t d high low Low = low

@@ -1,0 +1,5 @@
+pub mod DelayLemmas
+pub mod LeastLemmas
+pub mod RowLemmas
+pub mod SameLemmas
+pub mod StageLemmas

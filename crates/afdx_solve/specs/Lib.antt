@@ -1,0 +1,3 @@
+pub mod Solved
+pub mod Delays
+pub mod Laws

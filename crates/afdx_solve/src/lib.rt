@@ -1,0 +1,16 @@
+//! The least jitter, buffer, latency and skew with which a network is admitted.
+//!
+//! Its tests are in `afdx_part_tests`.
+#![tactic(auto)]
+
+mod delays;
+mod jitters;
+pub mod laws;
+mod options;
+mod same;
+mod solving;
+mod writing;
+
+pub use options::SolveOptions;
+pub use solving::solve;
+pub use writing::{TextFault, config_text};
