@@ -11,6 +11,7 @@ import zlib
 sys.path.insert(0, os.path.join(os.path.dirname(os.path.abspath(__file__)), "..", "lib"))
 
 import closed_lists as lists  # noqa: E402
+from program import must  # noqa: E402
 
 CONFIG_FAULT = re.compile(
     rf"config ({'|'.join(lists.CONFIG_FAULTS[:2])}|({'|'.join(lists.CONFIG_FAULTS[2:8])})"
@@ -38,15 +39,6 @@ EVENT = re.compile(
 )
 BOUND = re.compile(rf"P ({PORT}) {NUMBER} (?:{NUMBER}|-) {NUMBER}")
 BYTE_NS = {10: 800, 100: 80, 1000: 8}
-
-
-class Wrong(Exception):
-    """What doesn't hold."""
-
-
-def must(holds, text):
-    if not holds:
-        raise Wrong(text)
 
 
 class Frame:

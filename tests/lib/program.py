@@ -103,7 +103,7 @@ class Cases:
     """Counts the cases, and tells each."""
 
     def __init__(self) -> None:
-        self.passed = self.failed = 0
+        self.passed = self.failed = self.skipped = 0
         self.telling = threading.Lock()
 
     def try_case(self, name: str, case: Callable[..., None], *given: object) -> None:
@@ -122,6 +122,11 @@ class Cases:
             text = f"FAILED {name}\n    {fault}" if fault else f"ok {name}"
             print(text + (f" ({took:.0f} s)" if took >= 2 and not fault else ""), flush=True)
 
+    def skip(self, name: str, why: str) -> None:
+        """A case that can't be tried here."""
+        self.skipped += 1
+        print(f"skipped {name}: {why}", flush=True)
+
     def try_at_once(self, cases: list[tuple]) -> None:
         """So many cases at a time as there are processors; each is a name, a case, and what it is
         given."""
@@ -131,7 +136,8 @@ class Cases:
 
     def told(self) -> int:
         """The last line; the status to end with."""
-        print(f"{self.passed} passed, {self.failed} failed", flush=True)
+        text = f"{self.passed} passed, {self.failed} failed"
+        print(text + (f", {self.skipped} skipped" if self.skipped else ""), flush=True)
         return 1 if self.failed else 0
 
 

@@ -1,7 +1,7 @@
 #!/usr/bin/env python3
 """Tries the program on configurations and lists that are made and changed at random.
 
-    tests/run/fuzz.py [PROGRAM] [--seconds S] [--seed N] [--first K] [--keep DIR]
+    tests/run/fuzz.py [PROGRAM] [--seconds S] [--seed N] [--first K] [--keep DIR] [--recordings]
 
 PROGRAM is the built program, crates/afdx/out/afdx where it isn't given. For S seconds (20 where it
 isn't given) it tries one case after the other: `check` and `replay` of a configuration and a list,
@@ -16,6 +16,9 @@ holds what must be so of any output. Beside that
 - `police` gives the verdicts of a replay whose tables have that one link;
 - what `send` writes is replayed without a loss, and each message is read once and in order.
 
+With `--recordings` it tries recordings in their place (tests/recordings/), made and changed at
+random: a run on one must write what it writes of the list that says the same, and `list` that list.
+
 The first case that is wrong is written to DIR (a new folder where it isn't given), its seed and
 number are printed, and the status is 1. `--seed N --first K` begins with that case. Needs Python
 3.11, no packages.
@@ -29,11 +32,15 @@ import tempfile
 import time
 
 sys.dont_write_bytecode = True
-sys.path.insert(0, os.path.join(os.path.dirname(os.path.abspath(__file__)), "..", "fuzzing"))
+TESTS = os.path.join(os.path.dirname(os.path.abspath(__file__)), "..")
+sys.path[:0] = [os.path.join(TESTS, name) for name in ("fuzzing", "recordings")]
 import checks  # noqa: E402
 import made  # noqa: E402
 import sending  # noqa: E402
-from checks import Wrong, must  # noqa: E402
+import reading  # noqa: E402
+import wanted  # noqa: E402
+from made_recordings import made_data  # noqa: E402
+from program import Program, Wrong, must  # noqa: E402
 from tables import one_link_tables  # noqa: E402
 
 PROGRAM = os.path.join(made.TOP, "crates", "afdx", "out", "afdx")
@@ -195,6 +202,16 @@ def try_case(runs, seed, number, stored):
         try_send(runs, case)
 
 
+def try_recording(runs, seed, number):
+    """A recording, every third one with bytes changed, with options and without."""
+    chance = random.Random(f"{seed}/{number}/options")
+    data = made_data(["made", "made", "mutated"][number % 3], f"{seed}/{number}")
+    runs.write("list", data)
+    program = Program(runs.program, runs.folder)
+    reading.both(program, wanted.Case(data))
+    reading.both(program, wanted.random_case(chance, data))
+
+
 def keep(runs, folder):
     """Copies the case to where it stays."""
     target = folder or tempfile.mkdtemp(prefix="afdx-fuzz-kept-")
@@ -208,7 +225,8 @@ def keep(runs, folder):
     return target
 
 
-def main():
+def taken_words():
+    """The words of the command."""
     words = argparse.ArgumentParser(
         description=__doc__, formatter_class=argparse.RawDescriptionHelpFormatter
     )
@@ -221,25 +239,37 @@ def main():
         "--first", metavar="K", type=int, default=1, help="the number of the first case"
     )
     words.add_argument("--keep", metavar="DIR", help="where a case that is wrong is written")
+    words.add_argument("--recordings", action="store_true", help="try recordings")
     given = words.parse_args()
     if not os.access(given.program, os.X_OK):
         words.error(
             f"there is no program at {given.program}: build it first, by bin/afdx --version"
         )
+    return given
+
+
+def main():
+    given = taken_words()
     stored = made.stored()
     end = time.monotonic() + given.seconds
     number = given.first
     with tempfile.TemporaryDirectory(prefix="afdx-fuzz-") as folder:
         runs = Runs(os.path.abspath(given.program), folder)
+        wanted.with_base(Program(given.program, folder))
         while time.monotonic() < end:
             try:
-                try_case(runs, given.seed, number, stored)
+                if given.recordings:
+                    try_recording(runs, given.seed, number)
+                else:
+                    try_case(runs, given.seed, number, stored)
             except Wrong as wrong:
                 kept = keep(runs, given.keep)
                 print(f"WRONG: {wrong}\nseed {given.seed}, case {number}, kept in {kept}")
                 sys.exit(1)
             number += 1
-        tried = f"{number - given.first} cases, {runs.count} runs"
+        tried = f"{number - given.first} cases"
+        if not given.recordings:
+            tried += f", {runs.count} runs"
         print(f"ok: {tried}, nothing wrong (seed {given.seed})")
 
 

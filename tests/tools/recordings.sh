@@ -246,3 +246,16 @@ elif has tshark && has text2pcap && has mergecap; then
 else
     skip "recordings with Wireshark's programs" 'there is no tshark (apt-get install tshark)'
 fi
+
+# ---- what is to be taken from recordings ---------------------------------------------------
+
+if has tshark && has tcpdump; then
+    launch "$python" tests/run/recordings.py "$program"
+    tell 'recordings: the reference, tshark and the rows say the same' "$(
+        is_status 0
+        grep -A 1 '^FAILED' "$work/out" | head -n 10 | cut -c 1-160
+        grep '^skipped' "$work/out"
+    )" "$(tail -n 1 "$work/out")"
+else
+    skip 'recordings against tshark' 'no tshark, or no tcpdump (apt-get install tshark tcpdump)'
+fi
