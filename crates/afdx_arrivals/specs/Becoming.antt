@@ -1,5 +1,5 @@
 -- What a number of a recording becomes: an arrival, or it is skipped, or a fault of the recording.
-use Rattle.std.specs.Prelude.{ℕ, ◌+◌, ◌-◌, Bool, true, false, not, ◌&&◌, ◌||◌, ◌==◌, nat_le, nat_lt, List, ◌++◌, length}
+use Rattle.std.specs.Prelude.{ℕ, ◌≡◌, ◌+◌, ◌-◌, Bool, true, false, not, ◌&&◌, ◌||◌, ◌==◌, nat_le, nat_lt, List, ◌++◌, length}
 use Rattle.std.specs.Prelude.{Option, Some, None, is_some, Result, Ok, Err, if◌then◌else◌}
 use Rattle.std.specs.Int.{w32, to_le_bytes}
 use Rattle.afdx_frame.specs.Layout.{link_named_by}
@@ -178,3 +178,9 @@ abbrev pub becomes : Options → Ports → (latest n : ℕ) → Recorded → Lis
 becomes options ports latest n recorded.NoFrame bytes = Err (Skipped NoFrame)
 becomes options ports latest n (recorded.Frame frame) bytes =
     frame_becomes options ports latest n frame bytes
+
+-- what is put behind bytes is of their own check sequence
+abbrev pub IsOwn : Ending → List ℕ → Type 0
+IsOwn ending.Recorded bytes = Unit {0}
+IsOwn (ending.Right sequence) bytes = sequence ≡ sequence_of bytes
+IsOwn (ending.Wrong sequence) bytes = sequence ≡ sequence_of bytes

@@ -3,3 +3,6 @@ pub mod Tables
 pub mod Places
 pub mod Claims
 pub mod Becoming
+pub mod Counting
+pub mod Sequences
+pub mod RecordingSource

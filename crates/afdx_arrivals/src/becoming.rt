@@ -1,8 +1,8 @@
 //! What a number of a recording becomes.
 
-ghost use Rattle.std.specs.Prelude.{◌≡◌};
+ghost use Rattle.std.specs.Prelude.{◌≡◌, ◌≤◌, IfOk, IfSome};
 ghost use Rattle.afdx_arrivals.specs.Becoming as spec;
-ghost use Rattle.afdx_arrivals.specs.Becoming.{options_of};
+ghost use Rattle.afdx_arrivals.specs.Becoming.{options_of, IsOwn};
 ghost use Rattle.afdx_arrivals.specs.Claims.{ports_of};
 ghost use Rattle.afdx_arrivals.specs.Places as places;
 
@@ -188,7 +188,8 @@ fn entrance_of(
 /// have it, and it seems so.
 #[tactic(auto, unfolding(crate::specs::Becoming::ending_of))]
 fn ending_of(has_sequence: Option<bool>, found_wrong: bool, bytes: &[u8]) -> Option<Ending>
-    ensures { result ≡ spec.ending_of has_sequence found_wrong bytes.now }
+    ensures ending { result ≡ spec.ending_of has_sequence found_wrong bytes.now }
+    ensures own { IfSome result (λ ending. IsOwn ending bytes.now) }
 {
     if has_sequence == Some(true) {
         return Some(Ending::Recorded);
@@ -224,8 +225,10 @@ fn frame_becomes(
     frame: &RecordedFrame,
     bytes: &[u8],
 ) -> Result<Found, NoArrival>
-    ensures { result ≡ spec.frame_becomes (options_of options.now) (ports_of ports.now)
+    ensures becomes { result ≡ spec.frame_becomes (options_of options.now) (ports_of ports.now)
         latest n frame.now bytes.now }
+    ensures order { IfOk result (λ found. latest ≤ found.moment) }
+    ensures own { IfOk result (λ found. IsOwn found.ending bytes.now) }
 {
     let place = options.interfaces.place(frame.interface);
     if place == Some(Place::LeftOut) {
@@ -267,8 +270,10 @@ pub fn becomes(
     recorded: &Recorded,
     bytes: &[u8],
 ) -> Result<Found, NoArrival>
-    ensures { result ≡ spec.becomes (options_of options.now) (ports_of ports.now)
+    ensures becomes { result ≡ spec.becomes (options_of options.now) (ports_of ports.now)
         latest n recorded.now bytes.now }
+    ensures order { IfOk result (λ found. latest ≤ found.moment) }
+    ensures own { IfOk result (λ found. IsOwn found.ending bytes.now) }
 {
     match recorded {
         Recorded::NoFrame => Err(NoArrival::Skipped(Skipped::NoFrame)),

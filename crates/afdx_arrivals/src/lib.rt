@@ -4,11 +4,15 @@
 #![tactic(auto)]
 
 mod becoming;
+mod counts;
 mod places;
+mod read_recording;
 mod senders;
 mod skipped;
 
 pub use becoming::{Ending, Found, NoArrival, RecordingOptions, becomes};
+pub use counts::Counts;
 pub use places::{Interfaces, Place};
+pub use read_recording::ReadRecording;
 pub use senders::SystemPorts;
 pub use skipped::{SKIPPED, Skipped};
