@@ -1,2 +1,4 @@
 pub mod TableLemmas
 pub mod SealLemmas
+pub mod SequenceLemmas
+pub mod SourceLemmas

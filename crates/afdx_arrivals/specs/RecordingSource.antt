@@ -2,7 +2,8 @@
 use Rattle.std.specs.Prelude.{ℕ, Bool, true, false, not, ◌&&◌, nat_lt, ◌≡◌, ◌≤◌, ◌+◌, ◌-◌, List, [], ◌++◌, length, map}
 use Rattle.std.specs.Prelude.{Option, Some, None, Result, Ok, Err, if◌then◌else◌}
 use Rattle.std.specs.Io.KnownBytes.{Consumes, IsAtEnd}
-use Rattle.afdx_frame.specs.Sealing.{sequence_of}
+use Rattle.afdx_frame.specs.Sealing.{is_sealed}
+use Rattle.afdx_frame.specs.Times.{latest_listed}
 use Rattle.afdx_lists.specs.Calls.{is_read}
 use Rattle.afdx_lists.specs.Watching.{device_of, has_ended, is_over, calls_of}
 use Rattle.afdx_lists.specs.declared.frame_line.Heading.{Heading}
@@ -24,7 +25,7 @@ use Rattle.afdx_arrivals.specs.declared.read_recording.ReadRecording.{ReadRecord
 use Rattle.afdx_arrivals.specs.Becoming.{Options, options_of}
 use Rattle.afdx_arrivals.specs.Claims.{Ports, ports_of}
 use Rattle.afdx_arrivals.specs.Counting.{skipped_in}
-use Rattle.afdx_arrivals.specs.Sequences.{Sorted, Outcome, sequence, sequence_from, sorted_with, is_empty}
+use Rattle.afdx_arrivals.specs.Sequences.{Sorted, Outcome, origin_or, sequence, sequence_from, sorted_with, is_empty}
 
 -- a check sequence is put behind the bytes
 abbrev pub is_added : Ending → Bool
@@ -37,7 +38,7 @@ made_or added made recorded = if added then made else recorded
 
 -- the arrival that stands, if one does
 abbrev pub given_item : ReadRecording → Item Heading
-given_item source = item_of (state_of source.reader).numbers source.head
+given_item source = item_of source.numbers source.head
     (made_or source.is_added source.sealed.items (latest source.reader).bytes)
 
 -- what was taken, by what the source remembers and what it gave
@@ -54,6 +55,25 @@ sorted_at n source past = record {
 abbrev pub next_sorted : ReadRecording → ℕ → List (Item Heading) → Result Sorted RecordingFault
 next_sorted source n past = sorted_with (options_of source.options) (ports_of source.ports)
     (sorted_at n source past) (latest source.reader)
+
+-- the arrival that stands comes when the moment says, and it is known whether it is sealed
+pub record FollowsOn (old new : ReadRecording) : Type 0 where
+  pub origin : new.origin ≡ Some (origin_or old.origin new.latest)
+  pub time : new.head.time ≡ new.latest - origin_or old.origin new.latest
+  pub early : new.head.time ≤ latest_listed
+  pub sealed : new.head.is_sealed ≡ is_sealed (given_item new).bytes
+
+-- an arrival was counted, or a number that was skipped
+pub record CountsOne (old new : ReadRecording) : Type 0 where
+  pub skipped : skipped_in new.counts ≡ skipped_in old.counts
+  pub claimed : new.counts.claimed ≤ old.counts.claimed + 1
+
+pub record SkipsOne (old new : ReadRecording) : Type 0 where
+  pub skipped : skipped_in new.counts ≡ skipped_in old.counts + 1
+  pub claimed : new.counts.claimed ≡ old.counts.claimed
+  pub arrival : new.has_arrival ≡ old.has_arrival
+  pub origin : new.origin ≡ old.origin
+  pub newest : new.latest ≡ old.latest
 
 -- the answer behind the last of n numbers
 abbrev pub end_of : Bool → ℕ → Result Bool RunFault
@@ -127,14 +147,15 @@ module _ {R : Type 0} (remaining : R → Option (List ℕ)) where
       (past : List (Item Heading)) : Type 0 where
     pub sound : input.failed ≡ false
     pub honest : IsTrueToEnd (standing remaining source.reader.held input)
-    pub few : (state_of source.reader).numbers ≤ most_numbers
-    pub sum : skipped_in source.counts + length past ≡ (state_of source.reader).numbers
+    pub numbers : source.numbers ≡ (state_of source.reader).numbers
+    pub few : source.numbers ≤ most_numbers
+    pub sum : skipped_in source.counts + length past ≡ source.numbers
     pub claimed : source.counts.claimed ≤ length past
     pub arrival : source.has_arrival ≡ not (is_empty past)
     pub timed : IsTimed source.origin source.latest past
     pub sorts : Sorts (options_of source.options) (ports_of source.ports)
         (first_standing remaining start) (standing remaining source.reader.held input)
-        (sorted_at (state_of source.reader).numbers source past) (state_of source.reader)
+        (sorted_at source.numbers source past) (state_of source.reader)
 
   -- and these are all
   pub record HasEnded (start : Watched R) (source : ReadRecording) (input : Watched R)
@@ -142,14 +163,14 @@ module _ {R : Type 0} (remaining : R → Option (List ℕ)) where
     pub sound : input.failed ≡ false
     pub ended : input.ended ≡ true
     pub last : IsAtEnd (remaining (device_of input))
-    pub sum : skipped_in source.counts + length past ≡ (state_of source.reader).numbers
+    pub sum : skipped_in source.counts + length past ≡ source.numbers
     pub claimed : source.counts.claimed ≤ length past
     pub read : List ℕ
     pub gives : Gives (first_standing remaining start)
         (standing remaining source.reader.held input) read
     pub says : sequence (options_of source.options) (ports_of source.ports) (recorded read)
         ≡ record {
-          sorted = sorted_at (state_of source.reader).numbers source past;
+          sorted = sorted_at source.numbers source past;
           ending = Over;
           lost = lost_by (state_of source.reader);
         }

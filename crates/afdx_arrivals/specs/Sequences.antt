@@ -1,5 +1,5 @@
 -- What a run takes of a recording: its arrivals one after another, and how that ends.
-use Rattle.std.specs.Prelude.{ℕ, Bool, true, false, ◌+◌, ◌-◌, ◌==◌, ◌&&◌, not, nat_lt, List, [], ◌∷◌, Option, Some, None, Result, Ok, Err}
+use Rattle.std.specs.Prelude.{ℕ, Bool, true, false, ◌+◌, ◌-◌, ◌&&◌, nat_lt, List, [], ◌∷◌, Option, Some, None, Result, Ok, Err}
 use Rattle.std.specs.Prelude.{if◌then◌else◌}
 use Rattle.afdx_frame.specs.Sealing.{is_sealed}
 use Rattle.afdx_frame.specs.Times.{latest_listed}
@@ -100,7 +100,7 @@ is_empty (x ∷ items) = false
 
 -- behind the last number: a recording that has numbers has an arrival
 abbrev pub has_no_arrival : Sorted → Bool
-has_no_arrival sorted = is_empty sorted.items && not (sorted.numbers == 0)
+has_no_arrival sorted = nat_lt 0 sorted.numbers && is_empty sorted.items
 
 abbrev pub ending_after : Sorted → Ending → Ending
 ending_after sorted Over =

@@ -1,6 +1,6 @@
 //! How many numbers of a recording were skipped, and why.
 
-ghost use Rattle.std.specs.Prelude.{◌≡◌, ◌<◌};
+ghost use Rattle.std.specs.Prelude.{◌≡◌, ◌<◌, ◌≤◌, ◌+◌};
 ghost use Rattle.afdx_arrivals.specs.Counting as spec;
 
 use crate::skipped::Skipped;
@@ -38,7 +38,9 @@ impl Counts {
     #[tactic(auto, unfolding(crate::specs::Counting::with_skipped, crate::specs::Counting::skipped_in))]
     pub(crate) fn skip(&mut self, reason: Skipped)
         requires { spec.skipped_in self.old < 100000000000000000 }
-        ensures { self.new ≡ spec.with_skipped reason self.old }
+        ensures counts { self.new ≡ spec.with_skipped reason self.old }
+        ensures skipped { spec.skipped_in self.new ≡ spec.skipped_in self.old + 1 }
+        ensures claimed { self.new.claimed ≡ self.old.claimed }
     {
         match reason {
             Skipped::NoFrame => self.no_frame += 1,
@@ -51,10 +53,12 @@ impl Counts {
     }
 
     /// Counts an arrival, which may be claimed.
-    #[tactic(auto, unfolding(crate::specs::Counting::with_arrival))]
+    #[tactic(auto, unfolding(crate::specs::Counting::with_arrival, crate::specs::Counting::skipped_in))]
     pub(crate) fn arrive(&mut self, is_claimed: bool)
         requires { self.old.claimed < 100000000000000000 }
-        ensures { self.new ≡ spec.with_arrival is_claimed self.old }
+        ensures counts { self.new ≡ spec.with_arrival is_claimed self.old }
+        ensures skipped { spec.skipped_in self.new ≡ spec.skipped_in self.old }
+        ensures claimed { self.new.claimed ≤ self.old.claimed + 1 }
     {
         if is_claimed {
             self.claimed += 1;

@@ -30,6 +30,7 @@ pub struct ReadRecording {
     reader: FrameReader,
     options: RecordingOptions,
     ports: SystemPorts,
+    numbers: u64,
     origin: Option<u64>,
     latest: u64,
     counts: Counts,
@@ -105,6 +106,7 @@ impl ReadRecording {
         ensures ports { IfOk result (λ source. source.ports ≡ ports) }
         ensures unread { IfOk result (λ source. unread source.reader.held ≡ []) }
         ensures state { IfOk result (λ source. state_of source.reader ≡ at_start) }
+        ensures numbers { IfOk result (λ source. source.numbers ≡ 0) }
         ensures origin { IfOk result (λ source. source.origin ≡ options.origin) }
         ensures latest { IfOk result (λ source. source.latest ≡ 0) }
         ensures counts { IfOk result (λ source. source.counts ≡ no_counts) }
@@ -115,6 +117,7 @@ impl ReadRecording {
             reader: FrameReader::new(alloc)?,
             options,
             ports,
+            numbers: 0,
             origin,
             latest: 0,
             counts: Counts::none(),
@@ -132,9 +135,9 @@ impl ReadRecording {
 
     /// How many numbers of the recording were read.
     pub fn numbers(&self) -> u64
-        ensures { result ≡ (state_of self.now.reader).numbers }
+        ensures { result ≡ self.now.numbers }
     {
-        self.reader.number()
+        self.numbers
     }
 
     /// How many of them were skipped, and why, and how many arrivals are claimed.
@@ -152,22 +155,27 @@ impl ReadRecording {
         ensures reader { self.new.reader ≡ self.old.reader }
         ensures options { self.new.options ≡ self.old.options }
         ensures ports { self.new.ports ≡ self.old.ports }
+        ensures numbers { self.new.numbers ≡ self.old.numbers }
         ensures arrival { OnOk result (self.new.has_arrival ≡ true) }
+        ensures moment { OnOk result (self.new.latest ≡ found.moment) }
+        ensures follows { OnOk result (spec.FollowsOn self.old self.new) }
+        ensures counted { OnOk result (spec.CountsOne self.old self.new) }
         ensures ok { OnOk result ((past : List (Item Heading)) (n : ℕ) →
-            (state_of self.old.reader).numbers ≡ n + 1 →
+            self.old.numbers ≡ n + 1 →
             taken (sorted_at n self.old past) (origin_or self.old.origin found.moment) found
             (latest self.old.reader).bytes
             ≡ Ok (sorted_at (n + 1) self.new (given_item self.new ∷ past))) }
         ensures err { IfErr result (λ fault. (past : List (Item Heading)) (n : ℕ) →
-            (state_of self.old.reader).numbers ≡ n + 1 →
+            self.old.numbers ≡ n + 1 →
             FailsBy fault (taken (sorted_at n self.old past)
             (origin_or self.old.origin found.moment) found (latest self.old.reader).bytes)) }
     {
         let origin = origin_or(self.origin, found.moment);
         let time = found.moment.saturating_sub(origin);
         if time > LATEST_LISTED {
-            let n = self.reader.number();
-            return Err(RunFault::Recording(RecordingFault::TimeTooLarge(n)));
+            return Err(RunFault::Recording(RecordingFault::TimeTooLarge(
+                self.numbers,
+            )));
         }
         let is_sealed = finish(found.ending, self.reader.bytes(), &mut self.sealed)?;
         self.is_added = is_added(found.ending);
@@ -192,19 +200,25 @@ impl ReadRecording {
         ensures reader { self.new.reader ≡ self.old.reader }
         ensures options { self.new.options ≡ self.old.options }
         ensures ports { self.new.ports ≡ self.old.ports }
+        ensures numbers { self.new.numbers ≡ (state_of self.old.reader).numbers }
         ensures taken { result ≡ Ok true → (past : List (Item Heading)) (n : ℕ) →
             (state_of self.old.reader).numbers ≡ n + 1 →
-            spec.next_sorted self.old n past ≡ Ok (sorted_at (n + 1) self.new (given_item self.new ∷ past)) }
+            spec.next_sorted self.old n past
+            ≡ Ok (sorted_at (n + 1) self.new (given_item self.new ∷ past)) }
         ensures arrival { result ≡ Ok true → self.new.has_arrival ≡ true }
+        ensures order { result ≡ Ok true → self.old.latest ≤ self.new.latest }
+        ensures follows { result ≡ Ok true → spec.FollowsOn self.old self.new }
+        ensures counted { result ≡ Ok true → spec.CountsOne self.old self.new }
         ensures skipped { result ≡ Ok false → (past : List (Item Heading)) (n : ℕ) →
             (state_of self.old.reader).numbers ≡ n + 1 →
             spec.next_sorted self.old n past ≡ Ok (sorted_at (n + 1) self.new past) }
-        ensures none { result ≡ Ok false → self.new.has_arrival ≡ self.old.has_arrival }
+        ensures none { result ≡ Ok false → spec.SkipsOne self.old self.new }
         ensures fault { IfErr result (λ fault. (past : List (Item Heading)) (n : ℕ) →
             (state_of self.old.reader).numbers ≡ n + 1 →
             FailsBy fault (spec.next_sorted self.old n past)) }
     {
         let n = self.reader.number();
+        self.numbers = n;
         let recorded = self.reader.recorded();
         let bytes = self.reader.bytes();
         match becomes(&self.options, &self.ports, self.latest, n, &recorded, bytes) {
@@ -222,11 +236,10 @@ impl ReadRecording {
 
     /// What is answered behind the last number: a recording that has numbers has an arrival.
     fn end(&self) -> Result<bool, RunFault>
-        ensures { result ≡ spec.end_of self.now.has_arrival (state_of self.now.reader).numbers }
+        ensures { result ≡ spec.end_of self.now.has_arrival self.now.numbers }
     {
-        let n = self.reader.number();
-        if n > 0 && !self.has_arrival {
-            return Err(RunFault::Recording(RecordingFault::NoArrival(n)));
+        if self.numbers > 0 && !self.has_arrival {
+            return Err(RunFault::Recording(RecordingFault::NoArrival(self.numbers)));
         }
         Ok(false)
     }
@@ -256,7 +269,7 @@ impl<R: Read> Source<Heading, Watched<R>> for ReadRecording {
     }
 
     fn number(&self) -> u64 {
-        self.reader.number()
+        self.numbers
     }
 
     fn head(&self) -> Heading {
