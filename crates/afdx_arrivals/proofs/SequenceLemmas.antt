@@ -1,5 +1,5 @@
 -- A recording as a source: one call more.
-use Rattle.std.proofs.Common.{◌≡◌, ℕ, ◌+◌, ◌-◌, ◌≤◌, ◌<◌, List, [], ◌∷◌, ◌++◌, length, append_assoc, append-nil, refl, ap, sym, ◌∙◌, subst}
+use Rattle.std.proofs.Common.{◌≡◌, ℕ, ◌+◌, ◌-◌, ◌≤◌, List, [], ◌∷◌, ◌++◌, append_assoc, append-nil, refl, ap, sym, ◌∙◌}
 use Rattle.std.proofs.Common.{Option, Some, None, Result, Ok, Err, arith, true, false, Bool, nat_lt, if◌then◌else◌}
 use Rattle.afdx_lists.specs.declared.frame_line.Heading.{Heading}
 use Rattle.afdx_lists.specs.declared.recording_fault.RecordingFault.{RecordingFault}
@@ -139,9 +139,9 @@ module _ (options : Options) (ports : Ports) where
       → taken sorted origin found bytes ≡ Ok more → Extends more.items sorted.items
   unfolding taken
   taken-extends sorted more origin found bytes e = (
-      arrival_with (sorted.numbers + 1) origin found bytes ∷ [],
-      sym (ap (λ (s : Sorted). s.items) (if-ok (nat_lt latest_listed (found.moment - origin))
-          (fault.TimeTooLarge (sorted.numbers + 1)) (with_found sorted origin found bytes) more e)),
+    arrival_with (sorted.numbers + 1) origin found bytes ∷ [],
+    sym (ap (λ (s : Sorted). s.items) (if-ok (nat_lt latest_listed (found.moment - origin))
+        (fault.TimeTooLarge (sorted.numbers + 1)) (with_found sorted origin found bytes) more e)),
   )
 
   -- one number more
@@ -150,11 +150,11 @@ module _ (options : Options) (ports : Ports) where
   more-extends sorted more bytes (Ok found) e =
       taken-extends sorted more (origin_or sorted.origin found.moment) found bytes e
   more-extends sorted more bytes (Err (no.Skipped reason)) e = (
-      [],
-      ap (λ (s : Sorted). s.items) (sym (if-ok false (fault.TimeTooLarge 0) (record sorted {
-        numbers = sorted.numbers + 1;
-        counts = with_skipped reason sorted.counts;
-      }) more e)),
+    [],
+    ap (λ (s : Sorted). s.items) (sym (if-ok false (fault.TimeTooLarge 0) (record sorted {
+      numbers = sorted.numbers + 1;
+      counts = with_skipped reason sorted.counts;
+    }) more e)),
   )
   more-extends sorted more bytes (Err (no.Faulted fault)) e = absurd (cc)
 

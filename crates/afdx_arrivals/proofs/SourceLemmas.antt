@@ -1,7 +1,6 @@
 -- A recording as a source: what it answers to one call.
-use Rattle.std.proofs.Common.{◌≡◌, ℕ, ◌+◌, ◌-◌, ◌≤◌, ◌<◌, List, [], ◌∷◌, ◌++◌, length, refl, ap, sym, ◌∙◌, subst}
-use Rattle.std.proofs.Common.{Option, Some, None, Result, Ok, Err, IfErr, arith, true, false, Bool, nat_lt, not, ◌&&◌, if◌then◌else◌}
-use Rattle.afdx_frame.specs.Times.{latest_listed}
+use Rattle.std.proofs.Common.{◌≡◌, ℕ, ◌+◌, ◌≤◌, List, ◌∷◌, ◌++◌, refl, ap, sym, ◌∙◌, subst}
+use Rattle.std.proofs.Common.{Option, Result, Ok, Err, IfErr, arith, true, false, Bool, nat_lt, not, ◌&&◌, if◌then◌else◌}
 use Rattle.afdx_lists.specs.Calls.{is_read, is_write}
 use Rattle.afdx_lists.specs.declared.frame_line.Heading.{Heading}
 use Rattle.afdx_lists.specs.declared.fault.RunFault.{RunFault}
@@ -10,8 +9,8 @@ use Rattle.afdx_lists.specs.declared.recording_fault.RecordingFault.{RecordingFa
 use Rattle.afdx_lists.specs.declared.recording_fault.RecordingFault.TheVariants as fault
 use Rattle.afdx_lists.specs.declared.watched.Watched.{Watched}
 use Rattle.afdx_recordings.specs.declared.frame_reader.FrameReader.{FrameReader}
-use Rattle.afdx_recordings.specs.Holding.{Standing, standing, Gives, IsTrueToEnd}
-use Rattle.afdx_recordings.specs.Reading.{state_of, latest, recorded, Tells, SaysFirst, SaysEnding}
+use Rattle.afdx_recordings.specs.Holding.{Standing, standing, IsTrueToEnd}
+use Rattle.afdx_recordings.specs.Reading.{state_of, latest, Tells, SaysFirst, SaysEnding}
 use Rattle.afdx_recordings.specs.Recordings.{State, Numbered, Over, Faulted, lost_by, most_numbers}
 use Rattle.afdx_run.specs.Engine.{Item}
 use Rattle.afdx_run.specs.Items.{CanFollow}
@@ -20,8 +19,8 @@ use Rattle.afdx_arrivals.specs.declared.senders.SystemPorts.{SystemPorts}
 use Rattle.afdx_arrivals.specs.declared.read_recording.ReadRecording.{ReadRecording}
 use Rattle.afdx_arrivals.specs.Becoming.{Options, options_of}
 use Rattle.afdx_arrivals.specs.Claims.{Ports, ports_of}
-use Rattle.afdx_arrivals.specs.Sequences.{Sorted, Outcome, sequence, sorted_with, is_empty, has_no_arrival, origin_or}
-use Rattle.afdx_arrivals.specs.RecordingSource.{Sorts, StopsFor, IsTimed, FailsBy, first_standing, sorted_at, given_item}
+use Rattle.afdx_arrivals.specs.Sequences.{Sorted, sorted_with, is_empty}
+use Rattle.afdx_arrivals.specs.RecordingSource.{Sorts, StopsFor, FailsBy, first_standing, sorted_at, given_item}
 use Rattle.afdx_arrivals.specs.RecordingSource.{next_sorted, end_of, FollowsOn, CountsOne, SkipsOne}
 use Rattle.afdx_arrivals.specs.RecordingSource.{HasGiven, HasEnded, HasStopped}
 use Rattle.afdx_arrivals.proofs.SequenceLemmas.{sorts-more, sorts-fault, ends-fault, ends-well, ends-gives, sorts-read, sorts-first, in-order}
@@ -132,6 +131,11 @@ same-stops remaining first input past fault o o' p p' r r' a b c h =
     same (λ o p r n. StopsFor (options_of o) (ports_of p) first (standing remaining r.held input) past fault)
     o o' p p' r r' 0 0 a b c refl h
 
+pub honest-same : {R : Type 0} (remaining : R → Option (List ℕ)) (input : Watched R) (r r' : FrameReader) → r' ≡ r
+    → IsTrueToEnd (standing remaining r.held input) → IsTrueToEnd (standing remaining r'.held input)
+honest-same remaining input r r' e h =
+    subst (λ (r : FrameReader). IsTrueToEnd (standing remaining r.held input)) (sym e) h
+
 -- what is known once the next number was read and sorted
 pub record Sorting {R : Type 0} (remaining : R → Option (List ℕ)) (old input : Watched R) (source : ReadRecording)
     (reader : FrameReader) (new : ReadRecording) : Type 0 where
@@ -158,13 +162,13 @@ module _ {R : Type 0} (remaining : R → Option (List ℕ)) (start old input : W
   sorts-next items e =
       let n : new.numbers ≡ source.numbers + 1 = k.numbers_are ∙ k.number ∙ ap (λ m. m + 1) (sym h.numbers) in
       same (λ o p r n. Sorts (options_of o) (ports_of p) (first_standing remaining start)
-          (standing remaining r.held input) (sorted_at n new items) (state_of r))
+      (standing remaining r.held input) (sorted_at n new items) (state_of r))
       source.options new.options source.ports new.ports reader new.reader (source.numbers + 1) new.numbers
       k.options_are k.ports_are k.reader_is n
       (sorts-more (options_of source.options) (ports_of source.ports) (first_standing remaining start)
-          (standing remaining source.reader.held old) (standing remaining reader.held input)
-          (sorted_at source.numbers source past) (state_of source.reader) h.sorts (state_of reader) (latest reader)
-          (sorted_at (source.numbers + 1) new items) k.says e)
+      (standing remaining source.reader.held old) (standing remaining reader.held input)
+      (sorted_at source.numbers source past) (state_of source.reader) h.sorts (state_of reader) (latest reader)
+      (sorted_at (source.numbers + 1) new items) k.says e)
 
   pub gave-skip : SkipsOne (record source { reader = reader }) new
       → next_sorted (record source { reader = reader }) source.numbers past
@@ -237,16 +241,17 @@ module _ {R : Type 0} (remaining : R → Option (List ℕ)) (start old input : W
   }
 
   -- or it was no arrival at all
-  pub stops-end : input.failed ≡ false
+  pub stops-end : input.failed ≡ false → IsTrueToEnd (standing remaining reader.held input)
       → (input.ended ≡ true) × SaysEnding (standing remaining source.reader.held old)
       (standing remaining reader.held input) (state_of source.reader) Over (lost_by (state_of reader))
       → IfErr (end_of source.has_arrival source.numbers)
       (HasStopped remaining start (record source { reader = reader }) input past)
-  stops-end sound t =
+  stops-end sound honest t =
       end-stops source.numbers source.has_arrival past
       (HasStopped remaining start (record source { reader = reader }) input past) h.arrival
       (λ none. record {
         failed = sound;
+        honest = honest;
         stops = ends-fault (options_of source.options) (ports_of source.ports) (first_standing remaining start)
             (standing remaining source.reader.held old) (standing remaining reader.held input)
             (sorted_at source.numbers source past) (state_of source.reader) h.sorts Over (lost_by (state_of reader))

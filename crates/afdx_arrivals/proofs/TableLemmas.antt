@@ -1,5 +1,5 @@
 -- Tables of which some places hold something, and the ports of systems by their numbers.
-use Rattle.std.proofs.Common.{◌≡◌, ◌<◌, ◌==◌, ℕ, zero, suc, List, [], ◌∷◌, length, drop, refl, sym, ◌∙◌, ap, subst}
+use Rattle.std.proofs.Common.{◌≡◌, ◌<◌, ◌==◌, ℕ, zero, suc, List, [], ◌∷◌, length, drop, refl, sym, ◌∙◌, ap}
 use Rattle.std.proofs.Common.{Option, Some, None, option_and_then, slice_get, slice_set, true, false, arith, if◌then◌else◌}
 use Rattle.std.proofs.Common.{Bool, Vec, Global, ◌≢◌, get_or}
 use Rattle.std.proofs.Math.ListN.{replicate}

@@ -5,7 +5,6 @@ use Rattle.std.specs.Int.{w32, to_le_bytes}
 use Rattle.afdx_frame.specs.Layout.{link_named_by}
 use Rattle.afdx_frame.specs.Sealing.{sequence_of}
 use Rattle.afdx_frame.specs.declared.link.Side.{Side}
-use Rattle.afdx_lists.specs.declared.recording_fault.RecordingFault.{RecordingFault}
 use Rattle.afdx_lists.specs.declared.recording_fault.RecordingFault.TheVariants.{NotEthernet, NoTime}
 use Rattle.afdx_lists.specs.declared.recording_fault.RecordingFault.TheVariants.{BadTime, Cut}
 use Rattle.afdx_lists.specs.declared.recording_fault.RecordingFault.TheVariants.{FcsUnclear, TimeBack}

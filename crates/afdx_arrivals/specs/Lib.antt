@@ -6,3 +6,4 @@ pub mod Becoming
 pub mod Counting
 pub mod Sequences
 pub mod RecordingSource
+pub mod RecordingRun

@@ -1,5 +1,5 @@
 -- What is known of a recording as a source, from call to call.
-use Rattle.std.specs.Prelude.{ℕ, Bool, true, false, not, ◌&&◌, nat_lt, ◌≡◌, ◌≤◌, ◌+◌, ◌-◌, List, [], ◌++◌, length, map}
+use Rattle.std.specs.Prelude.{ℕ, Bool, true, false, not, ◌&&◌, nat_lt, ◌≡◌, ◌≤◌, ◌+◌, ◌-◌, List, [], ◌++◌, length}
 use Rattle.std.specs.Prelude.{Option, Some, None, Result, Ok, Err, if◌then◌else◌}
 use Rattle.std.specs.Io.KnownBytes.{Consumes, IsAtEnd}
 use Rattle.afdx_frame.specs.Sealing.{is_sealed}
@@ -25,7 +25,7 @@ use Rattle.afdx_arrivals.specs.declared.read_recording.ReadRecording.{ReadRecord
 use Rattle.afdx_arrivals.specs.Becoming.{Options, options_of}
 use Rattle.afdx_arrivals.specs.Claims.{Ports, ports_of}
 use Rattle.afdx_arrivals.specs.Counting.{skipped_in}
-use Rattle.afdx_arrivals.specs.Sequences.{Sorted, Outcome, origin_or, sequence, sequence_from, sorted_with, is_empty}
+use Rattle.afdx_arrivals.specs.Sequences.{Sorted, origin_or, sequence, sequence_from, sorted_with, is_empty}
 
 -- a check sequence is put behind the bytes
 abbrev pub is_added : Ending → Bool
@@ -179,5 +179,6 @@ module _ {R : Type 0} (remaining : R → Option (List ℕ)) where
   pub record HasStopped (start : Watched R) (source : ReadRecording) (input : Watched R)
       (past : List (Item Heading)) (fault : RunFault) : Type 0 where
     pub failed : input.failed ≡ is_read fault
+    pub honest : IsTrueToEnd (standing remaining source.reader.held input)
     pub stops : StopsFor (options_of source.options) (ports_of source.ports)
         (first_standing remaining start) (standing remaining source.reader.held input) past fault

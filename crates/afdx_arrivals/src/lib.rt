@@ -7,6 +7,7 @@ mod becoming;
 mod counts;
 mod places;
 mod read_recording;
+mod recording_run;
 mod senders;
 mod skipped;
 
@@ -14,5 +15,6 @@ pub use becoming::{Ending, Found, NoArrival, RecordingOptions, becomes};
 pub use counts::Counts;
 pub use places::{Interfaces, Place};
 pub use read_recording::ReadRecording;
+pub use recording_run::{Tally, run_recording};
 pub use senders::SystemPorts;
 pub use skipped::{SKIPPED, Skipped};

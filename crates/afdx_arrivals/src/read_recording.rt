@@ -5,7 +5,7 @@ ghost use Rattle.std.specs.Prelude.{IfOk, IfErr, OnOk, true, false};
 ghost use Rattle.std.specs.Int.{w32, to_le_bytes};
 ghost use Rattle.afdx_frame.specs.Sealing.{is_sealed};
 ghost use Rattle.afdx_recordings.specs.Reading.{state_of, latest};
-ghost use Rattle.afdx_recordings.specs.Recordings.{at_start, most_numbers};
+ghost use Rattle.afdx_recordings.specs.Recordings.{at_start, lost_by, most_numbers};
 ghost use Rattle.afdx_recordings.specs.Holding.{unread};
 ghost use Rattle.afdx_run.specs.Engine.{Item};
 ghost use Rattle.afdx_arrivals.specs.Becoming.{bytes_with, IsOwn};
@@ -25,7 +25,6 @@ use std::alloc::{AllocError, Global};
 use std::io::Read;
 
 /// A recording, what its last arrival says, and what was skipped.
-#[derive(Drop)]
 pub struct ReadRecording {
     reader: FrameReader,
     options: RecordingOptions,
@@ -39,6 +38,25 @@ pub struct ReadRecording {
     /// The bytes of the last arrival, where a check sequence was put behind those recorded.
     sealed: Vec<u8>,
     is_added: bool,
+}
+
+impl Drop for ReadRecording {
+    // (written out, it is one call wherever a value is let go)
+    fn drop(self) {
+        let Self {
+            reader,
+            options,
+            ports,
+            numbers,
+            origin,
+            latest,
+            counts,
+            has_arrival,
+            head,
+            sealed,
+            is_added,
+        } = self;
+    }
 }
 
 /// Puts these bytes and a check sequence in the place of what `frame` holds.
@@ -140,6 +158,13 @@ impl ReadRecording {
         self.numbers
     }
 
+    /// How many frames the recorder lost, by its own word; 2^64 - 1 if it is more.
+    pub fn lost(&self) -> u64
+        ensures { result ≡ lost_by (state_of self.now.reader) }
+    {
+        self.reader.lost()
+    }
+
     /// How many of them were skipped, and why, and how many arrivals are claimed.
     pub fn counts(&self) -> Counts
         ensures { result ≡ self.now.counts }
@@ -173,9 +198,7 @@ impl ReadRecording {
         let origin = origin_or(self.origin, found.moment);
         let time = found.moment.saturating_sub(origin);
         if time > LATEST_LISTED {
-            return Err(RunFault::Recording(RecordingFault::TimeTooLarge(
-                self.numbers,
-            )));
+            return Err(RunFault::Recording(RecordingFault::TimeTooLarge(self.numbers)));
         }
         let is_sealed = finish(found.ending, self.reader.bytes(), &mut self.sealed)?;
         self.is_added = is_added(found.ending);
@@ -247,11 +270,17 @@ impl ReadRecording {
 
 impl<R: Read> Source<Heading, Watched<R>> for ReadRecording {
     ghost use Rattle.afdx_recordings.specs.Reading.{state_of};
+    ghost use Rattle.afdx_arrivals.specs.declared.becoming.RecordingOptions.{RecordingOptions};
+    ghost use Rattle.afdx_arrivals.specs.declared.senders.SystemPorts.{SystemPorts};
     ghost use Rattle.afdx_arrivals.specs.RecordingSource.{HasGiven, HasEnded, HasStopped};
 
     ghost current = { given_item };
 
     ghost left_of = { λ source. most_numbers - (state_of source.reader).numbers };
+
+    ghost Settings = { RecordingOptions × SystemPorts };
+
+    ghost settings = { λ source. (source.options, source.ports) };
 
     ghost Gave = { HasGiven R.remaining };
 

@@ -1,4 +1,4 @@
-use Rattle.std.proofs.Common.{rules, arith, ◌≡◌, ◌<◌, ◌-◌, length, ℕ, suc}
+use Rattle.std.proofs.Common.{rules, arith, ◌≡◌, ◌<◌, ◌-◌, length, suc}
 use Rattle.afdx_config.specs.Rows.{system_row}
 use Rattle.afdx_arrivals.proofs.TableLemmas.{ports-put}
 use Rattle.afdx_arrivals.proofs.senders.put_ports.Goals as goal

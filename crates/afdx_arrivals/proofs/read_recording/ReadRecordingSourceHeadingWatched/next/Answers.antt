@@ -1,13 +1,11 @@
-use Rattle.std.proofs.Common.{rules, arith, ◌≡◌, ◌∙◌, sym, ap, Ok, Err, true, false, refl, [], ◌+◌}
+use Rattle.std.proofs.Common.{refl, rules, arith, ◌≡◌, ◌∙◌, sym, ap, Ok, Err, true, false, [], ◌+◌}
 use Rattle.afdx_recordings.specs.Holding.{standing}
-use Rattle.afdx_recordings.specs.Reading.{state_of, latest, SaysFirst, SaysEnding}
-use Rattle.afdx_recordings.specs.Recordings.{Over, lost_by}
+use Rattle.afdx_recordings.specs.Reading.{state_of, latest, SaysFirst}
 use Rattle.afdx_arrivals.specs.Becoming.{options_of}
 use Rattle.afdx_arrivals.specs.Claims.{ports_of}
 use Rattle.afdx_arrivals.specs.RecordingSource.{first_standing, sorted_at}
-use Rattle.afdx_arrivals.proofs.SequenceLemmas.{ends-well, ends-gives}
 use Rattle.afdx_arrivals.proofs.SourceLemmas.{Sorting, fails-unread, fails-unwritten, stops-reader, stops-number}
-use Rattle.afdx_arrivals.proofs.SourceLemmas.{same-stops, gave-skip, gave-item, item-follows, ended-well, stops-end}
+use Rattle.afdx_arrivals.proofs.SourceLemmas.{same-stops, honest-same, gave-skip, gave-item, item-follows, ended-well, stops-end}
 use Rattle.afdx_arrivals.proofs.read_recording.ReadRecordingSourceHeadingWatched.next.Goals as goal
 
 pub next-requires-clause-sound : goal.next-requires-clause-sound
@@ -23,12 +21,17 @@ returns-in_err-next-clause-stop g c start past h =
     let e : c.from_residual.result ≡ Err c.in_err-next.field-0.0 = search rules in
     rw e (record {
       failed = c.in_err-next.ensures.failed;
+      honest = c.next.ensures.honest;
       stops = stops-reader (options_of old.options) (ports_of old.ports)
           (first_standing g.R.Read.remaining start) (standing g.R.Read.remaining old.reader.held c.loop-self.input)
           (standing g.R.Read.remaining c.next.new.self.held c.next.new.input) (sorted_at old.numbers old past)
           (state_of old.reader) (state_of c.next.new.self) (latest c.next.new.self) gave.sorts
           c.in_err-next.field-0.0 c.in_err-next.ensures.tells;
     })
+
+pub returns-in_err-next-clause-settings : goal.returns-in_err-next-clause-settings
+returns-in_err-next-clause-settings g c =
+    rw (c.loop-self.invariant.options, c.loop-self.invariant.ports) refl
 
 pub sort-requires-clause-skipped : goal.sort-requires-clause-skipped
 sort-requires-clause-skipped g c =
@@ -56,6 +59,8 @@ returns-in_err-sort-clause-stop g c start past h =
     let e : c.from_residual-in_err-sort.result ≡ Err c.in_err-sort.field-0.0 = search rules in
     rw e (record {
       failed = sound ∙ sym (fails-unread c.in_err-sort.field-0.0 _ fails);
+      honest = honest-same g.R.Read.remaining c.next.new.input c.next.new.self c.sort.new.self.reader
+          c.sort.ensures.reader c.next.ensures.honest;
       stops = same-stops g.R.Read.remaining (first_standing g.R.Read.remaining start) c.next.new.input past
           c.in_err-sort.field-0.0 old.options c.sort.new.self.options old.ports c.sort.new.self.ports
           c.next.new.self c.sort.new.self.reader c.sort.ensures.options c.sort.ensures.ports c.sort.ensures.reader
@@ -65,6 +70,10 @@ returns-in_err-sort-clause-stop g c start past h =
           (state_of old.reader) (state_of c.next.new.self) (latest c.next.new.self) gave.sorts
           c.in_err-sort.field-0.0 says fails);
     })
+
+pub returns-in_err-sort-clause-settings : goal.returns-in_err-sort-clause-settings
+returns-in_err-sort-clause-settings g c =
+    rw (c.sort.ensures.options, c.sort.ensures.ports, c.loop-self.invariant.options, c.loop-self.invariant.ports) refl
 
 pub returns-in_err-sort-clause-unwritten : goal.returns-in_err-sort-clause-unwritten
 returns-in_err-sort-clause-unwritten g c =
@@ -103,6 +112,10 @@ returns-then-branch-2-clause-item g c start past h ok =
           gave k follows order,
     )
 
+pub returns-then-branch-2-clause-settings : goal.returns-then-branch-2-clause-settings
+returns-then-branch-2-clause-settings g c =
+    rw (c.sort.ensures.options, c.sort.ensures.ports, c.loop-self.invariant.options, c.loop-self.invariant.ports) refl
+
 pub loop-self-preserved : goal.loop-self-preserved
 loop-self-preserved g c =
     let old = c.loop-self.self in
@@ -127,6 +140,8 @@ loop-self-preserved g c =
           gave-skip g.R.Read.remaining start c.loop-self.input c.next.new.input old c.next.new.self c.sort.new.self past
           gave k (c.sort.ensures.none sorted)
           (c.sort.ensures.skipped sorted past old.numbers (number ∙ ap (λ m. m + 1) (sym gave.numbers)));
+      options = c.sort.ensures.options ∙ c.loop-self.invariant.options;
+      ports = c.sort.ensures.ports ∙ c.loop-self.invariant.ports;
       later = omega (arith, number, reader, c.loop-self.invariant.later);
     }
 
@@ -142,4 +157,7 @@ returns-clause-stop g c start past h =
     let is : c.next.result ≡ Ok false = search rules in
     rw c.end.ensures (stops-end g.R.Read.remaining start c.loop-self.input c.next.new.input c.loop-self.self
     c.next.new.self past (c.loop-self.invariant.gave start past h) (rw is at c.next.ensures.failed)
-    (rw is at c.next.ensures.tells))
+    c.next.ensures.honest (rw is at c.next.ensures.tells))
+
+pub returns-clause-settings : goal.returns-clause-settings
+returns-clause-settings g c = rw (c.loop-self.invariant.options, c.loop-self.invariant.ports) refl

@@ -1,4 +1,4 @@
-use Rattle.std.proofs.Common.{◌≤◌, ◌-◌, List}
+use Rattle.std.proofs.Common.{◌≡◌, ◌≤◌, ◌-◌, List}
 use Rattle.afdx_lists.specs.declared.frame_line.Heading.{Heading}
 use Rattle.afdx_lists.specs.declared.watched.Watched.{Watched}
 use Rattle.afdx_recordings.specs.Reading.{state_of}
@@ -12,6 +12,8 @@ invariant-loop-self g l = record {
   gave : (start : Watched g.row.R.Denot) (past : List (Item Heading)) →
       HasGiven g.R.Read.remaining start l.fn.self l.fn.input past →
       HasGiven g.R.Read.remaining start l.self l.input past;
+  options : l.self.options ≡ l.fn.self.options;
+  ports : l.self.ports ≡ l.fn.self.ports;
   later : (state_of l.fn.self.reader).numbers ≤ (state_of l.self.reader).numbers;
 }
 
