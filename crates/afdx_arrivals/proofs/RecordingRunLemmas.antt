@@ -1,18 +1,17 @@
 -- What a run over a recording answers, from what it hands from the recording to its machine.
-use Rattle.std.proofs.Common.{◌≡◌, ℕ, ◌+◌, ◌≤◌, List, [], ◌∷◌, ◌++◌, append_assoc, append-nil, refl, ap, sym, ◌∙◌, subst}
+use Rattle.std.proofs.Common.{◌≡◌, ℕ, List, [], ◌∷◌, ◌++◌, append_assoc, append-nil, refl, ap, sym, ◌∙◌, subst}
 use Rattle.std.proofs.Common.{Option, Some, None, Result, Ok, Err, IfSome, arith, true, false, Bool, ◌⊎◌, inl, inr}
 use Rattle.std.specs.Io.KnownBytes.{Consumes, IsAtEnd}
 use Rattle.std.proofs.KnownBytes.{Consumes-nil}
 use Rattle.afdx_lists.specs.Calls.{is_read}
-use Rattle.afdx_lists.specs.Watching.{device_of, has_ended, is_over, calls_of}
+use Rattle.afdx_lists.specs.Watching.{has_ended}
 use Rattle.afdx_lists.specs.declared.frame_line.Heading.{Heading}
 use Rattle.afdx_lists.specs.declared.fault.RunFault.{RunFault}
 use Rattle.afdx_lists.specs.declared.fault.RunFault.TheVariants as run
 use Rattle.afdx_lists.specs.declared.watched.Watched.{Watched}
-use Rattle.afdx_recordings.specs.declared.frame_reader.FrameReader.{FrameReader}
-use Rattle.afdx_recordings.specs.Holding.{Standing, standing, Gives, IsTrueToEnd, unread}
-use Rattle.afdx_recordings.specs.Reading.{state_of, recorded, recorded_from}
-use Rattle.afdx_recordings.specs.Recordings.{State, Over, Faulted, at_start, lost_by, most_numbers}
+use Rattle.afdx_recordings.specs.Holding.{Standing, standing, IsTrueToEnd, unread}
+use Rattle.afdx_recordings.specs.Reading.{state_of, recorded}
+use Rattle.afdx_recordings.specs.Recordings.{State, at_start, lost_by}
 use Rattle.afdx_run.specs.Engine.{Item, Runs, without_newest}
 use Rattle.afdx_text.specs.Sinks.{IsOfOutput}
 use Rattle.afdx_arrivals.specs.declared.becoming.RecordingOptions.{RecordingOptions}
@@ -22,9 +21,9 @@ use Rattle.afdx_arrivals.specs.declared.recording_run.Tally.{Tally}
 use Rattle.afdx_arrivals.specs.Becoming.{Options, options_of}
 use Rattle.afdx_arrivals.specs.Claims.{Ports, ports_of}
 use Rattle.afdx_arrivals.specs.Counting.{no_counts, skipped_in}
-use Rattle.afdx_arrivals.specs.Sequences.{Outcome, Sorted, sequence, sequence_from, nothing_sorted}
+use Rattle.afdx_arrivals.specs.Sequences.{Outcome, sequence}
 use Rattle.afdx_arrivals.specs.RecordingRun.{RecordingAnswers, BeginIsTold, IsDone, tally_of}
-use Rattle.afdx_arrivals.specs.RecordingSource.{HasGiven, HasEnded, HasStopped, StopsFor, AreFirst, Sorts}
+use Rattle.afdx_arrivals.specs.RecordingSource.{HasGiven, HasEnded, HasStopped, StopsFor, AreFirst}
 use Rattle.afdx_arrivals.specs.RecordingSource.{first_standing, sorted_at, IsTimed}
 use Rattle.afdx_arrivals.proofs.SequenceLemmas.{sorts-first}
 
