@@ -1,13 +1,21 @@
--- What is put behind the bytes of an arrival.
-use Rattle.std.proofs.Common.{◌≡◌, ℕ, List, ◌++◌, ◌-◌, true, false, sym}
-use Rattle.std.specs.Int.{w32, to_le_bytes}
-use Rattle.afdx_frame.specs.Sealing.{is_sealed, sequence_of}
+-- How an arrival is sealed, and its bytes.
+use Rattle.std.proofs.Common.{◌≡◌, ℕ, List, Bool, true, false, refl}
+use Rattle.afdx_frame.specs.Sealing.{is_sealed}
+use Rattle.afdx_frame.specs.Seals.{whole, IsSealedAs}
 use Rattle.afdx_frame.proofs.SealingLemmas.{sealing_is_computed}
+use Rattle.afdx_arrivals.specs.declared.becoming.Ending.{Ending}
+use Rattle.afdx_arrivals.specs.declared.becoming.Ending.TheVariants as ending
+use Rattle.afdx_arrivals.specs.Becoming.{seal_by, seal_with, has_own, without_own, message_with}
 
-pub right-sealed : (bytes : List ℕ) (sequence : ℕ) → sequence ≡ sequence_of bytes
-    → true ≡ is_sealed (bytes ++ to_le_bytes w32 sequence)
-right-sealed bytes sequence own = rw own (sym (sealing_is_computed.sealed bytes))
+recorded : (bytes : List ℕ) (own : Bool) → is_sealed bytes ≡ own
+    → IsSealedAs (seal_by ending.Recorded own) (without_own own bytes)
+unfolding whole
+recorded bytes true e = sealing_is_computed.sealed (without_own true bytes)
+recorded bytes false e = e
 
-pub wrong-unsealed : (bytes : List ℕ) (sequence : ℕ) → sequence ≡ sequence_of bytes
-    → false ≡ is_sealed (bytes ++ to_le_bytes w32 (0xffff_ffff - sequence))
-wrong-unsealed bytes sequence own = rw own (sym (sealing_is_computed.wrongly bytes))
+-- what is said of its seal is true
+pub sealed_as : (e : Ending) (bytes : List ℕ) → IsSealedAs (seal_with e bytes) (message_with e bytes)
+unfolding whole
+sealed_as ending.Recorded bytes = recorded bytes (is_sealed bytes) refl
+sealed_as ending.Right bytes = sealing_is_computed.sealed bytes
+sealed_as ending.Wrong bytes = sealing_is_computed.wrongly bytes

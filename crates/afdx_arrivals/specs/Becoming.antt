@@ -1,9 +1,10 @@
 -- What a number of a recording becomes: an arrival, or it is skipped, or a fault of the recording.
-use Rattle.std.specs.Prelude.{ℕ, ◌≡◌, ◌+◌, ◌-◌, Bool, true, false, not, ◌&&◌, ◌||◌, ◌==◌, nat_le, nat_lt, List, ◌++◌, length}
+use Rattle.std.specs.Prelude.{ℕ, ◌≡◌, ◌+◌, ◌-◌, Bool, true, false, not, ◌&&◌, ◌||◌, ◌==◌, nat_le, nat_lt, List, length, take}
 use Rattle.std.specs.Prelude.{Option, Some, None, is_some, Result, Ok, Err, if◌then◌else◌}
-use Rattle.std.specs.Int.{w32, to_le_bytes}
 use Rattle.afdx_frame.specs.Layout.{link_named_by}
-use Rattle.afdx_frame.specs.Sealing.{sequence_of}
+use Rattle.afdx_frame.specs.Sealing.{sequence_of, is_sealed, sealed, sealed_wrongly}
+use Rattle.afdx_frame.specs.declared.seals.Seal.{Seal}
+use Rattle.afdx_frame.specs.declared.seals.Seal.TheVariants as seal
 use Rattle.afdx_frame.specs.declared.link.Side.{Side}
 use Rattle.afdx_lists.specs.declared.recording_fault.RecordingFault.TheVariants.{NotEthernet, NoTime}
 use Rattle.afdx_lists.specs.declared.recording_fault.RecordingFault.TheVariants.{BadTime, Cut}
@@ -125,23 +126,44 @@ entrance_of place ports bytes = do
 abbrev pub residue : ℕ
 residue = 0x2144df1c
 
--- what is put behind the bytes of a frame: nothing where it has its check sequence, else that of
--- its bytes, or the complement of that where the recorder found it wrong. None: it isn't said
--- whether it has one, and it seems so
-abbrev pub added : Bool → ℕ → Ending
-added found_wrong sequence = if found_wrong then ending.Wrong sequence else ending.Right sequence
+-- what a frame ends with: what was recorded where it has its check sequence, else what is put
+-- behind it, the right one, or a wrong one where the recorder found a wrong one. None: it isn't
+-- said whether it has one, and it seems so
+abbrev pub added : Bool → Ending
+added found_wrong = if found_wrong then ending.Wrong else ending.Right
 
 unfoldable pub ending_of : Option Bool → Bool → List ℕ → Option Ending
 ending_of (Some true) found_wrong bytes = Some ending.Recorded
-ending_of (Some false) found_wrong bytes = Some (added found_wrong (sequence_of bytes))
+ending_of (Some false) found_wrong bytes = Some (added found_wrong)
 ending_of None found_wrong bytes =
-    if sequence_of bytes == residue then None else Some (added found_wrong (sequence_of bytes))
+    if sequence_of bytes == residue then None else Some (added found_wrong)
 
 -- the bytes of an arrival, of those that were recorded
 abbrev pub bytes_with : Ending → List ℕ → List ℕ
 bytes_with ending.Recorded bytes = bytes
-bytes_with (ending.Right sequence) bytes = bytes ++ to_le_bytes w32 sequence
-bytes_with (ending.Wrong sequence) bytes = bytes ++ to_le_bytes w32 (0xffff_ffff - sequence)
+bytes_with ending.Right bytes = sealed bytes
+bytes_with ending.Wrong bytes = sealed_wrongly bytes
+
+-- the check sequence is the last four of the bytes that were recorded
+abbrev pub has_own : Ending → List ℕ → Bool
+has_own ending.Recorded bytes = is_sealed bytes
+has_own _ bytes = false
+
+-- the arrival's message: its bytes before those of its seal
+abbrev pub without_own : Bool → List ℕ → List ℕ
+without_own own bytes = if own then take (length bytes - 4) bytes else bytes
+
+abbrev pub message_with : Ending → List ℕ → List ℕ
+message_with ending bytes = without_own (has_own ending bytes) bytes
+
+-- and that seal
+abbrev pub seal_by : Ending → Bool → Seal
+seal_by ending.Recorded own = if own then seal.Right else seal.Missing
+seal_by ending.Right own = seal.Right
+seal_by ending.Wrong own = seal.Wrong
+
+abbrev pub seal_with : Ending → List ℕ → Seal
+seal_with ending bytes = seal_by ending (has_own ending bytes)
 
 -- ---- all of it
 
@@ -177,9 +199,3 @@ abbrev pub becomes : Options → Ports → (latest n : ℕ) → Recorded → Lis
 becomes options ports latest n recorded.NoFrame bytes = Err (Skipped NoFrame)
 becomes options ports latest n (recorded.Frame frame) bytes =
     frame_becomes options ports latest n frame bytes
-
--- what is put behind bytes is of their own check sequence
-abbrev pub IsOwn : Ending → List ℕ → Type 0
-IsOwn ending.Recorded bytes = Unit {0}
-IsOwn (ending.Right sequence) bytes = sequence ≡ sequence_of bytes
-IsOwn (ending.Wrong sequence) bytes = sequence ≡ sequence_of bytes

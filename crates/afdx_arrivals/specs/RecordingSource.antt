@@ -2,7 +2,7 @@
 use Rattle.std.specs.Prelude.{ℕ, Bool, true, false, not, ◌&&◌, nat_lt, ◌≡◌, ◌≤◌, ◌+◌, ◌-◌, List, [], ◌++◌, length}
 use Rattle.std.specs.Prelude.{Option, Some, None, Result, Ok, Err, if◌then◌else◌}
 use Rattle.std.specs.Io.KnownBytes.{Consumes, IsAtEnd}
-use Rattle.afdx_frame.specs.Sealing.{is_sealed}
+use Rattle.afdx_frame.specs.Seals.{IsSealedAs}
 use Rattle.afdx_frame.specs.Times.{latest_listed}
 use Rattle.afdx_lists.specs.Calls.{is_read}
 use Rattle.afdx_lists.specs.Watching.{device_of, has_ended, is_over, calls_of}
@@ -19,27 +19,16 @@ use Rattle.afdx_run.specs.Engine.{Item, item_of}
 use Rattle.afdx_run.specs.Items.{arrivals}
 use Rattle.afdx_run.specs.Lists.{latest_in}
 use Rattle.afdx_run.specs.Listed.{frames}
-use Rattle.afdx_arrivals.specs.declared.becoming.Ending.{Ending}
-use Rattle.afdx_arrivals.specs.declared.becoming.Ending.TheVariants as ending
 use Rattle.afdx_arrivals.specs.declared.read_recording.ReadRecording.{ReadRecording}
-use Rattle.afdx_arrivals.specs.Becoming.{Options, options_of}
+use Rattle.afdx_arrivals.specs.Becoming.{Options, options_of, without_own}
 use Rattle.afdx_arrivals.specs.Claims.{Ports, ports_of}
 use Rattle.afdx_arrivals.specs.Counting.{skipped_in}
 use Rattle.afdx_arrivals.specs.Sequences.{Sorted, origin_or, sequence, sequence_from, sorted_with, is_empty}
 
--- a check sequence is put behind the bytes
-abbrev pub is_added : Ending → Bool
-is_added ending.Recorded = false
-is_added _ = true
-
--- the bytes of an arrival: where one is put behind, those that were made, else those recorded
-abbrev pub made_or : Bool → List ℕ → List ℕ → List ℕ
-made_or added made recorded = if added then made else recorded
-
 -- the arrival that stands, if one does
 abbrev pub given_item : ReadRecording → Item Heading
 given_item source = item_of source.numbers source.head
-    (made_or source.is_added source.sealed.items (latest source.reader).bytes)
+    (without_own source.has_own (latest source.reader).bytes)
 
 -- what was taken, by what the source remembers and what it gave
 abbrev pub sorted_at : ℕ → ReadRecording → List (Item Heading) → Sorted
@@ -56,12 +45,12 @@ abbrev pub next_sorted : ReadRecording → ℕ → List (Item Heading) → Resul
 next_sorted source n past = sorted_with (options_of source.options) (ports_of source.ports)
     (sorted_at n source past) (latest source.reader)
 
--- the arrival that stands comes when the moment says, and it is known whether it is sealed
+-- the arrival that stands comes when its moment says, and what is said of its seal is true
 pub record FollowsOn (old new : ReadRecording) : Type 0 where
   pub origin : new.origin ≡ Some (origin_or old.origin new.latest)
   pub time : new.head.time ≡ new.latest - origin_or old.origin new.latest
   pub early : new.head.time ≤ latest_listed
-  pub sealed : new.head.is_sealed ≡ is_sealed (given_item new).bytes
+  pub sealed : IsSealedAs new.head.seal (given_item new).bytes
 
 -- an arrival was counted, or a number that was skipped
 pub record CountsOne (old new : ReadRecording) : Type 0 where

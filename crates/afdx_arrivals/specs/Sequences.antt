@@ -1,7 +1,6 @@
 -- What a run takes of a recording: its arrivals one after another, and how that ends.
 use Rattle.std.specs.Prelude.{ℕ, Bool, true, false, ◌+◌, ◌-◌, ◌&&◌, nat_lt, List, [], ◌∷◌, Option, Some, None, Result, Ok, Err}
 use Rattle.std.specs.Prelude.{if◌then◌else◌}
-use Rattle.afdx_frame.specs.Sealing.{is_sealed}
 use Rattle.afdx_frame.specs.Times.{latest_listed}
 use Rattle.afdx_lists.specs.declared.frame_line.Heading.{Heading}
 use Rattle.afdx_lists.specs.declared.recording_fault.RecordingFault.{RecordingFault}
@@ -13,7 +12,7 @@ use Rattle.afdx_arrivals.specs.declared.becoming.Found.{Found}
 use Rattle.afdx_arrivals.specs.declared.becoming.NoArrival.TheVariants as becomes_no
 use Rattle.afdx_arrivals.specs.declared.becoming.NoArrival as no_arrival
 use Rattle.afdx_arrivals.specs.declared.counts.Counts.{Counts}
-use Rattle.afdx_arrivals.specs.Becoming.{Options, becomes, bytes_with}
+use Rattle.afdx_arrivals.specs.Becoming.{Options, becomes, message_with, seal_with}
 use Rattle.afdx_arrivals.specs.Claims.{Ports}
 use Rattle.afdx_arrivals.specs.Counting.{no_counts, with_skipped, with_arrival}
 
@@ -41,20 +40,19 @@ abbrev pub origin_or : Option ℕ → ℕ → ℕ
 origin_or (Some origin) moment = origin
 origin_or None moment = moment
 
--- when and where an arrival of these bytes comes in
+-- when and where an arrival of these recorded bytes comes in, and its seal
 abbrev pub heading_of : ℕ → Found → List ℕ → Heading
 heading_of origin found bytes = record {
   time = found.moment - origin;
   side = found.side;
   port = found.port;
-  is_sealed = is_sealed bytes;
+  seal = seal_with found.ending bytes;
 }
 
 -- an arrival under this number, of these recorded bytes
 abbrev pub arrival_with : ℕ → ℕ → Found → List ℕ → Item Heading
 arrival_with n origin found bytes =
-    item_of n (heading_of origin found (bytes_with found.ending bytes))
-    (bytes_with found.ending bytes)
+    item_of n (heading_of origin found bytes) (message_with found.ending bytes)
 
 -- the arrival is taken
 abbrev pub with_found : Sorted → ℕ → Found → List ℕ → Sorted
@@ -73,7 +71,8 @@ taken sorted origin found bytes =
     else Ok (with_found sorted origin found bytes)
 
 -- a number that becomes this
-abbrev pub sorted_by : Sorted → List ℕ → Result Found no_arrival.NoArrival → Result Sorted RecordingFault
+abbrev pub sorted_by : Sorted → List ℕ → Result Found no_arrival.NoArrival →
+    Result Sorted RecordingFault
 sorted_by sorted bytes (Ok found) =
     taken sorted (origin_or sorted.origin found.moment) found bytes
 sorted_by sorted bytes (Err (becomes_no.Skipped reason)) = Ok (record sorted {

@@ -1,8 +1,8 @@
 //! What a number of a recording becomes.
 
-ghost use Rattle.std.specs.Prelude.{◌≡◌, ◌≤◌, IfOk, IfSome};
+ghost use Rattle.std.specs.Prelude.{◌≡◌, ◌≤◌, IfOk};
 ghost use Rattle.afdx_arrivals.specs.Becoming as spec;
-ghost use Rattle.afdx_arrivals.specs.Becoming.{options_of, IsOwn};
+ghost use Rattle.afdx_arrivals.specs.Becoming.{options_of};
 ghost use Rattle.afdx_arrivals.specs.Claims.{ports_of};
 ghost use Rattle.afdx_arrivals.specs.Places as places;
 
@@ -30,15 +30,15 @@ pub struct RecordingOptions {
     pub origin: Option<u64>,
 }
 
-/// The check sequence that an arrival ends with.
+/// What an arrival ends with.
 #[derive(Clone, Copy, Debug, PartialEq, Eq)]
 pub enum Ending {
-    /// What was recorded.
+    /// What was recorded, which has the check sequence.
     Recorded,
-    /// This one, behind what was recorded, whose check sequence it is.
-    Right(u32),
-    /// The complement of this one, since the recorder found another than that of its bytes.
-    Wrong(u32),
+    /// The check sequence of what was recorded, behind it.
+    Right,
+    /// The complement of that, behind it, since the recorder found a wrong one.
+    Wrong,
 }
 
 /// An arrival, beside its number and its recorded bytes.
@@ -52,7 +52,7 @@ pub struct Found {
     pub port: u8,
     /// Whether its side or its port was taken from its bytes.
     pub is_claimed: bool,
-    /// The check sequence that it ends with.
+    /// What it ends with.
     pub ending: Ending,
 }
 
@@ -184,24 +184,22 @@ fn entrance_of(
     })
 }
 
-/// The check sequence that an arrival of these bytes ends with. None: it isn't said whether they
-/// have it, and it seems so.
+/// What an arrival of these bytes ends with. None: it isn't said whether they have their check
+/// sequence, and it seems so.
 #[tactic(auto, unfolding(crate::specs::Becoming::ending_of))]
 fn ending_of(has_sequence: Option<bool>, found_wrong: bool, bytes: &[u8]) -> Option<Ending>
-    ensures ending { result ≡ spec.ending_of has_sequence found_wrong bytes.now }
-    ensures own { IfSome result (λ ending. IsOwn ending bytes.now) }
+    ensures { result ≡ spec.ending_of has_sequence found_wrong bytes.now }
 {
     if has_sequence == Some(true) {
         return Some(Ending::Recorded);
     }
-    let sequence = fcs(bytes);
-    if has_sequence.is_none() && sequence == RESIDUE {
+    if has_sequence.is_none() && fcs(bytes) == RESIDUE {
         return None;
     }
     if found_wrong {
-        Some(Ending::Wrong(sequence))
+        Some(Ending::Wrong)
     } else {
-        Some(Ending::Right(sequence))
+        Some(Ending::Right)
     }
 }
 
@@ -228,7 +226,6 @@ fn frame_becomes(
     ensures becomes { result ≡ spec.frame_becomes (options_of options.now) (ports_of ports.now)
         latest n frame.now bytes.now }
     ensures order { IfOk result (λ found. latest ≤ found.moment) }
-    ensures own { IfOk result (λ found. IsOwn found.ending bytes.now) }
 {
     let place = options.interfaces.place(frame.interface);
     if place == Some(Place::LeftOut) {
@@ -273,7 +270,6 @@ pub fn becomes(
     ensures becomes { result ≡ spec.becomes (options_of options.now) (ports_of ports.now)
         latest n recorded.now bytes.now }
     ensures order { IfOk result (λ found. latest ≤ found.moment) }
-    ensures own { IfOk result (λ found. IsOwn found.ending bytes.now) }
 {
     match recorded {
         Recorded::NoFrame => Err(NoArrival::Skipped(Skipped::NoFrame)),

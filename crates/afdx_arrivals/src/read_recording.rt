@@ -2,22 +2,20 @@
 
 ghost use Rattle.std.specs.Prelude.{◌≡◌, ◌≤◌, ◌<◌, ◌+◌, ◌-◌, ◌++◌, ◌∷◌, ℕ, List, [], Ok, Err};
 ghost use Rattle.std.specs.Prelude.{IfOk, IfErr, OnOk, true, false};
-ghost use Rattle.std.specs.Int.{w32, to_le_bytes};
-ghost use Rattle.afdx_frame.specs.Sealing.{is_sealed};
 ghost use Rattle.afdx_recordings.specs.Reading.{state_of, latest};
 ghost use Rattle.afdx_recordings.specs.Recordings.{at_start, lost_by, most_numbers};
 ghost use Rattle.afdx_recordings.specs.Holding.{unread};
 ghost use Rattle.afdx_run.specs.Engine.{Item};
-ghost use Rattle.afdx_arrivals.specs.Becoming.{bytes_with, IsOwn};
+ghost use Rattle.afdx_arrivals.specs.Becoming as spec;
 ghost use Rattle.afdx_arrivals.specs.Counting.{no_counts, skipped_in};
-ghost use Rattle.afdx_arrivals.specs.RecordingSource as spec;
-ghost use Rattle.afdx_arrivals.specs.RecordingSource.{FailsBy, given_item, made_or, sorted_at};
+ghost use Rattle.afdx_arrivals.specs.RecordingSource as source;
+ghost use Rattle.afdx_arrivals.specs.RecordingSource.{FailsBy, given_item, sorted_at};
 ghost use Rattle.afdx_arrivals.specs.Sequences.{origin_or, sorted_with, taken};
 
 use crate::becoming::{Ending, Found, NoArrival, RecordingOptions, becomes};
 use crate::counts::Counts;
 use crate::senders::SystemPorts;
-use afdx_frame::{LATEST_LISTED, Side, is_sealed};
+use afdx_frame::{LATEST_LISTED, Seal, Side, is_sealed};
 use afdx_lists::{Heading, RecordingFault, RunFault, Watched};
 use afdx_recordings::FrameReader;
 use afdx_run::Source;
@@ -35,9 +33,8 @@ pub struct ReadRecording {
     counts: Counts,
     has_arrival: bool,
     head: Heading,
-    /// The bytes of the last arrival, where a check sequence was put behind those recorded.
-    sealed: Vec<u8>,
-    is_added: bool,
+    /// Whether the last arrival's check sequence is the last four of the recorded bytes.
+    has_own: bool,
 }
 
 impl Drop for ReadRecording {
@@ -53,49 +50,40 @@ impl Drop for ReadRecording {
             counts,
             has_arrival,
             head,
-            sealed,
-            is_added,
+            has_own,
         } = self;
     }
 }
 
-/// Puts these bytes and a check sequence in the place of what `frame` holds.
-fn put_sealed(bytes: &[u8], sequence: u32, frame: &mut Vec<u8>) -> Result<(), AllocError>
-    ensures { OnOk result (frame.new.items ≡ bytes.now ++ to_le_bytes w32 sequence) }
-{
-    frame.clear();
-    frame.extend_from_slice(bytes)?;
-    frame.extend_from_slice(&sequence.to_le_bytes())
-}
-
-/// Whether a check sequence is put behind the bytes.
-fn is_added(ending: Ending) -> bool
-    ensures { result ≡ spec.is_added ending }
+/// Whether the check sequence of an arrival is the last four of these bytes, which were recorded.
+fn has_own(ending: Ending, bytes: &[u8]) -> bool
+    ensures { result ≡ spec.has_own ending bytes.now }
 {
     match ending {
-        Ending::Recorded => false,
-        Ending::Right(_) | Ending::Wrong(_) => true,
+        Ending::Recorded => is_sealed(bytes),
+        Ending::Right | Ending::Wrong => false,
     }
 }
 
-/// Makes the bytes of an arrival in `frame`, unless they are those that were recorded. True: they
-/// end with their check sequence.
-fn finish(ending: Ending, bytes: &[u8], frame: &mut Vec<u8>) -> Result<bool, AllocError>
-    requires { IsOwn ending bytes.now }
-    ensures bytes { OnOk result (made_or (spec.is_added ending) frame.new.items bytes.now
-        ≡ bytes_with ending bytes.now) }
-    ensures sealed { IfOk result (λ b. b ≡ is_sealed (bytes_with ending bytes.now)) }
+/// How an arrival is sealed that ends so.
+fn seal_by(ending: Ending, own: bool) -> Seal
+    ensures { result ≡ spec.seal_by ending own }
 {
-    match ending {
-        Ending::Recorded => Ok(is_sealed(bytes)),
-        Ending::Right(sequence) => {
-            put_sealed(bytes, sequence, frame)?;
-            Ok(true)
-        }
-        Ending::Wrong(sequence) => {
-            put_sealed(bytes, !sequence, frame)?;
-            Ok(false)
-        }
+    match (ending, own) {
+        (Ending::Recorded, false) => Seal::Missing,
+        (Ending::Recorded, true) | (Ending::Right, _) => Seal::Right,
+        (Ending::Wrong, _) => Seal::Wrong,
+    }
+}
+
+/// What stands before the last four of these bytes, or all of them.
+fn without_own(own: bool, bytes: &[u8]) -> &[u8]
+    ensures { result.now ≡ spec.without_own own bytes.entry.now }
+{
+    if own {
+        &bytes[..bytes.len().saturating_sub(4)]
+    } else {
+        bytes
     }
 }
 
@@ -144,10 +132,9 @@ impl ReadRecording {
                 time: 0,
                 side: Side::A,
                 port: 1,
-                is_sealed: false,
+                seal: Seal::Missing,
             },
-            sealed: Vec::new(alloc),
-            is_added: false,
+            has_own: false,
         })
     }
 
@@ -173,9 +160,8 @@ impl ReadRecording {
     }
 
     /// Takes an arrival, which then stands.
-    #[tactic(auto, unfolding(crate::specs::Sequences::taken))]
+    #[tactic(auto, unfolding(crate::specs::Sequences::taken), using(crate::proofs::SealLemmas::sealed_as))]
     fn take(&mut self, found: Found) -> Result<(), RunFault>
-        requires own { IsOwn found.ending (latest self.old.reader).bytes }
         requires few { self.old.counts.claimed < most_numbers }
         ensures reader { self.new.reader ≡ self.old.reader }
         ensures options { self.new.options ≡ self.old.options }
@@ -183,8 +169,8 @@ impl ReadRecording {
         ensures numbers { self.new.numbers ≡ self.old.numbers }
         ensures arrival { OnOk result (self.new.has_arrival ≡ true) }
         ensures moment { OnOk result (self.new.latest ≡ found.moment) }
-        ensures follows { OnOk result (spec.FollowsOn self.old self.new) }
-        ensures counted { OnOk result (spec.CountsOne self.old self.new) }
+        ensures follows { OnOk result (source.FollowsOn self.old self.new) }
+        ensures counted { OnOk result (source.CountsOne self.old self.new) }
         ensures ok { OnOk result ((past : List (Item Heading)) (n : ℕ) →
             self.old.numbers ≡ n + 1 →
             taken (sorted_at n self.old past) (origin_or self.old.origin found.moment) found
@@ -200,13 +186,13 @@ impl ReadRecording {
         if time > LATEST_LISTED {
             return Err(RunFault::Recording(RecordingFault::TimeTooLarge(self.numbers)));
         }
-        let is_sealed = finish(found.ending, self.reader.bytes(), &mut self.sealed)?;
-        self.is_added = is_added(found.ending);
+        let own = has_own(found.ending, self.reader.bytes());
+        self.has_own = own;
         self.head = Heading {
             time,
             side: found.side,
             port: found.port,
-            is_sealed,
+            seal: seal_by(found.ending, own),
         };
         self.origin = Some(origin);
         self.latest = found.moment;
@@ -226,19 +212,19 @@ impl ReadRecording {
         ensures numbers { self.new.numbers ≡ (state_of self.old.reader).numbers }
         ensures taken { result ≡ Ok true → (past : List (Item Heading)) (n : ℕ) →
             (state_of self.old.reader).numbers ≡ n + 1 →
-            spec.next_sorted self.old n past
+            source.next_sorted self.old n past
             ≡ Ok (sorted_at (n + 1) self.new (given_item self.new ∷ past)) }
         ensures arrival { result ≡ Ok true → self.new.has_arrival ≡ true }
         ensures order { result ≡ Ok true → self.old.latest ≤ self.new.latest }
-        ensures follows { result ≡ Ok true → spec.FollowsOn self.old self.new }
-        ensures counted { result ≡ Ok true → spec.CountsOne self.old self.new }
+        ensures follows { result ≡ Ok true → source.FollowsOn self.old self.new }
+        ensures counted { result ≡ Ok true → source.CountsOne self.old self.new }
         ensures skipped { result ≡ Ok false → (past : List (Item Heading)) (n : ℕ) →
             (state_of self.old.reader).numbers ≡ n + 1 →
-            spec.next_sorted self.old n past ≡ Ok (sorted_at (n + 1) self.new past) }
-        ensures none { result ≡ Ok false → spec.SkipsOne self.old self.new }
+            source.next_sorted self.old n past ≡ Ok (sorted_at (n + 1) self.new past) }
+        ensures none { result ≡ Ok false → source.SkipsOne self.old self.new }
         ensures fault { IfErr result (λ fault. (past : List (Item Heading)) (n : ℕ) →
             (state_of self.old.reader).numbers ≡ n + 1 →
-            FailsBy fault (spec.next_sorted self.old n past)) }
+            FailsBy fault (source.next_sorted self.old n past)) }
     {
         let n = self.reader.number();
         self.numbers = n;
@@ -259,7 +245,7 @@ impl ReadRecording {
 
     /// What is answered behind the last number: a recording that has numbers has an arrival.
     fn end(&self) -> Result<bool, RunFault>
-        ensures { result ≡ spec.end_of self.now.has_arrival self.now.numbers }
+        ensures { result ≡ source.end_of self.now.has_arrival self.now.numbers }
     {
         if self.numbers > 0 && !self.has_arrival {
             return Err(RunFault::Recording(RecordingFault::NoArrival(self.numbers)));
@@ -306,10 +292,6 @@ impl<R: Read> Source<Heading, Watched<R>> for ReadRecording {
     }
 
     fn bytes(&self) -> &[u8] {
-        if self.is_added {
-            self.sealed.as_slice()
-        } else {
-            self.reader.bytes()
-        }
+        without_own(self.has_own, self.reader.bytes())
     }
 }

@@ -28,8 +28,8 @@ pub struct Tally {
 
 /// Lets a machine tell the arrivals of a recording, and counts what is no arrival.
 ///
-/// The whole text of an arrival is handed to `output` before the next frame is read. The first fault
-/// ends the run; the text of the arrivals before it stands written. `RunFault::Read` and
+/// The whole text of an arrival is handed to `output` before the next frame is read. The first
+/// fault ends the run; the text of the arrivals before it stands written. `RunFault::Read` and
 /// `RunFault::Write` come exactly where the input's or the output's device failed; neither is tried
 /// again.
 pub fn run_recording<R: Read, M: Machine<Heading>, O: Sink>(
@@ -57,7 +57,7 @@ pub fn run_recording<R: Read, M: Machine<Heading>, O: Sink>(
         RecordingAnswers (options_of options) (ports_of ports)
         (M.Done rules machine.new (O.written output.old) (O.written output.new))
         (M.Told rules machine.new (O.written output.old) (O.written output.new))
-        (M.Begins rules (O.written output.old) (O.written output.new))
+        (M.Begins rules machine.new (O.written output.old) (O.written output.new))
         bytes (R.remaining (device_of input.new)) result) }
 {
     let mut recording = ReadRecording::new(alloc, options, ports)?;

@@ -14,7 +14,7 @@ returns-in_err-recording-clause-answer g c law start =
     let old = g.O.Sink.written c.args.output.now in
     let stop = start-answers (options_of c.args.options) (ports_of c.args.ports)
     (g.M.Machine.Done law c.args.machine.now old old) (g.M.Machine.Told law c.args.machine.now old old)
-    (g.M.Machine.Begins law old old) (g.R.Read.remaining c.args.input.now.inner) start in
+    (g.M.Machine.Begins law c.args.machine.now old old) (g.R.Read.remaining c.args.input.now.inner) start in
     search rules
 
 pub drive-requires-clause-gave : goal.drive-requires-clause-gave
@@ -33,7 +33,7 @@ returns-in_err-drive-clause-read g c =
     let e : c.from_residual-in_err-drive.result ≡ Err c.in_err-drive.field-0.0 = search rules in
     rw e (fault-read g.R.Read.remaining c.args.input.now c.drive.new.input c.drive.new.source
     (g.M.Machine.Done law c.drive.new.machine old new) (g.M.Machine.Told law c.drive.new.machine old new)
-    (g.M.Machine.Begins law old new)
+    (g.M.Machine.Begins law c.drive.new.machine old new)
     c.in_err-drive.field-0.0 (c.in_err-drive.ensures.answer law told.1))
 
 pub returns-in_err-drive-clause-answer : goal.returns-in_err-drive-clause-answer
@@ -43,7 +43,7 @@ returns-in_err-drive-clause-answer g c law start =
     let fault = c.in_err-drive.field-0.0 in
     let done = g.M.Machine.Done law c.drive.new.machine old new in
     let told = g.M.Machine.Told law c.drive.new.machine old new in
-    let begins = g.M.Machine.Begins law old new in
+    let begins = g.M.Machine.Begins law c.drive.new.machine old new in
     let stop = by-settings
     (λ options ports. IfSome (g.R.Read.remaining c.args.input.now.inner) (λ bytes.
     RecordingAnswers options ports done told begins bytes (g.R.Read.remaining c.drive.new.input.inner) (Err fault)))
@@ -61,7 +61,7 @@ returns-clause-ended g c =
     let new = g.O.Sink.written c.drive.new.output in
     done-ended g.R.Read.remaining c.args.input.now c.drive.new.input c.drive.new.source
     (g.M.Machine.Done law c.drive.new.machine old new) (g.M.Machine.Told law c.drive.new.machine old new)
-    (g.M.Machine.Begins law old new) (c.in_ok-drive.ensures.answer law told.1)
+    (g.M.Machine.Begins law c.drive.new.machine old new) (c.in_ok-drive.ensures.answer law told.1)
 
 pub returns-clause-read : goal.returns-clause-read
 returns-clause-read g c =
@@ -71,7 +71,7 @@ returns-clause-read g c =
     let new = g.O.Sink.written c.drive.new.output in
     done-read g.R.Read.remaining c.args.input.now c.drive.new.input c.drive.new.source
     (g.M.Machine.Done law c.drive.new.machine old new) (g.M.Machine.Told law c.drive.new.machine old new)
-    (g.M.Machine.Begins law old new) (c.in_ok-drive.ensures.answer law told.1)
+    (g.M.Machine.Begins law c.drive.new.machine old new) (c.in_ok-drive.ensures.answer law told.1)
 
 pub returns-clause-answer : goal.returns-clause-answer
 returns-clause-answer g c law start =
@@ -79,7 +79,7 @@ returns-clause-answer g c law start =
     let new = g.O.Sink.written c.drive.new.output in
     let done = g.M.Machine.Done law c.drive.new.machine old new in
     let told = g.M.Machine.Told law c.drive.new.machine old new in
-    let begins = g.M.Machine.Begins law old new in
+    let begins = g.M.Machine.Begins law c.drive.new.machine old new in
     let tally : Tally = record {
       numbers = c.numbers.result;
       counts = c.counts.result;
