@@ -1,5 +1,5 @@
 pub mod TableLemmas
-pub mod SealLemmas
+pub mod Sealing
 pub mod SequenceLemmas
 pub mod SourceLemmas
 pub mod RecordingRunLemmas

@@ -18,7 +18,7 @@ use Rattle.afdx_arrivals.specs.declared.becoming.NoArrival.{NoArrival}
 use Rattle.afdx_arrivals.specs.declared.becoming.NoArrival.TheVariants as no
 use Rattle.afdx_arrivals.specs.Becoming.{Options, becomes}
 use Rattle.afdx_arrivals.specs.Claims.{Ports}
-use Rattle.afdx_arrivals.specs.Counting.{with_skipped}
+use Rattle.afdx_arrivals.specs.Counting.{skip_one}
 use Rattle.afdx_arrivals.specs.Sequences.{Sorted, Outcome, sequence, sequence_from, sequence_of_items, sorted_with}
 use Rattle.afdx_arrivals.specs.Sequences.{sorted_by, taken, with_found, arrival_with, and_then, ending_after, has_no_arrival, origin_or}
 use Rattle.afdx_arrivals.specs.RecordingSource.{Sorts, IsFault, AreOfRead, AreFirst, IsTimed}
@@ -153,7 +153,7 @@ module _ (options : Options) (ports : Ports) where
     [],
     ap (λ (s : Sorted). s.items) (sym (if-ok false (fault.TimeTooLarge 0) (record sorted {
       numbers = sorted.numbers + 1;
-      counts = with_skipped reason sorted.counts;
+      counts = skip_one reason sorted.counts;
     }) more e)),
   )
   more-extends sorted more bytes (Err (no.Faulted fault)) e = absurd (cc)

@@ -18,17 +18,17 @@ no_counts = record {
 }
 
 -- one number more was skipped
-unfoldable pub with_skipped : Skipped → Counts → Counts
-with_skipped NoFrame counts = record counts { no_frame = counts.no_frame + 1 }
-with_skipped LeftOut counts = record counts { left_out = counts.left_out + 1 }
-with_skipped NotAfdx counts = record counts { not_afdx = counts.not_afdx + 1 }
-with_skipped UnknownSender counts = record counts { unknown_sender = counts.unknown_sender + 1 }
-with_skipped NoNetwork counts = record counts { no_network = counts.no_network + 1 }
-with_skipped BeforeOrigin counts = record counts { before_origin = counts.before_origin + 1 }
+unfoldable pub skip_one : Skipped → Counts → Counts
+skip_one NoFrame counts = record counts { no_frame = counts.no_frame + 1 }
+skip_one LeftOut counts = record counts { left_out = counts.left_out + 1 }
+skip_one NotAfdx counts = record counts { not_afdx = counts.not_afdx + 1 }
+skip_one UnknownSender counts = record counts { unknown_sender = counts.unknown_sender + 1 }
+skip_one NoNetwork counts = record counts { no_network = counts.no_network + 1 }
+skip_one BeforeOrigin counts = record counts { before_origin = counts.before_origin + 1 }
 
 -- one arrival more, which may be claimed
-unfoldable pub with_arrival : Bool → Counts → Counts
-with_arrival is_claimed counts =
+unfoldable pub take_one : Bool → Counts → Counts
+take_one is_claimed counts =
     if is_claimed then record counts { claimed = counts.claimed + 1 } else counts
 
 -- all that were skipped

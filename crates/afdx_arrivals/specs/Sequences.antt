@@ -14,7 +14,7 @@ use Rattle.afdx_arrivals.specs.declared.becoming.NoArrival as no_arrival
 use Rattle.afdx_arrivals.specs.declared.counts.Counts.{Counts}
 use Rattle.afdx_arrivals.specs.Becoming.{Options, becomes, message_with, seal_with}
 use Rattle.afdx_arrivals.specs.Claims.{Ports}
-use Rattle.afdx_arrivals.specs.Counting.{no_counts, with_skipped, with_arrival}
+use Rattle.afdx_arrivals.specs.Counting.{no_counts, skip_one, take_one}
 
 -- what was taken so far: how many numbers; the arrivals, the newest first; the moment that is time
 -- 0, once it is known; that of the newest arrival, or 0; and the counts
@@ -61,7 +61,7 @@ with_found sorted origin found bytes = record {
   items = arrival_with (sorted.numbers + 1) origin found bytes ∷ sorted.items;
   origin = Some origin;
   latest = found.moment;
-  counts = with_arrival found.is_claimed sorted.counts;
+  counts = take_one found.is_claimed sorted.counts;
 }
 
 -- unless its time is too large
@@ -77,7 +77,7 @@ sorted_by sorted bytes (Ok found) =
     taken sorted (origin_or sorted.origin found.moment) found bytes
 sorted_by sorted bytes (Err (becomes_no.Skipped reason)) = Ok (record sorted {
   numbers = sorted.numbers + 1;
-  counts = with_skipped reason sorted.counts;
+  counts = skip_one reason sorted.counts;
 })
 sorted_by sorted bytes (Err (becomes_no.Faulted fault)) = Err fault
 

@@ -35,10 +35,10 @@ impl Counts {
     }
 
     /// Counts a number that was skipped for this reason.
-    #[tactic(auto, unfolding(crate::specs::Counting::with_skipped, crate::specs::Counting::skipped_in))]
+    #[tactic(auto, unfolding(crate::specs::Counting::skip_one, crate::specs::Counting::skipped_in))]
     pub(crate) fn skip(&mut self, reason: Skipped)
         requires { spec.skipped_in self.old < 100000000000000000 }
-        ensures counts { self.new ≡ spec.with_skipped reason self.old }
+        ensures counts { self.new ≡ spec.skip_one reason self.old }
         ensures skipped { spec.skipped_in self.new ≡ spec.skipped_in self.old + 1 }
         ensures claimed { self.new.claimed ≡ self.old.claimed }
     {
@@ -53,10 +53,10 @@ impl Counts {
     }
 
     /// Counts an arrival, which may be claimed.
-    #[tactic(auto, unfolding(crate::specs::Counting::with_arrival, crate::specs::Counting::skipped_in))]
+    #[tactic(auto, unfolding(crate::specs::Counting::take_one, crate::specs::Counting::skipped_in))]
     pub(crate) fn arrive(&mut self, is_claimed: bool)
         requires { self.old.claimed < 100000000000000000 }
-        ensures counts { self.new ≡ spec.with_arrival is_claimed self.old }
+        ensures counts { self.new ≡ spec.take_one is_claimed self.old }
         ensures skipped { spec.skipped_in self.new ≡ spec.skipped_in self.old }
         ensures claimed { self.new.claimed ≤ self.old.claimed + 1 }
     {

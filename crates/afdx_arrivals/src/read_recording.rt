@@ -160,7 +160,7 @@ impl ReadRecording {
     }
 
     /// Takes an arrival, which then stands.
-    #[tactic(auto, unfolding(crate::specs::Sequences::taken), using(crate::proofs::SealLemmas::sealed_as))]
+    #[tactic(auto, unfolding(crate::specs::Sequences::taken), using(crate::proofs::Sealing::known))]
     fn take(&mut self, found: Found) -> Result<(), RunFault>
         requires few { self.old.counts.claimed < most_numbers }
         ensures reader { self.new.reader ≡ self.old.reader }
