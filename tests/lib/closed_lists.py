@@ -23,6 +23,7 @@ FILES = [
     "afdx_send/src/fault.rt",
     "afdx_lists/src/fault.rt",
     "afdx_lists/src/recording_fault.rt",
+    "afdx_arrivals/src/skipped.rt",
 ]
 SOURCES = "\n".join((CRATES / file).read_text(encoding="utf-8") for file in FILES)
 
@@ -59,6 +60,7 @@ ADMISSION = words("ADMISSION")
 CONFIG_FAULTS = words("CONFIG_FAULTS")
 RUN_FAULTS = words("RUN_FAULTS")
 RECORDING_FAULTS = words("RECORDING_FAULTS")
+SKIPPED = words("SKIPPED")
 # of each part its keys in their order: name, least, greatest, forms, meaning
 KEY_ROWS = {part: table(f"{part.upper()}_KEYS") for part in PARTS}
 KEYS = {part: [row[0] for row in rows] for part, rows in KEY_ROWS.items()}

@@ -33,6 +33,7 @@ LISTS = {
     "drop": lists.REASONS,
     "unread": lists.MAC_FAULTS + lists.DROP_REASONS + lists.IP_FAULTS,
     "refusal": lists.SEND_FAULTS[:5],
+    "skipped": lists.SKIPPED,
     "admission": lists.ADMISSION,
     "config": lists.CONFIG_FAULTS[:8],
     "key": [row[3] for rows in lists.KEY_ROWS.values() for row in rows],
@@ -96,6 +97,9 @@ def wanted_answers(texts: str) -> list[tuple[str, list[str]]]:
         word = word.strip("`")
         wanted.append((f"# 7 {word}", [when, "was refused"]))
         wanted.append((word, [when]))
+    for word, when in rows_below("| WORD of a skipped number | When |", texts):
+        word = word.strip("`")
+        wanted += [(f"# {word}", [when]), (word, [when])]
     for line, meaning in lines_with_meaning(texts):
         if "WORD" not in line and "Sk" not in line:
             wanted.append((example_of(line), [meaning]))

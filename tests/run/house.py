@@ -187,6 +187,7 @@ LISTED = [
     ("docs/FORMATS.md", "| Text | When |", 0, lists.SEND_FAULTS[:5]),
     ("docs/FORMATS.md", "| Line on standard error | When |", 0, lists.CONFIG_FAULTS[:8]),
     ("docs/FORMATS.md", "| Recording fault | n | When |", 0, RECORDING_WORDS),
+    ("docs/FORMATS.md", "| WORD of a skipped number | When |", 0, lists.SKIPPED),
 ]
 LIST_TABLE = ("docs/FORMATS.md", "| Order | Line on standard error | When |")
 KEY_TABLE = ("docs/FORMATS.md", "| Part | Number | Key | Value |")

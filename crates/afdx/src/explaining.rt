@@ -1,6 +1,7 @@
 //! Explanations: the command `explain`, and what follows the line of a fault with `--explain`.
 
 use afdx_admit::ADMISSION;
+use afdx_arrivals::SKIPPED;
 use afdx_config::{CONFIG_FAULTS, Key, LINK_KEYS, PORT_KEYS, SYSTEM_KEYS, TOP_KEYS, UNKNOWN_KEYS};
 use afdx_explain::{FAULTS, LINES, kind_of, meaning_of};
 use afdx_frame::{IP_FAULTS, MAC_FAULTS};
@@ -104,6 +105,11 @@ fn print_refusals(rt: &HostRuntime) -> io::Result<()> {
     print_words(rt, "refusal", &SEND_FAULTS[..5])
 }
 
+/// Prints why a number of a recording is skipped.
+fn print_skipped(rt: &HostRuntime) -> io::Result<()> {
+    print_words(rt, "skipped", &SKIPPED)
+}
+
 /// Prints the lines of admission.
 fn print_admission(rt: &HostRuntime) -> io::Result<()> {
     print_formed(rt, "admission", &ADMISSION)
@@ -167,6 +173,7 @@ pub fn print_lists(rt: &HostRuntime) -> io::Result<()> {
     print_own_drops(rt)?;
     print_no_datagrams(rt)?;
     print_refusals(rt)?;
+    print_skipped(rt)?;
     print_admission(rt)?;
     print_config_faults(rt)?;
     print_top_keys(rt)?;

@@ -8,6 +8,7 @@ use Rattle.afdx_config.specs.declared.key_tables.TheConstants.{PORT_KEYS, UNKNOW
 use Rattle.afdx_admit.specs.declared.fault.TheConstants.{ADMISSION}
 use Rattle.afdx_receive.specs.declared.reception.TheConstants.{DROP_REASONS}
 use Rattle.afdx_send.specs.declared.fault.TheConstants.{SEND_FAULTS}
+use Rattle.afdx_arrivals.specs.declared.skipped.TheConstants.{SKIPPED}
 use Rattle.afdx_lists.specs.declared.fault.TheConstants.{RUN_FAULTS}
 use Rattle.afdx_lists.specs.declared.recording_fault.TheConstants.{RECORDING_FAULTS}
 use Rattle.afdx_explain.specs.Forms.{text_among, row_among, formed_row, formed_among}
@@ -60,7 +61,7 @@ unfoldable pub admission : List ℕ → Option (List ℕ)
 admission line = formed_among (map (λ row. formed_row row.0.now row.1.now row.2.now) ADMISSION) line
 
 -- ---- lines of the output, and words in them: why a switch or a receiver dropped a frame, why a
--- message was refused, and the other lines
+-- message was refused or a number of a recording skipped, and the other lines
 
 unfoldable pub dropped : List ℕ → Option (List ℕ)
 dropped line =
@@ -83,6 +84,10 @@ unfoldable pub refused : List ℕ → Option (List ℕ)
 refused line =
     row_among (codes "?\n# n ?") (map (λ row. (row.1.now, row.2.now)) (take 5 SEND_FAULTS)) line
 
+unfoldable pub skipped : List ℕ → Option (List ℕ)
+skipped line =
+    row_among (codes "?\n# ?") (map (λ row. (row.1.now, row.2.now)) SKIPPED) line
+
 unfoldable pub told : List ℕ → Option (List ℕ)
 told line = text_among (map (λ entry. (entry.0.now, entry.1.now)) LINES) line
 
@@ -96,7 +101,7 @@ any_fault line =
 unfoldable pub any_line : List ℕ → Option (List ℕ)
 any_line line =
     or_else (dropped line) (or_else (no_frame line) (or_else (not_received line)
-    (or_else (no_datagram line) (or_else (refused line) (told line)))))
+    (or_else (no_datagram line) (or_else (refused line) (or_else (skipped line) (told line))))))
 
 -- what the line itself means
 unfoldable pub meaning_of : List ℕ → Option (List ℕ)

@@ -9,6 +9,7 @@ use crate::faults::FAULTS;
 use crate::kinds::KINDS;
 use crate::lines::LINES;
 use afdx_admit::ADMISSION;
+use afdx_arrivals::SKIPPED;
 use afdx_config::{CONFIG_FAULTS, LINK_KEYS, PORT_KEYS, SYSTEM_KEYS, TOP_KEYS, UNKNOWN_KEYS};
 use afdx_frame::{IP_FAULTS, MAC_FAULTS};
 use afdx_lists::{RECORDING_FAULTS, RUN_FAULTS};
@@ -24,6 +25,9 @@ const RECEIVER_FORMS: &[u8] = b"?\nX n * n ?";
 
 /// The forms of a line that tells why a message was refused.
 const REFUSAL_FORMS: &[u8] = b"?\n# n ?";
+
+/// The forms of a line that tells why a number of a recording is skipped.
+const SKIPPED_FORMS: &[u8] = b"?\n# ?";
 
 /// What a fault of the words means, or of a file that can't be opened.
 #[tactic(auto, unfolding(crate::specs::Explained::fault))]
@@ -165,6 +169,14 @@ fn refused(line: &[u8]) -> Option<&'static str>
     row_among(&SEND_FAULTS[..5], REFUSAL_FORMS, line)
 }
 
+/// Why a number of a recording is skipped.
+#[tactic(auto, unfolding(crate::specs::Explained::skipped))]
+fn skipped(line: &[u8]) -> Option<&'static str>
+    ensures { option_copied result ≡ spec.skipped line.now }
+{
+    row_among(&SKIPPED, SKIPPED_FORMS, line)
+}
+
 /// What another line of the output means.
 #[tactic(auto, unfolding(crate::specs::Explained::told))]
 fn told(line: &[u8]) -> Option<&'static str>
@@ -214,6 +226,9 @@ fn any_line(line: &[u8]) -> Option<&'static str>
         return Some(text);
     }
     if let Some(text) = refused(line) {
+        return Some(text);
+    }
+    if let Some(text) = skipped(line) {
         return Some(text);
     }
     told(line)

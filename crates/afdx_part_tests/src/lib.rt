@@ -1,9 +1,11 @@
 //! Tests of what a run stands on: frames, policing, output ports, configurations, admission,
-//! bounds, lists, lines of the output, and what explains a line.
+//! bounds, lists, recordings' arrivals, lines of the output, and what explains a line.
 #![tactic(auto)]
 
 #[cfg(test)]
 mod admit;
+#[cfg(test)]
+mod arrivals;
 #[cfg(test)]
 mod bounds;
 #[cfg(test)]

@@ -23,6 +23,11 @@ pub trait Source<H: Head, I> {
     /// No more calls than this give an item.
     ghost left_of: { Self → ℕ };
 
+    /// What it works by, which no call changes.
+    ghost Settings: { Type 0 };
+
+    ghost settings: { Self → Settings };
+
     /// From the input as it was first, these were given: the newest first.
     ghost Gave: { I → Self → I → List (Item H) → Type 0 };
 
@@ -43,6 +48,7 @@ pub trait Source<H: Head, I> {
         ensures stop { (start : I) (past : List (Item H)) → Gave start self.old input.old past →
             IfErr result (Stopped start self.new input.new past) }
         ensures unwritten { is_failed_write result ≡ false }
+        ensures settings { settings self.new ≡ settings self.old }
         ensures less { result ≡ Ok true → left_of self.new < left_of self.old };
 
     /// Its number.
@@ -129,6 +135,7 @@ pub fn drive<H: Head, I, S: Source<H, I>, M: Machine<H>, O: Sink>(
     requires told { (rules : M.Rules) × M.Told rules machine.old
         (O.written output.old) (O.written output.old) [] }
     ensures write { O.failed output.new ≡ is_failed_write result }
+    ensures settings { S.settings source.new ≡ S.settings source.old }
     ensures answer { (rules : M.Rules) → M.Told rules machine.old
         (O.written output.old) (O.written output.old) [] →
         Runs (S.Gave input.old source.new input.new) (S.Ended input.old source.new input.new)

@@ -92,6 +92,10 @@ impl<H: Listed, R: Read> Source<H, Watched<R>> for ReadList<H> {
 
     ghost left_of = { λ list. most_lines - lines_taken list.reader };
 
+    ghost Settings = { Unit {0} };
+
+    ghost settings = { λ list. tt };
+
     ghost Gave = { HasGiven H.kind H.says_of H.time_of R.remaining };
 
     ghost Ended = { HasEnded H.kind H.says_of H.time_of R.remaining };

@@ -1,0 +1,5 @@
+pub mod TableLemmas
+pub mod Sealing
+pub mod SequenceLemmas
+pub mod SourceLemmas
+pub mod RecordingRunLemmas

@@ -1,0 +1,234 @@
+-- What a run over a recording answers, from what it hands from the recording to its machine.
+use Rattle.std.proofs.Common.{◌≡◌, ℕ, List, [], ◌∷◌, ◌++◌, append_assoc, append-nil, refl, ap, sym, ◌∙◌, subst}
+use Rattle.std.proofs.Common.{Option, Some, None, Result, Ok, Err, IfSome, arith, true, false, Bool, ◌⊎◌, inl, inr}
+use Rattle.std.specs.Io.KnownBytes.{Consumes, IsAtEnd}
+use Rattle.std.proofs.KnownBytes.{Consumes-nil}
+use Rattle.afdx_lists.specs.Calls.{is_read}
+use Rattle.afdx_lists.specs.Watching.{has_ended}
+use Rattle.afdx_lists.specs.declared.frame_line.Heading.{Heading}
+use Rattle.afdx_lists.specs.declared.fault.RunFault.{RunFault}
+use Rattle.afdx_lists.specs.declared.fault.RunFault.TheVariants as run
+use Rattle.afdx_lists.specs.declared.watched.Watched.{Watched}
+use Rattle.afdx_recordings.specs.Holding.{Standing, standing, IsTrueToEnd, unread}
+use Rattle.afdx_recordings.specs.Reading.{state_of, recorded}
+use Rattle.afdx_recordings.specs.Recordings.{State, at_start, lost_by}
+use Rattle.afdx_run.specs.Engine.{Item, Runs, without_newest}
+use Rattle.afdx_text.specs.Sinks.{IsOfOutput}
+use Rattle.afdx_arrivals.specs.declared.becoming.RecordingOptions.{RecordingOptions}
+use Rattle.afdx_arrivals.specs.declared.senders.SystemPorts.{SystemPorts}
+use Rattle.afdx_arrivals.specs.declared.read_recording.ReadRecording.{ReadRecording}
+use Rattle.afdx_arrivals.specs.declared.recording_run.Tally.{Tally}
+use Rattle.afdx_arrivals.specs.Becoming.{Options, options_of}
+use Rattle.afdx_arrivals.specs.Claims.{Ports, ports_of}
+use Rattle.afdx_arrivals.specs.Counting.{no_counts, skipped_in}
+use Rattle.afdx_arrivals.specs.Sequences.{Outcome, sequence}
+use Rattle.afdx_arrivals.specs.RecordingRun.{RecordingAnswers, BeginIsTold, IsDone, tally_of}
+use Rattle.afdx_arrivals.specs.RecordingSource.{HasGiven, HasEnded, HasStopped, StopsFor, AreFirst}
+use Rattle.afdx_arrivals.specs.RecordingSource.{first_standing, sorted_at, IsTimed}
+use Rattle.afdx_arrivals.proofs.SequenceLemmas.{sorts-first}
+
+not_read : (fault : RunFault) → IsOfOutput fault → is_read fault ≡ false
+not_read fault (inl e) = rw e refl
+not_read fault (inr e) = rw e refl
+
+-- ---- of the whole recording, where it is known
+
+-- what is true of what was read and whatever can follow
+of-whole : (P : List ℕ → Type 0) (left rest : Option (List ℕ)) (read : List ℕ) (ended : Bool)
+    → Consumes left rest read → (ended ≡ true → IsAtEnd rest)
+    → ((more : List ℕ) → (ended ≡ true → more ≡ []) → P (read ++ more)) → IfSome left P
+of-whole P None rest read ended c h f = tt
+of-whole P (Some bytes) None read ended c h f = absurd c
+of-whole P (Some bytes) (Some rest) read ended c h f = subst P (sym c) (f rest h)
+
+-- what is true of all that was read, where nothing is left
+of-all : (P : List ℕ → Type 0) (left rest : Option (List ℕ)) (read : List ℕ) → Consumes left rest read
+    → IsAtEnd rest → P (read ++ []) → IfSome left P
+of-all P left rest read c h p = of-whole P left rest read true c (λ e. h) (λ more e. rw (e refl) p)
+
+-- what is true of what was read
+of-read : (Q : List ℕ → Type 0) (left rest : Option (List ℕ)) (read : List ℕ) → Consumes left rest read → Q read
+    → IfSome left (λ bytes. (front : List ℕ) × Consumes (Some bytes) rest front × Q front)
+of-read Q None rest read c q = tt
+of-read Q (Some bytes) rest read c q = (read, c, q)
+
+module _ (options : Options) (ports : Ports) (done told begins : List (Item Heading) → Type 0)
+    (first now : Standing) where
+  abbrev Answers : Option (List ℕ) → Result Tally RunFault → Type 0
+  Answers rest result =
+      IfSome first.left (λ bytes. RecordingAnswers options ports done told begins bytes rest result)
+
+  -- the source stopped
+  answers-stop : (past : List (Item Heading)) (fault : RunFault) → IsTrueToEnd now → told past
+      → StopsFor options ports first now past fault → Answers now.left (Err fault)
+  answers-stop past (run.Recording f) h t s =
+      of-whole (λ bytes. RecordingAnswers options ports done told begins bytes now.left (Err (run.Recording f)))
+      first.left now.left s.read now.ended s.gives.consumed h
+      (λ more follows. (s.ending more follows, subst told (sym (s.items more follows)) t))
+  answers-stop past run.Read h t s =
+      of-read (λ read. told (sequence options ports (recorded read)).sorted.items) first.left now.left s.read
+      s.gives.consumed (subst told (sym s.items) t)
+  answers-stop past run.Memory h t s =
+      of-whole (λ bytes. BeginIsTold options ports done told begins (sequence options ports (recorded bytes)))
+      first.left s.left s.read false s.consumed (λ e. absurd (cc))
+      (λ more follows. let i = s.items more in record {
+        past = past;
+        later = i.0;
+        items = i.1;
+        begun = inl t;
+      })
+  answers-stop past run.Write h t s = absurd s
+  answers-stop past run.TooManyLines h t s = absurd s
+  answers-stop past (run.LineTooLong m) h t s = absurd s
+  answers-stop past (run.BadLine m) h t s = absurd s
+  answers-stop past (run.BadHex m) h t s = absurd s
+  answers-stop past (run.TimeBack m) h t s = absurd s
+  answers-stop past (run.TimeTooLarge m) h t s = absurd s
+  answers-stop past (run.BadPort m) h t s = absurd s
+
+  -- the output failed, or the machine had no memory
+  begun-of : (outcome : Outcome) (past later : List (Item Heading)) → outcome.sorted.items ≡ later ++ past
+      → begins past ⊎ begins (without_newest past) → BeginIsTold options ports done told begins outcome
+  begun-of outcome past later e (inl b) = record { past = past; later = later; items = e; begun = inr b }
+  begun-of outcome [] later e (inr b) = record { past = []; later = later; items = e; begun = inr b }
+  begun-of outcome (x ∷ past) later e (inr b) = record {
+    past = past;
+    later = later ++ x ∷ [];
+    items = e ∙ sym (append_assoc later (x ∷ []) past);
+    begun = inr b;
+  }
+
+  begun-first : (past : List (Item Heading)) → AreFirst options ports first past
+      → begins past ⊎ begins (without_newest past)
+      → IfSome first.left (λ bytes. BeginIsTold options ports done told begins
+      (sequence options ports (recorded bytes)))
+  begun-first past s b =
+      of-whole (λ bytes. BeginIsTold options ports done told begins (sequence options ports (recorded bytes)))
+      first.left s.left s.read false s.consumed (λ e. absurd (cc))
+      (λ more follows. let i = s.items more in
+      begun-of (sequence options ports (recorded (s.read ++ more))) past i.0 i.1 b)
+
+  answers-output : (past : List (Item Heading)) (fault : RunFault) (rest : Option (List ℕ)) → IsOfOutput fault
+      → IfSome first.left (λ bytes. BeginIsTold options ports done told begins
+      (sequence options ports (recorded bytes)))
+      → Answers rest (Err fault)
+  answers-output past fault rest (inl e) h = rw e h
+  answers-output past fault rest (inr e) h = rw e h
+
+module _ {R : Type 0} (remaining : R → Option (List ℕ)) (start input : Watched R) (source : ReadRecording)
+    (done told begins : List (Item Heading) → Type 0) where
+  -- what a run hands over
+  abbrev pub RunsOver : {A : Type 0} → Result A RunFault → Type 0
+  RunsOver result =
+      Runs (HasGiven remaining start source input) (HasEnded remaining start source input)
+      done told begins (HasStopped remaining start source input) result
+
+  abbrev Options-of : Options
+  Options-of = options_of source.options
+
+  abbrev Ports-of : Ports
+  Ports-of = ports_of source.ports
+
+  abbrev First : Standing
+  First = first_standing remaining start
+
+  abbrev Now : Standing
+  Now = standing remaining source.reader.held input
+
+  pub fault-read : (fault : RunFault) → RunsOver {A = Unit {0}} (Err fault) → input.failed ≡ is_read fault
+  fault-read fault (past, inl (stop, t)) = stop.failed
+  fault-read fault (past, inr (is, inl gave, b)) = gave.sound ∙ sym (not_read fault is)
+  fault-read fault (past, inr (is, inr end, b)) = end.sound ∙ sym (not_read fault is)
+
+  -- all that a source gave are the first of all arrivals; where it ended, they are all
+  ended-first : (past : List (Item Heading)) → HasEnded remaining start source input past
+      → begins past ⊎ begins (without_newest past)
+      → IfSome First.left (λ bytes. BeginIsTold Options-of Ports-of done told begins
+      (sequence Options-of Ports-of (recorded bytes)))
+  ended-first past e b =
+      of-all (λ bytes. BeginIsTold Options-of Ports-of done told begins (sequence Options-of Ports-of (recorded bytes)))
+      First.left Now.left e.read e.gives.consumed e.last
+      (begun-of Options-of Ports-of done told begins First Now
+      (sequence Options-of Ports-of (recorded (e.read ++ []))) past []
+      (ap (λ bytes. (sequence Options-of Ports-of (recorded bytes)).sorted.items) (append-nil e.read)
+      ∙ ap (λ (o : Outcome). o.sorted.items) e.says) b)
+
+  pub fault-answers : (fault : RunFault) → RunsOver {A = Unit {0}} (Err fault)
+      → IfSome (remaining start.inner) (λ bytes. RecordingAnswers Options-of Ports-of done told begins bytes
+      (remaining input.inner) (Err fault))
+  fault-answers fault (past, inl (stop, t)) =
+      answers-stop Options-of Ports-of done told begins First Now past fault stop.honest t stop.stops
+  fault-answers fault (past, inr (is, inl gave, b)) =
+      answers-output Options-of Ports-of done told begins First Now past fault Now.left is
+      (begun-first Options-of Ports-of done told begins First Now past
+      (sorts-first Options-of Ports-of First Now (sorted_at source.numbers source past) (state_of source.reader)
+      gave.sorts) b)
+  fault-answers fault (past, inr (is, inr end, b)) =
+      answers-output Options-of Ports-of done told begins First Now past fault Now.left is (ended-first past end b)
+
+  pub done-read : RunsOver {A = Unit {0}} (Ok tt) → input.failed ≡ false
+  done-read (past, end, d) = end.sound
+
+  pub done-ended : RunsOver {A = Unit {0}} (Ok tt) → input.ended ≡ true
+  done-ended (past, end, d) = end.ended
+
+  pub done-answers : (tally : Tally) → tally ≡ record {
+    numbers = source.numbers;
+    counts = source.counts;
+    lost = lost_by (state_of source.reader);
+  } → RunsOver {A = Unit {0}} (Ok tt)
+      → IfSome (remaining start.inner) (λ bytes. RecordingAnswers Options-of Ports-of done told begins bytes
+      (remaining input.inner) (Ok tally))
+  done-answers tally is (past, end, d) =
+      let says = ap (λ bytes. sequence Options-of Ports-of (recorded bytes)) (append-nil end.read) ∙ end.says in
+      of-all (λ bytes. IsDone Options-of Ports-of done told begins tally (sequence Options-of Ports-of (recorded bytes)))
+      First.left Now.left end.read end.gives.consumed end.last (record {
+        over = ap (λ (o : Outcome). o.ending) says;
+        are_told = subst done (sym (ap (λ (o : Outcome). o.sorted.items) says)) d;
+        tally_is = is ∙ sym (ap tally_of says);
+      })
+
+-- the same, of a source whose settings are those given
+pub by-settings : (P : Options → Ports → Type 0) (o o' : RecordingOptions) (p p' : SystemPorts)
+    → ◌≡◌ {A = RecordingOptions × SystemPorts} (o', p') (o, p) → P (options_of o') (ports_of p')
+    → P (options_of o) (ports_of p)
+by-settings P o o' p p' e h = subst (λ (s : RecordingOptions × SystemPorts). P (options_of s.0) (ports_of s.1)) e h
+
+-- memory ran out before anything was read
+pub start-answers : (options : Options) (ports : Ports) (done told begins : List (Item Heading) → Type 0)
+    (input : Option (List ℕ)) → told []
+    → IfSome input (λ bytes. RecordingAnswers options ports done told begins bytes input (Err run.Memory))
+start-answers options ports done told begins None t = tt
+start-answers options ports done told begins (Some bytes) t = record {
+  past = [];
+  later = (sequence options ports (recorded bytes)).sorted.items;
+  items = sym (append-nil (sequence options ports (recorded bytes)).sorted.items);
+  begun = inl t;
+}
+
+-- nothing was read yet
+pub gave-start : {R : Type 0} (remaining : R → Option (List ℕ)) (input : Watched R) (source : ReadRecording)
+    → input.failed ≡ false → has_ended input ≡ false → unread source.reader.held ≡ []
+    → state_of source.reader ≡ at_start → source.numbers ≡ 0 → source.origin ≡ source.options.origin
+    → source.latest ≡ 0 → source.counts ≡ no_counts → source.has_arrival ≡ false
+    → HasGiven remaining input source input []
+unfolding skipped_in
+gave-start remaining input source sound ended held state numbers origin newest counts arrival = record {
+  sound = sound;
+  honest = λ e. absurd (cc);
+  numbers = numbers ∙ sym (ap (λ (s : State). s.numbers) state);
+  few = rw numbers (omega arith);
+  sum = rw (counts, numbers) refl;
+  claimed = rw counts (omega arith);
+  arrival = arrival;
+  timed = timed source.origin source.latest;
+  sorts = record {
+    read = [];
+    gives = record { consumed = Consumes-nil _; calls = omega arith };
+    says = λ more. rw (held, state, numbers, origin, newest, counts) refl;
+  };
+}
+  where
+    timed : (origin : Option ℕ) (newest : ℕ) → IsTimed origin newest []
+    timed (Some origin) newest = omega arith
+    timed None newest = refl

@@ -1,0 +1,201 @@
+-- What a number of a recording becomes: an arrival, or it is skipped, or a fault of the recording.
+use Rattle.std.specs.Prelude.{ℕ, ◌+◌, ◌-◌, Bool, true, false, not, ◌&&◌, ◌||◌, ◌==◌, nat_le, nat_lt, List, length, take}
+use Rattle.std.specs.Prelude.{Option, Some, None, is_some, Result, Ok, Err, if◌then◌else◌}
+use Rattle.afdx_frame.specs.Layout.{link_named_by}
+use Rattle.afdx_frame.specs.Sealing.{sequence_of, is_sealed, sealed, sealed_wrongly}
+use Rattle.afdx_frame.specs.declared.seals.Seal.{Seal}
+use Rattle.afdx_frame.specs.declared.seals.Seal.TheVariants as seal
+use Rattle.afdx_frame.specs.declared.link.Side.{Side}
+use Rattle.afdx_lists.specs.declared.recording_fault.RecordingFault.TheVariants.{NotEthernet, NoTime}
+use Rattle.afdx_lists.specs.declared.recording_fault.RecordingFault.TheVariants.{BadTime, Cut}
+use Rattle.afdx_lists.specs.declared.recording_fault.RecordingFault.TheVariants.{FcsUnclear, TimeBack}
+use Rattle.afdx_recordings.specs.declared.recorded.Stamp.{Stamp}
+use Rattle.afdx_recordings.specs.declared.recorded.Stamp.TheVariants.{Missing, Bad, At}
+use Rattle.afdx_recordings.specs.declared.recorded.CheckSequence.{CheckSequence}
+use Rattle.afdx_recordings.specs.declared.recorded.CheckSequence.TheVariants.{Unsaid, Without, With}
+use Rattle.afdx_recordings.specs.declared.recorded.RecordedFrame.{RecordedFrame}
+use Rattle.afdx_recordings.specs.declared.recorded.Recorded.{Recorded}
+use Rattle.afdx_recordings.specs.declared.recorded.Recorded.TheVariants as recorded
+use Rattle.afdx_arrivals.specs.declared.becoming.Ending.{Ending}
+use Rattle.afdx_arrivals.specs.declared.becoming.Ending.TheVariants as ending
+use Rattle.afdx_arrivals.specs.declared.becoming.Entrance.{Entrance}
+use Rattle.afdx_arrivals.specs.declared.becoming.Found.{Found}
+use Rattle.afdx_arrivals.specs.declared.becoming.NoArrival.{NoArrival}
+use Rattle.afdx_arrivals.specs.declared.becoming.NoArrival.TheVariants.{Skipped, Faulted}
+use Rattle.afdx_arrivals.specs.declared.becoming.RecordingOptions.{RecordingOptions}
+use Rattle.afdx_arrivals.specs.declared.places.Place.{Place}
+use Rattle.afdx_arrivals.specs.declared.skipped.Skipped.TheVariants.{NoFrame, LeftOut, NotAfdx}
+use Rattle.afdx_arrivals.specs.declared.skipped.Skipped.TheVariants.{UnknownSender, NoNetwork}
+use Rattle.afdx_arrivals.specs.declared.skipped.Skipped.TheVariants.{BeforeOrigin}
+use Rattle.afdx_arrivals.specs.Places.{place_of, is_left_out, side_said, port_said}
+use Rattle.afdx_arrivals.specs.Claims.{Ports, side_claimed}
+
+-- what the options say: the place of each interface, whether frames end with their check sequence,
+-- the moment that is time 0
+pub record Options : Type 0 where
+  pub place : ℕ → Option Place
+  pub fcs : Option Bool
+  pub origin : Option ℕ
+
+abbrev pub options_of : RecordingOptions → Options
+options_of options = record {
+  place = place_of options.interfaces;
+  fcs = options.fcs;
+  origin = options.origin;
+}
+
+-- ---- one check after another: the first that is false decides
+
+infixl 10 ◌>>=◌
+abbrev pub ◌>>=◌ : {X Y : Type 0} → Result X NoArrival → (X → Result Y NoArrival) →
+    Result Y NoArrival
+(Ok x) >>= f = f x
+(Err why) >>= f = Err why
+
+infixl 10 ◌>>◌
+abbrev pub ◌>>◌ : {X Y : Type 0} → Result X NoArrival → Result Y NoArrival → Result Y NoArrival
+(Ok x) >> next = next
+(Err why) >> next = Err why
+
+abbrev pub check : Bool → NoArrival → Result (Unit {0}) NoArrival
+check b why = if b then Ok tt else Err why
+
+abbrev pub or_else : {X : Type 0} → Option X → NoArrival → Result X NoArrival
+or_else (Some x) why = Ok x
+or_else None why = Err why
+
+-- ---- what is recorded of a frame
+
+-- the link type of Ethernet
+abbrev pub ethernet : ℕ
+ethernet = 1
+
+-- the moment of a stamp
+abbrev pub moment_of : ℕ → Stamp → Result ℕ NoArrival
+moment_of n Missing = Err (Faulted (NoTime n))
+moment_of n Bad = Err (Faulted (BadTime n))
+moment_of n (At moment) = Ok moment
+
+-- whether a frame ends with its check sequence, if that is said: by an option, else by the recorder
+abbrev pub ends_with_sequence : Option Bool → CheckSequence → Option Bool
+ends_with_sequence (Some said) recorder = Some said
+ends_with_sequence None With = Some true
+ends_with_sequence None Without = Some false
+ends_with_sequence None Unsaid = None
+
+-- fewer bytes were captured than the frame had: 4 fewer are lawful where an option says that no
+-- frame has its check sequence
+abbrev pub is_cut : Option Bool → (original captured : ℕ) → Bool
+is_cut (Some false) original captured =
+    nat_lt captured original && not (captured + 4 == original)
+is_cut fcs original captured = nat_lt captured original
+
+-- the moment of an Ethernet frame that is whole
+unfoldable pub whole_moment : Option Bool → ℕ → RecordedFrame → ℕ → Result ℕ NoArrival
+whole_moment fcs n frame captured = do
+  check (frame.link_type == ethernet) (Faulted (NotEthernet n))
+  moment ← moment_of n frame.stamp
+  check (not (is_cut fcs frame.original captured)) (Faulted (Cut n))
+  Ok moment
+
+-- ---- where it came in
+
+-- what an option says, else what is claimed
+abbrev pub said_or : {X : Type 0} → Option X → Option X → Option X
+said_or (Some x) claimed = Some x
+said_or None claimed = claimed
+
+-- the side or the port is taken from the frame's bytes
+abbrev pub is_claimed : Option Place → Ports → Bool
+is_claimed place ports =
+    not (is_some (side_said place)) || (ports.are_claimed && not (is_some (port_said place)))
+
+abbrev pub entrance_with : Side → ℕ → Bool → Entrance
+entrance_with side port claimed = record { side = side; port = port; is_claimed = claimed }
+
+unfoldable pub entrance_of : Option Place → Ports → List ℕ → Result Entrance NoArrival
+entrance_of place ports bytes = do
+  check (is_some (link_named_by bytes)) (Skipped NotAfdx)
+  port ← or_else (said_or (port_said place) (ports.port bytes)) (Skipped UnknownSender)
+  side ← or_else (said_or (side_said place) (side_claimed bytes)) (Skipped NoNetwork)
+  Ok (entrance_with side port (is_claimed place ports))
+
+-- ---- the check sequence that it ends with
+
+-- what the check sequence of bytes is that end with their own
+abbrev pub residue : ℕ
+residue = 0x2144df1c
+
+-- what a frame ends with: what was recorded where it has its check sequence, else what is put
+-- behind it, the right one, or a wrong one where the recorder found a wrong one. None: it isn't
+-- said whether it has one, and it seems so
+abbrev pub added : Bool → Ending
+added found_wrong = if found_wrong then ending.Wrong else ending.Right
+
+unfoldable pub ending_of : Option Bool → Bool → List ℕ → Option Ending
+ending_of (Some true) found_wrong bytes = Some ending.Recorded
+ending_of (Some false) found_wrong bytes = Some (added found_wrong)
+ending_of None found_wrong bytes =
+    if sequence_of bytes == residue then None else Some (added found_wrong)
+
+-- the bytes of an arrival, of those that were recorded
+abbrev pub bytes_with : Ending → List ℕ → List ℕ
+bytes_with ending.Recorded bytes = bytes
+bytes_with ending.Right bytes = sealed bytes
+bytes_with ending.Wrong bytes = sealed_wrongly bytes
+
+-- the check sequence is the last four of the bytes that were recorded
+abbrev pub has_own : Ending → List ℕ → Bool
+has_own ending.Recorded bytes = is_sealed bytes
+has_own _ bytes = false
+
+-- the arrival's message: its bytes before those of its seal
+abbrev pub without_own : Bool → List ℕ → List ℕ
+without_own own bytes = if own then take (length bytes - 4) bytes else bytes
+
+abbrev pub message_with : Ending → List ℕ → List ℕ
+message_with ending bytes = without_own (has_own ending bytes) bytes
+
+-- and that seal
+abbrev pub seal_by : Ending → Bool → Seal
+seal_by ending.Recorded own = if own then seal.Right else seal.Missing
+seal_by ending.Right own = seal.Right
+seal_by ending.Wrong own = seal.Wrong
+
+abbrev pub seal_with : Ending → List ℕ → Seal
+seal_with ending bytes = seal_by ending (has_own ending bytes)
+
+-- ---- all of it
+
+-- the moment is before that of time 0
+abbrev pub is_before : Option ℕ → ℕ → Bool
+is_before (Some origin) moment = nat_lt moment origin
+is_before None moment = false
+
+abbrev pub found_with : ℕ → Entrance → Ending → Found
+found_with moment entrance ending = record {
+  moment = moment;
+  side = entrance.side;
+  port = entrance.port;
+  is_claimed = entrance.is_claimed;
+  ending = ending;
+}
+
+-- what frame n becomes, whose recording's arrival before it has the latest moment
+unfoldable pub frame_becomes : Options → Ports → (latest n : ℕ) → RecordedFrame → List ℕ →
+    Result Found NoArrival
+frame_becomes options ports latest n frame bytes = do
+  check (not (is_left_out (options.place frame.interface))) (Skipped LeftOut)
+  moment ← whole_moment options.fcs n frame (length bytes)
+  entrance ← entrance_of (options.place frame.interface) ports bytes
+  check (not (is_before options.origin moment)) (Skipped BeforeOrigin)
+  ending ← or_else (ending_of (ends_with_sequence options.fcs frame.check_sequence)
+      frame.found_wrong bytes) (Faulted (FcsUnclear n))
+  check (nat_le latest moment) (Faulted (TimeBack n))
+  Ok (found_with moment entrance ending)
+
+-- the same of whatever takes the number n
+abbrev pub becomes : Options → Ports → (latest n : ℕ) → Recorded → List ℕ → Result Found NoArrival
+becomes options ports latest n recorded.NoFrame bytes = Err (Skipped NoFrame)
+becomes options ports latest n (recorded.Frame frame) bytes =
+    frame_becomes options ports latest n frame bytes

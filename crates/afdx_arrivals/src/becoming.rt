@@ -1,0 +1,278 @@
+//! What a number of a recording becomes.
+
+ghost use Rattle.std.specs.Prelude.{◌≡◌, ◌≤◌, IfOk};
+ghost use Rattle.afdx_arrivals.specs.Becoming as spec;
+ghost use Rattle.afdx_arrivals.specs.Becoming.{options_of};
+ghost use Rattle.afdx_arrivals.specs.Claims.{ports_of};
+ghost use Rattle.afdx_arrivals.specs.Places as places;
+
+use crate::places::{Interfaces, Place};
+use crate::senders::{SystemPorts, side_claimed};
+use crate::skipped::Skipped;
+use afdx_frame::{Side, fcs, vl_of};
+use afdx_lists::RecordingFault;
+use afdx_recordings::{CheckSequence, Recorded, RecordedFrame, Stamp};
+
+/// The link type of Ethernet.
+const ETHERNET: u32 = 1;
+
+/// The check sequence of bytes that end with their own.
+const RESIDUE: u32 = 0x2144_df1c;
+
+/// What the options of a run over a recording say.
+#[derive(Debug, Drop)]
+pub struct RecordingOptions {
+    /// Where the frames of each interface came in.
+    pub interfaces: Interfaces,
+    /// Whether each frame ends with its check sequence, where that is said.
+    pub fcs: Option<bool>,
+    /// The moment that is time 0, in ns since 1970, where that is said.
+    pub origin: Option<u64>,
+}
+
+/// What an arrival ends with.
+#[derive(Clone, Copy, Debug, PartialEq, Eq)]
+pub enum Ending {
+    /// What was recorded, which has the check sequence.
+    Recorded,
+    /// The check sequence of what was recorded, behind it.
+    Right,
+    /// The complement of that, behind it, since the recorder found a wrong one.
+    Wrong,
+}
+
+/// An arrival, beside its number and its recorded bytes.
+#[derive(Clone, Copy, Debug, PartialEq, Eq)]
+pub struct Found {
+    /// When it came, in ns since 1970, at most 2^63 - 1.
+    pub moment: u64,
+    /// The network by which it came.
+    pub side: Side,
+    /// The port at which it came in.
+    pub port: u8,
+    /// Whether its side or its port was taken from its bytes.
+    pub is_claimed: bool,
+    /// What it ends with.
+    pub ending: Ending,
+}
+
+/// Why a number is no arrival.
+#[derive(Clone, Copy, Debug, PartialEq, Eq)]
+pub enum NoArrival {
+    /// It is skipped.
+    Skipped(Skipped),
+    /// The run ends with this fault.
+    Faulted(RecordingFault),
+}
+
+/// Where a frame came in.
+#[derive(Clone, Copy, Debug)]
+struct Entrance {
+    side: Side,
+    port: u8,
+    is_claimed: bool,
+}
+
+/// The moment of frame n's stamp.
+fn moment_of(n: u64, stamp: Stamp) -> Result<u64, NoArrival>
+    ensures { result ≡ spec.moment_of n stamp }
+{
+    match stamp {
+        Stamp::Missing => Err(NoArrival::Faulted(RecordingFault::NoTime(n))),
+        Stamp::Bad => Err(NoArrival::Faulted(RecordingFault::BadTime(n))),
+        Stamp::At(moment) => Ok(moment),
+    }
+}
+
+/// Whether a frame ends with its check sequence, if that is said: by an option, else by the
+/// recorder.
+fn ends_with_sequence(option: Option<bool>, recorder: CheckSequence) -> Option<bool>
+    ensures { result ≡ spec.ends_with_sequence option recorder }
+{
+    match (option, recorder) {
+        (Some(said), _) => Some(said),
+        (None, CheckSequence::With) => Some(true),
+        (None, CheckSequence::Without) => Some(false),
+        (None, CheckSequence::Unsaid) => None,
+    }
+}
+
+/// Whether fewer bytes were captured than the frame had. Four fewer are lawful where an option says
+/// that no frame has its check sequence.
+fn is_cut(option: Option<bool>, original: u32, captured: usize) -> bool
+    ensures { result ≡ spec.is_cut option original captured }
+{
+    let original = original as usize;
+    match option {
+        Some(false) => captured < original && original - captured != 4,
+        _ => captured < original,
+    }
+}
+
+/// The moment of frame n, which has so many captured bytes, if it is an Ethernet frame that is
+/// whole.
+#[tactic(auto, unfolding(crate::specs::Becoming::whole_moment))]
+fn whole_moment(
+    option: Option<bool>,
+    n: u64,
+    frame: &RecordedFrame,
+    captured: usize,
+) -> Result<u64, NoArrival>
+    ensures { result ≡ spec.whole_moment option n frame.now captured }
+{
+    if frame.link_type != ETHERNET {
+        return Err(NoArrival::Faulted(RecordingFault::NotEthernet(n)));
+    }
+    let moment = moment_of(n, frame.stamp)?;
+    if is_cut(option, frame.original, captured) {
+        return Err(NoArrival::Faulted(RecordingFault::Cut(n)));
+    }
+    Ok(moment)
+}
+
+/// The side that a place says.
+fn side_said(place: Option<Place>) -> Option<Side>
+    ensures { result ≡ places.side_said place }
+{
+    match place {
+        Some(Place::OnSide(side)) => Some(side),
+        Some(Place::AtPort(side, _)) => Some(side),
+        _ => None,
+    }
+}
+
+/// The port that a place says.
+fn port_said(place: Option<Place>) -> Option<u8>
+    ensures { result ≡ places.port_said place }
+{
+    match place {
+        Some(Place::AtPort(_, port)) => Some(port),
+        _ => None,
+    }
+}
+
+/// Whether the side or the port is taken from the frame's bytes.
+fn is_claimed(place: Option<Place>, ports: &SystemPorts) -> bool
+    ensures { result ≡ spec.is_claimed place (ports_of ports.now) }
+{
+    side_said(place).is_none() || (ports.are_claimed() && port_said(place).is_none())
+}
+
+/// Where a frame came in: by what is said of its interface, else by its bytes.
+#[tactic(auto, unfolding(crate::specs::Becoming::entrance_of))]
+fn entrance_of(
+    place: Option<Place>,
+    ports: &SystemPorts,
+    bytes: &[u8],
+) -> Result<Entrance, NoArrival>
+    ensures { result ≡ spec.entrance_of place (ports_of ports.now) bytes.now }
+{
+    if vl_of(bytes).is_none() {
+        return Err(NoArrival::Skipped(Skipped::NotAfdx));
+    }
+    let Some(port) = port_said(place).or_else(|| ports.port(bytes)) else {
+        return Err(NoArrival::Skipped(Skipped::UnknownSender));
+    };
+    let Some(side) = side_said(place).or_else(|| side_claimed(bytes)) else {
+        return Err(NoArrival::Skipped(Skipped::NoNetwork));
+    };
+    let is_claimed = is_claimed(place, ports);
+    Ok(Entrance {
+        side,
+        port,
+        is_claimed,
+    })
+}
+
+/// What an arrival of these bytes ends with. None: it isn't said whether they have their check
+/// sequence, and it seems so.
+#[tactic(auto, unfolding(crate::specs::Becoming::ending_of))]
+fn ending_of(has_sequence: Option<bool>, found_wrong: bool, bytes: &[u8]) -> Option<Ending>
+    ensures { result ≡ spec.ending_of has_sequence found_wrong bytes.now }
+{
+    if has_sequence == Some(true) {
+        return Some(Ending::Recorded);
+    }
+    if has_sequence.is_none() && fcs(bytes) == RESIDUE {
+        return None;
+    }
+    if found_wrong {
+        Some(Ending::Wrong)
+    } else {
+        Some(Ending::Right)
+    }
+}
+
+/// Whether a moment is before that of time 0.
+fn is_before(origin: Option<u64>, moment: u64) -> bool
+    ensures { result ≡ spec.is_before origin moment }
+{
+    match origin {
+        Some(origin) => moment < origin,
+        None => false,
+    }
+}
+
+/// What frame n becomes.
+#[tactic(auto, unfolding(crate::specs::Becoming::frame_becomes))]
+fn frame_becomes(
+    options: &RecordingOptions,
+    ports: &SystemPorts,
+    latest: u64,
+    n: u64,
+    frame: &RecordedFrame,
+    bytes: &[u8],
+) -> Result<Found, NoArrival>
+    ensures becomes { result ≡ spec.frame_becomes (options_of options.now) (ports_of ports.now)
+        latest n frame.now bytes.now }
+    ensures order { IfOk result (λ found. latest ≤ found.moment) }
+{
+    let place = options.interfaces.place(frame.interface);
+    if place == Some(Place::LeftOut) {
+        return Err(NoArrival::Skipped(Skipped::LeftOut));
+    }
+    let moment = whole_moment(options.fcs, n, frame, bytes.len())?;
+    let entrance = entrance_of(place, ports, bytes)?;
+    if is_before(options.origin, moment) {
+        return Err(NoArrival::Skipped(Skipped::BeforeOrigin));
+    }
+    let has_sequence = ends_with_sequence(options.fcs, frame.check_sequence);
+    let Some(ending) = ending_of(has_sequence, frame.found_wrong, bytes) else {
+        return Err(NoArrival::Faulted(RecordingFault::FcsUnclear(n)));
+    };
+    if moment < latest {
+        return Err(NoArrival::Faulted(RecordingFault::TimeBack(n)));
+    }
+    Ok(Found {
+        moment,
+        side: entrance.side,
+        port: entrance.port,
+        is_claimed: entrance.is_claimed,
+        ending,
+    })
+}
+
+/// What the number n of a recording becomes, whose captured bytes these are.
+///
+/// `latest` is the moment of the arrival before it, 0 if there is none. The first check that is
+/// false decides, in this order. A block that is no frame, and a frame whose interface is left out,
+/// are skipped. Faults are `NotEthernet`, `NoTime`, `BadTime` and `Cut`. A frame of no link, of no
+/// known port, of no known side, and one before the origin are skipped. Faults are `FcsUnclear`
+/// and `TimeBack`.
+pub fn becomes(
+    options: &RecordingOptions,
+    ports: &SystemPorts,
+    latest: u64,
+    n: u64,
+    recorded: &Recorded,
+    bytes: &[u8],
+) -> Result<Found, NoArrival>
+    ensures becomes { result ≡ spec.becomes (options_of options.now) (ports_of ports.now)
+        latest n recorded.now bytes.now }
+    ensures order { IfOk result (λ found. latest ≤ found.moment) }
+{
+    match recorded {
+        Recorded::NoFrame => Err(NoArrival::Skipped(Skipped::NoFrame)),
+        Recorded::Frame(frame) => frame_becomes(options, ports, latest, n, frame, bytes),
+    }
+}

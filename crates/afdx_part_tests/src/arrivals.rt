@@ -1,0 +1,234 @@
+//! What numbers of a recording become: each line of the table decides once.
+
+use afdx_arrivals::{
+    Ending, Found, Interfaces, NoArrival, Place, RecordingOptions, SKIPPED, Skipped, SystemPorts,
+    becomes,
+};
+use afdx_config::ConfigFault;
+use afdx_frame::Side;
+use afdx_lists::RecordingFault;
+use afdx_recordings::{CheckSequence, Recorded, RecordedFrame, Stamp};
+use afdx_samples::{HELLO, all_right, base_tables, equal, hello};
+use std::alloc::{AllocError, Global};
+use std::test::Fail;
+
+/// A frame of interface 3, without its check sequence.
+const FRAME: RecordedFrame = RecordedFrame {
+    interface: 3,
+    link_type: 1,
+    stamp: Stamp::At(1_000),
+    original: 60,
+    check_sequence: CheckSequence::Without,
+    found_wrong: false,
+};
+
+/// What is said of interface 3, of check sequences and of time 0.
+type Said = (Option<Place>, Option<bool>, Option<u64>);
+
+fn options(alloc: Global, said: Said) -> Result<RecordingOptions, AllocError> {
+    let (place, fcs, origin) = said;
+    let mut interfaces = Interfaces::new(alloc)?;
+    interfaces.put(2, Place::LeftOut);
+    if let Some(place) = place {
+        interfaces.put(3, place);
+    }
+    Ok(RecordingOptions {
+        interfaces,
+        fcs,
+        origin,
+    })
+}
+
+/// The ports of the base tables' systems.
+fn ports(alloc: Global) -> Result<SystemPorts, ConfigFault> {
+    let tables = base_tables(alloc)?;
+    Ok(SystemPorts::by_sender(alloc, &tables)?)
+}
+
+/// What number 7 becomes behind an arrival of moment 900.
+fn seventh(
+    options: &RecordingOptions,
+    ports: &SystemPorts,
+    frame: RecordedFrame,
+    bytes: &[u8],
+) -> Result<Found, NoArrival> {
+    becomes(options, ports, 900, 7, &Recorded::Frame(frame), bytes)
+}
+
+/// The same of a frame of 60 bytes, HELLO with one other byte.
+fn changed(said: Said, frame: RecordedFrame, place: usize, byte: u8, alloc: Global) -> Answer {
+    let mut bytes = HELLO;
+    if place < 60 {
+        bytes[place] = byte;
+    }
+    let Ok(options) = options(alloc, said) else {
+        return Answer::Memory;
+    };
+    let Ok(ports) = ports(alloc) else {
+        return Answer::Memory;
+    };
+    match seventh(&options, &ports, frame, bytes.as_slice()) {
+        Ok(found) => Answer::Arrival(found.side, found.port, found.is_claimed),
+        Err(NoArrival::Skipped(why)) => Answer::Skipped(why),
+        Err(NoArrival::Faulted(fault)) => Answer::Faulted(fault),
+    }
+}
+
+/// What a number becomes, in short.
+#[derive(Clone, Copy, Debug, PartialEq, Eq)]
+enum Answer {
+    Arrival(Side, u8, bool),
+    Skipped(Skipped),
+    Faulted(RecordingFault),
+    Memory,
+}
+
+/// Nothing is said.
+const NOTHING: Said = (None, None, None);
+
+/// Frames that something is wrong with, and what they become.
+fn wrong_frame(alloc: Global) -> Option<Answer> {
+    let frames = [
+        (
+            RecordedFrame {
+                interface: 2,
+                ..FRAME
+            },
+            Answer::Skipped(Skipped::LeftOut),
+        ),
+        (
+            RecordedFrame {
+                link_type: 105,
+                ..FRAME
+            },
+            Answer::Faulted(RecordingFault::NotEthernet(7)),
+        ),
+        (
+            RecordedFrame {
+                stamp: Stamp::Missing,
+                ..FRAME
+            },
+            Answer::Faulted(RecordingFault::NoTime(7)),
+        ),
+        (
+            RecordedFrame {
+                stamp: Stamp::Bad,
+                ..FRAME
+            },
+            Answer::Faulted(RecordingFault::BadTime(7)),
+        ),
+        (
+            RecordedFrame {
+                original: 64,
+                ..FRAME
+            },
+            Answer::Faulted(RecordingFault::Cut(7)),
+        ),
+        (
+            RecordedFrame {
+                stamp: Stamp::At(899),
+                ..FRAME
+            },
+            Answer::Faulted(RecordingFault::TimeBack(7)),
+        ),
+        (FRAME, Answer::Arrival(Side::A, 1, true)),
+    ];
+    for (frame, wanted) in frames {
+        let found = changed(NOTHING, frame, 60, 0, alloc);
+        if found != wanted {
+            return Some(found);
+        }
+    }
+    None
+}
+
+#[test]
+fn what_is_recorded_decides(rt: HostRuntime) -> Result<(), Fail> {
+    all_right(wrong_frame(rt.alloc()))
+}
+
+/// Bytes and options, and what they make of a frame.
+fn wrong_claim(alloc: Global) -> Option<Answer> {
+    let said = (Some(Place::AtPort(Side::B, 9)), None, None);
+    let side = (Some(Place::OnSide(Side::B)), None, None);
+    let rows = [
+        (NOTHING, 0, 1, Answer::Skipped(Skipped::NotAfdx)),
+        (said, 3, 1, Answer::Skipped(Skipped::NotAfdx)),
+        (NOTHING, 6, 3, Answer::Skipped(Skipped::UnknownSender)),
+        (NOTHING, 10, 9, Answer::Skipped(Skipped::UnknownSender)),
+        (NOTHING, 10, 3, Answer::Arrival(Side::A, 3, true)),
+        (NOTHING, 11, 0x60, Answer::Skipped(Skipped::NoNetwork)),
+        (NOTHING, 11, 0x40, Answer::Arrival(Side::B, 1, true)),
+        (side, 11, 0x60, Answer::Arrival(Side::B, 1, true)),
+        (said, 10, 9, Answer::Arrival(Side::B, 9, false)),
+        (
+            (None, None, Some(1_001)),
+            60,
+            0,
+            Answer::Skipped(Skipped::BeforeOrigin),
+        ),
+        ((None, None, Some(1_000)), 60, 0, Answer::Arrival(Side::A, 1, true)),
+    ];
+    for (said, place, byte, wanted) in rows {
+        let found = changed(said, FRAME, place, byte, alloc);
+        if found != wanted {
+            return Some(found);
+        }
+    }
+    None
+}
+
+#[test]
+fn what_is_said_and_claimed_decides(rt: HostRuntime) -> Result<(), Fail> {
+    all_right(wrong_claim(rt.alloc()))
+}
+
+/// What an arrival ends with, of bytes with a check sequence or without it.
+fn ending(
+    options: &RecordingOptions,
+    check_sequence: CheckSequence,
+    original: u32,
+    bytes: &[u8],
+) -> Result<Ending, NoArrival> {
+    let frame = RecordedFrame {
+        check_sequence,
+        original,
+        found_wrong: bytes.len() == 60,
+        ..FRAME
+    };
+    let ports = SystemPorts::One(5);
+    let found = seventh(options, &ports, frame, bytes)?;
+    Ok(found.ending)
+}
+
+#[test]
+fn check_sequences(rt: HostRuntime) -> Result<(), Fail> {
+    let alloc = rt.alloc();
+    let none = options(alloc, NOTHING)?;
+    let without = options(alloc, (None, Some(false), None))?;
+    let sealed = hello(0);
+    let bytes = sealed.as_slice();
+    let unclear = NoArrival::Faulted(RecordingFault::FcsUnclear(7));
+    equal(
+        ending(&none, CheckSequence::Unsaid, 64, bytes),
+        Err(unclear),
+    )?;
+    equal(
+        ending(&none, CheckSequence::With, 64, bytes),
+        Ok(Ending::Recorded),
+    )?;
+    equal(
+        ending(&without, CheckSequence::With, 64, HELLO.as_slice()),
+        Ok(Ending::Wrong),
+    )?;
+    equal(
+        ending(&without, CheckSequence::Unsaid, 65, HELLO.as_slice()),
+        Err(NoArrival::Faulted(RecordingFault::Cut(7))),
+    )
+}
+
+#[test]
+fn words(_rt: HostRuntime) -> Result<(), Fail> {
+    equal(Skipped::NoNetwork.word(), "no-network")?;
+    equal(SKIPPED[5].1, "before-origin")
+}
