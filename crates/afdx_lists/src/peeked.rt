@@ -2,7 +2,6 @@
 
 ghost use Rattle.std.specs.Prelude.{◌≤◌, ◌<◌, ◌≡◌, take, length, IfSome, true, false};
 ghost use Rattle.std.specs.Io.KnownBytes.{Keeps, IsAtEnd};
-
 ghost use Rattle.afdx_lists.specs.Watching.{device_of};
 
 use crate::watched::Watched;

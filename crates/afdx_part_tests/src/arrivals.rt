@@ -167,7 +167,12 @@ fn wrong_claim(alloc: Global) -> Option<Answer> {
             0,
             Answer::Skipped(Skipped::BeforeOrigin),
         ),
-        ((None, None, Some(1_000)), 60, 0, Answer::Arrival(Side::A, 1, true)),
+        (
+            (None, None, Some(1_000)),
+            60,
+            0,
+            Answer::Arrival(Side::A, 1, true),
+        ),
     ];
     for (said, place, byte, wanted) in rows {
         let found = changed(said, FRAME, place, byte, alloc);

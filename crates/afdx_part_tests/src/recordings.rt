@@ -24,9 +24,13 @@ const OLDER: [u8; 24] = [
 /// A frame's header: 5 us behind 1,700,000,000 s, 60 bytes.
 const FIRST: [u8; 16] = [0, 0xf1, 0x53, 0x65, 5, 0, 0, 0, 60, 0, 0, 0, 60, 0, 0, 0];
 /// The same at 1,000,000 us.
-const LATE: [u8; 16] = [0, 0xf1, 0x53, 0x65, 0x40, 0x42, 0xf, 0, 60, 0, 0, 0, 60, 0, 0, 0];
+const LATE: [u8; 16] = [
+    0, 0xf1, 0x53, 0x65, 0x40, 0x42, 0xf, 0, 60, 0, 0, 0, 60, 0, 0, 0,
+];
 /// The same in ns with the high byte first, 500,000 ns; 60 of 64 bytes.
-const BIG: [u8; 16] = [0x65, 0x53, 0xf1, 0, 0, 7, 0xa1, 0x20, 0, 0, 0, 60, 0, 0, 0, 64];
+const BIG: [u8; 16] = [
+    0x65, 0x53, 0xf1, 0, 0, 7, 0xa1, 0x20, 0, 0, 0, 60, 0, 0, 0, 64,
+];
 /// 1,700,000,000 s in ns.
 const SECONDS: u64 = 1_700_000_000_000_000_000;
 
@@ -139,14 +143,32 @@ fn a_pcap_that_is_wrong_is_so_behind_its_frames(rt: HostRuntime) -> Result<(), F
     let alloc = rt.alloc();
     for most in [1, 100_000] {
         let cut: [&[u8]; 5] = [&LOW, &FIRST, &HELLO, &FIRST, &HELLO[..59]];
-        equal(said(alloc, &cut, most, &low)?, (faulted(RecordingFault::Ended(1)), 1))?;
+        equal(
+            said(alloc, &cut, most, &low)?,
+            (faulted(RecordingFault::Ended(1)), 1),
+        )?;
         let piece: [&[u8]; 4] = [&LOW, &FIRST, &HELLO, &FIRST[..15]];
-        equal(said(alloc, &piece, most, &low)?, (faulted(RecordingFault::Ended(1)), 1))?;
-        equal(said(alloc, &[&OLDER], most, &[])?, (faulted(RecordingFault::BadVersion(0)), 0))?;
-        equal(said(alloc, &[&LOW[..23]], most, &[])?, (faulted(RecordingFault::Ended(0)), 0))?;
+        equal(
+            said(alloc, &piece, most, &low)?,
+            (faulted(RecordingFault::Ended(1)), 1),
+        )?;
+        equal(
+            said(alloc, &[&OLDER], most, &[])?,
+            (faulted(RecordingFault::BadVersion(0)), 0),
+        )?;
+        equal(
+            said(alloc, &[&LOW[..23]], most, &[])?,
+            (faulted(RecordingFault::Ended(0)), 0),
+        )?;
         let list: &[u8] = b"F 0 A 1 -\n";
-        equal(said(alloc, &[list], most, &[])?, (faulted(RecordingFault::NotRecording(0)), 0))?;
-        equal(said(alloc, &[], most, &[])?, (faulted(RecordingFault::NotRecording(0)), 0))?;
+        equal(
+            said(alloc, &[list], most, &[])?,
+            (faulted(RecordingFault::NotRecording(0)), 0),
+        )?;
+        equal(
+            said(alloc, &[], most, &[])?,
+            (faulted(RecordingFault::NotRecording(0)), 0),
+        )?;
     }
     Ok(())
 }

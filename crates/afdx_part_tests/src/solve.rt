@@ -66,10 +66,7 @@ const LEAST: Times = Times {
 
 #[test]
 fn the_base_network(rt: HostRuntime) -> Result<(), Fail> {
-    equal(
-        solved(rt.alloc(), base(), FREE)?,
-        (176, Some(LEAST), None),
-    )
+    equal(solved(rt.alloc(), base(), FREE)?, (176, Some(LEAST), None))
 }
 
 #[test]
@@ -104,7 +101,10 @@ fn is_written(alloc: Global) -> Result<bool, Fail> {
     let Ok(text) = config_text(alloc, &tables) else {
         return Err("no memory".into());
     };
-    Ok(text.as_str().starts_with("profile = 1\nbuffer = 252\n\n[[system]]\nname = \"s1\"\n"))
+    Ok(
+        text.as_str()
+            .starts_with("profile = 1\nbuffer = 252\n\n[[system]]\nname = \"s1\"\n"),
+    )
 }
 
 #[test]

@@ -45,12 +45,7 @@ fn put_bounds(text: &mut Text, port: u8, bounds: &PortBounds) -> Result<(), Allo
 }
 
 /// Adds the line of a link that goes to an output port: its margin there.
-fn put_margin(
-    text: &mut Text,
-    port: u8,
-    bounds: &PortBounds,
-    link: &Link,
-) -> Result<(), AllocError>
+fn put_margin(text: &mut Text, port: u8, bounds: &PortBounds, link: &Link) -> Result<(), AllocError>
     requires { CanSend (link_row link.now) }
     ensures { (t : Rows) → IsBounds t port bounds.now → OnOk result
         (text_bytes text.new ≡ text_bytes text.old ++ link_line t port (link_row link.now)) }
@@ -128,12 +123,7 @@ fn put_used(
 }
 
 /// Adds the lines of an output port, if it has a system.
-fn put_port(
-    text: &mut Text,
-    tables: &Tables,
-    margins: bool,
-    port: u8,
-) -> Result<(), AllocError>
+fn put_port(text: &mut Text, tables: &Tables, margins: bool, port: u8) -> Result<(), AllocError>
     ensures { OnOk result (text_bytes text.new ≡ text_bytes text.old
         ++ (line_if_used tables.now port ++ margin_lines_if margins tables.now port)) }
 {

@@ -163,10 +163,13 @@ low_stands place (x ∷ ls) zero l at goes low =
   where
     same_of_some : {X : Type 0} (x y : X) → Some x ≡ Some y → x ≡ y
     same_of_some x y e = cc
+
     same : x ≡ l
     same = same_of_some x l at
+
     goes_x : is_to place x ≡ true
     goes_x = ap (is_to place) same ∙ goes
+
     low_x : is_class Low x.priority ≡ true
     low_x = ap (λ r. is_class Low r.priority) same ∙ ap (is_class Low) low
 low_stands place (x ∷ ls) (suc i) l at goes low =
@@ -217,14 +220,14 @@ least_latencies o t keep raise lawful admitted = λ i l at us some soon.
     subst (λ r. AllByRecursion (λ p. p < length t.systems) r.to) (sym x.2) row.to in
     let each : (p : ℕ) → p < length t.systems → list_any (λ q. nat_eq q p) x.0.to ≡ true → delay_to t x.0.priority p ≤ us =
     λ p less among.
-        let s = at_place t.systems p less in
-        let goes : is_to p l ≡ true = ap (is_to p) (sym x.2) ∙ among in
-        let class : x.0.priority ≡ l.priority = ap (λ r. r.priority) x.2 in
-        let soon_l = in_time-before o t p (byte_ns s.0) (1000 * us) l.priority (soon p s.0 s.1 goes) in
-        subst (λ k. delay_to t k p ≤ us) (sym class)
-        (delay-least t l.priority p s.0 us s.1 soon_l
-        (λ low. subst (λ n. 0 < byte_units - n) (high_load-same o t t.links p (byte_ns s.0))
-        (left_some t3 lawful admitted p s.0 s.1 i l at goes low))) in
+    let s = at_place t.systems p less in
+    let goes : is_to p l ≡ true = ap (is_to p) (sym x.2) ∙ among in
+    let class : x.0.priority ≡ l.priority = ap (λ r. r.priority) x.2 in
+    let soon_l = in_time-before o t p (byte_ns s.0) (1000 * us) l.priority (soon p s.0 s.1 goes) in
+    subst (λ k. delay_to t k p ≤ us) (sym class)
+    (delay-least t l.priority p s.0 us s.1 soon_l
+    (λ low. subst (λ n. 0 < byte_units - n) (high_load-same o t t.links p (byte_ns s.0))
+    (left_some t3 lawful admitted p s.0 s.1 i l at goes low))) in
     let most = latency_over-least (delay_to t x.0.priority) us (length t.systems) some x.0.to before each in
     let taken = chosen-least o.kept.latency o.raise_only x.0.latency_us
     (min 100000 (latency_over (delay_to t x.0.priority) x.0.to)) keep raise in

@@ -74,7 +74,12 @@ fn times_of(link: &Link, delays: &[u64], options: SolveOptions) -> Times
         (spec.latency_over (slice_index delays.now) (link_row link.now).to) (link_row link.now) }
 {
     let least = GREATEST_DELAY.min(latency_over(delays, link.to.as_slice()));
-    let latency = chosen(options.kept.latency, options.raise_only, link.latency_us, least);
+    let latency = chosen(
+        options.kept.latency,
+        options.raise_only,
+        link.latency_us,
+        least,
+    );
     Times {
         jitter_us: link.jitter_us,
         latency_us: latency,

@@ -30,7 +30,12 @@ fn times_of(link: &Link, needed: u64, options: SolveOptions) -> Times
 {
     let least = least_jitter(needed, link);
     Times {
-        jitter_us: chosen(options.kept.jitter, options.raise_only, link.jitter_us, least),
+        jitter_us: chosen(
+            options.kept.jitter,
+            options.raise_only,
+            link.jitter_us,
+            least,
+        ),
         latency_us: link.latency_us,
         skew_us: link.skew_us,
     }

@@ -6,5 +6,4 @@ ghost use Rattle.afdx_solve.specs.Laws.{EachIsLeast};
 /// its lines of admission.
 pub fn each_is_least()
     ensures { EachIsLeast }
-{
-}
+{}

@@ -14,6 +14,7 @@ use afdx_config::{SystemId, Tables};
 
 /// The least and the most bytes that a buffer may have.
 const LEAST_BUFFER: u64 = 64;
+
 const GREATEST_BUFFER: u64 = 4_194_304;
 
 /// The most bytes that wait at the output port to a system.
@@ -43,7 +44,12 @@ fn set_buffer(tables: &mut Tables, options: SolveOptions)
     ensures { tables.new ≡ spec.with_least_buffer options tables.old }
 {
     let least = GREATEST_BUFFER.min(LEAST_BUFFER.max(greatest_need(tables)));
-    let buffer = chosen(options.kept.buffer, options.raise_only, tables.buffer(), least);
+    let buffer = chosen(
+        options.kept.buffer,
+        options.raise_only,
+        tables.buffer(),
+        least,
+    );
     tables.set_buffer(buffer);
 }
 

@@ -61,10 +61,17 @@ fn policing_word(policing: Policing) -> &'static str {
 /// Adds how much a link may send, and how its frames are treated.
 fn put_traffic(text: &mut String, link: &Link) -> Result<(), AllocError> {
     write!(text, "bag_ms = {}\nlmin = {}\n", link.bag_ms, link.lmin)?;
-    write!(text, "lmax = {}\njitter_us = {}\n", link.lmax, link.jitter_us)?;
+    write!(
+        text,
+        "lmax = {}\njitter_us = {}\n",
+        link.lmax, link.jitter_us
+    )?;
     let priority = class_word(link.priority);
     let policing = policing_word(link.policing);
-    write!(text, "priority = \"{priority}\"\npolicing = \"{policing}\"\n")?;
+    write!(
+        text,
+        "priority = \"{priority}\"\npolicing = \"{policing}\"\n"
+    )?;
     write!(text, "latency_us = {}\n", link.latency_us)?;
     write!(text, "skew_us = {}\nsubs = {}\n", link.skew_us, link.subs)
 }
@@ -74,7 +81,11 @@ fn put_link(text: &mut String, tables: &Tables, link: &Link) -> Result<(), Alloc
     requires { IsLink (length tables.now.systems) (link_row link.now) }
 {
     let from = &tables.system(link.from).name;
-    write!(text, "\n[[link]]\nvl = {}\nfrom = \"{from}\"\nto = [", link.vl.0)?;
+    write!(
+        text,
+        "\n[[link]]\nvl = {}\nfrom = \"{from}\"\nto = [",
+        link.vl.0
+    )?;
     put_names(text, tables, link.to.as_slice())?;
     write!(text, "]\n")?;
     put_traffic(text, link)
@@ -94,14 +105,27 @@ fn put_port(text: &mut String, tables: &Tables, port: &ComRow) -> Result<(), All
 {
     let system = &tables.system(port.system).name;
     let kind = kind_word(port.kind);
-    write!(text, "\n[[port]]\nsystem = \"{system}\"\nlink = {}\n", port.link.0)?;
-    write!(text, "udp = {}\nkind = \"{kind}\"\ndepth = {}\n", port.udp, port.depth)
+    write!(
+        text,
+        "\n[[port]]\nsystem = \"{system}\"\nlink = {}\n",
+        port.link.0
+    )?;
+    write!(
+        text,
+        "udp = {}\nkind = \"{kind}\"\ndepth = {}\n",
+        port.udp, port.depth
+    )
 }
 
 /// The tables in the layout of the program: the keys of each table in the order of their numbers.
 fn written(alloc: Global, tables: &Tables) -> Result<String, AllocError> {
     let mut text = String::new(alloc);
-    write!(text, "profile = {}\nbuffer = {}\n", tables.profile(), tables.buffer())?;
+    write!(
+        text,
+        "profile = {}\nbuffer = {}\n",
+        tables.profile(),
+        tables.buffer()
+    )?;
     let count = tables.system_count();
     for i in 0..count {
         put_system(&mut text, tables.system(SystemId(i as u8)))?;

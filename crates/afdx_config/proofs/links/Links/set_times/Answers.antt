@@ -8,8 +8,7 @@ use Rattle.afdx_config.proofs.links.Links.set_times.Goals as goal
 pub invariant_of-self : goal.invariant_of-self
 invariant_of-self c =
     let es = c.self.inside.by_vl.entries in
-    let l = c.index_mut-link.result.now in
-    (
+    let l = c.index_mut-link.result.now in (
       omega (arith, length-set_value_at es c.args.index (changed_link c.args.times l), c.self.invariant.0),
       keys-set c.args.times es c.args.index l c.index_mut-link.ensures.value c.self.invariant.1,
     )
