@@ -5,14 +5,16 @@
 
 mod becoming;
 mod counts;
+mod number_line;
 mod places;
 mod read_recording;
 mod recording_run;
 mod senders;
 mod skipped;
 
-pub use becoming::{Ending, Found, NoArrival, RecordingOptions, becomes};
+pub use becoming::{Found, NoArrival, RecordingOptions, becomes};
 pub use counts::Counts;
+pub use number_line::NumberLine;
 pub use places::{Interfaces, Place};
 pub use read_recording::ReadRecording;
 pub use recording_run::{Tally, run_recording};
