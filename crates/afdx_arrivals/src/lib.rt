@@ -5,6 +5,8 @@
 
 mod becoming;
 mod counts;
+mod input_run;
+pub mod laws;
 mod places;
 mod read_recording;
 mod recording_run;
@@ -13,8 +15,9 @@ mod skipped;
 
 pub use becoming::{Ending, Found, NoArrival, RecordingOptions, becomes};
 pub use counts::Counts;
+pub use input_run::{InputCount, run_input};
 pub use places::{Interfaces, Place};
 pub use read_recording::ReadRecording;
 pub use recording_run::{Tally, run_recording};
-pub use senders::SystemPorts;
+pub use senders::{SystemPorts, UnsaidPort};
 pub use skipped::{SKIPPED, Skipped};
