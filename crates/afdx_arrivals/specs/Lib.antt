@@ -7,3 +7,5 @@ pub mod Counting
 pub mod Sequences
 pub mod RecordingSource
 pub mod RecordingRun
+pub mod InputRun
+pub mod Laws

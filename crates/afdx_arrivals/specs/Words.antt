@@ -1,8 +1,10 @@
--- Each reason to skip a number, in a word, and what it means: the table of the code.
-use Rattle.std.specs.Prelude.{ℕ, List, [], map, slice_index_or}
+-- Each reason to skip a number, in a word, and what it means: the table of the code; and the line
+-- that counts them.
+use Rattle.std.specs.Prelude.{ℕ, List, [], ◌++◌, map, slice_index_or, codes, decimal}
 use Rattle.afdx_arrivals.specs.contracts.skipped.Skipped.{the_type}
 use Rattle.afdx_arrivals.specs.declared.skipped.Skipped.{Skipped}
 use Rattle.afdx_arrivals.specs.declared.skipped.TheConstants.{SKIPPED}
+use Rattle.afdx_arrivals.specs.declared.recording_run.Tally.{Tally}
 use denote.Enum.Declared.{tag_of}
 
 unfoldable pub words : List (List ℕ)
@@ -17,3 +19,19 @@ skipped_word reason = slice_index_or words (tag_of the_type reason) []
 
 abbrev pub skipped_meaning : Skipped → List ℕ
 skipped_meaning reason = slice_index_or meanings (tag_of the_type reason) []
+
+-- a word, a number, and what follows
+abbrev pub counted : (word : List ℕ) → ℕ → (rest : List ℕ) → List ℕ
+counted word n rest = word ++ (decimal n ++ rest)
+
+-- the counts of a recording in one line, without its line feed
+abbrev pub skipped_line : Tally → List ℕ
+skipped_line t =
+    counted (codes "skipped no-frame ") t.counts.no_frame
+    (counted (codes " left-out ") t.counts.left_out
+    (counted (codes " not-afdx ") t.counts.not_afdx
+    (counted (codes " unknown-sender ") t.counts.unknown_sender
+    (counted (codes " no-network ") t.counts.no_network
+    (counted (codes " before-origin ") t.counts.before_origin
+    (counted (codes " recorder-lost ") t.lost
+    (codes " claimed " ++ decimal t.counts.claimed)))))))

@@ -1,6 +1,6 @@
 //! What a number of a recording becomes.
 
-ghost use Rattle.std.specs.Prelude.{◌≡◌, ◌≤◌, IfOk};
+ghost use Rattle.std.specs.Prelude.{◌≡◌, ◌≤◌, ℕ, IfOk, None, false};
 ghost use Rattle.afdx_arrivals.specs.Becoming as spec;
 ghost use Rattle.afdx_arrivals.specs.Becoming.{options_of};
 ghost use Rattle.afdx_arrivals.specs.Claims.{ports_of};
@@ -12,6 +12,7 @@ use crate::skipped::Skipped;
 use afdx_frame::{Side, fcs, vl_of};
 use afdx_lists::{FrameKind, RecordingFault};
 use afdx_recordings::{CheckSequence, Recorded, RecordedFrame, Stamp};
+use std::alloc::{AllocError, Global};
 
 /// The link type of Ethernet.
 const ETHERNET: u32 = 1;
@@ -28,6 +29,26 @@ pub struct RecordingOptions {
     pub fcs: Option<bool>,
     /// The moment that is time 0, in ns since 1970, where that is said.
     pub origin: Option<u64>,
+    /// Whether an option was given: then the input has to be a recording.
+    pub are_given: bool,
+}
+
+impl RecordingOptions {
+    /// None is given, and nothing is said.
+    pub fn none(alloc: Global) -> Result<RecordingOptions, AllocError>
+        ensures given { IfOk result (λ options. options.are_given ≡ false) }
+        ensures fcs { IfOk result (λ options. options.fcs ≡ None) }
+        ensures origin { IfOk result (λ options. options.origin ≡ None) }
+        ensures place { IfOk result (λ options. (k : ℕ) →
+            places.place_of options.interfaces k ≡ None) }
+    {
+        Ok(RecordingOptions {
+            interfaces: Interfaces::new(alloc)?,
+            fcs: None,
+            origin: None,
+            are_given: false,
+        })
+    }
 }
 
 /// An arrival, beside its number and its recorded bytes.

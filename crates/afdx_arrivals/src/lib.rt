@@ -5,6 +5,8 @@
 
 mod becoming;
 mod counts;
+mod input_run;
+pub mod laws;
 mod number_line;
 mod places;
 mod read_recording;
@@ -14,9 +16,10 @@ mod skipped;
 
 pub use becoming::{Found, NoArrival, RecordingOptions, becomes};
 pub use counts::Counts;
+pub use input_run::{InputCount, run_input};
 pub use number_line::NumberLine;
 pub use places::{Interfaces, Place};
 pub use read_recording::ReadRecording;
 pub use recording_run::{Tally, run_recording};
-pub use senders::SystemPorts;
+pub use senders::{SystemPorts, UnsaidPort};
 pub use skipped::{SKIPPED, Skipped};

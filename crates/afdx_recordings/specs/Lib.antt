@@ -1,6 +1,7 @@
-pub mod Orders
+pub mod Beginning
 pub mod Holding
-pub mod Recordings
-pub mod Stamps
+pub mod Orders
 pub mod Pcap
 pub mod Reading
+pub mod Recordings
+pub mod Stamps

@@ -3,6 +3,7 @@
 //! Its tests are in `afdx_part_tests`.
 #![tactic(auto)]
 
+mod beginning;
 mod form;
 mod frame_reader;
 mod held;
@@ -12,5 +13,6 @@ mod packet;
 mod recorded;
 mod stamp;
 
+pub use beginning::is_recording;
 pub use frame_reader::FrameReader;
 pub use recorded::{CheckSequence, Recorded, RecordedFrame, Stamp};
