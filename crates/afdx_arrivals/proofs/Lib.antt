@@ -3,3 +3,4 @@ pub mod Sealing
 pub mod SequenceLemmas
 pub mod SourceLemmas
 pub mod RecordingRunLemmas
+pub mod ListingLemmas

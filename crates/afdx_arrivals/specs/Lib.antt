@@ -7,5 +7,9 @@ pub mod Counting
 pub mod Sequences
 pub mod RecordingSource
 pub mod RecordingRun
+pub mod NumberLines
+pub mod Stopping
+pub mod ListingSource
+pub mod ListText
 pub mod InputRun
 pub mod Laws

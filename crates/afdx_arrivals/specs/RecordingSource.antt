@@ -22,6 +22,8 @@ use Rattle.afdx_run.specs.Listed.{frames}
 use Rattle.afdx_arrivals.specs.declared.read_recording.ReadRecording.{ReadRecording}
 use Rattle.afdx_arrivals.specs.Becoming.{Options, options_of, without_own}
 use Rattle.afdx_arrivals.specs.Claims.{Ports, ports_of}
+use Rattle.afdx_arrivals.specs.declared.number_line.NumberLine.{NumberLine}
+use Rattle.afdx_arrivals.specs.NumberLines.{line_with}
 use Rattle.afdx_arrivals.specs.Counting.{skipped_in}
 use Rattle.afdx_arrivals.specs.Sequences.{Sorted, origin_or, sequence, sequence_from, sorted_with, is_empty}
 
@@ -51,6 +53,11 @@ pub record FollowsOn (old new : ReadRecording) : Type 0 where
   pub time : new.head.time ≡ new.latest - origin_or old.origin new.latest
   pub early : new.head.time ≤ latest_listed
   pub sealed : IsSealedAs new.head.seal (given_item new).bytes
+
+-- its line
+abbrev pub next_line : ReadRecording → ℕ → List (Item Heading) → Option NumberLine
+next_line source n past = line_with (options_of source.options) (ports_of source.ports)
+    (sorted_at n source past) (latest source.reader)
 
 -- an arrival was counted, or a number that was skipped
 pub record CountsOne (old new : ReadRecording) : Type 0 where
