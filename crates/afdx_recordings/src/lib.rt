@@ -7,6 +7,7 @@ mod form;
 mod frame_reader;
 mod held;
 mod interface;
+mod known;
 mod order;
 mod packet;
 mod recorded;
