@@ -3,3 +3,5 @@ pub mod Sealing
 pub mod SequenceLemmas
 pub mod SourceLemmas
 pub mod RecordingRunLemmas
+pub mod LawLemmas
+pub mod InputLemmas
