@@ -1,5 +1,6 @@
 //! The words of a command line.
 
+use crate::recording_words::{fcs_option, interface_option, origin_option};
 use clap::{Arg, ArgAction, Command, value_parser};
 use std::alloc::{AllocError, Global};
 
@@ -48,7 +49,8 @@ Examples:
 const CONFIG_HELP: &str = "The path of a configuration (TOML), at most 4,194,304 bytes; \
 /dev/stdin for standard input";
 
-const LIST_HELP: &str = "The path of a frame list, or - for standard input";
+const LIST_HELP: &str = "The path of a frame list or a recording (pcap, pcapng), or - for \
+standard input";
 
 /// A command, as yet without words.
 fn command<'a>(alloc: Global, name: &'a str, about: &'a str, after: &'a str) -> Command<'a> {
@@ -196,6 +198,9 @@ fn replay_command<'a>(alloc: Global) -> Result<Command<'a>, AllocError> {
     let words = vec![in alloc;
         flag(alloc, "no-admission", FREELY_HELP),
         flag(alloc, "explain-drops", EARLY_HELP),
+        interface_option(alloc),
+        fcs_option(alloc),
+        origin_option(alloc),
         explain_option(alloc),
         line_buffered(alloc),
         progress_option(alloc),
@@ -296,6 +301,9 @@ fn police_command<'a>(alloc: Global) -> Result<Command<'a>, AllocError> {
         number_option(alloc, "port", "1", PORT_HELP),
         number_option(alloc, "lmin", "64", LMIN_HELP),
         policing_option(alloc),
+        interface_option(alloc),
+        fcs_option(alloc),
+        origin_option(alloc),
         explain_option(alloc),
         line_buffered(alloc),
         progress_option(alloc),

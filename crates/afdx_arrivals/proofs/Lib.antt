@@ -4,3 +4,5 @@ pub mod SequenceLemmas
 pub mod SourceLemmas
 pub mod RecordingRunLemmas
 pub mod ListingLemmas
+pub mod LawLemmas
+pub mod InputLemmas

@@ -1,5 +1,5 @@
 -- What a run over a recording answers, from what it hands from the recording to its machine.
-use Rattle.std.proofs.Common.{◌≡◌, ℕ, List, [], ◌∷◌, ◌++◌, append_assoc, append-nil, refl, ap, sym, ◌∙◌, subst}
+use Rattle.std.proofs.Common.{◌≡◌, ◌≤◌, ◌+◌, ℕ, List, [], ◌∷◌, ◌++◌, length, length-append, if◌then◌else◌, append_assoc, append-nil, refl, ap, sym, ◌∙◌, subst}
 use Rattle.std.proofs.Common.{Option, Some, None, Result, Ok, Err, IfSome, arith, true, false, Bool, ◌⊎◌, inl, inr}
 use Rattle.std.specs.Io.KnownBytes.{Consumes, IsAtEnd}
 use Rattle.std.proofs.KnownBytes.{Consumes-nil}
@@ -9,7 +9,7 @@ use Rattle.afdx_lists.specs.declared.frame_line.Heading.{Heading}
 use Rattle.afdx_lists.specs.declared.fault.RunFault.{RunFault}
 use Rattle.afdx_lists.specs.declared.fault.RunFault.TheVariants as run
 use Rattle.afdx_lists.specs.declared.watched.Watched.{Watched}
-use Rattle.afdx_recordings.specs.Holding.{Standing, standing, IsTrueToEnd, unread}
+use Rattle.afdx_recordings.specs.Holding.{Standing, standing, Gives, GivesSome, IsTrueToEnd, last_calls, unread}
 use Rattle.afdx_recordings.specs.Reading.{state_of, recorded}
 use Rattle.afdx_recordings.specs.Recordings.{State, at_start, lost_by}
 use Rattle.afdx_run.specs.Engine.{Item, Runs, without_newest}
@@ -22,7 +22,7 @@ use Rattle.afdx_arrivals.specs.Becoming.{Options, options_of}
 use Rattle.afdx_arrivals.specs.Claims.{Ports, ports_of}
 use Rattle.afdx_arrivals.specs.Counting.{no_counts, skipped_in}
 use Rattle.afdx_arrivals.specs.Sequences.{Outcome, sequence}
-use Rattle.afdx_arrivals.specs.RecordingRun.{RecordingAnswers, BeginIsTold, IsDone, tally_of}
+use Rattle.afdx_arrivals.specs.RecordingRun.{RecordingAnswers, BeginIsTold, IsAskedOnce, IsDone, tally_of}
 use Rattle.afdx_arrivals.specs.RecordingSource.{HasGiven, HasEnded, HasStopped, StopsFor, AreFirst}
 use Rattle.afdx_arrivals.specs.RecordingSource.{first_standing, sorted_at, IsTimed}
 use Rattle.afdx_arrivals.proofs.SequenceLemmas.{sorts-first}
@@ -51,6 +51,34 @@ of-read : (Q : List ℕ → Type 0) (left rest : Option (List ℕ)) (read : List
     → IfSome left (λ bytes. (front : List ℕ) × Consumes (Some bytes) rest front × Q front)
 of-read Q None rest read c q = tt
 of-read Q (Some bytes) rest read c q = (read, c, q)
+
+-- where what an input gives is known, it was asked once for each byte at most, and once more
+last-few : (now : Standing) → last_calls now ≤ 1
+last-few now = by now.over
+  where
+    by : (over : Bool) → (if over then 1 else 0) ≤ 1
+    by true = omega arith
+    by false = omega arith
+
+-- it wasn't asked
+pub unasked : (left : Option (List ℕ)) (calls : ℕ) → IsAskedOnce left left calls calls
+unasked None calls = tt
+unasked (Some left) calls = omega arith
+
+asked-of : (left rest : Option (List ℕ)) (given : List ℕ) (old new last : ℕ) → Consumes left rest given
+    → new ≤ old + length given + last → last ≤ 1 → IsAskedOnce left rest old new
+asked-of None rest given old new last c calls few = tt
+asked-of (Some left) None given old new last c calls few = tt
+asked-of (Some left) (Some rest) given old new last c calls few =
+    let n = ap (λ (xs : List ℕ). length xs) c ∙ length-append given rest in
+    omega (arith, n, calls, few)
+
+asked-once : (first now : Standing) (given : List ℕ) → Gives first now given → first.over ≡ false
+    → IsAskedOnce first.left now.left first.calls now.calls
+asked-once first now given gives unasked =
+    let calls : now.calls ≤ first.calls + length given + last_calls now =
+    (let c = gives.calls in omega (arith, c)) in
+    asked-of first.left now.left given first.calls now.calls (last_calls now) gives.consumed calls (last-few now)
 
 module _ (options : Options) (ports : Ports) (done told begins : List (Item Heading) → Type 0)
     (first now : Standing) where
@@ -134,6 +162,21 @@ module _ {R : Type 0} (remaining : R → Option (List ℕ)) (start input : Watch
 
   abbrev Now : Standing
   Now = standing remaining source.reader.held input
+
+  -- how often the input was asked
+  asked : GivesSome First Now → First.over ≡ false
+      → IsAskedOnce First.left Now.left First.calls Now.calls
+  asked (given, gives) fresh = asked-once First Now given gives fresh
+
+  pub fault-calls : First.over ≡ false → (fault : RunFault) → RunsOver {A = Unit {0}} (Err fault)
+      → IsAskedOnce First.left Now.left First.calls Now.calls
+  fault-calls fresh fault (past, inl (stop, t)) = asked stop.gives fresh
+  fault-calls fresh fault (past, inr (is, inl gave, b)) = asked (gave.sorts.read, gave.sorts.gives) fresh
+  fault-calls fresh fault (past, inr (is, inr end, b)) = asked (end.read, end.gives) fresh
+
+  pub done-calls : First.over ≡ false → RunsOver {A = Unit {0}} (Ok tt)
+      → IsAskedOnce First.left Now.left First.calls Now.calls
+  done-calls fresh (past, end, d) = asked (end.read, end.gives) fresh
 
   pub fault-read : (fault : RunFault) → RunsOver {A = Unit {0}} (Err fault) → input.failed ≡ is_read fault
   fault-read fault (past, inl (stop, t)) = stop.failed

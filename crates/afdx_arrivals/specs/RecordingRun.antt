@@ -22,6 +22,10 @@ sequence_of_bytes options ports bytes = sequence options ports (recorded bytes)
 abbrev pub arrivals_in : Outcome → List Arrival
 arrivals_in outcome = arrivals outcome.sorted.items
 
+-- it ends well
+abbrev pub HasNoFault : Outcome → Type 0
+HasNoFault outcome = outcome.ending ≡ Over
+
 -- where what an input gives is known: from `left` to `rest` it was asked at most once for each byte
 -- that it gave, and once more
 abbrev pub IsAskedOnce : (left rest : Option (List ℕ)) → (old new : ℕ) → Type 0
@@ -71,7 +75,7 @@ module _ (options : Options) (ports : Ports) (done told begins : List (Item Head
 module _ (options : Options) (ports : Ports) where
   -- the whole recording was read, it has no fault, and this is told of its arrivals
   pub record IsOver (told : List Arrival → Type 0) (bytes : List ℕ) (tally : Tally) : Type 0 where
-    pub over : (sequence_of_bytes options ports bytes).ending ≡ Over
+    pub over : HasNoFault (sequence_of_bytes options ports bytes)
     pub are_told : told (arrivals_in (sequence_of_bytes options ports bytes))
     pub tally_is : tally ≡ tally_of (sequence_of_bytes options ports bytes)
 

@@ -12,7 +12,7 @@ use Rattle.afdx_lists.specs.declared.fault.RunFault.TheVariants as run
 use Rattle.afdx_lists.specs.declared.recording_fault.RecordingFault.{RecordingFault}
 use Rattle.afdx_lists.specs.declared.recording_fault.RecordingFault.TheVariants.{NoArrival}
 use Rattle.afdx_lists.specs.declared.watched.Watched.{Watched}
-use Rattle.afdx_recordings.specs.Holding.{Standing, standing, Gives, IsTrueToEnd}
+use Rattle.afdx_recordings.specs.Holding.{Standing, standing, Gives, GivesSome, IsTrueToEnd}
 use Rattle.afdx_recordings.specs.Reading.{state_of, latest, recorded, recorded_from, CanFollow}
 use Rattle.afdx_recordings.specs.Recordings.{State, Over, Faulted, lost_by, most_numbers}
 use Rattle.afdx_run.specs.Engine.{Item, item_of}
@@ -176,5 +176,7 @@ module _ {R : Type 0} (remaining : R → Option (List ℕ)) where
       (past : List (Item Heading)) (fault : RunFault) : Type 0 where
     pub failed : input.failed ≡ is_read fault
     pub honest : IsTrueToEnd (standing remaining source.reader.held input)
+    pub gives : GivesSome (first_standing remaining start)
+        (standing remaining source.reader.held input)
     pub stops : StopsFor (options_of source.options) (ports_of source.ports)
         (first_standing remaining start) (standing remaining source.reader.held input) past fault

@@ -2,10 +2,8 @@
 
 ghost use Rattle.std.specs.Prelude.{◌≡◌, [], IfSome, OnOk, true, false};
 ghost use Rattle.afdx_lists.specs.Calls.{is_failed_read, is_failed_write};
-ghost use Rattle.afdx_lists.specs.Peeking.{HasLooked, held, is_untouched, left_in};
+ghost use Rattle.afdx_lists.specs.Peeking.{held, left_in};
 ghost use Rattle.afdx_lists.specs.Watching.{calls_of, device_of, has_ended, has_failed};
-ghost use Rattle.afdx_lists.specs.declared.peeked.Peeked.{Peeked as Peek};
-ghost use Rattle.afdx_lists.specs.declared.watched.Watched.{Watched as Device};
 ghost use Rattle.afdx_arrivals.specs.Becoming.{options_of};
 ghost use Rattle.afdx_arrivals.specs.Claims.{ports_unsaid};
 ghost use Rattle.afdx_arrivals.specs.InputRun as spec;
@@ -71,13 +69,14 @@ fn run_recorded<R: Read, M: Machine<Heading>, O: Sink>(
     run_recording(alloc, options, ports, machine, input, output)
 }
 
-/// Lets a machine tell what an input says, and counts its lines, or what is no arrival.
+/// Lets a machine tell what an input says, of which the first bytes were looked at, and counts its
+/// lines, or what is no arrival.
 ///
 /// The input is read as a recording if it begins as one, or if an option of recordings is given;
-/// else as a list of frames. Its first four bytes are looked at before anything else. The whole
-/// text of a line or an arrival is handed to `output` before the next byte is read. The first fault
-/// ends the run; what was told before it stands written. `RunFault::Read` and `RunFault::Write`
-/// come exactly where the input's or the output's device failed; neither is tried again.
+/// else as a list of frames. The whole text of a line or an arrival is handed to `output` before the
+/// next byte is read. The first fault ends the run; what was told before it stands written.
+/// `RunFault::Read` and `RunFault::Write` come exactly where the input's or the output's device
+/// failed; neither is tried again.
 pub fn run_input<R: Read, M: Machine<Heading>, O: Sink>(
     alloc: Global,
     options: RecordingOptions,
@@ -86,7 +85,6 @@ pub fn run_input<R: Read, M: Machine<Heading>, O: Sink>(
     input: &mut Watched<Peeked<R>>,
     output: &mut O,
 ) -> Result<InputCount, RunFault>
-    requires untouched { is_untouched (device_of input.old) }
     requires sound_input { has_failed input.old ≡ false }
     requires unended { has_ended input.old ≡ false }
     requires sound_output { O.failed output.old ≡ false }
@@ -95,24 +93,22 @@ pub fn run_input<R: Read, M: Machine<Heading>, O: Sink>(
     ensures ended { OnOk result (has_ended input.new ≡ true) }
     ensures read { has_failed input.new ≡ is_failed_read result }
     ensures write { O.failed output.new ≡ is_failed_write result }
-
-    // Its first bytes were looked at, which decide whether it is read as a recording. Where all its
-    // bytes are known: what is answered and written for the list, or the recording, that they are.
-    ensures answer { (looked : Device (Peek R)) × HasLooked R.remaining input.old looked
-        × IsAskedFew (spec.is_recorded options (held (device_of looked)))
+    ensures calls { IsAskedFew (spec.is_recorded options (held (device_of input.old)))
         (left_in R.remaining (device_of input.old)) (left_in R.remaining (device_of input.new))
-        (calls_of input.old) (calls_of input.new)
-        × ((rules : M.Rules) → M.Told rules machine.old
+        (calls_of input.old) (calls_of input.new) }
+
+    // Where all its bytes are known: what is answered and written for the list, or the recording,
+    // that they are.
+    ensures answer { (rules : M.Rules) → M.Told rules machine.old
         (O.written output.old) (O.written output.old) [] →
         IfSome (left_in R.remaining (device_of input.old)) (λ bytes.
         InputAnswers (options_of options) (ports_unsaid unsaid.entry)
         (M.Done rules machine.new (O.written output.old) (O.written output.new))
         (M.Told rules machine.new (O.written output.old) (O.written output.new))
         (M.Begins rules machine.new (O.written output.old) (O.written output.new))
-        (spec.is_recorded options (held (device_of looked)))
-        bytes (left_in R.remaining (device_of input.new)) result)) }
+        (spec.is_recorded options (held (device_of input.old)))
+        bytes (left_in R.remaining (device_of input.new)) result) }
 {
-    input.look();
     if is_recorded(&options, input.seen()) {
         let tally = run_recorded(alloc, options, unsaid, machine, input, output)?;
         return Ok(InputCount::Recorded(tally));

@@ -36,19 +36,18 @@ impl fmt::Display for Tally {
     ghost output = { λ tally. Some (skipped_line tally) };
 
     fn fmt<W: fmt::Write>(&self, f: &mut fmt::Formatter<W>) -> fmt::Result {
-        let counts = &self.counts;
         write!(
             f,
             "skipped no-frame {} left-out {} not-afdx {} unknown-sender {} no-network {} \
 before-origin {} recorder-lost {} claimed {}",
-            counts.no_frame,
-            counts.left_out,
-            counts.not_afdx,
-            counts.unknown_sender,
-            counts.no_network,
-            counts.before_origin,
+            self.counts.no_frame,
+            self.counts.left_out,
+            self.counts.not_afdx,
+            self.counts.unknown_sender,
+            self.counts.no_network,
+            self.counts.before_origin,
             self.lost,
-            counts.claimed
+            self.counts.claimed
         )
     }
 }

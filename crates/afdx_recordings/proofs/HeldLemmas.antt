@@ -8,7 +8,7 @@ use Rattle.std.proofs.lemmas.Bool.{false≢true}
 use Rattle.std.proofs.lemmas.Grind.{common_steps}
 use Rattle.afdx_lists.proofs.ReaderLemmas.{read_behind, kept_before}
 use Rattle.afdx_recordings.specs.declared.held.Held.{Held}
-use Rattle.afdx_recordings.specs.Holding.{unread, Standing, Gives, Passes}
+use Rattle.afdx_recordings.specs.Holding.{unread, Standing, Gives, GivesSome, Passes}
 
 pub unread_length : (held : Held) → length (unread held) ≡ held.end - held.start
 unfolding unread
@@ -79,6 +79,9 @@ Passes-then a b c first next h k = record {
       ∙ ap (λ (bytes : List ℕ). first ++ bytes) k.parts
       ∙ sym (append_assoc first next c.held);
 }
+
+pub Passes-gives : (old new : Standing) (passed : List ℕ) → Passes old new passed → GivesSome old new
+Passes-gives old new passed passes = (passes.given, passes.gives)
 
 -- what is held is passed
 pub Passes-held : (old new : Standing) (passed : List ℕ) → old.held ≡ passed ++ new.held

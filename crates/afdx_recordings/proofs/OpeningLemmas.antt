@@ -242,7 +242,8 @@ Tells-then (Ok false) a b c s t u item same tells =
 Tells-then (Err (run.Recording fault)) a b c s t u item same tells =
     (tells.0, ending-then a b c s t (Faulted fault) tells.0 same tells.1)
 Tells-then (Err run.Read) a b c s t u item same tells = nothing-then a b c s t same tells
-Tells-then (Err run.Memory) a b c s t u item same tells = tt
+Tells-then (Err run.Memory) a b c s t u item same tells =
+    (same.given ++ tells.0, Gives-then a b c same.given tells.0 same.gives tells.1)
 Tells-then (Err (run.BadLine n)) a b c s t u item same tells = absurd tells
 Tells-then (Err (run.BadHex n)) a b c s t u item same tells = absurd tells
 Tells-then (Err (run.TimeBack n)) a b c s t u item same tells = absurd tells

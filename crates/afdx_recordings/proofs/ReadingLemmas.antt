@@ -10,7 +10,7 @@ use Rattle.afdx_lists.specs.Calls.{is_read}
 use Rattle.afdx_lists.specs.declared.fault.RunFault.{RunFault}
 use Rattle.afdx_lists.specs.declared.fault.RunFault.TheVariants as run
 use Rattle.afdx_lists.specs.declared.recording_fault.RecordingFault.TheVariants.{Ended}
-use Rattle.afdx_recordings.specs.Holding.{Standing, Gives, IsOfReading}
+use Rattle.afdx_recordings.specs.Holding.{Standing, Gives, GivesSome, IsOfReading}
 use Rattle.afdx_recordings.specs.Recordings.{State, Step, Ends, Takes, Ending, Over, Faulted, Recording, Numbered}
 use Rattle.afdx_recordings.specs.Recordings.{in_front, lost_by}
 use Rattle.afdx_recordings.specs.Pcap.{packet_head, captured_by, packet_meaning}
@@ -116,19 +116,19 @@ SaysNothing-block old new before form ending given h gives ends unfinished = rec
 
 -- a read failed, or there was no memory
 pub Tells-of_reading : (fault : RunFault) (old new : Standing) (before after : State) (item : Numbered)
-    → IsOfReading fault → (is_read fault ≡ true → SaysNothing old new before)
+    → IsOfReading fault → GivesSome old new → (is_read fault ≡ true → SaysNothing old new before)
     → Tells (Err fault) old new before after item
-Tells-of_reading run.Read old new before after item h says = says refl
-Tells-of_reading run.Memory old new before after item h says = tt
-Tells-of_reading (run.BadLine n) old new before after item h says = absurd h
-Tells-of_reading (run.BadHex n) old new before after item h says = absurd h
-Tells-of_reading (run.TimeBack n) old new before after item h says = absurd h
-Tells-of_reading (run.TimeTooLarge n) old new before after item h says = absurd h
-Tells-of_reading (run.BadPort n) old new before after item h says = absurd h
-Tells-of_reading (run.LineTooLong n) old new before after item h says = absurd h
-Tells-of_reading run.TooManyLines old new before after item h says = absurd h
-Tells-of_reading (run.Recording f) old new before after item h says = absurd h
-Tells-of_reading run.Write old new before after item h says = absurd h
+Tells-of_reading run.Read old new before after item h some says = says refl
+Tells-of_reading run.Memory old new before after item h some says = some
+Tells-of_reading (run.BadLine n) old new before after item h some says = absurd h
+Tells-of_reading (run.BadHex n) old new before after item h some says = absurd h
+Tells-of_reading (run.TimeBack n) old new before after item h some says = absurd h
+Tells-of_reading (run.TimeTooLarge n) old new before after item h some says = absurd h
+Tells-of_reading (run.BadPort n) old new before after item h some says = absurd h
+Tells-of_reading (run.LineTooLong n) old new before after item h some says = absurd h
+Tells-of_reading run.TooManyLines old new before after item h some says = absurd h
+Tells-of_reading (run.Recording f) old new before after item h some says = absurd h
+Tells-of_reading run.Write old new before after item h some says = absurd h
 
 -- the input ended between two blocks, or within a head
 pub Tells-end : (result : Result Bool RunFault) (old new : Standing) (before after : State) (item : Numbered)

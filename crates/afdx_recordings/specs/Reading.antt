@@ -12,9 +12,10 @@ use Rattle.afdx_recordings.specs.declared.form.Magic.{Magic}
 use Rattle.afdx_recordings.specs.declared.form.Magic.TheVariants as magic
 use Rattle.afdx_recordings.specs.declared.frame_reader.FrameReader.{FrameReader}
 use Rattle.afdx_recordings.specs.Orders.{number_in}
-use Rattle.afdx_recordings.specs.Holding.{Standing, Gives, lent}
+use Rattle.afdx_recordings.specs.Holding.{Standing, Gives, GivesSome, lent}
 use Rattle.afdx_recordings.specs.Recordings.{State, Step, Ends, Takes, Ending, Over, Faulted, Recording, Numbered}
 use Rattle.afdx_recordings.specs.Recordings.{no_more, in_front, at_start, lost_by, next_block}
+use Rattle.afdx_recordings.specs.Recordings.{state_of_known}
 use Rattle.afdx_recordings.specs.Pcap.{packet_head, pcap_head, captured_by, packet_meaning, pcap_form, is_pcap_version}
 
 -- what the first four bytes name, the highest first
@@ -84,14 +85,7 @@ recorded bytes = recorded_from at_start bytes
 
 -- the state of a reader
 abbrev pub state_of : FrameReader → State
-state_of reader = record {
-  form = reader.form;
-  order = reader.order;
-  interfaces = reader.interfaces.items;
-  lost = reader.lost_before;
-  numbers = reader.numbers;
-  blocks = reader.blocks;
-}
+state_of reader = state_of_known reader.known
 
 -- what took the last number
 abbrev pub latest : FrameReader → Numbered
@@ -149,5 +143,5 @@ Tells (Ok false) old new before after item =
 Tells (Err (run.Recording fault)) old new before after item =
     (lost : ℕ) × SaysEnding old new before (Faulted fault) lost
 Tells (Err run.Read) old new before after item = SaysNothing old new before
-Tells (Err run.Memory) old new before after item = Unit {0}
+Tells (Err run.Memory) old new before after item = GivesSome old new
 Tells (Err _) old new before after item = ⊥

@@ -8,6 +8,7 @@ mod form;
 mod frame_reader;
 mod held;
 mod interface;
+mod known;
 mod order;
 mod packet;
 mod recorded;

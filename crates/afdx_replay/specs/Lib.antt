@@ -2,6 +2,7 @@ pub mod Commands
 pub mod CheckText
 pub mod Refusals
 pub mod EndToEnd
+pub mod Inputs
 pub mod Merged
 pub mod OneSide
 pub mod policing

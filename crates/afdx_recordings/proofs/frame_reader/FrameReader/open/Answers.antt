@@ -5,6 +5,7 @@ use Rattle.afdx_recordings.specs.Orders.{number_in}
 use Rattle.afdx_recordings.specs.Holding.{unread}
 use Rattle.afdx_recordings.specs.Recordings.{lost_by}
 use Rattle.afdx_recordings.specs.Reading.{state_of, magic_of}
+use Rattle.afdx_recordings.proofs.HeldLemmas.{Passes-gives}
 use Rattle.afdx_recordings.proofs.OpeningLemmas.{SaysNothing-too_short, SaysEnding-too_short, SaysEnding-unknown}
 use Rattle.afdx_recordings.proofs.OpeningLemmas.{SaysSame-held, SaysSame-then, Tells-then}
 use Rattle.afdx_recordings.proofs.ReadingLemmas.{Tells-of_reading}
@@ -14,6 +15,7 @@ pub returns-in_err-fill-clause-tells : goal.returns-in_err-fill-clause-tells
 returns-in_err-fill-clause-tells g c =
     let e : c.from_residual.result ≡ Err c.in_err-fill.field-0.0 = search rules in
     rw e (Tells-of_reading c.in_err-fill.field-0.0 _ _ _ _ _ c.in_err-fill.ensures.fault
+    (Passes-gives _ _ _ c.fill.ensures.passes)
     (λ is. SaysNothing-too_short _ _ _ c.requires.form c.fill.ensures.passes (c.in_err-fill.ensures.few is)))
 
 pub returns-then-not-branch-clause-tells : goal.returns-then-not-branch-clause-tells
