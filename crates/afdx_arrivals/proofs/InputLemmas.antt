@@ -17,7 +17,8 @@ use Rattle.afdx_arrivals.specs.declared.input_run.InputCount.TheVariants as coun
 use Rattle.afdx_arrivals.specs.InputRun.{InputAnswers, IsAskedFew}
 use Rattle.afdx_arrivals.specs.Becoming.{Options}
 use Rattle.afdx_arrivals.specs.Claims.{Ports, Agree}
-use Rattle.afdx_arrivals.specs.RecordingRun.{RecordingAnswers, BeginIsTold, IsDone, IsAskedOnce, IsOver, StopsRecorded, FirstAreTold}
+use Rattle.afdx_arrivals.specs.RecordingRun.{RecordingAnswers, IsAskedOnce, IsOver, StopsRecorded, FirstAreTold, items_of_bytes}
+use Rattle.afdx_arrivals.specs.Stopping.{FirstAreBegun, tally_of}
 use Rattle.afdx_arrivals.specs.RecordingRun.{sequence_of_bytes, arrivals_in}
 use Rattle.afdx_arrivals.specs.Sequences.{Outcome, sequence}
 use Rattle.afdx_arrivals.proofs.LawLemmas.{sequences-agree}
@@ -42,8 +43,8 @@ module _ (options : Options) (done told begins : List (Item Heading) → Type 0)
       same : (b : List ℕ) → sequence options p (recorded b) ≡ sequence options q (recorded b)
       same b = sequences-agree options p q (recorded b) a
 
-      some : BeginIsTold options p done told begins (sequence options p (recorded bytes))
-          → BeginIsTold options q done told begins (sequence options q (recorded bytes))
+      some : FirstAreBegun (sequence_of_bytes options p) (items_of_bytes options p) done told begins bytes
+          → FirstAreBegun (sequence_of_bytes options q) (items_of_bytes options q) done told begins bytes
       some s = record {
         past = s.past;
         later = s.later;
@@ -53,11 +54,11 @@ module _ (options : Options) (done told begins : List (Item Heading) → Type 0)
 
       by : (r : Result Tally RunFault) → RecordingAnswers options p done told begins bytes rest r
           → RecordingAnswers options q done told begins bytes rest r
-      by (Ok tally) h = subst (λ (o : Outcome). IsDone options q done told begins tally o) (same bytes) (record {
-        over = h.over;
-        are_told = h.are_told;
-        tally_is = h.tally_is;
-      })
+      by (Ok tally) h = record {
+        over = ap (λ (o : Outcome). o.ending) (sym (same bytes)) ∙ h.over;
+        are_told = subst (λ (o : Outcome). done o.sorted.items) (same bytes) h.are_told;
+        tally_is = h.tally_is ∙ ap tally_of (same bytes);
+      }
       by (Err (run.Recording fault)) h = rw (sym (same bytes)) h
       by (Err run.Read) h = (h.0, h.1, subst (λ (o : Outcome). told o.sorted.items) (same h.0) h.2)
       by (Err run.Write) h = some h
@@ -124,7 +125,7 @@ module _ (options : Options) (done told begins : List (Item Heading) → Type 0)
     first-of : (beginning : List Arrival → Type 0) (bytes : List ℕ)
         → ((past : List (Item Heading)) → told past → beginning (arrivals past))
         → ((past : List (Item Heading)) → begins past → beginning (arrivals past))
-        → BeginIsTold options ports done told begins (sequence options ports (recorded bytes))
+        → FirstAreBegun (sequence_of_bytes options ports) (items_of_bytes options ports) done told begins bytes
         → FirstAreTold options ports beginning bytes
     first-of beginning bytes f g s = record {
       past = arrivals s.past;

@@ -4,7 +4,6 @@ use Rattle.std.proofs.Common.{Option, Some, None, Result, Ok, Err, arith, true, 
 use Rattle.std.specs.Int.{w32, to_le_bytes}
 use Rattle.std.proofs.lemmas.List.{take-append-drop}
 use Rattle.std.proofs.lemmas.Slice.Eq.{bytes_eq-Decides}
-
 use Rattle.std.proofs.lemmas.Bool.{cases_lt, ltb-false, leb-true}
 use Rattle.afdx_frame.specs.Sealing.{is_sealed, sealed, sequence_of}
 use Rattle.afdx_frame.specs.Seals.{whole}
@@ -13,6 +12,9 @@ use Rattle.afdx_frame.proofs.SealingLemmas.{is_sealed-long, is_sealed-short}
 use Rattle.afdx_lists.specs.declared.frame_line.Heading.{Heading}
 use Rattle.afdx_lists.specs.declared.recording_fault.RecordingFault.{RecordingFault}
 use Rattle.afdx_lists.specs.declared.recording_fault.RecordingFault.TheVariants as fault
+use Rattle.afdx_lists.specs.FrameLines.{frame_bytes}
+use Rattle.afdx_lists.specs.declared.frame_line.FrameKind.{FrameKind}
+use Rattle.afdx_lists.specs.declared.frame_line.FrameKind.TheVariants.{Good, Bad, Raw}
 use Rattle.afdx_police.specs.Arrival.{Arrival}
 use Rattle.afdx_recordings.specs.declared.recorded.Recorded.{Recorded}
 use Rattle.afdx_recordings.specs.declared.recorded.Recorded.TheVariants as recorded
@@ -22,16 +24,14 @@ use Rattle.afdx_run.specs.Engine.{Item}
 use Rattle.afdx_run.specs.Items.{arrivals}
 use Rattle.afdx_run.specs.Lists.{latest_in}
 use Rattle.afdx_run.specs.Listed.{frames}
-use Rattle.afdx_arrivals.specs.declared.becoming.Ending.{Ending as Sealing}
-use Rattle.afdx_arrivals.specs.declared.becoming.Ending.TheVariants as ending
 use Rattle.afdx_arrivals.specs.declared.becoming.Entrance.{Entrance}
 use Rattle.afdx_arrivals.specs.declared.becoming.Found.{Found}
 use Rattle.afdx_arrivals.specs.declared.becoming.NoArrival.{NoArrival}
 use Rattle.afdx_arrivals.specs.declared.becoming.NoArrival.TheVariants as no
 use Rattle.afdx_arrivals.specs.declared.places.Place.{Place}
-use Rattle.afdx_arrivals.specs.Becoming.{Options, becomes, frame_becomes, entrance_of, without_own, bytes_with}
+use Rattle.afdx_arrivals.specs.Becoming.{Options, becomes, frame_becomes, entrance_of, without_own}
 use Rattle.afdx_arrivals.specs.Becoming.{message_with, seal_with, seal_by, check, or_else, found_with, ◌>>=◌, ◌>>◌}
-use Rattle.afdx_arrivals.specs.Becoming.{whole_moment, is_before, ending_of, ends_with_sequence}
+use Rattle.afdx_arrivals.specs.Becoming.{whole_moment, is_before, kind_with, ends_with_sequence}
 use Rattle.afdx_arrivals.specs.Places.{is_left_out}
 use Rattle.afdx_arrivals.specs.declared.skipped.Skipped.TheVariants as why
 use Rattle.afdx_arrivals.specs.Counting.{skip_one}
@@ -102,16 +102,16 @@ resealed bytes e = elim (cases_lt (length bytes) 4) [
 ]
 
 recorded-bytes : (bytes : List ℕ) (own : Bool) → is_sealed bytes ≡ own
-    → whole (seal_by ending.Recorded own) (without_own own bytes) ≡ bytes
+    → whole (seal_by Raw own) (without_own own bytes) ≡ bytes
 unfolding whole
 recorded-bytes bytes true e = resealed bytes e
 recorded-bytes bytes false e = refl
 
 pub have-their-bytes : ArrivalsHaveTheirBytes
-unfolding whole
-have-their-bytes ending.Recorded bytes = recorded-bytes bytes (is_sealed bytes) refl
-have-their-bytes ending.Right bytes = refl
-have-their-bytes ending.Wrong bytes = refl
+unfolding whole frame_bytes
+have-their-bytes Raw bytes = recorded-bytes bytes (is_sealed bytes) refl
+have-their-bytes Good bytes = refl
+have-their-bytes Bad bytes = refl
 
 -- ---- their times
 
@@ -127,7 +127,7 @@ module _ (options : Options) (ports : Ports) where
   check-some false fault x y e = (refl, cc)
 
   -- an arrival is no earlier than the one before it
-  by-checks : (latest moment : ℕ) (entrance : Entrance) (sealing : Sealing) (on_time later : Bool) (early back : NoArrival)
+  by-checks : (latest moment : ℕ) (entrance : Entrance) (sealing : FrameKind) (on_time later : Bool) (early back : NoArrival)
       (found : Found) → nat_le latest moment ≡ later
       → (check on_time early >> (check later back >> Ok (found_with moment entrance sealing))) ≡ Ok found
       → latest ≤ found.moment
@@ -139,7 +139,7 @@ module _ (options : Options) (ports : Ports) where
   by-checks latest moment entrance sealing false later early back found is e = absurd (cc)
 
   by-parts : (latest : ℕ) (stays : Bool) (left : NoArrival) (moment : Result ℕ NoArrival)
-      (entrance : Result Entrance NoArrival) (on_time : ℕ → Bool) (early : NoArrival) (sealing : Option Sealing)
+      (entrance : Result Entrance NoArrival) (on_time : ℕ → Bool) (early : NoArrival) (sealing : Option FrameKind)
       (unclear back : NoArrival) (found : Found)
       → (check stays left >> (moment >>= (λ m. entrance >>= (λ x. check (on_time m) early
       >> (or_else sealing unclear >>= (λ z. check (nat_le latest m) back >> Ok (found_with m x z))))))) ≡ Ok found
@@ -164,7 +164,7 @@ module _ (options : Options) (ports : Ports) where
       by-parts latest (not (is_left_out (options.place frame.interface))) (no.Skipped why.LeftOut)
       (whole_moment options.fcs n frame (length bytes)) (entrance_of (options.place frame.interface) ports bytes)
       (λ moment. not (is_before options.origin moment)) (no.Skipped why.BeforeOrigin)
-      (ending_of (ends_with_sequence options.fcs frame.check_sequence) frame.found_wrong bytes)
+      (kind_with (ends_with_sequence options.fcs frame.check_sequence) frame.found_wrong bytes)
       (no.Faulted (fault.FcsUnclear n)) (no.Faulted (fault.TimeBack n)) found e
 
   number-later : (latest n : ℕ) (what : Recorded) (bytes : List ℕ) (found : Found)

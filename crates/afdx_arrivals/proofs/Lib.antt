@@ -6,3 +6,5 @@ pub mod RecordingRunLemmas
 pub mod ListingLemmas
 pub mod LawLemmas
 pub mod InputLemmas
+pub mod ListingSourceLemmas
+pub mod ListingRunLemmas

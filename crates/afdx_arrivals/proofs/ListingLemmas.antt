@@ -11,8 +11,7 @@ use Rattle.afdx_arrivals.specs.Becoming.{Options}
 use Rattle.afdx_arrivals.specs.Claims.{Ports}
 use Rattle.afdx_arrivals.specs.ListingSource.{Lists, lines_of_bytes}
 use Rattle.afdx_arrivals.specs.NumberLines.{line_with, with_line, lines_then, lines_from, lines_of_items}
-use Rattle.afdx_arrivals.specs.RecordingRun.{sequence_of_bytes}
-use Rattle.afdx_arrivals.specs.RecordingSource.{IsFault, AreOfRead}
+use Rattle.afdx_arrivals.specs.RecordingRun.{sequence_of_bytes, items_of_bytes}
 use Rattle.afdx_arrivals.specs.Sequences.{Sorted, sorted_with, ending_after, has_no_arrival}
 use Rattle.afdx_arrivals.specs.Stopping.{IsFaultBehind, AreAllOfRead, AreFirstItems}
 use Rattle.afdx_arrivals.proofs.SequenceLemmas.{sorts-more, sorts-fault, sorts-read, ends-fault, ends-gives}
@@ -107,15 +106,13 @@ module _ (options : Options) (ports : Ports) where
     -- a read failed
     pub lists-read : SaysNothing old new before → AreAllOfRead (sequence_of_bytes options ports)
         (lines_of_bytes options ports) first new past
-    lists-read n = record {
-      read = s.sorts.read ++ n.given;
-      gives = (known n).gives;
-      items = s.lines n.given ∙ ap (λ r. lines_from options ports sorted past r) n.says
-          ∙ lines-none sorted past n.ending n.lost;
-    }
-      where
-        known : (n : SaysNothing old new before) → AreOfRead options ports first new sorted.items
-        known n = sorts-read options ports first old new sorted before s.sorts n
+    lists-read n =
+        let known = sorts-read options ports first old new sorted before s.sorts n in record {
+          read = s.sorts.read ++ n.given;
+          gives = known.gives;
+          items = s.lines n.given ∙ ap (λ r. lines_from options ports sorted past r) n.says
+              ∙ lines-none sorted past n.ending n.lost;
+        }
 
   -- ---- what was listed are the first of all lines
 

@@ -139,7 +139,7 @@ end-well n has past e is =
 -- ---- one number more
 
 -- the same of a source whose fields are equal
-same : (P : RecordingOptions → SystemPorts → FrameReader → ℕ → Type 0) (o o' : RecordingOptions)
+pub same : (P : RecordingOptions → SystemPorts → FrameReader → ℕ → Type 0) (o o' : RecordingOptions)
     (p p' : SystemPorts) (r r' : FrameReader) (n n' : ℕ) → o' ≡ o → p' ≡ p → r' ≡ r → n' ≡ n → P o p r n → P o' p' r' n'
 same P o o' p p' r r' n n' a b c d h = rw (a, b, c, d) h
 
@@ -279,9 +279,12 @@ module _ {R : Type 0} (remaining : R → Option (List ℕ)) (start old input : W
       (λ none. record {
         failed = sound;
         honest = honest;
-        gives = (h.sorts.read ++ t.1.given, Gives-then (first_standing remaining start)
-            (standing remaining source.reader.held old) (standing remaining reader.held input) h.sorts.read t.1.given
-            h.sorts.gives t.1.gives);
+        gives = (
+          h.sorts.read ++ t.1.given,
+          Gives-then (first_standing remaining start)
+              (standing remaining source.reader.held old) (standing remaining reader.held input) h.sorts.read t.1.given
+              h.sorts.gives t.1.gives,
+        );
         stops = ends-fault (options_of source.options) (ports_of source.ports) (first_standing remaining start)
             (standing remaining source.reader.held old) (standing remaining reader.held input)
             (sorted_at source.numbers source past) (state_of source.reader) h.sorts Over (lost_by (state_of reader))

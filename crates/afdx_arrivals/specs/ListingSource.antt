@@ -6,7 +6,7 @@ use Rattle.afdx_lists.specs.Watching.{device_of}
 use Rattle.afdx_lists.specs.declared.fault.RunFault.{RunFault}
 use Rattle.afdx_lists.specs.declared.frame_line.Heading.{Heading}
 use Rattle.afdx_lists.specs.declared.watched.Watched.{Watched}
-use Rattle.afdx_recordings.specs.Holding.{Standing, standing, Gives, IsTrueToEnd}
+use Rattle.afdx_recordings.specs.Holding.{Standing, standing, Gives, GivesSome, IsTrueToEnd}
 use Rattle.afdx_recordings.specs.Reading.{state_of, latest, recorded, recorded_from}
 use Rattle.afdx_recordings.specs.Recordings.{State, Over, lost_by}
 use Rattle.afdx_run.specs.Engine.{Item, item_of}
@@ -69,6 +69,8 @@ module _ {R : Type 0} (remaining : R → Option (List ℕ)) where
       (past : List (Item NumberLine)) (fault : RunFault) : Type 0 where
     pub failed : input.failed ≡ is_read fault
     pub honest : IsTrueToEnd (standing remaining source.reader.held input)
+    pub gives : GivesSome (first_standing remaining start)
+        (standing remaining source.reader.held input)
     pub stops : StopsBehind
         (sequence_of_bytes (options_of source.options) (ports_of source.ports))
         (lines_of_bytes (options_of source.options) (ports_of source.ports))

@@ -13,6 +13,8 @@ use Rattle.afdx_arrivals.specs.declared.recording_run.Tally.{Tally}
 use Rattle.afdx_arrivals.specs.Becoming.{Options}
 use Rattle.afdx_arrivals.specs.Claims.{Ports}
 use Rattle.afdx_arrivals.specs.Sequences.{Outcome, sequence}
+pub use Rattle.afdx_arrivals.specs.Stopping.{tally_of}
+use Rattle.afdx_arrivals.specs.Stopping.{ItemsAnswer}
 
 -- the sequence of the recording of these bytes
 abbrev pub sequence_of_bytes : Options → Ports → List ℕ → Outcome
@@ -32,43 +34,16 @@ abbrev pub IsAskedOnce : (left rest : Option (List ℕ)) → (old new : ℕ) →
 IsAskedOnce (Some left) (Some rest) old new = new + length rest ≤ old + length left + 1
 IsAskedOnce _ _ old new = ⊤
 
--- the counts of a run that took all of a recording
-abbrev pub tally_of : Outcome → Tally
-tally_of outcome = record {
-  numbers = outcome.sorted.numbers;
-  counts = outcome.sorted.counts;
-  lost = outcome.lost;
-}
+-- the arrivals that a run takes of the recording of these bytes, the newest first, as its items
+abbrev pub items_of_bytes : Options → Ports → List ℕ → List (Item Heading)
+items_of_bytes options ports bytes = (sequence_of_bytes options ports bytes).sorted.items
 
-module _ (options : Options) (ports : Ports) (done told begins : List (Item Heading) → Type 0) where
-  -- all arrivals were told, and there is no fault
-  pub record IsDone (tally : Tally) (outcome : Outcome) : Type 0 where
-    pub over : outcome.ending ≡ Over
-    pub are_told : done outcome.sorted.items
-    pub tally_is : tally ≡ tally_of outcome
-
-  -- of some first arrivals a beginning was told, or all
-  pub record BeginIsTold (outcome : Outcome) : Type 0 where
-    pub past : List (Item Heading)
-    pub later : List (Item Heading)
-    pub items : outcome.sorted.items ≡ later ++ past
-    pub begun : told past ⊎ begins past
-
-  -- what a run answers that is given a recording of these bytes, after which the input has `rest`.
-  -- After a failed read, all arrivals of what was read are told
-  abbrev pub RecordingAnswers : List ℕ → Option (List ℕ) → Result Tally RunFault → Type 0
-  RecordingAnswers bytes rest (Ok tally) = IsDone tally (sequence options ports (recorded bytes))
-  RecordingAnswers bytes rest (Err (run.Recording fault)) =
-      ((sequence options ports (recorded bytes)).ending ≡ Faulted fault)
-      × told (sequence options ports (recorded bytes)).sorted.items
-  RecordingAnswers bytes rest (Err run.Read) =
-      (read : List ℕ) × Consumes (Some bytes) rest read
-      × told (sequence options ports (recorded read)).sorted.items
-  RecordingAnswers bytes rest (Err run.Write) =
-      BeginIsTold (sequence options ports (recorded bytes))
-  RecordingAnswers bytes rest (Err run.Memory) =
-      BeginIsTold (sequence options ports (recorded bytes))
-  RecordingAnswers bytes rest (Err _) = ⊥
+-- what a run answers that is given a recording of these bytes, after which the input has `rest`
+abbrev pub RecordingAnswers : Options → Ports → (done told begins : List (Item Heading) → Type 0) →
+    List ℕ → Option (List ℕ) → Result Tally RunFault → Type 0
+RecordingAnswers options ports done told begins bytes rest result =
+    ItemsAnswer (sequence_of_bytes options ports) (items_of_bytes options ports)
+    done told begins bytes rest result
 
 -- ---- the same of the arrivals, whatever is told of them
 

@@ -10,8 +10,15 @@ use Rattle.afdx_recordings.specs.Reading.{CanFollow}
 use Rattle.afdx_recordings.specs.Recordings.{Over, Faulted}
 use Rattle.afdx_run.specs.Engine.{Item}
 use Rattle.afdx_arrivals.specs.declared.recording_run.Tally.{Tally}
-use Rattle.afdx_arrivals.specs.RecordingRun.{tally_of}
 use Rattle.afdx_arrivals.specs.Sequences.{Outcome}
+
+-- the counts of a run that took all of a recording
+abbrev pub tally_of : Outcome → Tally
+tally_of outcome = record {
+  numbers = outcome.sorted.numbers;
+  counts = outcome.sorted.counts;
+  lost = outcome.lost;
+}
 
 module _ {H : Type 0} (outcome_of : List ℕ → Outcome) (items_of : List ℕ → List (Item H)) where
   -- whatever can follow, these are all items, and this fault stands behind them

@@ -3,6 +3,7 @@ pub mod CheckText
 pub mod Refusals
 pub mod EndToEnd
 pub mod Inputs
+pub mod Listing
 pub mod Merged
 pub mod OneSide
 pub mod policing

@@ -6,6 +6,7 @@
 mod check_command;
 mod ending;
 pub mod laws;
+mod listing;
 mod policing;
 mod refusing;
 mod replaying;
@@ -19,6 +20,7 @@ pub use afdx_lists::{Peeked, RecordingFault, RunFault, Watched};
 pub use afdx_text::{Output, Sink};
 pub use check_command::{CheckOptions, check, check_lines};
 pub use ending::{Ended, InputEnded, finish};
+pub use listing::{ListEnded, list_and_count};
 pub use policing::command::{CommandedRule, police, police_and_count};
 pub use policing::input_command::police_input;
 pub use policing::run::run_police;
