@@ -59,7 +59,10 @@ module _ (options : Options) (done told begins : List (Item Heading) → Type 0)
         are_told = subst (λ (o : Outcome). done o.sorted.items) (same bytes) h.are_told;
         tally_is = h.tally_is ∙ ap tally_of (same bytes);
       }
-      by (Err (run.Recording fault)) h = rw (sym (same bytes)) h
+      by (Err (run.Recording fault)) h = (
+        ap (λ (o : Outcome). o.ending) (sym (same bytes)) ∙ h.0,
+        subst (λ (o : Outcome). told o.sorted.items) (same bytes) h.1,
+      )
       by (Err run.Read) h = (h.0, h.1, subst (λ (o : Outcome). told o.sorted.items) (same h.0) h.2)
       by (Err run.Write) h = some h
       by (Err run.Memory) h = some h

@@ -55,6 +55,7 @@ module _ (options : Options) (ports : Ports) where
         → SaysFirst old new before after item → sorted_with options ports sorted item ≡ Ok more
         → line_with options ports sorted item ≡ Some line
         → Lists options ports first new more after (item_of (sorted.numbers + 1) line item.bytes ∷ past)
+    unfolding sorts-more
     lists-more after item more line f e l = record {
       sorts = sorts-more options ports first old new sorted before s.sorts after item more f e;
       lines = λ bytes. behind f.given bytes
@@ -66,6 +67,7 @@ module _ (options : Options) (ports : Ports) where
     pub lists-fault : (after : State) (item : Numbered) (fault : RecordingFault) → SaysFirst old new before after item
         → sorted_with options ports sorted item ≡ Err fault
         → IsFaultBehind (sequence_of_bytes options ports) (lines_of_bytes options ports) first new past fault
+    unfolding sorts-fault
     lists-fault after item fault f e =
         let is = sorts-fault options ports first old new sorted before s.sorts after item fault f e in record {
           read = s.sorts.read ++ f.given;
@@ -88,6 +90,7 @@ module _ (options : Options) (ports : Ports) where
     pub lists-ending : (ending : Ending) (lost : ℕ) (fault : RecordingFault)
         (e : SaysEnding old new before ending lost) → ending_after sorted ending ≡ Faulted fault
         → IsFaultBehind (sequence_of_bytes options ports) (lines_of_bytes options ports) first new past fault
+    unfolding ends-fault
     lists-ending ending lost fault e is =
         let known = ends-fault options ports first old new sorted before s.sorts ending lost fault e is in record {
           read = s.sorts.read ++ e.given;
@@ -106,6 +109,7 @@ module _ (options : Options) (ports : Ports) where
     -- a read failed
     pub lists-read : SaysNothing old new before → AreAllOfRead (sequence_of_bytes options ports)
         (lines_of_bytes options ports) first new past
+    unfolding sorts-read
     lists-read n =
         let known = sorts-read options ports first old new sorted before s.sorts n in record {
           read = s.sorts.read ++ n.given;

@@ -101,16 +101,20 @@ module _ {R : Type 0} (remaining : R → Option (List ℕ)) (start old input : W
       (sorted_at source.numbers source h.arrivals) (state_of source.reader) past h.lists (state_of reader)
       (latest reader) (sorted_at (source.numbers + 1) new items) new.line k.says e line)
 
+  -- the answer is the same
+  abbrev Answers : Bool → Bool → Type 0
+  Answers a b = ◌≡◌ {A = Result Bool RunFault} (Ok a) (Ok b)
+
   -- it is an arrival, or skipped
   pub listed-number : (is_arrival : Bool)
-      → (Ok {E = RunFault} is_arrival ≡ Ok true → FollowsOn Now new)
-      → (Ok {E = RunFault} is_arrival ≡ Ok true → CountsOne Now new)
-      → (Ok {E = RunFault} is_arrival ≡ Ok true → new.has_arrival ≡ true)
-      → (Ok {E = RunFault} is_arrival ≡ Ok true → source.latest ≤ new.latest)
-      → (Ok {E = RunFault} is_arrival ≡ Ok true → next_sorted Now source.numbers h.arrivals
+      → (Answers is_arrival true → FollowsOn Now new)
+      → (Answers is_arrival true → CountsOne Now new)
+      → (Answers is_arrival true → new.has_arrival ≡ true)
+      → (Answers is_arrival true → source.latest ≤ new.latest)
+      → (Answers is_arrival true → next_sorted Now source.numbers h.arrivals
       ≡ Ok (sorted_at (source.numbers + 1) new (given_item new ∷ h.arrivals)))
-      → (Ok {E = RunFault} is_arrival ≡ Ok false → SkipsOne Now new)
-      → (Ok {E = RunFault} is_arrival ≡ Ok false → next_sorted Now source.numbers h.arrivals
+      → (Answers is_arrival false → SkipsOne Now new)
+      → (Answers is_arrival false → next_sorted Now source.numbers h.arrivals
       ≡ Ok (sorted_at (source.numbers + 1) new h.arrivals))
       → next_line Now source.numbers h.arrivals ≡ Some new.line
       → HasListed remaining start new input (given_line new ∷ past)

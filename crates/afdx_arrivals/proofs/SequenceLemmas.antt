@@ -66,7 +66,7 @@ module _ (options : Options) (ports : Ports) where
         (sym (append_assoc old.held given more))
 
     -- the next number was sorted
-    pub sorts-more : (after : State) (item : Numbered) (more : Sorted) → SaysFirst old new before after item
+    unfoldable pub sorts-more : (after : State) (item : Numbered) (more : Sorted) → SaysFirst old new before after item
         → sorted_with options ports sorted item ≡ Ok more → Sorts options ports first new more after
     sorts-more after item more f e = record {
       read = s.read ++ f.given;
@@ -77,7 +77,7 @@ module _ (options : Options) (ports : Ports) where
     }
 
     -- it is a fault
-    pub sorts-fault : (after : State) (item : Numbered) (fault : RecordingFault) → SaysFirst old new before after item
+    unfoldable pub sorts-fault : (after : State) (item : Numbered) (fault : RecordingFault) → SaysFirst old new before after item
         → sorted_with options ports sorted item ≡ Err fault → IsFaultBehind Outcome-of Items-of first new sorted.items fault
     sorts-fault after item fault f e =
         let is = λ (more : List ℕ). behind f.given more
@@ -99,7 +99,7 @@ module _ (options : Options) (ports : Ports) where
         ∙ sequence-none sorted ending lost
 
     -- with a fault, its own or that no number is an arrival
-    pub ends-fault : (ending : Ending) (lost : ℕ) (fault : RecordingFault) → SaysEnding old new before ending lost
+    unfoldable pub ends-fault : (ending : Ending) (lost : ℕ) (fault : RecordingFault) → SaysEnding old new before ending lost
         → ending_after sorted ending ≡ Faulted fault → IsFaultBehind Outcome-of Items-of first new sorted.items fault
     ends-fault ending lost fault e is = record {
       read = s.read ++ e.given;
@@ -121,7 +121,7 @@ module _ (options : Options) (ports : Ports) where
     ends-gives ending lost e = Gives-then first old new s.read e.given s.gives e.gives
 
     -- a read failed
-    pub sorts-read : SaysNothing old new before → AreAllOfRead Outcome-of Items-of first new sorted.items
+    unfoldable pub sorts-read : SaysNothing old new before → AreAllOfRead Outcome-of Items-of first new sorted.items
     sorts-read n = record {
       read = s.read ++ n.given;
       gives = Gives-then first old new s.read n.given s.gives n.gives;

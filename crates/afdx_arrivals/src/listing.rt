@@ -41,7 +41,11 @@ fn kind_listed(kind: FrameKind, bytes: &[u8]) -> FrameKind
 fn first_bytes(bytes: &[u8]) -> &[u8]
     ensures { result.now ≡ text.take_listed bytes.entry.now }
 {
-    &bytes[..bytes.len().min(MOST_LISTED)]
+    if bytes.len() > MOST_LISTED {
+        &bytes[..MOST_LISTED]
+    } else {
+        bytes
+    }
 }
 
 /// Puts the line of a number.
@@ -108,7 +112,8 @@ impl Machine<NumberLine> for Lister {
         bytes: &[u8],
         output: &mut O,
     ) -> Result<(), RunFault> {
-        put_number(output, &mut self.scratch, head, bytes)
+        put_number(output, &mut self.scratch, head, bytes)?;
+        Ok(())
     }
 
     fn end<O: Sink>(&mut self, output: &mut O) -> Result<(), RunFault> {

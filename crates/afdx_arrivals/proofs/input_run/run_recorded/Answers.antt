@@ -2,16 +2,21 @@ use Rattle.std.proofs.Common.{rules, Ok, Err, IfSome}
 use Rattle.afdx_arrivals.specs.Becoming.{options_of}
 use Rattle.afdx_arrivals.specs.Claims.{ports_of, ports_unsaid}
 use Rattle.afdx_arrivals.proofs.InputLemmas.{if-agree}
-use Rattle.afdx_arrivals.proofs.RecordingRunLemmas.{start-answers}
+use Rattle.afdx_arrivals.specs.RecordingRun.{sequence_of_bytes, items_of_bytes}
+use Rattle.afdx_arrivals.specs.RecordingSource.{first_standing}
+use Rattle.afdx_arrivals.proofs.RecordingRunLemmas.{answers-start}
 use Rattle.afdx_arrivals.proofs.input_run.run_recorded.Goals as goal
 
 -- there was no memory
 pub returns-in_err-ports-clause-answer : goal.returns-in_err-ports-clause-answer
 returns-in_err-ports-clause-answer g c law start =
     let old = g.O.Sink.written c.args.output.now in
-    let stop = start-answers (options_of c.args.options) (ports_unsaid c.args.unsaid)
+    let options = options_of c.args.options in
+    let ports = ports_unsaid c.args.unsaid in
+    let first = first_standing g.R.Read.remaining c.args.input.now in
+    let stop = answers-start (sequence_of_bytes options ports) (items_of_bytes options ports)
     (g.M.Machine.Done law c.args.machine.now old old) (g.M.Machine.Told law c.args.machine.now old old)
-    (g.M.Machine.Begins law c.args.machine.now old old) (g.R.Read.remaining c.args.input.now.inner) start in
+    (g.M.Machine.Begins law c.args.machine.now old old) first first start in
     search rules
 
 pub returns-clause-answer : goal.returns-clause-answer
