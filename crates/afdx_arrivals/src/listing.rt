@@ -41,11 +41,7 @@ fn kind_listed(kind: FrameKind, bytes: &[u8]) -> FrameKind
 fn first_bytes(bytes: &[u8]) -> &[u8]
     ensures { result.now ≡ text.take_listed bytes.entry.now }
 {
-    if bytes.len() > MOST_LISTED {
-        &bytes[..MOST_LISTED]
-    } else {
-        bytes
-    }
+    &bytes[..MOST_LISTED.min(bytes.len())]
 }
 
 /// Puts the line of a number.
