@@ -38,16 +38,8 @@ impl fmt::Display for Tally {
     fn fmt<W: fmt::Write>(&self, f: &mut fmt::Formatter<W>) -> fmt::Result {
         write!(
             f,
-            "skipped no-frame {} left-out {} not-afdx {} unknown-sender {} no-network {} \
-before-origin {} recorder-lost {} claimed {}",
-            self.counts.no_frame,
-            self.counts.left_out,
-            self.counts.not_afdx,
-            self.counts.unknown_sender,
-            self.counts.no_network,
-            self.counts.before_origin,
-            self.lost,
-            self.counts.claimed
+            "skipped {} recorder-lost {} claimed {}",
+            self.counts, self.lost, self.counts.claimed
         )
     }
 }
