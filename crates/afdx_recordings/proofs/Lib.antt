@@ -1,5 +1,7 @@
 pub mod OrderLemmas
 pub mod HeldLemmas
+pub mod StampLemmas
+pub mod OptionLemmas
 pub mod BlockLemmas
 pub mod ReadingLemmas
 pub mod PacketLemmas

@@ -15,18 +15,10 @@ use Rattle.afdx_recordings.specs.Recordings.{State, Ends, Takes, Ending, Over, F
 use Rattle.afdx_recordings.specs.Recordings.{lost_by, after_number}
 use Rattle.afdx_recordings.specs.Pcap.{captured_by, packet_meaning, pcap_frame}
 use Rattle.afdx_recordings.specs.Reading.{step_by, SaysFirst, SaysEnding, SaysNothing}
-use Rattle.afdx_recordings.proofs.OrderLemmas.{number_at-append}
+use Rattle.afdx_recordings.proofs.OrderLemmas.{number_at-append, number_at-take}
 use Rattle.afdx_recordings.proofs.HeldLemmas.{Gives-same}
 use Rattle.afdx_recordings.proofs.BlockLemmas.{next_block-whole, next_block-wrong, next_block-short, next_block-cut, next_block-over}
 use Rattle.afdx_recordings.proofs.ReadingLemmas.{SaysFirst-block, SaysEnding-block, SaysNothing-block}
-
--- a number stands among the first bytes
-pub number_at-take : (order : Order) (n place m : ℕ) (xs : List ℕ) → place + n ≤ m → m ≤ length xs
-    → number_in order n (drop place (take m xs)) ≡ number_in order n (drop place xs)
-number_at-take order n place m xs h within =
-    let size = length-take-le m xs within in
-    sym (number_at-append order n place (take m xs) (drop m xs) (omega (arith, size)))
-    ∙ ap (λ (bytes : List ℕ). number_in order n (drop place bytes)) (take-append-drop m xs)
 
 captured_by-take : (state : State) (xs : List ℕ) → 16 ≤ length xs
     → captured_by state (take 16 xs) ≡ captured_by state xs

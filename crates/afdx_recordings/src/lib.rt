@@ -8,6 +8,7 @@ mod frame_reader;
 mod held;
 mod interface;
 mod known;
+mod options;
 mod order;
 mod packet;
 mod recorded;
