@@ -83,7 +83,7 @@ coded_at code n bytes = record { code = code; value = take n (drop 4 bytes) }
 
 options_in-next : (order : Order) (bytes : List ℕ) (code n : ℕ) → next_option order bytes ≡ Next code n
     → options_in order bytes ≡ option_map (λ (rest : List Coded). coded_at code n bytes ∷ rest)
-      (options_in order (drop (4 + filled n) bytes))
+    (options_in order (drop (4 + filled n) bytes))
 options_in-next order bytes code n e = options_in-step order bytes ∙ ap (by_option (options_in order) bytes) e
 
 map_some : (f : List Coded → List Coded) (o : Option (List Coded)) → is_some (option_map f o) ≡ is_some o

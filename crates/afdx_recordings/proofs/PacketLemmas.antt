@@ -1,7 +1,7 @@
 -- Frames of a pcap, by what is held.
 use Rattle.std.proofs.Common.{◌≡◌, ℕ, ◌+◌, ◌<◌, ◌≤◌, Bool, true, false, ltb, List, [], ◌++◌, length, take, drop}
 use Rattle.std.proofs.Common.{refl, ap, sym, ◌∙◌, arith, Some, None}
-use Rattle.std.proofs.lemmas.List.{append-nil, take-append-le, take-append-drop, drop-take, length-take-le}
+use Rattle.std.proofs.lemmas.List.{append-nil, take-append-le, drop-take}
 use Rattle.std.proofs.lemmas.Grind.{common_steps}
 use Rattle.afdx_lists.specs.declared.recording_fault.RecordingFault.TheVariants.{Damaged, Ended}
 use Rattle.afdx_recordings.specs.declared.form.PcapForm.{PcapForm}
@@ -9,7 +9,6 @@ use Rattle.afdx_recordings.specs.declared.form.Form.TheVariants as form
 use Rattle.afdx_recordings.specs.declared.order.Order.{Order}
 use Rattle.afdx_recordings.specs.declared.recorded.Recorded.{Recorded}
 use Rattle.afdx_recordings.specs.declared.recorded.Recorded.TheVariants.{Frame}
-use Rattle.afdx_recordings.specs.Orders.{number_in}
 use Rattle.afdx_recordings.specs.Holding.{Standing, Passes}
 use Rattle.afdx_recordings.specs.Recordings.{State, Ends, Takes, Ending, Over, Faulted, Numbered, by_meaning}
 use Rattle.afdx_recordings.specs.Recordings.{lost_by, after_number}

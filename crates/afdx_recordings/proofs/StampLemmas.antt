@@ -1,6 +1,6 @@
 -- Whole ns of units of a power of ten or two.
-use Rattle.std.proofs.Common.{◌≡◌, ℕ, ◌+◌, ◌-◌, ◌*◌, ◌/◌, ◌%◌, ◌^◌, ◌<◌, ◌≤◌, refl, ap, sym, ◌∙◌, arith, add-mul, Option, SomeIff}
-use Rattle.std.proofs.Math.Nat.{mul-div_cancel, div-div-eq-div-mul, mul-add-div_right, mul_assoc, mul_comm, div-eq_of_lt, div-le_self, one-le-pow}
+use Rattle.std.proofs.Common.{◌≡◌, ℕ, ◌+◌, ◌-◌, ◌*◌, ◌/◌, ◌%◌, ◌^◌, ◌<◌, ◌≤◌, ap, sym, ◌∙◌, arith, add-mul, Option, SomeIff}
+use Rattle.std.proofs.Math.Nat.{mul-div_cancel, div-div-eq-div-mul, mul-add-div_right, mul_assoc, div-eq_of_lt, div-le_self, one-le-pow}
 use Rattle.std.proofs.Math.Nat.{pow-le-pow_right, lt_of_lt_of_le}
 use Rattle.std.proofs.lemmas.Nat.{pow-add, div-add-mod', div_below, pow_pos, shr-shr, one_shl}
 

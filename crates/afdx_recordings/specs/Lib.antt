@@ -4,4 +4,8 @@ pub mod Recordings
 pub mod Stamps
 pub mod Options
 pub mod Pcap
+pub mod Interfaces
+pub mod Packets
+pub mod Blocks
+pub mod Pcapng
 pub mod Reading

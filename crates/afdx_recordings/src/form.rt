@@ -57,7 +57,7 @@ pub fn is_known_version(order: Order, header: &[u8]) -> bool
 
 /// Whether frames end with their check sequence that have so many bytes of it.
 #[tactic(auto, unfolding(crate::specs::Pcap::check_sequence_of))]
-pub fn check_by(bytes: u32) -> CheckSequence
+pub fn check_by(bytes: u64) -> CheckSequence
     ensures { result ≡ check_sequence_of bytes }
 {
     match bytes {
@@ -73,7 +73,7 @@ fn check_by_word(word: u32) -> CheckSequence
     ensures { result ≡ pcap_check word }
 {
     if word / 0x400_0000 % 2 == 1 {
-        check_by(2 * (word / 0x1000_0000))
+        check_by(u64::from(2 * (word / 0x1000_0000)))
     } else {
         CheckSequence::Unsaid
     }

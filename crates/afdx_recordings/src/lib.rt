@@ -3,6 +3,8 @@
 //! Its tests are in `afdx_part_tests`.
 #![tactic(auto)]
 
+mod block;
+mod block_packet;
 mod form;
 mod frame_reader;
 mod held;

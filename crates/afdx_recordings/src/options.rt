@@ -24,6 +24,7 @@ pub enum NextOption {
 pub fn filled_up(n: usize) -> usize
     requires { n < 2 ^ 32 }
     ensures value { result ≡ filled n }
+    ensures least { n ≤ result }
     ensures few { result < 2 ^ 33 }
 {
     (n + 3) / 4 * 4

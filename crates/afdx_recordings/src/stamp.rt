@@ -127,9 +127,5 @@ fn fine_ns(n: u32, ticks: u64) -> u64
 {
     let high = (ticks / WORD) * SECOND;
     let ns = high + (ticks % WORD) * SECOND / WORD;
-    if n < 64 {
-        ns >> n
-    } else {
-        0
-    }
+    if n < 64 { ns >> n } else { 0 }
 }

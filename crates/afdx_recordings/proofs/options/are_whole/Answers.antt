@@ -1,6 +1,6 @@
-use Rattle.std.proofs.Common.{arith, ◌≡◌, ◌≤◌, ◌+◌, drop, length, sym, ap, ◌∙◌, is_some, subst, List, ℕ}
+use Rattle.std.proofs.Common.{arith, ◌≡◌, drop, sym, ap, ◌∙◌, is_some}
 use Rattle.afdx_recordings.specs.declared.options.NextOption.TheVariants.{Last, Broken, Next}
-use Rattle.afdx_recordings.specs.Options.{filled, next_option, options_in}
+use Rattle.afdx_recordings.specs.Options.{filled, next_option}
 use Rattle.afdx_recordings.proofs.OrderLemmas.{rest_from}
 use Rattle.afdx_recordings.proofs.OptionLemmas.{options_in-last, options_in-broken, whole-next, behind_next, ends_at}
 use Rattle.afdx_recordings.proofs.options.are_whole.Goals as goal

@@ -1,8 +1,8 @@
-use Rattle.std.proofs.Common.{arith, ◌≡◌, ◌≤◌, ◌+◌, drop, length, sym, ap, ◌∙◌, is_some, subst, List, ℕ, Some, eqb, false}
+use Rattle.std.proofs.Common.{arith, ◌≡◌, drop, sym, ap, ◌∙◌, is_some, ℕ, Some, eqb, false}
 use Rattle.std.proofs.lemmas.List.{drop-drop}
 use Rattle.afdx_recordings.specs.declared.options.NextOption.TheVariants.{Last, Broken, Next}
 use Rattle.afdx_recordings.specs.Orders.{number_in}
-use Rattle.afdx_recordings.specs.Options.{filled, next_option, options_in}
+use Rattle.afdx_recordings.specs.Options.{filled, next_option}
 use Rattle.afdx_recordings.proofs.OrderLemmas.{rest_from}
 use Rattle.afdx_recordings.proofs.OptionLemmas.{options_in-broken, said-last, said-broken, said-other, said-wrong, said-number}
 use Rattle.afdx_recordings.proofs.OptionLemmas.{whole-next, behind_next, ends_at, filled-least}

@@ -1,4 +1,4 @@
-use Rattle.std.proofs.Common.{arith, sym, ◌*◌, ◌/◌, ◌-◌, ◌∙◌, subst, ◌<◌, ◌^◌, ℕ}
+use Rattle.std.proofs.Common.{arith, ◌*◌, ◌/◌, ◌-◌, ◌∙◌, subst, ◌<◌, ◌^◌, ℕ}
 use Rattle.afdx_recordings.proofs.StampLemmas.{words_fit, fine_twos, fine_fit}
 use Rattle.afdx_recordings.proofs.stamp.binary_ns.Goals as goal
 

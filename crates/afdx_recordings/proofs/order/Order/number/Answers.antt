@@ -1,4 +1,4 @@
-use Rattle.std.proofs.Common.{rules, ap, ◌∙◌, ◌≡◌, ◌+◌, ◌<◌, ◌^◌, ℕ, List, drop, get_or, subst, sym}
+use Rattle.std.proofs.Common.{rules, ap, ◌∙◌, ◌+◌, ◌<◌, ℕ, List, drop, get_or}
 use Rattle.byteorder.specs.Endian.{big_number, little_number}
 use Rattle.std.proofs.lemmas.List.{get_or-drop}
 use Rattle.afdx_recordings.specs.declared.order.Order.TheVariants.{LowFirst, HighFirst}
