@@ -1,6 +1,6 @@
 //! Heads of the blocks of a pcapng.
 
-ghost use Rattle.std.specs.Prelude.{◌≡◌, ◌≤◌, length, IfSome};
+ghost use Rattle.std.specs.Prelude.{◌≡◌, ◌≤◌, length, true, IfSome};
 ghost use Rattle.afdx_recordings.specs.Blocks.{kind_of, least_of, is_held, is_size, order_by, is_ordered, head_by};
 
 use crate::order::Order;
@@ -92,7 +92,8 @@ impl Kind {
     /// Whether a block of this kind may have so many bytes.
     #[tactic(auto, unfolding(crate::specs::Blocks::is_size))]
     fn may_have(self, size: u32) -> bool
-        ensures { result ≡ is_size self size }
+        ensures answer { result ≡ is_size self size }
+        ensures least { result ≡ true → least_of self ≤ size }
     {
         self.least() <= size && size % 4 == 0 && (!self.is_held() || size <= LONGEST_BLOCK)
     }
@@ -130,7 +131,8 @@ impl Kind {
 #[tactic(auto, unfolding(crate::specs::Blocks::head_by))]
 pub fn head_of(before: Order, head: &[u8]) -> Option<Head>
     requires { 12 ≤ length head.now }
-    ensures { result ≡ head_by before head.now }
+    ensures told { result ≡ head_by before head.now }
+    ensures least { IfSome result (λ head. least_of head.kind ≤ head.size) }
 {
     let kind = kind_named(before.word(head, 0));
     let order = kind.order(before, head);

@@ -23,6 +23,8 @@ pub struct PcapForm {
 pub enum Form {
     /// A pcap.
     Pcap(PcapForm),
+    /// A pcapng.
+    Pcapng,
 }
 
 /// What the first four bytes name.
@@ -30,6 +32,8 @@ pub enum Form {
 pub enum Magic {
     /// A pcap: its order of bytes, and whether fractions are in ns.
     Pcap(Order, bool),
+    /// A pcapng.
+    Pcapng,
 }
 
 /// What this number names: the first four bytes, the highest first.
@@ -42,6 +46,7 @@ pub fn magic_named(number: u32) -> Option<Magic>
         0xd4c3_b2a1 => Some(Magic::Pcap(Order::LowFirst, false)),
         0xa1b2_3c4d => Some(Magic::Pcap(Order::HighFirst, true)),
         0x4d3c_b2a1 => Some(Magic::Pcap(Order::LowFirst, true)),
+        0x0a0d_0d0a => Some(Magic::Pcapng),
         _ => None,
     }
 }
