@@ -1,7 +1,12 @@
-pub mod Beginning
-pub mod Holding
 pub mod Orders
-pub mod Pcap
-pub mod Reading
+pub mod Holding
 pub mod Recordings
 pub mod Stamps
+pub mod Options
+pub mod Pcap
+pub mod Interfaces
+pub mod Packets
+pub mod Blocks
+pub mod Pcapng
+pub mod Reading
+pub mod Beginning

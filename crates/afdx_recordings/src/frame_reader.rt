@@ -1,5 +1,7 @@
 //! The frames of a recording, one at a time.
 
+mod blocks;
+
 ghost use Rattle.std.specs.Prelude.{◌≡◌, ◌≤◌, ◌<◌, ◌+◌, ◌-◌, [], List, ℕ, Ok, Err, Some, None, length, take, drop};
 ghost use Rattle.std.specs.Prelude.{vec_len, true, false, IfOk, IfErr, OnOk, MatchResult};
 ghost use Rattle.afdx_lists.specs.Calls.{is_failed_read};
@@ -124,6 +126,7 @@ impl FrameReader {
     {
         match form {
             Form::Pcap(pcap) => self.next_packet(pcap, input),
+            Form::Pcapng => self.next_in_blocks(input),
         }
     }
 
@@ -151,6 +154,11 @@ impl FrameReader {
         let number = Order::HighFirst.word(self.held.bytes(), 0);
         match magic_named(number) {
             Some(Magic::Pcap(order, nanoseconds)) => self.open_pcap(order, nanoseconds, input),
+            Some(Magic::Pcapng) => {
+                self.known.order = Order::LowFirst;
+                self.known.form = Some(Form::Pcapng);
+                Ok(Form::Pcapng)
+            }
             None => Err(RunFault::Recording(RecordingFault::NotRecording(0))),
         }
     }

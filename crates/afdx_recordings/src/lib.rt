@@ -4,11 +4,14 @@
 #![tactic(auto)]
 
 mod beginning;
+mod block;
+mod block_packet;
 mod form;
 mod frame_reader;
 mod held;
 mod interface;
 mod known;
+mod options;
 mod order;
 mod packet;
 mod recorded;
