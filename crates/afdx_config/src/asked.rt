@@ -42,8 +42,10 @@ fn links_in(alloc: Global, tree: &Table) -> Result<Vec<&Table>, ConfigFault>
 {
     match tables(alloc, tree, top_at(4)) {
         Ok(links) => Ok(links),
-        Err(ConfigFault::Memory) => Err(ConfigFault::Memory),
-        Err(_) => Ok(Vec::new(alloc)),
+        Err(fault) => match fault {
+            ConfigFault::Memory => Err(ConfigFault::Memory),
+            _ => Ok(Vec::new(alloc)),
+        },
     }
 }
 

@@ -135,7 +135,25 @@ fn put_needs_to(
     Ok(())
 }
 
-/// The same, at a port of the switch, if it has a system.
+/// Adds the lines at a port of the switch, if it has a system.
+fn put_needs_by(
+    text: &mut String,
+    tables: &Tables,
+    asked: &[Option<u64>],
+    port: u8,
+    bounds: &PortBounds,
+) -> Result<(), AllocError>
+    requires { IsBounds tables.now port bounds.now }
+    ensures { OnOk result (string_bytes text.new
+        ≡ string_bytes text.old ++ needs_at tables.now asked.now port) }
+{
+    match tables.system_at(port) {
+        Some(system) => put_needs_to(text, tables, asked, port, system, bounds),
+        None => Ok(()),
+    }
+}
+
+/// Adds the lines at a port of the switch.
 fn put_needs_at(
     text: &mut String,
     tables: &Tables,
@@ -145,9 +163,9 @@ fn put_needs_at(
     ensures { OnOk result (string_bytes text.new
         ≡ string_bytes text.old ++ needs_at tables.now asked.now port) }
 {
-    match (tables.system_at(port), bounds_of(tables, port)) {
-        (Some(system), Some(bounds)) => put_needs_to(text, tables, asked, port, system, &bounds),
-        _ => Ok(()),
+    match bounds_of(tables, port) {
+        Some(bounds) => put_needs_by(text, tables, asked, port, &bounds),
+        None => Ok(()),
     }
 }
 
