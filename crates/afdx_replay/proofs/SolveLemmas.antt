@@ -1,18 +1,26 @@
 -- What `solve` tells, line by line.
-use Rattle.std.proofs.Common.{◌≡◌, ℕ, ◌+◌, List, [], ◌++◌, length, false, is_some, refl, sym, ap, ◌∙◌}
-use Rattle.std.proofs.Common.{append_assoc, add-one, Option, Some, None, slice_get}
+use Rattle.std.proofs.Common.{◌≡◌, ℕ, ◌+◌, ◌*◌, ◌<◌, List, [], ◌++◌, length, Bool, false, is_some, refl, sym, ap, ◌∙◌}
+use Rattle.std.proofs.Common.{append_assoc, add-one, Option, Some, None, slice_get, true, ◌⊎◌, inl, inr}
+use Rattle.std.specs.Prelude.{if◌then◌else◌}
 use Rattle.std.specs.Option.{option_map_or}
 use Rattle.std.proofs.lemmas.List.{append-nil}
 use Rattle.afdx_config.specs.Rows.{LinkRow, Rows}
 use Rattle.afdx_config.specs.Reading.{system_at_port}
+use Rattle.afdx_admit.proofs.FirstFalseLemmas.{le-false}
 use Rattle.afdx_admit.proofs.PortLemmas.{not-some}
-use Rattle.afdx_replay.specs.SolveText.{need_at, asked_by, needs_of_first, needs_at, needs_at_first}
+use Rattle.afdx_replay.specs.SolveText.{told_need, need_over, need_at, asked_by}
+use Rattle.afdx_replay.specs.SolveText.{needs_of_first, needs_at, needs_at_first}
 
 -- one piece more
 more : (old pieces piece before after : List ℕ) → before ≡ old ++ pieces → after ≡ before ++ piece
     → after ≡ old ++ (pieces ++ piece)
 more old pieces piece before after e f =
     f ∙ ap (λ (text : List ℕ). text ++ piece) e ∙ append_assoc old pieces piece
+
+-- the bound is more than what was asked for
+pub over : (port vl bound asked : ℕ) → 1000 * asked < bound → told_need port vl bound asked ≡ need_over port vl bound asked
+over port vl bound asked more =
+    ap (λ (b : Bool). if b then [] else told_need port vl bound asked) (sym (le-false bound (1000 * asked) more))
 
 module _ (t : Rows) (asked : List (Option ℕ)) where
   -- ---- the links at one port
@@ -70,3 +78,9 @@ module _ (t : Rows) (asked : List (Option ℕ)) where
       after ≡ before ++ needs_at t asked (count + 1) → after ≡ needs_at_first t asked (count + 1)
   port-next count before after e f =
       f ∙ ap (λ (text : List ℕ). text ++ needs_at t asked (count + 1)) e ∙ sym (with_port count)
+
+-- ---- what is written
+
+pub either : {A B : Type 0} (b : Bool) → (b ≡ true → A) → (b ≡ false → B) → A ⊎ B
+either true a b = inl (a refl)
+either false a b = inr (b refl)

@@ -3,7 +3,6 @@
 use Rattle.std.specs.Prelude.{ℕ, zero, suc, ◌+◌, ◌*◌, ◌≡◌, ◌⊎◌, Bool, true, false, nat_le, List, [], ◌++◌}
 use Rattle.std.specs.Prelude.{codes, length, slice_get, Option, Some, None, option_and_then, if◌then◌else◌}
 use Rattle.std.specs.Option.{option_map_or}
-use Rattle.std.specs.Fmt.{decimal}
 use Rattle.std.specs.Io.KnownBytes.{Appends}
 use Rattle.afdx_frame.specs.Ports.{last_port}
 use Rattle.afdx_config.specs.Admission.{IsAdmitted}
@@ -23,6 +22,7 @@ use Rattle.afdx_lists.specs.Watching.{device_of, has_failed}
 use Rattle.afdx_lists.specs.declared.watched.Watched.{Watched}
 use Rattle.afdx_text.specs.Telling.{Tells, TellsLine}
 use Rattle.afdx_replay.specs.CheckText.{class_bound_at, fault_line}
+use Rattle.afdx_replay.specs.Commands.{counted}
 use Rattle.afdx_replay.specs.Refusals.{config_line, IsToldRefused, WantsMemory}
 
 -- ---- what is told
@@ -30,8 +30,8 @@ use Rattle.afdx_replay.specs.Refusals.{config_line, IsToldRefused, WantsMemory}
 -- the line of a link that needs so many ns at an output port, and asked for so many us
 abbrev pub told_need : (port vl bound asked : ℕ) → List ℕ
 told_need port vl bound asked =
-    codes "vl " ++ decimal vl ++ codes " at " ++ decimal port ++ codes ": " ++ decimal bound
-    ++ codes " ns needed, " ++ decimal asked ++ codes " us asked\n"
+    counted (codes "vl ") vl (counted (codes " at ") port (counted (codes ": ") bound
+    (counted (codes " ns needed, ") asked (codes " us asked\n"))))
 
 -- it stands where the bound is more than what was asked for
 abbrev pub need_over : (port vl bound asked : ℕ) → List ℕ

@@ -1,6 +1,6 @@
 //! The command `solve`.
 
-ghost use Rattle.std.specs.Prelude.{◌≡◌, ◌⊎◌, ◌<◌, ◌++◌, OnOk, IfOk, true, false, length, string_bytes};
+ghost use Rattle.std.specs.Prelude.{◌≡◌, ◌⊎◌, ◌<◌, ◌++◌, OnOk, IfOk, true, false, length, string_bytes, ℕ, List};
 ghost use Rattle.std.specs.Option.{option_map_or};
 ghost use Rattle.afdx_frame.specs.Ports.{last_port};
 ghost use Rattle.afdx_config.specs.Admission.{IsAdmitted};
@@ -34,28 +34,30 @@ use std::alloc::{AllocError, Global};
 use std::fmt::Write as _;
 use std::io::Write;
 
-/// Adds the line of a link whose bound at an output port, in ns, is more than it asked for, in us.
-fn put_over(
-    text: &mut String,
-    port: u8,
-    vl: VlId,
-    bound: u64,
-    asked: u64,
-) -> Result<(), AllocError>
-    ensures { OnOk result (string_bytes text.new
-        ≡ string_bytes text.old ++ need_over port vl.0 bound asked) }
+/// Adds the line of a link that needs so many ns at an output port, and asked for so many us.
+fn put_told(text: &mut String, port: u8, vl: u16, bound: u64, asked: u64) -> Result<(), AllocError>
+    ensures { OnOk result
+        (string_bytes text.new ≡ string_bytes text.old ++ told_need port vl bound asked) }
 {
-    if bound <= asked.saturating_mul(1000) {
-        return Ok(());
-    }
-    let vl = vl.0;
     write!(
         text,
         "vl {vl} at {port}: {bound} ns needed, {asked} us asked\n"
     )
 }
 
-/// The same, where there is a bound and something was asked for.
+/// Adds the line if the bound is more than what was asked for.
+fn put_over(text: &mut String, port: u8, vl: u16, bound: u64, asked: u64) -> Result<(), AllocError>
+    ensures { OnOk result
+        (string_bytes text.new ≡ string_bytes text.old ++ need_over port vl bound asked) }
+{
+    if bound <= asked.saturating_mul(1000) {
+        Ok(())
+    } else {
+        put_told(text, port, vl, bound, asked)
+    }
+}
+
+/// Adds the line if there is a bound, and it is more than what was asked for.
 fn put_line(
     text: &mut String,
     port: u8,
@@ -67,7 +69,7 @@ fn put_line(
         ≡ string_bytes text.old ++ need_line port vl.0 bound asked) }
 {
     match (bound, asked) {
-        (Some(bound), Some(asked)) => put_over(text, port, vl, bound, asked),
+        (Some(bound), Some(asked)) => put_over(text, port, vl.0, bound, asked),
         (Some(_), None) => Ok(()),
         (None, _) => Ok(()),
     }
