@@ -6,9 +6,9 @@
 PROGRAM is the built program, crates/afdx/out/afdx where it isn't given. The tables have 24 systems,
 4,096 or 400 virtual links, each to all other systems, and as many communication ports. For `check`
 all links are of the first system: such a network isn't admitted, so `check` ends with status 1. For
-`solve` they are of all systems in turn, on lines of 1 Gbit/s. With each option a line is printed for
-each of these sizes: the best of T times (3 where it isn't given), the memory, and the instructions;
-behind the larger ones, how many times those of the smaller ones they are.
+`solve` they are of all systems in turn, on lines of 1 Gbit/s. With each option a line is printed
+for each of these sizes: the best of T times (3 where it isn't given), the memory, and the
+instructions; behind the larger ones, how many times those of the smaller ones they are.
 
 Needs Linux and Python 3, no packages; for instructions valgrind. It is a measurement and no test.
 """

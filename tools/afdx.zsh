@@ -44,7 +44,7 @@ _afdx_program() {
             ;;
         solve)
             _arguments $help $told[1] '--raise-only[lower no value]' \
-                '*--keep[these keep their values]:keys:_values -s , key jitter buffer latency skew' \
+                '*--keep[keys that stay]:keys:_values -s , key jitter buffer latency skew' \
                 ":$config"
             ;;
     esac

@@ -85,6 +85,7 @@ unsolved 'a kept buffer that is too small' 1 $'no A2 3 252\n' '' 's/^buffer = .*
     --keep buffer,jitter
 unsolved 'a kept latency that is too small' 1 $'no A3 3 1 16800\n' '' \
     's/^latency_us = .*/latency_us = 16/' --keep jitter,latency
+cp "$work/changed.toml" "$work/late.toml"
 unsolved 'a kept jitter that is too small' 1 $'no A6 1 46720\n' '' \
     's/^jitter_us = .*/jitter_us = 46/' --keep jitter
 unsolved 'a kept skew that is too small' 1 $'no A7 1\n' '' \
@@ -99,7 +100,8 @@ unsolved 'a value that is no whole number' 1 '' $'config WrongKind link 1 key 11
 unsolved 'another fault' 1 '' $'config OutOfRange link 1 key 4\n' 's/^bag_ms = .*/bag_ms = 3/'
 case_of 'a configuration that is not there' 4 '' $'device Config\n' solve "$work/none"
 full_case 'a solution to a full device' 4 $'device Write\n' solve examples/base.toml
-full_case 'a denial to a full device' 4 $'device Write\n' solve --keep jitter,latency "$work/changed.toml"
+full_case 'a denial to a full device' 4 $'device Write\n' \
+    solve --keep jitter,latency "$work/late.toml"
 text_case 'an unknown key to keep' 2 err bag solve --keep bag examples/base.toml
 text_case 'keys to keep without a key' 2 err KEYS solve --keep
 text_case 'help of solve' 0 out "aren't" solve --help

@@ -7,12 +7,12 @@ tests/lib/weak_devices.c, which `cc` compiles, makes the devices weak: at most 1
 the first call broken, then the second, and so on. A call is broken by an error that stays, by an
 error that is gone at the next call, by an interruption, or by moving no byte. `police`, `replay`,
 with admission and without, and `send` are run on lists of a few lines, read by path or as standard
-input, and `check` and `solve` on configurations. Each run must write a beginning of the undisturbed text,
-exactly as far as it has to, and end with the status and the one line of the device that failed; and
-a device that failed, or has ended, must not be asked again, nor the other one be asked for more
-than what is held. With --line-buffered each line's text must be handed over before more is read.
-Prints `ok NAME` or `FAILED NAME` for each case, then `N passed, M failed`; ends with status 1 if a
-case failed.
+input, and `check` and `solve` on configurations. Each run must write a beginning of the undisturbed
+text, exactly as far as it has to, and end with the status and the one line of the device that
+failed; and a device that failed, or has ended, must not be asked again, nor the other one be asked
+for more than what is held. With --line-buffered each line's text must be handed over before more is
+read. Prints `ok NAME` or `FAILED NAME` for each case, then `N passed, M failed`; ends with status 1
+if a case failed.
 """
 from __future__ import annotations
 

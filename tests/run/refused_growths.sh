@@ -5,10 +5,11 @@
 #     tests/run/refused_growths.sh --tests RUNNER..    built test runners, as afdx_part_tests_tests
 #
 # PROGRAM polices examples/one_link.list on standard input, checks examples/base.toml, the same with
-# `--margins`, and with late links by `--all`, solves it with late links, explains a line, replays a frame and its copy in
-# base.toml, replays examples/gigabit.list, and sends five messages, of which one is refused. Each
-# of these is run with the first request refused, then the second, and so on, until a run meets no
-# refusal; and again with all requests refused from the first on, from the second on, and so on.
+# `--margins`, and with late links by `--all`, solves it with late links, explains a line, replays a
+# frame and its copy in base.toml, replays examples/gigabit.list, and sends five messages, of which
+# one is refused. Each of these is run with the first request refused, then the second, and so on,
+# until a run meets no refusal; and again with all requests refused from the first on, from the
+# second on, and so on.
 # Each run must write a beginning of what the undisturbed run writes, and end either with the line
 # `memory` and status 4, or as the undisturbed run does.
 #

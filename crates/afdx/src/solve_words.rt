@@ -32,8 +32,8 @@ Examples:
   afdx solve examples/network.toml
   afdx solve --keep buffer,latency --raise-only examples/network.toml";
 
-const KEEP_HELP: &str = "These keep the values of CONFIG, with commas between them; they have to be \
-there, in range";
+const KEEP_HELP: &str = "Keys that keep their values, which have to be there, in range: any of \
+jitter, buffer, latency and skew, with commas between them";
 
 const RAISE_HELP: &str = "Lowers no value: each is the greater of the least and that of CONFIG";
 

@@ -1,5 +1,5 @@
 -- What the command `solve` writes and tells: the solved tables as a configuration, and each link
--- that needs more at an output port than it asked for; or the first line of admission that is false.
+-- that needs more at an output port than it asked for; or the first false line of admission.
 use Rattle.std.specs.Prelude.{ℕ, zero, suc, ◌+◌, ◌*◌, ◌≡◌, ◌⊎◌, Bool, true, false, nat_le, List, [], ◌++◌}
 use Rattle.std.specs.Prelude.{codes, length, slice_get, Option, Some, None, option_and_then, if◌then◌else◌}
 use Rattle.std.specs.Option.{option_map_or}
@@ -59,7 +59,8 @@ unfoldable pub needs_of_first : Rows → List (Option ℕ) → (port place count
 needs_of_first t asked port place zero = []
 needs_of_first t asked port place (suc count) =
     needs_of_first t asked port place count
-    ++ option_map_or (λ l. need_at t port place l (asked_by asked count)) (slice_get t.links count) []
+    ++ option_map_or (λ l. need_at t port place l (asked_by asked count))
+    (slice_get t.links count) []
 
 -- at a port of the switch, if it has a system
 unfoldable pub needs_at : Rows → List (Option ℕ) → ℕ → List ℕ
