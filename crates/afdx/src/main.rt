@@ -1,19 +1,21 @@
 //! The program `afdx`: words, files and streams.
 #![tactic(auto)]
 
+mod configs;
 mod devices;
 mod explaining;
 mod progress;
 mod recording_words;
 mod running;
+mod solve_words;
 mod words;
 
-use crate::devices::{Heard, Traced};
+use crate::configs::{check_config, solve_tables};
 use crate::explaining::{Cause, explain, is_asked, line_of, print_lists, print_meaning};
 use crate::running::{Replaying, Run, run_list};
 use afdx_explain::meaning_of;
 use afdx_replay::status::{DONE, NO_DEVICE_OR_MEMORY, WRONG_WORDS};
-use afdx_replay::{CheckOptions, CommandedRule, Policing, RunFault, Watched, check_lines};
+use afdx_replay::{CommandedRule, Policing, RunFault};
 use clap::error::ErrorKind;
 use clap::{ArgMatches, Error};
 use std::alloc::AllocError;
@@ -86,35 +88,6 @@ fn read_config(rt: &HostRuntime, matches: &ArgMatches<'_>) -> Result<Vec<u8>, u8
         Err(error) if error.kind() == io::ErrorKind::OutOfMemory => Err(memory(rt)),
         Err(reason) => Err(no_file(rt, matches, "device Config", path, reason)),
     }
-}
-
-fn check_config(rt: &HostRuntime, matches: &ArgMatches<'_>) -> u8 {
-    let config = match read_config(rt, matches) {
-        Ok(config) => config,
-        Err(status) => return status,
-    };
-    let mut output = Watched::new(Heard::new(Traced::new(rt.stdout())));
-    let mut errors = Watched::new(Heard::new(rt.stderr()));
-    let options = CheckOptions {
-        all: matches.get_flag("all"),
-        margins: matches.get_flag("margins"),
-    };
-    let config_bytes = config.as_slice();
-    let status = check_lines(rt.alloc(), options, config_bytes, &mut output, &mut errors);
-    let (output, errors) = (output.into_inner(), errors.into_inner());
-    let line = match errors.line() {
-        "" => output.line(),
-        line => line,
-    };
-    let cause = Cause {
-        config: config.as_slice(),
-        path: "",
-        reason: output.device().reason(),
-    };
-    if status != DONE {
-        explain_if_asked(rt, matches, line, &cause);
-    }
-    status
 }
 
 /// The rule that the words of `police` give.
@@ -205,6 +178,7 @@ fn run_matches(rt: &HostRuntime, matches: &ArgMatches<'_>) -> u8 {
         Some(("police", matches)) => police_list(rt, matches),
         Some(("replay", matches)) => replay_list(rt, matches),
         Some(("send", matches)) => send_list(rt, matches),
+        Some(("solve", matches)) => solve_tables(rt, matches),
         _ => WRONG_WORDS,
     }
 }

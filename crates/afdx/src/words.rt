@@ -1,6 +1,7 @@
 //! The words of a command line.
 
 use crate::recording_words::{fcs_option, interface_option, origin_option};
+use crate::solve_words::solve_command;
 use clap::{Arg, ArgAction, Command, value_parser};
 use std::alloc::{AllocError, Global};
 
@@ -46,19 +47,19 @@ Examples:
   afdx police 1 64 500 examples/one_link.list
   afdx police --vl 501 --port 5 2 160 200 examples/bench.list";
 
-const CONFIG_HELP: &str = "The path of a configuration (TOML), at most 4,194,304 bytes; \
+pub const CONFIG_HELP: &str = "The path of a configuration (TOML), at most 4,194,304 bytes; \
 /dev/stdin for standard input";
 
 const LIST_HELP: &str = "The path of a frame list or a recording (pcap, pcapng), or - for \
 standard input";
 
 /// A command, as yet without words.
-fn command<'a>(alloc: Global, name: &'a str, about: &'a str, after: &'a str) -> Command<'a> {
+pub fn command<'a>(alloc: Global, name: &'a str, about: &'a str, after: &'a str) -> Command<'a> {
     Command::new(alloc, name).about(about).after_help(after)
 }
 
 /// An option without a value.
-fn flag<'a>(alloc: Global, name: &'a str, help: &'a str) -> Arg<'a> {
+pub fn flag<'a>(alloc: Global, name: &'a str, help: &'a str) -> Arg<'a> {
     Arg::new(alloc, name)
         .long(name)
         .help(help)
@@ -66,7 +67,7 @@ fn flag<'a>(alloc: Global, name: &'a str, help: &'a str) -> Arg<'a> {
 }
 
 /// A word that has to be there.
-fn word<'a>(alloc: Global, name: &'a str, help: &'a str) -> Arg<'a> {
+pub fn word<'a>(alloc: Global, name: &'a str, help: &'a str) -> Arg<'a> {
     Arg::new(alloc, name).help(help).required(true)
 }
 
@@ -90,7 +91,7 @@ standard error is a terminal";
 const TIMES_TO_EXPLAIN: &[&str] = &["auto", "always", "never"];
 
 /// The option by which a fault is explained.
-fn explain_option<'a>(alloc: Global) -> Arg<'a> {
+pub fn explain_option<'a>(alloc: Global) -> Arg<'a> {
     Arg::new(alloc, "explain")
         .long("explain")
         .value_name("WHEN")
@@ -368,5 +369,6 @@ pub fn afdx_command<'a>(alloc: Global) -> Result<Command<'a>, AllocError> {
     let program = with_command(program, explain_command(alloc));
     let program = with_command(program, police_command(alloc));
     let program = with_command(program, replay_command(alloc));
-    with_command(program, send_command(alloc))
+    let program = with_command(program, send_command(alloc));
+    with_command(program, solve_command(alloc))
 }

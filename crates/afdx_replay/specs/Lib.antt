@@ -1,5 +1,6 @@
 pub mod Commands
 pub mod CheckText
+pub mod SolveText
 pub mod Refusals
 pub mod EndToEnd
 pub mod Inputs

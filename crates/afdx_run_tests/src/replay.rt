@@ -9,6 +9,7 @@ mod refusals;
 mod replays;
 mod rows;
 mod sends;
+mod solutions;
 mod weak;
 
 use crate::texts::short_text;
