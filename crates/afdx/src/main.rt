@@ -4,6 +4,7 @@
 mod configs;
 mod devices;
 mod explaining;
+mod list_words;
 mod progress;
 mod recording_words;
 mod running;
@@ -130,6 +131,20 @@ fn replay_list(rt: &HostRuntime, matches: &ArgMatches<'_>) -> u8 {
     run_list(rt, matches, &run, list)
 }
 
+fn list_numbers(rt: &HostRuntime, matches: &ArgMatches<'_>) -> u8 {
+    let Some(list) = matches.get_str("LIST") else {
+        return WRONG_WORDS;
+    };
+    let config = match read_config(rt, matches) {
+        Ok(config) => config,
+        Err(status) => return status,
+    };
+    let run = Run::List {
+        config: config.as_slice(),
+    };
+    run_list(rt, matches, &run, list)
+}
+
 fn send_list(rt: &HostRuntime, matches: &ArgMatches<'_>) -> u8 {
     let (Some(list), Some(system)) = (matches.get_str("SUBMISSIONS"), matches.get_str("SYSTEM"))
     else {
@@ -175,6 +190,7 @@ fn run_matches(rt: &HostRuntime, matches: &ArgMatches<'_>) -> u8 {
     match matches.subcommand() {
         Some(("check", matches)) => check_config(rt, matches),
         Some(("explain", matches)) => explain_words(rt, matches),
+        Some(("list", matches)) => list_numbers(rt, matches),
         Some(("police", matches)) => police_list(rt, matches),
         Some(("replay", matches)) => replay_list(rt, matches),
         Some(("send", matches)) => send_list(rt, matches),

@@ -7,8 +7,8 @@ use crate::recording_words::{Refused, recording_options};
 use crate::{complain, explain_if_asked, memory, no_file};
 use afdx_replay::status::{DONE, WRONG_WORDS};
 use afdx_replay::{
-    CommandedRule, InputEnded, Output, Peeked, RecordingOptions, Sink, Watched, finish,
-    police_input, replay_input, replay_input_and_explain, send_and_count,
+    CommandedRule, Ended, InputEnded, Output, Peeked, RecordingOptions, Sink, Watched, finish,
+    list_and_count, police_input, replay_input, replay_input_and_explain, send_and_count,
 };
 use clap::ArgMatches;
 use std::fs::File;
@@ -81,10 +81,8 @@ pub struct Replaying<'a> {
 pub enum Run<'a> {
     Police(CommandedRule),
     Replay(Replaying<'a>),
-    Send {
-        config: &'a [u8],
-        system: &'a str,
-    },
+    List { config: &'a [u8] },
+    Send { config: &'a [u8], system: &'a str },
 }
 
 impl Run<'_> {
@@ -92,6 +90,7 @@ impl Run<'_> {
         match self {
             Run::Police(_) => &[],
             Run::Replay(replaying) => replaying.config,
+            Run::List { config } => config,
             Run::Send { config, .. } => config,
         }
     }
@@ -100,7 +99,7 @@ impl Run<'_> {
     fn explains_drops(&self) -> bool {
         match self {
             Run::Replay(replaying) => replaying.explains_drops,
-            Run::Police(_) | Run::Send { .. } => false,
+            Run::Police(_) | Run::List { .. } | Run::Send { .. } => false,
         }
     }
 }
@@ -140,8 +139,9 @@ fn replay_from<R: Read, O: Sink, E: Write>(
         return Err(memory(rt));
     };
     let drops = Watched::new(early);
-    let told =
-        replay_input_and_explain(alloc, admission, options, config, input, lines, faults, drops);
+    let told = replay_input_and_explain(
+        alloc, admission, options, config, input, lines, faults, drops,
+    );
     Ok(told.0)
 }
 
@@ -162,6 +162,17 @@ fn run_over<R: Read, O: Sink, E: Write>(
         Run::Replay(replaying) => {
             let options = options_in(rt, matches)?;
             replay_from(rt, replaying, options, input, lines, faults)
+        }
+        Run::List { config } => {
+            let options = options_in(rt, matches)?;
+            let listed = list_and_count(rt.alloc(), options, config, input, lines, faults);
+            Ok(InputEnded {
+                ended: Ended {
+                    status: listed.status,
+                    summary: None,
+                },
+                tally: listed.tally,
+            })
         }
         Run::Send { config, system } => Ok(InputEnded {
             ended: send_and_count(rt.alloc(), config, system, input, lines, faults),

@@ -1,5 +1,6 @@
 //! The words of a command line.
 
+use crate::list_words::list_command;
 use crate::recording_words::{fcs_option, interface_option, origin_option};
 use crate::solve_words::solve_command;
 use clap::{Arg, ArgAction, Command, value_parser};
@@ -79,7 +80,7 @@ fn number<'a>(alloc: Global, name: &'a str, help: &'a str) -> Arg<'a> {
 }
 
 /// The option by which each line is seen at once.
-fn line_buffered<'a>(alloc: Global) -> Arg<'a> {
+pub fn line_buffered<'a>(alloc: Global) -> Arg<'a> {
     let help = "Hands the text of each line over at once, and not in large pieces";
     flag(alloc, "line-buffered", help)
 }
@@ -104,13 +105,13 @@ pub fn explain_option<'a>(alloc: Global) -> Arg<'a> {
 }
 
 /// The option by which a person sees how far a run is.
-fn progress_option<'a>(alloc: Global) -> Arg<'a> {
+pub fn progress_option<'a>(alloc: Global) -> Arg<'a> {
     let help = "Says after two seconds how much was read, if standard error is a terminal";
     flag(alloc, "progress", help)
 }
 
 /// The option by which the counts of a run are printed.
-fn summary_option<'a>(alloc: Global) -> Arg<'a> {
+pub fn summary_option<'a>(alloc: Global) -> Arg<'a> {
     let help = "Prints the counts of the run on standard error, once it is done";
     flag(alloc, "summary", help)
 }
@@ -367,6 +368,7 @@ pub fn afdx_command<'a>(alloc: Global) -> Result<Command<'a>, AllocError> {
         .arg_required_else_help(true);
     let program = with_command(Ok(program), check_command(alloc));
     let program = with_command(program, explain_command(alloc));
+    let program = with_command(program, list_command(alloc));
     let program = with_command(program, police_command(alloc));
     let program = with_command(program, replay_command(alloc));
     let program = with_command(program, send_command(alloc));

@@ -15,9 +15,9 @@ mod solve_command;
 pub mod status;
 mod summary;
 
+pub use afdx_arrivals::{Interfaces, Place, RecordingOptions, Tally};
 pub use afdx_config::KeptKeys;
 pub use afdx_frame::Policing;
-pub use afdx_arrivals::{Interfaces, Place, RecordingOptions, Tally};
 pub use afdx_lists::{Peeked, RecordingFault, RunFault, Watched};
 pub use afdx_solve::SolveOptions;
 pub use afdx_text::{Output, Sink};
