@@ -4,6 +4,7 @@
 mod checks;
 mod commands;
 mod end_to_end;
+mod listings;
 mod premises;
 mod refusals;
 mod replays;
