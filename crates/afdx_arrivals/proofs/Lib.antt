@@ -5,3 +5,4 @@ pub mod SourceLemmas
 pub mod RecordingRunLemmas
 pub mod LawLemmas
 pub mod InputLemmas
+pub mod InputSaysLemmas
