@@ -3,7 +3,7 @@
 use crate::entry::Entry;
 
 /// Lines of the output.
-pub const LINES: [Entry; 12] = [
+pub const LINES: [Entry; 13] = [
     (
         "\
 accept
@@ -87,6 +87,15 @@ that were dropped at a switch; copies that were lost to a full buffer, that left
 that were dropped as too old; messages that were delivered. With 'send' accepted are the
 messages that were taken, dropped those that were refused, departed the frames that left, one
 for both sides.",
+    ),
+    (
+        "\
+skipped no-frame n left-out n not-afdx n unknown-sender n no-network n before-origin n \
+recorder-lost n claimed n",
+        "\
+skipped: how many numbers of a recording were no arrival, by the reason, which 'afdx explain'
+knows. recorder-lost are frames that the recorder itself lost, by its statistics, claimed the
+arrivals whose side or port was taken from the frame's own source address.",
     ),
     (
         "\

@@ -12,7 +12,6 @@ use Rattle.afdx_lists.specs.declared.fault.RunFault.{RunFault}
 use Rattle.afdx_lists.specs.declared.fault.RunFault.TheVariants as run
 use Rattle.afdx_network.specs.Order.{events_of}
 use Rattle.afdx_police.specs.Arrival.{Arrival}
-use Rattle.afdx_recordings.specs.Reading.{recorded}
 use Rattle.afdx_run.specs.Listed.{frames}
 use Rattle.afdx_run.specs.Lists.{latest_in}
 use Rattle.afdx_switch.specs.Admitted.{IsAdmittedRun}
@@ -22,7 +21,7 @@ use Rattle.afdx_arrivals.specs.InputRun.{IsAskedFew}
 use Rattle.afdx_arrivals.specs.Laws.{AreInOrder}
 use Rattle.afdx_arrivals.specs.RecordingRun.{arrivals_in, sequence_of_bytes}
 use Rattle.afdx_arrivals.proofs.InputLemmas.{recorded-more}
-use Rattle.afdx_arrivals.proofs.LawLemmas.{are-in-order}
+use Rattle.afdx_arrivals.proofs.LawLemmas.{bytes-in-order}
 use Rattle.afdx_arrivals.proofs.RecordingRunLemmas.{unasked}
 use Rattle.afdx_replay.specs.Inputs.{summary_in}
 use Rattle.afdx_replay.specs.replaying.Input.{AnswersInput, PromisedInput}
@@ -52,7 +51,7 @@ module _ (options : Options) (t : Rows) (lawful : IsLawful t) (admitted : IsAdmi
   From = ports_of_senders t.systems
 
   in-order-of : (bytes : List ℕ) → AreInOrder (arrivals_in (sequence_of_bytes options From bytes))
-  in-order-of bytes = are-in-order options From (recorded bytes)
+  in-order-of bytes = bytes-in-order options From bytes
 
   run-of : (past : List Arrival) → AreInOrder past → IsAdmittedRun t past
   run-of past h = record {

@@ -5,6 +5,7 @@ mod checks;
 mod commands;
 mod end_to_end;
 mod premises;
+mod recordings;
 mod refusals;
 mod replays;
 mod rows;
