@@ -42,6 +42,8 @@ LISTS = {
 WITHOUT_ROW = [
     "ok", "not-subscribed", "X 6720 s3 2 not-subscribed",
     "summary lines 3 accepted 2 dropped 1 lost 0 departed 2 too-old 0 delivered 1",
+    "skipped no-frame 0 left-out 0 not-afdx 1 unknown-sender 1 no-network 0 before-origin 0"
+    " recorder-lost 0 claimed 1",
 ]
 
 

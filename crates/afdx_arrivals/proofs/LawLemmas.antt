@@ -19,6 +19,7 @@ use Rattle.afdx_police.specs.Arrival.{Arrival}
 use Rattle.afdx_recordings.specs.declared.recorded.Recorded.{Recorded}
 use Rattle.afdx_recordings.specs.declared.recorded.Recorded.TheVariants as recorded
 use Rattle.afdx_recordings.specs.declared.recorded.RecordedFrame.{RecordedFrame}
+use Rattle.afdx_recordings.specs.Reading as reading
 use Rattle.afdx_recordings.specs.Recordings.{Numbered, Recording, Ending}
 use Rattle.afdx_run.specs.Engine.{Item}
 use Rattle.afdx_run.specs.Items.{arrivals}
@@ -39,6 +40,7 @@ use Rattle.afdx_arrivals.specs.Claims.{Ports, Agree}
 use Rattle.afdx_arrivals.specs.Laws.{SequencesAgree, ArrivalsHaveTheirBytes, ArrivalsAreInOrder, AreInOrder}
 use Rattle.afdx_arrivals.specs.Sequences.{Sorted, Outcome, sequence, sequence_of_items, sorted_with, sorted_by}
 use Rattle.afdx_arrivals.specs.Sequences.{and_then, taken, with_found, origin_or, nothing_sorted}
+use Rattle.afdx_arrivals.specs.RecordingRun.{arrivals_in, sequence_of_bytes}
 use Rattle.afdx_arrivals.specs.RecordingSource.{IsTimed}
 use Rattle.afdx_arrivals.proofs.SequenceLemmas.{in-order}
 
@@ -238,3 +240,7 @@ pub are-in-order : ArrivalsAreInOrder
 are-in-order options ports recording =
     (items-ordered options ports recording.ending recording.lost (nothing_sorted options) recording.items
     (record { in_order = tt; timed = timed-first options ports options.origin })).in_order
+
+pub bytes-in-order : (options : Options) (ports : Ports) (bytes : List ℕ)
+    → AreInOrder (arrivals_in (sequence_of_bytes options ports bytes))
+bytes-in-order options ports bytes = are-in-order options ports (reading.recorded bytes)

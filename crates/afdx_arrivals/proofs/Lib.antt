@@ -8,3 +8,4 @@ pub mod LawLemmas
 pub mod InputLemmas
 pub mod ListingSourceLemmas
 pub mod ListingRunLemmas
+pub mod InputSaysLemmas

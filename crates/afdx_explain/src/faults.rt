@@ -3,12 +3,24 @@
 use crate::entry::Entry;
 
 /// Faults that come before a command has begun, and the one of 'solve'.
-pub const FAULTS: [Entry; 7] = [
+pub const FAULTS: [Entry; 9] = [
     (
         "words NotText",
         "\
 A word isn't UTF-8.
 Give the file another name, or name it by a path that is text.",
+    ),
+    (
+        "words BadInterface",
+        "\
+A word of --interface isn't K=PLACE, or K was named before. K is an interface's number, in one
+to four digits, at most 4095; PLACE is A or B, A:PORT or B:PORT with a port of 1 to 24, or - to
+leave its frames out.",
+    ),
+    (
+        "words BadNumber",
+        "\
+The number of --origin is over 9223372036854775807. It is a moment in ns since 1970.",
     ),
     (
         "words BadRule",

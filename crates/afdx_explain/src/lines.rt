@@ -99,6 +99,15 @@ for both sides.",
     ),
     (
         "\
+skipped no-frame n left-out n not-afdx n unknown-sender n no-network n before-origin n \
+recorder-lost n claimed n",
+        "\
+skipped: how many numbers of a recording were no arrival, by the reason, which 'afdx explain'
+knows. recorder-lost are frames that the recorder itself lost, by its statistics, claimed the
+arrivals whose side or port was taken from the frame's own source address.",
+    ),
+    (
+        "\
 R
 R n A n *",
         "\

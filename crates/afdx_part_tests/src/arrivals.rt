@@ -1,8 +1,8 @@
 //! What numbers of a recording become: each line of the table decides once.
 
 use afdx_arrivals::{
-    Found, Interfaces, NoArrival, Place, RecordingOptions, SKIPPED, Skipped, SystemPorts,
-    becomes,
+    Counts, Found, Interfaces, NoArrival, Place, RecordingOptions, SKIPPED, Skipped, SystemPorts,
+    Tally, UnsaidPort, becomes,
 };
 use afdx_config::ConfigFault;
 use afdx_frame::Side;
@@ -36,6 +36,7 @@ fn options(alloc: Global, said: Said) -> Result<RecordingOptions, AllocError> {
         interfaces,
         fcs,
         origin,
+        are_given: true,
     })
 }
 
@@ -236,4 +237,57 @@ fn check_sequences(rt: HostRuntime) -> Result<(), Fail> {
 fn words(_rt: HostRuntime) -> Result<(), Fail> {
     equal(Skipped::NoNetwork.word(), "no-network")?;
     equal(SKIPPED[5].1, "before-origin")
+}
+
+/// The port of a frame of the first system, where all frames come in at port 5, and where each comes
+/// in at its system's.
+fn unsaid_ports(alloc: Global) -> Result<(Option<u8>, Option<u8>), ConfigFault> {
+    let tables = base_tables(alloc)?;
+    let one = SystemPorts::unsaid(alloc, UnsaidPort::One(5))?;
+    let sender = SystemPorts::unsaid(alloc, UnsaidPort::OfSender(&tables))?;
+    Ok((one.port(HELLO.as_slice()), sender.port(HELLO.as_slice())))
+}
+
+#[test]
+fn a_port_is_meant_where_none_is_said(rt: HostRuntime) -> Result<(), Fail> {
+    let (one, sender) = unsaid_ports(rt.alloc())?;
+    equal((one, sender), (Some(5), Some(1)))
+}
+
+#[test]
+fn no_options_say_nothing(rt: HostRuntime) -> Result<(), Fail> {
+    let options = RecordingOptions::none(rt.alloc())?;
+    let place = options.interfaces.place(0);
+    equal(
+        (options.are_given, options.fcs, options.origin, place),
+        (false, None, None, None),
+    )
+}
+
+/// The line of the counts of a recording of 21 numbers.
+fn counts_line(alloc: Global) -> Result<String, AllocError> {
+    let counts = Counts {
+        no_frame: 1,
+        left_out: 2,
+        not_afdx: 3,
+        unknown_sender: 4,
+        no_network: 5,
+        before_origin: 6,
+        claimed: 8,
+    };
+    let tally = Tally {
+        numbers: 22,
+        counts,
+        lost: 7,
+    };
+    format!(in alloc; "{tally}")
+}
+
+#[test]
+fn a_recording_is_counted_in_a_line(rt: HostRuntime) -> Result<(), Fail> {
+    let line = counts_line(rt.alloc())?;
+    let wanted = "\
+skipped no-frame 1 left-out 2 not-afdx 3 unknown-sender 4 no-network 5 before-origin 6 \
+recorder-lost 7 claimed 8";
+    equal(line.as_str(), wanted)
 }

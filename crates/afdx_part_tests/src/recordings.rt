@@ -3,7 +3,9 @@
 ghost use Rattle.std.specs.Prelude.{◌<◌};
 
 use afdx_lists::{RecordingFault, RunFault, Watched};
-use afdx_recordings::{CheckSequence, FrameReader, Recorded, RecordedFrame, Stamp};
+use afdx_recordings::{
+    CheckSequence, FrameReader, Recorded, RecordedFrame, Stamp, is_recording,
+};
 use afdx_samples::{HELLO, WeakReader, all_right, equal};
 use std::alloc::{AllocError, Global};
 use std::io::Read;
@@ -171,4 +173,26 @@ fn a_pcap_that_is_wrong_is_so_behind_its_frames(rt: HostRuntime) -> Result<(), F
         )?;
     }
     Ok(())
+}
+
+/// Bytes, and whether a recording begins so.
+fn wrong_beginning() -> Option<usize> {
+    let beginnings: [(&[u8], bool); 5] = [
+        (LOW.as_slice(), true),
+        (&HIGH[..4], true),
+        (&LOW[..3], false),
+        (b"F 0 A 1 -", false),
+        (b"", false),
+    ];
+    for (bytes, wanted) in beginnings {
+        if is_recording(bytes) != wanted {
+            return Some(bytes.len());
+        }
+    }
+    None
+}
+
+#[test]
+fn a_recording_is_known_by_its_first_bytes(_rt: HostRuntime) -> Result<(), Fail> {
+    all_right(wrong_beginning())
 }

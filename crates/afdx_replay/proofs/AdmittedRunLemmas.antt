@@ -30,7 +30,7 @@ use Rattle.afdx_replay.proofs.PromisedLemmas.{replay-promised, so-far-told, none
 
 -- ---- the times of a list's arrivals don't decrease
 
-latest-most : (past : List Arrival) → AreTimed past → All (λ y. y.time ≤ latest_in frames past) past
+pub latest-most : (past : List Arrival) → AreTimed past → All (λ y. y.time ≤ latest_in frames past) past
 latest-most [] timed k d lt = absurd (omega (arith, lt))
 latest-most (x ∷ past) timed zero d lt = omega arith
 latest-most (x ∷ past) timed (suc k) d lt = timed.0 k d (omega (arith, lt))

@@ -21,3 +21,6 @@ mod EndToEndLemmas
 mod SentArrivalLemmas
 mod MergedLemmas
 mod OneRunLemmas
+mod InputLemmas
+mod PromisedInputLemmas
+mod InputStartLemmas

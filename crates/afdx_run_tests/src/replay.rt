@@ -6,6 +6,7 @@ mod commands;
 mod end_to_end;
 mod listings;
 mod premises;
+mod recordings;
 mod refusals;
 mod replays;
 mod rows;
