@@ -26,21 +26,29 @@ def fits(pattern: str, text: bytes) -> bool:
     return re.fullmatch(re.escape(lines).replace(r"\.\.", ".*"), text.decode()) is not None
 
 
+class Command(NamedTuple):
+    """A replay without the options and the list, and the ports of the systems by their numbers."""
+
+    words: tuple[str, ...]
+    ports: dict[int, int]
+
+
 class Case(NamedTuple):
-    """A recording, the options of the run, and the words of `police`, or none for `replay`."""
+    """A recording, the options of the run, and the words of `police`, or none for a replay."""
 
     data: bytes
     options: Options = Options()
     rule: str = ""
+    command: Command = Command(("replay", "base.toml"), PORTS)
 
     def told(self) -> Told:
         """What the reference says."""
-        return told(self.options, PORTS, self.data)
+        return told(self.options, self.command.ports, self.data)
 
     def words(self) -> list[str]:
         """The command without the options and the list."""
         if not self.rule:
-            return ["replay", "base.toml"]
+            return list(self.command.words)
         return ["police", f"--port={self.options.port}", *self.rule.split()]
 
     def listed(self, program: Program, *more: str) -> Answer:
@@ -52,8 +60,9 @@ class Case(NamedTuple):
         if not wanted.fault:
             must(found.status == 0, f"the list of it has a fault: {found.err!r}")
             return found
-        answers(found, 3, None, b"list BadLine %d\n" % (len(wanted.lines) + 1))
-        return Answer(3, found.out, wanted.fault)
+        line = b"list BadLine %d\n" % (len(wanted.lines) + 1)
+        must(found.status == 3 and found.err.endswith(line), f"the list of it: {found.err!r}")
+        return Answer(3, found.out, found.err.removesuffix(line) + wanted.fault)
 
 
 def case_of(row: Row) -> Case:
@@ -70,6 +79,16 @@ def with_base(program: Program) -> Program:
 def path_of(program: Program, data: bytes) -> str:
     """A file that holds these bytes, until this thread writes its next one."""
     return program.write(f"recording-{threading.get_ident()}", data)
+
+
+def told_before(program: Program, words: list[str], data: bytes) -> bytes:
+    """What a command writes of the whole frames in these bytes, where the run then stops."""
+    lines = Case(data, Options(port=1) if words == POLICE else Options()).told().lines
+    if words[0] == "list":
+        return b"".join(lines)
+    found = program.run(*words, "-", given=b"".join(lines) + BEYOND)
+    answers(found, 3, None, b"list BadLine %d\n" % (len(lines) + 1))
+    return found.out
 
 
 def cut_rows() -> list[Row]:
