@@ -1,5 +1,5 @@
-"""Runs a command of the program on weak devices, and looks at what it does: tests/lib/weak_devices.c
-makes them move little at a time and fail, at each call in turn."""
+"""Runs a command of the program on weak devices, and looks at what it does. weak_devices.c makes
+them move little at a time and fail, at each call in turn."""
 from __future__ import annotations
 
 import os

@@ -1,5 +1,5 @@
-"""Recordings longer than any list, streamed through a pipe: the run takes the memory that a short one
-takes."""
+"""Recordings longer than any list, streamed through a pipe: the run takes the memory that a short
+one takes."""
 from __future__ import annotations
 
 import subprocess

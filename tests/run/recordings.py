@@ -3,8 +3,9 @@
 
     tests/run/recordings.py [--reads] PROGRAM
 
-Without `--reads` the program reads lists alone. tests/lib/recorded.py and recorded_list.py say what has to be taken from a recording, apart from the
-program: the list that says the same, the fault, the counts. Here they must say
+Without `--reads` the program is given lists alone. tests/lib/recorded.py and recorded_list.py say
+what has to be taken from a recording, apart from the program: the list that says the same, the
+fault, the counts. Here they must say
 
 - what stands beside recordings that are spelled out byte by byte (tests/lib/recording_rows.py,
   tests/recordings/), and the program's run on that list must write what stands there;
