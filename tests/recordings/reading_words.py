@@ -64,6 +64,15 @@ def unknown_words(program: Program) -> None:
         must(found.status == 2 and found.out == b"", f"{twice}: status {found.status}")
 
 
+def helpful(program: Program) -> None:
+    """The help names the options, and says that --summary alone tells what was left out, in the line
+    `skipped`."""
+    for command, *_ in COMMANDS:
+        found = program.run(command, "--help")
+        for word in (b"--interface", b"--fcs", b"--origin", b"'skipped"):
+            must(word in found.out, f"the help of {command} has no {word.decode()}")
+
+
 def word_cases(program: Program) -> list[tuple]:
     """Words that are refused, and words that are not."""
     cases: list[tuple] = []
@@ -170,6 +179,7 @@ def explained_cases(program: Program) -> list[tuple]:
 def try_words(cases: Cases, program: Program) -> None:
     """All cases."""
     cases.try_at_once([*word_cases(program), *explained_cases(program)])
+    cases.try_case("words: the help", helpful, program)
     cases.try_case("words: the parser's", unknown_words, program)
     cases.try_case("words: spaced", spaced_words, program)
     cases.try_case("words: their order", word_order, program)

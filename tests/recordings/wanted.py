@@ -33,13 +33,18 @@ class Command(NamedTuple):
     ports: dict[int, int]
 
 
+IN_BASE = Command(("replay", "base.toml"), PORTS)
+KNOWN: dict[tuple, Answer] = {}  # answers to lists of a few bytes, which many recordings give
+FEW = 10_000
+
+
 class Case(NamedTuple):
     """A recording, the options of the run, and the words of `police`, or none for a replay."""
 
     data: bytes
     options: Options = Options()
     rule: str = ""
-    command: Command = Command(("replay", "base.toml"), PORTS)
+    command: Command = IN_BASE
 
     def told(self) -> Told:
         """What the reference says."""
@@ -51,12 +56,22 @@ class Case(NamedTuple):
             return list(self.command.words)
         return ["police", f"--port={self.options.port}", *self.rule.split()]
 
+    def run_on(self, program: Program, given: bytes, *more: str) -> Answer:
+        """The program's run on a list."""
+        words = *self.words(), *more, "-"
+        if len(given) > FEW or self.command != IN_BASE:
+            return program.run(*words, given=given)
+        key = program.path, words, given
+        if key not in KNOWN:
+            KNOWN[key] = program.run(*words, given=given)
+        return KNOWN[key]
+
     def listed(self, program: Program, *more: str) -> Answer:
         """What the program must write of it: what it writes of the list that says the same, up to
         the fault. Where it ends well, standard error has what `more` words ask for."""
         wanted = self.told()
         given = wanted.text() + (BEYOND if wanted.fault else b"")
-        found = program.run(*self.words(), *more, "-", given=given)
+        found = self.run_on(program, given, *more)
         if not wanted.fault:
             must(found.status == 0, f"the list of it has a fault: {found.err!r}")
             return found
