@@ -5,7 +5,8 @@
 PROGRAM is the built program, crates/afdx/out/afdx where it isn't given. The lists have N lines
 (1,000,000 where it isn't given), but at most about 500 MB, and are made in a temporary folder by
 bench/make_list.py, bench/make_network.py and bench/make_messages.py. Each list is run T times (3
-where it isn't given) from a file into /dev/null. One table in Markdown is printed:
+where it isn't given) from a file into /dev/null. Where the program reads recordings, frames are
+also recorded, by bench/make_recording.py; each counts as a line. One table in Markdown is printed:
 
     seconds        user and system seconds together, the least of the runs
     user seconds   the least of the runs
@@ -13,8 +14,9 @@ where it isn't given) from a file into /dev/null. One table in Markdown is print
     instructions   for each line, by valgrind's callgrind, the run of 20,000 lines less that of
                    none; `-` where valgrind isn't installed
 
-MB are 1,000,000 bytes of the list. A line below the table says what each further copy of a frame
-takes: the run in which a link goes to 23 ports less that in which it goes to one.
+MB are 1,000,000 bytes of the list. Lines below the table say what each further copy of a frame
+takes (the run in which a link goes to 23 ports less that in which it goes to one), and what share
+of the instructions of its list line a recorded frame takes.
 
 With --baseline the hand-written C program bench/handwritten/police_baseline.c is compiled by
 `cc -O2`, must print the same as `police`, and stands in the table beside it. Both run by turns, and
@@ -40,6 +42,7 @@ sys.dont_write_bytecode = True
 from make_list import MOST_LINES, write_list  # noqa: E402
 from make_messages import write_messages  # noqa: E402
 from make_network import write_network  # noqa: E402
+from make_recording import write_recording  # noqa: E402
 from measure import HERE, PROGRAM, Run, instructions, timed  # noqa: E402
 
 BASELINE = os.path.join(HERE, "handwritten", "police_baseline.c")
@@ -52,6 +55,14 @@ POLICE = [
     ("police, frames of 200 random bytes", {"length": 200}),
     ("police, frames of 1,518 random bytes", {"length": 1518}),
     ("police, R lines of 200 random bytes", {"length": 200, "raw": True}),
+]
+OF_64, OF_1518 = POLICE[1][0], POLICE[3][0]
+# a name, the length of the frames, an option, and the row of the list that says the same
+RECORDED = [
+    ("police, a recording, 64 random bytes a frame", 64, [], OF_64),
+    ("the same with --fcs no, 64 bytes", 64, ["--fcs=no"], OF_64),
+    ("police, a recording, 1,518 random bytes a frame", 1518, [], OF_1518),
+    ("the same with --fcs no, 1,518 bytes", 1518, ["--fcs=no"], OF_1518),
 ]
 REPLAY = [
     ("replay, 24 systems, 400 links, 100 Mbit/s", "aircraft", True),
@@ -178,6 +189,14 @@ class Bench:
             self.compare([words for _, words in programs])
         return self.rows(programs, count, make)
 
+    def recording(self, name, length, options, lines):
+        """The row of `police` on a recording."""
+        count = min(lines, MOST_BYTES // (length + 16))
+        make = lambda path, count: write_recording(path, count, length)
+        make(self.path("long.list"), count)
+        words = [self.program, "police", *options, "1", str(length), "500"]
+        return self.rows([(name, words)], count, make)[0]
+
     def compare(self, both):
         """Both programs must print the same of the long list."""
         copies = [self.path("ours"), self.path("theirs")]
@@ -269,14 +288,42 @@ def show_growth(bench, lines):
 
 
 def show_police(bench, given, baseline):
-    """The rows of `police`, with the ratios where there is a baseline."""
+    """The rows of `police`, with the ratios where there is a baseline; the rows by their names."""
+    by_name = {}
     for name, options in POLICE:
         if given.only in name:
             ours, *others = bench.police(name, options, given.lines, baseline)
+            by_name[name] = ours
             ratios = ours.ratios(others[0]) if others else []
             show([*ours.cells(), *ratios])
             for theirs in others:
                 show([*theirs.cells(), *("" for _ in ratios)])
+    return by_name
+
+
+def reads_recordings(program):
+    """Its help names an option of recordings."""
+    told = subprocess.run([program, "police", "--help"], capture_output=True, check=True)
+    return b"--interface" in told.stdout
+
+
+def show_recorded(bench, given, empty):
+    """The rows of recordings, each with the name of its list's row."""
+    rows = []
+    for name, length, options, listed in RECORDED:
+        if given.only in name:
+            rows.append((bench.recording(name, length, options, given.lines), listed))
+            show([*rows[-1][0].cells(), *empty])
+    return rows
+
+
+def show_shares(recorded, by_name):
+    """What share of the instructions of its list line a recorded frame takes."""
+    for row, listed in recorded:
+        line = by_name.get(listed)
+        if line is not None and line.instructions and row.instructions is not None:
+            share = row.instructions / line.instructions
+            print(f"\n{row.name}: {share:.0%} of the instructions of a list's line")
 
 
 def show_replay(bench, given, empty):
@@ -310,10 +357,13 @@ def main():
             built, empty = bench.path("police_baseline"), ["" for _ in RATIOS]
             subprocess.run(["cc", "-O2", "-o", built, BASELINE], check=True)
         head([*HEAD, *(RATIOS if built else [])])
-        show_police(bench, given, built)
+        by_name, recorded = show_police(bench, given, built), []
+        if reads_recordings(bench.program):
+            recorded = show_recorded(bench, given, empty)
         by_kind = show_replay(bench, given, empty)
         if given.only in SEND:
             show([*bench.send(given.lines).cells(), *empty])
+        show_shares(recorded, by_name)
         if {"one", "copies"} <= set(by_kind):
             show_copies(by_kind["one"], by_kind["copies"])
 

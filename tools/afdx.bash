@@ -60,17 +60,18 @@ _afdx_is_option() { [[ -z $before && ${COMP_WORDS[COMP_CWORD]} == -* ]]; }
 _afdx() {
     local command=${COMP_WORDS[1]-} given before
     local told=(--explain --line-buffered --progress --summary --help)
+    local recorded=(--interface --fcs --origin)
     COMPREPLY=()
     if ((COMP_CWORD == 1)); then
         _afdx_commands check explain police replay send solve
         return
     fi
-    _afdx_read 2 --vl --port --lmin --policing --keep
+    _afdx_read 2 --vl --port --lmin --policing --keep "${recorded[@]}"
     if _afdx_is_option; then
         case $command in
-            replay) _afdx_words --no-admission --explain-drops "${told[@]}" ;;
+            replay) _afdx_words --no-admission --explain-drops "${recorded[@]}" "${told[@]}" ;;
             send) _afdx_words "${told[@]}" ;;
-            police) _afdx_words --vl --port --lmin --policing "${told[@]}" ;;
+            police) _afdx_words --vl --port --lmin --policing "${recorded[@]}" "${told[@]}" ;;
             check) _afdx_words --all --margins --explain --help ;;
             solve) _afdx_words --keep --raise-only --explain --help ;;
             explain) _afdx_words --list --help ;;
@@ -78,13 +79,16 @@ _afdx() {
         return
     fi
     if [[ -n $before ]]; then
-        if [[ $before == --policing ]]; then _afdx_words byte frame; fi
-        if [[ $before == --keep ]]; then _afdx_words jitter buffer latency skew; fi
+        case $before in
+            --policing) _afdx_words byte frame ;;
+            --keep) _afdx_words jitter buffer latency skew ;;
+            --fcs) _afdx_words yes no ;;
+        esac
         return
     fi
     case $command.${#given[@]} in
         police.0) _afdx_words 1 2 4 8 16 32 64 128 ;;
-        police.3 | replay.1) _afdx_files list ;;
+        police.3 | replay.1) _afdx_files list pcap pcapng ;;
         check.0 | replay.0 | send.0 | solve.0) _afdx_files toml ;;
         send.1) _afdx_systems "${given[0]}" ;;
         send.2) _afdx_files list messages ;;

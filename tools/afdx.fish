@@ -16,7 +16,7 @@ function __afdx_given --description 'Words behind the command that belong to no 
     test (count $given) -gt 0; and printf '%s\n' $given
 end
 
-set -g __afdx_valued --vl --port --lmin --policing --keep --config --origin --shift --fcs \
+set -g __afdx_valued --vl --port --lmin --policing --keep --interface --config --origin --shift --fcs \
     --side -o --out --split --link --from --rows --title -j --jobs -S --sshlogin
 
 function __afdx_at --description 'Is the word the one of that number behind COMMAND (- for none)?'
@@ -77,12 +77,15 @@ complete -c afdx -n '__afdx_in police' -x -l vl -d 'The identifier of the link'
 complete -c afdx -n '__afdx_in police' -x -l port -d 'The input port of its frames'
 complete -c afdx -n '__afdx_in police' -x -l lmin -d 'The least length of a frame'
 complete -c afdx -n '__afdx_in police' -x -l policing -a 'byte frame' -d 'What a frame is charged'
+complete -c afdx -n '__afdx_in police replay' -x -l interface -d 'Where an interface was plugged in'
+complete -c afdx -n '__afdx_in police replay' -x -l fcs -a 'yes no' -d 'Are there check sequences?'
+complete -c afdx -n '__afdx_in police replay' -x -l origin -d 'ns since 1970 of time 0'
 complete -c afdx -n '__afdx_at police 0 0' -a '1 2 4 8 16 32 64 128'
-complete -c afdx -n '__afdx_at police 3 3' -a '(__afdx_files list)'
+complete -c afdx -n '__afdx_at police 3 3' -a '(__afdx_files list pcap pcapng)'
 for command in check replay send solve
     complete -c afdx -n "__afdx_at $command 0 0" -a '(__afdx_files toml)'
 end
-complete -c afdx -n '__afdx_at replay 1 1' -a '(__afdx_files list)'
+complete -c afdx -n '__afdx_at replay 1 1' -a '(__afdx_files list pcap pcapng)'
 complete -c afdx -n '__afdx_at send 1 1' -a '(__afdx_systems)'
 complete -c afdx -n '__afdx_at send 2 2' -a '(__afdx_files list messages)'
 

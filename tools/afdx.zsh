@@ -6,12 +6,18 @@ local help='(- *)--help[print help and leave]'
 local version='(- *)--version[print the version and leave]'
 local config='configuration:_files -g "*.toml(-.)"'
 local list='frame list:_files -g "*.list(-.)"'
+local input='frame list or recording:_files -g "*.(list|pcap|pcapng)(-.)"'
 local recording='recording:_files -g "*.(pcap|pcapng|pcap.gz|pcapng.gz)(-.)"'
 local -a told=(
     '--explain=-[when a fault is explained]::when:(auto always never)'
     '--line-buffered[hand over each line at once]'
     '--progress[say how much was read]'
     '--summary[print the counts of the run at its end]'
+)
+local -a recorded=(
+    '*--interface[where the frames of an interface of the recording came in]:K=A:P:'
+    '--fcs[do recorded frames end with check sequences]:answer:(yes no)'
+    '--origin[the moment of the recording that is time 0, in ns since 1970]:ns:'
 )
 
 _afdx_systems() { # the names of the systems of the configuration that was given
@@ -28,15 +34,16 @@ _afdx_program() {
             ;;
         explain) _arguments $help '--list[print each word and each form of a line]' '*:text:' ;;
         police)
-            _arguments $help $told '--vl[the identifier of the link]:number:' \
+            _arguments $help $told $recorded '--vl[the identifier of the link]:number:' \
                 '--port[the input port of its frames]:number:' \
                 '--lmin[the least length of a frame]:bytes:' \
                 '--policing[what a frame is charged]:kind:(byte frame)' \
-                ':BAG in ms:(1 2 4 8 16 32 64 128)' ':Lmax in bytes:' ':jitter in us:' ":$list"
+                ':BAG in ms:(1 2 4 8 16 32 64 128)' ':Lmax in bytes:' ':jitter in us:' ":$input"
             ;;
         replay)
-            _arguments $help $told '--no-admission[also where the network is refused]' \
-                '--explain-drops[print how much too early frames came]' ":$config" ":$list"
+            _arguments $help $told $recorded \
+                '--no-admission[also where the network is refused]' \
+                '--explain-drops[print how much too early frames came]' ":$config" ":$input"
             ;;
         send)
             _arguments $help $told ":$config" ':system:_afdx_systems' \

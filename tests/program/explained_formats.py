@@ -20,6 +20,7 @@ TOP = pathlib.Path(__file__).resolve().parent.parent.parent
 sys.path.insert(0, str(TOP / "tests" / "lib"))
 
 import closed_lists as lists  # noqa: E402
+from reads import READS  # noqa: E402
 
 FORMATS = TOP / "docs" / "FORMATS.md"
 KEY_FAULTS = ["Missing", "WrongKind", "OutOfRange", "Twice", "NoSuchSystem"]
@@ -45,6 +46,8 @@ WITHOUT_ROW = [
     "skipped no-frame 0 left-out 0 not-afdx 1 unknown-sender 1 no-network 0 before-origin 0"
     " recorder-lost 0 claimed 1",
 ]
+SKIPPED_LINE = "skipped no-frame 0 left-out 0 not-afdx 2 unknown-sender 0 no-network 0"
+SKIPPED_LINE += " before-origin 0 recorder-lost 0 claimed 51"
 
 
 def rows_below(heading: str, texts: str) -> list[list[str]]:
@@ -109,6 +112,13 @@ def wanted_answers(texts: str) -> list[tuple[str, list[str]]]:
     return wanted
 
 
+def wanted_of_recordings(texts: str) -> list[tuple[str, list[str]]]:
+    """The line of what was left out of a recording, and those of its words that aren't reasons."""
+    counts = rows_below("| Count | Meaning |", texts)
+    wanted = [(word.strip("`"), [meaning]) for word, meaning in counts]
+    return [*wanted, (SKIPPED_LINE, [meaning for _, meaning in counts])]
+
+
 def wanted_besides(texts: str) -> list[tuple[str, list[str]]]:
     """A line of `check` with its columns; letters and `accept`, alone; a receiver's line with the
     words that can't come in a replay; and what has no row."""
@@ -170,7 +180,8 @@ def can_come(line: str) -> bool:
 def faults(program: str) -> list[str]:
     texts = FORMATS.read_text(encoding="utf-8")
     found = []
-    for line, says in wanted_answers(texts) + wanted_besides(texts) + wanted_keys(texts):
+    wanted = wanted_answers(texts) + wanted_besides(texts) + wanted_keys(texts)
+    for line, says in wanted + (wanted_of_recordings(texts) if READS else []):
         said = answer(program, line)
         if not can_come(line):
             if said is not None:

@@ -3,6 +3,7 @@ and options; and recordings with bytes changed."""
 from __future__ import annotations
 
 import random
+import re
 from typing import NamedTuple
 
 from frames import FIRST, frame_of
@@ -12,6 +13,7 @@ ORDERS = ("little", "big")
 START = 1_700_000_000  # s since 1970
 RESOLUTIONS = [0, 1, 2, 3, 6, 9, 10, 128, 130, 138, 148, 158, 160, 162]
 FINE = [11, 12, 15, 18, 19, 30, 127, 163, 168, 180, 191, 192, 255]
+LINE = re.compile(rb"[FBR] (\d{1,18}) [AB] \d+ ([0-9a-fA-F]*)")  # time and bytes of a list's line
 SENDERS = {1: FIRST, 2: FIRST | {"port": 2, "id": 2}}
 
 
@@ -241,9 +243,23 @@ def mutated(data: bytes, chance: random.Random) -> bytes:
     return bytes(changed)
 
 
+def pcap_of(text: bytes) -> bytes:
+    """The frames of a list as they stand there, in a pcap in ns that doesn't say whether they end
+    with their check sequence. Lines that are none are left out."""
+    data = bytes.fromhex("4d3cb2a1 02000400 00000000 00000000 00000400 01000000")
+    for line in text.split(b"\n"):
+        found = LINE.fullmatch(line.removesuffix(b"\r"))
+        if found and len(found[2]) % 2 == 0:
+            frame, size = bytes.fromhex(found[2].decode()), len(found[2]) // 2
+            seconds, ns = divmod(START * 10**9 + min(int(found[1]), 10**16), 10**9)
+            data += b"".join(each.to_bytes(4, "little") for each in (seconds, ns, size, size))
+            data += frame
+    return data
+
+
 def made_data(kind: str, number: int | str) -> bytes:
-    """A recording made at random, the same for the same words; those of the kind `mutated` have
-    bytes changed."""
+    """A recording made at random, the same for the same words; those of a kind `pcap` have that
+    form, those of a kind `mutated` have bytes changed."""
     chance = random.Random(f"{kind}/{number}")
-    data = made(chance)
-    return mutated(data, chance) if kind == "mutated" else data
+    data = made_pcap(chance) if "pcap" in kind else made(chance)
+    return mutated(data, chance) if "mutated" in kind else data

@@ -1,5 +1,6 @@
 """The program reads recordings itself: it must write what it writes of the list that says the same,
-`list` that list, and the faults and counts that the reference says."""
+`list` that list, and the faults and counts that the reference says. What it doesn't read yet is no
+recording for it (tests/lib/reads.py)."""
 from __future__ import annotations
 
 import os
@@ -7,44 +8,63 @@ import random
 import select
 import subprocess
 
-from devices import Weak, compile_devices, weak_devices
 from first_fault import list_fault
 from foreign_recordings import try_foreign
-from frames import HELLO
+from long_recordings import long_memory, long_runs
 from made_recordings import made_data
 from program import Cases, Program, answers, must, same_text
 from reading_words import try_words
-from recorded import is_recording, recorded
+from reads import READS, is_read
+from recorded import recorded
 from recorded_list import Options
-from recording_rows import G1, H1, H2, IL, PL, SL, US, ZERO, E, R, Row
-from streams import least_memory
-from wanted import BEYOND, POLICE, Case, case_of, cut_rows, path_of, random_case
-from wanted import row_holds
+from recording_rows import H1, H2, IL, PL, SL, US, ZERO, E, R, Row
+from wanted import POLICE, Case, case_of, cut_rows, path_of, random_case
+from wanted import row_holds, told_before
 
 SOON = 20  # seconds
 GROUPS, EACH = 12, 25  # recordings made at random
+KINDS = ("made", "mutated") if "pcapng" in READS else ("pcap", "mutated pcap")
+
+
+def is_unread(program: Program, case: Case) -> None:
+    """What is no recording for the program is a list, and where an option asks for a recording a
+    fault."""
+    words, path = [*case.words(), *case.options.words()], path_of(program, case.data)
+    fault, out = b"recording NotRecording 0\n", b""
+    if not case.options.words():
+        fault, out = list_fault(case.data, True), None
+    for words_of_input, given in (([path], b""), (["-"], case.data)):
+        found = program.run(*words, *words_of_input, given=given)
+        answers(found, 3 if fault else 0, out, fault)
 
 
 def reads(program: Program, case: Case) -> None:
-    """The run on a recording: from a file, from standard input, line by line; counted."""
+    """The run on a recording: from a file, from standard input, line by line; counted; with what
+    came too early."""
+    if not is_read(case.data):
+        is_unread(program, case)
+        return
     words = [*case.words(), *case.options.words()]
     path = path_of(program, case.data)
-    if not is_recording(case.data) and not case.options.words():
-        fault = list_fault(case.data, True)
-        answers(program.run(*words, path), 3 if fault else 0, None, fault)
-        return
     wanted, said = case.listed(program), case.told()
     answers(program.run(*words, path), *wanted)
     answers(program.run(*words, "-", given=case.data), *wanted)
     answers(program.run(*words, "--line-buffered", path), *wanted)
     counts = said.fault or case.listed(program, "--summary").err + said.skipped
     answers(program.run(*words, "--summary", path), wanted.status, wanted.out, counts)
+    if not case.rule:
+        early = case.listed(program, "--explain-drops")
+        answers(program.run(*words, "--explain-drops", path), *early)
 
 
 def lists(program: Program, case: Case) -> None:
     """`list` writes the list that says the same."""
     words = ["list", *case.options.words(), "base.toml"]
-    said, path = case.told(), path_of(program, case.data)
+    path = path_of(program, case.data)
+    if not is_read(case.data):
+        answers(program.run(*words, path), 3, b"", b"recording NotRecording 0\n")
+        return
+    said = case.told()
     status, text = 3 if said.fault else 0, said.text()
     answers(program.run(*words, path), status, text, said.fault)
     answers(program.run(*words, "-", given=case.data), status, text, said.fault)
@@ -53,9 +73,9 @@ def lists(program: Program, case: Case) -> None:
 
 
 def both(program: Program, case: Case) -> None:
-    """The run, and `list` where it is one of `replay`."""
+    """The run, and `list` where it is one of `replay` and the program has it."""
     reads(program, case)
-    if not case.rule:
+    if not case.rule and "list" in READS:
         lists(program, case)
 
 
@@ -75,7 +95,7 @@ def many(program: Program, kind: str, group: int) -> None:
 
 def cut_anywhere(program: Program, case: Case) -> None:
     """A recording that is cut at each byte."""
-    for size in range(4, len(case.data)):
+    for size in range(len(case.data)):
         both(program, case._replace(data=case.data[:size]))
 
 
@@ -90,46 +110,7 @@ def one_port_each(program: Program, path: str) -> None:
     both(program, Case(data, Options(places)))
 
 
-# ---- devices -------------------------------------------------------------------------------
-
-
-def told_before(program: Program, words: list[str], data: bytes) -> bytes:
-    """What a command writes of the whole frames in these bytes, where the run then stops."""
-    port = 1 if words == POLICE else None
-    lines = Case(data, Options(port=port)).told().lines
-    if words[0] == "list":
-        return b"".join(lines)
-    found = program.run(*words, "-", given=b"".join(lines) + BEYOND)
-    answers(found, 3, None, b"list BadLine %d\n" % (len(lines) + 1))
-    return found.out
-
-
-class WeakRecording(Weak):
-    """A command on a recording, read from a weak device."""
-
-    def lines_before(self, count: int) -> bytes:
-        """What the whole frames of the first bytes give, where the run then stops."""
-        return told_before(self.program, self.words, self.given[:count])
-
-
-def weak_cases(program: Program) -> list[tuple]:
-    """Inputs and outputs that fail."""
-    frames = [R(f"{2 * k:02x}000000", each) for k, each in enumerate((H1, "ff" + H1[2:], H2))]
-    config = os.path.join(program.folder, "base.toml")
-    given = {"pcap": PL + "".join(frames), "pcapng": SL + IL + E(US, H1) + E(US, H2)}
-    given |= {"a damaged one": G1 + "00" * 12, "none that arrives": PL + R(ZERO, "ff" + H1[2:])}
-    cases = []
-    for place, (name, text) in enumerate(given.items()):
-        for words in (["replay", config], ["list", config], POLICE):
-            is_named = (place + len(words)) % 2 == 0
-            case = weak_run, program, words, bytes.fromhex(text), is_named
-            cases.append((f"weak devices: {words[0]}, {name}", *case))
-    return cases
-
-
-def weak_run(program: Program, words: list[str], data: bytes, by_path: bool) -> None:
-    """All that weak devices do to one command on a recording."""
-    weak_devices(WeakRecording(program, words, data, by_path))
+# ---- while it is recorded -------------------------------------------------------------------
 
 
 def next_text(pipe: int, size: int, seconds: float) -> bytes:
@@ -177,65 +158,27 @@ def live_cases(program: Program) -> list[tuple]:
     cases = []
     for name, texts in (("pcap", pcap), ("pcapng", pcapng)):
         pieces = [bytes.fromhex(text) for text in texts]
-        for words in (["replay", "base.toml"], ["list", "base.toml"], POLICE):
+        commands = [["replay", "base.toml"], POLICE]
+        commands += [["list", "base.toml"]] if "list" in READS else []
+        for words in commands if is_read(b"".join(pieces)) else []:
             cases.append((f"at once: {words[0]}, {name}", at_once, program, words, pieces))
     return cases
 
 
-# ---- sizes ---------------------------------------------------------------------------------
-
-
-def many_frames(count: int) -> bytes:
-    """A pcap in ns of so many frames of link 1, 1 ms apart."""
-    frame, head = HELLO, bytes.fromhex("4d3cb2a1" + PL[8:])
-    lengths = 2 * len(frame).to_bytes(4, "little")
-    pieces = [head]
-    for number in range(count):
-        seconds, ms = divmod(number, 1000)
-        stamp = seconds.to_bytes(4, "little") + (ms * 10**6).to_bytes(4, "little")
-        pieces.append(stamp + lengths + frame)
-    return b"".join(pieces)
-
-
-def bounded_memory(program: Program, count: int) -> None:
-    """So many frames, more than a list has lines, take the memory that a few take."""
-    few, many = (program.write(f"{n}.pcap", many_frames(n)) for n in (1_000, count))
-    for words in (POLICE, ["list", "base.toml"], ["replay", "--no-admission", "base.toml"]):
-        room = least_memory(program, [*words, few])
-        found = program.run_limited(room + 64, *words, many)
-        answers(found, 0, None, b"")
-        must(found.out.count(b"\n") >= count, f"{words[0]} writes {found.out.count(10)} lines")
-
-
-def large_blocks(program: Program) -> None:
-    """Blocks as long as they may be, and longer ones of a type that is passed over."""
-    begin, one = bytes.fromhex(SL + IL), bytes.fromhex(E(US, H1))
-
-    def block(kind: int, size: int) -> bytes:
-        ends = size.to_bytes(4, "little")
-        return kind.to_bytes(4, "little") + ends + bytes(size - 12) + ends
-
-    most = 16_777_216
-    for kind, size in ((0x99, most + 4), (0x0BAD, most + 4), (1, most), (5, most), (5, most + 4)):
-        whole = begin + block(kind, size) + one
-        for data in (whole, whole[: len(begin) + size - 1]):
-            case = Case(data)
-            wanted, said, path = case.listed(program), case.told(), path_of(program, data)
-            answers(program.run(*case.words(), path), *wanted)
-            status = 3 if said.fault else 0
-            answers(program.run("list", "base.toml", path), status, said.text(), said.fault)
+# ---- all ------------------------------------------------------------------------------------
 
 
 def try_reading(cases: Cases, program: Program, every: list[Row]) -> None:
     """All cases; these rows are spelled out."""
-    compile_devices(program)
     cases.try_at_once([(f"read: {row.name}", row_is_read, program, row) for row in every])
     try_words(cases, program)
-    some = [(f"cut: {row.name}", cut_anywhere, program, case_of(row)) for row in cut_rows()]
-    for kind in ("made", "mutated"):
+    cuts = [row for row in cut_rows() if is_read(row.bytes())]
+    some = [(f"cut: {row.name}", cut_anywhere, program, case_of(row)) for row in cuts]
+    for kind in KINDS:
         some += [(f"read: {kind}, {group}", many, program, kind, group) for group in range(GROUPS)]
     written = try_foreign(cases, program.folder)
     some += [(f"read: {name}", one_port_each, program, path) for name, path in written.items()]
-    cases.try_at_once([*some, *weak_cases(program), *live_cases(program)])
-    cases.try_case("large blocks", large_blocks, program)
-    cases.try_case("memory of 1,100,000 frames", bounded_memory, program, 1_100_000)
+    cases.try_at_once([*some, *live_cases(program)])
+    for run in long_runs():
+        name = f"memory of {run.frames:,} frames: {run.words[0]}"
+        cases.try_case(name, long_memory, program, run)

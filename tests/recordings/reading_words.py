@@ -3,14 +3,19 @@ from __future__ import annotations
 
 from first_fault import list_fault
 from frames import HELLO
-from program import Cases, Program, answers, must
+from program import Cases, Program, answers, must, same_text
+from reads import READS, is_read
 from recorded_list import Options
-from recording_rows import F1, G1, PL, WRONG_WORDS
+from recording_rows import F1, FIRST_NS, G1, PL, WRONG_WORDS, Row, rows
 from tables import base_tables, text_of
-from wanted import POLICE, Case, path_of
+from wanted import POLICE, Case, case_of, path_of
 
+COMMANDS = [["replay", "base.toml"], POLICE]
+COMMANDS += [["list", "base.toml"]] if "list" in READS else []
 SPELLED = {name: bytes.fromhex(text) for name, text in (("pcap", F1), ("pcapng", G1))}
 LIST = b"F 0 A 1 " + HELLO.hex().encode() + b"\n"
+
+TIGHT = text_of(base_tables() | {"buffer": 251})  # not admitted
 
 BAD_INTERFACES = ["", "0", "=A", "0=", "0=a", "0=C", "0=AB", "0=A:", "0=A:0", "0=A:25", "0=A:001"]
 BAD_INTERFACES += ["0=A:1:2", "0=A:+1", "0=-:1", "0=:1", "0=--", "+0=A", "4096=A", "00001=A", "x=A"]
@@ -28,21 +33,56 @@ def good_words(program: Program, word: str) -> None:
     """The word is taken."""
     interface, place = word.removeprefix("--interface=").split("=")
     data = SPELLED["pcap"]
-    said = Case(data, Options({int(interface): place})).told()
-    found = program.run("list", word, "base.toml", path_of(program, data))
-    answers(found, 3 if said.fault else 0, said.text(), said.fault)
+    case = Case(data, Options({int(interface): place}))
+    said, path = case.told(), path_of(program, data)
+    answers(program.run(*case.words(), word, path), *case.listed(program))
+    if "list" in READS:
+        found = program.run("list", word, "base.toml", path)
+        answers(found, 3 if said.fault else 0, said.text(), said.fault)
+
+
+def spaced_words(program: Program) -> None:
+    """An option and its value as two words, and the options in any order."""
+    case = Case(SPELLED["pcap"], Options({0: "B:2", 7: "-"}, True, FIRST_NS - 5))
+    words = ["--interface", "7=-", "--origin", f"{FIRST_NS - 5}", "--interface", "0=B:2"]
+    path, wanted = path_of(program, case.data), case.listed(program)
+    answers(program.run("replay", *words, "--fcs", "yes", "base.toml", path), *wanted)
+    answers(program.run("replay", "base.toml", path, "--fcs", "yes", *words), *wanted)
+
+
+def unknown_words(program: Program) -> None:
+    """What the parser of words refuses, in lines of its own."""
+    path = path_of(program, SPELLED["pcap"])
+    numbers = ["--origin=-1", "--origin=", "--origin=x", "--origin=1e9", f"--origin={2**64}"]
+    for word in ["--fcs=maybe", "--fcs=", "--fcs", "--origin", "--interface", *numbers]:
+        for command in COMMANDS:
+            found = program.run(*command, path, word)
+            must((found.status, found.out) == (2, b""), f"{word}: status {found.status}")
+            must(found.err != b"", f"{word}: nothing is told")
+    for twice in (["--fcs=yes", "--fcs=no"], ["--origin=0", "--origin=1"]):
+        found = program.run(*COMMANDS[0], path, *twice)
+        must(found.status == 2 and found.out == b"", f"{twice}: status {found.status}")
+
+
+def helpful(program: Program) -> None:
+    """The help names the options, and says that --summary alone tells what was left out, in the line
+    `skipped`."""
+    for command, *_ in COMMANDS:
+        found = program.run(command, "--help")
+        for word in (b"--interface", b"--fcs", b"--origin", b"'skipped"):
+            must(word in found.out, f"the help of {command} has no {word.decode()}")
 
 
 def word_cases(program: Program) -> list[tuple]:
     """Words that are refused, and words that are not."""
     cases: list[tuple] = []
-    for command in (["replay", "base.toml"], ["list", "base.toml"], POLICE):
+    for command in COMMANDS:
         for words, line in WRONG_WORDS:
             name = f"words: {command[0]} {' '.join(words)}"
             cases.append((name, wrong_words, program, command, words, line))
-    for each in BAD_INTERFACES:
-        words = [f"--interface={each}"]
-        given = ["list", "base.toml"], words, "words BadInterface"
+    for place, each in enumerate(BAD_INTERFACES):
+        words, command = [f"--interface={each}"], COMMANDS[place % len(COMMANDS)]
+        given = command, words, "words BadInterface"
         cases.append((f"words: {words[0]!r}", wrong_words, program, *given))
     for twice in (["0=A", "0=A"], ["4=A", "0004=B"]):
         words = [f"--interface={each}" for each in twice]
@@ -60,20 +100,30 @@ def word_order(program: Program) -> None:
     listed = program.write("one.list", LIST)
     late = "--origin=9223372036854775808"
     program.write("bad.toml", b"profile = 3\n")
+    program.write("tight.toml", TIGHT)
     tries = [
         (["replay", bad, "none.toml", path], 4, b"device Config\n"),
         (["replay", bad, "base.toml", "none"], 4, b"device List\n"),
-        (["list", bad, "base.toml", "none"], 4, b"device List\n"),
-        (["list", "base.toml", program.folder], 4, b"device Read\n"),
+        (["police", bad, "3", "64", "500", "none"], 4, b"device List\n"),
+        (["replay", "base.toml", program.folder], 4, b"device Read\n"),
+        (["replay", "--fcs=no", "base.toml", program.folder], 4, b"device Read\n"),
         (["replay", bad, "bad.toml", path], 2, b"words BadInterface\n"),
         (["replay", late, "bad.toml", path], 2, b"words BadNumber\n"),
         (["replay", late, bad, "base.toml", path], 2, b"words BadInterface\n"),
         (["police", bad, "3", "64", "500", path], 2, b"words BadInterface\n"),
         (["police", late, "3", "64", "500", path], 2, b"words BadNumber\n"),
         (["police", "3", "64", "500", path], 2, b"words BadRule\n"),
+        (["replay", "bad.toml", path], 1, b"config BadProfile\n"),
+        (["replay", "--fcs=yes", "bad.toml", listed], 1, b"config BadProfile\n"),
+        (["replay", "--fcs=yes", "tight.toml", listed], 1, b"admit A2 3 252\n"),
+    ]
+    lists = [
+        (["list", bad, "base.toml", "none"], 4, b"device List\n"),
+        (["list", "base.toml", program.folder], 4, b"device Read\n"),
         (["list", "bad.toml", path], 1, b"config BadProfile\n"),
         (["list", "--fcs=yes", "bad.toml", listed], 1, b"config BadProfile\n"),
     ]
+    tries += lists if "list" in READS else []
     for words, status, err in tries:
         answers(program.run(*words), status, b"", err)
 
@@ -82,10 +132,12 @@ def no_recordings(program: Program) -> None:
     """What is no recording: a fault for `list` and with an option, else a list."""
     pieces = [b"", b"\xd4\xc3\xb2", b"\n\r\r", b"\x0a\x0d\x0d\x0b" + b"\0" * 24, LIST]
     pieces += [bytes.fromhex(f"34cdb2a1{PL[8:]}"), b"\x1f\x8b\x08\0" + b"\0" * 20]
+    pieces += [] if "pcapng" in READS else [SPELLED["pcapng"]]
     fault = 3, b"", b"recording NotRecording 0\n"
     for data in pieces:
         path = path_of(program, data)
-        answers(program.run("list", "base.toml", path), *fault)
+        if "list" in READS:
+            answers(program.run("list", "base.toml", path), *fault)
         for option in ("--interface=0=A", "--fcs=no", "--origin=0"):
             answers(program.run("replay", option, "base.toml", path), *fault)
             answers(program.run(*POLICE, option, path), *fault)
@@ -94,19 +146,42 @@ def no_recordings(program: Program) -> None:
 
 
 def not_admitted(program: Program) -> None:
-    """`list` takes tables that aren't admitted."""
-    program.write("tight.toml", text_of(base_tables() | {"buffer": 251}))
-    path, words = path_of(program, SPELLED["pcapng"]), ["replay", "tight.toml"]
-    found = program.run("list", "tight.toml", path)
-    answers(found, *program.run("list", "base.toml", path))
-    must(program.run(*words, path).status == 1, "the tables are admitted")
-    free = program.run(*words, "--no-admission", path)
-    answers(free, *program.run(*words, "--no-admission", "-", given=found.out))
+    """Tables that aren't admitted: nothing is read, but with --no-admission; `list` takes them."""
+    program.write("tight.toml", TIGHT)
+    data = SPELLED["pcap"]
+    path, words = path_of(program, data), ["replay", "tight.toml"]
+    answers(program.run(*words, path), 1, b"", b"admit A2 3 252\n")
+    given = Case(data).told().text()
+    wanted = program.run(*words, "--no-admission", "-", given=given)
+    answers(program.run(*words, "--no-admission", path), *wanted)
+    if "list" in READS:
+        answers(program.run("list", "tight.toml", path), 0, given, b"")
+
+
+def explained(program: Program, row: Row) -> None:
+    """A fault with what it means, as `explain` has it."""
+    path, words = path_of(program, row.bytes()), [*case_of(row).words(), *row.options.words()]
+    meant = program.run("explain", "recording", *row.fault.split())
+    answers(meant, 0, None, b"")
+    found = program.run(*words, "--explain", path)
+    must(found.status == 3, f"status {found.status}")
+    line = f"recording {row.fault}\n".encode()
+    same_text("standard error", line + meant.out, found.err)
+
+
+def explained_cases(program: Program) -> list[tuple]:
+    """A row for each name of a fault."""
+    by_name = {row.fault.split()[0]: row for row in rows() if row.fault}
+    faulty = [row for row in by_name.values() if is_read(row.bytes()) or row.options.words()]
+    return [(f"explained: {row.fault}", explained, program, row) for row in faulty]
 
 
 def try_words(cases: Cases, program: Program) -> None:
     """All cases."""
-    cases.try_at_once(word_cases(program))
+    cases.try_at_once([*word_cases(program), *explained_cases(program)])
+    cases.try_case("words: the help", helpful, program)
+    cases.try_case("words: the parser's", unknown_words, program)
+    cases.try_case("words: spaced", spaced_words, program)
     cases.try_case("words: their order", word_order, program)
     cases.try_case("what is no recording", no_recordings, program)
     cases.try_case("tables that aren't admitted", not_admitted, program)

@@ -7,12 +7,15 @@ tests/lib/weak_devices.c, which `cc` compiles, makes the devices weak: at most 1
 the first call broken, then the second, and so on. A call is broken by an error that stays, by an
 error that is gone at the next call, by an interruption, or by moving no byte. `police`, `replay`,
 with admission and without, and `send` are run on lists of a few lines, read by path or as standard
-input, and `check` and `solve` on configurations. Each run must write a beginning of the undisturbed
-text, exactly as far as it has to, and end with the status and the one line of the device that
-failed; and a device that failed, or has ended, must not be asked again, nor the other one be asked
-for more than what is held. With --line-buffered each line's text must be handed over before more is
-read. Prints `ok NAME` or `FAILED NAME` for each case, then `N passed, M failed`; ends with status 1
-if a case failed.
+input, and `check` and `solve` on configurations; `police` and `replay` also on recordings, if the
+program reads them (tests/lib/reads.py). Each run must write a beginning of the undisturbed text,
+exactly as far as it has to, and end with the status and the one line of the device that failed; and
+a device that failed, or has ended, must not be asked again, nor the other one be asked for more
+than what is held. With --line-buffered the text of each line, or recorded frame, must be handed
+over before more is read. The first bytes are also read one by one, and each of these reads is
+broken too.
+Prints `ok NAME` or `FAILED NAME` for each case, then `N passed, M failed`; ends with status 1 if a
+case failed.
 """
 from __future__ import annotations
 
@@ -21,175 +24,19 @@ import os
 import subprocess
 import sys
 from collections.abc import Iterator
-from typing import NamedTuple
 
 sys.dont_write_bytecode = True
-sys.path.insert(0, os.path.join(os.path.dirname(os.path.abspath(__file__)), "..", "lib"))
+TESTS = os.path.join(os.path.dirname(os.path.abspath(__file__)), "..")
+sys.path[:0] = [os.path.join(TESTS, name) for name in ("lib", "recordings")]
 import tables as made  # noqa: E402
 from frames import HELLO, frame_of  # noqa: E402
-from program import TOP, Answer, Cases, Program, answers, main_of, must  # noqa: E402
+from program import Cases, Program, answers, main_of, must  # noqa: E402
 from sender import Message, list_sent, submission_list  # noqa: E402
+from weak import ERRORS, FEW, WRITE, Weak, compile_devices  # noqa: E402
+from weak import never_again, of_kind, weak_devices  # noqa: E402
+from weak_recordings import weak_recordings  # noqa: E402
 
-FEW = 16  # bytes of one call
 POLICE = ["police", "1", "64", "500"]
-READ, WRITE = (4, b"device Read\n"), (4, b"device Write\n")
-ERRORS = ("fails", "once", "interrupted")
-BEYOND = b"!\n"  # a line that is none: what stands before it is written, and no more
-
-
-class Call(NamedTuple):
-    """A line of the log: read or write, the bytes that were asked for, and the answer."""
-
-    kind: str
-    asked: int
-    answer: int
-
-
-class Weak:
-    """A command on a list, and what it does where nothing is disturbed."""
-
-    def __init__(self, program: Program, words: list[str], given: bytes, by_path: bool) -> None:
-        self.program, self.words, self.given, self.by_path = program.apart(), words, given, by_path
-        self.shim = os.path.join(program.folder, "devices.so")
-        self.known: dict[bytes, Answer] = {}
-        self.whole = self.undisturbed(given)
-
-    def undisturbed(self, given: bytes) -> Answer:
-        """The answer to a list on devices that do as they should."""
-        if given not in self.known:
-            self.known[given] = self.program.run(*self.words, "-", given=given)
-        return self.known[given]
-
-    def lines_before(self, count: int) -> bytes:
-        """What the whole lines of the first bytes give, where the run then stops."""
-        front = self.given[:count]
-        return self.undisturbed(front[: front.rfind(b"\n") + 1] + BEYOND).out
-
-    def run(self, most: int, *options: str, **broken: str) -> tuple[Answer, list[Call]]:
-        """One run on weak devices, with the log of its calls."""
-        log = os.path.join(self.program.folder, "calls")
-        env = {"LD_PRELOAD": self.shim, "DEVICE_LOG": log}
-        env |= {"DEVICE_MOST": str(most)} | {
-            f"DEVICE_{name.upper()}": how for name, how in broken.items()
-        }
-        if self.by_path:
-            path = env["DEVICE_LIST"] = self.program.write("list", self.given)
-            found = self.program.run(*self.words, *options, path, env=env)
-        else:
-            found = self.program.run(*self.words, *options, "-", given=self.given, env=env)
-        with open(log, encoding="ascii") as file:
-            calls = [line.split() for line in file]
-        return found, [Call(kind, int(asked), int(answer)) for kind, asked, answer in calls]
-
-    def ends(self, found: Answer, wanted: tuple[int, bytes], out: bytes) -> None:
-        """The run ended so, and wrote just this, which is a beginning of the undisturbed text."""
-        answers(found, wanted[0], out, wanted[1])
-        must(self.whole.out.startswith(out), "it wrote what the undisturbed run doesn't write")
-
-
-def of_kind(calls: list[Call], kind: str) -> list[Call]:
-    """The calls of one device."""
-    return [call for call in calls if call.kind == kind]
-
-
-def never_again(calls: list[Call], kind: str) -> None:
-    """The last call of the device is the one that failed or moved nothing, and the only such."""
-    dead = [place for place, call in enumerate(of_kind(calls, kind)) if call.answer <= 0]
-    must(
-        dead == [len(of_kind(calls, kind)) - 1],
-        f"broken calls {dead} of {len(of_kind(calls, kind))}",
-    )
-
-
-def whole_runs(weak: Weak) -> int:
-    """Devices that move little and don't fail change nothing; how many reads of a few bytes there
-    are."""
-    reads: list[int] = []
-    for most in (1, FEW):
-        for options in ([], ["--line-buffered"]):
-            found, calls = weak.run(most, *options)
-            weak.ends(found, (weak.whole.status, weak.whole.err), weak.whole.out)
-            must(all(call.answer > 0 for call in of_kind(calls, "w")), "a write of nothing")
-            reads = [call.answer for call in of_kind(calls, "r")]
-            must(0 not in reads[:-1], "the list was read beyond its end")
-            must(weak.whole.status != 0 or reads[-1] == 0, "the list was not read to its end")
-    return len(reads)
-
-
-def each_line_at_once(weak: Weak) -> None:
-    """At each read the text of all lines that have been read whole has been handed over, and no
-    more."""
-    for most in (1, FEW):
-        _, calls = weak.run(most, "--line-buffered")
-        got, written = 0, 0
-        for call in calls:
-            if call.kind == "r":
-                wanted = len(weak.lines_before(got))
-                must(
-                    written == wanted,
-                    f"{written} bytes written where {got} were read, wanted {wanted}",
-                )
-                got += call.answer
-            else:
-                written += call.answer
-
-
-def broken_reads(weak: Weak, reads: int) -> None:
-    """Each read in turn fails, or says that there is no more."""
-    for k in range(1, reads + 1):
-        got = FEW * (k - 1)
-        for how in ERRORS:
-            found, calls = weak.run(FEW, read=f"{k}:{how}")
-            weak.ends(found, READ, weak.lines_before(got))
-            never_again(calls, "r")
-        found, calls = weak.run(FEW, read=f"{k}:none")
-        shorter = weak.undisturbed(weak.given[:got])
-        answers(found, shorter.status, shorter.out, shorter.err)
-        never_again(calls, "r")
-
-
-def broken_writes(weak: Weak, options: list[str]) -> None:
-    """Each write in turn fails, or takes nothing. A fault of the list stands where the text comes
-    at the end."""
-    fault = WRITE if options or weak.whole.status == 0 else (weak.whole.status, weak.whole.err)
-    _, calls = weak.run(FEW, *options)
-    written = 0
-    for k, whole in enumerate(of_kind(calls, "w"), 1):
-        for how in (*ERRORS, "none"):
-            found, calls = weak.run(FEW, *options, write=f"{k}:{how}")
-            weak.ends(found, fault, weak.whole.out[:written])
-            never_again(calls, "w")
-            must(calls[-1].kind == "w", "more was read after a failed write")
-        written += whole.answer
-
-
-def both_broken(weak: Weak, reads: int) -> None:
-    """The list can't be read on, and what is held can't be written: the first fault is told."""
-    for k in range(1, reads + 1):
-        found, calls = weak.run(FEW, read=f"{k}:fails", write="1:fails")
-        weak.ends(found, READ, b"")
-        never_again(calls, "r")
-        must(len(of_kind(calls, "w")) <= 1, "a failed output is asked again")
-
-
-def reason_of_the_fault(weak: Weak, reads: int) -> None:
-    """Where both devices fail, the explanation is of the one that the fault's line names."""
-    found, _ = weak.run(FEW, "--explain", read=f"{reads}:fails", write="1:interrupted")
-    lines = found.err.decode().splitlines()
-    name = "list" if weak.by_path else "standard input"
-    must(lines[0] == "device Read", f"the fault's line is {lines[0]}")
-    must(name in lines[-1] and "Input/output error" in lines[-1], f"the last line is {lines[-1]}")
-
-
-def weak_devices(weak: Weak) -> None:
-    """All of it, for one command on one list."""
-    reads = whole_runs(weak)
-    each_line_at_once(weak)
-    broken_reads(weak, reads)
-    both_broken(weak, reads)
-    reason_of_the_fault(weak, reads)
-    broken_writes(weak, [])
-    broken_writes(weak, ["--line-buffered"])
 
 
 def many_writes(weak: Weak) -> None:
@@ -321,16 +168,6 @@ MESSAGES = {
 }
 
 
-def compile_devices(program: Program) -> None:
-    """Compiles the weak devices, to be loaded before the C library."""
-    source = os.path.join(TOP, "tests", "lib", "weak_devices.c")
-    shim = os.path.join(program.folder, "devices.so")
-    try:
-        subprocess.run(["cc", "-shared", "-fPIC", "-O1", "-o", shim, source, "-ldl"], check=True)
-    except (OSError, subprocess.CalledProcessError) as fault:
-        raise SystemExit(f"tests/lib/weak_devices.c can't be compiled: {fault}") from None
-
-
 def short_lists(program: Program, config: str) -> Iterator[tuple]:
     """Each command on lists of a few lines, read by path and as standard input by turns."""
     old = made.base_tables(2)
@@ -391,6 +228,7 @@ def try_all(cases: Cases, program: Program) -> None:
         [
             *short_lists(program, config),
             *long_lists(program, config),
+            *weak_recordings(program, config),
             ("check", weak_config, program, ["check"], TABLES, 0),
             ("check, not admitted", weak_config, program, ["check"], SMALL, 1),
             ("solve", weak_config, program, ["solve"], SMALL, 0),

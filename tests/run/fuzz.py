@@ -16,8 +16,9 @@ holds what must be so of any output. Beside that
 - `police` gives the verdicts of a replay whose tables have that one link;
 - what `send` writes is replayed without a loss, and each message is read once and in order.
 
-With `--recordings` it tries recordings in their place (tests/recordings/), made and changed at
-random: a run on one must write what it writes of the list that says the same, and `list` that list.
+Where the program reads recordings (tests/lib/reads.py), one is tried beside every second case, made
+and changed at random (tests/recordings/), or from the case's list: a run on it must write what it
+writes of the list that says the same, and `list` that list. `--recordings` tries these alone.
 
 The first case that is wrong is written to DIR (a new folder where it isn't given), its seed and
 number are printed, and the status is 1. `--seed N --first K` begins with that case. Needs Python
@@ -39,8 +40,9 @@ import made  # noqa: E402
 import sending  # noqa: E402
 import reading  # noqa: E402
 import wanted  # noqa: E402
-from made_recordings import made_data  # noqa: E402
+from made_recordings import made_data, pcap_of  # noqa: E402
 from program import Program, Wrong, must  # noqa: E402
+from reads import READS  # noqa: E402
 from tables import one_link_tables  # noqa: E402
 
 PROGRAM = os.path.join(made.TOP, "crates", "afdx", "out", "afdx")
@@ -205,11 +207,29 @@ def try_case(runs, seed, number, stored):
 def try_recording(runs, seed, number):
     """A recording, every third one with bytes changed, with options and without."""
     chance = random.Random(f"{seed}/{number}/options")
-    data = made_data(["made", "made", "mutated"][number % 3], f"{seed}/{number}")
+    data = made_data(reading.KINDS[number % 3 == 2], f"{seed}/{number}")
     runs.write("list", data)
     program = Program(runs.program, runs.folder)
     reading.both(program, wanted.Case(data))
     reading.both(program, wanted.random_case(chance, data))
+
+
+def try_recorded_list(runs, seed, number, stored):
+    """The frames of a case's list, recorded, in its tables, admitted or not."""
+    chance = random.Random(f"{seed}/{number}")
+    case = made.random_case(chance, *stored)
+    runs.write("config", case.config)
+    if case.tables is None or runs.run(["check", "config"])[2]:
+        return
+    data = pcap_of(case.text)
+    runs.write("list", data)
+    command = wanted.Command(
+        ("replay", "--no-admission", "config"),
+        {system["id"]: system["port"] for system in case.tables["system"]},
+    )
+    options = wanted.random_options(chance)._replace(fcs=False)
+    recording = wanted.Case(data, options, command=command)
+    reading.reads(Program(runs.program, runs.folder), recording)
 
 
 def keep(runs, folder):
@@ -245,6 +265,8 @@ def taken_words():
         words.error(
             f"there is no program at {given.program}: build it first, by bin/afdx --version"
         )
+    if given.recordings and not READS:
+        words.error("the program reads no recordings (tests/lib/reads.py)")
     return given
 
 
@@ -258,10 +280,12 @@ def main():
         wanted.with_base(Program(given.program, folder))
         while time.monotonic() < end:
             try:
-                if given.recordings:
-                    try_recording(runs, given.seed, number)
-                else:
+                if not given.recordings:
                     try_case(runs, given.seed, number, stored)
+                if given.recordings or (READS and number % 2):
+                    try_recording(runs, given.seed, number)
+                if READS and not given.recordings and number % 2 == 0:
+                    try_recorded_list(runs, given.seed, number, stored)
             except Wrong as wrong:
                 kept = keep(runs, given.keep)
                 print(f"WRONG: {wrong}\nseed {given.seed}, case {number}, kept in {kept}")

@@ -5,11 +5,12 @@
 
 Tried are all beginnings of a configuration, of frame lists, of a submission list and of frames;
 lines as long as they may be and one byte longer; fields that are nearly right; numbers of up to
-5,000 digits; as many lines as there may be and one more; configurations of 4 MB. Each run must end
-at once with the status and the one line of the first fault, by the orders of docs/FORMATS.md, which
-tests/lib/first_fault.py follows apart from the program, and with the output of the lines before
-it. Prints `ok NAME` or `FAILED NAME` for each case, then `N passed, M failed`; ends with status 1
-if a case failed. Needs Python 3.11.
+5,000 digits; as many lines as there may be and one more; configurations of 4 MB; recordings that
+are large or senseless, if the program reads them (tests/lib/reads.py). Each run must end at once
+with the status and the one line of the first fault, by the orders of docs/FORMATS.md, which
+tests/lib/ follows apart from the program, and with the output of the lines before it. Prints `ok
+NAME` or `FAILED NAME` for each case, then `N passed, M failed`; ends with status 1 if a case
+failed. Needs Python 3.11.
 """
 from __future__ import annotations
 
@@ -20,10 +21,12 @@ import tomllib
 from collections.abc import Iterator
 
 sys.dont_write_bytecode = True
-sys.path.insert(0, os.path.join(os.path.dirname(os.path.abspath(__file__)), "..", "lib"))
+TESTS = os.path.join(os.path.dirname(os.path.abspath(__file__)), "..")
+sys.path[:0] = [os.path.join(TESTS, name) for name in ("lib", "recordings")]
 import tables as made  # noqa: E402
 from first_fault import config_fault, list_fault, list_lines  # noqa: E402
 from frames import HELLO, frame_of, sealed  # noqa: E402
+from hostile_recordings import hostile_recordings  # noqa: E402
 from least import solve_answer  # noqa: E402
 from program import Answer, Cases, Program, answers, main_of, must, same_text, short  # noqa: E402
 from sender import Message, list_sent, submission_list  # noqa: E402
@@ -269,10 +272,8 @@ def long_numbers(command: Command) -> None:
         found = command.is_told(b"\n".join(lines) + b"\n")
         must(found.status == 0 and len(lines[-1]) == 4200, f"status {found.status}")
         if command.is_frames:
-            must(
-                found.out.count(b"too-short") == len(lines),
-                "a line with zeros before a number is not read",
-            )
+            read = found.out.count(b"too-short")
+            must(read == len(lines), "a line with zeros before a number is not read")
         for count in [*range(1, 41), 64, 65, 100, 1000, 4000, *range(4185, 4201), 5000]:
             for digit in (b"1", b"9"):
                 odd = [*fields[:place], digit * count, *fields[place + 1 :]]
@@ -414,7 +415,7 @@ def try_all(cases: Cases, program: Program) -> None:
     all_cases.append(("long words", long_words, program.apart()))
     for name, text, fault in [*deep_configs(), *wide_configs(), *long_configs()]:
         all_cases.append((f"a configuration: {name}", large_config, program, text, fault))
-    cases.try_at_once(all_cases)
+    cases.try_at_once([*all_cases, *hostile_recordings(program)])
 
 
 if __name__ == "__main__":

@@ -3,8 +3,9 @@
 
     tests/run/recordings.py [--reads] PROGRAM
 
-tests/lib/recorded.py and recorded_list.py say what has to be taken from a recording, apart from the
-program: the list that says the same, the fault, the counts. Here they must say
+Without `--reads` the program is given lists alone. tests/lib/recorded.py and recorded_list.py say
+what has to be taken from a recording, apart from the program: the list that says the same, the
+fault, the counts. Here they must say
 
 - what stands beside recordings that are spelled out byte by byte (tests/lib/recording_rows.py,
   tests/recordings/), and the program's run on that list must write what stands there;
@@ -12,7 +13,11 @@ program: the list that says the same, the fault, the counts. Here they must say
   editcap, mergecap, reordercap, dumpcap and tcpdump wrote, some of them cut;
 - of a recording that is cut at any byte a beginning of what they say of the whole one.
 
-With `--reads` the program itself reads all of these, and others, and must write what they say.
+With `--reads` the program itself reads all of these, and others, and must write what they say: from
+files, from pipes while they are written, and of 10,000,000 frames in the memory that 10,000 take. A
+recording of a form that it doesn't read yet (tests/lib/reads.py says which it reads) is no
+recording for it; if it reads none, nothing is tried.
+
 Prints `ok NAME`, `FAILED NAME` or `skipped NAME: why` for each case, then `N passed, M failed`;
 ends with status 1 if a case failed. A case is skipped only where a program isn't installed. Needs
 Python 3.11.
@@ -34,6 +39,7 @@ from foreign_recordings import try_foreign  # noqa: E402
 from made_recordings import made_data  # noqa: E402
 from outcome_rows import outcomes  # noqa: E402
 from program import Cases, Program, must  # noqa: E402
+from reads import READS  # noqa: E402
 from recording_rows import Row, rows  # noqa: E402
 from tshark_frames import has, same_as_tshark  # noqa: E402
 from wanted import Case, case_of, cut_rows, random_case, row_holds, with_base  # noqa: E402
@@ -115,10 +121,10 @@ def main() -> None:
     cases = Cases()
     with tempfile.TemporaryDirectory(prefix="afdx-tests-") as folder:
         program = with_base(Program(given.program, folder))
-        if given.reads:
-            reading.try_reading(cases, program, every_row())
-        else:
+        if not given.reads:
             try_reference(cases, program)
+        elif READS:
+            reading.try_reading(cases, program, every_row())
     sys.exit(cases.told())
 
 

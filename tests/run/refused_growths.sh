@@ -7,9 +7,9 @@
 # PROGRAM polices examples/one_link.list on standard input, checks examples/base.toml, the same with
 # `--margins`, and with late links by `--all`, solves it with late links, explains a line, replays a
 # frame and its copy in base.toml, replays examples/gigabit.list, and sends five messages, of which
-# one is refused. Each of these is run with the first request refused, then the second, and so on,
-# until a run meets no refusal; and again with all requests refused from the first on, from the
-# second on, and so on.
+# one is refused. It polices and replays recordings, if it reads them (tests/lib/reads.py). Each of
+# these is run with the first request refused, then the second, and so on, until a run meets no
+# refusal; and again with all requests refused from the first on, from the second on, and so on.
 # Each run must write a beginning of what the undisturbed run writes, and end either with the line
 # `memory` and status 4, or as the undisturbed run does.
 #
@@ -125,6 +125,19 @@ refuse_program() { # NAME WORD..
     refuse "$name" look_at_run "$@"
 }
 
+# The recordings of tests/recordings/growing_recordings.py that the program reads, each by `police`
+# and by `replay` with its options; what it can't read yet is left out.
+refuse_recordings() { # PROGRAM
+    local name path
+    python3 "$top/tests/recordings/growing_recordings.py" "$work" >"$work/recordings"
+    while IFS=$'\t' read -r name path; do
+        input=$path
+        refuse_program "police $name" "$1" police 1 64 500 -
+        refuse_program "replay $name" "$1" replay --interface 0=A:1 --interface 4095=- \
+            --origin 1699999999000000000 --summary "$top/examples/base.toml" -
+    done <"$work/recordings"
+}
+
 # What is wrong with the test that `launch` ran; left in `fault`. It must pass where one request was
 # refused. Where all are refused from one on it may fail, by no more than want of memory.
 look_at_test() { # HOW
@@ -159,6 +172,7 @@ if [[ $tests == no ]]; then
     input=$work/messages.list
     printf '0 1 %d 1000 61\n' 1 1 2 2 3 >"$input"
     refuse_program 'send five messages' "$1" send "$top/examples/base.toml" s1 -
+    refuse_recordings "$1"
 else
     input=/dev/null
     for runner in "$@"; do

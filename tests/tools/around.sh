@@ -133,6 +133,7 @@ guide_tests() {
     if [[ -n $dpkt ]]; then HAS+=' capture'; fi
     if has tshark; then HAS+=' tshark'; fi
     if [[ -n $reporting ]]; then HAS+=' report'; fi
+    HAS+=" $("$python" tests/lib/reads.py)" # pcap, pcapng, list
     export HAS
     env -u AFDX PATH="$work/prefix/bin:$PATH" "$python" tests/tools/document_commands.py \
         docs/GUIDE.md "$folder" >"$work/guide.out" 2>&1

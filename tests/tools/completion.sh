@@ -51,6 +51,9 @@ offer_tests() { # SHELL
         offers "$1" 'afdx solve --ra' --raise-only
         offers "$1" 'afdx police 1' 1 16 128
         offers "$1" 'afdx police --vl 501 --port 5 1' 1 16 128
+        offers "$1" 'afdx replay --fc' --fcs
+        offers "$1" 'afdx replay --fcs ' yes no
+        offers "$1" 'afdx police --interface 0=A:1 --fcs no 1' 1 16 128
         offers "$1" 'afdx-capture ' list pcap annotate
         offers "$1" 'afdx-capture list --fc' --fcs
         offers "$1" 'afdx-capture list --fcs a' auto
@@ -62,8 +65,8 @@ offer_tests() { # SHELL
         offers "$1" "afdx check $files/" one.toml
         offers "$1" "afdx solve --keep skew $files/" one.toml
         offers "$1" "afdx replay --no-admission $files/" one.toml
-        offers "$1" "afdx replay $files/one.toml $files/" two.list
-        offers "$1" "afdx police --vl 7 1 64 500 $files/" two.list
+        offers "$1" "afdx replay $files/one.toml $files/" two.list four.pcap
+        offers "$1" "afdx police --vl 7 1 64 500 $files/" two.list four.pcap
         offers "$1" "afdx send $files/one.toml adc $files/" two.list three.messages
         offers "$1" "afdx-capture list --config $files/" one.toml
         offers "$1" "afdx-capture list --config $files/one.toml $files/" four.pcap five.pcapng.gz

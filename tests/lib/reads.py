@@ -1,0 +1,34 @@
+"""Which recordings the built program reads. One line says it for all steps, NOW; for a single run
+the environment variable AFDX_READS says it, words of WORDS with commas between them.
+
+    tests/lib/reads.py     prints the words
+"""
+from __future__ import annotations
+
+import os
+import sys
+
+sys.dont_write_bytecode = True
+sys.path.insert(0, os.path.dirname(os.path.abspath(__file__)))
+from recorded import PCAPS, is_recording  # noqa: E402
+
+WORDS = ("pcap", "pcapng", "list")  # the two forms, and the command that makes a list of one
+NOW = ""  # what the program reads today
+
+READS = frozenset(os.environ.get("AFDX_READS", NOW).split(",")) - {""}
+if not READS <= set(WORDS) or (READS and "pcap" not in READS):
+    raise SystemExit(f"AFDX_READS is {','.join(WORDS)} or a part of it with pcap")
+
+
+def is_pcap(data: bytes) -> bool:
+    """Its first four bytes are those of a pcap."""
+    return data[:4].hex() in PCAPS
+
+
+def is_read(data: bytes) -> bool:
+    """The program takes it for a recording."""
+    return is_recording(data) and ("pcap" if is_pcap(data) else "pcapng") in READS
+
+
+if __name__ == "__main__":
+    print(" ".join(word for word in WORDS if word in READS))

@@ -1,0 +1,48 @@
+"""Writes recordings for which the program has to take memory; for tests/run/refused_growths.sh.
+
+    tests/recordings/growing_recordings.py FOLDER
+
+Prints a line for each that the program reads (tests/lib/reads.py): its name, a tab, its path.
+"""
+from __future__ import annotations
+
+import os
+import sys
+
+sys.dont_write_bytecode = True
+TESTS = os.path.join(os.path.dirname(os.path.abspath(__file__)), "..")
+sys.path[:0] = [os.path.join(TESTS, name) for name in ("lib", "recordings")]
+from edge_rows import block, low  # noqa: E402
+from reads import is_read  # noqa: E402
+from recording_rows import H1, H2, IL, IW, ONE, PL, SL, US, ZERO, E, R, Z  # noqa: E402
+
+LARGE = 200_000  # bytes: more than is held of any input at the start
+
+
+def texts() -> dict[str, str]:
+    """By their names, in hexadecimal: frames, one larger than what is held at the start, and for
+    pcapng interfaces, a large block, statistics."""
+    large = H1 + "00" * (LARGE - 60)
+    lost, other = Z(ZERO, "07000000", ZERO), E("08401e18", H2)
+    frames = [R(ZERO, H1), R(ONE, large, 2 * low(LARGE)), R("02000000", H2)]
+    packets = [E(US, H1), block(5, ZERO * 3 + "00" * LARGE), lost, other]
+    return {
+        "a pcap": PL + "".join(frames),
+        "a pcap that breaks off": PL + "".join(frames)[:-2],
+        "a pcapng": SL + IL + IW * 40 + "".join(packets),
+    }
+
+
+def main() -> None:
+    """Writes those that are read."""
+    for name, text in texts().items():
+        data = bytes.fromhex(text)
+        if is_read(data):
+            path = os.path.join(sys.argv[1], name.replace(" ", "-"))
+            with open(path, "wb") as file:
+                file.write(data)
+            print(f"{name}\t{path}")
+
+
+if __name__ == "__main__":
+    main()

@@ -1,0 +1,121 @@
+"""Recordings that are malicious, or as large as they may be; a part of tests/run/hostile.py."""
+from __future__ import annotations
+
+import random
+import time
+from collections.abc import Iterator
+
+from program import Program, answers, must
+from reads import READS, is_read
+from recorded import PCAPS
+from recorded_list import Options
+from recording_rows import H1, H2, IL, PL, SL, US, ZERO, E, R
+from wanted import POLICE, Case, path_of, with_base
+
+SOON = 20  # seconds
+MOST_BLOCK = 16_777_216  # bytes of a block that is looked into
+MOST_FRAME = 262_144  # bytes of a frame
+MANY = 1_200_000  # more than a list has lines
+BEGIN, ONE = bytes.fromhex(SL + IL), bytes.fromhex(E(US, H1))
+FRAME, NEXT = bytes.fromhex(R(ZERO, H1)), bytes.fromhex(R("02000000", H2))
+HEAD = bytes.fromhex(PL)
+
+
+def is_told(program: Program, data: bytes) -> None:
+    """Both commands tell what the reference says, and soon."""
+    path = path_of(program, data)
+    for case in (Case(data), Case(data, Options(port=1), "1 64 500")):
+        wanted, began = case.listed(program), time.monotonic()
+        answers(program.run(*case.words(), path), *wanted)
+        must(time.monotonic() - began < SOON, f"it takes more than {SOON} s")
+    if "list" in READS:
+        said, began = Case(data).told(), time.monotonic()
+        found = program.run("list", "base.toml", path)
+        answers(found, 3 if said.fault else 0, said.text(), said.fault)
+        must(time.monotonic() - began < SOON, f"it takes more than {SOON} s")
+
+
+def skips(program: Program, data: bytes, fault: str) -> None:
+    """A recording of which nothing is told but its fault, and soon."""
+    path = path_of(program, data)
+    commands = [["replay", "base.toml"], ["replay", "--no-admission", "base.toml"], POLICE]
+    for words in commands:
+        began = time.monotonic()
+        answers(program.run(*words, path), 3, b"", f"recording {fault}\n".encode())
+        must(time.monotonic() - began < SOON, f"it takes more than {SOON} s")
+
+
+def low(number: int) -> bytes:
+    """A number of 32 bits, low byte first."""
+    return number.to_bytes(4, "little")
+
+
+def block(kind: int, size: int, body: bytes = b"") -> bytes:
+    """A block of so many bytes, filled with zeros."""
+    return low(kind) + low(size) + body + bytes(size - 12 - len(body)) + low(size)
+
+
+def large_frames() -> dict[str, bytes]:
+    """Frames of pcap as long as they may be, and longer ones."""
+
+    def frame(size: int) -> bytes:
+        content = bytes.fromhex(H1) + bytes(size - 60)
+        return low(1_700_000_000) + low(0) + 2 * low(size) + content
+
+    most, over = frame(MOST_FRAME), frame(MOST_FRAME + 1)
+    return {
+        "the longest frame": HEAD + most + NEXT,
+        "the longest frames": HEAD + 20 * most + NEXT,
+        "the longest frame, less a byte": HEAD + FRAME + most[:-1],
+        "a longer frame": HEAD + FRAME + over + NEXT,
+        "a frame of 4 GB": HEAD + FRAME + low(0) * 2 + b"\xff" * 8 + bytes(10**6),
+    }
+
+
+def large_blocks() -> dict[str, bytes]:
+    """Blocks of pcapng as long as they may be, and longer ones of types that are passed over."""
+    some = {}
+    sizes = [(0x99, MOST_BLOCK + 4), (0x0BAD, MOST_BLOCK + 4), (1, MOST_BLOCK), (5, MOST_BLOCK)]
+    for kind, size in [*sizes, (5, MOST_BLOCK + 4), (6, MOST_BLOCK), (6, MOST_BLOCK + 4)]:
+        name, whole = f"a block {kind:x} of {size:,} bytes", BEGIN + block(kind, size) + ONE
+        some[name] = whole
+        some[f"{name}, less one"] = whole[: len(BEGIN) + size - 1]
+    options = low(1) + b"\x01\0\0\0" * ((MOST_BLOCK - 20) // 4 - 1)
+    return some | {
+        "4,000,000 options": BEGIN + block(1, MOST_BLOCK, low(1) + low(0) + options) + ONE,
+        "4,096 interfaces": BEGIN + bytes.fromhex(IL) * 4095 + ONE,
+        "100,000 sections": BEGIN * 100_000 + ONE,
+        "a block of 4 GB": BEGIN + ONE + low(0x99) + low(2**32 - 4) + bytes(10**6),
+    }
+
+
+def odd_bytes() -> dict[str, bytes]:
+    """What looks like a recording for its first bytes alone."""
+    some, chance = {}, random.Random("odd bytes")
+    for magic in [*PCAPS, "0a0d0d0a"]:
+        begin = bytes.fromhex(magic)
+        some |= {
+            f"{magic}, zeros": begin + bytes(10**6),
+            f"{magic}, ones": begin + b"\xff" * 10**6,
+            f"{magic}, text": begin + b"F 0 A 1 00\n" * 10**5,
+            f"{magic}, itself": begin * 10**5,
+            f"{magic}, bytes at random": begin + chance.randbytes(10**5),
+        }
+    return some | {
+        "the head, bytes at random": HEAD + chance.randbytes(10**6),
+        "a frame, bytes at random": HEAD + FRAME + chance.randbytes(10**6),
+        "a section, bytes at random": BEGIN + ONE + chance.randbytes(10**6),
+    }
+
+
+def hostile_recordings(program: Program) -> Iterator[tuple]:
+    """All that the program reads, each in a folder of its own."""
+    every = large_frames() | large_blocks() | odd_bytes()
+    for name, data in every.items():
+        if is_read(data):
+            yield f"a recording: {name}", is_told, with_base(program.apart()), data
+    if READS:
+        given = with_base(program.apart()), HEAD + bytes(16 * MANY), f"NoArrival {MANY}"
+        yield f"a recording: {MANY:,} frames of no bytes", skips, *given
+        cut = with_base(program.apart()), HEAD + bytes(16 * MANY + 15), f"Ended {MANY}"
+        yield f"a recording: {MANY:,} frames of no bytes, and a piece", skips, *cut
