@@ -17,7 +17,7 @@ function __afdx_given --description 'Words behind the command that belong to no 
 end
 
 set -g __afdx_valued --vl --port --lmin --policing --config --origin --shift --fcs --side -o --out \
-    --split --link --from --rows --title -j --jobs -S --sshlogin
+    --split --link --from --rows --title -j --jobs -S --sshlogin --profile
 
 function __afdx_at --description 'Is the word the one of that number behind COMMAND (- for none)?'
     set -l given (__afdx_given $__afdx_valued)
@@ -137,3 +137,13 @@ complete -c afdx-campaign -x -s j -l jobs -d 'Runs at a time'
 complete -c afdx-campaign -l resume -d 'Only the lists that have not been run'
 complete -c afdx-campaign -x -s S -l sshlogin -d 'Run on this machine too'
 complete -c afdx-campaign -l transfer -d 'Copy lists and configuration there first'
+
+# ---- afdx-icd ------------------------------------------------------------------------------------
+
+complete -c afdx-icd -f
+complete -c afdx-icd -l help -d 'Print help and leave'
+complete -c afdx-icd -l version -d 'Print the version and leave'
+complete -c afdx-icd -x -l profile -a '1 2' -d 'Which rules its switches keep'
+complete -c afdx-icd -l raise -d 'Also where messages are late'
+complete -c afdx-icd -n '__afdx_at - 0 1' -a '(__afdx_files csv)'
+complete -c afdx-icd -n '__afdx_at - 2 2' -a '(__afdx_files toml)'

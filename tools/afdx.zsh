@@ -1,4 +1,4 @@
-#compdef afdx afdx-capture afdx-report afdx-campaign
+#compdef afdx afdx-capture afdx-report afdx-campaign afdx-icd
 # Completes the words of `afdx` and of its tools in zsh. `bin/install PREFIX` puts it at
 # PREFIX/share/zsh/site-functions/_afdx; where zsh doesn't look there, put that folder into `fpath`.
 
@@ -6,6 +6,7 @@ local help='(- *)--help[print help and leave]'
 local version='(- *)--version[print the version and leave]'
 local config='configuration:_files -g "*.toml(-.)"'
 local list='frame list:_files -g "*.list(-.)"'
+local table='table:_files -g "*.csv(-.)"'
 local recording='recording:_files -g "*.(pcap|pcapng|pcap.gz|pcapng.gz)(-.)"'
 local -a told=(
     '--explain=-[when a fault is explained]::when:(auto always never)'
@@ -105,5 +106,9 @@ case $service in
             '--fail-on[status 6 where one of these is not 0]:words:' \
             '--junit[write each criterion as a JUnit test case]:file:_files' \
             '--transfer[copy lists and configuration there first]' ":$config" "*:$list"
+        ;;
+    afdx-icd)
+        _arguments $help $version '--profile[which rules its switches keep]:profile:(1 2)' \
+            '--raise[also where messages are late]' ":$table" ":$table" ":$config"
         ;;
 esac
