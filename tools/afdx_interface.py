@@ -41,9 +41,18 @@ class Cells:
         text = self.row.cells[column]
         if text == "" and empty is not None:
             return empty
-        if text.isascii() and text.isdigit() and least <= int(text[:20]) <= most:
+        if re.fullmatch("[0-9]{1,20}", text) and least <= int(text) <= most:
             return int(text)
         self.refuse(column, f"it has to be a whole number from {least} to {most}")
+        return None
+
+    def depth(self, column: str, kind: str | None) -> int | None:
+        """How many messages may wait in a communication port of that kind."""
+        if kind != "sampling":
+            return self.whole(column, 1, 64)
+        if self.row.cells[column].lstrip("0") in ("", "1"):
+            return 1
+        self.refuse(column, "it has to be 1, or empty, for sampling")
         return None
 
     def asked(self, column: str) -> int | None:
@@ -133,7 +142,8 @@ def sender_of(document: Document, cells: Cells) -> str:
 
 
 def link_of(document: Document, cells: Cells) -> dict:
-    """The virtual link of a message; a key that is solved has a value where the row asks for one."""
+    """The virtual link of a message; keys that are solved have a value where the row asks for
+    one."""
     lmin = cells.whole("lmin", SHORTEST, LONGEST, SHORTEST)
     payload = cells.whole("bytes", 1, LONGEST - AROUND)
     return {
@@ -142,7 +152,7 @@ def link_of(document: Document, cells: Cells) -> dict:
         "to": receivers_of(document, cells),
         "bag_ms": cells.bag_ms("every_ms"),
         "lmin": lmin,
-        "lmax": max((payload or 0) + AROUND, lmin or 0, SHORTEST),
+        "lmax": max((payload or 0) + AROUND, lmin or 0),
         "jitter_us": None,
         "priority": cells.one_of("priority", ("high", "low")),
         "policing": cells.one_of("policing", ("byte", "frame"), "byte"),
@@ -160,7 +170,7 @@ def add_message(document: Document, row: Row) -> None:
     link = link_of(document, cells)
     udp = cells.whole("port", 1, 65_535)
     kind = cells.one_of("kind", ("sampling", "queuing"))
-    depth = cells.whole("depth", 1, *((1, 1) if kind == "sampling" else (64,)))
+    depth = cells.depth("depth", kind)
     document.links.append(link)
     document.message_rows.setdefault(link["vl"], row)
     for name in link["to"]:
@@ -172,10 +182,10 @@ def add_message(document: Document, row: Row) -> None:
 def refuse_twice(document: Document, rows: Iterable[Row], column: str) -> None:
     """Notes each row whose cell an earlier one has too; of numbers leading zeros don't count."""
     first: dict[str, Row] = {}
-    for row in rows:
+    for row in filter(lambda row: row.cells[column], rows):
         text = row.cells[column]
-        before = first.setdefault(text.zfill(5) if text.isdigit() else text, row)
-        if text and before is not row:
+        before = first.setdefault(text if column == "system" else text.lstrip("0"), row)
+        if before is not row:
             document.faults.append(f"{row.at(column)}: {before.place} has it too")
 
 

@@ -1,6 +1,7 @@
 # Tests of tools/afdx-icd; a part of tests/run/tools.sh.
 # shellcheck shell=bash
 # shellcheck disable=SC2154  # what it uses is set by tests/run/tools.sh, which sources it
+# shellcheck disable=SC2016  # $ in a script of sed is the last line
 
 # Copies the examples' tables to a folder, changed by sed.
 tables() { # FOLDER SYSTEMS_SCRIPT MESSAGES_SCRIPT
@@ -10,9 +11,7 @@ tables() { # FOLDER SYSTEMS_SCRIPT MESSAGES_SCRIPT
 }
 
 icd() { # FOLDER [OPTION..] : both streams go to files, the configuration to made.toml there
-    (cd "$1" && "$top/tools/afdx-icd" "${@:2}" systems.csv messages.csv made.toml) \
-        >"$work/out" 2>"$work/err" </dev/null
-    status=$?
+    launch env -C "$1" "$top/tools/afdx-icd" "${@:2}" systems.csv messages.csv made.toml
 }
 
 text_is() { # STREAM TEXT : all of it
@@ -87,13 +86,15 @@ choice_tests() {
         is_ok "$at"
         made_says "$at" 20 'latency_us = 112, skew_us = 112'
     )"
-    tables "$at" '' '1s/$/,policing,subs,lmin,skew_us/; 3s/$/,frame,2,100,500/; 4s/$/,,,,/'
+    tables "$at" '' '1s/$/,policing,subs,lmin,skew_us/
+        3s/$/,frame,2,100,500/; 4s/$/,,,,/; 5s/$/,,,80,/'
     icd "$at"
     tell 'columns that may be there' "$(
         is_ok "$at"
         made_says "$at" 20 'lmin = 100, lmax = 167'
         made_says "$at" 20 'policing = "frame", latency_us = 120, skew_us = 500, subs = 2'
         made_says "$at" 21 'policing = "byte", latency_us = 1000, skew_us = 1000, subs = 1'
+        made_says "$at" 22 'lmin = 80, lmax = 80'
     )"
     tables "$at" '4s/100$/1000/' '4s/,200,/,0.9e3,/; 4s/0.9e3/1/'
     icd "$at" --profile 2
@@ -117,7 +118,8 @@ afdx-icd: messages.csv: columns passed over: page
 
 late_tests() {
     local at=$work/icd/late
-    local late='messages.csv line 3, attitude: within_us 100: to disp it can take 111111 ns; 112 is enough'
+    local late='messages.csv line 3, attitude: within_us 100: to disp it can take 111111 ns; '
+    late+='112 is enough'
     tables "$at" '' '/^attitude/s/,120,high/,100,high/'
     icd "$at"
     tell "a message that can't be in time" "$(is_refused "$at" 1 "$late")"
@@ -144,8 +146,8 @@ none_tests() {
     local at=$work/icd/none
     tables "$at" '4s/100$/10/' '3s/,10,120,/,1,1471,/'
     icd "$at"
-    tell 'messages that are too much for a line' "$(is_refused "$at" 1 \
-        'systems.csv line 4, disp: rate 10: the messages to it are more than its line can carry (no A1 3)')"
+    tell 'messages that are too much for a line' "$(is_refused "$at" 1 "systems.csv line 4, disp: \
+rate 10: the messages to it are more than its line can carry (no A1 3)")"
     tables "$at" '4s/100$/10/' '2s/,20,64,/,1,64,/; 3s/,10,120,/,1,1038,/'
     icd "$at"
     tell 'a latency out of range' "$(
@@ -156,50 +158,144 @@ none_tests() {
     )"
     tables "$at" '3s/100$/10/' '4s/,200,1000,/,200,1471,/'
     icd "$at"
-    tell 'a sender that is too busy' "$(is_refused "$at" 1 \
-        'systems.csv line 3, fcc: rate 10: its messages can hold one up for 1487200 ns; 500000 are the most (no A5 fcc 1487200)')"
+    tell 'a sender that is too busy' "$(is_refused "$at" 1 "systems.csv line 3, fcc: rate 10: its \
+messages can hold one up for 1487200 ns; 500000 are the most (no A5 fcc 1487200)")"
     tables "$at" 's/100$/1000/' '3,$d'
     for vl in $(seq 100 2900); do
         echo "many,$vl,adc,fcc,128,1471,,low,$vl,sampling,1"
     done >>"$at/messages.csv"
     icd "$at" --profile 2
-    tell 'a buffer that is too large' "$(is_refused "$at" 1 \
-        'systems.csv line 3, fcc: port 2: 5469493 bytes can wait there; it has room for 4194304 (no A2 2 5469493)')"
+    tell 'a buffer that is too large' "$(is_refused "$at" 1 "systems.csv line 3, fcc: port 2: \
+5469493 bytes can wait there; it has room for 4194304 (no A2 2 5469493)")"
 }
 
 # ---- tables with faults --------------------------------------------------------------------
 
+# A case of CASES: its name, what sed makes of the tables, and the lines that are told.
+fault_cases() { # FOLDER
+    local name line systems messages told
+    while IFS= read -r name; do
+        systems='' messages='' told=()
+        while IFS= read -r line && [[ -n $line ]]; do
+            case $line in
+                'systems: '*) systems=${line#*: } ;;
+                'messages: '*) messages=${line#*: } ;;
+                *) told+=("$line") ;;
+            esac
+        done
+        tables "$1" "$systems" "$messages"
+        icd "$1"
+        tell "tables where $name" "$(is_refused "$1" 2 "${told[@]}")"
+    done
+}
+
 fault_tests() {
-    local at=$work/icd/fault row
-    while IFS='|' read -r -a row; do
-        tables "$at" "${row[1]}" "${row[2]}"
-        icd "$at"
-        tell "tables where ${row[0]}" "$(is_refused "$at" 2 "${row[@]:3}")"
-    done <<'ROWS'
-a sender is unknown||3s/fcc/fms/|messages.csv line 3, attitude: from fms: no system has that name
-a receiver is unknown||2s/fcc disp/fcc Disp/|messages.csv line 2, air data: to fcc Disp: no system is named Disp
-a receiver is the sender||3s/disp/fcc/|messages.csv line 3, attitude: to fcc: fcc is the sender
-a receiver stands twice||2s/fcc disp/fcc fcc/|messages.csv line 2, air data: to fcc fcc: fcc stands twice
-there is no receiver||3s/,disp,/,,/|messages.csv line 3, attitude: to (empty): it has to name a system
-a period has no BAG||3s/,10,120/,0.5,120/|messages.csv line 3, attitude: every_ms 0.5: no BAG is so short; the least is 1 ms
-a period is no number||3s/,10,120/,10 ms,120/|messages.csv line 3, attitude: every_ms 10 ms: it has to be a period in ms, as 20 or 12.5
-a message is too long||3s/,10,120/,10,1472/|messages.csv line 3, attitude: bytes 1472: it has to be a whole number from 1 to 1471
-a priority is unknown||3s/high/urgent/|messages.csv line 3, attitude: priority urgent: it has to be high or low
-a sampling port is deep||3s/1$/2/|messages.csv line 3, attitude: depth 2: it has to be a whole number from 1 to 1
-a link stands twice||3s/,20,/,010,/|messages.csv line 3, attitude: vl 010: messages.csv line 2 has it too
-a message has no name||3s/attitude//|messages.csv line 3: message (empty): it has to have a name
-a system stands twice|3s/fcc/adc/;4s/49/17/|3s/fcc/adc/;4,$d|systems.csv line 3, adc: system adc: systems.csv line 2 has it too|systems.csv line 4, disp: id 17: systems.csv line 2 has it too|messages.csv line 2, air data: to fcc disp: no system is named fcc
-a name is no name|2s/adc/a-dc/|2d;s/,adc,/,disp,/|systems.csv line 2, a-dc: system a-dc: it has to be a name of 1 to 16 letters A to Z and digits
-a rate is of profile 2|2s/100$/1000/||systems.csv line 2, adc: rate 1000: it has to be 10 or 100
-a column is missing||1s/within_us/within/|messages.csv: no column is named within_us
-columns are missing|1s/id,partition/i,p/||systems.csv: no column is named id, partition
-a column stands twice||1s/depth/KIND/|messages.csv: two columns are named kind
-a row is too long||3s/$/,,x/|messages.csv line 3: it has more cells than the table has columns
-there are no rows|2,$d||systems.csv: no row stands below the names of the columns
-there is nothing|d||systems.csv: no column is named system, port, id, partition, rate
-a quote isn't closed||3s/^/"/|messages.csv line 3: unexpected end of data
-text follows a quote||3s/attitude/"attitude" x/|messages.csv line 3: ',' expected after '"'
-ROWS
+    local at=$work/icd/fault
+    fault_cases "$at" <<'CASES'
+a sender is unknown
+messages: 3s/fcc/fms/
+messages.csv line 3, attitude: from fms: no system has that name
+
+a receiver is unknown
+messages: 2s/fcc disp/fcc Disp/
+messages.csv line 2, air data: to fcc Disp: no system is named Disp
+
+a receiver is the sender
+messages: 3s/disp/fcc/
+messages.csv line 3, attitude: to fcc: fcc is the sender
+
+a receiver stands twice
+messages: 2s/fcc disp/fcc fcc/
+messages.csv line 2, air data: to fcc fcc: fcc stands twice
+
+there is no receiver
+messages: 3s/,disp,/,,/
+messages.csv line 3, attitude: to (empty): it has to name a system
+
+a period has no BAG
+messages: 3s/,10,120/,0.5,120/
+messages.csv line 3, attitude: every_ms 0.5: no BAG is so short; the least is 1 ms
+
+a period is no number
+messages: 3s/,10,120/,10 ms,120/
+messages.csv line 3, attitude: every_ms 10 ms: it has to be a period in ms, as 20 or 12.5
+
+a message is too long
+messages: 3s/,10,120/,10,1472/
+messages.csv line 3, attitude: bytes 1472: it has to be a whole number from 1 to 1471
+
+a priority is unknown
+messages: 3s/high/urgent/
+messages.csv line 3, attitude: priority urgent: it has to be high or low
+
+a sampling port is deep
+messages: 3s/1$/2/
+messages.csv line 3, attitude: depth 2: it has to be 1, or empty, for sampling
+
+a queuing port has no depth
+messages: 4s/4$//
+messages.csv line 4, maintenance report: depth (empty): it has to be a whole number from 1 to 64
+
+a link stands twice
+messages: 3s/,20,/,010,/
+messages.csv line 3, attitude: vl 010: messages.csv line 2 has it too
+
+a message has no name
+messages: 3s/attitude//
+messages.csv line 3: message (empty): it has to have a name
+
+a system stands twice
+systems: 3s/fcc/adc/; 4s/49/17/
+messages: 3s/fcc/adc/; 4,$d
+systems.csv line 3, adc: system adc: systems.csv line 2 has it too
+systems.csv line 4, disp: id 17: systems.csv line 2 has it too
+messages.csv line 2, air data: to fcc disp: no system is named fcc
+
+a name is no name
+systems: 2s/adc/a-dc/
+messages: 2d; s/,adc,/,disp,/
+systems.csv line 2, a-dc: system a-dc: it has to be a name of 1 to 16 letters A to Z and digits
+
+a rate is of profile 2
+systems: 2s/100$/1000/
+systems.csv line 2, adc: rate 1000: it has to be 10 or 100
+
+a column is missing
+messages: 1s/within_us/within/
+messages.csv: no column is named within_us
+
+columns are missing
+systems: 1s/id,partition/i,p/
+systems.csv: no column is named id, partition
+
+a column stands twice
+messages: 1s/depth/KIND/
+messages.csv: two columns are named kind
+
+a row is too long
+messages: 3s/$/,,x/
+messages.csv line 3: it has more cells than the table has columns
+
+there are no rows
+systems: 2,$d
+systems.csv: no row stands below the names of the columns
+
+there is nothing
+systems: d
+systems.csv: no column is named system, port, id, partition, rate
+
+a quote isn't closed
+messages: 3s/^/"/
+messages.csv line 3: unexpected end of data
+
+text follows a quote
+messages: 3s/attitude/"attitude" x/
+messages.csv line 3: ',' expected after '"'
+CASES
+}
+
+many_faults_tests() {
+    local at=$work/icd/many vl
     tables "$at" '' $'3s/attitude/H\xf6he/'
     icd "$at"
     tell "tables that aren't UTF-8" "$(is_refused "$at" 2 \
@@ -218,6 +314,14 @@ ROWS
     tell 'more messages than links and ports' "$(is_refused "$at" 2 \
         'messages.csv: it has more than 4096 messages' \
         'messages.csv: its messages have 4097 receivers; 4096 are the most')"
+}
+
+mutated_tests() {
+    launch "$python" tests/tools/mutated_tables.py 3000 examples/systems.csv examples/messages.csv
+    tell '3,000 tables with cells and bytes changed are read without a fault, or refused' "$(
+        is_status 0
+        head -n 5 "$work/out"
+    )" "$(tail -n 1 "$work/out")"
 }
 
 # Each number of a column is taken from its least to its greatest, by the tool and the program.
@@ -289,6 +393,8 @@ else
     late_tests
     none_tests
     fault_tests
+    many_faults_tests
+    mutated_tests
     range_tests
     file_tests
 fi
