@@ -320,7 +320,7 @@ mutated_tests() {
     launch "$python" tests/tools/mutated_tables.py 3000 examples/systems.csv examples/messages.csv
     tell '3,000 tables with cells and bytes changed are read without a fault, or refused' "$(
         is_status 0
-        head -n 5 "$work/out"
+        head -n -1 "$work/out" | head -n 5
     )" "$(tail -n 1 "$work/out")"
 }
 
