@@ -17,7 +17,7 @@ function __afdx_given --description 'Words behind the command that belong to no 
 end
 
 set -g __afdx_valued --vl --port --lmin --policing --config --origin --shift --fcs --side -o --out \
-    --split --link --from --rows --title -j --jobs -S --sshlogin --profile
+    --split --link --from --rows --title -j --jobs -S --sshlogin
 
 function __afdx_at --description 'Is the word the one of that number behind COMMAND (- for none)?'
     set -l given (__afdx_given $__afdx_valued)
@@ -140,6 +140,7 @@ complete -c afdx-campaign -l transfer -d 'Copy lists and configuration there fir
 
 # ---- afdx-icd ------------------------------------------------------------------------------------
 
+set -ga __afdx_valued --profile
 complete -c afdx-icd -f
 complete -c afdx-icd -l help -d 'Print help and leave'
 complete -c afdx-icd -l version -d 'Print the version and leave'
