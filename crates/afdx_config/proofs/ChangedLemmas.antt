@@ -1,6 +1,6 @@
 -- Tables stay lawful when a link gets times that it may have.
-use Rattle.std.proofs.Common.{◌≡◌, ℕ, zero, suc, ◌<◌, Bool, true, false, cond, List, [], ◌∷◌, length, find}
-use Rattle.std.proofs.Common.{Some, None, slice_get, nat_eq, refl, sym, ap, subst, ◌∙◌}
+use Rattle.std.proofs.Common.{◌≡◌, ℕ, zero, suc, Bool, true, false, cond, List, [], ◌∷◌, length, find}
+use Rattle.std.proofs.Common.{Some, slice_get, nat_eq, refl, sym, ap, ◌∙◌}
 use Rattle.std.specs.List.{AllByRecursion}
 use Rattle.std.specs.Option.{option_map_or}
 use Rattle.std.specs.Map.{values_of}
@@ -11,7 +11,7 @@ use Rattle.afdx_config.specs.declared.rows.Link.{Link}
 use Rattle.afdx_config.specs.Rows.{LinkRow, PortRow, Rows, is_to, link_row}
 use Rattle.afdx_config.specs.Kept.{link_rows, IsUnderItsIdentifier}
 use Rattle.afdx_config.specs.Reading.{goes_to}
-use Rattle.afdx_config.specs.Lawful.{IsLink, AreLinks, IsPort, ArePorts, AreDistinct, IsLawful}
+use Rattle.afdx_config.specs.Lawful.{IsLink, AreLinks, IsPort, AreDistinct, IsLawful}
 use Rattle.afdx_config.specs.Changed.{with_times, changed_at, with_link_at}
 
 same_of_some : {X : Type 0} (x y : X) → Some x ≡ Some y → x ≡ y

@@ -5,6 +5,5 @@ pub mod EachRowLemmas
 pub mod EntryLemmas
 pub mod GatheredLemmas
 pub mod GrownLemmas
-pub mod KeptLemmas
 pub mod LookUpLemmas
 pub mod NumberLemmas

@@ -5,8 +5,8 @@ pub mod Fault
 pub mod FaultText
 pub mod Trees
 pub mod Keys
+pub mod Choices
 pub mod Reading
-pub mod ToSolve
 pub mod New
 pub mod Lawful
 pub mod Flows

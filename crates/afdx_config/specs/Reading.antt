@@ -17,12 +17,14 @@ use Rattle.afdx_config.specs.declared.fault.ConfigFault.{ConfigFault}
 use Rattle.afdx_config.specs.declared.fault.ConfigFault.TheVariants.{NotToml, BadProfile}
 use Rattle.afdx_config.specs.declared.fault.ConfigFault.TheVariants.{OutOfRange, Twice}
 use Rattle.afdx_config.specs.declared.fault.ConfigFault.TheVariants.{NoSuchSystem}
+use Rattle.afdx_config.specs.declared.rows.KeptKeys.{KeptKeys}
 use Rattle.afdx_config.specs.declared.rows.Kind.{Kind}
 use Rattle.afdx_config.specs.declared.rows.Kind.TheVariants.{Sampling, Queuing}
 use Rattle.afdx_config.specs.declared.read_links.Traffic.{Traffic}
 use Rattle.afdx_config.specs.declared.read_links.Treatment.{Treatment}
 use Rattle.afdx_config.specs.declared.read_ports.Socket.{Socket}
 use Rattle.afdx_config.specs.Rows.{SystemRow, LinkRow, PortRow, Rows, is_to}
+use Rattle.afdx_config.specs.Choices.{choice, all_kept}
 use Rattle.afdx_config.specs.Fault.{◌>>=◌, ◌>>◌, check, or_fault}
 use Rattle.afdx_config.specs.Keys as keys
 use Rattle.afdx_config.specs.Keys.{Spot, top_at, at_least, at_most, whole, one_of, text, word}
@@ -110,20 +112,20 @@ abbrev pub greatest_delay : ℕ
 greatest_delay = 100000
 
 -- how much a link may send, and how its frames are treated
-unfoldable pub traffic_at : ℕ → Members → Result Traffic ConfigFault
-traffic_at i t = do
+unfoldable pub traffic_at : KeptKeys → ℕ → Members → Result Traffic ConfigFault
+traffic_at kept i t = do
   bag_ms ← one_of (keys.link_at i 4) gaps t
   lmin ← whole (keys.link_at i 5) t
   lmax ← whole (at_least lmin (keys.link_at i 6)) t
-  jitter_us ← whole (at_most (1000 * bag_ms) (keys.link_at i 7)) t
+  jitter_us ← choice kept.jitter (at_most (1000 * bag_ms) (keys.link_at i 7)) t
   Ok (record { bag_ms = bag_ms; lmin = lmin; lmax = lmax; jitter_us = jitter_us })
 
-unfoldable pub treatment_at : ℕ → Members → Result Treatment ConfigFault
-treatment_at i t = do
+unfoldable pub treatment_at : KeptKeys → ℕ → Members → Result Treatment ConfigFault
+treatment_at kept i t = do
   priority ← word (keys.link_at i 8) ((codes "high", High) ∷ (codes "low", Low) ∷ []) t
   policing ← word (keys.link_at i 9) ((codes "byte", Byte) ∷ (codes "frame", Frame) ∷ []) t
-  latency_us ← whole (keys.link_at i 10) t
-  skew_us ← whole (keys.link_at i 11) t
+  latency_us ← choice kept.latency (keys.link_at i 10) t
+  skew_us ← choice kept.skew (keys.link_at i 11) t
   subs ← whole (keys.link_at i 12) t
   Ok (record {
     priority = priority;
@@ -134,15 +136,16 @@ treatment_at i t = do
   })
 
 -- a link, whose identifier no link before has
-unfoldable pub link_at : List SystemRow → List LinkRow → Members → Result LinkRow ConfigFault
-link_at systems before t =
+unfoldable pub link_at : KeptKeys → List SystemRow → List LinkRow → Members →
+    Result LinkRow ConfigFault
+link_at kept systems before t =
     let at : ℕ → Spot = keys.link_at (length before + 1) in do
       vl ← whole (at 1) t
       check (not (is_some (link_of before vl))) (Twice (at 1).place)
       from ← named (at 2) systems t
       to ← destinations (at 3) systems from t
-      traffic ← traffic_at (length before + 1) t
-      treatment ← treatment_at (length before + 1) t
+      traffic ← traffic_at kept (length before + 1) t
+      treatment ← treatment_at kept (length before + 1) t
       only_link_keys (length before + 1) t
       Ok (record {
         vl = vl;
@@ -225,16 +228,16 @@ abbrev pub most_ports : ℕ
 most_ports = 4096
 
 -- the top, whose arrays of tables are counted before any table is read
-unfoldable pub tables_at : Members → Result Rows ConfigFault
-tables_at t = do
+unfoldable pub tables_at : KeptKeys → Members → Result Rows ConfigFault
+tables_at kept t = do
   profile ← or_bad_profile (whole (top_at 1) t)
-  buffer ← whole (top_at 2) t
+  buffer ← choice kept.buffer (top_at 2) t
   systems ← tables (top_at 3) t
   links ← tables (top_at 4) t
   ports ← tables (top_at 5) t
   only_top_keys t
   systems ← each (system_at profile) [] systems
-  links ← each (link_at systems) [] links
+  links ← each (link_at kept systems) [] links
   ports ← each (port_at systems links) [] ports
   Ok (record {
     profile = profile;
@@ -252,15 +255,23 @@ IsTreeOf text tree = IsUtf8 text × (parse_document text ≡ Some tree)
 abbrev pub HasNoTree : List ℕ → Type 0
 HasNoTree text = IsUtf8 text → parse_document text ≡ None
 
--- what is wrong with a text: it is no TOML, or its tree has this first fault
-abbrev pub IsFaultOf : List ℕ → ConfigFault → Type 0
-IsFaultOf text e =
+-- what is wrong with a text, of which these keys are kept: it is no TOML, or its tree has this first
+-- fault
+abbrev pub IsFaultKeeping : KeptKeys → List ℕ → ConfigFault → Type 0
+IsFaultKeeping kept text e =
     ((e ≡ NotToml) × HasNoTree text)
     ⊎ (IsUtf8 text
-    × ((tree : Members) × (parse_document text ≡ Some tree) × (tables_at tree ≡ Err e)))
+    × ((tree : Members) × (parse_document text ≡ Some tree) × (tables_at kept tree ≡ Err e)))
 
--- the text spells a tree that states the rows
-abbrev pub Spells : List ℕ → Rows → Type 0
-Spells text rows =
+-- the text, of which these keys are kept, spells a tree that states the rows
+abbrev pub SpellsKeeping : KeptKeys → List ℕ → Rows → Type 0
+SpellsKeeping kept text rows =
     IsUtf8 text
-    × ((tree : Members) × (parse_document text ≡ Some tree) × (tables_at tree ≡ Ok rows))
+    × ((tree : Members) × (parse_document text ≡ Some tree) × (tables_at kept tree ≡ Ok rows))
+
+-- the same of a text of which all keys are kept
+abbrev pub IsFaultOf : List ℕ → ConfigFault → Type 0
+IsFaultOf text e = IsFaultKeeping all_kept text e
+
+abbrev pub Spells : List ℕ → Rows → Type 0
+Spells text rows = SpellsKeeping all_kept text rows

@@ -5,7 +5,7 @@ ghost use Rattle.toml.specs.View.{view, table_view};
 ghost use Rattle.afdx_config.specs.Lawful.{IsWithin};
 ghost use Rattle.afdx_config.specs.Fault.{Gives};
 ghost use Rattle.afdx_config.specs.Keys.{spot_of};
-ghost use Rattle.afdx_config.specs.ToSolve as spec;
+ghost use Rattle.afdx_config.specs.Choices as spec;
 
 use crate::fault::ConfigFault;
 use crate::keys::{At, member, whole};
@@ -39,7 +39,7 @@ fn from_zero(value: &Value, at: At) -> Result<u64, ConfigFault>
 }
 
 /// A key that may be absent, or any whole number from 0 on.
-#[tactic(auto, unfolding(crate::specs::Keys::spot_of, crate::specs::ToSolve::free))]
+#[tactic(auto, unfolding(crate::specs::Keys::spot_of, crate::specs::Choices::free))]
 fn free(table: &Table, at: At) -> Result<u64, ConfigFault>
     requires { (spot_of at).least ≤ (spot_of at).greatest }
     ensures value { Gives (λ n. n) result (spec.free (spot_of at) (table_view table.now)) }
@@ -54,7 +54,7 @@ fn free(table: &Table, at: At) -> Result<u64, ConfigFault>
 
 /// A key that is kept is a whole number in its range. One that isn't may be absent, or any whole
 /// number from 0 on; the nearest in its range is taken.
-#[tactic(auto, unfolding(crate::specs::ToSolve::choice))]
+#[tactic(auto, unfolding(crate::specs::Choices::choice))]
 pub(crate) fn choice(table: &Table, at: At, kept: bool) -> Result<u64, ConfigFault>
     requires { (spot_of at).least ≤ (spot_of at).greatest }
     ensures value { Gives (λ n. n) result

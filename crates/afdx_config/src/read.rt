@@ -6,7 +6,6 @@ ghost use Rattle.afdx_config.specs.Lawful.{IsLawful, IsWithin};
 ghost use Rattle.afdx_config.specs.Fault.{Gives};
 ghost use Rattle.afdx_config.specs.Keys as keys;
 ghost use Rattle.afdx_config.specs.Reading as spec;
-ghost use Rattle.afdx_config.specs.ToSolve as to_solve;
 
 use crate::choices::{ALL_KEPT, choice};
 use crate::fault::ConfigFault;
@@ -33,9 +32,9 @@ fn profile_of(tree: &Table) -> Result<u64, ConfigFault>
 
 /// The tables that a tree states, or the first check that fails. Of the four keys that may be
 /// solved for, those that aren't kept may be absent or out of range.
-#[tactic(auto, unfolding(crate::specs::ToSolve::tables_at, crate::specs::Keys::top_keys))]
+#[tactic(auto, unfolding(crate::specs::Reading::tables_at, crate::specs::Keys::top_keys))]
 fn tables_of(alloc: Global, tree: &Table, kept: KeptKeys) -> Result<Tables, ConfigFault>
-    ensures { Gives (λ t. t) result (to_solve.tables_at kept (table_view tree.now)) }
+    ensures { Gives (λ t. t) result (spec.tables_at kept (table_view tree.now)) }
 {
     let profile = profile_of(tree)?;
     let buffer = choice(tree, top_at(2), kept.buffer)?;
@@ -47,13 +46,6 @@ fn tables_of(alloc: Global, tree: &Table, kept: KeptKeys) -> Result<Tables, Conf
     let links = links_of(alloc, &links, &systems, kept)?;
     let coms = coms_of(alloc, &ports, &systems, &links)?;
     Ok(Tables::new(profile, buffer, systems, links, coms))
-}
-
-/// The tables that a tree states, or the first check that fails.
-fn all_tables_of(alloc: Global, tree: &Table) -> Result<Tables, ConfigFault>
-    ensures { Gives (λ t. t) result (spec.tables_at (table_view tree.now)) }
-{
-    tables_of(alloc, tree, ALL_KEPT)
 }
 
 /// The tree that the text spells. It is `NotToml` where it spells none.
@@ -79,7 +71,7 @@ pub fn read_tables(alloc: Global, text: &[u8]) -> Result<Tables, ConfigFault>
     ensures fault { IfErr result (λ e. e ≢ ConfigFault.Memory → spec.IsFaultOf text.now e) }
 {
     let tree = tree_of(alloc, text)?;
-    all_tables_of(alloc, &tree)
+    tables_of(alloc, &tree, ALL_KEPT)
 }
 
 /// The tables that the text spells, which are to be solved, or the first check that fails. Of
@@ -88,10 +80,10 @@ pub fn read_tables(alloc: Global, text: &[u8]) -> Result<Tables, ConfigFault>
 ///
 /// Memory is answered as by `read_tables`.
 pub fn read_to_solve(alloc: Global, text: &[u8], kept: KeptKeys) -> Result<Tables, ConfigFault>
-    ensures ok { IfOk result (to_solve.Spells kept text.now) }
+    ensures ok { IfOk result (spec.SpellsKeeping kept text.now) }
     ensures lawful { IfOk result IsLawful }
     ensures fault { IfErr result (λ e. e ≢ ConfigFault.Memory →
-        to_solve.IsFaultOf kept text.now e) }
+        spec.IsFaultKeeping kept text.now e) }
 {
     let tree = tree_of(alloc, text)?;
     tables_of(alloc, &tree, kept)

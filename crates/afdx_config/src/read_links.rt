@@ -15,7 +15,6 @@ ghost use Rattle.afdx_config.specs.Fault.{Gives, or_fault};
 ghost use Rattle.afdx_config.specs.Trees.{trees, lent_texts};
 ghost use Rattle.afdx_config.specs.Keys as keys;
 ghost use Rattle.afdx_config.specs.Reading as spec;
-ghost use Rattle.afdx_config.specs.ToSolve as to_solve;
 
 use crate::choices::choice;
 use crate::fault::{ConfigFault, Place};
@@ -146,14 +145,14 @@ struct Treatment {
     subs: u64,
 }
 
-#[tactic(auto, unfolding(crate::specs::ToSolve::traffic_at, crate::specs::Keys::link_keys))]
+#[tactic(auto, unfolding(crate::specs::Reading::traffic_at, crate::specs::Keys::link_keys))]
 fn traffic_of(table: &Table, index: usize, kept: KeptKeys) -> Result<Traffic, ConfigFault>
     ensures gap { IfOk result (λ x. IsTrue (is_bag x.bag_ms)) }
     ensures least { IfOk result (λ x. IsWithin least_frame greatest_frame x.lmin) }
     ensures greatest { IfOk result (λ x. IsWithin x.lmin greatest_frame x.lmax) }
     ensures jitter { IfOk result (λ x. IsWithin 0 (1000 * x.bag_ms) x.jitter_us) }
     ensures value { Gives (λ x. x) result
-        (to_solve.traffic_at kept index (table_view table.now)) }
+        (spec.traffic_at kept index (table_view table.now)) }
 {
     let bag_ms = one_of(table, link_at(index, 4), &GAPS_MS)?;
     let lmin = whole(table, link_at(index, 5))?;
@@ -167,13 +166,13 @@ fn traffic_of(table: &Table, index: usize, kept: KeptKeys) -> Result<Traffic, Co
     })
 }
 
-#[tactic(auto, unfolding(crate::specs::ToSolve::treatment_at, crate::specs::Keys::link_keys))]
+#[tactic(auto, unfolding(crate::specs::Reading::treatment_at, crate::specs::Keys::link_keys))]
 fn treatment_of(table: &Table, index: usize, kept: KeptKeys) -> Result<Treatment, ConfigFault>
     ensures latency { IfOk result (λ x. IsWithin 1 spec.greatest_delay x.latency_us) }
     ensures skew { IfOk result (λ x. IsWithin 1 spec.greatest_delay x.skew_us) }
     ensures subs { IfOk result (λ x. IsWithin 1 4 x.subs) }
     ensures value { Gives (λ x. x) result
-        (to_solve.treatment_at kept index (table_view table.now)) }
+        (spec.treatment_at kept index (table_view table.now)) }
 {
     let priority = priority_at(table, link_at(index, 8))?;
     let policing = policing_at(table, link_at(index, 9))?;
@@ -220,7 +219,7 @@ fn to_of(
 }
 
 /// The link that a table states, after those before it.
-#[tactic(auto, unfolding(crate::specs::ToSolve::link_at))]
+#[tactic(auto, unfolding(crate::specs::Reading::link_at))]
 fn link_of(
     alloc: Global,
     table: &Table,
@@ -229,7 +228,7 @@ fn link_of(
     kept: KeptKeys,
 ) -> Result<Link, ConfigFault>
     ensures value { Gives link_row result
-        (to_solve.link_at kept systems.now before.now (table_view table.now)) }
+        (spec.link_at kept systems.now before.now (table_view table.now)) }
     ensures fresh { IfOk result (λ l. spec.link_of before.now l.vl.0 ≡ None) }
     ensures lawful { IfOk result (λ l. IsLink (length systems.now) (link_row l)) }
 {
@@ -269,7 +268,7 @@ pub(crate) fn links_of(
     requires { length tables.now ≤ spec.most_links }
     ensures lawful { IfOk result (AreLinks (length systems.now)) }
     ensures value { Gives (λ l. l) result
-        (spec.each (to_solve.link_at kept systems.now) [] (trees tables.now)) }
+        (spec.each (spec.link_at kept systems.now) [] (trees tables.now)) }
 {
     let mut links = Links::new(alloc);
     for table in tables {

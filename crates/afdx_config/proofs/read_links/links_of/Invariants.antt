@@ -1,8 +1,7 @@
 use Rattle.std.proofs.Common.{◌≡◌, drop, length, []}
 use Rattle.afdx_config.specs.Lawful.{AreLinks}
 use Rattle.afdx_config.specs.Trees.{trees}
-use Rattle.afdx_config.specs.Reading.{each}
-use Rattle.afdx_config.specs.ToSolve.{link_at}
+use Rattle.afdx_config.specs.Reading.{each, link_at}
 use Rattle.afdx_config.proofs.read_links.links_of.Given as goal
 
 abbrev pub invariant-loop-table : goal.invariant-loop-table

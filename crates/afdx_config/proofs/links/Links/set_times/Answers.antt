@@ -1,5 +1,4 @@
-use Rattle.std.proofs.Common.{ap, ◌∙◌, arith, length}
-use Rattle.indexmap.specs.IndexMap.{set_value_at}
+use Rattle.std.proofs.Common.{ap, ◌∙◌, arith}
 use Rattle.indexmap.specs.Layout.{length-set_value_at}
 use Rattle.afdx_config.specs.Changed.{changed_at}
 use Rattle.afdx_config.proofs.ChangedLemmas.{changed_link, rows-set, keys-set}

@@ -1,6 +1,6 @@
 use Rattle.std.proofs.Common.{◌≡◌, length, slice_get, Some, sym, subst}
 use Rattle.afdx_config.specs.Rows.{LinkRow, Rows, port_rows, rows_with}
-use Rattle.afdx_config.specs.Lawful.{IsLawful, IsLink}
+use Rattle.afdx_config.specs.Lawful.{IsLink}
 use Rattle.afdx_config.specs.Changed.{with_times}
 use Rattle.afdx_config.proofs.ChangedLemmas.{lawful-changed}
 use Rattle.afdx_config.proofs.tables.Tables.set_times.Goals as goal
