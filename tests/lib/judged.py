@@ -47,8 +47,8 @@ def check_each_less(program: Program, tables: dict, key: str, chance: random.Ran
         named = links_named(false_of(program, lower), key)
         must(named == sorted(reduced), f"{key}: {set(reduced) ^ set(named)} are not the least")
     for vl in chance.sample(reduced, min(PICKED, len(reduced))):
-        lower = [less(link, key) if link["vl"] == vl else link for link in links]
-        named = links_named(false_of(program, tables | {"link": lower}), key)
+        rows = [less(link, key) if link["vl"] == vl else link for link in links]
+        named = links_named(false_of(program, tables | {"link": rows}), key)
         must(named == [vl], f"{key} of {vl} less by one makes lines of {named} false")
 
 

@@ -29,7 +29,7 @@ from networks import network, one_port  # noqa: E402
 from program import Answer, Cases, Program, answers, main_of, must, same_text  # noqa: E402
 from tables import system_of, text_of, tomllib  # noqa: E402
 
-NO_TABLES = {"system": [], "link": [], "port": []}
+NO_TABLES: dict[str, list] = {"system": [], "link": [], "port": []}
 BEYOND = (0, 1, 100_001, 4_194_305, 2**63 - 1)  # numbers for keys that are solved
 
 

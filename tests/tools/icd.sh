@@ -41,6 +41,11 @@ is_refused() { # FOLDER STATUS LINE.. : the lines on standard error, and no conf
 
 # ---- tables that are sound -----------------------------------------------------------------
 
+help_tests() {
+    launch env COLUMNS=80 tools/afdx-icd --help
+    tell 'the help of afdx-icd fits 80 columns' "$(is_status 0; grep -E '.{81}' "$work/out")"
+}
+
 sound_tests() {
     local one=$work/icd/one two=$work/icd/two
     tables "$one" '' ''
@@ -388,6 +393,7 @@ if [[ -z $built ]]; then
 elif ! "$program" solve --help >/dev/null 2>&1; then
     skip 'afdx-icd' 'the program has no command solve'
 else
+    help_tests
     sound_tests
     choice_tests
     late_tests
