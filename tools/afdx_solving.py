@@ -30,31 +30,41 @@ class Solved(NamedTuple):
     line: str
 
 
-def run(command: list[str], config: bytes) -> subprocess.CompletedProcess[bytes]:
-    """Runs the program on a configuration; Failed where it could do nothing with it."""
-    afdx = program()
+class Said(NamedTuple):
+    """How the program ended that was given a configuration: its status, and the lines of both
+    streams, of which one has some."""
+
+    status: int
+    out: str
+    told: list[str]
+
+
+def run(words: list[str], config: bytes) -> Said:
+    """Runs the program on a configuration; Failed where it said nothing of it."""
     done = subprocess.run(
-        [afdx, *command, "/dev/stdin"], input=config, capture_output=True, check=False
+        [program(), *words, "/dev/stdin"], input=config, capture_output=True, check=False
     )
-    if done.returncode not in (0, 1):
-        said = done.stderr.decode(errors="replace").splitlines()
-        line = said[0] if said else f"{afdx} {command[0]} ended with status {done.returncode}"
-        raise Failed(shown(line), done.returncode if done.returncode > 0 else 4)
-    return done
+    out = done.stdout.decode(errors="replace")
+    told = done.stderr.decode(errors="replace").splitlines()
+    if done.returncode < 0:
+        raise Failed(f"signal {-done.returncode} ended the program", 128 - done.returncode)
+    if done.returncode > 1 or not (out or told):
+        line = told[0] if told else f"{program()} {words[0]} said nothing"
+        raise Failed(shown(line), done.returncode if done.returncode > 1 else 4)
+    return Said(done.returncode, out, told)
 
 
 def solve(config: bytes) -> Solved:
     """Gives a configuration the least values with which it is admitted, none of them less than it
     has."""
-    done = run(["solve", "--raise-only"], config)
-    out, told = done.stdout.decode(), done.stderr.decode()
-    if done.returncode == 1:
-        return Solved("", [], (out + told).splitlines()[0])
-    found = map(NEED.fullmatch, told.splitlines())
-    return Solved(out, [Need(*map(int, match.groups())) for match in found if match], "")
+    said = run(["solve", "--raise-only"], config)
+    if said.status == 1:
+        return Solved("", [], shown([*said.out.splitlines(), *said.told][0]))
+    found = map(NEED.fullmatch, said.told)
+    return Solved(said.out, [Need(*map(int, match.groups())) for match in found if match], "")
 
 
 def check(config: bytes) -> str:
     """The answer of admission: `ok`, `no ..` or `config ..`."""
-    done = run(["check"], config)
-    return (done.stdout + done.stderr).decode().splitlines()[-1]
+    said = run(["check"], config)
+    return shown([*said.out.splitlines(), *said.told][-1])

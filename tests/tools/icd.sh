@@ -384,6 +384,15 @@ file_tests() {
     tell 'a program that is not there, of afdx-icd' "$(
         is_refused "$at" 4 '/nowhere: No such file or directory'
     )"
+    local said
+    for said in 'true|said nothing' 'false|said nothing' 'echo|solve wrote other tables'; do
+        AFDX=/bin/${said%|*} icd "$at"
+        tell "a program that is /bin/${said%|*}" "$(
+            is_status 4
+            says err "${said#*|}"
+            wc -l <"$work/err" | grep -vx 1
+        )"
+    done
     launch tools/afdx-icd "$at/systems.csv"
     tell 'tables that are not named' "$(is_status 2; says err 'required: MESSAGES.csv, CONFIG')"
 }
