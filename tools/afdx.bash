@@ -193,8 +193,23 @@ _afdx_icd() {
     esac
 }
 
+_afdx_fill() {
+    local given before
+    COMPREPLY=()
+    _afdx_read 1 --keep
+    if _afdx_is_option; then
+        _afdx_words --keep --raise-only --help --version
+        return
+    fi
+    case $before in
+        --keep) _afdx_words jitter buffer latency skew ;;
+        '') _afdx_files toml ;;
+    esac
+}
+
 complete -F _afdx afdx
 complete -F _afdx_capture afdx-capture
 complete -F _afdx_report afdx-report
 complete -F _afdx_campaign afdx-campaign
 complete -F _afdx_icd afdx-icd
+complete -F _afdx_fill afdx-fill

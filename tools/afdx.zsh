@@ -1,4 +1,4 @@
-#compdef afdx afdx-capture afdx-report afdx-campaign afdx-icd
+#compdef afdx afdx-capture afdx-report afdx-campaign afdx-icd afdx-fill
 # Completes the words of `afdx` and of its tools in zsh. `bin/install PREFIX` puts it at
 # PREFIX/share/zsh/site-functions/_afdx; where zsh doesn't look there, put that folder into `fpath`.
 
@@ -110,5 +110,10 @@ case $service in
     afdx-icd)
         _arguments $help $version '--profile[which rules its switches keep]:profile:(1 2)' \
             '--raise[also where messages are late]' ":$table" ":$table" ":$config"
+        ;;
+    afdx-fill)
+        _arguments $help $version \
+            '--keep[these keys stay as they are]:keys:(jitter buffer latency skew)' \
+            '--raise-only[no value gets less than it is]' ":$config" ":$config"
         ;;
 esac

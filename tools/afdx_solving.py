@@ -3,7 +3,7 @@ from __future__ import annotations
 
 import re
 import subprocess
-from typing import NamedTuple
+from typing import NamedTuple, Sequence
 
 from afdx_tools import program
 from afdx_words import Failed, shown
@@ -19,6 +19,11 @@ class Need(NamedTuple):
     port: int
     needed_ns: int
     asked_us: int
+
+    def line(self) -> str:
+        """The line."""
+        at = f"vl {self.vl} at {self.port}"
+        return f"{at}: {self.needed_ns} ns needed, {self.asked_us} us asked"
 
 
 class Solved(NamedTuple):
@@ -54,10 +59,10 @@ def run(words: list[str], config: bytes) -> Said:
     return Said(done.returncode, out, told)
 
 
-def solve(config: bytes) -> Solved:
-    """Gives a configuration the least values with which it is admitted, none of them less than it
-    has."""
-    said = run(["solve", "--raise-only"], config)
+def solve(config: bytes, options: Sequence[str] = ("--raise-only",)) -> Solved:
+    """Gives a configuration the least values with which it is admitted; with these options none of
+    them is less than it has."""
+    said = run(["solve", *options], config)
     if said.status == 1:
         return Solved("", [], shown([*said.out.splitlines(), *said.told][0]))
     found = map(NEED.fullmatch, said.told)
