@@ -19,9 +19,10 @@ is_kept() { # FILE : filled.toml is the file with other numbers
 
 is_solved() { # FILE [OPTION..] : filled.toml says what `solve` writes of the file
     "$program" solve "${@:2}" "$1" >"$work/solved.toml" 2>"$work/needs"
-    "$python" - "$work/solved.toml" "$work/filled.toml" <<'CODE'
+    "$python" - "$work/solved.toml" "$work/filled.toml" 2>&1 <<'CODE'
 import sys, tomllib
-one, other = (tomllib.load(open(path, "rb")) for path in sys.argv[1:])
+texts = (open(path, encoding="utf-8-sig", newline="").read() for path in sys.argv[1:])
+one, other = map(tomllib.loads, texts)
 if one != other | {key: rows for key, rows in one.items() if rows == []}:
     print("it has other tables than what solve writes")
 CODE
