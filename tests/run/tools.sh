@@ -72,8 +72,8 @@ else
     skip 'afdx-report' 'there is no package numpy (apt-get install python3-numpy)'
 fi
 
-parts="recordings report hardening criteria early page capture_faults wireshark icd fill"
-for part in $parts completion around campaigns package; do
+parts="recordings report hardening criteria early page capture_faults wireshark icd"
+for part in $parts icd_faults fill completion around campaigns package; do
     # shellcheck source=/dev/null
     source "$top/tests/tools/$part.sh"
 done
