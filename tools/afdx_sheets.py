@@ -47,11 +47,11 @@ class Sheet:
 
 
 def text_of(path: str) -> str:
-    """A file's text, without a byte order mark."""
+    """A file's text without a byte order mark, each line with a line feed at its end."""
     with open(path, "rb") as file:
         content = file.read()
     try:
-        return content.decode("utf-8-sig")
+        return content.decode("utf-8-sig").replace("\r\n", "\n").replace("\r", "\n")
     except UnicodeDecodeError as error:
         line = content.count(b"\n", 0, error.start) + 1
         text = f"{shown(path)} line {line}: it isn't UTF-8; save the table as CSV in UTF-8"
@@ -67,7 +67,7 @@ def delimiter_of(text: str) -> str:
 def cells_of(path: str, text: str) -> Iterator[tuple[int, list[str]]]:
     """The rows that aren't empty: the line at which each begins, its cells without the spaces
     around them."""
-    reader = csv.reader(io.StringIO(text, newline=""), delimiter=delimiter_of(text), strict=True)
+    reader = csv.reader(io.StringIO(text), delimiter=delimiter_of(text), strict=True)
     begin = 1
     try:
         for row in reader:

@@ -42,7 +42,7 @@ is_refused() { # FOLDER STATUS LINE.. : the lines on standard error, and no conf
 # ---- tables that are sound -----------------------------------------------------------------
 
 sound_tests() {
-    local one=$work/icd/one two=$work/icd/two
+    local one=$work/icd/one two=$work/icd/two file
     tables "$one" '' ''
     icd "$one"
     tell 'two tables to ok' "$(
@@ -69,7 +69,13 @@ sound_tests() {
         is_ok "$two"
         grep -qxF '  # a, "b"\n#' "$two/made.toml" || grep '# a' "$two/made.toml"
     )"
-    cp "$one/made.toml" "$work/one.toml"
+    tables "$two" '' ''
+    for file in systems messages; do tr '\n' '\r' <"examples/$file.csv" >"$two/$file.csv"; done
+    icd "$two"
+    tell 'lines that end in a carriage return alone' "$(
+        is_ok "$two"
+        same "$one/made.toml" "$two/made.toml"
+    )"
     launch tools/afdx-icd "$one/systems.csv" "$one/messages.csv" -
     tell 'the configuration on standard output' "$(
         is_status 0
