@@ -184,7 +184,38 @@ _afdx_campaign() {
     esac
 }
 
+_afdx_icd() {
+    local given before
+    COMPREPLY=()
+    _afdx_read 1 --profile
+    if _afdx_is_option; then
+        _afdx_words --profile --raise --help --version
+        return
+    fi
+    case $before.${#given[@]} in
+        --profile.*) _afdx_words 1 2 ;;
+        .0 | .1) _afdx_files csv ;;
+        .2) _afdx_files toml ;;
+    esac
+}
+
+_afdx_fill() {
+    local given before
+    COMPREPLY=()
+    _afdx_read 1 --keep
+    if _afdx_is_option; then
+        _afdx_words --keep --raise-only --help --version
+        return
+    fi
+    case $before in
+        --keep) _afdx_words jitter buffer latency skew ;;
+        '') _afdx_files toml ;;
+    esac
+}
+
 complete -F _afdx afdx
 complete -F _afdx_capture afdx-capture
 complete -F _afdx_report afdx-report
 complete -F _afdx_campaign afdx-campaign
+complete -F _afdx_icd afdx-icd
+complete -F _afdx_fill afdx-fill

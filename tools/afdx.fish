@@ -144,3 +144,20 @@ complete -c afdx-campaign -x -s j -l jobs -d 'Runs at a time'
 complete -c afdx-campaign -l resume -d 'Only the lists that have not been run'
 complete -c afdx-campaign -x -s S -l sshlogin -d 'Run on this machine too'
 complete -c afdx-campaign -l transfer -d 'Copy lists and configuration there first'
+
+# ---- afdx-icd, afdx-fill -------------------------------------------------------------------------
+
+set -ga __afdx_valued --profile --keep
+complete -c afdx-icd -f
+complete -c afdx-icd -l help -d 'Print help and leave'
+complete -c afdx-icd -l version -d 'Print the version and leave'
+complete -c afdx-icd -x -l profile -a '1 2' -d 'Which rules its switches keep'
+complete -c afdx-icd -l raise -d 'Also where messages are late'
+complete -c afdx-icd -n '__afdx_at - 0 1' -a '(__afdx_files csv)'
+complete -c afdx-icd -n '__afdx_at - 2 2' -a '(__afdx_files toml)'
+complete -c afdx-fill -f
+complete -c afdx-fill -l help -d 'Print help and leave'
+complete -c afdx-fill -l version -d 'Print the version and leave'
+complete -c afdx-fill -x -l keep -a 'jitter buffer latency skew' -d 'These keys stay as they are'
+complete -c afdx-fill -l raise-only -d 'No value gets less than it is'
+complete -c afdx-fill -n '__afdx_at - 0 1' -a '(__afdx_files toml)'

@@ -1,4 +1,4 @@
-#compdef afdx afdx-capture afdx-report afdx-campaign
+#compdef afdx afdx-capture afdx-report afdx-campaign afdx-icd afdx-fill
 # Completes the words of `afdx` and of its tools in zsh. `bin/install PREFIX` puts it at
 # PREFIX/share/zsh/site-functions/_afdx; where zsh doesn't look there, put that folder into `fpath`.
 
@@ -7,6 +7,7 @@ local version='(- *)--version[print the version and leave]'
 local config='configuration:_files -g "*.toml(-.)"'
 local list='frame list:_files -g "*.list(-.)"'
 local input='frame list or recording:_files -g "*.(list|pcap|pcapng)(-.)"'
+local table='table:_files -g "*.csv(-.)"'
 local recording='recording:_files -g "*.(pcap|pcapng|pcap.gz|pcapng.gz)(-.)"'
 local -a told=(
     '--explain=-[when a fault is explained]::when:(auto always never)'
@@ -117,5 +118,14 @@ case $service in
             '--fail-on[status 6 where one of these is not 0]:words:' \
             '--junit[write each criterion as a JUnit test case]:file:_files' \
             '--transfer[copy lists and configuration there first]' ":$config" "*:$list"
+        ;;
+    afdx-icd)
+        _arguments $help $version '--profile[which rules its switches keep]:profile:(1 2)' \
+            '--raise[also where messages are late]' ":$table" ":$table" ":$config"
+        ;;
+    afdx-fill)
+        _arguments $help $version \
+            '--keep[these keys stay as they are]:keys:(jitter buffer latency skew)' \
+            '--raise-only[no value gets less than it is]' ":$config" ":$config"
         ;;
 esac

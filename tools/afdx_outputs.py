@@ -3,6 +3,7 @@ from __future__ import annotations
 
 import contextlib
 import os
+import shutil
 import stat
 import sys
 from typing import BinaryIO, Iterator
@@ -32,11 +33,14 @@ def standard_output() -> Iterator[BinaryIO]:
 
 @contextlib.contextmanager
 def whole(path: str) -> Iterator[BinaryIO]:
-    """A regular file, which gets its name when it is whole."""
+    """A regular file, which gets its name when it is whole; it is as open to others as the one was
+    that had the name before."""
     partial = f"{path}.{os.getpid()}.part"
     try:
         with open(partial, "wb") as file:
             yield file
+        with contextlib.suppress(FileNotFoundError):
+            shutil.copymode(path, partial)
         os.replace(partial, path)
     finally:
         with contextlib.suppress(FileNotFoundError):

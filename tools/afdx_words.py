@@ -1,4 +1,4 @@
-"""What afdx-report and afdx-campaign share: their words, their faults, their progress."""
+"""What afdx-icd, afdx-report and afdx-campaign share: their words, their faults, their progress."""
 from __future__ import annotations
 
 import argparse

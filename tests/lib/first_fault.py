@@ -76,8 +76,9 @@ def is_new(tables: dict, part: str, place: int, key: str) -> bool:
     if key == "to":
         return len(set(row["to"])) == len(row["to"]) and row["from"] not in row["to"]
     if (part, key) == ("port", "udp"):
-        three = ("system", "link", "udp")
-        return all(any(other[each] != row[each] for each in three) for other in rows)
+        named = (row["system"], row["link"])
+        same = (other for other in rows if other["udp"] == row["udp"])
+        return all((other["system"], other["link"]) != named for other in same)
     return True
 
 

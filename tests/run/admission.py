@@ -22,21 +22,12 @@ sys.dont_write_bytecode = True
 sys.path.insert(0, os.path.join(os.path.dirname(os.path.abspath(__file__)), "..", "lib"))
 import tables as made  # noqa: E402
 from first_fault import RANGES  # noqa: E402
+from judged import LINES_OF, check_all_less, checked  # noqa: E402
 from least import SOLVED, Solved, check_text, needs, solve_fault, solved  # noqa: E402
 from networks import network, one_port  # noqa: E402
-from program import Answer, Cases, Program, answers, main_of, must  # noqa: E402
-
-# the lines that a key's values less by one make false
-LINES_OF = {"jitter_us": ("A6",), "latency_us": ("A3", "A4"), "skew_us": ("A7",)}
-PICKED = 4  # links whose values are made less one at a time
-
+from program import Cases, Program, answers, main_of, must  # noqa: E402
 
 # ---- what the program says of them ---------------------------------------------------------------
-
-
-def checked(program: Program, tables: dict, *options: str) -> Answer:
-    """What `check` answers of the tables."""
-    return program.run("check", *options, "/dev/stdin", given=made.text_of(tables))
 
 
 def check_alike(program: Program, tables: dict) -> int:
@@ -52,41 +43,6 @@ def check_all_alike(program: Program, seed: int, count: int) -> None:
     chance = random.Random(seed)
     for _ in range(count):
         check_alike(program, network(chance, chance.randint(1, 40), chance.random() < 0.5))
-
-
-def false_of(program: Program, tables: dict) -> list[list[str]]:
-    """The words of each line that `check --all` says to be false."""
-    found = checked(program, tables, "--all")
-    must(found.status == 1 and found.err == b"", f"status {found.status}: {found.err!r}")
-    lines = found.out.decode().splitlines()
-    return [line.split() for line in lines if line.startswith("no ")]
-
-
-def links_named(lines: list[list[str]], key: str) -> list[int]:
-    """The links that the key's lines name; Wrong where another line is false."""
-    others = [line for line in lines if line[1] not in LINES_OF[key]]
-    must(not others, f"{key} less by one makes {others[:1]} false")
-    return sorted({int(line[3] if key == "latency_us" else line[2]) for line in lines})
-
-
-def less(link: dict, key: str) -> dict:
-    """The link with a value less by one, where that is in range."""
-    return link | {key: max(link[key] - 1, RANGES["link", key][0])}
-
-
-def check_each_less(program: Program, tables: dict, key: str, chance: random.Random) -> None:
-    """Each link's value is needed: all less by one make each link's own line false, and one less
-    by one makes that link's alone."""
-    links = tables["link"]
-    reduced = [link["vl"] for link in links if less(link, key) != link]
-    if reduced:
-        lower = tables | {"link": [less(link, key) for link in links]}
-        named = links_named(false_of(program, lower), key)
-        must(named == sorted(reduced), f"{key}: {set(reduced) ^ set(named)} are not the least")
-    for vl in chance.sample(reduced, min(PICKED, len(reduced))):
-        lower = [less(link, key) if link["vl"] == vl else link for link in links]
-        named = links_named(false_of(program, tables | {"link": lower}), key)
-        must(named == [vl], f"{key} of {vl} less by one makes lines of {named} false")
 
 
 def is_hopeless(found: Solved) -> bool:
@@ -110,13 +66,7 @@ def check_least(program: Program, tables: dict) -> bool:
     if found.fault:
         must(is_hopeless(found), f"{found.fault} is told, but a greater value is enough")
         return False
-    chance = random.Random(len(tables["link"]))
-    for key in LINES_OF:
-        check_each_less(program, found.tables, key, chance)
-    buffer = found.tables["buffer"]
-    if buffer > RANGES["top", "buffer"][0]:
-        lines = false_of(program, found.tables | {"buffer": buffer - 1})
-        must({line[1] for line in lines} == {"A2"}, f"a buffer less by one makes {lines[:1]} false")
+    check_all_less(program, found.tables)
     return True
 
 

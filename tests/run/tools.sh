@@ -61,7 +61,7 @@ if [[ ! -x $python ]]; then
 fi
 
 if "$python" -c 'import numpy' 2>"$work/err"; then numpy=1; else numpy=; fi
-for tool in afdx-capture ${numpy:+afdx-report} afdx-campaign; do
+for tool in afdx-capture ${numpy:+afdx-report} afdx-campaign afdx-icd afdx-fill; do
     launch "tools/$tool" --help
     tell "$tool --help" "$(is_status 0; says out usage)"
 done
@@ -72,8 +72,8 @@ else
     skip 'afdx-report' 'there is no package numpy (apt-get install python3-numpy)'
 fi
 
-parts="recordings report hardening criteria early page capture_faults wireshark completion around"
-for part in $parts campaigns package; do
+parts="recordings report hardening criteria early page capture_faults wireshark icd"
+for part in $parts icd_faults fill completion around campaigns package; do
     # shellcheck source=/dev/null
     source "$top/tests/tools/$part.sh"
 done

@@ -85,10 +85,10 @@ install_tests() {
     tell 'install' "$(
         is_status 0
         cmp "$program" "$prefix/bin/afdx" 2>&1
-        for file in share/man/man1/afdx{,-capture,-report,-campaign}.1 bin/afdx-report \
-            share/bash-completion/completions/afdx{,-capture,-report,-campaign} \
+        for file in share/man/man1/afdx{,-capture,-report,-campaign,-icd,-fill}.1 bin/afdx-fill \
+            share/bash-completion/completions/afdx{,-capture,-report,-campaign,-icd,-fill} \
             share/zsh/site-functions/_afdx lib/wireshark/plugins/afdx.lua \
-            share/fish/vendor_completions.d/afdx{,-capture,-report,-campaign}.fish; do
+            share/fish/vendor_completions.d/afdx{,-capture,-report,-campaign,-icd,-fill}.fish; do
             if [[ ! -s $prefix/$file ]]; then echo "no $file"; fi
         done
     )"

@@ -40,7 +40,7 @@ offers() { # SHELL LINE WANTED.. : these words, folders aside; of a path the las
 offer_tests() { # SHELL
     local files=$work/files
     mkdir -p "$files"
-    touch "$files"/{one.toml,two.list,three.messages,four.pcap,five.pcapng.gz,six.html}
+    touch "$files"/{one.toml,two.list,three.messages,four.pcap,five.pcapng.gz,six.html,seven.csv}
     printf 'system = [\n  { name = "adc" },\n  { name = "fcc" },\n]\nlink = []\n' >"$files/one.toml"
     tell "$1 completes words" "$(
         offers "$1" 'afdx ch' check
@@ -60,6 +60,8 @@ offer_tests() { # SHELL
         offers "$1" 'afdx-capture pcap --fcs ' yes no
         offers "$1" 'afdx-capture list --side A --al' --all
         offers "$1" "afdx send $files/one.toml " adc fcc
+        offers "$1" 'afdx-icd --profile ' 1 2
+        offers "$1" 'afdx-fill --keep ' jitter buffer latency skew
     )"
     tell "$1 completes files, each of the kind that is wanted there" "$(
         offers "$1" "afdx check $files/" one.toml
@@ -77,6 +79,11 @@ offer_tests() { # SHELL
         offers "$1" "afdx-report $files/" one.toml
         offers "$1" "afdx-report --rows 7 $files/one.toml $files/" two.list
         offers "$1" "afdx-report --out $files/"
+        offers "$1" "afdx-icd --profile 2 $files/" seven.csv
+        offers "$1" "afdx-icd $files/seven.csv $files/" seven.csv
+        offers "$1" "afdx-icd $files/seven.csv $files/seven.csv $files/" one.toml
+        offers "$1" "afdx-fill $files/" one.toml
+        offers "$1" "afdx-fill --keep skew $files/one.toml $files/" one.toml
         offers "$1" "afdx-campaign $files/" one.toml
         offers "$1" "afdx-campaign $files/one.toml $files/two.list $files/" two.list
     )"
@@ -91,8 +98,8 @@ options_of() { # WORD.. : the long options that its --help has a line for
 
 each_help() { # FUNCTION WORD.. : calls it with the words, a command's name and its options
     local name
-    for name in afdx-report afdx-campaign 'afdx-capture list' 'afdx-capture pcap' \
-        'afdx-capture annotate'; do
+    for name in afdx-report afdx-campaign afdx-icd afdx-fill 'afdx-capture list' \
+        'afdx-capture pcap' 'afdx-capture annotate'; do
         # shellcheck disable=SC2086
         options_of tools/$name >"$work/options"
         "$@" "$name" "$work/options"
@@ -126,7 +133,7 @@ done
 version_tests() {
     local wanted tool
     wanted=$(sed -n 's/^const VERSION: &str = "\([^ ]*\) .*/\1/p' crates/afdx/src/words.rt)
-    for tool in afdx-capture afdx-report afdx-campaign; do
+    for tool in afdx-capture afdx-report afdx-campaign afdx-icd afdx-fill; do
         launch "tools/$tool" --version
         tell "$tool --version" "$(
             is_status 0

@@ -1,0 +1,75 @@
+"""What `afdx solve` makes of a configuration, and what `afdx check` says of one."""
+from __future__ import annotations
+
+import re
+import subprocess
+from typing import NamedTuple, Sequence
+
+from afdx_tools import program
+from afdx_words import Failed, shown
+
+NEED = re.compile(r"vl (\d+) at (\d+): (\d+) ns needed, (\d+) us asked")
+
+
+class Need(NamedTuple):
+    """A line of `solve` on standard error: at a port a link's frames can take more than is asked of
+    them."""
+
+    vl: int
+    port: int
+    needed_ns: int
+    asked_us: int
+
+    def line(self) -> str:
+        """The line."""
+        at = f"vl {self.vl} at {self.port}"
+        return f"{at}: {self.needed_ns} ns needed, {self.asked_us} us asked"
+
+
+class Solved(NamedTuple):
+    """What `solve` answered: a configuration and where more is needed than its file asked; or, in
+    place of a configuration, the one line that says why there is none."""
+
+    text: str
+    needs: list[Need]
+    line: str
+
+
+class Said(NamedTuple):
+    """How the program ended that was given a configuration: its status, and the lines of both
+    streams, of which one has some."""
+
+    status: int
+    out: str
+    told: list[str]
+
+
+def run(words: list[str], config: bytes) -> Said:
+    """Runs the program on a configuration; Failed where it said nothing of it."""
+    done = subprocess.run(
+        [program(), *words, "/dev/stdin"], input=config, capture_output=True, check=False
+    )
+    out = done.stdout.decode(errors="replace")
+    told = done.stderr.decode(errors="replace").splitlines()
+    if done.returncode < 0:
+        raise Failed(f"signal {-done.returncode} ended the program", 128 - done.returncode)
+    if done.returncode > 1 or not (out or told):
+        line = told[0] if told else f"{program()} {words[0]} said nothing"
+        raise Failed(shown(line), done.returncode if done.returncode > 1 else 4)
+    return Said(done.returncode, out, told)
+
+
+def solve(config: bytes, options: Sequence[str] = ("--raise-only",)) -> Solved:
+    """Gives a configuration the least values with which it is admitted; with these options none of
+    them is less than it has."""
+    said = run(["solve", *options], config)
+    if said.status == 1:
+        return Solved("", [], shown([*said.out.splitlines(), *said.told][0]))
+    found = map(NEED.fullmatch, said.told)
+    return Solved(said.out, [Need(*map(int, match.groups())) for match in found if match], "")
+
+
+def check(config: bytes) -> str:
+    """The answer of admission: `ok`, `no ..` or `config ..`."""
+    said = run(["check"], config)
+    return shown([*said.out.splitlines(), *said.told][-1])
