@@ -16,8 +16,8 @@ function __afdx_given --description 'Words behind the command that belong to no 
     test (count $given) -gt 0; and printf '%s\n' $given
 end
 
-set -g __afdx_valued --vl --port --lmin --policing --keep --interface --config --origin --shift --fcs \
-    --side -o --out --split --link --from --rows --title -j --jobs -S --sshlogin
+set -g __afdx_valued --vl --port --lmin --policing --keep --interface --config --origin --shift \
+    --fcs --side -o --out --split --link --from --rows --title -j --jobs -S --sshlogin
 
 function __afdx_at --description 'Is the word the one of that number behind COMMAND (- for none)?'
     set -l given (__afdx_given $__afdx_valued)

@@ -40,7 +40,9 @@ NUMBERS = CRATES / "afdx_frame/src/tables.rt"
 # the functions, beside each `from`, that may name an AllocError or a fault's Memory as a value
 MEMORY = {
     "crates/afdx/src/main.rt": {"memory"},
+    "crates/afdx_config/src/asked.rt": {"links_in"},
     "crates/afdx_config/src/read.rt": {"tree_of"},
+    "crates/afdx_recordings/src/known.rt": {"add_interface"},
     "crates/afdx_replay/src/refusing.rt": {"want_memory"},
     "crates/afdx_send/src/fault.rt": {""},  # the row of a table
     "crates/afdx_replay/src/sending/run.rt": {"refusal_of"},

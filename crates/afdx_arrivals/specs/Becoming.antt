@@ -126,9 +126,9 @@ entrance_of place ports bytes = do
 abbrev pub residue : ℕ
 residue = 0x2144df1c
 
--- what is done with the recorded bytes of a frame, as with those of a line of a list: they are taken
--- as they are where they have their check sequence, else they are sealed, or sealed wrongly where
--- the recorder found a wrong one. None: it isn't said whether they have one, and it seems so
+-- what is done with the recorded bytes of a frame, as with those of a line of a list: they are
+-- taken as they are where they have their check sequence, else they are sealed, or sealed wrongly
+-- where the recorder found a wrong one. None: it isn't said whether they have one, and it seems so
 abbrev pub sealed_as : Bool → FrameKind
 sealed_as found_wrong = if found_wrong then Bad else Good
 

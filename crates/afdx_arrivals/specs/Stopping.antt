@@ -41,7 +41,8 @@ module _ {H : Type 0} (outcome_of : List ℕ → Outcome) (items_of : List ℕ �
     pub read : List ℕ
     pub left : Option (List ℕ)
     pub consumed : Consumes first.left left read
-    pub items : (more : List ℕ) → (later : List (Item H)) × (items_of (read ++ more) ≡ later ++ past)
+    pub items : (more : List ℕ) → (later : List (Item H))
+        × (items_of (read ++ more) ≡ later ++ past)
 
   -- where the source stops
   abbrev pub StopsBehind : (first now : Standing) → List (Item H) → RunFault → Type 0

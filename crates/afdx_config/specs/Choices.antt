@@ -1,5 +1,5 @@
--- The value of a key that may be solved for. If it is kept it is read as it always is; else it may be
--- absent or any whole number from 0.
+-- The value of a key that may be solved for. If it is kept it is read as it always is; else it may
+-- be absent or any whole number from 0.
 use Rattle.std.specs.Prelude.{ℕ, ℤ, pos, negsuc, min, max, Bool, true, false, Option, Some, None, Result, Ok, Err}
 use Rattle.toml.specs.Data.{Data, Members, get_member, as_integer}
 use Rattle.afdx_config.specs.declared.fault.ConfigFault.{ConfigFault}

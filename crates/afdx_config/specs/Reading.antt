@@ -255,8 +255,8 @@ IsTreeOf text tree = IsUtf8 text × (parse_document text ≡ Some tree)
 abbrev pub HasNoTree : List ℕ → Type 0
 HasNoTree text = IsUtf8 text → parse_document text ≡ None
 
--- what is wrong with a text, of which these keys are kept: it is no TOML, or its tree has this first
--- fault
+-- what is wrong with a text, of which these keys are kept: it is no TOML, or its tree has this
+-- first fault
 abbrev pub IsFaultKeeping : KeptKeys → List ℕ → ConfigFault → Type 0
 IsFaultKeeping kept text e =
     ((e ≡ NotToml) × HasNoTree text)

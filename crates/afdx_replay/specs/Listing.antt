@@ -21,8 +21,8 @@ use Rattle.afdx_replay.specs.Refusals.{RefusesConfig, WantsMemory}
 use Rattle.afdx_replay.specs.declared.listing.ListEnded.{ListEnded}
 
 -- What a listing answers in tables that is given a recording of these bytes, after which the input
--- has `rest` and the output `new`. Where no option says at which port a frame came in, it is that of
--- its sender.
+-- has `rest` and the output `new`. Where no option says at which port a frame came in, it is that
+-- of its sender.
 pub record AnswersListing (options : Options) (t : Rows) (bytes : List ℕ)
     (rest old new : Option (List ℕ)) (answer : Result Tally RunFault) : Type 0 where
   pub ports : Ports

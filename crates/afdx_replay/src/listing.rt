@@ -51,8 +51,8 @@ fn list_in<R: Read, O: Sink>(
 /// line to `errors`. It also gives what it counted.
 ///
 /// Where no option says at which port a frame came in, it is that of the system of the tables that
-/// the frame's source address names. The tables need not be admitted. The exit status is 0 done, 1 a
-/// fault of the configuration, 3 a fault of the recording, 4 a device or memory.
+/// the frame's source address names. The tables need not be admitted. The exit status is 0 done, 1
+/// a fault of the configuration, 3 a fault of the recording, 4 a device or memory.
 pub fn list_and_count<R: Read, O: Sink, E: Write>(
     alloc: Global,
     options: RecordingOptions,

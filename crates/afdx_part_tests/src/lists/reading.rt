@@ -63,8 +63,8 @@ fn are_taken(alloc: Global, list: &str, most: usize, wanted: &str) -> bool
         == (Ok(()), wanted.as_bytes(), true, false)
 }
 
-/// Whether the first bytes of a list are looked at as is wanted, at most `most` bytes a read, and its
-/// line is taken whole all the same.
+/// Whether the first bytes of a list are looked at as is wanted, at most `most` bytes a read, and
+/// its line is taken whole all the same.
 fn is_looked_at(alloc: Global, list: &str, most: usize, wanted: &str) -> bool
     requires { 0 < most }
 {
