@@ -77,7 +77,9 @@ fn number_in(digits: &str, most: usize) -> Option<u16> {
         if !digit.is_ascii_digit() {
             return None;
         }
-        number = number.checked_mul(10)?.checked_add(u16::from(*digit - b'0'))?;
+        number = number
+            .checked_mul(10)?
+            .checked_add(u16::from(*digit - b'0'))?;
     }
     Some(number)
 }

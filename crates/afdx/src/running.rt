@@ -81,10 +81,7 @@ pub struct Replaying<'a> {
 pub enum Run<'a> {
     Police(CommandedRule),
     Replay(Replaying<'a>),
-    Send {
-        config: &'a [u8],
-        system: &'a str,
-    },
+    Send { config: &'a [u8], system: &'a str },
 }
 
 impl Run<'_> {
@@ -140,8 +137,9 @@ fn replay_from<R: Read, O: Sink, E: Write>(
         return Err(memory(rt));
     };
     let drops = Watched::new(early);
-    let told =
-        replay_input_and_explain(alloc, admission, options, config, input, lines, faults, drops);
+    let told = replay_input_and_explain(
+        alloc, admission, options, config, input, lines, faults, drops,
+    );
     Ok(told.0)
 }
 

@@ -4,7 +4,6 @@ use Rattle.std.proofs.Common.{Option, Some, None, Result, Ok, Err, arith, true, 
 use Rattle.std.specs.Int.{w32, to_le_bytes}
 use Rattle.std.proofs.lemmas.List.{take-append-drop}
 use Rattle.std.proofs.lemmas.Slice.Eq.{bytes_eq-Decides}
-
 use Rattle.std.proofs.lemmas.Bool.{cases_lt, ltb-false, leb-true}
 use Rattle.afdx_frame.specs.Sealing.{is_sealed, sealed, sequence_of}
 use Rattle.afdx_frame.specs.Seals.{whole}

@@ -279,9 +279,12 @@ module _ {R : Type 0} (remaining : R → Option (List ℕ)) (start old input : W
       (λ none. record {
         failed = sound;
         honest = honest;
-        gives = (h.sorts.read ++ t.1.given, Gives-then (first_standing remaining start)
-            (standing remaining source.reader.held old) (standing remaining reader.held input) h.sorts.read t.1.given
-            h.sorts.gives t.1.gives);
+        gives = (
+          h.sorts.read ++ t.1.given,
+          Gives-then (first_standing remaining start)
+              (standing remaining source.reader.held old) (standing remaining reader.held input) h.sorts.read t.1.given
+              h.sorts.gives t.1.gives,
+        );
         stops = ends-fault (options_of source.options) (ports_of source.ports) (first_standing remaining start)
             (standing remaining source.reader.held old) (standing remaining reader.held input)
             (sorted_at source.numbers source past) (state_of source.reader) h.sorts Over (lost_by (state_of reader))

@@ -1,8 +1,8 @@
 //! What numbers of a recording become: each line of the table decides once.
 
 use afdx_arrivals::{
-    Counts, Ending, Found, Interfaces, NoArrival, Place, RecordingOptions, SKIPPED, Skipped, SystemPorts,
-    Tally, UnsaidPort, becomes,
+    Counts, Ending, Found, Interfaces, NoArrival, Place, RecordingOptions, SKIPPED, Skipped,
+    SystemPorts, Tally, UnsaidPort, becomes,
 };
 use afdx_config::ConfigFault;
 use afdx_frame::Side;

@@ -3,9 +3,7 @@
 ghost use Rattle.std.specs.Prelude.{◌<◌};
 
 use afdx_lists::{RecordingFault, RunFault, Watched};
-use afdx_recordings::{
-    CheckSequence, FrameReader, Recorded, RecordedFrame, Stamp, is_recording,
-};
+use afdx_recordings::{CheckSequence, FrameReader, Recorded, RecordedFrame, Stamp, is_recording};
 use afdx_samples::{HELLO, WeakReader, all_right, equal};
 use std::alloc::{AllocError, Global};
 use std::io::Read;

@@ -13,8 +13,8 @@ mod sending;
 pub mod status;
 mod summary;
 
-pub use afdx_frame::Policing;
 pub use afdx_arrivals::{Interfaces, Place, RecordingOptions, Tally};
+pub use afdx_frame::Policing;
 pub use afdx_lists::{Peeked, RecordingFault, RunFault, Watched};
 pub use afdx_text::{Output, Sink};
 pub use check_command::{CheckOptions, check, check_lines};
