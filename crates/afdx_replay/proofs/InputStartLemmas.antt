@@ -7,7 +7,11 @@ use Rattle.afdx_config.specs.Lawful.{IsLawful}
 use Rattle.afdx_config.specs.Reading.{Spells}
 use Rattle.afdx_config.specs.Rows.{Rows}
 use Rattle.afdx_lists.specs.Peeking.{HasLooked}
-use Rattle.afdx_lists.specs.Watching.{calls_of}
+use Rattle.afdx_lists.specs.Calls.{is_failed_read, is_failed_write}
+use Rattle.afdx_lists.specs.Watching.{calls_of, has_ended, has_failed}
+use Rattle.afdx_text.specs.Telling.{TellsLine}
+use Rattle.std.specs.Prelude.{OnOk, OnErr}
+use Rattle.std.specs.Result.{result_ok}
 use Rattle.afdx_lists.specs.declared.fault.RunFault.{RunFault}
 use Rattle.afdx_lists.specs.declared.peeked.Peeked.{Peeked}
 use Rattle.afdx_police.specs.Rule.{Rule}
@@ -25,9 +29,12 @@ use Rattle.afdx_arrivals.specs.RecordingRun.{FirstAreTold, IsAskedOnce, arrivals
 use Rattle.afdx_arrivals.proofs.RecordingRunLemmas.{unasked}
 use Rattle.afdx_replay.specs.replaying.Early.{TellsEarly, TellsMost}
 use Rattle.afdx_replay.specs.replaying.Input.{AnswersInput, ExplainsInput}
+use Rattle.afdx_replay.specs.Commands.{EndsAs, status_of_answer}
+use Rattle.afdx_replay.specs.Inputs.{summary_in}
 use Rattle.afdx_replay.specs.policing.Input as police
 use Rattle.afdx_replay.specs.replaying.InputCommand.{is_read_recorded, left_of, ReplaysInput}
 use Rattle.afdx_replay.specs.replaying.Replayed.{Known, WritesSome}
+use Rattle.afdx_replay.specs.declared.ending.Ended.{Ended}
 use Rattle.afdx_replay.specs.declared.summary.InputSummary.{InputSummary}
 use Rattle.afdx_replay.proofs.InputLemmas.{if-kept}
 use Rattle.afdx_replay.proofs.PromisedInputLemmas.{if-promised}
@@ -68,6 +75,33 @@ start-explained contents options t drops false (Some bytes) =
     stops-at-start frames (TellsEarly contents t drops drops) (TellsMost contents t drops drops) (Some bytes)
     (inl (early-start contents t drops))
 
+-- ---- a command ends as its run answered
+
+pub ends-in : {R E : Type 0} (error_bytes : E → Option (List ℕ)) (input : Watched R) (failed : Bool)
+    (old new : Watched E) (ended : Ended) (r : Result InputSummary RunFault)
+    → ended.status ≡ status_of_answer (summary_in r) → ended.summary ≡ result_ok (summary_in r)
+    → OnErr (summary_in r) (TellsLine error_bytes old new) → OnOk (summary_in r) (new ≡ old)
+    → OnOk r (has_ended input ≡ true) → has_failed input ≡ is_failed_read r → failed ≡ is_failed_write r
+    → EndsAs error_bytes input failed old new ended (summary_in r)
+ends-in error_bytes input failed old new ended (Ok all) a b c d e f g = record {
+  status_is = a;
+  summary_is = b;
+  told = c;
+  silent = d;
+  ended = e;
+  read = f;
+  write = g;
+}
+ends-in error_bytes input failed old new ended (Err fault) a b c d e f g = record {
+  status_is = a;
+  summary_is = b;
+  told = c;
+  silent = d;
+  ended = e;
+  read = f;
+  write = g;
+}
+
 -- ---- what was looked at still comes
 
 pub asked-kept : (b : Bool) (left looked rest : Option (List ℕ)) (old between new : ℕ) → Keeps left looked
@@ -82,6 +116,35 @@ asked-kept false left looked rest old between new k e h = omega (arith, e, h)
 -- a command that ends as its run answered, of which the first bytes were looked at
 module _ {R : Type 0} (remaining : R → Option (List ℕ)) (config : List ℕ) (admission : Bool)
     (options : RecordingOptions) (input looked rest : Watched (Peeked R)) (h : HasLooked remaining input looked) where
+  -- with whatever else is true of what was looked at, and of the tables
+  pub replays-looked-with : (more : Watched (Peeked R) → Rows → Type 0) (old new : Known)
+      (answer : Result InputSummary RunFault) (t : Rows) → Spells config t
+      → (admission ≡ true → IsAdmitted t) → IsLawful t
+      → IsAskedFew (is_read_recorded options looked) (left_of remaining looked) (left_of remaining rest)
+      (calls_of looked) (calls_of rest)
+      → IfSome (left_of remaining looked) (λ bytes. AnswersInput (is_read_recorded options looked)
+      (options_of options) t bytes (left_of remaining rest) old new answer)
+      → more looked t
+      → (r : ReplaysInput remaining config admission options input rest old new answer) × more r.looked r.tables
+  replays-looked-with more old new answer t spelled admitted lawful asked answers also =
+      let is = is_read_recorded options looked in
+      let kept = if-kept (left_of remaining input) (left_of remaining looked) (λ bytes.
+      AnswersInput is (options_of options) t bytes (left_of remaining rest) old new answer) h.left answers in (
+        record {
+          tables = t;
+          spelled = spelled;
+          admitted = admitted;
+          looked = looked;
+          has_looked = h;
+          calls = asked-kept is (left_of remaining input) (left_of remaining looked) (left_of remaining rest)
+              (calls_of input) (calls_of looked) (calls_of rest) h.left h.calls asked;
+          answers = kept;
+          promised = λ asks. if-promised (options_of options) t lawful (admitted asks) is (left_of remaining input)
+              (left_of remaining rest) old new answer kept;
+        },
+        also,
+      )
+
   pub replays-looked : (old new : Known) (answer : Result InputSummary RunFault) (t : Rows) → Spells config t
       → (admission ≡ true → IsAdmitted t) → IsLawful t
       → IsAskedFew (is_read_recorded options looked) (left_of remaining looked) (left_of remaining rest)
@@ -90,21 +153,7 @@ module _ {R : Type 0} (remaining : R → Option (List ℕ)) (config : List ℕ) 
       (options_of options) t bytes (left_of remaining rest) old new answer)
       → ReplaysInput remaining config admission options input rest old new answer
   replays-looked old new answer t spelled admitted lawful asked answers =
-      let is = is_read_recorded options looked in
-      let kept = if-kept (left_of remaining input) (left_of remaining looked) (λ bytes.
-      AnswersInput is (options_of options) t bytes (left_of remaining rest) old new answer) h.left answers in
-      record {
-        tables = t;
-        spelled = spelled;
-        admitted = admitted;
-        looked = looked;
-        has_looked = h;
-        calls = asked-kept is (left_of remaining input) (left_of remaining looked) (left_of remaining rest)
-            (calls_of input) (calls_of looked) (calls_of rest) h.left h.calls asked;
-        answers = kept;
-        promised = λ asks. if-promised (options_of options) t lawful (admitted asks) is (left_of remaining input)
-            (left_of remaining rest) old new answer kept;
-      }
+      (replays-looked-with (λ looked t. Unit {0}) old new answer t spelled admitted lawful asked answers tt).0
 
 -- the same of a run that polices one link
 module _ {R : Type 0} (remaining : R → Option (List ℕ)) (options : RecordingOptions)

@@ -118,14 +118,7 @@ fn policed(alloc: Global, input: &[u8]) -> Result<Told, Fail> {
     let mut input = Watched::new(Peeked::new(input));
     let mut output = Watched::new(Vec::new(alloc));
     let mut errors = Watched::new(Vec::new(alloc));
-    let ended = police_input(
-        alloc,
-        options,
-        &RULE,
-        &mut input,
-        &mut output,
-        &mut errors,
-    );
+    let ended = police_input(alloc, options, &RULE, &mut input, &mut output, &mut errors);
     told(ended, output, errors)
 }
 

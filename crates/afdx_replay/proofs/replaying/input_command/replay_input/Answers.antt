@@ -1,6 +1,6 @@
 use Rattle.std.proofs.Common.{refl, inl, inr}
 use Rattle.afdx_replay.specs.replaying.Tables.{tables_of}
-use Rattle.afdx_replay.proofs.InputStartLemmas.{replays-looked}
+use Rattle.afdx_replay.proofs.InputStartLemmas.{ends-in, replays-looked}
 use Rattle.afdx_replay.proofs.replaying.input_command.replay_input.Goals as goal
 
 pub returns-in-Err-clause-replays : goal.returns-in-Err-clause-replays
@@ -11,19 +11,15 @@ returns-in-Err-clause-replays g c = inr (record {
   unwritten = refl;
 })
 
-pub returns-in-Ok-clause-replays : goal.returns-in-Ok-clause-replays
-returns-in-Ok-clause-replays g c = inl (
+pub returns-clause-replays : goal.returns-clause-replays
+returns-clause-replays g c = inl (
   c.replay_input_into-answer.result,
   record {
-    ends = record {
-      status_is = c.end_input.ensures.status;
-      summary_is = c.end_input.ensures.summary;
-      told = rw c.in-Ok.ensures.silent at c.end_input.ensures.told;
-      silent = rw c.in-Ok.ensures.silent at c.end_input.ensures.silent;
-      ended = c.replay_input_into-answer.ensures.ended;
-      read = c.replay_input_into-answer.ensures.read;
-      write = c.replay_input_into-answer.ensures.write;
-    };
+    ends = ends-in g.E.Write.contents c.replay_input_into-answer.new.input (g.O.Sink.failed c.replay_input_into-answer.new.output) c.args.errors.now
+        c.end_input.new.errors c.end_input.result.ended c.replay_input_into-answer.result c.end_input.ensures.status
+        c.end_input.ensures.summary (rw c.in-Ok.ensures.silent at c.end_input.ensures.told)
+        (rw c.in-Ok.ensures.silent at c.end_input.ensures.silent) c.replay_input_into-answer.ensures.ended c.replay_input_into-answer.ensures.read
+        c.replay_input_into-answer.ensures.write;
     tally = c.end_input.ensures.tally;
     replays = replays-looked g.R.Read.remaining c.args.config.now c.args.admission c.args.options c.args.input.now
         c.look.new.self c.replay_input_into-answer.new.input c.look.ensures (g.O.Sink.written c.args.output.now)
