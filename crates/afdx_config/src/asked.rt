@@ -43,7 +43,7 @@ fn links_in(alloc: Global, tree: &Table) -> Result<Vec<&Table>, ConfigFault>
     match tables(alloc, tree, top_at(4)) {
         Ok(links) => Ok(links),
         Err(fault) => match fault {
-            ConfigFault::Memory => Err(ConfigFault::Memory),
+            ConfigFault::Memory => Err(fault),
             _ => Ok(Vec::new(alloc)),
         },
     }

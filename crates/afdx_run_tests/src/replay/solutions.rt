@@ -65,15 +65,15 @@ const CHANGES: [Change; 6] = [
         "profile = 1\nbuffer = 252\n\n[[system]]\n",
         "",
     ),
+    ("buffer = 252", "buffer = 251", true, 1, "no A2 3 252\n", ""),
     (
-        "buffer = 252",
-        "buffer = 251",
-        true,
+        "profile = 1",
+        "profile = 3",
+        false,
         1,
-        "no A2 3 252\n",
         "",
+        "config BadProfile\n",
     ),
-    ("profile = 1", "profile = 3", false, 1, "", "config BadProfile\n"),
 ];
 
 /// Whether `solve` answers so for the base text with a value changed.
