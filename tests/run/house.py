@@ -16,8 +16,8 @@
 - Out of memory is made only where a growth was refused: in a `From`, or in the one function of a
   crate that hands it on (MEMORY).
 - Each source file says at its head what it is; lines of definitions, of contracts, of code and of
-  scripts have at most 100 columns, those of proofs at most 140; imports may be wider, and the
-  tables of numbers in afdx_frame/src/tables.rt.
+  scripts have at most 100 columns, those of proofs at most 140; imports and what is to be unfolded
+  may be wider, and the tables of numbers in afdx_frame/src/tables.rt.
 
 Prints a line for each fault, then `N passed, M failed`; ends with status 1 if there is one.
 """
@@ -258,8 +258,9 @@ def keys_apart() -> list[str]:
     return faults
 
 
-def is_import(line: str) -> bool:
-    return re.match(r"\s*(pub )?(ghost )?use ", line) is not None
+def is_laid_out(line: str) -> bool:
+    """An import, or what the prover is to unfold: `rt fmt` has each in one line."""
+    return re.match(r"\s*((pub )?(ghost )?use |#\[tactic\()", line) is not None
 
 
 def wide_lines(most: int, *patterns: str) -> list[str]:
@@ -268,7 +269,7 @@ def wide_lines(most: int, *patterns: str) -> list[str]:
         if path == NUMBERS or not path.is_file():
             continue
         for number, line in enumerate(text_of(path).splitlines(), 1):
-            if len(line) > most and not is_import(line):
+            if len(line) > most and not is_laid_out(line):
                 faults.append(f"{path.relative_to(TOP)}:{number}: {len(line)} columns")
     return faults
 

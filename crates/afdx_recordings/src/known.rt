@@ -114,7 +114,7 @@ impl Known {
     }
 
     /// A section begins.
-    #[tactic(auto, unfolding(crate::specs::Pcapng::section_meaning, crate::specs::Pcapng::is_section_version))]
+    #[tactic(auto, unfolding(crate::specs::Pcapng::section_meaning, crate::specs::Pcapng::is_version))]
     fn begin_section(&mut self, order: Order, body: &[u8]) -> Result<Option<Placed>, RunFault>
         requires few { self.old.blocks < 100000000000000000 }
         requires long { 16 ≤ length body.now }
