@@ -33,14 +33,14 @@ module _ (options : Options) (ports : Ports) where
   Items-of = items_of_bytes options ports
 
   -- one number more
-  sequence-ok : (sorted more : Sorted) (item : Numbered) (rest : Recording)
+  pub sequence-ok : (sorted more : Sorted) (item : Numbered) (rest : Recording)
       → sorted_with options ports sorted item ≡ Ok more
       → sequence_from options ports sorted (in_front item rest) ≡ sequence_from options ports more rest
   unfolding sequence_of_items
   sequence-ok sorted more item rest e = rw e refl
 
   -- or its fault
-  sequence-err : (sorted : Sorted) (item : Numbered) (rest : Recording) (fault : RecordingFault)
+  pub sequence-err : (sorted : Sorted) (item : Numbered) (rest : Recording) (fault : RecordingFault)
       → sorted_with options ports sorted item ≡ Err fault
       → sequence_from options ports sorted (in_front item rest)
       ≡ record { sorted = sorted; ending = Faulted fault; lost = rest.lost }
@@ -48,7 +48,7 @@ module _ (options : Options) (ports : Ports) where
   sequence-err sorted item rest fault e = rw e refl
 
   -- or no number
-  sequence-none : (sorted : Sorted) (ending : Ending) (lost : ℕ)
+  pub sequence-none : (sorted : Sorted) (ending : Ending) (lost : ℕ)
       → sequence_from options ports sorted (no_more ending lost)
       ≡ record { sorted = sorted; ending = ending_after sorted ending; lost = lost }
   unfolding sequence_of_items
@@ -57,7 +57,7 @@ module _ (options : Options) (ports : Ports) where
   module _ (first old new : Standing) (sorted : Sorted) (before : State)
       (s : Sorts options ports first old sorted before) where
     -- what was given besides, and what follows
-    behind : (given more : List ℕ) → sequence options ports (recorded ((s.read ++ given) ++ more))
+    pub behind : (given more : List ℕ) → sequence options ports (recorded ((s.read ++ given) ++ more))
         ≡ sequence_from options ports sorted (recorded_from before ((old.held ++ given) ++ more))
     behind given more =
         ap (λ bytes. sequence options ports (recorded bytes)) (append_assoc s.read given more)
@@ -90,7 +90,7 @@ module _ (options : Options) (ports : Ports) where
         }
 
     -- the recording ends so, whatever can follow
-    ends : (ending : Ending) (lost : ℕ) (e : SaysEnding old new before ending lost) (more : List ℕ)
+    pub ends : (ending : Ending) (lost : ℕ) (e : SaysEnding old new before ending lost) (more : List ℕ)
         → CanFollow new more → sequence options ports (recorded ((s.read ++ e.given) ++ more))
         ≡ record { sorted = sorted; ending = ending_after sorted ending; lost = lost }
     ends ending lost e more follows =
