@@ -1,13 +1,14 @@
 #!/usr/bin/env python3
-"""Measures `afdx check` on the largest tables, and on smaller ones.
+"""Measures `afdx check` and `afdx solve` on the largest tables, and on smaller ones.
 
     bench/check.py [PROGRAM] [--times T]
 
 PROGRAM is the built program, crates/afdx/out/afdx where it isn't given. The tables have 24 systems,
-4,096 or 400 virtual links from the first system to all others, and as many communication ports.
-Such a network isn't admitted, so `check` ends with status 1. With each option a line is printed for
-each of these sizes: the best of T times (3 where it isn't given), the memory, and the instructions;
-behind the larger ones, how many times those of the smaller ones they are.
+4,096 or 400 virtual links, each to all other systems, and as many communication ports. For `check`
+all links are of the first system: such a network isn't admitted, so `check` ends with status 1. For
+`solve` they are of all systems in turn, on lines of 1 Gbit/s. With each option a line is printed
+for each of these sizes: the best of T times (3 where it isn't given), the memory, and the
+instructions; behind the larger ones, how many times those of the smaller ones they are.
 
 Needs Linux and Python 3, no packages; for instructions valgrind. It is a measurement and no test.
 """
@@ -21,59 +22,68 @@ from measure import PROGRAM, instructions, timed  # noqa: E402
 
 SYSTEMS = 24
 SIZES = (400, 4096)
-OPTIONS = ([], ["--all"], ["--margins"], ["--all", "--margins"])
+CHECKS = ([], ["--all"], ["--margins"], ["--all", "--margins"])
+RUNS = (*(["check", *options] for options in CHECKS), ["solve"])
 
 
-def tables(links):
-    """The text of tables with so many links."""
-    parts = ["profile = 1\nbuffer = 252\n"]
-    for place in range(1, SYSTEMS + 1):
-        parts.append(
-            f'[[system]]\nname = "s{place}"\nport = {place}\nid = {place}\n'
-            "partition = 1\nrate = 100\n"
-        )
-    others = ", ".join(f'"s{place}"' for place in range(2, SYSTEMS + 1))
+def systems_of(rate):
+    """The text of all systems."""
+    return "".join(
+        f'[[system]]\nname = "s{place}"\nport = {place}\nid = {place}\n'
+        f"partition = 1\nrate = {rate}\n"
+        for place in range(1, SYSTEMS + 1)
+    )
+
+
+def tables(links, is_solved):
+    """The text of tables with so many links, of the first system alone or of all in turn."""
+    senders, profile, rate, bag = (SYSTEMS, 2, 1000, 128) if is_solved else (1, 1, 100, 1)
+    parts = [f"profile = {profile}\nbuffer = 252\n", systems_of(rate)]
     for vl in range(links):
+        sender = vl % senders + 1
+        others = ", ".join(f'"s{place}"' for place in range(1, SYSTEMS + 1) if place != sender)
         parts.append(
-            f'[[link]]\nvl = {vl}\nfrom = "s1"\nto = [{others}]\nbag_ms = 1\nlmin = 64\nlmax = 64\n'
-            'jitter_us = 500\npriority = "high"\npolicing = "frame"\nlatency_us = 17\n'
-            "skew_us = 1000\nsubs = 2\n"
+            f'[[link]]\nvl = {vl}\nfrom = "s{sender}"\nto = [{others}]\nbag_ms = {bag}\n'
+            'lmin = 64\nlmax = 64\njitter_us = 500\npriority = "high"\npolicing = "frame"\n'
+            "latency_us = 17\nskew_us = 1000\nsubs = 2\n"
         )
     for vl in range(links):
+        receiver = (vl + 1) % SYSTEMS + 1 if is_solved else 2
         parts.append(
-            f'[[port]]\nsystem = "s2"\nlink = {vl}\nudp = 1000\nkind = "sampling"\ndepth = 1\n'
+            f'[[port]]\nsystem = "s{receiver}"\nlink = {vl}\nudp = 1000\nkind = "sampling"\n'
+            "depth = 1\n"
         )
     return "".join(parts)
 
 
-def measured(program, options, path, folder, times):
-    """The best of so many runs with these options, and their instructions."""
-    words = [program, "check", *options, path]
+def measured(program, command, path, folder, times):
+    """The best of so many runs of this command, and their instructions."""
+    words, status = [program, *command, path], 0 if command == ["solve"] else 1
     note = os.path.join(folder, "note")
     with open(os.devnull, "w", encoding="ascii") as nothing:
-        runs = [timed(words, None, nothing, note, statuses=(1,)) for _ in range(times)]
+        runs = [timed(words, None, nothing, note, (status,), nothing) for _ in range(times)]
     seconds = min(run.seconds for run in runs)
     memory = max(run.memory for run in runs)
     return seconds, memory, instructions(words, folder)
 
 
 def main():
-    parser = argparse.ArgumentParser(description="Measures `afdx check` on large tables.")
+    parser = argparse.ArgumentParser(description="Measures `check` and `solve` on large tables.")
     parser.add_argument("program", nargs="?", default=PROGRAM)
     parser.add_argument("--times", type=int, default=3)
     given = parser.parse_args()
     with tempfile.TemporaryDirectory() as folder:
         path = os.path.join(folder, "tables.toml")
-        for options in OPTIONS:
+        for command in RUNS:
             before = None
             for links in SIZES:
-                text = tables(links)
+                text = tables(links, command == ["solve"])
                 with open(path, "w", encoding="ascii") as config:
                     config.write(text)
                 seconds, memory, count = measured(
-                    given.program, options, path, folder, given.times
+                    given.program, command, path, folder, given.times
                 )
-                told = f"check {' '.join(options):16} {links:5,} links, {len(text):9,} bytes"
+                told = f"{' '.join(command):22} {links:5,} links, {len(text):9,} bytes"
                 told += f"   {seconds:.3f} s   {memory / 1024:.1f} MiB peak"
                 if count is not None:
                     told += f"   {count:,} instructions"

@@ -22,13 +22,13 @@ class Run(NamedTuple):
     memory: int
 
 
-def timed(words, given, taken, note, statuses=(0,)):
+def timed(words, given, taken, note, statuses=(0,), told=None):
     """Runs it once."""
     # Linux counts the memory of the process that starts a program to that program's peak, so a
     # small starter is put between. Without it the figure is at least what Python itself takes.
     has_starter = os.access(STARTER, os.X_OK)
     started = [STARTER, "-f", "%M", "-o", note, *words] if has_starter else words
-    child = subprocess.Popen(started, stdin=given, stdout=taken)
+    child = subprocess.Popen(started, stdin=given, stdout=taken, stderr=told)
     _, status, usage = os.wait4(child.pid, 0)
     child.returncode = os.waitstatus_to_exitcode(status)
     if child.returncode not in statuses:

@@ -63,16 +63,17 @@ _afdx() {
     local recorded=(--interface --fcs --origin)
     COMPREPLY=()
     if ((COMP_CWORD == 1)); then
-        _afdx_commands check explain police replay send
+        _afdx_commands check explain police replay send solve
         return
     fi
-    _afdx_read 2 --vl --port --lmin --policing "${recorded[@]}"
+    _afdx_read 2 --vl --port --lmin --policing --keep "${recorded[@]}"
     if _afdx_is_option; then
         case $command in
             replay) _afdx_words --no-admission --explain-drops "${recorded[@]}" "${told[@]}" ;;
             send) _afdx_words "${told[@]}" ;;
             police) _afdx_words --vl --port --lmin --policing "${recorded[@]}" "${told[@]}" ;;
             check) _afdx_words --all --margins --explain --help ;;
+            solve) _afdx_words --keep --raise-only --explain --help ;;
             explain) _afdx_words --list --help ;;
         esac
         return
@@ -80,6 +81,7 @@ _afdx() {
     if [[ -n $before ]]; then
         case $before in
             --policing) _afdx_words byte frame ;;
+            --keep) _afdx_words jitter buffer latency skew ;;
             --fcs) _afdx_words yes no ;;
         esac
         return
@@ -87,7 +89,7 @@ _afdx() {
     case $command.${#given[@]} in
         police.0) _afdx_words 1 2 4 8 16 32 64 128 ;;
         police.3 | replay.1) _afdx_files list pcap pcapng ;;
-        check.0 | replay.0 | send.0) _afdx_files toml ;;
+        check.0 | replay.0 | send.0 | solve.0) _afdx_files toml ;;
         send.1) _afdx_systems "${given[0]}" ;;
         send.2) _afdx_files list messages ;;
     esac

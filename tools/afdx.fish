@@ -16,8 +16,8 @@ function __afdx_given --description 'Words behind the command that belong to no 
     test (count $given) -gt 0; and printf '%s\n' $given
 end
 
-set -g __afdx_valued --vl --port --lmin --policing --interface --config --origin --shift --fcs \
-    --side -o --out --split --link --from --rows --title -j --jobs -S --sshlogin
+set -g __afdx_valued --vl --port --lmin --policing --keep --interface --config --origin --shift \
+    --fcs --side -o --out --split --link --from --rows --title -j --jobs -S --sshlogin
 
 function __afdx_at --description 'Is the word the one of that number behind COMMAND (- for none)?'
     set -l given (__afdx_given $__afdx_valued)
@@ -59,10 +59,14 @@ complete -c afdx -n '__afdx_at - 0 0' -a explain -d 'What does a line mean?'
 complete -c afdx -n '__afdx_at - 0 0' -a police -d 'Judge the frames of one link'
 complete -c afdx -n '__afdx_at - 0 0' -a replay -d 'Replay a frame list'
 complete -c afdx -n '__afdx_at - 0 0' -a send -d 'Send the messages of a system'
-complete -c afdx -n '__afdx_in check police replay send' -l explain \
+complete -c afdx -n '__afdx_at - 0 0' -a solve -d 'Write the least values of a network'
+complete -c afdx -n '__afdx_in check police replay send solve' -l explain \
     -a 'auto always never' -d 'When is a fault explained?'
 complete -c afdx -n '__afdx_in check' -l all -d 'Print each line that is false'
 complete -c afdx -n '__afdx_in check' -l margins -d 'Print bound and latency of links at ports'
+complete -c afdx -n '__afdx_in solve' -x -l keep -a 'jitter buffer latency skew' \
+    -d 'These keep their values'
+complete -c afdx -n '__afdx_in solve' -l raise-only -d 'Lower no value'
 complete -c afdx -n '__afdx_in explain' -l list -d 'Print each word with its meaning'
 complete -c afdx -n '__afdx_in police replay send' -l line-buffered -d 'Hand over each line at once'
 complete -c afdx -n '__afdx_in police replay send' -l progress -d 'Say how much was read'
@@ -78,7 +82,7 @@ complete -c afdx -n '__afdx_in police replay' -x -l fcs -a 'yes no' -d 'Are ther
 complete -c afdx -n '__afdx_in police replay' -x -l origin -d 'ns since 1970 of time 0'
 complete -c afdx -n '__afdx_at police 0 0' -a '1 2 4 8 16 32 64 128'
 complete -c afdx -n '__afdx_at police 3 3' -a '(__afdx_files list pcap pcapng)'
-for command in check replay send
+for command in check replay send solve
     complete -c afdx -n "__afdx_at $command 0 0" -a '(__afdx_files toml)'
 end
 complete -c afdx -n '__afdx_at replay 1 1' -a '(__afdx_files list pcap pcapng)'

@@ -49,6 +49,11 @@ _afdx_program() {
             _arguments $help $told ":$config" ':system:_afdx_systems' \
                 ':submission list:_files -g "*.(list|messages)(-.)"'
             ;;
+        solve)
+            _arguments $help $told[1] '--raise-only[lower no value]' \
+                '*--keep[keys that stay]:keys:_values -s , key jitter buffer latency skew' \
+                ":$config"
+            ;;
     esac
 }
 
@@ -88,7 +93,7 @@ _afdx_of_commands() { # FUNCTION COMMAND.. : the first word is one of the comman
 }
 
 case $service in
-    afdx) _afdx_of_commands _afdx_program check explain police replay send ;;
+    afdx) _afdx_of_commands _afdx_program check explain police replay send solve ;;
     afdx-capture) _afdx_of_commands _afdx_capture list pcap annotate ;;
     afdx-report)
         _arguments $help $version '--out[the folder for page, CSV and JSON]:folder:_path_files -/' \

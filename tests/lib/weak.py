@@ -81,8 +81,8 @@ def never_again(calls: list[Call], kind: str) -> None:
 
 
 def whole_runs(weak: Weak) -> dict[int, list[int]]:
-    """Devices that move little and don't fail change nothing; how many bytes each read gives, by how
-    many it may give."""
+    """Devices that move little and don't fail change nothing; how many bytes each read gives, by
+    how many it may give."""
     given: dict[int, list[int]] = {}
     for most in (1, FEW):
         for options in ([], ["--line-buffered"]):

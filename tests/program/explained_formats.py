@@ -28,6 +28,7 @@ EXAMPLES = {
     "n": "7", "port": "3", "side": "A", "time": "6720", "system": "s3", "name": "s3", "vl": "101",
     "needed": "252", "bound": "16800", "ns": "600000", "hex": "6869", "HEX": "0300", "Sk": "S1",
     "high": "16800", "low": "-", "buffer": "252", "NS": "1", "latency": "17000",
+    "VL": "104", "PORT:": "7:", "NEEDED": "267674", "ASKED": "250",
 }
 LETTERS = ("D", "L", "M", "R", "T", "m")
 LISTS = {

@@ -12,11 +12,11 @@ text_case 'a number below 0' 2 err -1 police -1 64 500 -
 text_case 'a number beyond 64 bits' 2 err 99999999999999999999999 \
     police 99999999999999999999999 64 500 -
 text_case 'first steps in the help' 0 out 'afdx check examples/network.toml' --help
-for command in check police replay send; do
+for command in check police replay send solve; do
     text_case "help of $command tells of a closed pipe" 0 out "'device Write', status 4" \
         "$command" --help
 done
-for command in check replay send; do
+for command in check replay send solve; do
     text_case "help of $command tells of /dev/stdin" 0 out /dev/stdin "$command" --help
 done
 input=examples/refused.toml

@@ -65,8 +65,8 @@ def unknown_words(program: Program) -> None:
 
 
 def helpful(program: Program) -> None:
-    """The help names the options, and says that --summary alone tells what was left out, in the line
-    `skipped`."""
+    """The help names the options, and says that --summary alone tells what was left out, in the
+    line `skipped`."""
     for command, *_ in COMMANDS:
         found = program.run(command, "--help")
         for word in (b"--interface", b"--fcs", b"--origin", b"'skipped"):

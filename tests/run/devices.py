@@ -7,12 +7,13 @@ tests/lib/weak_devices.c, which `cc` compiles, makes the devices weak: at most 1
 the first call broken, then the second, and so on. A call is broken by an error that stays, by an
 error that is gone at the next call, by an interruption, or by moving no byte. `police`, `replay`,
 with admission and without, and `send` are run on lists of a few lines, read by path or as standard
-input, and `check` on configurations; `police` and `replay` also on recordings, if the program reads
-them (tests/lib/reads.py). Each run must write a beginning of the undisturbed text, exactly as far
-as it has to, and end with the status and the one line of the device that failed; and a device that
-failed, or has ended, must not be asked again, nor the other one be asked for more than what is
-held. With --line-buffered the text of each line, or recorded frame, must be handed over before more
-is read. The first bytes are also read one by one, and each of these reads is broken too.
+input, and `check` and `solve` on configurations; `police` and `replay` also on recordings, if the
+program reads them (tests/lib/reads.py). Each run must write a beginning of the undisturbed text,
+exactly as far as it has to, and end with the status and the one line of the device that failed; and
+a device that failed, or has ended, must not be asked again, nor the other one be asked for more
+than what is held. With --line-buffered the text of each line, or recorded frame, must be handed
+over before more is read. The first bytes are also read one by one, and each of these reads is
+broken too.
 Prints `ok NAME` or `FAILED NAME` for each case, then `N passed, M failed`; ends with status 1 if a
 case failed.
 """
@@ -73,32 +74,32 @@ def large_texts(weak: Weak) -> None:
                 must(calls[-1].kind == "w", "more was read after a failed write")
 
 
-def weak_check(program: Program, tables: dict, status: int) -> None:
-    """`check`: each write of its text, and each read of its configuration, in turn."""
+def weak_config(program: Program, words: list[str], tables: dict, status: int) -> None:
+    """`check` or `solve`: each write of its text, and each read of its configuration, in turn."""
     shim = os.path.join(program.folder, "devices.so")
     program, config = program.apart(), made.text_of(tables)
     path = program.write("config", config)
     log = os.path.join(program.folder, "calls")
     env = {"LD_PRELOAD": shim, "DEVICE_LOG": log, "DEVICE_LIST": path}
-    whole = program.run("check", path)
-    must(whole.status == status and whole.err == b"", f"status {whole.status}")
+    whole = program.run(*words, path)
+    must(whole.status == status, f"status {whole.status}")
     for most in (1, FEW):
         env["DEVICE_MOST"] = str(most)
-        answers(program.run("check", path, env=env), status, whole.out, b"")
+        answers(program.run(*words, path, env=env), status, whole.out, whole.err)
     with open(log, encoding="ascii") as file:
         kinds = [line[0] for line in file]
     writes, reads = kinds.count("w"), kinds.count("r")
     must(writes == -(-len(whole.out) // FEW) and reads > len(config) // FEW, "calls are missing")
     for k in range(1, writes + 1):
         for how in (*ERRORS, "none"):
-            found = program.run("check", path, env=env | {"DEVICE_WRITE": f"{k}:{how}"})
+            found = program.run(*words, path, env=env | {"DEVICE_WRITE": f"{k}:{how}"})
             answers(found, *WRITE[:1], whole.out[: FEW * (k - 1)], WRITE[1])
             with open(log, encoding="ascii") as file:
                 dead = [line for line in file if line.startswith("w") and int(line.split()[2]) <= 0]
             must(len(dead) == 1, "a failed output is asked again")
     for k in range(1, reads + 1):
         for how in ("fails", "once"):
-            found = program.run("check", path, env=env | {"DEVICE_READ": f"{k}:{how}"})
+            found = program.run(*words, path, env=env | {"DEVICE_READ": f"{k}:{how}"})
             answers(found, 4, b"", b"device Config\n")
 
 
@@ -118,6 +119,8 @@ def deaf_errors(program: Program, words: list[str], given: bytes, status: int) -
 # ---- the lists -----------------------------------------------------------------------------------
 
 TABLES = made.base_tables()
+SMALL = TABLES | {"buffer": 64}
+HASTY = TABLES | {"link": [link | {"latency_us": 1} for link in TABLES["link"]]}
 H1, H2 = (
     HELLO.hex().encode(),
     frame_of(TABLES["system"][1], 2, 2000, b"world", 0, "A")[:-4].hex().encode(),
@@ -226,8 +229,11 @@ def try_all(cases: Cases, program: Program) -> None:
             *short_lists(program, config),
             *long_lists(program, config),
             *weak_recordings(program, config),
-            ("check", weak_check, program, TABLES, 0),
-            ("check, not admitted", weak_check, program, TABLES | {"buffer": 64}, 1),
+            ("check", weak_config, program, ["check"], TABLES, 0),
+            ("check, not admitted", weak_config, program, ["check"], SMALL, 1),
+            ("solve", weak_config, program, ["solve"], SMALL, 0),
+            ("solve, with needs", weak_config, program, ["solve"], HASTY, 0),
+            ("solve, in vain", weak_config, program, ["solve", "--keep", "buffer"], SMALL, 1),
             *untold_faults(program, config),
         ]
     )

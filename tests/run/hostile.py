@@ -17,6 +17,7 @@ from __future__ import annotations
 import os
 import sys
 import time
+import tomllib
 from collections.abc import Iterator
 
 sys.dont_write_bytecode = True
@@ -26,6 +27,7 @@ import tables as made  # noqa: E402
 from first_fault import config_fault, list_fault, list_lines  # noqa: E402
 from frames import HELLO, frame_of, sealed  # noqa: E402
 from hostile_recordings import hostile_recordings  # noqa: E402
+from least import solve_answer  # noqa: E402
 from program import Answer, Cases, Program, answers, main_of, must, same_text, short  # noqa: E402
 from sender import Message, list_sent, submission_list  # noqa: E402
 
@@ -100,6 +102,23 @@ def commands_of(program: Program) -> dict[str, Command]:
 # ---- beginnings ----------------------------------------------------------------------------------
 
 
+def is_solved(found: Answer, text: bytes) -> None:
+    """`solve` ended so: with the tables that are worked out apart, with a line, or with a fault."""
+    wanted = solve_answer(text)
+    told = "".join(f"{line}\n" for line in wanted.errors).encode()
+    if wanted.tables is None:
+        line = f"{wanted.line}\n".encode() if wanted.line else b""
+        answers(found, wanted.status, line, told)
+    else:
+        answers(found, wanted.status, None, told)
+        must(tomllib.loads(found.out.decode()) == without_empty(wanted.tables), "other tables")
+
+
+def without_empty(tables: dict) -> dict:
+    """The tables as they are read where a part without rows isn't written."""
+    return {key: value for key, value in tables.items() if value != []}
+
+
 def config_beginnings(program: Program, text: bytes, part: int, parts: int) -> None:
     """Every beginning of a configuration, of which every so many-th is tried here."""
     program = program.apart()
@@ -116,6 +135,7 @@ def config_beginnings(program: Program, text: bytes, part: int, parts: int) -> N
             )
         for words in (["replay", "--no-admission", path], ["send", path, "s1"]) if fault else ():
             answers(program.run(*words, "-"), 1, b"", fault)
+        is_solved(program.run("solve", path), text[:count])
 
 
 def frame_list_beginnings(command: Command, text: bytes) -> None:
@@ -345,11 +365,14 @@ def large_config(program: Program, text: bytes, fault: bytes) -> None:
     wanted = b"config %s\n" % fault if fault else b""
     found = program.run("check", path)
     answers(found, 1 if fault else 0, b"" if fault else None, wanted)
+    solution = program.run("solve", path)
+    answers(solution, 1 if fault else 0, b"" if fault else None, wanted)
     if fault:
         answers(program.run("replay", path, "-"), 1, b"", wanted)
         answers(program.run("send", path, "s1", "-"), 1, b"", wanted)
     else:
         must(found.out.endswith(b"ok\n"), "it is not admitted")
+        must(solution.out.startswith(b"profile = 1\nbuffer = 176\n"), "it is solved otherwise")
     must(time.monotonic() - began < SOON, f"it takes more than {SOON} s")
 
 

@@ -91,7 +91,9 @@ full_case() { # NAME STATUS ERR WORD..
     )"
 }
 
-for part in police check replay words explain send; do source "$top/tests/program/$part.sh"; done
+for part in police check replay words explain send solve; do
+    source "$top/tests/program/$part.sh"
+done
 
 echo "$passed passed, $failed failed"
 [[ $failed -eq 0 ]]

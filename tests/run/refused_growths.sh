@@ -5,13 +5,13 @@
 #     tests/run/refused_growths.sh --tests RUNNER..    built test runners, as afdx_part_tests_tests
 #
 # PROGRAM polices examples/one_link.list on standard input, checks examples/base.toml, the same with
-# `--margins`, and with late links by `--all`, explains a line, replays a frame and its copy in
-# base.toml, replays examples/gigabit.list, and sends five messages, of which one is refused. It
-# polices and replays recordings, if it reads them (tests/lib/reads.py). Each of these is run with
-# the first request refused, then the second, and so on, until a run meets no refusal; and again
-# with all requests refused from the first on, from the second on, and so on. Each run must write a
-# beginning of what the undisturbed run writes, and end either with the line `memory` and status 4,
-# or as the undisturbed run does.
+# `--margins`, and with late links by `--all`, solves it with late links, explains a line, replays a
+# frame and its copy in base.toml, replays examples/gigabit.list, and sends five messages, of which
+# one is refused. It polices and replays recordings, if it reads them (tests/lib/reads.py). Each of
+# these is run with the first request refused, then the second, and so on, until a run meets no
+# refusal; and again with all requests refused from the first on, from the second on, and so on.
+# Each run must write a beginning of what the undisturbed run writes, and end either with the line
+# `memory` and status 4, or as the undisturbed run does.
 #
 # Of each RUNNER the tests whose names, with their modules', contain `refused` are run, with one
 # request refused at a time, and with all refused from one on. Such a test makes a call again where
@@ -158,8 +158,11 @@ if [[ $tests == no ]]; then
     refuse_program 'police one_link.list' "$1" police 1 64 500 -
     refuse_program 'check base.toml' "$1" check "$top/examples/base.toml"
     sed 's/^latency_us = .*/latency_us = 16/' "$top/examples/base.toml" >"$work/late.toml"
+    sed 's/^latency_us = .*/latency_us = 1/' "$top/examples/base.toml" >"$work/hasty.toml"
     refuse_program 'check --all of late links' "$1" check --all "$work/late.toml"
     refuse_program 'check --margins' "$1" check --margins "$top/examples/base.toml"
+    refuse_program 'solve late links' "$1" solve --keep jitter "$work/hasty.toml"
+    refuse_program 'solve in vain' "$1" solve --keep latency "$work/hasty.toml"
     input=$work/copies.list
     sed -n 's/^F 0 A/&/p; s/^F 0 A/F 0 B/p' "$top/examples/one_link.list" >"$input"
     refuse_program 'explain a line' "$1" explain config Missing link 1 key 7

@@ -1,29 +1,29 @@
 //! The program `afdx`: words, files and streams.
 #![tactic(auto)]
 
+mod configs;
 mod devices;
 mod explaining;
+mod list_words;
 mod progress;
+mod recording_words;
+mod running;
+mod solve_words;
 mod words;
 
-use crate::devices::{Heard, Traced};
+use crate::configs::{check_config, solve_tables};
 use crate::explaining::{Cause, explain, is_asked, line_of, print_lists, print_meaning};
-use crate::progress::{Cleared, Counted, is_told};
+use crate::running::{Replaying, Run, run_list};
 use afdx_explain::meaning_of;
 use afdx_replay::status::{DONE, NO_DEVICE_OR_MEMORY, WRONG_WORDS};
-use afdx_replay::{
-    CheckOptions, CommandedRule, Ended, Output, Policing, RunFault, Watched, check_lines, finish,
-    police_and_count, replay_and_count, replay_and_explain, send_and_count,
-};
+use afdx_replay::{CommandedRule, Policing, RunFault};
 use clap::error::ErrorKind;
 use clap::{ArgMatches, Error};
 use std::alloc::AllocError;
 use std::fs::File;
 use std::io;
-use std::io::{IsTerminal, LineWriter, Read, Write};
+use std::io::Read;
 use std::process::ExitCode;
-
-const OUTPUT_BUFFER: usize = 65_536;
 
 /// The most bytes of a configuration.
 const LARGEST_CONFIG: u64 = 4_194_304;
@@ -91,164 +91,6 @@ fn read_config(rt: &HostRuntime, matches: &ArgMatches<'_>) -> Result<Vec<u8>, u8
     }
 }
 
-fn check_config(rt: &HostRuntime, matches: &ArgMatches<'_>) -> u8 {
-    let config = match read_config(rt, matches) {
-        Ok(config) => config,
-        Err(status) => return status,
-    };
-    let mut output = Watched::new(Heard::new(Traced::new(rt.stdout())));
-    let mut errors = Watched::new(Heard::new(rt.stderr()));
-    let options = CheckOptions {
-        all: matches.get_flag("all"),
-        margins: matches.get_flag("margins"),
-    };
-    let config_bytes = config.as_slice();
-    let status = check_lines(rt.alloc(), options, config_bytes, &mut output, &mut errors);
-    let (output, errors) = (output.into_inner(), errors.into_inner());
-    let line = match errors.line() {
-        "" => output.line(),
-        line => line,
-    };
-    let cause = Cause {
-        config: config.as_slice(),
-        path: "",
-        reason: output.device().reason(),
-    };
-    if status != DONE {
-        explain_if_asked(rt, matches, line, &cause);
-    }
-    status
-}
-
-/// How many bytes are gathered before they go to standard output: none if each line is to be seen
-/// at once, or a person reads.
-fn output_room(rt: &HostRuntime, matches: &ArgMatches<'_>) -> usize {
-    if matches.get_flag("line-buffered") || rt.stdout().is_terminal() {
-        0
-    } else {
-        OUTPUT_BUFFER
-    }
-}
-
-/// Ends a command that ran over a list: hands over what its output still holds, explains its fault
-/// or prints its counts, if that is asked for, and gives the exit status.
-fn end_run<R: Drop, W: Write + Drop, E: Write + Drop>(
-    rt: &HostRuntime,
-    matches: &ArgMatches<'_>,
-    config: &[u8],
-    ended: Ended,
-    input: Watched<Traced<R>>,
-    mut output: Output<Traced<W>>,
-    mut errors: Watched<Heard<Cleared<'_, E>>>,
-) -> u8 {
-    let status = finish(ended.status, &mut output, &mut errors);
-    let path = match matches.get_str("LIST").or(matches.get_str("SUBMISSIONS")) {
-        Some("-") | None => "standard input",
-        Some(path) => path,
-    };
-    let read = input.into_inner().reason();
-    let written = output.into_device().reason();
-    let cause = Cause {
-        config,
-        path,
-        reason: read.or(written),
-    };
-    let mut errors = errors.into_inner();
-    errors.device_mut().notice_mut().clear();
-    explain_if_asked(rt, matches, errors.line(), &cause);
-    match ended.summary {
-        Some(summary) if status == DONE && matches.get_flag("summary") => {
-            let _ = eprintln!(rt; "{summary}");
-        }
-        _ => {}
-    }
-    status
-}
-
-/// What is done with the items of a list, and with what it is done.
-#[derive(Drop)]
-enum Run<'a> {
-    Police(CommandedRule),
-    Replay {
-        config: &'a [u8],
-        admission: bool,
-        explains_drops: bool,
-    },
-    Send {
-        config: &'a [u8],
-        system: &'a str,
-    },
-}
-
-impl Run<'_> {
-    fn config(&self) -> &[u8] {
-        match self {
-            Run::Police(_) => &[],
-            Run::Replay { config, .. } => config,
-            Run::Send { config, .. } => config,
-        }
-    }
-
-    /// Whether lines come on standard error while it goes on.
-    fn explains_drops(&self) -> bool {
-        match self {
-            Run::Replay { explains_drops, .. } => *explains_drops,
-            Run::Police(_) | Run::Send { .. } => false,
-        }
-    }
-}
-
-/// Makes the run over what `input` gives, and hands all its lines to standard output.
-fn run_from<R: Read + Drop>(
-    rt: &HostRuntime,
-    matches: &ArgMatches<'_>,
-    run: &Run<'_>,
-    input: R,
-) -> u8 {
-    let device = Traced::new(rt.stdout());
-    let Ok(mut output) = Output::new(rt.alloc(), output_room(rt, matches), device) else {
-        return memory(rt);
-    };
-    let told = is_told(rt, matches) && !run.explains_drops();
-    let mut input = Watched::new(Traced::new(Counted::new(rt, told, input)));
-    let mut errors = Watched::new(Heard::new(Cleared::new(rt, told, rt.stderr())));
-    let (list, lines, faults) = (&mut input, &mut output, &mut errors);
-    let ended = match run {
-        Run::Police(rule) => police_and_count(rt.alloc(), rule, list, lines, faults),
-        Run::Replay {
-            config,
-            admission,
-            explains_drops: false,
-        } => replay_and_count(rt.alloc(), *admission, config, list, lines, faults),
-        Run::Replay {
-            config,
-            admission,
-            explains_drops: true,
-        } => {
-            let Ok(early) = LineWriter::new(rt.alloc(), rt.stderr()) else {
-                return memory(rt);
-            };
-            let drops = Watched::new(early);
-            replay_and_explain(rt.alloc(), *admission, config, list, lines, faults, drops).0
-        }
-        Run::Send { config, system } => {
-            send_and_count(rt.alloc(), config, system, list, lines, faults)
-        }
-    };
-    end_run(rt, matches, run.config(), ended, input, output, errors)
-}
-
-/// Makes the run over a file, or over standard input, which is `-`.
-fn run_list(rt: &HostRuntime, matches: &ArgMatches<'_>, run: &Run<'_>, list: &str) -> u8 {
-    if list == "-" {
-        return run_from(rt, matches, run, rt.stdin());
-    }
-    match File::open(rt, list) {
-        Ok(file) => run_from(rt, matches, run, file),
-        Err(reason) => no_file(rt, matches, "device List", list, reason),
-    }
-}
-
 /// The rule that the words of `police` give.
 fn commanded_rule(matches: &ArgMatches<'_>) -> Option<CommandedRule> {
     let policing = match matches.get_str("policing")? {
@@ -281,10 +123,24 @@ fn replay_list(rt: &HostRuntime, matches: &ArgMatches<'_>) -> u8 {
         Ok(config) => config,
         Err(status) => return status,
     };
-    let run = Run::Replay {
+    let run = Run::Replay(Replaying {
         config: config.as_slice(),
         admission: !matches.get_flag("no-admission"),
         explains_drops: matches.get_flag("explain-drops"),
+    });
+    run_list(rt, matches, &run, list)
+}
+
+fn list_numbers(rt: &HostRuntime, matches: &ArgMatches<'_>) -> u8 {
+    let Some(list) = matches.get_str("LIST") else {
+        return WRONG_WORDS;
+    };
+    let config = match read_config(rt, matches) {
+        Ok(config) => config,
+        Err(status) => return status,
+    };
+    let run = Run::List {
+        config: config.as_slice(),
     };
     run_list(rt, matches, &run, list)
 }
@@ -334,9 +190,11 @@ fn run_matches(rt: &HostRuntime, matches: &ArgMatches<'_>) -> u8 {
     match matches.subcommand() {
         Some(("check", matches)) => check_config(rt, matches),
         Some(("explain", matches)) => explain_words(rt, matches),
+        Some(("list", matches)) => list_numbers(rt, matches),
         Some(("police", matches)) => police_list(rt, matches),
         Some(("replay", matches)) => replay_list(rt, matches),
         Some(("send", matches)) => send_list(rt, matches),
+        Some(("solve", matches)) => solve_tables(rt, matches),
         _ => WRONG_WORDS,
     }
 }

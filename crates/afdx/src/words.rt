@@ -1,5 +1,8 @@
 //! The words of a command line.
 
+use crate::list_words::list_command;
+use crate::recording_words::{fcs_option, interface_option, origin_option};
+use crate::solve_words::solve_command;
 use clap::{Arg, ArgAction, Command, value_parser};
 use std::alloc::{AllocError, Global};
 
@@ -45,18 +48,19 @@ Examples:
   afdx police 1 64 500 examples/one_link.list
   afdx police --vl 501 --port 5 2 160 200 examples/bench.list";
 
-const CONFIG_HELP: &str = "The path of a configuration (TOML), at most 4,194,304 bytes; \
+pub const CONFIG_HELP: &str = "The path of a configuration (TOML), at most 4,194,304 bytes; \
 /dev/stdin for standard input";
 
-const LIST_HELP: &str = "The path of a frame list, or - for standard input";
+const LIST_HELP: &str = "The path of a frame list or a recording (pcap, pcapng), or - for \
+standard input";
 
 /// A command, as yet without words.
-fn command<'a>(alloc: Global, name: &'a str, about: &'a str, after: &'a str) -> Command<'a> {
+pub fn command<'a>(alloc: Global, name: &'a str, about: &'a str, after: &'a str) -> Command<'a> {
     Command::new(alloc, name).about(about).after_help(after)
 }
 
 /// An option without a value.
-fn flag<'a>(alloc: Global, name: &'a str, help: &'a str) -> Arg<'a> {
+pub fn flag<'a>(alloc: Global, name: &'a str, help: &'a str) -> Arg<'a> {
     Arg::new(alloc, name)
         .long(name)
         .help(help)
@@ -64,7 +68,7 @@ fn flag<'a>(alloc: Global, name: &'a str, help: &'a str) -> Arg<'a> {
 }
 
 /// A word that has to be there.
-fn word<'a>(alloc: Global, name: &'a str, help: &'a str) -> Arg<'a> {
+pub fn word<'a>(alloc: Global, name: &'a str, help: &'a str) -> Arg<'a> {
     Arg::new(alloc, name).help(help).required(true)
 }
 
@@ -76,7 +80,7 @@ fn number<'a>(alloc: Global, name: &'a str, help: &'a str) -> Arg<'a> {
 }
 
 /// The option by which each line is seen at once.
-fn line_buffered<'a>(alloc: Global) -> Arg<'a> {
+pub fn line_buffered<'a>(alloc: Global) -> Arg<'a> {
     let help = "Hands the text of each line over at once, and not in large pieces";
     flag(alloc, "line-buffered", help)
 }
@@ -88,7 +92,7 @@ standard error is a terminal";
 const TIMES_TO_EXPLAIN: &[&str] = &["auto", "always", "never"];
 
 /// The option by which a fault is explained.
-fn explain_option<'a>(alloc: Global) -> Arg<'a> {
+pub fn explain_option<'a>(alloc: Global) -> Arg<'a> {
     Arg::new(alloc, "explain")
         .long("explain")
         .value_name("WHEN")
@@ -101,13 +105,13 @@ fn explain_option<'a>(alloc: Global) -> Arg<'a> {
 }
 
 /// The option by which a person sees how far a run is.
-fn progress_option<'a>(alloc: Global) -> Arg<'a> {
+pub fn progress_option<'a>(alloc: Global) -> Arg<'a> {
     let help = "Says after two seconds how much was read, if standard error is a terminal";
     flag(alloc, "progress", help)
 }
 
 /// The option by which the counts of a run are printed.
-fn summary_option<'a>(alloc: Global) -> Arg<'a> {
+pub fn summary_option<'a>(alloc: Global) -> Arg<'a> {
     let help = "Prints the counts of the run on standard error, once it is done";
     flag(alloc, "summary", help)
 }
@@ -196,6 +200,9 @@ fn replay_command<'a>(alloc: Global) -> Result<Command<'a>, AllocError> {
     let words = vec![in alloc;
         flag(alloc, "no-admission", FREELY_HELP),
         flag(alloc, "explain-drops", EARLY_HELP),
+        interface_option(alloc),
+        fcs_option(alloc),
+        origin_option(alloc),
         explain_option(alloc),
         line_buffered(alloc),
         progress_option(alloc),
@@ -296,6 +303,9 @@ fn police_command<'a>(alloc: Global) -> Result<Command<'a>, AllocError> {
         number_option(alloc, "port", "1", PORT_HELP),
         number_option(alloc, "lmin", "64", LMIN_HELP),
         policing_option(alloc),
+        interface_option(alloc),
+        fcs_option(alloc),
+        origin_option(alloc),
         explain_option(alloc),
         line_buffered(alloc),
         progress_option(alloc),
@@ -358,7 +368,9 @@ pub fn afdx_command<'a>(alloc: Global) -> Result<Command<'a>, AllocError> {
         .arg_required_else_help(true);
     let program = with_command(Ok(program), check_command(alloc));
     let program = with_command(program, explain_command(alloc));
+    let program = with_command(program, list_command(alloc));
     let program = with_command(program, police_command(alloc));
     let program = with_command(program, replay_command(alloc));
-    with_command(program, send_command(alloc))
+    let program = with_command(program, send_command(alloc));
+    with_command(program, solve_command(alloc))
 }

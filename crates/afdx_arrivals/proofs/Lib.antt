@@ -3,3 +3,8 @@ pub mod Sealing
 pub mod SequenceLemmas
 pub mod SourceLemmas
 pub mod RecordingRunLemmas
+pub mod ListingLemmas
+pub mod LawLemmas
+pub mod InputLemmas
+pub mod ListingSourceLemmas
+pub mod ListingRunLemmas

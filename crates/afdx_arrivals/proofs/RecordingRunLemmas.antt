@@ -1,5 +1,5 @@
 -- What a run over a recording answers, from what it hands from the recording to its machine.
-use Rattle.std.proofs.Common.{◌≡◌, ℕ, List, [], ◌∷◌, ◌++◌, append_assoc, append-nil, refl, ap, sym, ◌∙◌, subst}
+use Rattle.std.proofs.Common.{◌≡◌, ◌≤◌, ◌+◌, ℕ, List, [], ◌∷◌, ◌++◌, length, length-append, if◌then◌else◌, append_assoc, append-nil, refl, ap, sym, ◌∙◌, subst}
 use Rattle.std.proofs.Common.{Option, Some, None, Result, Ok, Err, IfSome, arith, true, false, Bool, ◌⊎◌, inl, inr}
 use Rattle.std.specs.Io.KnownBytes.{Consumes, IsAtEnd}
 use Rattle.std.proofs.KnownBytes.{Consumes-nil}
@@ -9,9 +9,9 @@ use Rattle.afdx_lists.specs.declared.frame_line.Heading.{Heading}
 use Rattle.afdx_lists.specs.declared.fault.RunFault.{RunFault}
 use Rattle.afdx_lists.specs.declared.fault.RunFault.TheVariants as run
 use Rattle.afdx_lists.specs.declared.watched.Watched.{Watched}
-use Rattle.afdx_recordings.specs.Holding.{Standing, standing, IsTrueToEnd, unread}
-use Rattle.afdx_recordings.specs.Reading.{state_of, recorded}
-use Rattle.afdx_recordings.specs.Recordings.{State, at_start, lost_by}
+use Rattle.afdx_recordings.specs.Holding.{Standing, standing, Gives, GivesSome, IsTrueToEnd, last_calls, unread}
+use Rattle.afdx_recordings.specs.Reading.{state_of}
+use Rattle.afdx_recordings.specs.Recordings.{State, Over, at_start, lost_by}
 use Rattle.afdx_run.specs.Engine.{Item, Runs, without_newest}
 use Rattle.afdx_text.specs.Sinks.{IsOfOutput}
 use Rattle.afdx_arrivals.specs.declared.becoming.RecordingOptions.{RecordingOptions}
@@ -21,13 +21,14 @@ use Rattle.afdx_arrivals.specs.declared.recording_run.Tally.{Tally}
 use Rattle.afdx_arrivals.specs.Becoming.{Options, options_of}
 use Rattle.afdx_arrivals.specs.Claims.{Ports, ports_of}
 use Rattle.afdx_arrivals.specs.Counting.{no_counts, skipped_in}
-use Rattle.afdx_arrivals.specs.Sequences.{Outcome, sequence}
-use Rattle.afdx_arrivals.specs.RecordingRun.{RecordingAnswers, BeginIsTold, IsDone, tally_of}
-use Rattle.afdx_arrivals.specs.RecordingSource.{HasGiven, HasEnded, HasStopped, StopsFor, AreFirst}
+use Rattle.afdx_arrivals.specs.Sequences.{Outcome}
+use Rattle.afdx_arrivals.specs.RecordingRun.{RecordingAnswers, IsAskedOnce, sequence_of_bytes, items_of_bytes}
+use Rattle.afdx_arrivals.specs.Stopping.{ItemsAnswer, FirstAreBegun, AreFirstItems, StopsBehind, tally_of}
+use Rattle.afdx_arrivals.specs.RecordingSource.{HasGiven, HasEnded, HasStopped}
 use Rattle.afdx_arrivals.specs.RecordingSource.{first_standing, sorted_at, IsTimed}
 use Rattle.afdx_arrivals.proofs.SequenceLemmas.{sorts-first}
 
-not_read : (fault : RunFault) → IsOfOutput fault → is_read fault ≡ false
+pub not_read : (fault : RunFault) → IsOfOutput fault → is_read fault ≡ false
 not_read fault (inl e) = rw e refl
 not_read fault (inr e) = rw e refl
 
@@ -52,25 +53,54 @@ of-read : (Q : List ℕ → Type 0) (left rest : Option (List ℕ)) (read : List
 of-read Q None rest read c q = tt
 of-read Q (Some bytes) rest read c q = (read, c, q)
 
-module _ (options : Options) (ports : Ports) (done told begins : List (Item Heading) → Type 0)
-    (first now : Standing) where
+-- where what an input gives is known, it was asked once for each byte at most, and once more
+last-few : (now : Standing) → last_calls now ≤ 1
+last-few now = by now.over
+  where
+    by : (over : Bool) → (if over then 1 else 0) ≤ 1
+    by true = omega arith
+    by false = omega arith
+
+-- it wasn't asked
+pub unasked : (left : Option (List ℕ)) (calls : ℕ) → IsAskedOnce left left calls calls
+unasked None calls = tt
+unasked (Some left) calls = omega arith
+
+asked-of : (left rest : Option (List ℕ)) (given : List ℕ) (old new last : ℕ) → Consumes left rest given
+    → new ≤ old + length given + last → last ≤ 1 → IsAskedOnce left rest old new
+asked-of None rest given old new last c calls few = tt
+asked-of (Some left) None given old new last c calls few = tt
+asked-of (Some left) (Some rest) given old new last c calls few =
+    let n = ap (λ (xs : List ℕ). length xs) c ∙ length-append given rest in
+    omega (arith, n, calls, few)
+
+asked-once : (first now : Standing) (given : List ℕ) → Gives first now given → first.over ≡ false
+    → IsAskedOnce first.left now.left first.calls now.calls
+asked-once first now given gives unasked =
+    let calls : now.calls ≤ first.calls + length given + last_calls now =
+    (let c = gives.calls in omega (arith, c)) in
+    asked-of first.left now.left given first.calls now.calls (last_calls now) gives.consumed calls (last-few now)
+
+module _ {H : Type 0} (outcome_of : List ℕ → Outcome) (items_of : List ℕ → List (Item H))
+    (done told begins : List (Item H) → Type 0) (first now : Standing) where
   abbrev Answers : Option (List ℕ) → Result Tally RunFault → Type 0
   Answers rest result =
-      IfSome first.left (λ bytes. RecordingAnswers options ports done told begins bytes rest result)
+      IfSome first.left (λ bytes. ItemsAnswer outcome_of items_of done told begins bytes rest result)
+
+  abbrev Begun : List ℕ → Type 0
+  Begun bytes = FirstAreBegun outcome_of items_of done told begins bytes
 
   -- the source stopped
-  answers-stop : (past : List (Item Heading)) (fault : RunFault) → IsTrueToEnd now → told past
-      → StopsFor options ports first now past fault → Answers now.left (Err fault)
+  pub answers-stop : (past : List (Item H)) (fault : RunFault) → IsTrueToEnd now → told past
+      → StopsBehind outcome_of items_of first now past fault → Answers now.left (Err fault)
   answers-stop past (run.Recording f) h t s =
-      of-whole (λ bytes. RecordingAnswers options ports done told begins bytes now.left (Err (run.Recording f)))
+      of-whole (λ bytes. ItemsAnswer outcome_of items_of done told begins bytes now.left (Err (run.Recording f)))
       first.left now.left s.read now.ended s.gives.consumed h
       (λ more follows. (s.ending more follows, subst told (sym (s.items more follows)) t))
   answers-stop past run.Read h t s =
-      of-read (λ read. told (sequence options ports (recorded read)).sorted.items) first.left now.left s.read
-      s.gives.consumed (subst told (sym s.items) t)
+      of-read (λ read. told (items_of read)) first.left now.left s.read s.gives.consumed (subst told (sym s.items) t)
   answers-stop past run.Memory h t s =
-      of-whole (λ bytes. BeginIsTold options ports done told begins (sequence options ports (recorded bytes)))
-      first.left s.left s.read false s.consumed (λ e. absurd (cc))
+      of-whole Begun first.left s.left s.read false s.consumed (λ e. absurd (cc))
       (λ more follows. let i = s.items more in record {
         past = past;
         later = i.0;
@@ -87,33 +117,62 @@ module _ (options : Options) (ports : Ports) (done told begins : List (Item Head
   answers-stop past (run.BadPort m) h t s = absurd s
 
   -- the output failed, or the machine had no memory
-  begun-of : (outcome : Outcome) (past later : List (Item Heading)) → outcome.sorted.items ≡ later ++ past
-      → begins past ⊎ begins (without_newest past) → BeginIsTold options ports done told begins outcome
-  begun-of outcome past later e (inl b) = record { past = past; later = later; items = e; begun = inr b }
-  begun-of outcome [] later e (inr b) = record { past = []; later = later; items = e; begun = inr b }
-  begun-of outcome (x ∷ past) later e (inr b) = record {
+  begun-of : (bytes : List ℕ) (past later : List (Item H)) → items_of bytes ≡ later ++ past
+      → begins past ⊎ begins (without_newest past) → Begun bytes
+  begun-of bytes past later e (inl b) = record { past = past; later = later; items = e; begun = inr b }
+  begun-of bytes [] later e (inr b) = record { past = []; later = later; items = e; begun = inr b }
+  begun-of bytes (x ∷ past) later e (inr b) = record {
     past = past;
     later = later ++ x ∷ [];
     items = e ∙ sym (append_assoc later (x ∷ []) past);
     begun = inr b;
   }
 
-  begun-first : (past : List (Item Heading)) → AreFirst options ports first past
-      → begins past ⊎ begins (without_newest past)
-      → IfSome first.left (λ bytes. BeginIsTold options ports done told begins
-      (sequence options ports (recorded bytes)))
+  -- behind some first items
+  pub begun-first : (past : List (Item H)) → AreFirstItems outcome_of items_of first past
+      → begins past ⊎ begins (without_newest past) → IfSome first.left Begun
   begun-first past s b =
-      of-whole (λ bytes. BeginIsTold options ports done told begins (sequence options ports (recorded bytes)))
-      first.left s.left s.read false s.consumed (λ e. absurd (cc))
-      (λ more follows. let i = s.items more in
-      begun-of (sequence options ports (recorded (s.read ++ more))) past i.0 i.1 b)
+      of-whole Begun first.left s.left s.read false s.consumed (λ e. absurd (cc))
+      (λ more follows. let i = s.items more in begun-of (s.read ++ more) past i.0 i.1 b)
 
-  answers-output : (past : List (Item Heading)) (fault : RunFault) (rest : Option (List ℕ)) → IsOfOutput fault
-      → IfSome first.left (λ bytes. BeginIsTold options ports done told begins
-      (sequence options ports (recorded bytes)))
+  -- or behind all
+  pub begun-all : (past : List (Item H)) (read : List ℕ) → Gives first now read → IsAtEnd now.left
+      → items_of read ≡ past → begins past ⊎ begins (without_newest past) → IfSome first.left Begun
+  begun-all past read gives end e b =
+      of-all Begun first.left now.left read gives.consumed end
+      (begun-of (read ++ []) past [] (ap items_of (append-nil read) ∙ e) b)
+
+  pub answers-output : (fault : RunFault) (rest : Option (List ℕ)) → IsOfOutput fault → IfSome first.left Begun
       → Answers rest (Err fault)
-  answers-output past fault rest (inl e) h = rw e h
-  answers-output past fault rest (inr e) h = rw e h
+  answers-output fault rest (inl e) h = rw e h
+  answers-output fault rest (inr e) h = rw e h
+
+  -- all was told
+  pub answers-done : (past : List (Item H)) (read : List ℕ) (tally : Tally) (outcome : Outcome)
+      → Gives first now read → IsAtEnd now.left → outcome_of read ≡ outcome → outcome.ending ≡ Over
+      → tally ≡ tally_of outcome → items_of read ≡ past → done past → Answers now.left (Ok tally)
+  answers-done past read tally outcome gives end says over is e d =
+      let all : outcome_of (read ++ []) ≡ outcome = ap outcome_of (append-nil read) ∙ says in
+      of-all (λ bytes. ItemsAnswer outcome_of items_of done told begins bytes now.left (Ok tally))
+      first.left now.left read gives.consumed end (record {
+        over = ap (λ (o : Outcome). o.ending) all ∙ over;
+        are_told = subst done (sym (ap items_of (append-nil read) ∙ e)) d;
+        tally_is = is ∙ sym (ap tally_of all);
+      })
+
+  -- memory ran out before anything was read
+  pub answers-start : told [] → Answers first.left (Err run.Memory)
+  answers-start t = by first.left
+    where
+      by : (left : Option (List ℕ))
+          → IfSome left (λ bytes. ItemsAnswer outcome_of items_of done told begins bytes left (Err run.Memory))
+      by None = tt
+      by (Some bytes) = record {
+        past = [];
+        later = items_of bytes;
+        items = sym (append-nil (items_of bytes));
+        begun = inl t;
+      }
 
 module _ {R : Type 0} (remaining : R → Option (List ℕ)) (start input : Watched R) (source : ReadRecording)
     (done told begins : List (Item Heading) → Type 0) where
@@ -129,42 +188,52 @@ module _ {R : Type 0} (remaining : R → Option (List ℕ)) (start input : Watch
   abbrev Ports-of : Ports
   Ports-of = ports_of source.ports
 
+  abbrev Outcome-of : List ℕ → Outcome
+  Outcome-of = sequence_of_bytes Options-of Ports-of
+
+  abbrev Items-of : List ℕ → List (Item Heading)
+  Items-of = items_of_bytes Options-of Ports-of
+
   abbrev First : Standing
   First = first_standing remaining start
 
   abbrev Now : Standing
   Now = standing remaining source.reader.held input
 
+  -- how often the input was asked
+  pub asked : GivesSome First Now → First.over ≡ false
+      → IsAskedOnce First.left Now.left First.calls Now.calls
+  asked (given, gives) fresh = asked-once First Now given gives fresh
+
+  pub fault-calls : First.over ≡ false → (fault : RunFault) → RunsOver {A = Unit {0}} (Err fault)
+      → IsAskedOnce First.left Now.left First.calls Now.calls
+  fault-calls fresh fault (past, inl (stop, t)) = asked stop.gives fresh
+  fault-calls fresh fault (past, inr (is, inl gave, b)) = asked (gave.sorts.read, gave.sorts.gives) fresh
+  fault-calls fresh fault (past, inr (is, inr end, b)) = asked (end.read, end.gives) fresh
+
+  pub done-calls : First.over ≡ false → RunsOver {A = Unit {0}} (Ok tt)
+      → IsAskedOnce First.left Now.left First.calls Now.calls
+  done-calls fresh (past, end, d) = asked (end.read, end.gives) fresh
+
   pub fault-read : (fault : RunFault) → RunsOver {A = Unit {0}} (Err fault) → input.failed ≡ is_read fault
   fault-read fault (past, inl (stop, t)) = stop.failed
   fault-read fault (past, inr (is, inl gave, b)) = gave.sound ∙ sym (not_read fault is)
   fault-read fault (past, inr (is, inr end, b)) = end.sound ∙ sym (not_read fault is)
 
-  -- all that a source gave are the first of all arrivals; where it ended, they are all
-  ended-first : (past : List (Item Heading)) → HasEnded remaining start source input past
-      → begins past ⊎ begins (without_newest past)
-      → IfSome First.left (λ bytes. BeginIsTold Options-of Ports-of done told begins
-      (sequence Options-of Ports-of (recorded bytes)))
-  ended-first past e b =
-      of-all (λ bytes. BeginIsTold Options-of Ports-of done told begins (sequence Options-of Ports-of (recorded bytes)))
-      First.left Now.left e.read e.gives.consumed e.last
-      (begun-of Options-of Ports-of done told begins First Now
-      (sequence Options-of Ports-of (recorded (e.read ++ []))) past []
-      (ap (λ bytes. (sequence Options-of Ports-of (recorded bytes)).sorted.items) (append-nil e.read)
-      ∙ ap (λ (o : Outcome). o.sorted.items) e.says) b)
-
   pub fault-answers : (fault : RunFault) → RunsOver {A = Unit {0}} (Err fault)
       → IfSome (remaining start.inner) (λ bytes. RecordingAnswers Options-of Ports-of done told begins bytes
       (remaining input.inner) (Err fault))
   fault-answers fault (past, inl (stop, t)) =
-      answers-stop Options-of Ports-of done told begins First Now past fault stop.honest t stop.stops
+      answers-stop Outcome-of Items-of done told begins First Now past fault stop.honest t stop.stops
   fault-answers fault (past, inr (is, inl gave, b)) =
-      answers-output Options-of Ports-of done told begins First Now past fault Now.left is
-      (begun-first Options-of Ports-of done told begins First Now past
+      answers-output Outcome-of Items-of done told begins First Now fault Now.left is
+      (begun-first Outcome-of Items-of done told begins First Now past
       (sorts-first Options-of Ports-of First Now (sorted_at source.numbers source past) (state_of source.reader)
       gave.sorts) b)
   fault-answers fault (past, inr (is, inr end, b)) =
-      answers-output Options-of Ports-of done told begins First Now past fault Now.left is (ended-first past end b)
+      answers-output Outcome-of Items-of done told begins First Now fault Now.left is
+      (begun-all Outcome-of Items-of done told begins First Now past end.read end.gives end.last
+      (ap (λ (o : Outcome). o.sorted.items) end.says) b)
 
   pub done-read : RunsOver {A = Unit {0}} (Ok tt) → input.failed ≡ false
   done-read (past, end, d) = end.sound
@@ -180,31 +249,14 @@ module _ {R : Type 0} (remaining : R → Option (List ℕ)) (start input : Watch
       → IfSome (remaining start.inner) (λ bytes. RecordingAnswers Options-of Ports-of done told begins bytes
       (remaining input.inner) (Ok tally))
   done-answers tally is (past, end, d) =
-      let says = ap (λ bytes. sequence Options-of Ports-of (recorded bytes)) (append-nil end.read) ∙ end.says in
-      of-all (λ bytes. IsDone Options-of Ports-of done told begins tally (sequence Options-of Ports-of (recorded bytes)))
-      First.left Now.left end.read end.gives.consumed end.last (record {
-        over = ap (λ (o : Outcome). o.ending) says;
-        are_told = subst done (sym (ap (λ (o : Outcome). o.sorted.items) says)) d;
-        tally_is = is ∙ sym (ap tally_of says);
-      })
+      answers-done Outcome-of Items-of done told begins First Now past end.read tally _ end.gives end.last end.says refl
+      is (ap (λ (o : Outcome). o.sorted.items) end.says) d
 
 -- the same, of a source whose settings are those given
 pub by-settings : (P : Options → Ports → Type 0) (o o' : RecordingOptions) (p p' : SystemPorts)
     → ◌≡◌ {A = RecordingOptions × SystemPorts} (o', p') (o, p) → P (options_of o') (ports_of p')
     → P (options_of o) (ports_of p)
 by-settings P o o' p p' e h = subst (λ (s : RecordingOptions × SystemPorts). P (options_of s.0) (ports_of s.1)) e h
-
--- memory ran out before anything was read
-pub start-answers : (options : Options) (ports : Ports) (done told begins : List (Item Heading) → Type 0)
-    (input : Option (List ℕ)) → told []
-    → IfSome input (λ bytes. RecordingAnswers options ports done told begins bytes input (Err run.Memory))
-start-answers options ports done told begins None t = tt
-start-answers options ports done told begins (Some bytes) t = record {
-  past = [];
-  later = (sequence options ports (recorded bytes)).sorted.items;
-  items = sym (append-nil (sequence options ports (recorded bytes)).sorted.items);
-  begun = inl t;
-}
 
 -- nothing was read yet
 pub gave-start : {R : Type 0} (remaining : R → Option (List ℕ)) (input : Watched R) (source : ReadRecording)

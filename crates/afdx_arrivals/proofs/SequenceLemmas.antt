@@ -21,9 +21,17 @@ use Rattle.afdx_arrivals.specs.Claims.{Ports}
 use Rattle.afdx_arrivals.specs.Counting.{skip_one}
 use Rattle.afdx_arrivals.specs.Sequences.{Sorted, Outcome, sequence, sequence_from, sequence_of_items, sorted_with}
 use Rattle.afdx_arrivals.specs.Sequences.{sorted_by, taken, with_found, arrival_with, and_then, ending_after, has_no_arrival, origin_or}
-use Rattle.afdx_arrivals.specs.RecordingSource.{Sorts, IsFault, AreOfRead, AreFirst, IsTimed}
+use Rattle.afdx_arrivals.specs.RecordingRun.{sequence_of_bytes, items_of_bytes}
+use Rattle.afdx_arrivals.specs.RecordingSource.{Sorts, IsTimed}
+use Rattle.afdx_arrivals.specs.Stopping.{IsFaultBehind, AreAllOfRead, AreFirstItems}
 
 module _ (options : Options) (ports : Ports) where
+  abbrev Outcome-of : List ℕ → Outcome
+  Outcome-of = sequence_of_bytes options ports
+
+  abbrev Items-of : List ℕ → List (Item Heading)
+  Items-of = items_of_bytes options ports
+
   -- one number more
   sequence-ok : (sorted more : Sorted) (item : Numbered) (rest : Recording)
       → sorted_with options ports sorted item ≡ Ok more
@@ -58,7 +66,7 @@ module _ (options : Options) (ports : Ports) where
         (sym (append_assoc old.held given more))
 
     -- the next number was sorted
-    pub sorts-more : (after : State) (item : Numbered) (more : Sorted) → SaysFirst old new before after item
+    unfoldable pub sorts-more : (after : State) (item : Numbered) (more : Sorted) → SaysFirst old new before after item
         → sorted_with options ports sorted item ≡ Ok more → Sorts options ports first new more after
     sorts-more after item more f e = record {
       read = s.read ++ f.given;
@@ -69,8 +77,8 @@ module _ (options : Options) (ports : Ports) where
     }
 
     -- it is a fault
-    pub sorts-fault : (after : State) (item : Numbered) (fault : RecordingFault) → SaysFirst old new before after item
-        → sorted_with options ports sorted item ≡ Err fault → IsFault options ports first new sorted.items fault
+    unfoldable pub sorts-fault : (after : State) (item : Numbered) (fault : RecordingFault) → SaysFirst old new before after item
+        → sorted_with options ports sorted item ≡ Err fault → IsFaultBehind Outcome-of Items-of first new sorted.items fault
     sorts-fault after item fault f e =
         let is = λ (more : List ℕ). behind f.given more
         ∙ ap (λ r. sequence_from options ports sorted r) (f.says more)
@@ -91,8 +99,8 @@ module _ (options : Options) (ports : Ports) where
         ∙ sequence-none sorted ending lost
 
     -- with a fault, its own or that no number is an arrival
-    pub ends-fault : (ending : Ending) (lost : ℕ) (fault : RecordingFault) → SaysEnding old new before ending lost
-        → ending_after sorted ending ≡ Faulted fault → IsFault options ports first new sorted.items fault
+    unfoldable pub ends-fault : (ending : Ending) (lost : ℕ) (fault : RecordingFault) → SaysEnding old new before ending lost
+        → ending_after sorted ending ≡ Faulted fault → IsFaultBehind Outcome-of Items-of first new sorted.items fault
     ends-fault ending lost fault e is = record {
       read = s.read ++ e.given;
       gives = Gives-then first old new s.read e.given s.gives e.gives;
@@ -113,7 +121,7 @@ module _ (options : Options) (ports : Ports) where
     ends-gives ending lost e = Gives-then first old new s.read e.given s.gives e.gives
 
     -- a read failed
-    pub sorts-read : SaysNothing old new before → AreOfRead options ports first new sorted.items
+    unfoldable pub sorts-read : SaysNothing old new before → AreAllOfRead Outcome-of Items-of first new sorted.items
     sorts-read n = record {
       read = s.read ++ n.given;
       gives = Gives-then first old new s.read n.given s.gives n.gives;
@@ -182,7 +190,7 @@ module _ (options : Options) (ports : Ports) where
       (λ more e. sorted-extends sorted more item e) (λ more. items-extends ending lost more items)
 
   pub sorts-first : (first now : Standing) (sorted : Sorted) (state : State)
-      → Sorts options ports first now sorted state → AreFirst options ports first sorted.items
+      → Sorts options ports first now sorted state → AreFirstItems Outcome-of Items-of first sorted.items
   sorts-first first now sorted state s = record {
     read = s.read;
     left = now.left;

@@ -9,7 +9,8 @@ use Rattle.afdx_lists.specs.declared.recording_fault.RecordingFault.{RecordingFa
 use Rattle.afdx_lists.specs.declared.recording_fault.RecordingFault.TheVariants as fault
 use Rattle.afdx_lists.specs.declared.watched.Watched.{Watched}
 use Rattle.afdx_recordings.specs.declared.frame_reader.FrameReader.{FrameReader}
-use Rattle.afdx_recordings.specs.Holding.{Standing, standing, IsTrueToEnd}
+use Rattle.afdx_recordings.specs.Holding.{Standing, standing, Gives, GivesSome, IsTrueToEnd}
+use Rattle.afdx_recordings.proofs.HeldLemmas.{Gives-then}
 use Rattle.afdx_recordings.specs.Reading.{state_of, latest, Tells, SaysFirst, SaysEnding}
 use Rattle.afdx_recordings.specs.Recordings.{State, Numbered, Over, Faulted, lost_by, most_numbers}
 use Rattle.afdx_run.specs.Engine.{Item}
@@ -72,6 +73,26 @@ module _ (options : Options) (ports : Ports) (first old new : Standing) (sorted 
   stops-reader (run.TimeTooLarge m) h = absurd h
   stops-reader (run.BadPort m) h = absurd h
 
+  -- and the input gave some bytes
+  abbrev Given : (given : List ℕ) → Gives old new given → GivesSome first new
+  Given given gives = (s.read ++ given, Gives-then first old new s.read given s.gives gives)
+
+  pub gives-reader : (fault : RunFault) → Tells (Err fault) old new before after item → GivesSome first new
+  gives-reader (run.Recording f) h = Given h.1.given h.1.gives
+  gives-reader run.Read h = Given h.given h.gives
+  gives-reader run.Memory h = Given h.0 h.1
+  gives-reader run.Write h = absurd h
+  gives-reader run.TooManyLines h = absurd h
+  gives-reader (run.LineTooLong m) h = absurd h
+  gives-reader (run.BadLine m) h = absurd h
+  gives-reader (run.BadHex m) h = absurd h
+  gives-reader (run.TimeBack m) h = absurd h
+  gives-reader (run.TimeTooLarge m) h = absurd h
+  gives-reader (run.BadPort m) h = absurd h
+
+  pub gives-number : SaysFirst old new before after item → GivesSome first new
+  gives-number says = Given says.given says.gives
+
   -- a number is a fault, or there is no memory for it
   pub stops-number : (fault : RunFault) → SaysFirst old new before after item
       → FailsBy fault (sorted_with options ports sorted item) → StopsFor options ports first new sorted.items fault
@@ -118,7 +139,7 @@ end-well n has past e is =
 -- ---- one number more
 
 -- the same of a source whose fields are equal
-same : (P : RecordingOptions → SystemPorts → FrameReader → ℕ → Type 0) (o o' : RecordingOptions)
+pub same : (P : RecordingOptions → SystemPorts → FrameReader → ℕ → Type 0) (o o' : RecordingOptions)
     (p p' : SystemPorts) (r r' : FrameReader) (n n' : ℕ) → o' ≡ o → p' ≡ p → r' ≡ r → n' ≡ n → P o p r n → P o' p' r' n'
 same P o o' p p' r r' n n' a b c d h = rw (a, b, c, d) h
 
@@ -130,6 +151,12 @@ pub same-stops : {R : Type 0} (remaining : R → Option (List ℕ)) (first : Sta
 same-stops remaining first input past fault o o' p p' r r' a b c h =
     same (λ o p r n. StopsFor (options_of o) (ports_of p) first (standing remaining r.held input) past fault)
     o o' p p' r r' 0 0 a b c refl h
+
+pub gives-same : {R : Type 0} (remaining : R → Option (List ℕ)) (first : Standing) (input : Watched R)
+    (r r' : FrameReader) → r' ≡ r → GivesSome first (standing remaining r.held input)
+    → GivesSome first (standing remaining r'.held input)
+gives-same remaining first input r r' e h =
+    subst (λ (r : FrameReader). GivesSome first (standing remaining r.held input)) (sym e) h
 
 pub honest-same : {R : Type 0} (remaining : R → Option (List ℕ)) (input : Watched R) (r r' : FrameReader) → r' ≡ r
     → IsTrueToEnd (standing remaining r.held input) → IsTrueToEnd (standing remaining r'.held input)
@@ -252,6 +279,12 @@ module _ {R : Type 0} (remaining : R → Option (List ℕ)) (start old input : W
       (λ none. record {
         failed = sound;
         honest = honest;
+        gives = (
+          h.sorts.read ++ t.1.given,
+          Gives-then (first_standing remaining start)
+              (standing remaining source.reader.held old) (standing remaining reader.held input) h.sorts.read t.1.given
+              h.sorts.gives t.1.gives,
+        );
         stops = ends-fault (options_of source.options) (ports_of source.ports) (first_standing remaining start)
             (standing remaining source.reader.held old) (standing remaining reader.held input)
             (sorted_at source.numbers source past) (state_of source.reader) h.sorts Over (lost_by (state_of reader))

@@ -2,10 +2,12 @@
 use Rattle.std.specs.Prelude.{ℕ, ◌+◌, ◌-◌, Bool, true, false, not, ◌&&◌, ◌||◌, ◌==◌, nat_le, nat_lt, List, length, take}
 use Rattle.std.specs.Prelude.{Option, Some, None, is_some, Result, Ok, Err, if◌then◌else◌}
 use Rattle.afdx_frame.specs.Layout.{link_named_by}
-use Rattle.afdx_frame.specs.Sealing.{sequence_of, is_sealed, sealed, sealed_wrongly}
+use Rattle.afdx_frame.specs.Sealing.{sequence_of, is_sealed}
 use Rattle.afdx_frame.specs.declared.seals.Seal.{Seal}
 use Rattle.afdx_frame.specs.declared.seals.Seal.TheVariants as seal
 use Rattle.afdx_frame.specs.declared.link.Side.{Side}
+use Rattle.afdx_lists.specs.declared.frame_line.FrameKind.{FrameKind}
+use Rattle.afdx_lists.specs.declared.frame_line.FrameKind.TheVariants.{Good, Bad, Raw}
 use Rattle.afdx_lists.specs.declared.recording_fault.RecordingFault.TheVariants.{NotEthernet, NoTime}
 use Rattle.afdx_lists.specs.declared.recording_fault.RecordingFault.TheVariants.{BadTime, Cut}
 use Rattle.afdx_lists.specs.declared.recording_fault.RecordingFault.TheVariants.{FcsUnclear, TimeBack}
@@ -16,8 +18,6 @@ use Rattle.afdx_recordings.specs.declared.recorded.CheckSequence.TheVariants.{Un
 use Rattle.afdx_recordings.specs.declared.recorded.RecordedFrame.{RecordedFrame}
 use Rattle.afdx_recordings.specs.declared.recorded.Recorded.{Recorded}
 use Rattle.afdx_recordings.specs.declared.recorded.Recorded.TheVariants as recorded
-use Rattle.afdx_arrivals.specs.declared.becoming.Ending.{Ending}
-use Rattle.afdx_arrivals.specs.declared.becoming.Ending.TheVariants as ending
 use Rattle.afdx_arrivals.specs.declared.becoming.Entrance.{Entrance}
 use Rattle.afdx_arrivals.specs.declared.becoming.Found.{Found}
 use Rattle.afdx_arrivals.specs.declared.becoming.NoArrival.{NoArrival}
@@ -120,50 +120,44 @@ entrance_of place ports bytes = do
   side ← or_else (said_or (side_said place) (side_claimed bytes)) (Skipped NoNetwork)
   Ok (entrance_with side port (is_claimed place ports))
 
--- ---- the check sequence that it ends with
+-- ---- its check sequence
 
 -- what the check sequence of bytes is that end with their own
 abbrev pub residue : ℕ
 residue = 0x2144df1c
 
--- what a frame ends with: what was recorded where it has its check sequence, else what is put
--- behind it, the right one, or a wrong one where the recorder found a wrong one. None: it isn't
--- said whether it has one, and it seems so
-abbrev pub added : Bool → Ending
-added found_wrong = if found_wrong then ending.Wrong else ending.Right
+-- what is done with the recorded bytes of a frame, as with those of a line of a list: they are taken
+-- as they are where they have their check sequence, else they are sealed, or sealed wrongly where
+-- the recorder found a wrong one. None: it isn't said whether they have one, and it seems so
+abbrev pub sealed_as : Bool → FrameKind
+sealed_as found_wrong = if found_wrong then Bad else Good
 
-unfoldable pub ending_of : Option Bool → Bool → List ℕ → Option Ending
-ending_of (Some true) found_wrong bytes = Some ending.Recorded
-ending_of (Some false) found_wrong bytes = Some (added found_wrong)
-ending_of None found_wrong bytes =
-    if sequence_of bytes == residue then None else Some (added found_wrong)
-
--- the bytes of an arrival, of those that were recorded
-abbrev pub bytes_with : Ending → List ℕ → List ℕ
-bytes_with ending.Recorded bytes = bytes
-bytes_with ending.Right bytes = sealed bytes
-bytes_with ending.Wrong bytes = sealed_wrongly bytes
+unfoldable pub kind_with : Option Bool → Bool → List ℕ → Option FrameKind
+kind_with (Some true) found_wrong bytes = Some Raw
+kind_with (Some false) found_wrong bytes = Some (sealed_as found_wrong)
+kind_with None found_wrong bytes =
+    if sequence_of bytes == residue then None else Some (sealed_as found_wrong)
 
 -- the check sequence is the last four of the bytes that were recorded
-abbrev pub has_own : Ending → List ℕ → Bool
-has_own ending.Recorded bytes = is_sealed bytes
+abbrev pub has_own : FrameKind → List ℕ → Bool
+has_own Raw bytes = is_sealed bytes
 has_own _ bytes = false
 
 -- the arrival's message: its bytes before those of its seal
 abbrev pub without_own : Bool → List ℕ → List ℕ
 without_own own bytes = if own then take (length bytes - 4) bytes else bytes
 
-abbrev pub message_with : Ending → List ℕ → List ℕ
-message_with ending bytes = without_own (has_own ending bytes) bytes
+abbrev pub message_with : FrameKind → List ℕ → List ℕ
+message_with kind bytes = without_own (has_own kind bytes) bytes
 
 -- and that seal
-abbrev pub seal_by : Ending → Bool → Seal
-seal_by ending.Recorded own = if own then seal.Right else seal.Missing
-seal_by ending.Right own = seal.Right
-seal_by ending.Wrong own = seal.Wrong
+abbrev pub seal_by : FrameKind → Bool → Seal
+seal_by Raw own = if own then seal.Right else seal.Missing
+seal_by Good own = seal.Right
+seal_by Bad own = seal.Wrong
 
-abbrev pub seal_with : Ending → List ℕ → Seal
-seal_with ending bytes = seal_by ending (has_own ending bytes)
+abbrev pub seal_with : FrameKind → List ℕ → Seal
+seal_with kind bytes = seal_by kind (has_own kind bytes)
 
 -- ---- all of it
 
@@ -172,13 +166,13 @@ abbrev pub is_before : Option ℕ → ℕ → Bool
 is_before (Some origin) moment = nat_lt moment origin
 is_before None moment = false
 
-abbrev pub found_with : ℕ → Entrance → Ending → Found
-found_with moment entrance ending = record {
+abbrev pub found_with : ℕ → Entrance → FrameKind → Found
+found_with moment entrance kind = record {
   moment = moment;
   side = entrance.side;
   port = entrance.port;
   is_claimed = entrance.is_claimed;
-  ending = ending;
+  kind = kind;
 }
 
 -- what frame n becomes, whose recording's arrival before it has the latest moment
@@ -189,13 +183,14 @@ frame_becomes options ports latest n frame bytes = do
   moment ← whole_moment options.fcs n frame (length bytes)
   entrance ← entrance_of (options.place frame.interface) ports bytes
   check (not (is_before options.origin moment)) (Skipped BeforeOrigin)
-  ending ← or_else (ending_of (ends_with_sequence options.fcs frame.check_sequence)
+  kind ← or_else (kind_with (ends_with_sequence options.fcs frame.check_sequence)
       frame.found_wrong bytes) (Faulted (FcsUnclear n))
   check (nat_le latest moment) (Faulted (TimeBack n))
-  Ok (found_with moment entrance ending)
+  Ok (found_with moment entrance kind)
 
 -- the same of whatever takes the number n
-abbrev pub becomes : Options → Ports → (latest n : ℕ) → Recorded → List ℕ → Result Found NoArrival
+abbrev pub becomes : Options → Ports → (latest n : ℕ) → Recorded → List ℕ →
+    Result Found NoArrival
 becomes options ports latest n recorded.NoFrame bytes = Err (Skipped NoFrame)
 becomes options ports latest n (recorded.Frame frame) bytes =
     frame_becomes options ports latest n frame bytes

@@ -8,6 +8,8 @@ use Rattle.afdx_config.specs.Rows.{SystemRow}
 use Rattle.afdx_arrivals.specs.Tables.{known}
 use Rattle.afdx_arrivals.specs.declared.senders.SystemPorts.{SystemPorts}
 use Rattle.afdx_arrivals.specs.declared.senders.SystemPorts.TheVariants.{One, BySender}
+use Rattle.afdx_arrivals.specs.declared.senders.UnsaidPort.{UnsaidPort}
+use Rattle.afdx_arrivals.specs.declared.senders.UnsaidPort.TheVariants as unsaid
 
 -- the number of a system in bytes with which a source address begins: 02 00 00, then the number
 abbrev pub number_in : List ℕ → Option ℕ
@@ -49,6 +51,11 @@ ports_of_senders systems = record {
   are_claimed = true;
   port = λ bytes. option_and_then (port_of_system systems) (sender_of bytes);
 }
+
+-- the ports that are meant where no option says it
+abbrev pub ports_unsaid : UnsaidPort → Ports
+ports_unsaid (unsaid.One port) = one_port port
+ports_unsaid (unsaid.OfSender tables) = ports_of_senders tables.now.systems
 
 -- the ports that the program holds
 abbrev pub ports_of : SystemPorts → Ports

@@ -5,5 +5,11 @@ pub mod Claims
 pub mod Becoming
 pub mod Counting
 pub mod Sequences
+pub mod Stopping
 pub mod RecordingSource
 pub mod RecordingRun
+pub mod NumberLines
+pub mod ListingSource
+pub mod ListText
+pub mod InputRun
+pub mod Laws

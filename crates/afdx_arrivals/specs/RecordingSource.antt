@@ -1,7 +1,7 @@
 -- What is known of a recording as a source, from call to call.
 use Rattle.std.specs.Prelude.{ℕ, Bool, true, false, not, ◌&&◌, nat_lt, ◌≡◌, ◌≤◌, ◌+◌, ◌-◌, List, [], ◌++◌, length}
 use Rattle.std.specs.Prelude.{Option, Some, None, Result, Ok, Err, if◌then◌else◌}
-use Rattle.std.specs.Io.KnownBytes.{Consumes, IsAtEnd}
+use Rattle.std.specs.Io.KnownBytes.{IsAtEnd}
 use Rattle.afdx_frame.specs.Seals.{IsSealedAs}
 use Rattle.afdx_frame.specs.Times.{latest_listed}
 use Rattle.afdx_lists.specs.Calls.{is_read}
@@ -12,9 +12,9 @@ use Rattle.afdx_lists.specs.declared.fault.RunFault.TheVariants as run
 use Rattle.afdx_lists.specs.declared.recording_fault.RecordingFault.{RecordingFault}
 use Rattle.afdx_lists.specs.declared.recording_fault.RecordingFault.TheVariants.{NoArrival}
 use Rattle.afdx_lists.specs.declared.watched.Watched.{Watched}
-use Rattle.afdx_recordings.specs.Holding.{Standing, standing, Gives, IsTrueToEnd}
-use Rattle.afdx_recordings.specs.Reading.{state_of, latest, recorded, recorded_from, CanFollow}
-use Rattle.afdx_recordings.specs.Recordings.{State, Over, Faulted, lost_by, most_numbers}
+use Rattle.afdx_recordings.specs.Holding.{Standing, standing, Gives, GivesSome, IsTrueToEnd}
+use Rattle.afdx_recordings.specs.Reading.{state_of, latest, recorded, recorded_from}
+use Rattle.afdx_recordings.specs.Recordings.{State, Over, lost_by, most_numbers}
 use Rattle.afdx_run.specs.Engine.{Item, item_of}
 use Rattle.afdx_run.specs.Items.{arrivals}
 use Rattle.afdx_run.specs.Lists.{latest_in}
@@ -22,7 +22,11 @@ use Rattle.afdx_run.specs.Listed.{frames}
 use Rattle.afdx_arrivals.specs.declared.read_recording.ReadRecording.{ReadRecording}
 use Rattle.afdx_arrivals.specs.Becoming.{Options, options_of, without_own}
 use Rattle.afdx_arrivals.specs.Claims.{Ports, ports_of}
+use Rattle.afdx_arrivals.specs.declared.number_line.NumberLine.{NumberLine}
+use Rattle.afdx_arrivals.specs.NumberLines.{line_with}
 use Rattle.afdx_arrivals.specs.Counting.{skipped_in}
+use Rattle.afdx_arrivals.specs.RecordingRun.{sequence_of_bytes, items_of_bytes}
+use Rattle.afdx_arrivals.specs.Stopping.{StopsBehind}
 use Rattle.afdx_arrivals.specs.Sequences.{Sorted, origin_or, sequence, sequence_from, sorted_with, is_empty}
 
 -- the arrival that stands, if one does
@@ -51,6 +55,11 @@ pub record FollowsOn (old new : ReadRecording) : Type 0 where
   pub time : new.head.time ≡ new.latest - origin_or old.origin new.latest
   pub early : new.head.time ≤ latest_listed
   pub sealed : IsSealedAs new.head.seal (given_item new).bytes
+
+-- its line
+abbrev pub next_line : ReadRecording → ℕ → List (Item Heading) → Option NumberLine
+next_line source n past = line_with (options_of source.options) (ports_of source.ports)
+    (sorted_at n source past) (latest source.reader)
 
 -- an arrival was counted, or a number that was skipped
 pub record CountsOne (old new : ReadRecording) : Type 0 where
@@ -99,36 +108,11 @@ module _ (options : Options) (ports : Ports) where
     pub says : (more : List ℕ) → sequence options ports (recorded (read ++ more))
         ≡ sequence_from options ports sorted (recorded_from state (now.held ++ more))
 
-  -- whatever can follow, these are all arrivals, and this fault stands behind them
-  pub record IsFault (first now : Standing) (past : List (Item Heading)) (fault : RecordingFault) :
-      Type 0 where
-    pub read : List ℕ
-    pub gives : Gives first now read
-    pub items : (more : List ℕ) → CanFollow now more →
-        (sequence options ports (recorded (read ++ more))).sorted.items ≡ past
-    pub ending : (more : List ℕ) → CanFollow now more →
-        (sequence options ports (recorded (read ++ more))).ending ≡ Faulted fault
-
-  -- these are all arrivals of what the input gave
-  pub record AreOfRead (first now : Standing) (past : List (Item Heading)) : Type 0 where
-    pub read : List ℕ
-    pub gives : Gives first now read
-    pub items : (sequence options ports (recorded read)).sorted.items ≡ past
-
-  -- whatever the whole recording is, these are its first arrivals
-  pub record AreFirst (first : Standing) (past : List (Item Heading)) : Type 0 where
-    pub read : List ℕ
-    pub left : Option (List ℕ)
-    pub consumed : Consumes first.left left read
-    pub items : (more : List ℕ) → (later : List (Item Heading))
-        × ((sequence options ports (recorded (read ++ more))).sorted.items ≡ later ++ past)
-
   -- where the source stops
   abbrev pub StopsFor : (first now : Standing) → List (Item Heading) → RunFault → Type 0
-  StopsFor first now past (run.Recording fault) = IsFault first now past fault
-  StopsFor first now past run.Read = AreOfRead first now past
-  StopsFor first now past run.Memory = AreFirst first past
-  StopsFor first now past _ = ⊥
+  StopsFor first now past fault =
+      StopsBehind (sequence_of_bytes options ports) (items_of_bytes options ports)
+      first now past fault
 
 module _ {R : Type 0} (remaining : R → Option (List ℕ)) where
   -- these arrivals were given
@@ -169,5 +153,7 @@ module _ {R : Type 0} (remaining : R → Option (List ℕ)) where
       (past : List (Item Heading)) (fault : RunFault) : Type 0 where
     pub failed : input.failed ≡ is_read fault
     pub honest : IsTrueToEnd (standing remaining source.reader.held input)
+    pub gives : GivesSome (first_standing remaining start)
+        (standing remaining source.reader.held input)
     pub stops : StopsFor (options_of source.options) (ports_of source.ports)
         (first_standing remaining start) (standing remaining source.reader.held input) past fault

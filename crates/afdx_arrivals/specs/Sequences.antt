@@ -46,13 +46,13 @@ heading_of origin found bytes = record {
   time = found.moment - origin;
   side = found.side;
   port = found.port;
-  seal = seal_with found.ending bytes;
+  seal = seal_with found.kind bytes;
 }
 
 -- an arrival under this number, of these recorded bytes
 abbrev pub arrival_with : ℕ → ℕ → Found → List ℕ → Item Heading
 arrival_with n origin found bytes =
-    item_of n (heading_of origin found bytes) (message_with found.ending bytes)
+    item_of n (heading_of origin found bytes) (message_with found.kind bytes)
 
 -- the arrival is taken
 abbrev pub with_found : Sorted → ℕ → Found → List ℕ → Sorted

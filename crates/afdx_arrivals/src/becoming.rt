@@ -1,6 +1,6 @@
 //! What a number of a recording becomes.
 
-ghost use Rattle.std.specs.Prelude.{◌≡◌, ◌≤◌, IfOk};
+ghost use Rattle.std.specs.Prelude.{◌≡◌, ◌≤◌, ℕ, IfOk, None, false};
 ghost use Rattle.afdx_arrivals.specs.Becoming as spec;
 ghost use Rattle.afdx_arrivals.specs.Becoming.{options_of};
 ghost use Rattle.afdx_arrivals.specs.Claims.{ports_of};
@@ -10,8 +10,9 @@ use crate::places::{Interfaces, Place};
 use crate::senders::{SystemPorts, side_claimed};
 use crate::skipped::Skipped;
 use afdx_frame::{Side, fcs, vl_of};
-use afdx_lists::RecordingFault;
+use afdx_lists::{FrameKind, RecordingFault};
 use afdx_recordings::{CheckSequence, Recorded, RecordedFrame, Stamp};
+use std::alloc::{AllocError, Global};
 
 /// The link type of Ethernet.
 const ETHERNET: u32 = 1;
@@ -28,17 +29,26 @@ pub struct RecordingOptions {
     pub fcs: Option<bool>,
     /// The moment that is time 0, in ns since 1970, where that is said.
     pub origin: Option<u64>,
+    /// Whether an option was given: then the input has to be a recording.
+    pub are_given: bool,
 }
 
-/// What an arrival ends with.
-#[derive(Clone, Copy, Debug, PartialEq, Eq)]
-pub enum Ending {
-    /// What was recorded, which has the check sequence.
-    Recorded,
-    /// The check sequence of what was recorded, behind it.
-    Right,
-    /// The complement of that, behind it, since the recorder found a wrong one.
-    Wrong,
+impl RecordingOptions {
+    /// None is given, and nothing is said.
+    pub fn none(alloc: Global) -> Result<RecordingOptions, AllocError>
+        ensures given { IfOk result (λ options. options.are_given ≡ false) }
+        ensures fcs { IfOk result (λ options. options.fcs ≡ None) }
+        ensures origin { IfOk result (λ options. options.origin ≡ None) }
+        ensures place { IfOk result (λ options. (k : ℕ) →
+            places.place_of options.interfaces k ≡ None) }
+    {
+        Ok(RecordingOptions {
+            interfaces: Interfaces::new(alloc)?,
+            fcs: None,
+            origin: None,
+            are_given: false,
+        })
+    }
 }
 
 /// An arrival, beside its number and its recorded bytes.
@@ -52,8 +62,8 @@ pub struct Found {
     pub port: u8,
     /// Whether its side or its port was taken from its bytes.
     pub is_claimed: bool,
-    /// What it ends with.
-    pub ending: Ending,
+    /// What is done with its recorded bytes: `Raw` where they end with their check sequence.
+    pub kind: FrameKind,
 }
 
 /// Why a number is no arrival.
@@ -184,22 +194,22 @@ fn entrance_of(
     })
 }
 
-/// What an arrival of these bytes ends with. None: it isn't said whether they have their check
+/// What is done with the bytes of an arrival. None: it isn't said whether they have their check
 /// sequence, and it seems so.
-#[tactic(auto, unfolding(crate::specs::Becoming::ending_of))]
-fn ending_of(has_sequence: Option<bool>, found_wrong: bool, bytes: &[u8]) -> Option<Ending>
-    ensures { result ≡ spec.ending_of has_sequence found_wrong bytes.now }
+#[tactic(auto, unfolding(crate::specs::Becoming::kind_with))]
+fn kind_with(has_sequence: Option<bool>, found_wrong: bool, bytes: &[u8]) -> Option<FrameKind>
+    ensures { result ≡ spec.kind_with has_sequence found_wrong bytes.now }
 {
     if has_sequence == Some(true) {
-        return Some(Ending::Recorded);
+        return Some(FrameKind::Raw);
     }
     if has_sequence.is_none() && fcs(bytes) == RESIDUE {
         return None;
     }
     if found_wrong {
-        Some(Ending::Wrong)
+        Some(FrameKind::Bad)
     } else {
-        Some(Ending::Right)
+        Some(FrameKind::Good)
     }
 }
 
@@ -237,7 +247,7 @@ fn frame_becomes(
         return Err(NoArrival::Skipped(Skipped::BeforeOrigin));
     }
     let has_sequence = ends_with_sequence(options.fcs, frame.check_sequence);
-    let Some(ending) = ending_of(has_sequence, frame.found_wrong, bytes) else {
+    let Some(kind) = kind_with(has_sequence, frame.found_wrong, bytes) else {
         return Err(NoArrival::Faulted(RecordingFault::FcsUnclear(n)));
     };
     if moment < latest {
@@ -248,7 +258,7 @@ fn frame_becomes(
         side: entrance.side,
         port: entrance.port,
         is_claimed: entrance.is_claimed,
-        ending,
+        kind,
     })
 }
 

@@ -4,6 +4,7 @@ ghost use Rattle.std.specs.Prelude.{◌≡◌, ◌<◌, ◌≤◌, ◌+◌};
 ghost use Rattle.afdx_arrivals.specs.Counting as spec;
 
 use crate::skipped::Skipped;
+use std::fmt;
 
 /// How many numbers were skipped for each reason, and how many arrivals are claimed.
 #[derive(Clone, Copy, Debug, PartialEq, Eq)]
@@ -63,5 +64,26 @@ impl Counts {
         if is_claimed {
             self.claimed += 1;
         }
+    }
+}
+
+/// How many were skipped for each reason: `no-frame 0 left-out 0 ..`.
+impl fmt::Display for Counts {
+    ghost use Rattle.std.specs.Prelude.{Some};
+    ghost use Rattle.afdx_arrivals.specs.Words.{reasons_text};
+
+    ghost output = { λ counts. Some (reasons_text counts) };
+
+    fn fmt<W: fmt::Write>(&self, f: &mut fmt::Formatter<W>) -> fmt::Result {
+        write!(
+            f,
+            "no-frame {} left-out {} not-afdx {} unknown-sender {} no-network {} before-origin {}",
+            self.no_frame,
+            self.left_out,
+            self.not_afdx,
+            self.unknown_sender,
+            self.no_network,
+            self.before_origin
+        )
     }
 }

@@ -1,7 +1,7 @@
 //! A recording, as the source of a run: each of its arrivals is an item.
 
 ghost use Rattle.std.specs.Prelude.{◌≡◌, ◌≤◌, ◌<◌, ◌+◌, ◌-◌, ◌++◌, ◌∷◌, ℕ, List, [], Ok, Err};
-ghost use Rattle.std.specs.Prelude.{IfOk, IfErr, OnOk, true, false};
+ghost use Rattle.std.specs.Prelude.{IfOk, IfErr, OnOk, Some, true, false};
 ghost use Rattle.afdx_recordings.specs.Reading.{state_of, latest};
 ghost use Rattle.afdx_recordings.specs.Recordings.{at_start, lost_by, most_numbers};
 ghost use Rattle.afdx_recordings.specs.Holding.{unread};
@@ -10,13 +10,16 @@ ghost use Rattle.afdx_arrivals.specs.Becoming as spec;
 ghost use Rattle.afdx_arrivals.specs.Counting.{no_counts, skipped_in};
 ghost use Rattle.afdx_arrivals.specs.RecordingSource as source;
 ghost use Rattle.afdx_arrivals.specs.RecordingSource.{FailsBy, given_item, sorted_at};
+ghost use Rattle.afdx_arrivals.specs.NumberLines.{arrival_line};
 ghost use Rattle.afdx_arrivals.specs.Sequences.{origin_or, sorted_with, taken};
 
-use crate::becoming::{Ending, Found, NoArrival, RecordingOptions, becomes};
+use crate::becoming::{Found, NoArrival, RecordingOptions, becomes};
 use crate::counts::Counts;
+use crate::number_line::NumberLine;
 use crate::senders::SystemPorts;
+use crate::skipped::Skipped;
 use afdx_frame::{LATEST_LISTED, Seal, Side, is_sealed};
-use afdx_lists::{Heading, RecordingFault, RunFault, Watched};
+use afdx_lists::{FrameKind, Heading, RecordingFault, RunFault, Watched};
 use afdx_recordings::FrameReader;
 use afdx_run::Source;
 use std::alloc::{AllocError, Global};
@@ -35,6 +38,8 @@ pub struct ReadRecording {
     head: Heading,
     /// Whether the last arrival's check sequence is the last four of the recorded bytes.
     has_own: bool,
+    /// What the line of the last number says.
+    line: NumberLine,
 }
 
 impl Drop for ReadRecording {
@@ -51,28 +56,29 @@ impl Drop for ReadRecording {
             has_arrival,
             head,
             has_own,
+            line,
         } = self;
     }
 }
 
 /// Whether the check sequence of an arrival is the last four of these bytes, which were recorded.
-fn has_own(ending: Ending, bytes: &[u8]) -> bool
-    ensures { result ≡ spec.has_own ending bytes.now }
+fn has_own(kind: FrameKind, bytes: &[u8]) -> bool
+    ensures { result ≡ spec.has_own kind bytes.now }
 {
-    match ending {
-        Ending::Recorded => is_sealed(bytes),
-        Ending::Right | Ending::Wrong => false,
+    match kind {
+        FrameKind::Raw => is_sealed(bytes),
+        FrameKind::Good | FrameKind::Bad => false,
     }
 }
 
-/// How an arrival is sealed that ends so.
-fn seal_by(ending: Ending, own: bool) -> Seal
-    ensures { result ≡ spec.seal_by ending own }
+/// How an arrival is sealed.
+fn seal_by(kind: FrameKind, own: bool) -> Seal
+    ensures { result ≡ spec.seal_by kind own }
 {
-    match (ending, own) {
-        (Ending::Recorded, false) => Seal::Missing,
-        (Ending::Recorded, true) | (Ending::Right, _) => Seal::Right,
-        (Ending::Wrong, _) => Seal::Wrong,
+    match (kind, own) {
+        (FrameKind::Raw, false) => Seal::Missing,
+        (FrameKind::Raw, true) | (FrameKind::Good, _) => Seal::Right,
+        (FrameKind::Bad, _) => Seal::Wrong,
     }
 }
 
@@ -135,6 +141,7 @@ impl ReadRecording {
                 seal: Seal::Missing,
             },
             has_own: false,
+            line: NumberLine::Skipped(Skipped::NoFrame),
         })
     }
 
@@ -171,6 +178,8 @@ impl ReadRecording {
         ensures moment { OnOk result (self.new.latest ≡ found.moment) }
         ensures follows { OnOk result (source.FollowsOn self.old self.new) }
         ensures counted { OnOk result (source.CountsOne self.old self.new) }
+        ensures line { OnOk result (self.new.line
+            ≡ arrival_line (origin_or self.old.origin found.moment) found) }
         ensures ok { OnOk result ((past : List (Item Heading)) (n : ℕ) →
             self.old.numbers ≡ n + 1 →
             taken (sorted_at n self.old past) (origin_or self.old.origin found.moment) found
@@ -186,13 +195,19 @@ impl ReadRecording {
         if time > LATEST_LISTED {
             return Err(RunFault::Recording(RecordingFault::TimeTooLarge(self.numbers)));
         }
-        let own = has_own(found.ending, self.reader.bytes());
+        let own = has_own(found.kind, self.reader.bytes());
         self.has_own = own;
         self.head = Heading {
             time,
             side: found.side,
             port: found.port,
-            seal: seal_by(found.ending, own),
+            seal: seal_by(found.kind, own),
+        };
+        self.line = NumberLine::Arrival {
+            kind: found.kind,
+            time,
+            side: found.side,
+            port: found.port,
         };
         self.origin = Some(origin);
         self.latest = found.moment;
@@ -202,7 +217,7 @@ impl ReadRecording {
     }
 
     /// Sorts the number that was read last. True: it is an arrival, which then stands.
-    #[tactic(auto, unfolding(crate::specs::Sequences::sorted_with))]
+    #[tactic(auto, unfolding(crate::specs::Sequences::sorted_with, crate::specs::NumberLines::line_with))]
     fn sort(&mut self) -> Result<bool, RunFault>
         requires skipped { skipped_in self.old.counts < most_numbers }
         requires claimed { self.old.counts.claimed < most_numbers }
@@ -222,6 +237,9 @@ impl ReadRecording {
             (state_of self.old.reader).numbers ≡ n + 1 →
             source.next_sorted self.old n past ≡ Ok (sorted_at (n + 1) self.new past) }
         ensures none { result ≡ Ok false → source.SkipsOne self.old self.new }
+        ensures line { OnOk result ((past : List (Item Heading)) (n : ℕ) →
+            (state_of self.old.reader).numbers ≡ n + 1 →
+            source.next_line self.old n past ≡ Some self.new.line) }
         ensures fault { IfErr result (λ fault. (past : List (Item Heading)) (n : ℕ) →
             (state_of self.old.reader).numbers ≡ n + 1 →
             FailsBy fault (source.next_sorted self.old n past)) }
@@ -236,6 +254,7 @@ impl ReadRecording {
                 Ok(true)
             }
             Err(NoArrival::Skipped(reason)) => {
+                self.line = NumberLine::Skipped(reason);
                 self.counts.skip(reason);
                 Ok(false)
             }
@@ -293,5 +312,47 @@ impl<R: Read> Source<Heading, Watched<R>> for ReadRecording {
 
     fn bytes(&self) -> &[u8] {
         without_own(self.has_own, self.reader.bytes())
+    }
+}
+
+impl<R: Read> Source<NumberLine, Watched<R>> for ReadRecording {
+    ghost use Rattle.afdx_recordings.specs.Reading.{state_of};
+    ghost use Rattle.afdx_arrivals.specs.declared.becoming.RecordingOptions.{RecordingOptions};
+    ghost use Rattle.afdx_arrivals.specs.declared.senders.SystemPorts.{SystemPorts};
+    ghost use Rattle.afdx_arrivals.specs.ListingSource.{given_line, HasListed};
+    ghost use Rattle.afdx_arrivals.specs.ListingSource.{HasListedAll, HasStoppedListing};
+
+    ghost current = { given_line };
+
+    ghost left_of = { λ source. most_numbers - (state_of source.reader).numbers };
+
+    ghost Settings = { RecordingOptions × SystemPorts };
+
+    ghost settings = { λ source. (source.options, source.ports) };
+
+    ghost Gave = { HasListed R.remaining };
+
+    ghost Ended = { HasListedAll R.remaining };
+
+    ghost Stopped = { HasStoppedListing R.remaining };
+
+    fn next(&mut self, input: &mut Watched<R>) -> Result<bool, RunFault> {
+        if !self.reader.next(input)? {
+            return self.end();
+        }
+        self.sort()?;
+        Ok(true)
+    }
+
+    fn number(&self) -> u64 {
+        self.numbers
+    }
+
+    fn head(&self) -> NumberLine {
+        self.line
+    }
+
+    fn bytes(&self) -> &[u8] {
+        self.reader.bytes()
     }
 }

@@ -2,10 +2,10 @@
 
 ghost use Rattle.std.specs.Prelude.{◌≡◌, [], IfSome, OnOk, true, false};
 ghost use Rattle.afdx_lists.specs.Calls.{is_failed_read, is_failed_write};
-ghost use Rattle.afdx_lists.specs.Watching.{device_of, has_ended, has_failed};
+ghost use Rattle.afdx_lists.specs.Watching.{calls_of, device_of, has_ended, has_failed};
 ghost use Rattle.afdx_arrivals.specs.Becoming.{options_of};
 ghost use Rattle.afdx_arrivals.specs.Claims.{ports_of};
-ghost use Rattle.afdx_arrivals.specs.RecordingRun.{RecordingAnswers};
+ghost use Rattle.afdx_arrivals.specs.RecordingRun.{IsAskedOnce, RecordingAnswers};
 
 use crate::becoming::RecordingOptions;
 use crate::counts::Counts;
@@ -15,6 +15,7 @@ use afdx_lists::{Heading, RunFault, Watched};
 use afdx_run::{Machine, drive};
 use afdx_text::Sink;
 use std::alloc::Global;
+use std::fmt;
 use std::io::Read;
 
 /// How many numbers a recording has, how many of them were skipped, and how many frames the
@@ -24,6 +25,23 @@ pub struct Tally {
     pub numbers: u64,
     pub counts: Counts,
     pub lost: u64,
+}
+
+/// The counts of a recording in one line: `skipped no-frame 0 left-out 0 ..`. The reasons stand in
+/// their order, then the frames that the recorder lost, and the arrivals that are claimed.
+impl fmt::Display for Tally {
+    ghost use Rattle.std.specs.Prelude.{Some};
+    ghost use Rattle.afdx_arrivals.specs.Words.{skipped_line};
+
+    ghost output = { λ tally. Some (skipped_line tally) };
+
+    fn fmt<W: fmt::Write>(&self, f: &mut fmt::Formatter<W>) -> fmt::Result {
+        write!(
+            f,
+            "skipped {} recorder-lost {} claimed {}",
+            self.counts, self.lost, self.counts.claimed
+        )
+    }
 }
 
 /// Lets a machine tell the arrivals of a recording, and counts what is no arrival.
@@ -48,6 +66,8 @@ pub fn run_recording<R: Read, M: Machine<Heading>, O: Sink>(
     ensures ended { OnOk result (has_ended input.new ≡ true) }
     ensures read { has_failed input.new ≡ is_failed_read result }
     ensures write { O.failed output.new ≡ is_failed_write result }
+    ensures calls { IsAskedOnce (R.remaining (device_of input.old))
+        (R.remaining (device_of input.new)) (calls_of input.old) (calls_of input.new) }
 
     // Where the input's bytes are known: what is answered and written for the recording that they
     // are.

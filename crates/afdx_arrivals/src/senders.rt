@@ -3,7 +3,7 @@
 ghost use Rattle.std.specs.Prelude.{◌≡◌, ℕ, IfOk, vec_len, slice_get, None};
 ghost use Rattle.afdx_arrivals.specs.Claims as claims;
 ghost use Rattle.afdx_arrivals.specs.Tables.{known};
-ghost use Rattle.afdx_arrivals.specs.Claims.{Agree, ports_of, ports_of_senders};
+ghost use Rattle.afdx_arrivals.specs.Claims.{Agree, ports_of, ports_of_senders, ports_unsaid};
 
 use afdx_config::{SystemId, Tables};
 use afdx_frame::Side;
@@ -20,6 +20,15 @@ pub enum SystemPorts {
     /// At that of the system that sent it: for each number in a source address the port of the
     /// system that has it, if one has.
     BySender(Vec<Option<u8>>),
+}
+
+/// Which port is meant where no option says at which a frame came in.
+#[derive(Clone, Copy, Debug)]
+pub enum UnsaidPort<'a> {
+    /// This one, whatever sent the frame.
+    One(u8),
+    /// That of the system of these tables that the frame's source address names.
+    OfSender(&'a Tables),
 }
 
 /// The number of a system in these bytes, with which a source address begins (ARINC 664 Part 7):
@@ -102,6 +111,16 @@ impl SystemPorts {
         let mut ports = vec![in alloc; None; NUMBERS]?;
         put_ports(tables, &mut ports);
         Ok(SystemPorts::BySender(ports))
+    }
+
+    /// The ports that are meant where no option says it.
+    pub fn unsaid(alloc: Global, port: UnsaidPort<'_>) -> Result<SystemPorts, AllocError>
+        ensures { IfOk result (λ ports. Agree (ports_of ports) (ports_unsaid port.entry)) }
+    {
+        match port {
+            UnsaidPort::One(port) => Ok(SystemPorts::One(port)),
+            UnsaidPort::OfSender(tables) => SystemPorts::by_sender(alloc, tables),
+        }
     }
 
     /// Whether the port of a frame is taken from its bytes.

@@ -2,6 +2,7 @@ pub mod AmongOthersLemmas
 pub mod ChangedLemmas
 pub mod DistinctLemmas
 pub mod EachRowLemmas
+mod AskedLemmas
 pub mod EntryLemmas
 pub mod GatheredLemmas
 pub mod GrownLemmas

@@ -7,6 +7,7 @@ pub mod Trees
 pub mod Keys
 pub mod Choices
 pub mod Reading
+pub mod Asked
 pub mod New
 pub mod Lawful
 pub mod Flows

@@ -3,6 +3,7 @@
 //! Its tests are in `afdx_part_tests`.
 #![tactic(auto)]
 
+mod asked;
 mod choices;
 mod fault;
 mod key_tables;
@@ -19,6 +20,6 @@ mod tables;
 
 pub use fault::{CONFIG_FAULTS, ConfigFault, Part, Place};
 pub use key_tables::{Key, LINK_KEYS, PORT_KEYS, SYSTEM_KEYS, TOP_KEYS, UNKNOWN_KEYS};
-pub use read::{read_tables, read_to_solve};
+pub use read::{read_tables, read_to_solve, read_to_solve_asking};
 pub use rows::{ComRow, KeptKeys, Kind, Link, System, SystemId, Times};
 pub use tables::Tables;

@@ -3,7 +3,7 @@
 use crate::entry::Entry;
 
 /// Lines of the output.
-pub const LINES: [Entry; 12] = [
+pub const LINES: [Entry; 13] = [
     (
         "\
 accept
@@ -73,6 +73,15 @@ longest time in ns that its frames can take there, rounded up, - where the high 
 take the whole line; latency is the link's, in ns.
 The link's frames are in time there if latency is bound or more, and the port isn't
 overloaded.",
+    ),
+    (
+        "vl n at * n ns needed, n us asked",
+        "\
+vl VL at PORT: NEEDED ns needed, ASKED us asked: 'solve' on standard error: at this switch port
+the frames of this link can take so long, with the jitters that are written; the latency_us of
+CONFIG is less.
+Where so long is too long, send less to that port, or give its system a faster line; the lines m
+of 'check --margins' say what fills the port.",
     ),
     (
         "ok",

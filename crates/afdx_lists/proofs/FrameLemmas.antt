@@ -5,7 +5,7 @@ use Rattle.std.proofs.lemmas.Grind.{common_steps}
 use Rattle.std.specs.Option.{option_map}
 use Rattle.std.specs.Str.Lines.{strip_carriage_return}
 use Rattle.afdx_frame.specs.declared.link.Side.{Side}
-use Rattle.afdx_lists.specs.declared.frame_line.Kind.{Kind}
+use Rattle.afdx_lists.specs.declared.frame_line.FrameKind.{FrameKind}
 use Rattle.afdx_lists.specs.declared.fault.LineFault.{LineFault}
 use Rattle.afdx_fields.specs.Fields.{between_spaces, number_of}
 use Rattle.afdx_lists.specs.Fields.{cut, cut_number, is_skipped, fault_or, time_fault}
@@ -17,7 +17,7 @@ use Rattle.afdx_frame.specs.Ports.{last_port}
 use Rattle.afdx_lists.proofs.FieldLemmas.{time_fault-cut, time_fault-none}
 use Rattle.afdx_lists.proofs.FormLemmas.{IsCut, five_fields, says_nothing, says-from, says-alone}
 
-from_five-cut : (kind : Option Kind) (time : Option ℕ) (side : Option Side) (port : Option ℕ) (digits : List ℕ)
+from_five-cut : (kind : Option FrameKind) (time : Option ℕ) (side : Option Side) (port : Option ℕ) (digits : List ℕ)
     → from_five frame_fields_with kind (cut_number time) side (cut_number port) digits
     ≡ option_map cut_frame (from_five frame_fields_with kind time side port digits)
 from_five-cut None time side port digits = refl

@@ -10,8 +10,8 @@ use Rattle.afdx_lists.specs.Letters.{letter_A, letter_B, letter_F, letter_R}
 use Rattle.afdx_fields.specs.Fields.{between_spaces, number_of}
 use Rattle.afdx_lists.specs.Fields.{cut, time_fault, fault_or}
 use Rattle.afdx_lists.specs.Forms.{Form, from_five, five_of, said_by}
-use Rattle.afdx_lists.specs.declared.frame_line.Kind.{Kind}
-use Rattle.afdx_lists.specs.declared.frame_line.Kind.TheVariants.{Good, Bad, Raw}
+use Rattle.afdx_lists.specs.declared.frame_line.FrameKind.{FrameKind}
+use Rattle.afdx_lists.specs.declared.frame_line.FrameKind.TheVariants.{Good, Bad, Raw}
 use Rattle.afdx_lists.specs.declared.frame_line.Fields.{Fields}
 use Rattle.afdx_lists.specs.declared.frame_line.Heading.{Heading}
 use Rattle.afdx_lists.specs.declared.fault.LineFault.{LineFault}
@@ -25,7 +25,7 @@ pub record ListedFrame : Type 0 where
   pub bytes : List ℕ
 
 -- `F`, `B` or `R`
-abbrev pub kind_of : List ℕ → Option Kind
+abbrev pub kind_of : List ℕ → Option FrameKind
 kind_of (letter ∷ []) =
     if letter == letter_F then Some Good
     else if letter == letter_B then Some Bad
@@ -41,14 +41,14 @@ side_of _ = None
 
 -- the five fields of a frame line
 pub record FrameFields : Type 0 where
-  pub kind : Kind
+  pub kind : FrameKind
   pub time : ℕ
   pub side : Side
   pub port : ℕ
   pub digits : List ℕ
 
 -- the five fields of a frame line are these
-abbrev pub frame_fields_with : Kind → ℕ → Side → ℕ → List ℕ → FrameFields
+abbrev pub frame_fields_with : FrameKind → ℕ → Side → ℕ → List ℕ → FrameFields
 frame_fields_with kind time side port digits =
     record { kind = kind; time = time; side = side; port = port; digits = digits }
 
@@ -63,7 +63,7 @@ unfoldable pub frame_fields : List ℕ → Option FrameFields
 frame_fields text = five_of frame_fields_from (between_spaces text)
 
 -- the frame of a line: sealed, sealed wrongly, or the bytes as they are
-unfoldable pub frame_bytes : Kind → List ℕ → List ℕ
+unfoldable pub frame_bytes : FrameKind → List ℕ → List ℕ
 frame_bytes Good bytes = sealed bytes
 frame_bytes Bad bytes = sealed_wrongly bytes
 frame_bytes Raw bytes = bytes

@@ -45,9 +45,9 @@ impl Heading {
     }
 }
 
-/// What is done with the bytes of a line.
-#[derive(Clone, Copy, Debug)]
-enum Kind {
+/// What is done with the bytes of a line of a frame list.
+#[derive(Clone, Copy, Debug, PartialEq, Eq)]
+pub enum FrameKind {
     /// `F`: to be sealed
     Good,
     /// `B`: to be sealed with the complement of the check sequence
@@ -59,20 +59,20 @@ enum Kind {
 /// The fields of a line, read as far as their form goes.
 #[derive(Drop)]
 struct Fields<'a> {
-    kind: Kind,
+    kind: FrameKind,
     time: u64,
     side: Side,
     port: u64,
     digits: &'a [u8],
 }
 
-fn read_kind(text: &[u8]) -> Option<Kind>
+fn read_kind(text: &[u8]) -> Option<FrameKind>
     ensures { result ≡ kind_of text.now }
 {
     match text {
-        b"F" => Some(Kind::Good),
-        b"B" => Some(Kind::Bad),
-        b"R" => Some(Kind::Raw),
+        b"F" => Some(FrameKind::Good),
+        b"B" => Some(FrameKind::Bad),
+        b"R" => Some(FrameKind::Raw),
         _ => None,
     }
 }
@@ -89,7 +89,7 @@ fn read_side(text: &[u8]) -> Option<Side>
 
 /// The fields, where each could be read.
 fn fields_from<'a>(
-    kind: Option<Kind>,
+    kind: Option<FrameKind>,
     time: Option<u64>,
     side: Option<Side>,
     port: Option<u64>,
@@ -163,14 +163,14 @@ fn fault_of_numbers(time: u64, port: u64, latest: u64) -> Option<LineFault>
 }
 
 /// How the frame of a line's bytes is sealed; its message is left in `frame`.
-fn seal_of(kind: Kind, frame: &mut Vec<u8>) -> Seal
+fn seal_of(kind: FrameKind, frame: &mut Vec<u8>) -> Seal
     ensures bytes { whole result frame.new.items ≡ frame_bytes kind frame.old.items }
     ensures known { IsSealedAs result frame.new.items }
 {
     match kind {
-        Kind::Good => Seal::Right,
-        Kind::Bad => Seal::Wrong,
-        Kind::Raw => unseal(frame),
+        FrameKind::Good => Seal::Right,
+        FrameKind::Bad => Seal::Wrong,
+        FrameKind::Raw => unseal(frame),
     }
 }
 

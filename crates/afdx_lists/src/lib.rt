@@ -14,7 +14,7 @@ mod submission_line;
 mod watched;
 
 pub use fault::{LineError, LineFault, RUN_FAULTS, RunFault};
-pub use frame_line::{Heading, read_frame_line};
+pub use frame_line::{FrameKind, Heading, read_frame_line};
 pub use line_reader::LineReader;
 pub use peeked::Peeked;
 pub use recording_fault::{RECORDING_FAULTS, RecordingFault};

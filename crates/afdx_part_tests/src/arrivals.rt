@@ -1,12 +1,12 @@
 //! What numbers of a recording become: each line of the table decides once.
 
 use afdx_arrivals::{
-    Ending, Found, Interfaces, NoArrival, Place, RecordingOptions, SKIPPED, Skipped, SystemPorts,
+    Found, Interfaces, NoArrival, Place, RecordingOptions, SKIPPED, Skipped, SystemPorts,
     becomes,
 };
 use afdx_config::ConfigFault;
 use afdx_frame::Side;
-use afdx_lists::RecordingFault;
+use afdx_lists::{FrameKind, RecordingFault};
 use afdx_recordings::{CheckSequence, Recorded, RecordedFrame, Stamp};
 use afdx_samples::{HELLO, all_right, base_tables, equal, hello};
 use std::alloc::{AllocError, Global};
@@ -189,12 +189,12 @@ fn what_is_said_and_claimed_decides(rt: HostRuntime) -> Result<(), Fail> {
 }
 
 /// What an arrival ends with, of bytes with a check sequence or without it.
-fn ending(
+fn kind_of(
     options: &RecordingOptions,
     check_sequence: CheckSequence,
     original: u32,
     bytes: &[u8],
-) -> Result<Ending, NoArrival> {
+) -> Result<FrameKind, NoArrival> {
     let frame = RecordedFrame {
         check_sequence,
         original,
@@ -203,7 +203,7 @@ fn ending(
     };
     let ports = SystemPorts::One(5);
     let found = seventh(options, &ports, frame, bytes)?;
-    Ok(found.ending)
+    Ok(found.kind)
 }
 
 #[test]
@@ -215,19 +215,19 @@ fn check_sequences(rt: HostRuntime) -> Result<(), Fail> {
     let bytes = sealed.as_slice();
     let unclear = NoArrival::Faulted(RecordingFault::FcsUnclear(7));
     equal(
-        ending(&none, CheckSequence::Unsaid, 64, bytes),
+        kind_of(&none, CheckSequence::Unsaid, 64, bytes),
         Err(unclear),
     )?;
     equal(
-        ending(&none, CheckSequence::With, 64, bytes),
-        Ok(Ending::Recorded),
+        kind_of(&none, CheckSequence::With, 64, bytes),
+        Ok(FrameKind::Raw),
     )?;
     equal(
-        ending(&without, CheckSequence::With, 64, HELLO.as_slice()),
-        Ok(Ending::Wrong),
+        kind_of(&without, CheckSequence::With, 64, HELLO.as_slice()),
+        Ok(FrameKind::Bad),
     )?;
     equal(
-        ending(&without, CheckSequence::Unsaid, 65, HELLO.as_slice()),
+        kind_of(&without, CheckSequence::Unsaid, 65, HELLO.as_slice()),
         Err(NoArrival::Faulted(RecordingFault::Cut(7))),
     )
 }

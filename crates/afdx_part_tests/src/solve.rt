@@ -1,7 +1,7 @@
 //! The least values of the base network.
 
 use afdx_admit::{AdmitFault, Admitted};
-use afdx_config::{KeptKeys, Tables, Times, read_to_solve};
+use afdx_config::{KeptKeys, Tables, Times, read_to_solve, read_to_solve_asking};
 use afdx_samples::{base, changed, equal, read};
 use afdx_solve::{SolveOptions, config_text, solve};
 use std::alloc::Global;
@@ -110,4 +110,22 @@ fn is_written(alloc: Global) -> Result<bool, Fail> {
 #[test]
 fn a_text_of_tables(rt: HostRuntime) -> Result<(), Fail> {
     equal(is_written(rt.alloc())?, true)
+}
+
+/// The latencies that the links of the base network ask for, where the first has none.
+fn asked_latencies(alloc: Global) -> Result<(usize, Option<u64>, Option<u64>), Fail> {
+    let text = changed(base(), "latency_us = 17", "")?;
+    let text = changed(text.as_str(), "latency_us = 21", "latency_us = 100001")?;
+    let Ok((_, asked)) = read_to_solve_asking(alloc, text.as_bytes(), FREE.kept) else {
+        return Err("the text is refused".into());
+    };
+    match asked.as_slice() {
+        [first, second] => Ok((2, *first, *second)),
+        others => Ok((others.len(), None, None)),
+    }
+}
+
+#[test]
+fn latencies_as_they_stand_in_a_text(rt: HostRuntime) -> Result<(), Fail> {
+    equal(asked_latencies(rt.alloc())?, (2, None, Some(100_001)))
 }

@@ -1,7 +1,9 @@
 //! Lines that are put into a text, written and held, and faults that are told.
 
 use afdx_frame::{IpFault, MacFault, Side, VlId};
-use afdx_lists::{LineError, LineFault, RecordingFault, RunFault, Watched, read_frame_line};
+use afdx_lists::{
+    FrameKind, LineError, LineFault, RecordingFault, RunFault, Watched, read_frame_line,
+};
 use afdx_police::Reason;
 use afdx_receive::DropReason;
 use afdx_samples::{Break, WeakWriter, all_right, equal};
@@ -306,12 +308,21 @@ fn receptions(rt: HostRuntime) -> Result<(), Fail> {
 #[test]
 fn what_is_sent_and_what_is_checked(rt: HostRuntime) -> Result<(), Fail> {
     let mut text = Text::new(rt.alloc());
-    let sent = OutLine::Sent {
+    let sent = OutLine::Listed {
+        kind: FrameKind::Raw,
         time: 5,
         side: Side::B,
         port: 1,
         bytes: &[],
     };
+    let bad = OutLine::Listed {
+        kind: FrameKind::Bad,
+        time: 1_000_000_000_000_000,
+        side: Side::A,
+        port: 24,
+        bytes: &[3, 255],
+    };
+    let remark = OutLine::Remark { word: "not-afdx" };
     let refused = OutLine::Refused {
         n: 3,
         word: "too-large",
@@ -344,6 +355,8 @@ fn what_is_sent_and_what_is_checked(rt: HostRuntime) -> Result<(), Fail> {
         (margin, "m 24 65535 18446744073709551615 17000\n"),
         (no_bound, "m 3 2 - 18446744073709551615\n"),
         (sent, "R 5 B 1 \n"),
+        (bad, "B 1000000000000000 A 24 03ff\n"),
+        (remark, "# not-afdx\n"),
         (refused, "# 3 too-large\n"),
         (bounds, "P 24 0 18446744073709551615 1518\n"),
         (no_low, "P 1 13440 - 64\n"),
@@ -383,7 +396,8 @@ fn hundred_bytes() -> [u8; 100] {
 
 /// Puts the line of a frame of these bytes in the place of a text.
 fn put_frame(text: &mut Text, bytes: &[u8]) -> Result<(), AllocError> {
-    let line = OutLine::Sent {
+    let line = OutLine::Listed {
+        kind: FrameKind::Raw,
         time: 5,
         side: Side::A,
         port: 1,

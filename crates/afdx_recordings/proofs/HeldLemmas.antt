@@ -1,6 +1,6 @@
 -- Places of a chunk, and what reads behind them give.
 use Rattle.std.proofs.Common.{◌≡◌, Bool, true, false, ℕ, ◌+◌, ◌-◌, ◌≤◌, min, ◌^◌, cond}
-use Rattle.std.proofs.Common.{List, [], ◌++◌, length, take, drop, refl, ap, sym, ◌∙◌, arith, ◌≢◌, ◌||◌}
+use Rattle.std.proofs.Common.{List, [], ◌++◌, length, take, drop, refl, ap, sym, ◌∙◌, arith, ◌≢◌, ◌||◌, subst}
 use Rattle.std.proofs.Common.{slice_range, append_assoc}
 use Rattle.std.proofs.KnownBytes.{Consumes-trans, Consumes-nil}
 use Rattle.std.proofs.lemmas.List.{append-nil, drop-take, drop-append-le}
@@ -8,7 +8,7 @@ use Rattle.std.proofs.lemmas.Bool.{false≢true}
 use Rattle.std.proofs.lemmas.Grind.{common_steps}
 use Rattle.afdx_lists.proofs.ReaderLemmas.{read_behind, kept_before}
 use Rattle.afdx_recordings.specs.declared.held.Held.{Held}
-use Rattle.afdx_recordings.specs.Holding.{unread, Standing, Gives, Passes}
+use Rattle.afdx_recordings.specs.Holding.{unread, Standing, Gives, GivesSome, Passes}
 
 pub unread_length : (held : Held) → length (unread held) ≡ held.end - held.start
 unfolding unread
@@ -60,6 +60,9 @@ Passes-nothing old new held left over calls = record {
   parts = append-nil old.held ∙ sym held;
 }
 
+pub Gives-nothing : (at : Standing) → Gives at at []
+Gives-nothing at = record { consumed = Consumes-nil at.left; calls = omega arith }
+
 pub Gives-then : (a b c : Standing) (first next : List ℕ) → Gives a b first → Gives b c next
     → Gives a c (first ++ next)
 Gives-then a b c first next h k = record {
@@ -79,6 +82,14 @@ Passes-then a b c first next h k = record {
       ∙ ap (λ (bytes : List ℕ). first ++ bytes) k.parts
       ∙ sym (append_assoc first next c.held);
 }
+
+-- more is held
+pub Passes-more : (a b c : Standing) (passed : List ℕ) → Passes a b passed → Passes b c [] → Passes a c passed
+Passes-more a b c passed h k =
+    subst (Passes a c) (append-nil passed) (Passes-then a b c passed [] h k)
+
+pub Passes-gives : (old new : Standing) (passed : List ℕ) → Passes old new passed → GivesSome old new
+Passes-gives old new passed passes = (passes.given, passes.gives)
 
 -- what is held is passed
 pub Passes-held : (old new : Standing) (passed : List ℕ) → old.held ≡ passed ++ new.held

@@ -1,6 +1,11 @@
 pub mod OrderLemmas
 pub mod HeldLemmas
+pub mod StampLemmas
+pub mod OptionLemmas
 pub mod BlockLemmas
+pub mod HeadLemmas
+pub mod BodyLemmas
 pub mod ReadingLemmas
 pub mod PacketLemmas
+pub mod PcapngLemmas
 pub mod OpeningLemmas

@@ -11,7 +11,7 @@ use Rattle.afdx_recordings.specs.declared.form.Form.{Form}
 use Rattle.afdx_recordings.specs.declared.form.Form.TheVariants as form
 use Rattle.afdx_recordings.specs.declared.form.Magic.TheVariants as magic
 use Rattle.afdx_recordings.specs.declared.order.Order.{Order}
-use Rattle.afdx_recordings.specs.declared.order.Order.TheVariants.{HighFirst}
+use Rattle.afdx_recordings.specs.declared.order.Order.TheVariants.{LowFirst, HighFirst}
 use Rattle.afdx_recordings.specs.Orders.{number_in}
 use Rattle.afdx_recordings.specs.Holding.{Standing, Passes}
 use Rattle.afdx_recordings.specs.Recordings.{State, Ending, Over, Faulted, Numbered, lost_by}
@@ -198,6 +198,30 @@ SaysSame-opened old mid new before after order nanoseconds h passes within known
       (drop 24 mid.held ++ more) refl));
 }
 
+opening-blocks : (xs more : List ℕ) → 4 ≤ length xs → magic_of (number_in HighFirst 4 xs) ≡ Some magic.Pcapng
+    → opening (xs ++ more) ≡ Opens form.Pcapng LowFirst 0
+unfolding opening
+opening-blocks xs more within known = rw (
+  not_less (length (xs ++ more)) 4 (longer 4 xs more within),
+  number_in-append HighFirst 4 xs more within,
+  known,
+) refl
+
+-- a pcapng begins with its first block
+pub SaysSame-blocks : (old new : Standing) (before after : State) → before.form ≡ None → Passes old new []
+    → 4 ≤ length new.held → magic_of (number_in HighFirst 4 new.held) ≡ Some magic.Pcapng
+    → after ≡ record before { form = Some form.Pcapng; order = LowFirst } → SaysSame old new before after
+SaysSame-blocks old new before after h passes within known is = record {
+  given = passes.given;
+  gives = passes.gives;
+  says = λ more.
+      let all : old.held ++ passes.given ≡ new.held = passes.parts in
+      let opened : State = record before { form = Some form.Pcapng; order = LowFirst } in
+      rw (all, is) (recorded_from-opening before (new.held ++ more) h
+      ∙ ap (λ (o : Opening). from_opening o before (new.held ++ more)) (opening-blocks new.held more within known)
+      ∙ sym (recorded_from-blocks opened form.Pcapng (new.held ++ more) refl));
+}
+
 -- bytes before, those that were given first, those given next, and more
 regroup : (xs first next more : List ℕ) → (xs ++ (first ++ next)) ++ more ≡ (xs ++ first) ++ (next ++ more)
 regroup xs first next more = grind (arith, append_assoc)
@@ -242,7 +266,8 @@ Tells-then (Ok false) a b c s t u item same tells =
 Tells-then (Err (run.Recording fault)) a b c s t u item same tells =
     (tells.0, ending-then a b c s t (Faulted fault) tells.0 same tells.1)
 Tells-then (Err run.Read) a b c s t u item same tells = nothing-then a b c s t same tells
-Tells-then (Err run.Memory) a b c s t u item same tells = tt
+Tells-then (Err run.Memory) a b c s t u item same tells =
+    (same.given ++ tells.0, Gives-then a b c same.given tells.0 same.gives tells.1)
 Tells-then (Err (run.BadLine n)) a b c s t u item same tells = absurd tells
 Tells-then (Err (run.BadHex n)) a b c s t u item same tells = absurd tells
 Tells-then (Err (run.TimeBack n)) a b c s t u item same tells = absurd tells

@@ -1,6 +1,6 @@
 -- Numbers in the bytes of a recording.
-use Rattle.std.proofs.Common.{◌≡◌, ℕ, ◌+◌, ◌-◌, ◌<◌, ◌≤◌, ◌^◌, List, ◌++◌, length, take, drop, ap, ◌∙◌, arith, get_or}
-use Rattle.std.proofs.lemmas.List.{drop-append-le}
+use Rattle.std.proofs.Common.{◌≡◌, ℕ, ◌+◌, ◌-◌, ◌<◌, ◌≤◌, ◌^◌, List, ◌++◌, length, take, drop, ap, sym, ◌∙◌, arith, get_or}
+use Rattle.std.proofs.lemmas.List.{drop-append-le, take-append-drop, length-take-le}
 use Rattle.std.proofs.lemmas.Grind.{common_steps}
 use Rattle.byteorder.specs.Numbers.{big_from-append, little_from-append, big_from-lt, little_from-lt}
 use Rattle.afdx_recordings.specs.declared.order.Order.{Order}
@@ -31,3 +31,11 @@ number_at-append order n place xs ys h =
     let size : n ≤ length (drop place xs) = grind (arith, common_steps) in
     ap (number_in order n) (drop-append-le place xs ys (omega arith))
     ∙ number_in-append order n (drop place xs) ys size
+
+-- a number stands among the first bytes
+pub number_at-take : (order : Order) (n place m : ℕ) (xs : List ℕ) → place + n ≤ m → m ≤ length xs
+    → number_in order n (drop place (take m xs)) ≡ number_in order n (drop place xs)
+number_at-take order n place m xs h within =
+    let size = length-take-le m xs within in
+    sym (number_at-append order n place (take m xs) (drop m xs) (omega (arith, size)))
+    ∙ ap (λ (bytes : List ℕ). number_in order n (drop place bytes)) (take-append-drop m xs)

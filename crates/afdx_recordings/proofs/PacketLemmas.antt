@@ -1,7 +1,7 @@
 -- Frames of a pcap, by what is held.
 use Rattle.std.proofs.Common.{◌≡◌, ℕ, ◌+◌, ◌<◌, ◌≤◌, Bool, true, false, ltb, List, [], ◌++◌, length, take, drop}
 use Rattle.std.proofs.Common.{refl, ap, sym, ◌∙◌, arith, Some, None}
-use Rattle.std.proofs.lemmas.List.{append-nil, take-append-le, take-append-drop, drop-take, length-take-le}
+use Rattle.std.proofs.lemmas.List.{take-append-le, drop-take}
 use Rattle.std.proofs.lemmas.Grind.{common_steps}
 use Rattle.afdx_lists.specs.declared.recording_fault.RecordingFault.TheVariants.{Damaged, Ended}
 use Rattle.afdx_recordings.specs.declared.form.PcapForm.{PcapForm}
@@ -9,24 +9,15 @@ use Rattle.afdx_recordings.specs.declared.form.Form.TheVariants as form
 use Rattle.afdx_recordings.specs.declared.order.Order.{Order}
 use Rattle.afdx_recordings.specs.declared.recorded.Recorded.{Recorded}
 use Rattle.afdx_recordings.specs.declared.recorded.Recorded.TheVariants.{Frame}
-use Rattle.afdx_recordings.specs.Orders.{number_in}
 use Rattle.afdx_recordings.specs.Holding.{Standing, Passes}
-use Rattle.afdx_recordings.specs.Recordings.{State, Ends, Takes, Ending, Over, Faulted, Numbered, by_meaning}
+use Rattle.afdx_recordings.specs.Recordings.{State, Ends, Takes, Over, Faulted, Numbered, by_meaning}
 use Rattle.afdx_recordings.specs.Recordings.{lost_by, after_number}
 use Rattle.afdx_recordings.specs.Pcap.{captured_by, packet_meaning, pcap_frame}
 use Rattle.afdx_recordings.specs.Reading.{step_by, SaysFirst, SaysEnding, SaysNothing}
-use Rattle.afdx_recordings.proofs.OrderLemmas.{number_at-append}
+use Rattle.afdx_recordings.proofs.OrderLemmas.{number_at-append, number_at-take}
 use Rattle.afdx_recordings.proofs.HeldLemmas.{Gives-same}
 use Rattle.afdx_recordings.proofs.BlockLemmas.{next_block-whole, next_block-wrong, next_block-short, next_block-cut, next_block-over}
-use Rattle.afdx_recordings.proofs.ReadingLemmas.{SaysFirst-block, SaysEnding-block, SaysNothing-block}
-
--- a number stands among the first bytes
-pub number_at-take : (order : Order) (n place m : ℕ) (xs : List ℕ) → place + n ≤ m → m ≤ length xs
-    → number_in order n (drop place (take m xs)) ≡ number_in order n (drop place xs)
-number_at-take order n place m xs h within =
-    let size = length-take-le m xs within in
-    sym (number_at-append order n place (take m xs) (drop m xs) (omega (arith, size)))
-    ∙ ap (λ (bytes : List ℕ). number_in order n (drop place bytes)) (take-append-drop m xs)
+use Rattle.afdx_recordings.proofs.ReadingLemmas.{SaysFirst-block, SaysEnding-block, SaysEnding-here, SaysNothing-block}
 
 captured_by-take : (state : State) (xs : List ℕ) → 16 ≤ length xs
     → captured_by state (take 16 xs) ≡ captured_by state xs
@@ -103,29 +94,19 @@ cut before pcap n xs told within few =
     next_block-cut 16 (captured_by before) (packet_meaning pcap before) before.numbers xs n (omega arith)
     (captured_by-take before xs within ∙ told) within few
 
--- the input gave its end there
-pub SaysEnding-here : (old new : Standing) (before : State) (pcap : PcapForm) (ending : Ending)
-    → before.form ≡ Some (form.Pcap pcap) → Passes old new [] → new.ended ≡ true
-    → step_by (Some (form.Pcap pcap)) before new.held ≡ Ends ending
-    → SaysEnding old new before ending (lost_by before)
-SaysEnding-here old new before pcap ending h passes ended ends =
-    let all : old.held ++ passes.given ≡ new.held = passes.parts in
-    SaysEnding-block old new before (form.Pcap pcap) ending passes.given h passes.gives
-    (λ more follows. rw (all, follows ended, append-nil new.held) ends)
-
 pub SaysEnding-short : (old new : Standing) (before : State) (pcap : PcapForm)
     → before.form ≡ Some (form.Pcap pcap) → Passes old new [] → new.ended ≡ true
     → 0 < length new.held → length new.held < 16
     → SaysEnding old new before (Faulted (Ended before.numbers)) (lost_by before)
 SaysEnding-short old new before pcap h passes ended some few =
-    SaysEnding-here old new before pcap (Faulted (Ended before.numbers)) h passes ended
+    SaysEnding-here old new before (form.Pcap pcap) (Faulted (Ended before.numbers)) h passes ended
     (short before pcap new.held some few)
 
 pub SaysEnding-over : (old new : Standing) (before : State) (pcap : PcapForm)
     → before.form ≡ Some (form.Pcap pcap) → Passes old new [] → new.ended ≡ true
     → length new.held ≡ 0 → SaysEnding old new before Over (lost_by before)
 SaysEnding-over old new before pcap h passes ended none =
-    SaysEnding-here old new before pcap Over h passes ended
+    SaysEnding-here old new before (form.Pcap pcap) Over h passes ended
     (next_block-over 16 (captured_by before) (packet_meaning pcap before) before.numbers new.held none)
 
 pub SaysEnding-cut : (old new : Standing) (before : State) (pcap : PcapForm) (n : ℕ)
@@ -133,7 +114,7 @@ pub SaysEnding-cut : (old new : Standing) (before : State) (pcap : PcapForm) (n 
     → captured_by before new.held ≡ Some n → 16 ≤ length new.held → length new.held < 16 + n
     → SaysEnding old new before (Faulted (Ended before.numbers)) (lost_by before)
 SaysEnding-cut old new before pcap n h passes ended told within few =
-    SaysEnding-here old new before pcap (Faulted (Ended before.numbers)) h passes ended
+    SaysEnding-here old new before (form.Pcap pcap) (Faulted (Ended before.numbers)) h passes ended
     (cut before pcap n new.held told within few)
 
 -- the input failed there

@@ -1,7 +1,7 @@
 -- All that a recording says is what stands next, and then what the rest says.
 use Rattle.std.proofs.Common.{◌≡◌, Bool, true, false, ℕ, zero, suc, ◌<◌, ◌≤◌}
-use Rattle.std.proofs.Common.{List, ◌++◌, length, drop, refl, ap, sym, ◌∙◌, arith, subst, Option, Some, None}
-use Rattle.std.proofs.lemmas.List.{drop-append-le}
+use Rattle.std.proofs.Common.{List, [], ◌++◌, length, drop, refl, ap, sym, ◌∙◌, arith, subst, Option, Some, None}
+use Rattle.std.proofs.lemmas.List.{append-nil, drop-append-le}
 use Rattle.std.proofs.lemmas.Grind.{common_steps}
 use Rattle.afdx_recordings.specs.declared.form.Form.{Form}
 use Rattle.afdx_recordings.specs.declared.form.Form.TheVariants as form
@@ -10,18 +10,21 @@ use Rattle.afdx_lists.specs.Calls.{is_read}
 use Rattle.afdx_lists.specs.declared.fault.RunFault.{RunFault}
 use Rattle.afdx_lists.specs.declared.fault.RunFault.TheVariants as run
 use Rattle.afdx_lists.specs.declared.recording_fault.RecordingFault.TheVariants.{Ended}
-use Rattle.afdx_recordings.specs.Holding.{Standing, Gives, IsOfReading}
+use Rattle.afdx_recordings.specs.Holding.{Standing, Gives, GivesSome, Passes, IsOfReading}
 use Rattle.afdx_recordings.specs.Recordings.{State, Step, Ends, Takes, Ending, Over, Faulted, Recording, Numbered}
 use Rattle.afdx_recordings.specs.Recordings.{in_front, lost_by}
+use Rattle.afdx_recordings.specs.Pcapng.{block_head, block_rest, block_meaning}
 use Rattle.afdx_recordings.specs.Pcap.{packet_head, captured_by, packet_meaning}
 use Rattle.afdx_recordings.specs.Reading.{step_by, by_step, said_within, blocks_from, recorded_from, recorded_by}
-use Rattle.afdx_recordings.specs.Reading.{SaysFirst, SaysEnding, SaysNothing, CanFollow, is_unfinished, Tells}
+use Rattle.afdx_recordings.specs.Reading.{SaysFirst, SaysSame, SaysEnding, SaysNothing, CanFollow, is_unfinished, Tells}
 use Rattle.afdx_recordings.proofs.BlockLemmas.{IsWithin, next_block-within}
 
 step_by-within : (form : Option Form) (state : State) (bytes : List ℕ) → IsWithin bytes (step_by form state bytes)
 step_by-within None state bytes = tt
 step_by-within (Some (form.Pcap pcap)) state bytes =
     next_block-within packet_head (captured_by state) (packet_meaning pcap state) state.numbers bytes (omega arith)
+step_by-within (Some form.Pcapng) state bytes =
+    next_block-within block_head (block_rest state) (block_meaning state) state.numbers bytes (omega arith)
 
 by_step-same : (f g : State → List ℕ → Recording) (state : State) (bytes : List ℕ) (step : Step)
     → ((n : ℕ) (after : State) (item : Option Numbered) → step ≡ Takes n after item
@@ -85,6 +88,22 @@ SaysFirst-block old new before after form item n given h k gives takes within re
       ∙ ap (in_front item) (sym (recorded_from-blocks after form (new.held ++ more) k));
 }
 
+-- a block that takes none was passed
+pub SaysSame-block : (old new : Standing) (before after : State) (form : Form) (n : ℕ) (given : List ℕ)
+    → before.form ≡ Some form → after.form ≡ Some form → Gives old new given
+    → ((more : List ℕ) → step_by (Some form) before ((old.held ++ given) ++ more) ≡ Takes n after None)
+    → n ≤ length (old.held ++ given) → new.held ≡ drop n (old.held ++ given) → SaysSame old new before after
+SaysSame-block old new before after form n given h k gives takes within rest = record {
+  given = given;
+  gives = gives;
+  says = λ more.
+      recorded_from-step before form ((old.held ++ given) ++ more) h
+      ∙ ap (by_step blocks_from before ((old.held ++ given) ++ more)) (takes more)
+      ∙ ap (blocks_from after)
+      (drop-append-le n (old.held ++ given) more within ∙ ap (λ (bytes : List ℕ). bytes ++ more) (sym rest))
+      ∙ sym (recorded_from-blocks after form (new.held ++ more) k);
+}
+
 -- an end stands next
 pub SaysEnding-block : (old new : Standing) (before : State) (form : Form) (ending : Ending) (given : List ℕ)
     → before.form ≡ Some form → Gives old new given
@@ -98,6 +117,16 @@ SaysEnding-block old new before form ending given h gives ends = record {
       recorded_from-step before form ((old.held ++ given) ++ more) h
       ∙ ap (by_step blocks_from before ((old.held ++ given) ++ more)) (ends more follows);
 }
+
+-- the input gave its end there
+pub SaysEnding-here : (old new : Standing) (before : State) (form : Form) (ending : Ending)
+    → before.form ≡ Some form → Passes old new [] → new.ended ≡ true
+    → step_by (Some form) before new.held ≡ Ends ending
+    → SaysEnding old new before ending (lost_by before)
+SaysEnding-here old new before form ending h passes ended ends =
+    let all : old.held ++ passes.given ≡ new.held = passes.parts in
+    SaysEnding-block old new before form ending passes.given h passes.gives
+    (λ more follows. rw (all, follows ended, append-nil new.held) ends)
 
 -- as far as was given
 pub SaysNothing-block : (old new : Standing) (before : State) (form : Form) (ending : Ending) (given : List ℕ)
@@ -116,19 +145,19 @@ SaysNothing-block old new before form ending given h gives ends unfinished = rec
 
 -- a read failed, or there was no memory
 pub Tells-of_reading : (fault : RunFault) (old new : Standing) (before after : State) (item : Numbered)
-    → IsOfReading fault → (is_read fault ≡ true → SaysNothing old new before)
+    → IsOfReading fault → GivesSome old new → (is_read fault ≡ true → SaysNothing old new before)
     → Tells (Err fault) old new before after item
-Tells-of_reading run.Read old new before after item h says = says refl
-Tells-of_reading run.Memory old new before after item h says = tt
-Tells-of_reading (run.BadLine n) old new before after item h says = absurd h
-Tells-of_reading (run.BadHex n) old new before after item h says = absurd h
-Tells-of_reading (run.TimeBack n) old new before after item h says = absurd h
-Tells-of_reading (run.TimeTooLarge n) old new before after item h says = absurd h
-Tells-of_reading (run.BadPort n) old new before after item h says = absurd h
-Tells-of_reading (run.LineTooLong n) old new before after item h says = absurd h
-Tells-of_reading run.TooManyLines old new before after item h says = absurd h
-Tells-of_reading (run.Recording f) old new before after item h says = absurd h
-Tells-of_reading run.Write old new before after item h says = absurd h
+Tells-of_reading run.Read old new before after item h some says = says refl
+Tells-of_reading run.Memory old new before after item h some says = some
+Tells-of_reading (run.BadLine n) old new before after item h some says = absurd h
+Tells-of_reading (run.BadHex n) old new before after item h some says = absurd h
+Tells-of_reading (run.TimeBack n) old new before after item h some says = absurd h
+Tells-of_reading (run.TimeTooLarge n) old new before after item h some says = absurd h
+Tells-of_reading (run.BadPort n) old new before after item h some says = absurd h
+Tells-of_reading (run.LineTooLong n) old new before after item h some says = absurd h
+Tells-of_reading run.TooManyLines old new before after item h some says = absurd h
+Tells-of_reading (run.Recording f) old new before after item h some says = absurd h
+Tells-of_reading run.Write old new before after item h some says = absurd h
 
 -- the input ended between two blocks, or within a head
 pub Tells-end : (result : Result Bool RunFault) (old new : Standing) (before after : State) (item : Numbered)

@@ -43,6 +43,10 @@ pub record Gives (old new : Standing) (given : List ℕ) : Type 0 where
   pub consumed : Consumes old.left new.left given
   pub calls : new.calls + last_calls old ≤ old.calls + length given + last_calls new
 
+-- it gave some bytes
+abbrev pub GivesSome : Standing → Standing → Type 0
+GivesSome old new = (given : List ℕ) × Gives old new given
+
 -- and these are held no more
 pub record Passes (old new : Standing) (passed : List ℕ) : Type 0 where
   pub given : List ℕ

@@ -2,5 +2,11 @@ pub mod Orders
 pub mod Holding
 pub mod Recordings
 pub mod Stamps
+pub mod Options
 pub mod Pcap
+pub mod Interfaces
+pub mod Packets
+pub mod Blocks
+pub mod Pcapng
 pub mod Reading
+pub mod Beginning

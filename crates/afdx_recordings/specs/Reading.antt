@@ -1,5 +1,5 @@
 -- All that a recording says, from its bytes.
-use Rattle.std.specs.Prelude.{ℕ, zero, suc, Bool, true, false, ◌≡◌, ◌==◌, ◌++◌, List, [], length, drop, nat_lt, Option, Some, None, Result, Ok, Err, if◌then◌else◌}
+use Rattle.std.specs.Prelude.{ℕ, zero, suc, Bool, true, false, ◌≡◌, ◌+◌, ◌==◌, ◌++◌, List, [], length, drop, nat_lt, Option, Some, None, Result, Ok, Err, if◌then◌else◌}
 use Rattle.afdx_lists.specs.declared.fault.RunFault.{RunFault}
 use Rattle.afdx_lists.specs.declared.fault.RunFault.TheVariants as run
 use Rattle.afdx_lists.specs.declared.recording_fault.RecordingFault.{RecordingFault}
@@ -12,9 +12,11 @@ use Rattle.afdx_recordings.specs.declared.form.Magic.{Magic}
 use Rattle.afdx_recordings.specs.declared.form.Magic.TheVariants as magic
 use Rattle.afdx_recordings.specs.declared.frame_reader.FrameReader.{FrameReader}
 use Rattle.afdx_recordings.specs.Orders.{number_in}
-use Rattle.afdx_recordings.specs.Holding.{Standing, Gives, lent}
-use Rattle.afdx_recordings.specs.Recordings.{State, Step, Ends, Takes, Ending, Over, Faulted, Recording, Numbered}
+use Rattle.afdx_recordings.specs.Holding.{Standing, Gives, GivesSome, lent}
+use Rattle.afdx_recordings.specs.Recordings.{State, Step, Meaning, Wrong, Says, Ends, Takes, Ending, Over, Faulted, Recording, Numbered}
 use Rattle.afdx_recordings.specs.Recordings.{no_more, in_front, at_start, lost_by, next_block}
+use Rattle.afdx_recordings.specs.Recordings.{state_of_known}
+use Rattle.afdx_recordings.specs.Pcapng.{block_head, block_rest, block_meaning}
 use Rattle.afdx_recordings.specs.Pcap.{packet_head, pcap_head, captured_by, packet_meaning, pcap_form, is_pcap_version}
 
 -- what the first four bytes name, the highest first
@@ -24,6 +26,7 @@ magic_of number =
     else if number == 0xd4c3b2a1 then Some (magic.Pcap LowFirst false)
     else if number == 0xa1b23c4d then Some (magic.Pcap HighFirst true)
     else if number == 0x4d3cb2a1 then Some (magic.Pcap LowFirst true)
+    else if number == 0x0a0d0d0a then Some magic.Pcapng
     else None
 
 -- how a recording begins: with a fault, or with so many bytes before its first block
@@ -38,6 +41,8 @@ opening_by (Some (magic.Pcap order nanoseconds)) bytes =
     else if is_pcap_version order bytes
     then Opens (form.Pcap (pcap_form order nanoseconds bytes)) order pcap_head
     else Refused (BadVersion 0)
+-- a pcapng begins with a block
+opening_by (Some magic.Pcapng) bytes = Opens form.Pcapng LowFirst 0
 
 unfoldable pub opening : List ℕ → Opening
 opening bytes =
@@ -49,6 +54,8 @@ abbrev pub step_by : Option Form → State → List ℕ → Step
 step_by None state bytes = Ends (Faulted (NotRecording 0))
 step_by (Some (form.Pcap pcap)) state bytes =
     next_block packet_head (captured_by state) (packet_meaning pcap state) state.numbers bytes
+step_by (Some form.Pcapng) state bytes =
+    next_block block_head (block_rest state) (block_meaning state) state.numbers bytes
 
 abbrev pub by_step : (State → List ℕ → Recording) → State → List ℕ → Step → Recording
 by_step next state bytes (Ends ending) = no_more ending (lost_by state)
@@ -84,14 +91,7 @@ recorded bytes = recorded_from at_start bytes
 
 -- the state of a reader
 abbrev pub state_of : FrameReader → State
-state_of reader = record {
-  form = reader.form;
-  order = reader.order;
-  interfaces = reader.interfaces.items;
-  lost = reader.lost_before;
-  numbers = reader.numbers;
-  blocks = reader.blocks;
-}
+state_of reader = state_of_known reader.known
 
 -- what took the last number
 abbrev pub latest : FrameReader → Numbered
@@ -149,5 +149,28 @@ Tells (Ok false) old new before after item =
 Tells (Err (run.Recording fault)) old new before after item =
     (lost : ℕ) × SaysEnding old new before (Faulted fault) lost
 Tells (Err run.Read) old new before after item = SaysNothing old new before
-Tells (Err run.Memory) old new before after item = Unit {0}
+Tells (Err run.Memory) old new before after item = GivesSome old new
 Tells (Err _) old new before after item = ⊥
+
+-- what a block means: it takes a number or none, or it is wrong
+abbrev pub Meant : Meaning → Result Bool RunFault → State → Numbered → Type 0
+Meant meaning (Ok true) after item = meaning ≡ Says after (Some item)
+Meant meaning (Ok false) after item = meaning ≡ Says after None
+Meant meaning (Err (run.Recording fault)) after item = meaning ≡ Wrong fault
+Meant meaning (Err run.Memory) after item = Unit {0}
+Meant meaning (Err _) after item = ⊥
+
+-- the answer to a call for the next block, which took a number or none
+abbrev pub TellsBlock : Result Bool RunFault → (old new : Standing) → (before after : State)
+    → Numbered → Type 0
+TellsBlock (Ok true) old new before after item = SaysFirst old new before after item
+TellsBlock (Ok false) old new before after item = SaysSame old new before after
+TellsBlock (Err fault) old new before after item = Tells (Err fault) old new before after item
+
+-- it counts as a block, and as a number if it took one
+abbrev pub CountsBlock : Result Bool RunFault → State → State → Type 0
+CountsBlock (Ok true) before after =
+    (after.numbers ≡ before.numbers + 1) × (after.blocks ≡ before.blocks + 1)
+CountsBlock (Ok false) before after =
+    (after.numbers ≡ before.numbers) × (after.blocks ≡ before.blocks + 1)
+CountsBlock (Err fault) before after = after.numbers ≡ before.numbers

@@ -5,6 +5,7 @@ use Rattle.afdx_lists.specs.declared.recording_fault.RecordingFault.TheVariants.
 use Rattle.afdx_recordings.specs.declared.recorded.Recorded.{Recorded}
 use Rattle.afdx_recordings.specs.declared.interface.Interface.{Interface}
 use Rattle.afdx_recordings.specs.declared.form.Form.{Form}
+use Rattle.afdx_recordings.specs.declared.known.Known.{Known}
 use Rattle.afdx_recordings.specs.declared.order.Order.{Order}
 use Rattle.afdx_recordings.specs.declared.order.Order.TheVariants.{LowFirst}
 
@@ -53,6 +54,17 @@ pub record State : Type 0 where
   pub lost : ℕ
   pub numbers : ℕ
   pub blocks : ℕ
+
+-- as the program keeps it
+abbrev pub state_of_known : Known → State
+state_of_known known = record {
+  form = known.form;
+  order = known.order;
+  interfaces = known.interfaces.items;
+  lost = known.lost_before;
+  numbers = known.numbers;
+  blocks = known.blocks;
+}
 
 -- before the first byte
 abbrev pub at_start : State

@@ -23,6 +23,8 @@ pub struct PcapForm {
 pub enum Form {
     /// A pcap.
     Pcap(PcapForm),
+    /// A pcapng.
+    Pcapng,
 }
 
 /// What the first four bytes name.
@@ -30,6 +32,8 @@ pub enum Form {
 pub enum Magic {
     /// A pcap: its order of bytes, and whether fractions are in ns.
     Pcap(Order, bool),
+    /// A pcapng.
+    Pcapng,
 }
 
 /// What this number names: the first four bytes, the highest first.
@@ -42,6 +46,7 @@ pub fn magic_named(number: u32) -> Option<Magic>
         0xd4c3_b2a1 => Some(Magic::Pcap(Order::LowFirst, false)),
         0xa1b2_3c4d => Some(Magic::Pcap(Order::HighFirst, true)),
         0x4d3c_b2a1 => Some(Magic::Pcap(Order::LowFirst, true)),
+        0x0a0d_0d0a => Some(Magic::Pcapng),
         _ => None,
     }
 }
@@ -57,7 +62,7 @@ pub fn is_known_version(order: Order, header: &[u8]) -> bool
 
 /// Whether frames end with their check sequence that have so many bytes of it.
 #[tactic(auto, unfolding(crate::specs::Pcap::check_sequence_of))]
-pub fn check_by(bytes: u32) -> CheckSequence
+pub fn check_by(bytes: u64) -> CheckSequence
     ensures { result ≡ check_sequence_of bytes }
 {
     match bytes {
@@ -73,7 +78,7 @@ fn check_by_word(word: u32) -> CheckSequence
     ensures { result ≡ pcap_check word }
 {
     if word / 0x400_0000 % 2 == 1 {
-        check_by(2 * (word / 0x1000_0000))
+        check_by(u64::from(2 * (word / 0x1000_0000)))
     } else {
         CheckSequence::Unsaid
     }

@@ -1,12 +1,14 @@
 //! The frames of a recording, one at a time.
 
+mod blocks;
+
 ghost use Rattle.std.specs.Prelude.{◌≡◌, ◌≤◌, ◌<◌, ◌+◌, ◌-◌, [], List, ℕ, Ok, Err, Some, None, length, take, drop};
 ghost use Rattle.std.specs.Prelude.{vec_len, true, false, IfOk, IfErr, OnOk, MatchResult};
 ghost use Rattle.afdx_lists.specs.Calls.{is_failed_read};
 
 use crate::form::{Form, Magic, PcapForm, form_of, is_known_version, magic_named};
 use crate::held::Held;
-use crate::interface::Interface;
+use crate::known::{Known, MOST_NUMBERS};
 use crate::order::Order;
 use crate::packet::frame_of;
 use crate::recorded::Recorded;
@@ -14,8 +16,6 @@ use afdx_lists::{RecordingFault, RunFault, Watched};
 use std::alloc::{AllocError, Global};
 use std::io::Read;
 
-/// The most numbers, and the most blocks.
-const MOST_NUMBERS: u64 = 100_000_000_000_000_000;
 /// The most bytes that are captured of a frame.
 const LONGEST_CAPTURE: u32 = 262_144;
 /// The bytes that tell the form.
@@ -29,15 +29,8 @@ const PACKET_HEAD: usize = 16;
 #[derive(Debug, Drop)]
 pub struct FrameReader {
     held: Held,
-    form: Option<Form>,
-    order: Order,
-    interfaces: Vec<Interface>,
-    lost_before: u64,
-    numbers: u64,
-    blocks: u64,
+    known: Known,
     recorded: Recorded,
-    ghost few: { numbers ≤ blocks },
-    ghost within: { blocks ≤ 100000000000000000 },
 }
 
 impl FrameReader {
@@ -56,12 +49,7 @@ impl FrameReader {
     {
         Ok(FrameReader {
             held: Held::new(alloc)?,
-            form: None,
-            order: Order::LowFirst,
-            interfaces: Vec::new(alloc),
-            lost_before: 0,
-            numbers: 0,
-            blocks: 0,
+            known: Known::new(alloc),
             recorded: Recorded::NoFrame,
         })
     }
@@ -70,7 +58,7 @@ impl FrameReader {
     pub fn number(&self) -> u64
         ensures { result ≡ (state_of self.now).numbers }
     {
-        self.numbers
+        self.known.numbers
     }
 
     /// What took it.
@@ -93,12 +81,7 @@ impl FrameReader {
     pub fn lost(&self) -> u64
         ensures { result ≡ lost_by (state_of self.now) }
     {
-        let mut lost = self.lost_before;
-        for interface in &self.interfaces {
-            lost = lost.saturating_add(interface.interface_lost);
-            lost = lost.saturating_add(interface.system_lost);
-        }
-        lost
+        self.known.lost()
     }
 
     /// Takes the next number. False: there is none, and the input gave its end.
@@ -118,7 +101,7 @@ impl FrameReader {
             (state_of self.new).numbers ≡ (state_of self.old).numbers + 1 }
         ensures few { (state_of self.new).numbers ≤ most_numbers }
     {
-        match self.form {
+        match self.known.form {
             Some(form) => self.next_of(form, input),
             None => {
                 let form = self.open(input)?;
@@ -131,7 +114,7 @@ impl FrameReader {
     fn next_of<R: Read>(&mut self, form: Form, input: &mut Watched<R>) -> Result<bool, RunFault>
         requires sound { has_failed input.old ≡ false }
         requires honest { IsTrueToEnd (standing R.remaining self.old.held input.old) }
-        requires form { self.old.form ≡ Some form }
+        requires form { self.old.known.form ≡ Some form }
         ensures honest { IsTrueToEnd (standing R.remaining self.new.held input.new) }
         ensures failed { has_failed input.new ≡ is_failed_read result }
         ensures tells { Tells result (standing R.remaining self.old.held input.old)
@@ -143,6 +126,7 @@ impl FrameReader {
     {
         match form {
             Form::Pcap(pcap) => self.next_packet(pcap, input),
+            Form::Pcapng => self.next_in_blocks(input),
         }
     }
 
@@ -150,10 +134,10 @@ impl FrameReader {
     fn open<R: Read>(&mut self, input: &mut Watched<R>) -> Result<Form, RunFault>
         requires sound { has_failed input.old ≡ false }
         requires honest { IsTrueToEnd (standing R.remaining self.old.held input.old) }
-        requires form { self.old.form ≡ None }
+        requires form { self.old.known.form ≡ None }
         ensures honest { IsTrueToEnd (standing R.remaining self.new.held input.new) }
         ensures failed { has_failed input.new ≡ is_failed_read result }
-        ensures form { IfOk result (λ form. self.new.form ≡ Some form) }
+        ensures form { IfOk result (λ form. self.new.known.form ≡ Some form) }
         ensures number { (state_of self.new).numbers ≡ (state_of self.old).numbers }
         ensures opens { IfOk result (λ form. SaysSame
             (standing R.remaining self.old.held input.old)
@@ -170,6 +154,11 @@ impl FrameReader {
         let number = Order::HighFirst.word(self.held.bytes(), 0);
         match magic_named(number) {
             Some(Magic::Pcap(order, nanoseconds)) => self.open_pcap(order, nanoseconds, input),
+            Some(Magic::Pcapng) => {
+                self.known.order = Order::LowFirst;
+                self.known.form = Some(Form::Pcapng);
+                Ok(Form::Pcapng)
+            }
             None => Err(RunFault::Recording(RecordingFault::NotRecording(0))),
         }
     }
@@ -183,13 +172,13 @@ impl FrameReader {
     ) -> Result<Form, RunFault>
         requires sound { has_failed input.old ≡ false }
         requires honest { IsTrueToEnd (standing R.remaining self.old.held input.old) }
-        requires form { self.old.form ≡ None }
+        requires form { self.old.known.form ≡ None }
         requires held { 4 ≤ length (unread self.old.held) }
         requires magic { magic_of (number_in Order.HighFirst 4 (unread self.old.held))
             ≡ Some (Magic.Pcap order nanoseconds) }
         ensures honest { IsTrueToEnd (standing R.remaining self.new.held input.new) }
         ensures failed { has_failed input.new ≡ is_failed_read result }
-        ensures form { IfOk result (λ form. self.new.form ≡ Some form) }
+        ensures form { IfOk result (λ form. self.new.known.form ≡ Some form) }
         ensures number { (state_of self.new).numbers ≡ (state_of self.old).numbers }
         ensures opens { IfOk result (λ form. SaysSame
             (standing R.remaining self.old.held input.old)
@@ -208,8 +197,8 @@ impl FrameReader {
         }
         let pcap = form_of(order, nanoseconds, self.held.bytes());
         self.held.pass(PCAP_HEAD, 0, 0);
-        self.order = order;
-        self.form = Some(Form::Pcap(pcap));
+        self.known.order = order;
+        self.known.form = Some(Form::Pcap(pcap));
         Ok(Form::Pcap(pcap))
     }
 
@@ -221,7 +210,7 @@ impl FrameReader {
     ) -> Result<bool, RunFault>
         requires sound { has_failed input.old ≡ false }
         requires honest { IsTrueToEnd (standing R.remaining self.old.held input.old) }
-        requires form { self.old.form ≡ Some (Pcap form) }
+        requires form { self.old.known.form ≡ Some (Pcap form) }
         ensures honest { IsTrueToEnd (standing R.remaining self.new.held input.new) }
         ensures failed { has_failed input.new ≡ is_failed_read result }
         ensures tells { Tells result (standing R.remaining self.old.held input.old)
@@ -238,9 +227,10 @@ impl FrameReader {
         if !self.held.fill(input, length)? {
             return Err(self.ended());
         }
-        let frame = frame_of(form, self.order, self.held.bytes());
+        let frame = frame_of(form, self.known.order, self.held.bytes());
         self.held.pass(length, PACKET_HEAD, length);
-        self.give(Recorded::Frame(frame));
+        self.known.count_number();
+        self.recorded = Recorded::Frame(frame);
         Ok(true)
     }
 
@@ -248,17 +238,17 @@ impl FrameReader {
     #[tactic(auto, unfolding(crate::specs::Pcap::captured_by))]
     fn captured(&self) -> Result<u32, RunFault>
         requires { 16 ≤ length (unread self.now.held) }
-        ensures few { OnOk result (self.now.blocks < 100000000000000000) }
+        ensures few { OnOk result (self.now.known.blocks < 100000000000000000) }
         ensures told { MatchResult result
             (λ n. captured_by (state_of self.now) (unread self.now.held) ≡ Some n)
-            (λ fault. (fault ≡ RunFault.Recording (RecordingFault.Damaged self.now.numbers))
+            (λ fault. (fault ≡ RunFault.Recording (RecordingFault.Damaged self.now.known.numbers))
             × (captured_by (state_of self.now) (unread self.now.held) ≡ None)) }
     {
-        let captured = self.order.word(self.held.bytes(), 8);
-        if self.blocks < MOST_NUMBERS && captured <= LONGEST_CAPTURE {
+        let captured = self.known.order.word(self.held.bytes(), 8);
+        if self.known.blocks < MOST_NUMBERS && captured <= LONGEST_CAPTURE {
             Ok(captured)
         } else {
-            Err(RunFault::Recording(RecordingFault::Damaged(self.numbers)))
+            Err(RunFault::Recording(RecordingFault::Damaged(self.known.numbers)))
         }
     }
 
@@ -266,7 +256,7 @@ impl FrameReader {
     fn end(&self) -> Result<bool, RunFault>
         ensures over { length (unread self.now.held) ≡ 0 → result ≡ Ok false }
         ensures ended { 0 < length (unread self.now.held) →
-            result ≡ Err (RunFault.Recording (RecordingFault.Ended self.now.numbers)) }
+            result ≡ Err (RunFault.Recording (RecordingFault.Ended self.now.known.numbers)) }
     {
         if self.held.count() == 0 {
             return Ok(false);
@@ -276,20 +266,8 @@ impl FrameReader {
 
     /// The fault of a recording that ends here.
     fn ended(&self) -> RunFault
-        ensures { result ≡ RunFault.Recording (RecordingFault.Ended self.now.numbers) }
+        ensures { result ≡ RunFault.Recording (RecordingFault.Ended self.now.known.numbers) }
     {
-        RunFault::Recording(RecordingFault::Ended(self.numbers))
-    }
-
-    /// Counts a number.
-    fn give(&mut self, recorded: Recorded)
-        requires { self.old.blocks < 100000000000000000 }
-        ensures held { self.new.held ≡ self.old.held }
-        ensures state { state_of self.new ≡ after_number (state_of self.old) }
-        ensures recorded { self.new.recorded ≡ recorded }
-    {
-        self.recorded = recorded;
-        self.numbers += 1;
-        self.blocks += 1;
+        RunFault::Recording(RecordingFault::Ended(self.known.numbers))
     }
 }

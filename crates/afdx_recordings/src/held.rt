@@ -113,13 +113,13 @@ impl Held {
     }
 
     /// Passes `n` bytes, which needn't be held at once. False: there were fewer, and the input gave
-    /// its end.
+    /// its end. `Read` comes where the input failed and there were fewer so far.
     pub fn skip<R: Read>(&mut self, input: &mut Watched<R>, n: usize) -> Result<bool, RunFault>
         requires sound { has_failed input.old ≡ false }
         requires honest { IsTrueToEnd (standing R.remaining self.old input.old) }
         ensures honest { IsTrueToEnd (standing R.remaining self.new input.new) }
         ensures failed { has_failed input.new ≡ is_failed_read result }
-        ensures fault { IfErr result IsOfReading }
+        ensures fault { IfErr result (λ fault. fault ≡ RunFault.Read) }
         ensures all { result ≡ Ok true → (passed : List ℕ)
             × Passes (standing R.remaining self.old input.old)
             (standing R.remaining self.new input.new) passed

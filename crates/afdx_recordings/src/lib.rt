@@ -3,14 +3,20 @@
 //! Its tests are in `afdx_part_tests`.
 #![tactic(auto)]
 
+mod beginning;
+mod block;
+mod block_packet;
 mod form;
 mod frame_reader;
 mod held;
 mod interface;
+mod known;
+mod options;
 mod order;
 mod packet;
 mod recorded;
 mod stamp;
 
+pub use beginning::is_recording;
 pub use frame_reader::FrameReader;
 pub use recorded::{CheckSequence, Recorded, RecordedFrame, Stamp};

@@ -1,7 +1,7 @@
 //! The order of the bytes of a number.
 
-ghost use Rattle.std.specs.Prelude.{◌≡◌, ◌≤◌, ◌+◌, length};
-ghost use Rattle.afdx_recordings.specs.Orders.{half_at, word_at};
+ghost use Rattle.std.specs.Prelude.{◌≡◌, ◌≤◌, ◌<◌, ◌+◌, ◌^◌, length, drop};
+ghost use Rattle.afdx_recordings.specs.Orders.{half_at, number_in, word_at};
 
 use byteorder::{BigEndian, ByteOrder, LittleEndian};
 
@@ -36,6 +36,21 @@ impl Order {
         match self {
             Order::LowFirst => LittleEndian::read_u32(from),
             Order::HighFirst => BigEndian::read_u32(from),
+        }
+    }
+
+    /// The number of so many bytes that stands there.
+    pub fn number(self, bytes: &[u8], place: usize, size: usize) -> u64
+        requires some { 1 ≤ size }
+        requires few { size ≤ 8 }
+        requires held { place + size ≤ length bytes.now }
+        ensures value { result ≡ number_in self size (drop place bytes.now) }
+        ensures within { result < 256 ^ size }
+    {
+        let from = &bytes[place..];
+        match self {
+            Order::LowFirst => LittleEndian::read_uint(from, size),
+            Order::HighFirst => BigEndian::read_uint(from, size),
         }
     }
 }

@@ -20,7 +20,9 @@ use Rattle.afdx_run.specs.Lists.{items_of, latest_in, with_item}
 use Rattle.afdx_run.specs.Listed.{frames, arrival_at, said_after, arrivals_of}
 use Rattle.afdx_replay.specs.replaying.Promises.{IsListed, ArrivalsAreListed}
 use Rattle.afdx_promises.specs.Lines.{IsIn}
-use Rattle.afdx_replay.specs.replaying.PromisedRun.{WritesPromisedSoFar, WritesPromisedSome, PromisedAnswers}
+use Rattle.afdx_replay.specs.replaying.PromisedRun.{IsAsPromised, WritesPromisedSoFar, WritesPromisedSome, PromisedAnswers}
+use Rattle.afdx_network.specs.Order.{events_of}
+use Rattle.afdx_replay.specs.replaying.Text.{replay_text, replay_counts}
 use Rattle.afdx_replay.specs.replaying.Replayed.{WritesSoFar, WritesSome, Answers}
 use Rattle.afdx_replay.specs.declared.summary.Summary.{Summary}
 use Rattle.afdx_run.proofs.RunLemmas.{stops-more}
@@ -87,6 +89,47 @@ arrivals-listed list (suc n) x h = by (said_after (arrivals_of list n) (slice_in
 
 -- ---- what is told
 
+pub as-promised : (t : Rows) (arrivals : List Arrival) (old new : Option (List ℕ)) (summary : Summary) → IsLawful t
+    → IsAdmittedRun t arrivals → Appends old new (replay_text t (events_of t arrivals))
+    → summary.lost ≡ (replay_counts t (events_of t arrivals)).lost
+    → summary.too_old ≡ (replay_counts t (events_of t arrivals)).too_old
+    → IsAsPromised t arrivals old new summary
+as-promised t arrivals old new summary lawful run written lost old_are =
+    let told = replay-promised t arrivals lawful run in
+    let none = none-counted t arrivals run in
+    record {
+      lines = told.lines;
+      written = subst (Appends old new) told.written written;
+      promises = told.promises;
+      accepted = told.accepted;
+      once = told.once;
+      once_so_far = told.once_so_far;
+      none_lost = lost ∙ none.lost;
+      none_old = old_are ∙ none.too_old;
+    }
+
+pub so-far-promised : (t : Rows) (arrivals : List Arrival) (old new : Option (List ℕ)) → IsAdmittedRun t arrivals
+    → WritesSoFar t old new arrivals → WritesPromisedSoFar t old new arrivals
+so-far-promised t arrivals old new run written =
+    let told = so-far-told t arrivals run in
+    record {
+      lines = told.lines;
+      written = subst (Appends old new) told.written written;
+      promises = told.promises;
+      accepted = told.accepted;
+    }
+
+pub some-promised : (t : Rows) (arrivals : List Arrival) (old new : Option (List ℕ)) → IsLawful t
+    → IsAdmittedRun t arrivals → WritesSome t old new arrivals → WritesPromisedSome t old new arrivals
+some-promised t arrivals old new lawful run written =
+    let told = replay-promised t arrivals lawful run in
+    record {
+      lines = told.lines;
+      written = subst (AppendsFront old new) told.written written;
+      promises = told.promises;
+      accepted = told.accepted;
+    }
+
 module _ (t : Rows) (bytes : List ℕ) (old new : Option (List ℕ)) (lawful : IsLawful t) (admitted : IsAdmitted t) where
   run-of : (n : ℕ) → IsAdmittedRun t (arrivals_of (lines_of bytes) n)
   run-of n = record {
@@ -97,25 +140,11 @@ module _ (t : Rows) (bytes : List ℕ) (old new : Option (List ℕ)) (lawful : I
 
   all-told : (n : ℕ) → WritesSoFar t old new (arrivals_of (lines_of bytes) n)
       → WritesPromisedSoFar t old new (arrivals_of (lines_of bytes) n)
-  all-told n written =
-      let told = so-far-told t (arrivals_of (lines_of bytes) n) (run-of n) in
-      record {
-        lines = told.lines;
-        written = subst (Appends old new) told.written written;
-        promises = told.promises;
-        accepted = told.accepted;
-      }
+  all-told n written = so-far-promised t (arrivals_of (lines_of bytes) n) old new (run-of n) written
 
   some-told : (n : ℕ) → WritesSome t old new (arrivals_of (lines_of bytes) n)
       → WritesPromisedSome t old new (arrivals_of (lines_of bytes) n)
-  some-told n written =
-      let told = replay-promised t (arrivals_of (lines_of bytes) n) lawful (run-of n) in
-      record {
-        lines = told.lines;
-        written = subst (AppendsFront old new) told.written written;
-        promises = told.promises;
-        accepted = told.accepted;
-      }
+  some-told n written = some-promised t (arrivals_of (lines_of bytes) n) old new lawful (run-of n) written
 
   pub promised-answers : (rest : Option (List ℕ)) (r : Result Summary RunFault)
       → Answers t bytes rest old new r → PromisedAnswers t bytes rest old new r
@@ -124,19 +153,11 @@ module _ (t : Rows) (bytes : List ℕ) (old new : Option (List ℕ)) (lawful : I
       (WritesPromisedSome t old new) bytes rest all-told some-told fault stops
   promised-answers rest (Ok summary) all =
       let list = lines_of bytes in
-      let told = replay-promised t (arrivals_of list (length list)) lawful (run-of (length list)) in
-      let none = none-counted t (arrivals_of list (length list)) (run-of (length list)) in
       record {
         sound = all.sound;
         listed = arrivals-listed list (length list);
-        lines = told.lines;
-        written = subst (Appends old new) told.written all.written;
-        promises = told.promises;
-        accepted = told.accepted;
-        once = told.once;
-        once_so_far = told.once_so_far;
-        none_lost = ap (λ (s : Summary). s.lost) all.counted ∙ none.lost;
-        none_old = ap (λ (s : Summary). s.too_old) all.counted ∙ none.too_old;
+        promised = as-promised t (arrivals_of list (length list)) old new summary lawful (run-of (length list))
+            all.written (ap (λ (s : Summary). s.lost) all.counted) (ap (λ (s : Summary). s.too_old) all.counted);
       }
 
 -- where the input's bytes are known

@@ -473,6 +473,6 @@ written-is-sent t sender s given text sends stands sent early = (
 pub runs-tell-taken : Laws → RunsTellTakenOnce
 runs-tell-taken laws t sender s given text bytes old new sends replays lawful admitted stands sent early holds tells =
     let w = written-is-sent t sender s given text sends stands sent early in
-    taken-is-told laws t (lines_of bytes) tells.lines lawful admitted tells.sound tells.once sender
+    taken-is-told laws t (lines_of bytes) tells.promised.lines lawful admitted tells.sound tells.promised.once sender
     s (lines_of given) sent.writes.events w.0
     (subst (λ (z : List ℕ). HoldsText s (lines_of bytes) z) w.1 holds)

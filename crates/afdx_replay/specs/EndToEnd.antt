@@ -111,7 +111,7 @@ RunsTellTakenOnce = (t : Rows) (sender : ℕ) (s : SystemRow) (given text bytes 
     AllByRecursion (λ turn. turn.end ≤ latest_listed) (turns_in sent.writes.events) →
     HoldsText s (lines_of bytes) text →
     (told : WritesPromised t (lines_of bytes) old new replays) →
-    EachIsToldAsTaken t sender sent.writes.events told.lines
+    EachIsToldAsTaken t sender sent.writes.events told.promised.lines
 
 -- A text of at most a million lines is itself such a list, which holds it.
 abbrev pub TextsAreLists : Type 0

@@ -1,7 +1,10 @@
 pub mod Commands
 pub mod CheckText
+pub mod SolveText
 pub mod Refusals
 pub mod EndToEnd
+pub mod Inputs
+pub mod Listing
 pub mod Merged
 pub mod OneSide
 pub mod policing

@@ -3,3 +3,4 @@ pub mod Text
 pub mod Told
 pub mod Policed
 pub mod Accounts
+pub mod Input

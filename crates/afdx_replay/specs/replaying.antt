@@ -7,3 +7,6 @@ pub mod Command
 pub mod Promises
 pub mod PromisedRun
 pub mod DefinedRun
+pub mod Input
+pub mod InputCommand
+pub mod Tables

@@ -6,9 +6,11 @@ ghost use Rattle.std.specs.Io.KnownBytes.{Keeps};
 ghost use Rattle.afdx_text.specs.Outputs.{written, held_bytes, device_has_failed};
 ghost use Rattle.afdx_text.specs.Telling.{TellsLine};
 ghost use Rattle.afdx_replay.specs.Commands.{status_of_answer};
+ghost use Rattle.afdx_replay.specs.Inputs.{summary_in, tally_in};
 
 use crate::status::DONE;
-use crate::summary::Summary;
+use crate::summary::{InputSummary, Summary};
+use afdx_arrivals::Tally;
 use afdx_lists::{RunFault, Watched};
 use afdx_text::{Output, tell_fault};
 use std::io::Write;
@@ -33,6 +35,29 @@ impl Ended {
     }
 }
 
+/// How a command over a list or a recording ended.
+#[derive(Clone, Copy, Debug, PartialEq, Eq)]
+pub struct InputEnded {
+    /// Its exit status, and the counts of the run.
+    pub ended: Ended,
+    /// If the status is 0 and it was a recording: how many numbers were skipped, and why.
+    pub tally: Option<Tally>,
+}
+
+impl InputEnded {
+    /// A command that has nothing to count: it ended with a fault.
+    pub(crate) fn without_counts(status: u8) -> InputEnded
+        ensures status { result.ended.status ≡ status }
+        ensures summary { result.ended.summary ≡ None }
+        ensures tally { result.tally ≡ None }
+    {
+        InputEnded {
+            ended: Ended::without_counts(status),
+            tally: None,
+        }
+    }
+}
+
 /// Tells `errors` the fault of a run in one line, if it has one.
 pub fn end<E: Write>(answer: Result<Summary, RunFault>, errors: &mut Watched<E>) -> Ended
     ensures status { result.status ≡ status_of_answer answer }
@@ -50,6 +75,30 @@ pub fn end<E: Write>(answer: Result<Summary, RunFault>, errors: &mut Watched<E>)
             tell_fault(errors, &fault);
             Ended::without_counts(fault.status())
         }
+    }
+}
+
+/// The same of a run over a list or a recording.
+pub(crate) fn end_input<E: Write>(
+    answer: Result<InputSummary, RunFault>,
+    errors: &mut Watched<E>,
+) -> InputEnded
+    ensures status { result.ended.status ≡ status_of_answer (summary_in answer) }
+    ensures summary { result.ended.summary ≡ result_ok (summary_in answer) }
+    ensures tally { result.tally ≡ tally_in answer }
+    ensures counts { IsSome result.ended.summary ↔ (result.ended.status ≡ 0) }
+    ensures told { OnErr (summary_in answer) (TellsLine E.contents errors.old errors.new) }
+    ensures silent { OnOk (summary_in answer) (errors.new ≡ errors.old) }
+{
+    match answer {
+        Ok(all) => InputEnded {
+            ended: end(Ok(all.summary), errors),
+            tally: all.tally,
+        },
+        Err(fault) => InputEnded {
+            ended: end(Err(fault), errors),
+            tally: None,
+        },
     }
 }
 

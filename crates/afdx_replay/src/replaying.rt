@@ -3,5 +3,8 @@
 pub mod admitted;
 pub mod command;
 mod explained;
+pub mod input;
+pub mod input_command;
 mod lines;
 pub mod run;
+mod tables;

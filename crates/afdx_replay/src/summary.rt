@@ -1,5 +1,9 @@
 //! The counts of a run.
 
+ghost use Rattle.std.specs.Prelude.{◌≡◌};
+ghost use Rattle.afdx_replay.specs.Inputs as inputs;
+
+use afdx_arrivals::{InputCount, Tally};
 use std::fmt;
 
 /// What a run counted. A count that has no meaning in a run stays 0.
@@ -52,5 +56,35 @@ impl fmt::Display for Summary {
             self.too_old,
             self.delivered
         )
+    }
+}
+
+/// What a run over an input counted that is a list of frames, or a recording.
+#[derive(Clone, Copy, Debug, PartialEq, Eq)]
+pub struct InputSummary {
+    /// The counts of the run; of a recording the lines are its numbers.
+    pub summary: Summary,
+    /// If it was a recording: how many numbers were skipped, and why.
+    pub tally: Option<Tally>,
+}
+
+impl InputSummary {
+    /// These counts, and what was read.
+    pub(crate) fn of(counts: Summary, count: InputCount) -> InputSummary
+        ensures { result ≡ inputs.summary_of counts count }
+    {
+        match count {
+            InputCount::Lines(lines) => InputSummary {
+                summary: Summary { lines, ..counts },
+                tally: None,
+            },
+            InputCount::Recorded(tally) => InputSummary {
+                summary: Summary {
+                    lines: tally.numbers,
+                    ..counts
+                },
+                tally: Some(tally),
+            },
+        }
     }
 }

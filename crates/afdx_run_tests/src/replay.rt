@@ -4,11 +4,13 @@
 mod checks;
 mod commands;
 mod end_to_end;
+mod listings;
 mod premises;
 mod refusals;
 mod replays;
 mod rows;
 mod sends;
+mod solutions;
 mod weak;
 
 use crate::texts::short_text;

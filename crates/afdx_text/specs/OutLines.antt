@@ -4,12 +4,14 @@ use Rattle.std.specs.Fmt.{decimal}
 use Rattle.hex.specs.Hex.{encode_lower}
 use Rattle.afdx_frame.specs.declared.link.Side.{Side}
 use Rattle.afdx_frame.specs.declared.link.Side.TheVariants.{A, B}
+use Rattle.afdx_lists.specs.declared.frame_line.FrameKind.{FrameKind}
+use Rattle.afdx_lists.specs.declared.frame_line.FrameKind.TheVariants.{Good, Bad, Raw}
 use Rattle.afdx_police.specs.declared.shape.Reason.{Reason}
 use Rattle.afdx_police.specs.Words.{reason_word}
 use Rattle.afdx_receive.specs.Words.{drop_word}
 use Rattle.afdx_text.specs.declared.line.OutLine.{OutLine}
 use Rattle.afdx_text.specs.declared.line.OutLine.TheVariants.{Verdict, Lost, Left, Message, Unread}
-use Rattle.afdx_text.specs.declared.line.OutLine.TheVariants.{Sent, Refused, Bounds, Margin, Admitted}
+use Rattle.afdx_text.specs.declared.line.OutLine.TheVariants.{Listed, Remark, Refused, Bounds, Margin, Admitted}
 use Rattle.afdx_text.specs.declared.line.OutLine.TheVariants.{Denied}
 
 abbrev pub side_text : Side → List ℕ
@@ -55,11 +57,24 @@ drop_line time name line word =
     codes "X " ++ decimal time ++ codes " " ++ name ++ codes " " ++ decimal line ++ codes " "
     ++ word ++ codes "\n"
 
--- a frame on one network, as a line of a replay's list
-abbrev pub sent_line : Side → ℕ → ℕ → List ℕ → List ℕ
-sent_line side port time bytes =
-    codes "R " ++ decimal time ++ codes " " ++ side_text side ++ codes " " ++ decimal port
+abbrev pub kind_letter : FrameKind → List ℕ
+kind_letter Good = codes "F "
+kind_letter Bad = codes "B "
+kind_letter Raw = codes "R "
+
+-- a line of a frame list
+abbrev pub frame_line : FrameKind → Side → ℕ → ℕ → List ℕ → List ℕ
+frame_line kind side port time bytes =
+    kind_letter kind ++ decimal time ++ codes " " ++ side_text side ++ codes " " ++ decimal port
     ++ codes " " ++ encode_lower bytes ++ codes "\n"
+
+-- a frame that was sent on one network
+abbrev pub sent_line : Side → ℕ → ℕ → List ℕ → List ℕ
+sent_line side port time bytes = frame_line Raw side port time bytes
+
+-- a remark in a list
+abbrev pub remark_line : List ℕ → List ℕ
+remark_line word = codes "# " ++ word ++ codes "\n"
 
 -- the line of a message, on line n, that isn't taken
 abbrev pub refused_line : ℕ → List ℕ → List ℕ
@@ -95,7 +110,8 @@ line_text (Lost n side port) = loss_line n side port
 line_text (Left n time side port is_too_old) = departure_line is_too_old n time side port
 line_text (Message time system vl bytes) = message_line time system.now vl.0 bytes.now
 line_text (Unread time system n why) = drop_line time system.now n (drop_word why)
-line_text (Sent time side port bytes) = sent_line side port time bytes.now
+line_text (Listed kind time side port bytes) = frame_line kind side port time bytes.now
+line_text (Remark word) = remark_line word.now
 line_text (Refused n word) = refused_line n word.now
 line_text (Bounds port high low buffer) = bounds_line port high low buffer
 line_text (Margin port vl bound latency) = margin_line port vl.0 bound latency
@@ -109,7 +125,8 @@ longest (Lost n side port) = 128
 longest (Left n time side port is_too_old) = 128
 longest (Message time system vl bytes) = 128 + length system.now + 2 * length bytes.now
 longest (Unread time system n why) = 128 + length system.now
-longest (Sent time side port bytes) = 128 + 2 * length bytes.now
+longest (Listed kind time side port bytes) = 128 + 2 * length bytes.now
+longest (Remark word) = 128 + length word.now
 longest (Refused n word) = 128 + length word.now
 longest (Bounds port high low buffer) = 128
 longest (Margin port vl bound latency) = 128

@@ -3,14 +3,15 @@
 
 ghost use Rattle.std.specs.Prelude.{◌≡◌, ◌≤◌, ◌+◌, ◌*◌, ◌++◌, length, take};
 ghost use Rattle.afdx_receive.specs.Words.{drop_word};
-ghost use Rattle.afdx_text.specs.OutLines.{verdict_text, letter_of, verdict_line, loss_line};
-ghost use Rattle.afdx_text.specs.OutLines.{departure_line, message_line, drop_line, sent_line};
-ghost use Rattle.afdx_text.specs.OutLines.{refused_line, bound_text, bounds_line, margin_line};
+ghost use Rattle.afdx_text.specs.OutLines.{verdict_text, letter_of, kind_letter, verdict_line, loss_line};
+ghost use Rattle.afdx_text.specs.OutLines.{departure_line, message_line, drop_line, frame_line};
+ghost use Rattle.afdx_text.specs.OutLines.{refused_line, remark_line, bound_text, bounds_line, margin_line};
 ghost use Rattle.afdx_text.specs.OutLines.{denied_line};
 
 use crate::numeral::Numeral;
 use crate::piece::{put, put_digits, put_number, put_piece, put_side, put_small};
 use afdx_frame::Side;
+use afdx_lists::FrameKind;
 use afdx_police::Reason;
 use afdx_receive::DropReason;
 
@@ -114,6 +115,20 @@ fn put_letter(room: &mut [u8], at: usize, too_old: bool) -> usize
         put(room, at, b"T ")
     } else {
         put(room, at, b"D ")
+    }
+}
+
+/// Puts what is done with the bytes of a line of a frame list.
+#[inline(always)]
+fn put_kind(room: &mut [u8], at: usize, kind: FrameKind) -> usize
+    requires { at + 2 ≤ length room.old }
+    ensures ends { result ≡ at + 2 }
+    ensures text { take result room.new ≡ take at room.old ++ kind_letter kind }
+{
+    match kind {
+        FrameKind::Good => put(room, at, b"F "),
+        FrameKind::Bad => put(room, at, b"B "),
+        FrameKind::Raw => put(room, at, b"R "),
     }
 }
 
@@ -251,12 +266,13 @@ impl Kept {
         self.put_unread(room, at, name, why)
     }
 
-    /// `R time side port hex`.
+    /// `K time side port hex`.
     #[inline(never)]
-    pub(crate) fn put_sent(
+    pub(crate) fn put_listed(
         &mut self,
         room: &mut [u8],
         at: usize,
+        kind: FrameKind,
         time: u64,
         side: Side,
         port: u8,
@@ -265,10 +281,10 @@ impl Kept {
         requires { at + 128 + 2 * length bytes.now ≤ length room.old }
         ensures within { result ≤ at + 128 + 2 * length bytes.now }
         ensures text { take result room.new
-            ≡ take at room.old ++ sent_line side port time bytes.now }
+            ≡ take at room.old ++ frame_line kind side port time bytes.now }
     {
         self.time.set(time);
-        let at = put(room, at, b"R ");
+        let at = put_kind(room, at, kind);
         let at = self.time.put(room, at);
         let at = put(room, at, b" ");
         let at = put_side(room, at, side);
@@ -278,6 +294,18 @@ impl Kept {
         let at = put_digits(room, at, bytes);
         put(room, at, b"\n")
     }
+}
+
+/// `# WORD`.
+#[inline(never)]
+pub(crate) fn put_remark(room: &mut [u8], at: usize, word: &str) -> usize
+    requires { at + 128 + length word.now ≤ length room.old }
+    ensures within { result ≤ at + 128 + length word.now }
+    ensures text { take result room.new ≡ take at room.old ++ remark_line word.now }
+{
+    let at = put(room, at, b"# ");
+    let at = put_piece(room, at, word.as_bytes());
+    put(room, at, b"\n")
 }
 
 /// `# n WORD`.

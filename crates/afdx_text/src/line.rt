@@ -2,9 +2,12 @@
 
 ghost use Rattle.std.specs.Prelude.{◌≡◌, ◌≤◌, ◌+◌, ◌++◌, length, take};
 
-use crate::kinds::{Kept, put_bounds, put_denial, put_loss, put_margin, put_refusal, put_verdict};
+use crate::kinds::{
+    Kept, put_bounds, put_denial, put_loss, put_margin, put_refusal, put_remark, put_verdict,
+};
 use crate::piece::put;
 use afdx_frame::{Side, VlId};
+use afdx_lists::FrameKind;
 use afdx_police::Reason;
 use afdx_receive::DropReason;
 use std::alloc::AllocError;
@@ -46,12 +49,17 @@ pub enum OutLine<'a> {
         n: u64,
         why: DropReason,
     },
-    /// A frame was sent: `R time side port hex`.
-    Sent {
+    /// A line of a frame list: `K time side port hex`, with `F`, `B` or `R` for K.
+    Listed {
+        kind: FrameKind,
         time: u64,
         side: Side,
         port: u8,
         bytes: &'a [u8],
+    },
+    /// A remark in a list: `# WORD`.
+    Remark {
+        word: &'a str,
     },
     /// The message of line `n` wasn't taken: `# n WORD`.
     Refused {
@@ -102,7 +110,8 @@ impl OutLine<'_> {
                     .checked_add(2 * bytes.len())
             }
             OutLine::Unread { system, .. } => MOST_FIXED.checked_add(system.len()),
-            OutLine::Sent { bytes, .. } => MOST_FIXED.checked_add(2 * bytes.len()),
+            OutLine::Listed { bytes, .. } => MOST_FIXED.checked_add(2 * bytes.len()),
+            OutLine::Remark { word } => MOST_FIXED.checked_add(word.len()),
             OutLine::Refused { word, .. } => MOST_FIXED.checked_add(word.len()),
             OutLine::Denied { line } => MOST_FIXED.checked_add(line.len()),
             _ => Some(MOST_FIXED),
@@ -150,12 +159,14 @@ impl OutLine<'_> {
                 n,
                 why,
             } => kept.put_drop(room, at, *time, system, *n, *why),
-            OutLine::Sent {
+            OutLine::Listed {
+                kind,
                 time,
                 side,
                 port,
                 bytes,
-            } => kept.put_sent(room, at, *time, *side, *port, bytes),
+            } => kept.put_listed(room, at, *kind, *time, *side, *port, bytes),
+            OutLine::Remark { word } => put_remark(room, at, word),
             OutLine::Refused { n, word } => put_refusal(room, at, *n, word),
             OutLine::Bounds {
                 port,

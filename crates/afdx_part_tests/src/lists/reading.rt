@@ -2,7 +2,7 @@
 
 ghost use Rattle.std.specs.Prelude.{◌<◌};
 
-use afdx_lists::{LineReader, RunFault, Watched};
+use afdx_lists::{LineReader, Peeked, RunFault, Watched};
 use afdx_samples::{Feeds, WeakReader, all_right, equal};
 use std::alloc::{AllocError, Global};
 use std::io::Read;
@@ -61,6 +61,42 @@ fn are_taken(alloc: Global, list: &str, most: usize, wanted: &str) -> bool
     let answer = take_all(alloc, &mut input, &mut text);
     (answer, text.as_slice(), input.ended(), input.failed())
         == (Ok(()), wanted.as_bytes(), true, false)
+}
+
+/// Whether the first bytes of a list are looked at as is wanted, at most `most` bytes a read, and its
+/// line is taken whole all the same.
+fn is_looked_at(alloc: Global, list: &str, most: usize, wanted: &str) -> bool
+    requires { 0 < most }
+{
+    let mut input = Watched::new(Peeked::new(WeakReader {
+        rest: list.as_bytes(),
+        most,
+        calls: 99,
+    }));
+    input.look();
+    if input.seen() != wanted.as_bytes() {
+        return false;
+    }
+    let mut reader = match LineReader::new(alloc) {
+        Ok(reader) => reader,
+        Err(_) => return false,
+    };
+    let taken = next_line(&mut input, &mut reader);
+    (taken, reader.line()) == (Ok(!list.is_empty()), list.as_bytes())
+}
+
+#[test]
+fn first_bytes_are_looked_at(rt: HostRuntime) {
+    for (list, wanted) in [
+        ("", ""),
+        ("a", "a"),
+        ("four", "four"),
+        ("F 0 A 1 -", "F 0 "),
+    ] {
+        for most in [1, 3, 16] {
+            assert!(rt; is_looked_at(rt.alloc(), list, most, wanted), "{list}");
+        }
+    }
 }
 
 #[test]

@@ -14,20 +14,26 @@ use Rattle.afdx_replay.specs.replaying.Promises.{text_of, AreListed}
 use Rattle.afdx_run.specs.Stops.{StopsAt}
 use Rattle.afdx_replay.specs.declared.summary.Summary.{Summary}
 
--- all lines of the list were read, none has a fault, and of its arrivals and of all that leaves
--- the output, which held `old`, now holds after it the text of lines that keep the promises
+-- of these arrivals and of all that leaves the output, which held `old`, now holds after it the text
+-- of lines that keep the promises, and nothing is lost or too old
+pub record IsAsPromised (t : Rows) (arrivals : List Arrival) (old new : Option (List ℕ))
+    (summary : Summary) : Type 0 where
+  pub lines : List Line
+  pub written : Appends old new (text_of t lines)
+  pub promises : KeepsPromises t arrivals lines
+  pub accepted : StreamsAreAccepted t arrivals lines
+  pub once : EachIsToldOnce t arrivals lines
+  pub once_so_far : EachIsToldOnceSoFar t arrivals lines
+  pub none_lost : summary.lost ≡ 0
+  pub none_old : summary.too_old ≡ 0
+
+-- all lines of the list were read, none has a fault, and what is written of its arrivals is as
+-- promised
 pub record WritesPromised (t : Rows) (list : List (List ℕ)) (old new : Option (List ℕ))
     (summary : Summary) : Type 0 where
   pub sound : AreSound list (length list)
   pub listed : AreListed list (length list)
-  pub lines : List Line
-  pub written : Appends old new (text_of t lines)
-  pub promises : KeepsPromises t (arrivals_of list (length list)) lines
-  pub accepted : StreamsAreAccepted t (arrivals_of list (length list)) lines
-  pub once : EachIsToldOnce t (arrivals_of list (length list)) lines
-  pub once_so_far : EachIsToldOnceSoFar t (arrivals_of list (length list)) lines
-  pub none_lost : summary.lost ≡ 0
-  pub none_old : summary.too_old ≡ 0
+  pub promised : IsAsPromised t (arrivals_of list (length list)) old new summary
 
 -- the same of the lines up to the last of these arrivals
 pub record WritesPromisedSoFar (t : Rows) (old new : Option (List ℕ)) (past : List Arrival) :

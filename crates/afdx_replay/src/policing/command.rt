@@ -42,7 +42,7 @@ impl CommandedRule {
     ghost use Rattle.afdx_police.specs.RuleOf.{rule_of};
 
     /// The rule, if each value is in its range.
-    fn rule(&self) -> Option<LinkRule>
+    pub(crate) fn rule(&self) -> Option<LinkRule>
         ensures in_range { IsSome result ↔ IsCommanded self.now }
         ensures given { IfSome result (λ rule. rule_of rule ≡ commanded_rule self.now) }
     {

@@ -62,11 +62,11 @@ fn count_if(count: u64, is_one_more: bool) -> u64
 }
 
 /// What a run that polices one link works with.
-struct Police {
+pub(crate) struct Police {
     accounts: BySide<LinkAccount>,
     text: Text,
-    accepted: u64,
-    dropped: u64,
+    pub(crate) accepted: u64,
+    pub(crate) dropped: u64,
 }
 
 impl Drop for Police {
@@ -85,7 +85,7 @@ impl Police {
     ghost use Rattle.afdx_replay.specs.policing.Told.{TellsItems};
 
     /// It has told nothing yet.
-    fn new(alloc: Global, rule: &LinkRule) -> Police
+    pub(crate) fn new(alloc: Global, rule: &LinkRule) -> Police
         ensures { (output : Option (List ℕ)) →
             TellsItems (rule_of rule.now) result output output [] }
     {

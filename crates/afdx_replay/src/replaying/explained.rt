@@ -22,9 +22,9 @@ use std::io::{Read, Write};
 
 /// A replay, and the device that is told by how much frames came too early.
 #[derive(Drop)]
-struct Explaining<D> {
-    replay: Replay,
-    drops: Watched<D>,
+pub(crate) struct Explaining<D> {
+    pub(crate) replay: Replay,
+    pub(crate) drops: Watched<D>,
 }
 
 /// Whether a frame was dropped for its link's rate.

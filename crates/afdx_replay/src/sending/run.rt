@@ -19,7 +19,7 @@ use crate::summary::{NO_COUNTS, Summary};
 use afdx_admit::Admitted;
 use afdx_config::SystemId;
 use afdx_frame::{Side, VlId};
-use afdx_lists::{Handed, RunFault, Watched};
+use afdx_lists::{FrameKind, Handed, RunFault, Watched};
 use afdx_run::{Machine, run_list};
 use afdx_send::{Emission, SendFault, Sender};
 use afdx_text::{OutLine, Sink, Text};
@@ -44,13 +44,15 @@ fn put_emission<O: Sink>(
     ensures front { OnErr result (AppendsFront (O.written output.old) (O.written output.new)
         (emission_lines port (sending_of emission.now))) }
 {
-    let on_a = OutLine::Sent {
+    let on_a = OutLine::Listed {
+        kind: FrameKind::Raw,
         time: emission.time,
         side: Side::A,
         port,
         bytes: emission.a.as_slice(),
     };
-    let on_b = OutLine::Sent {
+    let on_b = OutLine::Listed {
+        kind: FrameKind::Raw,
         time: emission.time,
         side: Side::B,
         port,

@@ -3,18 +3,23 @@ use Rattle.afdx_arrivals.specs.Becoming.{options_of}
 use Rattle.afdx_arrivals.specs.Claims.{ports_of}
 use Rattle.afdx_recordings.specs.Reading.{state_of}
 use Rattle.afdx_recordings.specs.Recordings.{lost_by}
-use Rattle.afdx_arrivals.specs.RecordingRun.{RecordingAnswers}
+use Rattle.afdx_arrivals.specs.RecordingRun.{RecordingAnswers, sequence_of_bytes, items_of_bytes}
+use Rattle.afdx_arrivals.specs.RecordingSource.{first_standing}
 use Rattle.afdx_arrivals.specs.declared.recording_run.Tally.{Tally}
-use Rattle.afdx_arrivals.proofs.RecordingRunLemmas.{gave-start, start-answers, fault-read, fault-answers}
+use Rattle.afdx_arrivals.proofs.RecordingRunLemmas.{gave-start, answers-start, fault-read, fault-answers}
 use Rattle.afdx_arrivals.proofs.RecordingRunLemmas.{done-read, done-ended, done-answers, by-settings}
+use Rattle.afdx_arrivals.proofs.RecordingRunLemmas.{fault-calls, done-calls, unasked}
 use Rattle.afdx_arrivals.proofs.recording_run.run_recording.Goals as goal
 
 pub returns-in_err-recording-clause-answer : goal.returns-in_err-recording-clause-answer
 returns-in_err-recording-clause-answer g c law start =
     let old = g.O.Sink.written c.args.output.now in
-    let stop = start-answers (options_of c.args.options) (ports_of c.args.ports)
+    let options = options_of c.args.options in
+    let ports = ports_of c.args.ports in
+    let first = first_standing g.R.Read.remaining c.args.input.now in
+    let stop = answers-start (sequence_of_bytes options ports) (items_of_bytes options ports)
     (g.M.Machine.Done law c.args.machine.now old old) (g.M.Machine.Told law c.args.machine.now old old)
-    (g.M.Machine.Begins law c.args.machine.now old old) (g.R.Read.remaining c.args.input.now.inner) start in
+    (g.M.Machine.Begins law c.args.machine.now old old) first first start in
     search rules
 
 pub drive-requires-clause-gave : goal.drive-requires-clause-gave
@@ -97,3 +102,30 @@ returns-clause-answer g c law start =
     (c.in_ok-drive.ensures.settings ∙ rw (c.in_ok-recording.ensures.options, c.in_ok-recording.ensures.ports) refl)
     (done-answers g.R.Read.remaining c.args.input.now c.drive.new.input c.drive.new.source done told begins tally is
     (c.in_ok-drive.ensures.answer law start))
+
+pub returns-in_err-drive-clause-calls : goal.returns-in_err-drive-clause-calls
+returns-in_err-drive-clause-calls g c =
+    let told = c.requires.told in
+    let law = told.0 in
+    let old = g.O.Sink.written c.args.output.now in
+    let new = g.O.Sink.written c.drive.new.output in
+    fault-calls g.R.Read.remaining c.args.input.now c.drive.new.input c.drive.new.source
+    (g.M.Machine.Done law c.drive.new.machine old new) (g.M.Machine.Told law c.drive.new.machine old new)
+    (g.M.Machine.Begins law c.drive.new.machine old new)
+    (rw (c.requires.sound_input, c.requires.unended) refl)
+    c.in_err-drive.field-0.0 (c.in_err-drive.ensures.answer law told.1)
+
+pub returns-clause-calls : goal.returns-clause-calls
+returns-clause-calls g c =
+    let told = c.requires.told in
+    let law = told.0 in
+    let old = g.O.Sink.written c.args.output.now in
+    let new = g.O.Sink.written c.drive.new.output in
+    done-calls g.R.Read.remaining c.args.input.now c.drive.new.input c.drive.new.source
+    (g.M.Machine.Done law c.drive.new.machine old new) (g.M.Machine.Told law c.drive.new.machine old new)
+    (g.M.Machine.Begins law c.drive.new.machine old new)
+    (rw (c.requires.sound_input, c.requires.unended) refl) (c.in_ok-drive.ensures.answer law told.1)
+
+pub returns-in_err-recording-clause-calls : goal.returns-in_err-recording-clause-calls
+returns-in_err-recording-clause-calls g c =
+    unasked (g.R.Read.remaining c.args.input.now.inner) c.args.input.now.calls

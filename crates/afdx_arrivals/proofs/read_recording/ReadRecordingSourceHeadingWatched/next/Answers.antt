@@ -4,7 +4,7 @@ use Rattle.afdx_recordings.specs.Reading.{state_of, latest, SaysFirst}
 use Rattle.afdx_arrivals.specs.Becoming.{options_of}
 use Rattle.afdx_arrivals.specs.Claims.{ports_of}
 use Rattle.afdx_arrivals.specs.RecordingSource.{first_standing, sorted_at}
-use Rattle.afdx_arrivals.proofs.SourceLemmas.{Sorting, fails-unread, fails-unwritten, stops-reader, stops-number}
+use Rattle.afdx_arrivals.proofs.SourceLemmas.{Sorting, fails-unread, fails-unwritten, stops-reader, stops-number, gives-reader, gives-number, gives-same}
 use Rattle.afdx_arrivals.proofs.SourceLemmas.{same-stops, honest-same, gave-skip, gave-item, item-follows, ended-well, stops-end}
 use Rattle.afdx_arrivals.proofs.read_recording.ReadRecordingSourceHeadingWatched.next.Goals as goal
 
@@ -22,6 +22,11 @@ returns-in_err-next-clause-stop g c start past h =
     rw e (record {
       failed = c.in_err-next.ensures.failed;
       honest = c.next.ensures.honest;
+      gives = gives-reader (options_of old.options) (ports_of old.ports)
+          (first_standing g.R.Read.remaining start) (standing g.R.Read.remaining old.reader.held c.loop-self.input)
+          (standing g.R.Read.remaining c.next.new.self.held c.next.new.input) (sorted_at old.numbers old past)
+          (state_of old.reader) (state_of c.next.new.self) (latest c.next.new.self) gave.sorts
+          c.in_err-next.field-0.0 c.in_err-next.ensures.tells;
       stops = stops-reader (options_of old.options) (ports_of old.ports)
           (first_standing g.R.Read.remaining start) (standing g.R.Read.remaining old.reader.held c.loop-self.input)
           (standing g.R.Read.remaining c.next.new.self.held c.next.new.input) (sorted_at old.numbers old past)
@@ -61,6 +66,12 @@ returns-in_err-sort-clause-stop g c start past h =
       failed = sound ∙ sym (fails-unread c.in_err-sort.field-0.0 _ fails);
       honest = honest-same g.R.Read.remaining c.next.new.input c.next.new.self c.sort.new.self.reader
           c.sort.ensures.reader c.next.ensures.honest;
+      gives = gives-same g.R.Read.remaining (first_standing g.R.Read.remaining start) c.next.new.input
+          c.next.new.self c.sort.new.self.reader c.sort.ensures.reader
+          (gives-number (options_of old.options) (ports_of old.ports) (first_standing g.R.Read.remaining start)
+          (standing g.R.Read.remaining old.reader.held c.loop-self.input)
+          (standing g.R.Read.remaining c.next.new.self.held c.next.new.input) (sorted_at old.numbers old past)
+          (state_of old.reader) (state_of c.next.new.self) (latest c.next.new.self) gave.sorts says);
       stops = same-stops g.R.Read.remaining (first_standing g.R.Read.remaining start) c.next.new.input past
           c.in_err-sort.field-0.0 old.options c.sort.new.self.options old.ports c.sort.new.self.ports
           c.next.new.self c.sort.new.self.reader c.sort.ensures.options c.sort.ensures.ports c.sort.ensures.reader

@@ -1,11 +1,11 @@
 use Rattle.std.proofs.Common.{rules, arith, ◌≡◌, ◌+◌, ◌-◌, [], ℕ, Err, take, drop}
 use Rattle.std.proofs.Common.{refl, ap, ◌∙◌}
-use Rattle.afdx_recordings.specs.Holding.{unread, lent, standing}
+use Rattle.afdx_recordings.specs.Holding.{unread, standing}
 use Rattle.afdx_recordings.specs.declared.recorded.Recorded.TheVariants.{Frame}
 use Rattle.afdx_recordings.specs.Pcap.{pcap_frame}
 use Rattle.afdx_recordings.specs.Recordings.{lost_by}
 use Rattle.afdx_recordings.specs.Reading.{state_of}
-use Rattle.afdx_recordings.proofs.HeldLemmas.{Passes-then}
+use Rattle.afdx_recordings.proofs.HeldLemmas.{Passes-then, Passes-gives}
 use Rattle.afdx_recordings.proofs.PacketLemmas.{SaysFirst-packet, SaysEnding-wrong, SaysEnding-short, SaysEnding-over, SaysEnding-cut}
 use Rattle.afdx_recordings.proofs.PacketLemmas.{SaysNothing-short, SaysNothing-cut, captured_by-later, numbered}
 use Rattle.afdx_recordings.proofs.ReadingLemmas.{Tells-of_reading, Tells-end}
@@ -15,6 +15,7 @@ pub returns-in_err-fill-clause-tells : goal.returns-in_err-fill-clause-tells
 returns-in_err-fill-clause-tells g c =
     let e : c.from_residual.result ≡ Err c.in_err-fill.field-0.0 = search rules in
     rw e (Tells-of_reading c.in_err-fill.field-0.0 _ _ _ _ _ c.in_err-fill.ensures.fault
+    (Passes-gives _ _ _ c.fill.ensures.passes)
     (λ is. SaysNothing-short _ _ _ c.args.form c.requires.form c.fill.ensures.passes (c.in_err-fill.ensures.few is)))
 
 pub returns-then-not-branch-clause-tells : goal.returns-then-not-branch-clause-tells
@@ -40,6 +41,7 @@ returns-in_err-fill-2-clause-tells g c =
     let within = c.fill.ensures.enough (search rules) in
     let later = captured_by-later (state_of c.args.self.now) _ _ c.fill-2.ensures.passes within in
     rw e (Tells-of_reading c.in_err-fill-2.field-0.0 _ _ _ _ _ c.in_err-fill-2.ensures.fault
+    (Passes-gives _ _ _ (Passes-then _ _ _ [] [] c.fill.ensures.passes c.fill-2.ensures.passes))
     (λ is. SaysNothing-cut _ _ _ c.args.form c.in_ok-length.field-0 c.requires.form
     (Passes-then _ _ _ [] [] c.fill.ensures.passes c.fill-2.ensures.passes)
     (later.1 ∙ c.in_ok-length.ensures.told) later.0 (c.in_err-fill-2.ensures.few is)))
@@ -61,14 +63,14 @@ returns-clause-tells g c =
     let back : 16 + c.in_ok-length.field-0 - 16 ≡ c.in_ok-length.field-0 = omega arith in
     let within = c.fill.ensures.enough (search rules) in
     let later = captured_by-later (state_of c.args.self.now) _ _ c.fill-2.ensures.passes within in
-    let held : unread c.give.new.self.held ≡ drop (16 + c.in_ok-length.field-0) (unread c.fill-2.new.self) =
-    ap unread c.give.ensures.held ∙ c.pass.ensures.unread in
+    let held : unread c.pass.new.self ≡ drop (16 + c.in_ok-length.field-0) (unread c.fill-2.new.self) =
+    c.pass.ensures.unread in
     SaysFirst-packet _ (standing g.R.Read.remaining c.fill-2.new.self c.fill-2.new.input) _ _ _ c.args.form
-    c.in_ok-length.field-0 _ c.requires.form c.give.ensures.state
+    c.in_ok-length.field-0 _ c.requires.form c.count_number.ensures
     (Passes-then _ _ _ [] [] c.fill.ensures.passes c.fill-2.ensures.passes)
     (later.1 ∙ c.in_ok-length.ensures.told) (c.fill-2.ensures.enough (search rules))
     held refl refl refl
-    (numbered _ _ _ (c.give.ensures.recorded ∙ ap Frame (c.frame_of-frame.ensures
-    ∙ ap (pcap_frame c.args.form c.args.self.now.order) c.bytes.ensures))
-    (ap lent c.give.ensures.held ∙ c.pass.ensures.lent
+    (numbered _ _ _ (ap Frame (c.frame_of-frame.ensures
+    ∙ ap (pcap_frame c.args.form c.args.self.now.known.order) c.bytes.ensures))
+    (c.pass.ensures.lent
     ∙ ap (λ (n : ℕ). take n (drop 16 (unread c.fill-2.new.self))) back))

@@ -1,12 +1,14 @@
-use Rattle.std.proofs.Common.{rules, ◌≡◌, ◌∙◌, sym, ap, Err, None}
+use Rattle.std.proofs.Common.{rules, ◌≡◌, ◌∙◌, sym, ap, Err, None, Some, refl}
 use Rattle.std.proofs.lemmas.Result.{IfOk-weaker, IfErr-weaker}
+use Rattle.afdx_recordings.specs.declared.form.Magic.TheVariants as magic
 use Rattle.afdx_recordings.specs.declared.order.Order.TheVariants.{HighFirst}
 use Rattle.afdx_recordings.specs.Orders.{number_in}
 use Rattle.afdx_recordings.specs.Holding.{unread}
 use Rattle.afdx_recordings.specs.Recordings.{lost_by}
 use Rattle.afdx_recordings.specs.Reading.{state_of, magic_of}
+use Rattle.afdx_recordings.proofs.HeldLemmas.{Passes-gives}
 use Rattle.afdx_recordings.proofs.OpeningLemmas.{SaysNothing-too_short, SaysEnding-too_short, SaysEnding-unknown}
-use Rattle.afdx_recordings.proofs.OpeningLemmas.{SaysSame-held, SaysSame-then, Tells-then}
+use Rattle.afdx_recordings.proofs.OpeningLemmas.{SaysSame-blocks, SaysSame-held, SaysSame-then, Tells-then}
 use Rattle.afdx_recordings.proofs.ReadingLemmas.{Tells-of_reading}
 use Rattle.afdx_recordings.proofs.frame_reader.FrameReader.open.Goals as goal
 
@@ -14,6 +16,7 @@ pub returns-in_err-fill-clause-tells : goal.returns-in_err-fill-clause-tells
 returns-in_err-fill-clause-tells g c =
     let e : c.from_residual.result ≡ Err c.in_err-fill.field-0.0 = search rules in
     rw e (Tells-of_reading c.in_err-fill.field-0.0 _ _ _ _ _ c.in_err-fill.ensures.fault
+    (Passes-gives _ _ _ c.fill.ensures.passes)
     (λ is. SaysNothing-too_short _ _ _ c.requires.form c.fill.ensures.passes (c.in_err-fill.ensures.few is)))
 
 pub returns-then-not-branch-clause-tells : goal.returns-then-not-branch-clause-tells
@@ -39,3 +42,10 @@ returns-in-None-clause-tells g c =
       lost_by (state_of c.args.self.now),
       SaysEnding-unknown _ _ _ c.requires.form c.fill.ensures.passes (c.fill.ensures.enough (search rules)) unknown,
     )
+
+pub returns-in-Some-Pcapng-clause-opens : goal.returns-in-Some-Pcapng-clause-opens
+returns-in-Some-Pcapng-clause-opens g c =
+    let known : magic_of (number_in HighFirst 4 (unread c.fill.new.self)) ≡ Some magic.Pcapng =
+    ap magic_of (sym (c.word-number.ensures ∙ ap (number_in HighFirst 4) c.bytes.ensures)) ∙ sym c.in-Some-Pcapng.ensures
+    ∙ ap Some c.in-Some-Pcapng.field-0-is in
+    SaysSame-blocks _ _ _ _ c.requires.form c.fill.ensures.passes (c.fill.ensures.enough (search rules)) known refl

@@ -3,6 +3,7 @@ use Rattle.afdx_recordings.specs.Holding.{unread, standing}
 use Rattle.afdx_recordings.specs.Recordings.{lost_by}
 use Rattle.afdx_recordings.specs.Pcap.{pcap_form, is_pcap_version}
 use Rattle.afdx_recordings.specs.Reading.{state_of}
+use Rattle.afdx_recordings.proofs.HeldLemmas.{Passes-gives}
 use Rattle.afdx_recordings.proofs.OpeningLemmas.{magic_of-later, SaysNothing-header, SaysEnding-header, SaysEnding-version}
 use Rattle.afdx_recordings.proofs.OpeningLemmas.{SaysSame-opened}
 use Rattle.afdx_recordings.proofs.ReadingLemmas.{Tells-of_reading}
@@ -13,6 +14,7 @@ returns-in_err-fill-clause-tells g c =
     let e : c.from_residual.result ≡ Err c.in_err-fill.field-0.0 = search rules in
     let later = magic_of-later _ _ c.fill.ensures.passes c.requires.held in
     rw e (Tells-of_reading c.in_err-fill.field-0.0 _ _ _ _ _ c.in_err-fill.ensures.fault
+    (Passes-gives _ _ _ c.fill.ensures.passes)
     (λ is. SaysNothing-header _ _ _ c.args.order c.args.nanoseconds c.requires.form c.fill.ensures.passes later.0
     (later.1 ∙ c.requires.magic) (c.in_err-fill.ensures.few is)))
 

@@ -2,7 +2,7 @@ use Rattle.std.proofs.Common.{arith, ◌≡◌, ◌≤◌, ◌∙◌, List, leng
 use Rattle.std.proofs.lemmas.Grind.{common_steps}
 use Rattle.afdx_recordings.specs.declared.interface.Interface.{Interface}
 use Rattle.afdx_recordings.specs.Recordings.{lost_by, lost_at}
-use Rattle.afdx_recordings.proofs.frame_reader.FrameReader.lost.Goals as goal
+use Rattle.afdx_recordings.proofs.known.Known.lost.Goals as goal
 
 none_left : (xs : List Interface) (n : ℕ) → length xs ≤ n → drop n xs ≡ []
 none_left xs n h = grind (arith, common_steps)

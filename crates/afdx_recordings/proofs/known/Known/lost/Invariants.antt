@@ -1,6 +1,6 @@
 use Rattle.std.proofs.Common.{◌≡◌, drop}
 use Rattle.afdx_recordings.specs.Recordings.{lost_at}
-use Rattle.afdx_recordings.proofs.frame_reader.FrameReader.lost.Given as goal
+use Rattle.afdx_recordings.proofs.known.Known.lost.Given as goal
 
 abbrev pub invariant-loop-interface : goal.invariant-loop-interface
 invariant-loop-interface l = lost_at l.lost (drop l.interface-index l.self.interfaces.items)

@@ -1,0 +1,158 @@
+//! The options of a recording, and what their words say.
+
+use afdx_frame::{LAST_PORT, Side};
+use afdx_replay::{Interfaces, Place, RecordingOptions};
+use clap::{Arg, ArgAction, ArgMatches, value_parser};
+use std::alloc::{AllocError, Global};
+
+/// The greatest moment, in ns since 1970.
+const LATEST_MOMENT: u64 = 9_223_372_036_854_775_807;
+
+/// The greatest number of an interface.
+const LAST_INTERFACE: u16 = 4_095;
+
+const INTERFACE_HELP: &str = "Where the frames of interface K of the recording came in: A, B, \
+A:PORT or B:PORT; - leaves them out";
+
+/// The option that says where an interface's frames came in, which may be given again.
+pub fn interface_option<'a>(alloc: Global) -> Arg<'a> {
+    Arg::new(alloc, "interface")
+        .long("interface")
+        .value_name("K=PLACE")
+        .help(INTERFACE_HELP)
+        .action(ArgAction::Append)
+}
+
+const FCS_HELP: &str = "Whether each frame of the recording ends with its check sequence, \
+whatever it says";
+
+const ANSWERS: &[&str] = &["yes", "no"];
+
+/// The option that says whether frames have their check sequence.
+pub fn fcs_option<'a>(alloc: Global) -> Arg<'a> {
+    Arg::new(alloc, "fcs")
+        .long("fcs")
+        .help(FCS_HELP)
+        .value_name("ANSWER")
+        .value_parser(ANSWERS)
+}
+
+const ORIGIN_HELP: &str = "The moment of the recording that is time 0, in ns since 1970; else \
+that of its first arrival";
+
+/// The option that says when time 0 is.
+pub fn origin_option<'a>(alloc: Global) -> Arg<'a> {
+    Arg::new(alloc, "origin")
+        .help(ORIGIN_HELP)
+        .value_parser(value_parser!(u64))
+        .long("origin")
+        .value_name("NS")
+}
+
+/// Why words are not taken.
+#[derive(Clone, Copy, Debug, PartialEq, Eq)]
+pub enum Refused {
+    /// A word of `--interface` has another form, or its interface was named before.
+    BadInterface,
+    /// The number of `--origin` is over 2^63 - 1.
+    BadNumber,
+    /// There was no memory.
+    Memory,
+}
+
+impl From<AllocError> for Refused {
+    fn from(_error: AllocError) -> Refused {
+        Refused::Memory
+    }
+}
+
+/// The number that at most so many digits write, with nothing beside them.
+fn number_in(digits: &str, most: usize) -> Option<u16> {
+    let digits = digits.as_bytes();
+    if digits.is_empty() || digits.len() > most {
+        return None;
+    }
+    let mut number: u16 = 0;
+    for digit in digits {
+        if !digit.is_ascii_digit() {
+            return None;
+        }
+        number = number
+            .checked_mul(10)?
+            .checked_add(u16::from(*digit - b'0'))?;
+    }
+    Some(number)
+}
+
+/// The side that a word names.
+fn side_in(word: &str) -> Option<Side> {
+    match word {
+        "A" => Some(Side::A),
+        "B" => Some(Side::B),
+        _ => None,
+    }
+}
+
+/// The port that a word names: 1 to 24, in one or two digits.
+fn port_in(word: &str) -> Option<u8> {
+    let port = number_in(word, 2)?;
+    if port == 0 || port > u16::from(LAST_PORT) {
+        return None;
+    }
+    Some(port as u8)
+}
+
+/// The place that a word names: `-`, a side, or a side and a port.
+fn place_in(word: &str) -> Option<Place> {
+    if word == "-" {
+        return Some(Place::LeftOut);
+    }
+    match word.split_once(':') {
+        Some((side, port)) => Some(Place::AtPort(side_in(side)?, port_in(port)?)),
+        None => Some(Place::OnSide(side_in(word)?)),
+    }
+}
+
+/// The interface and the place that a word `K=PLACE` names.
+fn interface_in(word: &str) -> Option<(u16, Place)> {
+    let (interface, place) = word.split_once('=')?;
+    let interface = number_in(interface, 4)?;
+    if interface > LAST_INTERFACE {
+        return None;
+    }
+    Some((interface, place_in(place)?))
+}
+
+/// Where the frames of each interface came in, by the words of `--interface`.
+fn interfaces_in(alloc: Global, words: &[&str]) -> Result<Interfaces, Refused> {
+    let mut interfaces = Interfaces::new(alloc)?;
+    for word in words {
+        match interface_in(word) {
+            Some((interface, place)) if interfaces.place(interface).is_none() => {
+                interfaces.put(interface, place);
+            }
+            _ => return Err(Refused::BadInterface),
+        }
+    }
+    Ok(interfaces)
+}
+
+/// What the words say of a recording, if they are taken.
+pub fn recording_options(
+    alloc: Global,
+    matches: &ArgMatches<'_>,
+) -> Result<RecordingOptions, Refused> {
+    let words = matches.get_strs("interface").unwrap_or(&[]);
+    let interfaces = interfaces_in(alloc, words)?;
+    let origin = matches.get_one::<u64>("origin");
+    if origin.is_some_and(|moment| moment > LATEST_MOMENT) {
+        return Err(Refused::BadNumber);
+    }
+    let fcs = matches.get_str("fcs").map(|said| said == "yes");
+    Ok(RecordingOptions {
+        interfaces,
+        fcs,
+        origin,
+        are_given: !words.is_empty() || fcs.is_some() || origin.is_some(),
+    })
+}

@@ -1,0 +1,214 @@
+//! Runs over lists and recordings: their devices, and how they end.
+
+use crate::devices::{Heard, Traced};
+use crate::explaining::Cause;
+use crate::progress::{Cleared, Counted, is_told};
+use crate::recording_words::{Refused, recording_options};
+use crate::{complain, explain_if_asked, memory, no_file};
+use afdx_replay::status::{DONE, WRONG_WORDS};
+use afdx_replay::{
+    CommandedRule, Ended, InputEnded, Output, Peeked, RecordingOptions, Sink, Watched, finish,
+    list_and_count, police_input, replay_input, replay_input_and_explain, send_and_count,
+};
+use clap::ArgMatches;
+use std::fs::File;
+use std::io::{IsTerminal, LineWriter, Read, Write};
+
+const OUTPUT_BUFFER: usize = 65_536;
+
+/// How many bytes are gathered before they go to standard output: none if each line is to be seen
+/// at once, or a person reads.
+fn output_room(rt: &HostRuntime, matches: &ArgMatches<'_>) -> usize {
+    if matches.get_flag("line-buffered") || rt.stdout().is_terminal() {
+        0
+    } else {
+        OUTPUT_BUFFER
+    }
+}
+
+/// Prints the counts of a run on standard error, and those of a recording.
+fn print_counts(rt: &HostRuntime, ended: &InputEnded) {
+    if let Some(summary) = ended.ended.summary {
+        let _ = eprintln!(rt; "{summary}");
+    }
+    if let Some(tally) = ended.tally {
+        let _ = eprintln!(rt; "{tally}");
+    }
+}
+
+/// Ends a command that ran over a list or a recording: hands over what its output still holds,
+/// explains its fault or prints its counts, if that is asked for, and gives the exit status.
+fn end_run<R: Read + Drop, W: Write + Drop, E: Write + Drop>(
+    rt: &HostRuntime,
+    matches: &ArgMatches<'_>,
+    config: &[u8],
+    ended: InputEnded,
+    input: Watched<Peeked<Traced<R>>>,
+    mut output: Output<Traced<W>>,
+    mut errors: Watched<Heard<Cleared<'_, E>>>,
+) -> u8 {
+    let status = finish(ended.ended.status, &mut output, &mut errors);
+    let path = match matches.get_str("LIST").or(matches.get_str("SUBMISSIONS")) {
+        Some("-") | None => "standard input",
+        Some(path) => path,
+    };
+    let read = input.into_inner().into_inner().reason();
+    let written = output.into_device().reason();
+    let cause = Cause {
+        config,
+        path,
+        reason: read.or(written),
+    };
+    let mut errors = errors.into_inner();
+    errors.device_mut().notice_mut().clear();
+    explain_if_asked(rt, matches, errors.line(), &cause);
+    if status == DONE && matches.get_flag("summary") {
+        print_counts(rt, &ended);
+    }
+    status
+}
+
+/// What is replayed, and how.
+#[derive(Drop)]
+pub struct Replaying<'a> {
+    pub config: &'a [u8],
+    pub admission: bool,
+    pub explains_drops: bool,
+}
+
+/// What is done with the items of an input, and with what it is done.
+#[derive(Drop)]
+pub enum Run<'a> {
+    Police(CommandedRule),
+    Replay(Replaying<'a>),
+    List { config: &'a [u8] },
+    Send { config: &'a [u8], system: &'a str },
+}
+
+impl Run<'_> {
+    fn config(&self) -> &[u8] {
+        match self {
+            Run::Police(_) => &[],
+            Run::Replay(replaying) => replaying.config,
+            Run::List { config } => config,
+            Run::Send { config, .. } => config,
+        }
+    }
+
+    /// Whether lines come on standard error while it goes on.
+    fn explains_drops(&self) -> bool {
+        match self {
+            Run::Replay(replaying) => replaying.explains_drops,
+            Run::Police(_) | Run::List { .. } | Run::Send { .. } => false,
+        }
+    }
+}
+
+/// What the words say of a recording, or the status where they are refused.
+fn options_in(rt: &HostRuntime, matches: &ArgMatches<'_>) -> Result<RecordingOptions, u8> {
+    let line = match recording_options(rt.alloc(), matches) {
+        Ok(options) => return Ok(options),
+        Err(Refused::Memory) => return Err(memory(rt)),
+        Err(Refused::BadInterface) => "words BadInterface",
+        Err(Refused::BadNumber) => "words BadNumber",
+    };
+    complain(rt, line);
+    let cause = Cause {
+        config: &[],
+        path: "",
+        reason: None,
+    };
+    explain_if_asked(rt, matches, line, &cause);
+    Err(WRONG_WORDS)
+}
+
+/// Replays an input. Err: the status where there is no memory to tell of early frames.
+fn replay_from<R: Read, O: Sink, E: Write>(
+    rt: &HostRuntime,
+    replaying: &Replaying<'_>,
+    options: RecordingOptions,
+    input: &mut Watched<Peeked<R>>,
+    lines: &mut O,
+    faults: &mut Watched<E>,
+) -> Result<InputEnded, u8> {
+    let (alloc, admission, config) = (rt.alloc(), replaying.admission, replaying.config);
+    if !replaying.explains_drops {
+        return Ok(replay_input(alloc, admission, options, config, input, lines, faults));
+    }
+    let Ok(early) = LineWriter::new(rt.alloc(), rt.stderr()) else {
+        return Err(memory(rt));
+    };
+    let drops = Watched::new(early);
+    let told = replay_input_and_explain(
+        alloc, admission, options, config, input, lines, faults, drops,
+    );
+    Ok(told.0)
+}
+
+/// Makes the run over what an input gives, or gives the status where there is none.
+fn run_over<R: Read, O: Sink, E: Write>(
+    rt: &HostRuntime,
+    matches: &ArgMatches<'_>,
+    run: &Run<'_>,
+    input: &mut Watched<Peeked<R>>,
+    lines: &mut O,
+    faults: &mut Watched<E>,
+) -> Result<InputEnded, u8> {
+    match run {
+        Run::Police(rule) => {
+            let options = options_in(rt, matches)?;
+            Ok(police_input(rt.alloc(), options, rule, input, lines, faults))
+        }
+        Run::Replay(replaying) => {
+            let options = options_in(rt, matches)?;
+            replay_from(rt, replaying, options, input, lines, faults)
+        }
+        Run::List { config } => {
+            let options = options_in(rt, matches)?;
+            let listed = list_and_count(rt.alloc(), options, config, input, lines, faults);
+            Ok(InputEnded {
+                ended: Ended {
+                    status: listed.status,
+                    summary: None,
+                },
+                tally: listed.tally,
+            })
+        }
+        Run::Send { config, system } => Ok(InputEnded {
+            ended: send_and_count(rt.alloc(), config, system, input, lines, faults),
+            tally: None,
+        }),
+    }
+}
+
+/// Makes the run over what `input` gives, and hands all its lines to standard output.
+fn run_from<R: Read + Drop>(
+    rt: &HostRuntime,
+    matches: &ArgMatches<'_>,
+    run: &Run<'_>,
+    input: R,
+) -> u8 {
+    let device = Traced::new(rt.stdout());
+    let Ok(mut output) = Output::new(rt.alloc(), output_room(rt, matches), device) else {
+        return memory(rt);
+    };
+    let told = is_told(rt, matches) && !run.explains_drops();
+    let device = Traced::new(Counted::new(rt, told, input));
+    let mut input = Watched::new(Peeked::new(device));
+    let mut errors = Watched::new(Heard::new(Cleared::new(rt, told, rt.stderr())));
+    match run_over(rt, matches, run, &mut input, &mut output, &mut errors) {
+        Ok(ended) => end_run(rt, matches, run.config(), ended, input, output, errors),
+        Err(status) => status,
+    }
+}
+
+/// Makes the run over a file, or over standard input, which is `-`.
+pub fn run_list(rt: &HostRuntime, matches: &ArgMatches<'_>, run: &Run<'_>, list: &str) -> u8 {
+    if list == "-" {
+        return run_from(rt, matches, run, rt.stdin());
+    }
+    match File::open(rt, list) {
+        Ok(file) => run_from(rt, matches, run, file),
+        Err(reason) => no_file(rt, matches, "device List", list, reason),
+    }
+}

@@ -1,0 +1,40 @@
+-- The text of the frame list that says the same as a recording.
+use Rattle.std.specs.Prelude.{ℕ, List, [], ◌∷◌, ◌++◌, length, take, nat_lt, if◌then◌else◌}
+use Rattle.std.specs.Io.KnownBytes.{Appends}
+use Rattle.afdx_lists.specs.declared.frame_line.FrameKind.{FrameKind}
+use Rattle.afdx_lists.specs.declared.frame_line.FrameKind.TheVariants.{Raw}
+use Rattle.afdx_lists.specs.Calls.{AppendsFront}
+use Rattle.afdx_run.specs.Engine.{Bytes, Item}
+use Rattle.afdx_text.specs.OutLines.{frame_line, remark_line}
+use Rattle.afdx_arrivals.specs.declared.number_line.NumberLine.{NumberLine}
+use Rattle.afdx_arrivals.specs.declared.number_line.NumberLine.TheVariants.{Arrival, Skipped}
+use Rattle.afdx_arrivals.specs.Words.{skipped_word}
+
+-- the most recorded bytes that a line has; a longer frame stands cut, and no switch takes it either
+abbrev pub most_listed : ℕ
+most_listed = 2000
+
+abbrev pub kind_listed : FrameKind → List ℕ → FrameKind
+kind_listed kind bytes = if nat_lt most_listed (length bytes) then Raw else kind
+
+abbrev pub take_listed : List ℕ → List ℕ
+take_listed bytes = take most_listed bytes
+
+-- the line of a number, with the bytes that were recorded
+abbrev pub number_text : NumberLine → List ℕ → List ℕ
+number_text (Arrival kind time side port) bytes =
+    frame_line (kind_listed kind bytes) side port time (take_listed bytes)
+number_text (Skipped reason) bytes = remark_line (skipped_word reason)
+
+-- all lines; the latest stands first in the list of them, and last in the text
+unfoldable pub list_text : List (Item NumberLine) → List ℕ
+list_text [] = []
+list_text (x ∷ past) = list_text past ++ number_text x.head x.bytes
+
+-- the output, which held `old`, now holds these lines after it
+abbrev pub WritesLines : Bytes → Bytes → List (Item NumberLine) → Type 0
+WritesLines old new past = Appends old new (list_text past)
+
+-- or a beginning of them
+abbrev pub WritesSomeLines : Bytes → Bytes → List (Item NumberLine) → Type 0
+WritesSomeLines old new past = AppendsFront old new (list_text past)

@@ -1,0 +1,19 @@
+//! Laws of what recorded frames become.
+
+ghost use Rattle.afdx_arrivals.specs.Laws as laws;
+
+/// Where two ways to know a port agree, what is taken of a recording is the same.
+pub fn sequences_agree()
+    ensures { laws.SequencesAgree }
+{}
+
+/// The bytes of an arrival are those that its frame becomes: what was recorded, or that with a
+/// check sequence behind it.
+pub fn arrivals_have_their_bytes()
+    ensures { laws.ArrivalsHaveTheirBytes }
+{}
+
+/// The times of the arrivals of a recording don't decrease, and none is over 10^15 ns.
+pub fn arrivals_are_in_order()
+    ensures { laws.ArrivalsAreInOrder }
+{}

@@ -1,0 +1,53 @@
+use Rattle.std.proofs.Common.{rules, ◌≡◌, Err, Ok, true, false, ◌∙◌}
+use Rattle.afdx_recordings.specs.Reading.{state_of}
+use Rattle.afdx_recordings.proofs.HeldLemmas.{Passes-gives}
+use Rattle.afdx_recordings.proofs.OpeningLemmas.{SaysSame-held, SaysSame-then, Tells-then}
+use Rattle.afdx_recordings.proofs.PcapngLemmas.{SaysEnding-blocks, SaysEnding-head, SaysNothing-head}
+use Rattle.afdx_recordings.proofs.ReadingLemmas.{Tells-of_reading, Tells-end}
+use Rattle.afdx_recordings.proofs.frame_reader.FrameReader.next_in_blocks.Goals as goal
+
+pub returns-in_err-fill-clause-tells : goal.returns-in_err-fill-clause-tells
+returns-in_err-fill-clause-tells g c =
+    let e : c.from_residual.result ≡ Err c.in_err-fill.field-0.0 = search rules in
+    rw e (Tells-then (Err c.in_err-fill.field-0.0) _ _ _ _ _ _ _ c.reads.invariant.same
+    (Tells-of_reading c.in_err-fill.field-0.0 _ _ (state_of c.reads.self) (state_of c.reads.self) _
+    c.in_err-fill.ensures.fault (Passes-gives _ _ _ c.fill.ensures.passes)
+    (λ is. SaysNothing-head _ _ (state_of c.reads.self) c.reads.invariant.form c.fill.ensures.passes
+    (c.in_err-fill.ensures.few is))))
+
+pub returns-in_err-take_block-clause-tells : goal.returns-in_err-take_block-clause-tells
+returns-in_err-take_block-clause-tells g c =
+    let e : c.from_residual-in_err-take_block.result ≡ Err c.in_err-take_block.field-0.0 = search rules in
+    let same = SaysSame-then _ _ _ _ _ _ c.reads.invariant.same
+    (SaysSame-held _ _ (state_of c.reads.self) c.fill.ensures.passes) in
+    rw e (Tells-then (Err c.in_err-take_block.field-0.0) _ _ _ _ _ _ _ same c.in_err-take_block.ensures.tells)
+
+pub returns-then-branch-2-clause-tells : goal.returns-then-branch-2-clause-tells
+returns-then-branch-2-clause-tells g c =
+    let is : c.take_block.result ≡ Ok true = search rules in
+    let same = SaysSame-then _ _ _ _ _ _ c.reads.invariant.same
+    (SaysSame-held _ _ (state_of c.reads.self) c.fill.ensures.passes) in
+    Tells-then (Ok true) _ _ _ _ _ _ _ same (rw is at c.take_block.ensures.tells)
+
+pub reads-preserved : goal.reads-preserved
+reads-preserved g c =
+    let is : c.take_block.result ≡ Ok false = search rules in
+    let same = SaysSame-then _ _ _ _ _ _ c.reads.invariant.same
+    (SaysSame-held _ _ (state_of c.reads.self) c.fill.ensures.passes) in
+    let counts = rw is at c.take_block.ensures.counts in
+    record {
+      sound = rw is at c.take_block.ensures.failed;
+      honest = c.take_block.ensures.honest;
+      form = c.take_block.ensures.form ∙ c.reads.invariant.form;
+      numbers = counts.0 ∙ c.reads.invariant.numbers;
+      same = SaysSame-then _ _ _ _ _ _ same (rw is at c.take_block.ensures.tells);
+    }
+
+pub returns-clause-tells : goal.returns-clause-tells
+returns-clause-tells g c =
+    let last = c.fill.ensures.last (search rules) in
+    Tells-then c.end.result _ _ _ _ _ _ _ c.reads.invariant.same
+    (Tells-end c.end.result _ _ (state_of c.reads.self) (state_of c.reads.self) _ last.0 c.end.ensures.over
+    c.end.ensures.ended
+    (λ none. SaysEnding-blocks _ _ (state_of c.reads.self) c.reads.invariant.form c.fill.ensures.passes last.0 none)
+    (λ some. SaysEnding-head _ _ (state_of c.reads.self) c.reads.invariant.form c.fill.ensures.passes last.0 some last.1))

@@ -1,0 +1,9 @@
+-- How the bytes of a recording begin.
+use Rattle.std.specs.Prelude.{ℕ, Bool, ◌&&◌, nat_le, List, length, is_some}
+use Rattle.afdx_recordings.specs.declared.order.Order.TheVariants.{HighFirst}
+use Rattle.afdx_recordings.specs.Orders.{number_in}
+use Rattle.afdx_recordings.specs.Reading.{magic_of}
+
+-- the first four bytes name a form of a recording
+unfoldable pub is_recording : List ℕ → Bool
+is_recording bytes = nat_le 4 (length bytes) && is_some (magic_of (number_in HighFirst 4 bytes))

@@ -1,0 +1,103 @@
+//! The command `list`.
+
+ghost use Rattle.std.specs.Prelude.{◌≡◌, ◌||◌, ◌⊎◌, ◌↔◌, IsSome, IfSome, OnOk, false, true};
+ghost use Rattle.afdx_config.specs.Rows.{Rows};
+ghost use Rattle.afdx_lists.specs.Calls.{is_failed_read, is_failed_write};
+ghost use Rattle.afdx_lists.specs.Watching.{device_of, has_ended, has_failed};
+ghost use Rattle.afdx_arrivals.specs.Becoming.{options_of};
+ghost use Rattle.afdx_replay.specs.Listing.{AnswersListing, EndsListing};
+
+use crate::refusing::refuse_config;
+use crate::status::DONE;
+use afdx_arrivals::{RecordingOptions, SystemPorts, Tally, list_recording};
+use afdx_config::{Tables, read_tables};
+use afdx_lists::{RunFault, Watched};
+use afdx_text::{Sink, tell_fault};
+use std::alloc::Global;
+use std::io::{Read, Write};
+
+/// How `list` ended: its exit status and, where that is 0, what it counted.
+#[derive(Clone, Copy, Debug, PartialEq, Eq)]
+pub struct ListEnded {
+    pub status: u8,
+    pub tally: Option<Tally>,
+}
+
+/// Writes a recording as the frame list that says the same, in these tables.
+fn list_in<R: Read, O: Sink>(
+    alloc: Global,
+    options: RecordingOptions,
+    tables: &Tables,
+    input: &mut Watched<R>,
+    output: &mut O,
+) -> Result<Tally, RunFault>
+    requires sound_input { has_failed input.old ≡ false }
+    requires unended { has_ended input.old ≡ false }
+    requires sound_output { O.failed output.old ≡ false }
+    ensures ended { OnOk result (has_ended input.new ≡ true) }
+    ensures read { has_failed input.new ≡ is_failed_read result }
+    ensures write { O.failed output.new ≡ is_failed_write result }
+    ensures answer { IfSome (R.remaining (device_of input.old)) (λ bytes.
+        AnswersListing (options_of options) tables.now bytes (R.remaining (device_of input.new))
+        (O.written output.old) (O.written output.new) result) }
+{
+    let ports = SystemPorts::by_sender(alloc, tables)?;
+    list_recording(alloc, options, ports, input, output)
+}
+
+/// Writes a recording as the frame list that says the same, a line for each number: that of its
+/// arrival, or a remark with the word of the reason where it is skipped. A frame of which over
+/// 2,000 bytes were recorded stands as its first 2,000. The lines go to `output`, a fault's one
+/// line to `errors`. It also gives what it counted.
+///
+/// Where no option says at which port a frame came in, it is that of the system of the tables that
+/// the frame's source address names. The tables need not be admitted. The exit status is 0 done, 1 a
+/// fault of the configuration, 3 a fault of the recording, 4 a device or memory.
+pub fn list_and_count<R: Read, O: Sink, E: Write>(
+    alloc: Global,
+    options: RecordingOptions,
+    config: &[u8],
+    input: &mut Watched<R>,
+    output: &mut O,
+    errors: &mut Watched<E>,
+) -> ListEnded
+    requires sound_input { has_failed input.old ≡ false }
+    requires unended { has_ended input.old ≡ false }
+    requires sound_output { O.failed output.old ≡ false }
+
+    // 0 comes only where the recording came to its end, 4 wherever a device failed; counts come
+    // with 0.
+    ensures statuses { let status = result.status in
+        (status ≡ 0) ⊎ (status ≡ 1) ⊎ (status ≡ 3) ⊎ (status ≡ 4) }
+    ensures counts { IsSome result.tally ↔ (result.status ≡ 0) }
+    ensures done { result.status ≡ 0 → (has_ended input.new ≡ true) × (has_failed input.new ≡ false)
+        × (O.failed output.new ≡ false) }
+    ensures device { (has_failed input.new || O.failed output.new) ≡ true → result.status ≡ 4 }
+
+    // The command ends as the listing answered, or nothing is read and nothing is written.
+    ensures lists { EndsListing R.remaining O.written O.failed E.contents config.now options
+        input.old input.new output.old output.new errors.old errors.new result }
+{
+    let tables = match read_tables(alloc, config) {
+        Ok(tables) => tables,
+        Err(fault) => {
+            return ListEnded {
+                status: refuse_config(fault, errors),
+                tally: None,
+            };
+        }
+    };
+    match list_in(alloc, options, &tables, input, output) {
+        Ok(tally) => ListEnded {
+            status: DONE,
+            tally: Some(tally),
+        },
+        Err(fault) => {
+            tell_fault(errors, &fault);
+            ListEnded {
+                status: fault.status(),
+                tally: None,
+            }
+        }
+    }
+}

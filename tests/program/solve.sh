@@ -1,0 +1,121 @@
+# Cases of `solve`; tests/run/program.sh reads this file.
+
+# `solve` of base.toml as the script changes it, with the options OPTIONS. What is written says
+# WANTED of the four keys, in their order: buffer, then jitter, latency and skew of both links.
+solve_with() { # NAME SED_SCRIPT WANTED ERR OPTION..
+    local name=$1 wanted=$3 err=$4
+    sed -E "$2" examples/base.toml >"$work/changed.toml"
+    shift 4
+    launch solve "$@" "$work/changed.toml"
+    tell "$name" "$(
+        has_status 0
+        differs 'standard error' "$err" "$work/err"
+        values=$(sed -nE 's/^(buffer|jitter_us|latency_us|skew_us) = //p' "$work/out" | tr '\n' ' ')
+        if [[ $values != "$wanted " ]]; then echo "the keys are $values"; fi
+        if ! "$program" check "$work/out" | tail -n 1 | grep -qx ok; then echo 'not admitted'; fi
+    )"
+}
+
+unsolved() { # NAME STATUS OUT ERR SED_SCRIPT OPTION.. : `solve` of base.toml as it is changed
+    local name=$1 wanted=$2 out=$3 err=$4
+    sed -E "$5" examples/base.toml >"$work/changed.toml"
+    shift 5
+    case_of "$name" "$wanted" "$out" "$err" solve "$@" "$work/changed.toml"
+}
+
+least='176 47 14 14 47 15 15'
+without='/^(buffer|jitter_us|latency_us|skew_us)/d'
+late='s/^(latency_us) = .*/\1 = 13/'
+need1='vl 1 at 3: 13756 ns needed, 13 us asked'
+need2='vl 2 at 3: 14167 ns needed, 13 us asked'
+solve_with 'the least values' '' "$least" ''
+solve_with 'four keys that are absent' "$without" "$least" ''
+solve_with 'keys out of range' 's/^(buffer|jitter_us|skew_us) = .*/\1 = 99999999999/' "$least" ''
+solve_with 'keys that are 0' 's/^(buffer|jitter_us|latency_us|skew_us) = .*/\1 = 0/' "$least" \
+    "${need1/13 us/0 us}"$'\n'"${need2/13 us/0 us}"$'\n'
+solve_with 'what is needed' "$late" "$least" "$need1"$'\n'"$need2"$'\n'
+solve_with 'of one link' "0,/^latency_us = 17/s//latency_us = 13/" "$least" "$need1"$'\n'
+solve_with 'an absent latency asks nothing' '0,/^latency_us/s//# &/' "$least" ''
+solve_with 'raised only' 's/^latency_us = .*/latency_us = 1/' '252 500 17 1000 500 21 1000' \
+    $'vl 1 at 3: 16800 ns needed, 1 us asked\nvl 2 at 3: 20297 ns needed, 1 us asked\n' --raise-only
+solve_with 'kept jitters' '' '252 500 17 17 500 21 21' '' --keep jitter
+solve_with 'all are kept' '' '252 500 17 1000 500 21 1000' '' --keep jitter,buffer,latency,skew
+solve_with 'two options' '' '252 47 14 1000 47 15 1000' '' --keep buffer --keep skew
+tell 'a solution is the solution of itself' "$(
+    launch solve "$work/changed.toml"
+    "$program" solve "$work/out" >"$work/again" || echo "status $?"
+    cmp "$work/out" "$work/again"
+)"
+solution='profile = 1
+buffer = 176
+
+[[system]]
+name = "s1"
+port = 1
+id = 1
+partition = 1
+rate = 100
+'
+tell 'the layout' "$(
+    launch solve examples/base.toml
+    has_status 0
+    head -n 10 "$work/out" >"$work/head"
+    differs 'the beginning' "${solution%$'\n'}"$'\n\n' "$work/head"
+    sed -n '/^\[\[link/,/^$/p' "$work/out" | head -n 14 >"$work/link"
+    differs 'a link' '[[link]]
+vl = 1
+from = "s1"
+to = ["s3"]
+bag_ms = 1
+lmin = 64
+lmax = 64
+jitter_us = 47
+priority = "high"
+policing = "frame"
+latency_us = 14
+skew_us = 14
+subs = 2
+
+' "$work/link"
+)"
+
+unsolved 'an overloaded port' 1 $'no A1 3\n' '' \
+    '0,/^lmax = 64/s//lmax = 1518/; /^id = 3/,/^rate/s/^rate = 100/rate = 10/'
+unsolved 'a kept buffer that is too small' 1 $'no A2 3 252\n' '' 's/^buffer = .*/buffer = 251/' \
+    --keep buffer,jitter
+unsolved 'a kept latency that is too small' 1 $'no A3 3 1 16800\n' '' \
+    's/^latency_us = .*/latency_us = 16/' --keep jitter,latency
+cp "$work/changed.toml" "$work/late.toml"
+unsolved 'a kept jitter that is too small' 1 $'no A6 1 46720\n' '' \
+    's/^jitter_us = .*/jitter_us = 46/' --keep jitter
+unsolved 'a kept skew that is too small' 1 $'no A7 1\n' '' \
+    's/^skew_us = .*/skew_us = 13/' --keep skew
+unsolved 'a kept key that is absent' 1 '' $'config Missing top 0 key 2\n' '/^buffer/d' --keep buffer
+unsolved 'a kept key out of range' 1 '' $'config OutOfRange link 1 key 10\n' \
+    's/^latency_us = .*/latency_us = 0/' --keep latency
+unsolved 'a value below 0' 1 '' $'config OutOfRange link 1 key 10\n' \
+    's/^latency_us = .*/latency_us = -1/'
+unsolved 'a value that is no whole number' 1 '' $'config WrongKind link 1 key 11\n' \
+    's/^skew_us = .*/skew_us = 1.5/'
+unsolved 'another fault' 1 '' $'config OutOfRange link 1 key 4\n' 's/^bag_ms = .*/bag_ms = 3/'
+case_of 'a configuration that is not there' 4 '' $'device Config\n' solve "$work/none"
+full_case 'a solution to a full device' 4 $'device Write\n' solve examples/base.toml
+full_case 'a denial to a full device' 4 $'device Write\n' \
+    solve --keep jitter,latency "$work/late.toml"
+text_case 'an unknown key to keep' 2 err bag solve --keep bag examples/base.toml
+text_case 'keys to keep without a key' 2 err KEYS solve --keep
+text_case 'help of solve' 0 out "aren't" solve --help
+sed -E "$late" examples/base.toml >"$work/changed.toml"
+status=0
+"$program" solve "$work/changed.toml" >"$work/out" 2>/dev/full || status=$?
+tell 'needs to a full device' "$(
+    has_status 0
+    if [[ $(head -n 1 "$work/out") != 'profile = 1' ]]; then echo 'no solution'; fi
+)"
+launch solve --explain --keep latency "$work/changed.toml"
+tell 'solve explains a line of admission' "$(
+    has_status 1
+    if ! grep -qF 'A3 port vl bound' "$work/err"; then echo 'no explanation'; fi
+    differs 'standard output' $'no A3 3 1 13756\n' "$work/out"
+)"
+text_case 'what is needed, explained' 0 out 'with the jitters that are written' explain "$need1"
