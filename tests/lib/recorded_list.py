@@ -5,11 +5,10 @@ from __future__ import annotations
 import zlib
 from typing import Iterator, NamedTuple
 
-from frames import sealed
 from recorded import Frame, is_recording, recorded
 
 LATEST_TIME = 10**15  # ns of a run
-MOST_LISTED = 2_000  # bytes of a frame in the list
+MOST_LISTED = 2_000  # bytes of a recorded frame in the list; every switch drops a longer one
 SEALED = 0x2144DF1C  # the check sequence of bytes that end with that of the others
 SIDES = {0x20: "A", 0x40: "B"}
 SKIPS = ("no-frame", "left-out", "not-afdx", "unknown-sender", "no-network", "before-origin")
@@ -110,16 +109,6 @@ def outcomes(
         yield "TimeBack"
 
 
-def arrival_bytes(options: Options, frame: Frame) -> bytes:
-    """The frame as it arrives: sealed where it was recorded without its check sequence, with a bad
-    one where the recorder found it so."""
-    if is_closed(frame, options):
-        return frame.bytes
-    if not frame.found_wrong:
-        return sealed(frame.bytes)
-    return frame.bytes + (zlib.crc32(frame.bytes) ^ 0xFFFF_FFFF).to_bytes(4, "little")
-
-
 class Run:
     """What a run has taken so far."""
 
@@ -135,11 +124,10 @@ class Run:
         time = frame.stamp - self.origin
         if time > LATEST_TIME:
             return "TimeTooLarge"
-        content = arrival_bytes(self.options, frame)
-        kind = "R" if is_closed(frame, self.options) or len(content) > MOST_LISTED else ""
-        if not kind:
-            kind, content = "B" if frame.found_wrong else "F", frame.bytes
-        digits = content[:MOST_LISTED].hex()
+        kind = "B" if frame.found_wrong else "F"
+        if is_closed(frame, self.options) or len(frame.bytes) > MOST_LISTED:
+            kind = "R"
+        digits = frame.bytes[:MOST_LISTED].hex()
         self.lines.append(f"{kind} {time} {place.side} {place.port} {digits}\n".encode())
         self.latest = frame.stamp
         self.arrivals += 1

@@ -4,6 +4,7 @@ from __future__ import annotations
 
 import os
 import subprocess
+from itertools import accumulate
 from typing import NamedTuple
 
 from program import TOP, Answer, Program, answers, must
@@ -79,10 +80,10 @@ def never_again(calls: list[Call], kind: str) -> None:
     )
 
 
-def whole_runs(weak: Weak) -> int:
-    """Devices that move little and don't fail change nothing; how many reads of a few bytes there
-    are."""
-    reads: list[int] = []
+def whole_runs(weak: Weak) -> dict[int, list[int]]:
+    """Devices that move little and don't fail change nothing; how many bytes each read gives, by
+    how many it may give."""
+    given: dict[int, list[int]] = {}
     for most in (1, FEW):
         for options in ([], ["--line-buffered"]):
             found, calls = weak.run(most, *options)
@@ -91,7 +92,8 @@ def whole_runs(weak: Weak) -> int:
             reads = [call.answer for call in of_kind(calls, "r")]
             must(0 not in reads[:-1], "the list was read beyond its end")
             must(weak.whole.status != 0 or reads[-1] == 0, "the list was not read to its end")
-    return len(reads)
+            given[most] = reads
+    return given
 
 
 def each_line_at_once(weak: Weak) -> None:
@@ -112,10 +114,10 @@ def each_line_at_once(weak: Weak) -> None:
                 written += call.answer
 
 
-def broken_reads(weak: Weak, most: int, reads: int) -> None:
-    """Each of the first reads, of so many bytes, fails in turn, or says that there is no more."""
-    for k in range(1, reads + 1):
-        got = most * (k - 1)
+def broken_reads(weak: Weak, most: int, reads: list[int]) -> None:
+    """Each of the first reads, which give so many bytes, fails in turn, or says that there is no
+    more."""
+    for k, got in enumerate(accumulate(reads[:-1], initial=0), 1):
         for how in ERRORS:
             found, calls = weak.run(most, read=f"{k}:{how}")
             weak.ends(found, READ, weak.lines_before(got))
@@ -163,10 +165,10 @@ def weak_devices(weak: Weak) -> None:
     """All of it, for one command on one list."""
     reads = whole_runs(weak)
     each_line_at_once(weak)
-    broken_reads(weak, FEW, reads)
-    broken_reads(weak, 1, min(FIRST, len(weak.given)))
-    both_broken(weak, reads)
-    reason_of_the_fault(weak, reads)
+    broken_reads(weak, FEW, reads[FEW])
+    broken_reads(weak, 1, reads[1][:FIRST])
+    both_broken(weak, len(reads[FEW]))
+    reason_of_the_fault(weak, len(reads[FEW]))
     broken_writes(weak, [])
     broken_writes(weak, ["--line-buffered"])
 

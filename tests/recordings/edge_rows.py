@@ -2,7 +2,6 @@
 same. Comments say where tshark 4.0.17 takes them otherwise."""
 from __future__ import annotations
 
-from frames import sealed
 from recorded import LATEST, SECTION
 from recorded_list import Options
 from recording_rows import FCS, FIRST_NS, H1, IL, LENGTHS, ONE, PL, SL, US, ZERO
@@ -61,8 +60,7 @@ def word(said: str) -> str:
 
 def pcap_rows() -> list[Row]:
     """Of pcap."""
-    long, longer = H1 + "00" * 1936, H1 + "00" * 1937
-    first = sealed(bytes.fromhex(longer))[:2000].hex()
+    long, longer = H1 + "00" * 1940, H1 + "00" * 1941
     most, over = (R(ZERO, "", f"{low(size)} {ZERO}") for size in (262_144, 262_145))
     ns = "4d3cb2a1" + PL[8:]
     return [
@@ -82,8 +80,8 @@ def pcap_rows() -> list[Row]:
         edge("pcap: ns that are a second", ns + R("00ca9a3b", H1), fault="BadTime 1"),
         edge("pcap: a ns less", ns + R("ffc99a3b", H1), ARRIVAL),
         edge("pcap: the last second", PL + R(ZERO, H1, seconds="ffffffff"), ARRIVAL),
-        edge("2,000 bytes", PL + R(ZERO, long, low(1996) * 2), f"F 0 A 1 {long}"),
-        edge("2,001 bytes", PL + R(ZERO, longer, low(1997) * 2), f"R 0 A 1 {first}"),
+        edge("2,000 bytes", PL + R(ZERO, long, low(2000) * 2), f"F 0 A 1 {long}"),
+        edge("2,001 bytes", PL + R(ZERO, longer, low(2001) * 2), f"R 0 A 1 {long}"),
         edge("more bytes than on the wire", PL + R(ZERO, H1, "3c000000 28000000"), ARRIVAL),
     ]
 

@@ -22,7 +22,7 @@ def content(chance: random.Random, is_sealed: bool) -> bytes:
     vl, side = chance.choice([1, 2]), chance.choice("AB")
     size = chance.choice([0, 5, 17, 18, 100, 1471, chance.randrange(1472)])
     if chance.random() < 0.02:
-        size = chance.choice([1948, 1949, 1950, 1953, 2500])
+        size = chance.choice([1949, 1953, 1954, 1957, 1958, 2500])
     number = chance.randrange(256)
     frame = frame_of(SENDERS[vl], vl, 1000 * vl, chance.randbytes(size), number, side)
     kind = chance.randrange(20)
