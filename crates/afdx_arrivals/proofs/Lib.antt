@@ -9,3 +9,4 @@ pub mod InputLemmas
 pub mod ListingSourceLemmas
 pub mod ListingRunLemmas
 pub mod InputSaysLemmas
+pub mod LineLawLemmas

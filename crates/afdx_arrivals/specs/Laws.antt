@@ -10,6 +10,7 @@ use Rattle.afdx_lists.specs.FrameLines.{frame_bytes}
 use Rattle.afdx_lists.specs.declared.frame_line.FrameKind.{FrameKind}
 use Rattle.afdx_arrivals.specs.Becoming.{Options, message_with, seal_with}
 use Rattle.afdx_arrivals.specs.Claims.{Ports, Agree}
+use Rattle.afdx_arrivals.specs.NumberLines.{arrivals_listed, number_lines}
 use Rattle.afdx_arrivals.specs.Sequences.{sequence}
 use Rattle.afdx_arrivals.specs.RecordingRun.{arrivals_in}
 
@@ -33,3 +34,9 @@ AreInOrder (x ∷ past) =
 abbrev pub ArrivalsAreInOrder : Type 0
 ArrivalsAreInOrder = (options : Options) (ports : Ports) (recording : Recording) →
     AreInOrder (arrivals_in (sequence options ports recording))
+
+-- the arrivals of the list that says the same as a recording are those that a run takes of it
+abbrev pub LinesAreArrivals : Type 0
+LinesAreArrivals = (options : Options) (ports : Ports) (recording : Recording) →
+    arrivals_listed (number_lines options ports recording)
+    ≡ (sequence options ports recording).sorted.items

@@ -1,5 +1,6 @@
 -- A recording as the frame list that says the same: a line for each number, up to the first fault.
 use Rattle.std.specs.Prelude.{ℕ, ◌+◌, ◌-◌, List, [], ◌∷◌, Option, Some, None, Result, Ok, Err}
+use Rattle.afdx_lists.specs.declared.frame_line.Heading.{Heading}
 use Rattle.afdx_lists.specs.declared.recording_fault.RecordingFault.{RecordingFault}
 use Rattle.afdx_recordings.specs.Recordings.{Numbered, Recording}
 use Rattle.afdx_run.specs.Engine.{Item, item_of}
@@ -8,7 +9,7 @@ use Rattle.afdx_arrivals.specs.declared.becoming.NoArrival.TheVariants as become
 use Rattle.afdx_arrivals.specs.declared.becoming.NoArrival as no_arrival
 use Rattle.afdx_arrivals.specs.declared.number_line.NumberLine.{NumberLine}
 use Rattle.afdx_arrivals.specs.declared.number_line.NumberLine.TheVariants as line
-use Rattle.afdx_arrivals.specs.Becoming.{Options, becomes}
+use Rattle.afdx_arrivals.specs.Becoming.{Options, becomes, message_with, seal_with}
 use Rattle.afdx_arrivals.specs.Claims.{Ports}
 use Rattle.afdx_arrivals.specs.Sequences.{Sorted, nothing_sorted, origin_or, sorted_with}
 
@@ -59,3 +60,15 @@ lines_from options ports sorted past recording =
 abbrev pub number_lines : Options → Ports → Recording → List (Item NumberLine)
 number_lines options ports recording =
     lines_from options ports (nothing_sorted options) [] recording
+
+-- the arrival that a line is read as, in front of those before it
+abbrev pub as_arrival : ℕ → List ℕ → NumberLine → List (Item Heading) → List (Item Heading)
+as_arrival n bytes (line.Arrival kind time side port) past =
+    item_of n (record { time = time; side = side; port = port; seal = seal_with kind bytes })
+    (message_with kind bytes) ∷ past
+as_arrival n bytes (line.Skipped reason) past = past
+
+-- those of all lines
+unfoldable pub arrivals_listed : List (Item NumberLine) → List (Item Heading)
+arrivals_listed [] = []
+arrivals_listed (x ∷ past) = as_arrival x.number x.bytes x.head (arrivals_listed past)

@@ -17,3 +17,9 @@ pub fn arrivals_have_their_bytes()
 pub fn arrivals_are_in_order()
     ensures { laws.ArrivalsAreInOrder }
 {}
+
+/// The arrivals of the list that says the same as a recording are those that a run takes of it.
+pub fn lines_are_arrivals()
+    ensures { laws.LinesAreArrivals }
+{
+}
