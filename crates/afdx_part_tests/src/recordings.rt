@@ -1,5 +1,7 @@
 //! Recordings: their frames, one at a time, also from devices that move little and fail.
 
+mod blocks;
+
 ghost use Rattle.std.specs.Prelude.{◌<◌};
 
 use afdx_lists::{RecordingFault, RunFault, Watched};
