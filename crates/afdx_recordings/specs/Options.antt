@@ -49,9 +49,10 @@ options_in order bytes = options_within (suc (length bytes)) order bytes
 abbrev pub first_said : Order → ℕ → ℕ → List Coded → Option (Option ℕ)
 first_said order code size [] = Some None
 first_said order code size (first ∷ rest) =
-    if not (first.code == code) then first_said order code size rest
-    else if length first.value == size then Some (Some (number_in order size first.value))
-    else None
+    if first.code == code
+    then (if length first.value == size
+    then Some (Some (number_in order size first.value)) else None)
+    else first_said order code size rest
 
 -- the number that the options in these bytes say for a code
 unfoldable pub said : Order → ℕ → ℕ → List ℕ → Option (Option ℕ)
