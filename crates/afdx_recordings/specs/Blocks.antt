@@ -45,7 +45,8 @@ longest_block = 16777216
 -- whether a block of this kind may have so many bytes
 unfoldable pub is_size : Kind → ℕ → Bool
 is_size kind size =
-    nat_le (least_of kind) size && size % 4 == 0 && (not (is_held kind) || nat_le size longest_block)
+    nat_le (least_of kind) size && size % 4 == 0
+    && (not (is_held kind) || nat_le size longest_block)
 
 -- the number by which a section tells its order
 abbrev pub order_magic : ℕ

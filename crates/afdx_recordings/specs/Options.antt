@@ -1,4 +1,5 @@
--- Options of a block: code and length, 16 bits each, and a value, filled up to a multiple of 4 bytes.
+-- Options of a block: code and length, 16 bits each, and a value, filled up to a multiple of 4
+-- bytes.
 use Rattle.std.specs.Prelude.{ℕ, zero, suc, ◌+◌, ◌*◌, ◌/◌, ◌==◌, List, [], ◌∷◌, length, take, drop, nat_lt, Option, Some, None, option_map, option_and_then, if◌then◌else◌}
 use Rattle.afdx_recordings.specs.declared.order.Order.{Order}
 use Rattle.afdx_recordings.specs.declared.options.NextOption.{NextOption}
@@ -49,7 +50,8 @@ abbrev pub first_said : Order → ℕ → ℕ → List Coded → Option (Option 
 first_said order code size [] = Some None
 first_said order code size (first ∷ rest) =
     if first.code == code
-    then (if length first.value == size then Some (Some (number_in order size first.value)) else None)
+    then (if length first.value == size then Some (Some (number_in order size first.value))
+    else None)
     else first_said order code size rest
 
 -- the number that the options in these bytes say for a code

@@ -34,7 +34,7 @@ or_damaged state None says = Wrong (Damaged state.numbers)
 or_damaged state (Some x) says = says x
 
 -- a section: version 1.0 or 1.2; its interfaces are counted anew
-unfoldable pub is_section_version : Order → List ℕ → Bool
+abbrev pub is_section_version : Order → List ℕ → Bool
 is_section_version order body =
     half_at order 4 body == 1 && (half_at order 6 body == 0 || half_at order 6 body == 2)
 

@@ -63,7 +63,8 @@ returns-clause-tells g c =
     TellsBlock-skipped c.take_skipped.result _ (standing g.R.Read.remaining c.fill.new.self c.fill.new.input) _ _ _ _
     c.args.head all.0 c.requires.form c.take_skipped.ensures.form passes c.requires.few c.requires.held c.requires.told
     least size (c.fill.ensures.enough (search rules)) refl refl refl c.take_skipped.ensures.rest
-    (c.take_skipped.ensures.meant all.0 size (told_behind _ _ (state_of c.args.self.now) c.args.head all.0 passes c.requires.held c.requires.told))
+    (c.take_skipped.ensures.meant all.0 size
+    (told_behind _ _ (state_of c.args.self.now) c.args.head all.0 passes c.requires.held c.requires.told))
 
 pub returns-clause-failed : goal.returns-clause-failed
 returns-clause-failed g c =
