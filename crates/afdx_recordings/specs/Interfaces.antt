@@ -15,7 +15,7 @@ check_said None = Unsaid
 check_said (Some bytes) = check_sequence_of bytes
 
 -- an interface by its block's body and options; stamps are in us if no option says their unit
-unfoldable pub interface_with : Order → List ℕ → Option ℕ → Option ℕ → Option ℕ → Interface
+abbrev pub interface_with : Order → List ℕ → Option ℕ → Option ℕ → Option ℕ → Interface
 interface_with order body resolution check offset = record {
   link_type = half_at order 0 body;
   snap = word_at order 4 body;

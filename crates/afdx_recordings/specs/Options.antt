@@ -50,8 +50,8 @@ abbrev pub first_said : Order → ℕ → ℕ → List Coded → Option (Option 
 first_said order code size [] = Some None
 first_said order code size (first ∷ rest) =
     if first.code == code
-    then (if length first.value == size
-    then Some (Some (number_in order size first.value)) else None)
+    then (if length first.value == size then Some (Some (number_in order size first.value))
+    else None)
     else first_said order code size rest
 
 -- the number that the options in these bytes say for a code

@@ -31,7 +31,7 @@ check_by_flags said flags =
     if flags / 2 ^ 5 % 2 ^ 4 == 0 then said else check_sequence_of (flags / 2 ^ 5 % 2 ^ 4)
 
 -- bit 24 says that the recorder found the check sequence wrong
-unfoldable pub is_found_wrong : ℕ → Bool
+abbrev pub is_found_wrong : ℕ → Bool
 is_found_wrong flags = flags / 2 ^ 24 % 2 == 1
 
 -- a frame by the body of its packet and its flags

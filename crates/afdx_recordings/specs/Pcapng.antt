@@ -34,8 +34,8 @@ or_damaged state None says = Wrong (Damaged state.numbers)
 or_damaged state (Some x) says = says x
 
 -- a section: version 1.0 or 1.2; its interfaces are counted anew
-unfoldable pub is_version : Order → List ℕ → Bool
-is_version order body =
+abbrev pub is_section_version : Order → List ℕ → Bool
+is_section_version order body =
     half_at order 4 body == 1 && (half_at order 6 body == 0 || half_at order 6 body == 2)
 
 abbrev pub after_section : State → Order → State
@@ -48,7 +48,7 @@ after_section state order = record state {
 
 unfoldable pub section_meaning : State → Order → List ℕ → Meaning
 section_meaning state order body =
-    if is_version order body then Says (after_section state order) None
+    if is_section_version order body then Says (after_section state order) None
     else Wrong (BadVersion state.numbers)
 
 -- an interface, if there aren't too many

@@ -57,7 +57,7 @@ fn check_of(interface: CheckSequence, flags: u64) -> CheckSequence
 }
 
 /// The frame of a packet with such flags.
-#[tactic(auto, unfolding(crate::specs::Packets::packet_frame, crate::specs::Packets::is_found_wrong))]
+#[tactic(auto, unfolding(crate::specs::Packets::packet_frame))]
 fn frame_with(
     order: Order,
     body: &[u8],

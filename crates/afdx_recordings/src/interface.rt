@@ -60,7 +60,7 @@ fn check_by_option(bytes: Option<u64>) -> CheckSequence
 }
 
 /// An interface, by the body of the block that describes it. None: its options are wrong.
-#[tactic(auto, unfolding(crate::specs::Interfaces::interface_by, crate::specs::Interfaces::interface_with))]
+#[tactic(auto, unfolding(crate::specs::Interfaces::interface_by))]
 pub fn interface_of(order: Order, body: &[u8]) -> Option<Interface>
     requires { 8 ≤ length body.now }
     ensures { result ≡ interface_by order body.now }

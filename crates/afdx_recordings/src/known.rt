@@ -1,6 +1,6 @@
 //! What is known of a recording before a block.
 
-ghost use Rattle.std.specs.Prelude.{◌≡◌, ◌≤◌, ◌<◌, ◌+◌, length, slice_get, vec_len, IfSome};
+ghost use Rattle.std.specs.Prelude.{◌≡◌, ◌≤◌, ◌<◌, ◌+◌, length, slice_get, vec_len, IfSome, MatchResult};
 
 use crate::block::Kind;
 use crate::block_packet::{Placed, packet_of, simple_packet_of};
@@ -47,6 +47,7 @@ impl Known {
     ghost use Rattle.afdx_recordings.specs.Recordings.{after_block, lost_by};
     ghost use Rattle.afdx_recordings.specs.Blocks.{least_of};
     ghost use Rattle.afdx_recordings.specs.Pcapng.{section_meaning, interface_meaning};
+    ghost use Rattle.afdx_recordings.specs.Pcapng.{after_interface};
     ghost use Rattle.afdx_recordings.specs.Pcapng.{statistics_meaning, packet_meaning_at};
     ghost use Rattle.afdx_recordings.specs.Pcapng.{simple_meaning, kind_meaning};
     ghost use Rattle.afdx_recordings.specs.Pcapng.{Means, Counts, IsPlaced};
@@ -114,7 +115,7 @@ impl Known {
     }
 
     /// A section begins.
-    #[tactic(auto, unfolding(crate::specs::Pcapng::section_meaning, crate::specs::Pcapng::is_version))]
+    #[tactic(auto, unfolding(crate::specs::Pcapng::section_meaning))]
     fn begin_section(&mut self, order: Order, body: &[u8]) -> Result<Option<Placed>, RunFault>
         requires few { self.old.blocks < 100000000000000000 }
         requires long { 16 ≤ length body.now }
@@ -136,6 +137,19 @@ impl Known {
         }
     }
 
+    /// Keeps an interface more, if there is room.
+    fn keep(&mut self, interface: Interface) -> Result<(), AllocError>
+        requires few { self.old.blocks < 100000000000000000 }
+        requires few_interfaces { vec_len self.old.interfaces < 4096 }
+        ensures { MatchResult result
+            (λ _. state_of_known self.new ≡ after_interface (state_of_known self.old) interface)
+            (λ _. state_of_known self.new ≡ state_of_known self.old) }
+    {
+        self.interfaces.push(interface)?;
+        self.blocks += 1;
+        Ok(())
+    }
+
     /// An interface is described.
     #[tactic(auto, unfolding(crate::specs::Pcapng::interface_meaning))]
     fn add_interface(&mut self, order: Order, body: &[u8]) -> Result<Option<Placed>, RunFault>
@@ -151,13 +165,10 @@ impl Known {
             return Err(self.damaged());
         }
         match interface_of(order, body) {
-            Some(interface) => match self.interfaces.push(interface) {
-                Ok(()) => {
-                    self.blocks += 1;
-                    Ok(None)
-                }
-                Err(refused) => Err(AllocError::from(refused).into()),
-            },
+            Some(interface) => {
+                self.keep(interface)?;
+                Ok(None)
+            }
             None => Err(self.damaged()),
         }
     }
