@@ -42,7 +42,6 @@ MEMORY = {
     "crates/afdx/src/main.rt": {"memory"},
     "crates/afdx_config/src/asked.rt": {"links_in"},
     "crates/afdx_config/src/read.rt": {"tree_of"},
-    "crates/afdx_recordings/src/known.rt": {"add_interface"},
     "crates/afdx_replay/src/refusing.rt": {"want_memory"},
     "crates/afdx_send/src/fault.rt": {""},  # the row of a table
     "crates/afdx_replay/src/sending/run.rt": {"refusal_of"},
