@@ -73,8 +73,8 @@ fn run_recorded<R: Read, M: Machine<Heading>, O: Sink>(
 /// lines, or what is no arrival.
 ///
 /// The input is read as a recording if it begins as one, or if an option of recordings is given;
-/// else as a list of frames. The whole text of a line or an arrival is handed to `output` before the
-/// next byte is read. The first fault ends the run; what was told before it stands written.
+/// else as a list of frames. The whole text of a line or an arrival is handed to `output` before
+/// the next byte is read. The first fault ends the run; what was told before it stands written.
 /// `RunFault::Read` and `RunFault::Write` come exactly where the input's or the output's device
 /// failed; neither is tried again.
 pub fn run_input<R: Read, M: Machine<Heading>, O: Sink>(

@@ -239,8 +239,8 @@ fn words(_rt: HostRuntime) -> Result<(), Fail> {
     equal(SKIPPED[5].1, "before-origin")
 }
 
-/// The port of a frame of the first system, where all frames come in at port 5, and where each comes
-/// in at its system's.
+/// The port of a frame of the first system, where all frames come in at port 5, and where each
+/// comes in at its system's.
 fn unsaid_ports(alloc: Global) -> Result<(Option<u8>, Option<u8>), ConfigFault> {
     let tables = base_tables(alloc)?;
     let one = SystemPorts::unsaid(alloc, UnsaidPort::One(5))?;

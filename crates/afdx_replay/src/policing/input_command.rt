@@ -20,9 +20,9 @@ use afdx_text::{Sink, tell};
 use std::alloc::Global;
 use std::io::{Read, Write};
 
-/// Polices the frames of an input for one virtual link, a list of frames as `police_and_count` does,
-/// or a recording: verdicts go to `output`, a fault's one line to `errors`. It also gives what the
-/// run counted.
+/// Polices the frames of an input for one virtual link, a list of frames as `police_and_count`
+/// does, or a recording: verdicts go to `output`, a fault's one line to `errors`. It also gives what
+/// the run counted.
 ///
 /// The input's first four bytes are looked at. It is a recording if it begins as one; if an option
 /// of recordings is given, it has to be. Frames of a recording come in at the rule's port, where no

@@ -19,9 +19,9 @@ use std::io::{Read, Write};
 /// gives what the run counted.
 ///
 /// Nothing of the input is read before the tables are taken; then its first four bytes are looked
-/// at. It is a recording if it begins as one; if an option of recordings is given, it has to be. The
-/// exit status is 0 done, 1 a fault of the configuration or tables that are not admitted, 3 a fault
-/// of the list or the recording, 4 a device or memory.
+/// at. It is a recording if it begins as one; if an option of recordings is given, it has to be.
+/// The exit status is 0 done, 1 a fault of the configuration or tables that are not admitted, 3 a
+/// fault of the list or the recording, 4 a device or memory.
 pub fn replay_input<R: Read, O: Sink, E: Write>(
     alloc: Global,
     admission: bool,
