@@ -42,6 +42,11 @@ which is added), B (the same with a wrong check sequence) or R (bytes as they
 are); time is in ns, side A or B, port 1 to 24; HEX is '-' for no bytes. Lines
 that are empty or begin with '#' are skipped.
 
+LIST may also be a recording (pcap). Then n is the number of a frame, as Wireshark
+counts, and frames come in at the link's port and at the network that their source
+address names, where --interface doesn't say another. What is left out only
+--summary tells, in its line 'skipped ..'.
+
 A closed pipe, as with '| head', is the fault 'device Write', status 4.
 
 Examples:
@@ -51,7 +56,7 @@ Examples:
 pub const CONFIG_HELP: &str = "The path of a configuration (TOML), at most 4,194,304 bytes; \
 /dev/stdin for standard input";
 
-const LIST_HELP: &str = "The path of a frame list or a recording (pcap, pcapng), or - for \
+const LIST_HELP: &str = "The path of a frame list or a recording (pcap), or - for \
 standard input";
 
 /// A command, as yet without words.
@@ -183,8 +188,11 @@ A line is printed for each event, in the order of time:
 
 At one time the frames that leave come first, side A before B, then by port; then
 the frames that arrive, line by line; then those that are dropped as too old.
-LIST is as for 'police'. The tables of CONFIG have to be admitted, as 'check' says,
-but for the option --no-admission.
+LIST is as for 'police'; of a recording n is the number of a frame, and where no
+option says it a frame came in at the port of the system that its source address
+names. What is left out only --summary tells, in its line 'skipped ..'.
+The tables of CONFIG have to be admitted, as 'check' says, but for the option
+--no-admission.
 
 A closed pipe, as with '| head', is the fault 'device Write', status 4.
 

@@ -1,5 +1,5 @@
 -- What the answer of a run over an input says of its arrivals, whatever machine told them.
-use Rattle.std.proofs.Common.{◌≡◌, ℕ, List, Option, Some, None, Result, Ok, Err, IfSome, true, false, Bool}
+use Rattle.std.proofs.Common.{ℕ, List, Option, Some, None, Ok, Err, IfSome, true, false, Bool}
 use Rattle.afdx_lists.specs.Lines.{lines_of}
 use Rattle.afdx_lists.specs.declared.frame_line.Heading.{Heading}
 use Rattle.afdx_lists.specs.declared.fault.RunFault.{RunFault}

@@ -1,5 +1,5 @@
 -- What a run over an input answers that is a list of frames, or a recording.
-use Rattle.std.specs.Prelude.{ℕ, ◌≡◌, ◌≤◌, ◌+◌, ◌||◌, ⊤, Bool, true, false, List, Option, Result, Ok, Err}
+use Rattle.std.specs.Prelude.{ℕ, ◌≤◌, ◌+◌, ◌||◌, Bool, true, false, List, Option, Result, Ok, Err}
 use Rattle.afdx_lists.specs.Lines.{most_reads}
 use Rattle.afdx_lists.specs.declared.frame_line.Heading.{Heading}
 use Rattle.afdx_lists.specs.declared.fault.RunFault.{RunFault}

@@ -1,5 +1,5 @@
 -- The lines of one port more.
-use Rattle.std.proofs.Common.{◌≡◌, ℕ, ◌+◌, List, [], ◌∷◌, ◌++◌, Bool, true, false, is_some, refl, sym}
+use Rattle.std.proofs.Common.{◌≡◌, ℕ, ◌+◌, List, [], ◌++◌, Bool, true, false, is_some, refl, sym}
 use Rattle.std.proofs.Common.{ap, ◌∙◌, append_assoc, add-one, Option, Some, None, slice_get, take}
 use Rattle.std.specs.Prelude.{if◌then◌else◌}
 use Rattle.std.specs.List.{flat_map}

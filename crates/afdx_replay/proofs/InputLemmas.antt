@@ -1,35 +1,30 @@
 -- What a replay, or a run that polices one link, answers over an input, a list or a recording.
-use Rattle.std.proofs.Common.{◌≡◌, ℕ, List, [], ◌++◌, Option, Some, None, Result, Ok, Err, IfSome, true, false, Bool, refl, ap, sym, ◌∙◌, subst, inl, inr, ◌⊎◌}
+use Rattle.std.proofs.Common.{◌≡◌, ℕ, List, Option, Some, None, Ok, Err, IfSome, true, false, Bool, refl, ap, ◌∙◌, subst}
 use Rattle.std.specs.Io.KnownBytes.{Keeps}
 use Rattle.afdx_frame.specs.declared.by_side.BySide.{BySide}
 use Rattle.afdx_config.specs.Rows.{Rows}
 use Rattle.afdx_lists.specs.declared.fault.RunFault.{RunFault}
 use Rattle.afdx_lists.specs.declared.watched.Watched.{Watched}
-use Rattle.afdx_lists.specs.Lines.{lines_of}
 use Rattle.afdx_network.specs.Order.{events_of}
 use Rattle.afdx_police.specs.Arrival.{Arrival}
 use Rattle.afdx_police.specs.Rule.{Rule}
 use Rattle.afdx_police.specs.declared.account.LinkAccount.{LinkAccount}
-use Rattle.afdx_run.specs.ListRun as list
-use Rattle.afdx_run.specs.Listed.{frames}
 use Rattle.afdx_run.specs.Stops.{StopsAt}
 use Rattle.afdx_arrivals.specs.Becoming.{Options}
 use Rattle.afdx_arrivals.specs.Claims.{Ports, ports_of_senders, one_port}
-use Rattle.afdx_arrivals.specs.InputRun.{InputAnswers, IsAskedFew}
-use Rattle.afdx_arrivals.specs.RecordingRun.{IsOver, StopsRecorded, sequence_of_bytes, arrivals_in, tally_of}
+use Rattle.afdx_arrivals.specs.RecordingRun.{IsOver, sequence_of_bytes, arrivals_in}
 use Rattle.afdx_arrivals.specs.declared.input_run.InputCount.{InputCount}
 use Rattle.afdx_arrivals.specs.declared.input_run.InputCount.TheVariants as count
 use Rattle.afdx_arrivals.specs.declared.recording_run.Tally.{Tally}
-use Rattle.afdx_arrivals.proofs.InputSaysLemmas.{StopsInput, IsTold, input-err, input-ok, if-more}
+use Rattle.afdx_arrivals.proofs.InputSaysLemmas.{StopsInput, IsTold, if-more}
 use Rattle.afdx_replay.specs.Inputs.{counted_over, summary_of}
 use Rattle.afdx_replay.specs.policing.Input as police
 use Rattle.afdx_replay.specs.policing.Policed.{WritesText, WritesBeginning}
 use Rattle.afdx_replay.specs.policing.Told as police_told
-use Rattle.afdx_replay.specs.policing.Text.{counts_of}
 use Rattle.afdx_replay.specs.replaying.Early.{TellsEarly, TellsMost}
 use Rattle.afdx_replay.specs.replaying.Input.{AnswersInput, ExplainsInput}
 use Rattle.afdx_replay.specs.replaying.Replayed.{Known, WritesSoFar, WritesSome, ToldAll}
-use Rattle.afdx_replay.specs.replaying.Text.{replay_text, replay_counts}
+use Rattle.afdx_replay.specs.replaying.Text.{replay_counts}
 use Rattle.afdx_replay.specs.declared.summary.Summary.{Summary}
 use Rattle.afdx_replay.proofs.ReplayLemmas.{told-done}
 use Rattle.afdx_replay.proofs.ToldLemmas as police_lemmas

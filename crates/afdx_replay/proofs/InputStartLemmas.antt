@@ -1,5 +1,5 @@
 -- Before an input is read: memory ran out, or its first bytes were looked at.
-use Rattle.std.proofs.Common.{◌≡◌, ◌≤◌, ℕ, List, [], ◌++◌, append-nil, Option, Some, None, Result, Ok, Err, IfSome, true, false, Bool, refl, sym, subst, arith, inl}
+use Rattle.std.proofs.Common.{◌≡◌, ℕ, List, [], append-nil, Option, Some, None, Result, Ok, Err, IfSome, true, false, Bool, refl, sym, subst, arith, inl}
 use Rattle.std.proofs.KnownBytes.{Appends-nil}
 use Rattle.std.specs.Io.KnownBytes.{Keeps}
 use Rattle.afdx_config.specs.Admission.{IsAdmitted}

@@ -24,3 +24,4 @@ mod OneRunLemmas
 mod InputLemmas
 mod PromisedInputLemmas
 mod InputStartLemmas
+mod ListingLemmas

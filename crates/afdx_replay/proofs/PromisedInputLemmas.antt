@@ -1,37 +1,26 @@
 -- A replay of admitted tables tells what is promised, of a list or of a recording.
-use Rattle.std.proofs.Common.{◌≡◌, ◌≤◌, ℕ, List, [], ◌∷◌, ◌++◌, Option, Some, None, Result, Ok, Err, IfSome, true, false, Bool, refl, ap, sym, ◌∙◌, subst, arith}
-use Rattle.std.specs.Io.KnownBytes.{Appends}
-use Rattle.std.proofs.KnownBytes.{Appends-nil}
+use Rattle.std.proofs.Common.{ℕ, List, [], ◌∷◌, ◌++◌, Some, None, Result, Ok, Err, IfSome, true, false, Bool, ap, subst, arith}
 use Rattle.afdx_config.proofs.AmongOthersLemmas.{among-others, admitted-serving}
 use Rattle.afdx_config.specs.Admission.{IsAdmitted}
 use Rattle.afdx_config.specs.Lawful.{IsLawful}
 use Rattle.afdx_config.specs.Rows.{Rows}
 use Rattle.afdx_bounds.specs.Outputs.{AreTimed}
-use Rattle.afdx_lists.specs.Lines.{most_reads}
 use Rattle.afdx_lists.specs.declared.fault.RunFault.{RunFault}
-use Rattle.afdx_lists.specs.declared.fault.RunFault.TheVariants as run
-use Rattle.afdx_network.specs.Order.{events_of}
 use Rattle.afdx_police.specs.Arrival.{Arrival}
-use Rattle.afdx_run.specs.Listed.{frames}
-use Rattle.afdx_run.specs.Lists.{latest_in}
 use Rattle.afdx_switch.specs.Admitted.{IsAdmittedRun}
 use Rattle.afdx_arrivals.specs.Becoming.{Options}
 use Rattle.afdx_arrivals.specs.Claims.{Ports, ports_of_senders}
-use Rattle.afdx_arrivals.specs.InputRun.{IsAskedFew}
 use Rattle.afdx_arrivals.specs.Laws.{AreInOrder}
 use Rattle.afdx_arrivals.specs.RecordingRun.{arrivals_in, sequence_of_bytes}
 use Rattle.afdx_arrivals.proofs.InputLemmas.{recorded-more}
 use Rattle.afdx_arrivals.proofs.LawLemmas.{bytes-in-order}
-use Rattle.afdx_arrivals.proofs.RecordingRunLemmas.{unasked}
 use Rattle.afdx_replay.specs.Inputs.{summary_in}
 use Rattle.afdx_replay.specs.replaying.Input.{AnswersInput, PromisedInput}
 use Rattle.afdx_replay.specs.replaying.PromisedRun.{WritesPromisedSoFar, WritesPromisedSome}
 use Rattle.afdx_replay.specs.replaying.Replayed.{Known, WritesSoFar, WritesSome}
-use Rattle.afdx_replay.specs.replaying.Text.{replay_text}
 use Rattle.afdx_replay.specs.declared.summary.InputSummary.{InputSummary}
 use Rattle.afdx_replay.specs.declared.summary.Summary.{Summary}
 use Rattle.afdx_replay.proofs.AdmittedRunLemmas.{latest-most, as-promised, so-far-promised, some-promised, promised-answers}
-use Rattle.afdx_replay.proofs.ReplayLemmas.{stops-start}
 
 -- ---- the arrivals of a recording are a run of admitted tables
 

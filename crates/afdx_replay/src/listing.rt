@@ -1,11 +1,12 @@
 //! The command `list`.
 
-ghost use Rattle.std.specs.Prelude.{◌≡◌, ◌||◌, ◌⊎◌, ◌↔◌, IsSome, IfSome, OnOk, false, true};
-ghost use Rattle.afdx_config.specs.Rows.{Rows};
+ghost use Rattle.std.specs.Prelude.{◌≡◌, ◌||◌, ◌⊎◌, ◌↔◌, IsSome, IfSome, OnOk, OnErr, false, true};
+ghost use Rattle.std.specs.Result.{result_ok};
 ghost use Rattle.afdx_lists.specs.Calls.{is_failed_read, is_failed_write};
 ghost use Rattle.afdx_lists.specs.Watching.{device_of, has_ended, has_failed};
 ghost use Rattle.afdx_arrivals.specs.Becoming.{options_of};
-ghost use Rattle.afdx_replay.specs.Listing.{AnswersListing, EndsListing};
+ghost use Rattle.afdx_text.specs.Telling.{TellsLine};
+ghost use Rattle.afdx_replay.specs.Listing.{AnswersListing, EndsListing, status_of_listing};
 
 use crate::refusing::refuse_config;
 use crate::status::DONE;
@@ -43,6 +44,29 @@ fn list_in<R: Read, O: Sink>(
 {
     let ports = SystemPorts::by_sender(alloc, tables)?;
     list_recording(alloc, options, ports, input, output)
+}
+
+/// Tells `errors` the fault of a listing in one line, if it has one.
+fn end_listing<E: Write>(answer: Result<Tally, RunFault>, errors: &mut Watched<E>) -> ListEnded
+    ensures status { result.status ≡ status_of_listing answer }
+    ensures tally { result.tally ≡ result_ok answer }
+    ensures counts { IsSome result.tally ↔ (result.status ≡ 0) }
+    ensures told { OnErr answer (TellsLine E.contents errors.old errors.new) }
+    ensures silent { OnOk answer (errors.new ≡ errors.old) }
+{
+    match answer {
+        Ok(tally) => ListEnded {
+            status: DONE,
+            tally: Some(tally),
+        },
+        Err(fault) => {
+            tell_fault(errors, &fault);
+            ListEnded {
+                status: fault.status(),
+                tally: None,
+            }
+        }
+    }
 }
 
 /// Writes a recording as the frame list that says the same, a line for each number: that of its
@@ -87,17 +111,6 @@ pub fn list_and_count<R: Read, O: Sink, E: Write>(
             };
         }
     };
-    match list_in(alloc, options, &tables, input, output) {
-        Ok(tally) => ListEnded {
-            status: DONE,
-            tally: Some(tally),
-        },
-        Err(fault) => {
-            tell_fault(errors, &fault);
-            ListEnded {
-                status: fault.status(),
-                tally: None,
-            }
-        }
-    }
+    let answer = list_in(alloc, options, &tables, input, output);
+    end_listing(answer, errors)
 }

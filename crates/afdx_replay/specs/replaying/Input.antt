@@ -10,8 +10,6 @@ use Rattle.afdx_arrivals.specs.Becoming.{Options}
 use Rattle.afdx_arrivals.specs.Claims.{ports_of_senders}
 use Rattle.afdx_arrivals.specs.RecordingRun.{arrivals_in, sequence_of_bytes, tally_of, HasNoFault, StopsRecorded}
 use Rattle.afdx_arrivals.specs.Sequences.{Outcome}
-use Rattle.afdx_promises.specs.Lines.{Line}
-use Rattle.afdx_promises.specs.Promises.{KeepsPromises, EachIsToldOnce, EachIsToldOnceSoFar, StreamsAreAccepted}
 use Rattle.afdx_replay.specs.Inputs.{counted_over, summary_in, tally_in}
 use Rattle.afdx_replay.specs.replaying.Early.{ExplainsAnswer, TellsEarly, TellsMost}
 use Rattle.afdx_replay.specs.replaying.PromisedRun.{PromisedAnswers, IsAsPromised, WritesPromisedSoFar, WritesPromisedSome}

@@ -14,8 +14,8 @@ use Rattle.afdx_replay.specs.replaying.Promises.{text_of, AreListed}
 use Rattle.afdx_run.specs.Stops.{StopsAt}
 use Rattle.afdx_replay.specs.declared.summary.Summary.{Summary}
 
--- of these arrivals and of all that leaves the output, which held `old`, now holds after it the text
--- of lines that keep the promises, and nothing is lost or too old
+-- of these arrivals and of all that leaves the output, which held `old`, now holds after it the
+-- text of lines that keep the promises, and nothing is lost or too old
 pub record IsAsPromised (t : Rows) (arrivals : List Arrival) (old new : Option (List ℕ))
     (summary : Summary) : Type 0 where
   pub lines : List Line

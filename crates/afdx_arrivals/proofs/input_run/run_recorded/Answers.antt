@@ -1,4 +1,4 @@
-use Rattle.std.proofs.Common.{rules, Ok, Err, IfSome}
+use Rattle.std.proofs.Common.{rules}
 use Rattle.afdx_arrivals.specs.Becoming.{options_of}
 use Rattle.afdx_arrivals.specs.Claims.{ports_of, ports_unsaid}
 use Rattle.afdx_arrivals.proofs.InputLemmas.{if-agree}

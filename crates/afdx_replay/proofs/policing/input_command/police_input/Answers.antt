@@ -1,4 +1,3 @@
-use Rattle.std.proofs.Common.{refl}
 use Rattle.afdx_replay.specs.Commands.{commanded_rule}
 use Rattle.afdx_replay.proofs.InputStartLemmas.{ends-in, polices-looked}
 use Rattle.afdx_replay.proofs.policing.input_command.police_input.Goals as goal
