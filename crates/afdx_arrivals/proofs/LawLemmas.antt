@@ -11,39 +11,23 @@ use Rattle.afdx_frame.specs.Times.{latest_listed}
 use Rattle.afdx_frame.proofs.SealingLemmas.{is_sealed-long, is_sealed-short}
 use Rattle.afdx_lists.specs.declared.recording_fault.RecordingFault.{RecordingFault}
 use Rattle.afdx_lists.specs.declared.recording_fault.RecordingFault.TheVariants as fault
-<<<<<<< HEAD
 use Rattle.afdx_lists.specs.FrameLines.{frame_bytes}
 use Rattle.afdx_lists.specs.declared.frame_line.FrameKind.{FrameKind}
 use Rattle.afdx_lists.specs.declared.frame_line.FrameKind.TheVariants.{Good, Bad, Raw}
-use Rattle.afdx_police.specs.Arrival.{Arrival}
-=======
->>>>>>> c1a911972ca24cf9c357ae37ef92eba46eb52c04
 use Rattle.afdx_recordings.specs.declared.recorded.Recorded.{Recorded}
 use Rattle.afdx_recordings.specs.declared.recorded.Recorded.TheVariants as recorded
 use Rattle.afdx_recordings.specs.declared.recorded.RecordedFrame.{RecordedFrame}
 use Rattle.afdx_recordings.specs.Reading as reading
 use Rattle.afdx_recordings.specs.Recordings.{Numbered, Ending}
 use Rattle.afdx_run.specs.Items.{arrivals}
-<<<<<<< HEAD
-use Rattle.afdx_run.specs.Lists.{latest_in}
-use Rattle.afdx_run.specs.Listed.{frames}
-=======
-use Rattle.afdx_arrivals.specs.declared.becoming.Ending.{Ending as Sealing}
-use Rattle.afdx_arrivals.specs.declared.becoming.Ending.TheVariants as ending
->>>>>>> c1a911972ca24cf9c357ae37ef92eba46eb52c04
 use Rattle.afdx_arrivals.specs.declared.becoming.Entrance.{Entrance}
 use Rattle.afdx_arrivals.specs.declared.becoming.Found.{Found}
 use Rattle.afdx_arrivals.specs.declared.becoming.NoArrival.{NoArrival}
 use Rattle.afdx_arrivals.specs.declared.becoming.NoArrival.TheVariants as no
 use Rattle.afdx_arrivals.specs.declared.places.Place.{Place}
 use Rattle.afdx_arrivals.specs.Becoming.{Options, becomes, frame_becomes, entrance_of, without_own}
-<<<<<<< HEAD
-use Rattle.afdx_arrivals.specs.Becoming.{message_with, seal_with, seal_by, check, or_else, found_with, ◌>>=◌, ◌>>◌}
-use Rattle.afdx_arrivals.specs.Becoming.{whole_moment, is_before, kind_with, ends_with_sequence}
-=======
 use Rattle.afdx_arrivals.specs.Becoming.{seal_by, check, or_else, found_with, ◌>>=◌, ◌>>◌}
-use Rattle.afdx_arrivals.specs.Becoming.{whole_moment, is_before, ending_of, ends_with_sequence}
->>>>>>> c1a911972ca24cf9c357ae37ef92eba46eb52c04
+use Rattle.afdx_arrivals.specs.Becoming.{whole_moment, is_before, kind_with, ends_with_sequence}
 use Rattle.afdx_arrivals.specs.Places.{is_left_out}
 use Rattle.afdx_arrivals.specs.declared.skipped.Skipped.TheVariants as why
 use Rattle.afdx_arrivals.specs.Counting.{skip_one}

@@ -21,13 +21,8 @@ use std::alloc::Global;
 use std::io::{Read, Write};
 
 /// Polices the frames of an input for one virtual link, a list of frames as `police_and_count`
-<<<<<<< HEAD
 /// does, or a recording: verdicts go to `output`, a fault's one line to `errors`. It also gives
 /// what the run counted.
-=======
-/// does, or a recording: verdicts go to `output`, a fault's one line to `errors`. It also gives what
-/// the run counted.
->>>>>>> c1a911972ca24cf9c357ae37ef92eba46eb52c04
 ///
 /// The input's first four bytes are looked at. It is a recording if it begins as one; if an option
 /// of recordings is given, it has to be. Frames of a recording come in at the rule's port, where no

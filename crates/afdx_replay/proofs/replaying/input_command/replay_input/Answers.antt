@@ -16,20 +16,11 @@ returns-clause-replays g c = inl (
   c.replay_input_into-answer.result,
   record {
     ends = ends-in g.E.Write.contents c.replay_input_into-answer.new.input
-<<<<<<< HEAD
-        (g.O.Sink.failed c.replay_input_into-answer.new.output) c.args.errors.now
-        c.end_input.new.errors c.end_input.result.ended c.replay_input_into-answer.result c.end_input.ensures.status
-        c.end_input.ensures.summary (rw c.in-Ok.ensures.silent at c.end_input.ensures.told)
-        (rw c.in-Ok.ensures.silent at c.end_input.ensures.silent) c.replay_input_into-answer.ensures.ended
-        c.replay_input_into-answer.ensures.read
-        c.replay_input_into-answer.ensures.write;
-=======
         (g.O.Sink.failed c.replay_input_into-answer.new.output) c.args.errors.now c.end_input.new.errors
         c.end_input.result.ended c.replay_input_into-answer.result c.end_input.ensures.status
         c.end_input.ensures.summary (rw c.in-Ok.ensures.silent at c.end_input.ensures.told)
         (rw c.in-Ok.ensures.silent at c.end_input.ensures.silent) c.replay_input_into-answer.ensures.ended
         c.replay_input_into-answer.ensures.read c.replay_input_into-answer.ensures.write;
->>>>>>> c1a911972ca24cf9c357ae37ef92eba46eb52c04
     tally = c.end_input.ensures.tally;
     replays = replays-looked g.R.Read.remaining c.args.config.now c.args.admission c.args.options c.args.input.now
         c.look.new.self c.replay_input_into-answer.new.input c.look.ensures (g.O.Sink.written c.args.output.now)
