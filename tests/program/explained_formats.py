@@ -28,8 +28,8 @@ EXAMPLES = {
     "n": "7", "port": "3", "side": "A", "time": "6720", "system": "s3", "name": "s3", "vl": "101",
     "needed": "252", "bound": "16800", "ns": "600000", "hex": "6869", "HEX": "0300", "Sk": "S1",
     "high": "16800", "low": "-", "buffer": "252", "NS": "1", "latency": "17000",
-    "VL": "104", "PORT:": "7:", "NEEDED": "267674", "ASKED": "250",
 }
+NEED = {"VL": "104", "PORT": "7", "NEEDED": "267674", "ASKED": "250"}
 LETTERS = ("D", "L", "M", "R", "T", "m")
 LISTS = {
     "drop": lists.REASONS,
@@ -109,6 +109,9 @@ def wanted_answers(texts: str) -> list[tuple[str, list[str]]]:
     for line, meaning in lines_with_meaning(texts):
         if "WORD" not in line and "Sk" not in line:
             wanted.append((example_of(line), [meaning]))
+    for line, meaning in rows_below("| Line on standard error | Meaning |", texts):
+        example = re.sub("[A-Z]+", lambda found: NEED[found.group()], line.strip("`"))
+        wanted.append((example, [meaning]))
     return wanted
 
 

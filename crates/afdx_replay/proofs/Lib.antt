@@ -2,6 +2,7 @@ pub mod TextLemmas
 pub mod ToldLemmas
 pub mod EarlyLemmas
 pub mod CheckLemmas
+mod SolveLemmas
 pub mod RefusalLemmas
 pub mod ReplayLemmas
 pub mod SendLemmas
