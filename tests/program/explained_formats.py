@@ -70,7 +70,8 @@ def plain(text: str) -> str:
 
 
 def example_of(line: str) -> str:
-    return " ".join(EXAMPLES.get(word, word) for word in line.strip("`").split())
+    first, *words = line.strip("`").split()
+    return " ".join([first, *(EXAMPLES.get(word, word) for word in words)])
 
 
 def wanted_answers(texts: str) -> list[tuple[str, list[str]]]:

@@ -3,7 +3,7 @@
 use crate::entry::Entry;
 
 /// Lines of the output.
-pub const LINES: [Entry; 13] = [
+pub const LINES: [Entry; 14] = [
     (
         "\
 accept
@@ -96,6 +96,21 @@ that were dropped at a switch; copies that were lost to a full buffer, that left
 that were dropped as too old; messages that were delivered. With 'send' accepted are the
 messages that were taken, dropped those that were refused, departed the frames that left, one
 for both sides.",
+    ),
+    (
+        "\
+recorder-lost
+claimed
+skipped no-frame n left-out n not-afdx n unknown-sender n no-network n before-origin n \
+recorder-lost n claimed n",
+        "\
+skipped: with --summary, of a recording: how many of its numbers were no arrivals, for each
+reason; then recorder-lost: frames that the recorder itself lost, by the last statistics of each
+interface in a pcapng, at most 2^64 - 1; 0 also where it has none, as in a ring of dumpcap and
+behind editcap and mergecap; then claimed: arrivals whose side or port was taken from their own
+bytes.
+'afdx list' says of each number which reason it is. --interface says where frames came in, so
+that they aren't claimed.",
     ),
     (
         "\
