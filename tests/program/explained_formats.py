@@ -70,8 +70,7 @@ def plain(text: str) -> str:
 
 
 def example_of(line: str) -> str:
-    first, *words = line.strip("`").split()
-    return " ".join([first, *(EXAMPLES.get(word, word) for word in words)])
+    return " ".join(EXAMPLES.get(word, word) for word in line.strip("`").split())
 
 
 def wanted_answers(texts: str) -> list[tuple[str, list[str]]]:
