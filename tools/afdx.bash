@@ -63,7 +63,7 @@ _afdx() {
     local recorded=(--interface --fcs --origin)
     COMPREPLY=()
     if ((COMP_CWORD == 1)); then
-        _afdx_commands check explain police replay send solve
+        _afdx_commands check explain list police replay send solve
         return
     fi
     _afdx_read 2 --vl --port --lmin --policing --keep "${recorded[@]}"
@@ -71,6 +71,7 @@ _afdx() {
         case $command in
             replay) _afdx_words --no-admission --explain-drops "${recorded[@]}" "${told[@]}" ;;
             send) _afdx_words "${told[@]}" ;;
+            list) _afdx_words "${recorded[@]}" "${told[@]}" ;;
             police) _afdx_words --vl --port --lmin --policing "${recorded[@]}" "${told[@]}" ;;
             check) _afdx_words --all --margins --explain --help ;;
             solve) _afdx_words --keep --raise-only --explain --help ;;
@@ -89,7 +90,8 @@ _afdx() {
     case $command.${#given[@]} in
         police.0) _afdx_words 1 2 4 8 16 32 64 128 ;;
         police.3 | replay.1) _afdx_files list pcap pcapng ;;
-        check.0 | replay.0 | send.0 | solve.0) _afdx_files toml ;;
+        list.1) _afdx_files pcap pcapng ;;
+        check.0 | list.0 | replay.0 | send.0 | solve.0) _afdx_files toml ;;
         send.1) _afdx_systems "${given[0]}" ;;
         send.2) _afdx_files list messages ;;
     esac

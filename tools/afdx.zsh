@@ -46,6 +46,9 @@ _afdx_program() {
                 '--no-admission[also where the network is refused]' \
                 '--explain-drops[print how much too early frames came]' ":$config" ":$input"
             ;;
+        list)
+            _arguments $help $told $recorded ":$config" ':recording:_files -g "*.(pcap|pcapng)(-.)"'
+            ;;
         send)
             _arguments $help $told ":$config" ':system:_afdx_systems' \
                 ':submission list:_files -g "*.(list|messages)(-.)"'
@@ -94,7 +97,7 @@ _afdx_of_commands() { # FUNCTION COMMAND.. : the first word is one of the comman
 }
 
 case $service in
-    afdx) _afdx_of_commands _afdx_program check explain police replay send solve ;;
+    afdx) _afdx_of_commands _afdx_program check explain list police replay send solve ;;
     afdx-capture) _afdx_of_commands _afdx_capture list pcap annotate ;;
     afdx-report)
         _arguments $help $version '--out[the folder for page, CSV and JSON]:folder:_path_files -/' \

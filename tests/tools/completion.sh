@@ -47,7 +47,7 @@ offer_tests() { # SHELL
         offers "$1" 'afdx replay --n' --no-admission
         offers "$1" 'afdx police --po' --policing --port
         offers "$1" 'afdx police --policing ' byte frame
-        offers "$1" 'afdx solve --keep ' jitter skew
+        offers "$1" 'afdx solve --keep ' buffer jitter latency skew
         offers "$1" 'afdx solve --ra' --raise-only
         offers "$1" 'afdx police 1' 1 16 128
         offers "$1" 'afdx police --vl 501 --port 5 1' 1 16 128
@@ -69,6 +69,7 @@ offer_tests() { # SHELL
         offers "$1" "afdx replay --no-admission $files/" one.toml
         offers "$1" "afdx replay $files/one.toml $files/" two.list four.pcap
         offers "$1" "afdx police --vl 7 1 64 500 $files/" two.list four.pcap
+        offers "$1" "afdx list $files/one.toml $files/" four.pcap
         offers "$1" "afdx send $files/one.toml adc $files/" two.list three.messages
         offers "$1" "afdx-capture list --config $files/" one.toml
         offers "$1" "afdx-capture list --config $files/one.toml $files/" four.pcap five.pcapng.gz
@@ -105,7 +106,7 @@ each_help() { # FUNCTION WORD.. : calls it with the words, a command's name and 
         "$@" "$name" "$work/options"
     done
     if ! options_of "$program" replay | grep -qx -- --summary; then return; fi
-    for name in check police replay send solve; do
+    for name in check list police replay send solve; do
         options_of "$program" "$name" >"$work/options"
         "$@" "afdx $name" "$work/options"
     done

@@ -21,14 +21,15 @@ Times are in ns from the first arrival, or from --origin. A frame's port is that
 system of CONFIG that its source address names, and its side the network that it names,
 where no --interface says them. CONFIG need not be admitted. A frame of which over 2,000
 bytes were recorded stands as its first 2,000. Up to 1,000,000 lines 'replay' and
-'police' read the list as they do the recording.
+'police' read the list as they do the recording. --summary prints how many are no
+arrivals, in the line 'skipped ..'.
 
 A closed pipe, as with '| head', is the fault 'device Write', status 4.
 
 Example:
   afdx list --interface 0=A:1 network.toml bench.pcap";
 
-const RECORDING_HELP: &str = "The path of a recording (pcap), or - for standard input";
+const RECORDING_HELP: &str = "The path of a recording (pcap, pcapng), or - for standard input";
 
 pub fn list_command<'a>(alloc: Global) -> Result<Command<'a>, AllocError> {
     let words = vec![in alloc;

@@ -42,10 +42,9 @@ which is added), B (the same with a wrong check sequence) or R (bytes as they
 are); time is in ns, side A or B, port 1 to 24; HEX is '-' for no bytes. Lines
 that are empty or begin with '#' are skipped.
 
-LIST may also be a recording (pcap). Then n is the number of a frame, as Wireshark
-counts, and frames come in at the link's port and at the network that their source
-address names, where --interface doesn't say another. What is left out only
---summary tells, in its line 'skipped ..'.
+LIST may also be a recording, pcap or pcapng, also one that is being made: n is then
+the number of a frame, as Wireshark counts. What was left out of it is told by
+--summary alone, in the line 'skipped ..'.
 
 A closed pipe, as with '| head', is the fault 'device Write', status 4.
 
@@ -188,11 +187,9 @@ A line is printed for each event, in the order of time:
 
 At one time the frames that leave come first, side A before B, then by port; then
 the frames that arrive, line by line; then those that are dropped as too old.
-LIST is as for 'police'; of a recording n is the number of a frame, and where no
-option says it a frame came in at the port of the system that its source address
-names. What is left out only --summary tells, in its line 'skipped ..'.
-The tables of CONFIG have to be admitted, as 'check' says, but for the option
---no-admission.
+LIST is as for 'police', a list or a recording, of which --summary alone tells what
+was left out, in the line 'skipped ..'. The tables of CONFIG have to be admitted, as
+'check' says, but for the option --no-admission.
 
 A closed pipe, as with '| head', is the fault 'device Write', status 4.
 

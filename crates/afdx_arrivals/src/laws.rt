@@ -21,5 +21,4 @@ pub fn arrivals_are_in_order()
 /// The arrivals of the list that says the same as a recording are those that a run takes of it.
 pub fn lines_are_arrivals()
     ensures { laws.LinesAreArrivals }
-{
-}
+{}

@@ -13,14 +13,15 @@ Give the file another name, or name it by a path that is text.",
     (
         "words BadInterface",
         "\
-A word of --interface isn't K=PLACE, or K was named before. K is an interface's number, in one
-to four digits, at most 4095; PLACE is A or B, A:PORT or B:PORT with a port of 1 to 24, or - to
-leave its frames out.",
+A word of --interface has another form than K=PLACE, or an interface is given twice. K is the
+interface's number as Wireshark shows it, 0 to 4095 in one to four digits; 0 in a pcap. PLACE
+is A or B, the side where its frames came in; A:P or B:P with the switch's port P, 1 to 24; or
+- to leave them out.",
     ),
     (
         "words BadNumber",
         "\
-The number of --origin is over 9223372036854775807. It is a moment in ns since 1970.",
+The number of --origin is over 2^63 - 1. It is the moment that is time 0, in ns since 1970.",
     ),
     (
         "words BadRule",

@@ -3,7 +3,7 @@
 use crate::entry::Entry;
 
 /// Lines of the output.
-pub const LINES: [Entry; 13] = [
+pub const LINES: [Entry; 14] = [
     (
         "\
 accept
@@ -99,12 +99,18 @@ for both sides.",
     ),
     (
         "\
+recorder-lost
+claimed
 skipped no-frame n left-out n not-afdx n unknown-sender n no-network n before-origin n \
 recorder-lost n claimed n",
         "\
-skipped: how many numbers of a recording were no arrival, by the reason, which 'afdx explain'
-knows. recorder-lost are frames that the recorder itself lost, by its statistics, claimed the
-arrivals whose side or port was taken from the frame's own source address.",
+skipped: with --summary, of a recording: how many of its numbers were no arrivals, for each
+reason; then recorder-lost: frames that the recorder itself lost, by the last statistics of each
+interface in a pcapng, at most 2^64 - 1; 0 also where it has none, as in a ring of dumpcap and
+behind editcap and mergecap; then claimed: arrivals whose side or port was taken from their own
+bytes.
+'afdx list' says of each number which reason it is. --interface says where frames came in, so
+that they aren't claimed.",
     ),
     (
         "\

@@ -13,7 +13,9 @@ const HEAD: [u8; 24] = [
 
 /// A frame's header: 1,700,000,000 s and these us, 60 bytes.
 fn frame_head(micros: u8) -> [u8; 16] {
-    [0, 0xf1, 0x53, 0x65, micros, 0, 0, 0, 60, 0, 0, 0, 60, 0, 0, 0]
+    [
+        0, 0xf1, 0x53, 0x65, micros, 0, 0, 0, 60, 0, 0, 0, 60, 0, 0, 0,
+    ]
 }
 
 /// A recording of three frames, of which the second is none of AFDX.
@@ -51,7 +53,10 @@ fn listed(alloc: Global, length: usize) -> Result<(u8, ShortText, ShortText), Fa
 fn each_number_has_its_line(rt: HostRuntime) -> Result<(), Fail> {
     let (status, text, line) = listed(rt.alloc(), 1000)?;
     let wanted = spelled(rt.alloc(), "F 0 A 1 H1\n# not-afdx\nF 3000 A 1 H1\n")?;
-    equal((status, text.as_str(), line.as_str()), (0, wanted.as_str(), ""))
+    equal(
+        (status, text.as_str(), line.as_str()),
+        (0, wanted.as_str(), ""),
+    )
 }
 
 #[test]
@@ -59,5 +64,8 @@ fn what_stands_before_a_fault_is_listed(rt: HostRuntime) -> Result<(), Fail> {
     let (status, text, line) = listed(rt.alloc(), 120)?;
     let wanted = spelled(rt.alloc(), "F 0 A 1 H1\n")?;
     let fault = "recording Ended 1\n";
-    equal((status, text.as_str(), line.as_str()), (3, wanted.as_str(), fault))
+    equal(
+        (status, text.as_str(), line.as_str()),
+        (3, wanted.as_str(), fault),
+    )
 }
