@@ -13,7 +13,7 @@ sys.path.insert(0, os.path.dirname(os.path.abspath(__file__)))
 from recorded import PCAPS, is_recording  # noqa: E402
 
 WORDS = ("pcap", "pcapng", "list")  # the two forms, and the command that makes a list of one
-NOW = "pcap,pcapng"  # what the program reads today
+NOW = "pcap,pcapng,list"  # what the program reads today
 
 READS = frozenset(os.environ.get("AFDX_READS", NOW).split(",")) - {""}
 if not READS <= set(WORDS) or (READS and "pcap" not in READS):
