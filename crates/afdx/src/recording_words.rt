@@ -1,5 +1,7 @@
 //! The options of a recording, and what their words say.
 
+ghost use Rattle.std.specs.Prelude.{◌<◌, IfSome};
+
 use afdx_frame::{LAST_PORT, Side};
 use afdx_replay::{Interfaces, Place, RecordingOptions};
 use clap::{Arg, ArgAction, ArgMatches, value_parser};
@@ -114,7 +116,9 @@ fn place_in(word: &str) -> Option<Place> {
 }
 
 /// The interface and the place that a word `K=PLACE` names.
-fn interface_in(word: &str) -> Option<(u16, Place)> {
+fn interface_in(word: &str) -> Option<(u16, Place)>
+    ensures { IfSome result (λ at. at.0 < 4096) }
+{
     let (interface, place) = word.split_once('=')?;
     let interface = number_in(interface, 4)?;
     if interface > LAST_INTERFACE {

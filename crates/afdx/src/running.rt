@@ -1,5 +1,9 @@
 //! Runs over lists and recordings: their devices, and how they end.
 
+ghost use Rattle.std.specs.Prelude.{◌≡◌, false};
+ghost use Rattle.afdx_lists.specs.Peeking.{is_untouched};
+ghost use Rattle.afdx_lists.specs.Watching.{device_of, has_ended, has_failed};
+
 use crate::devices::{Heard, Traced};
 use crate::explaining::Cause;
 use crate::progress::{Cleared, Counted, is_told};
@@ -130,7 +134,12 @@ fn replay_from<R: Read, O: Sink, E: Write>(
     input: &mut Watched<Peeked<R>>,
     lines: &mut O,
     faults: &mut Watched<E>,
-) -> Result<InputEnded, u8> {
+) -> Result<InputEnded, u8>
+    requires untouched { is_untouched (device_of input.old) }
+    requires sound_input { has_failed input.old ≡ false }
+    requires unended { has_ended input.old ≡ false }
+    requires sound_output { O.failed lines.old ≡ false }
+{
     let (alloc, admission, config) = (rt.alloc(), replaying.admission, replaying.config);
     if !replaying.explains_drops {
         return Ok(replay_input(alloc, admission, options, config, input, lines, faults));
@@ -153,7 +162,12 @@ fn run_over<R: Read, O: Sink, E: Write>(
     input: &mut Watched<Peeked<R>>,
     lines: &mut O,
     faults: &mut Watched<E>,
-) -> Result<InputEnded, u8> {
+) -> Result<InputEnded, u8>
+    requires untouched { is_untouched (device_of input.old) }
+    requires sound_input { has_failed input.old ≡ false }
+    requires unended { has_ended input.old ≡ false }
+    requires sound_output { O.failed lines.old ≡ false }
+{
     match run {
         Run::Police(rule) => {
             let options = options_in(rt, matches)?;
