@@ -1,6 +1,7 @@
 //! Recordings: their frames, one at a time, also from devices that move little and fail.
 
 mod blocks;
+mod stamps;
 
 ghost use Rattle.std.specs.Prelude.{◌<◌};
 

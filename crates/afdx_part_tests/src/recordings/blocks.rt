@@ -14,7 +14,7 @@ use std::test::Fail;
 const FIRST: u64 = 1_700_000_000_000_000_000;
 
 /// A section with the low byte first.
-fn low() -> &'static str {
+pub(super) fn low() -> &'static str {
     "0a0d0d0a1c0000004d3c2b1a01000000ffffffffffffffff1c000000"
 }
 
@@ -61,7 +61,7 @@ fn more_lost() -> &'static str {
 }
 
 /// The bytes of these pieces; those of a frame stand for its mark.
-fn bytes_of(alloc: Global, pieces: &[&str]) -> Result<Vec<u8>, AllocError> {
+pub(super) fn bytes_of(alloc: Global, pieces: &[&str]) -> Result<Vec<u8>, AllocError> {
     let mut bytes = Vec::new(alloc);
     for piece in pieces {
         let text = spelled(alloc, piece)?;
@@ -108,7 +108,7 @@ fn take_all<R: Read>(
 }
 
 /// What is said of these bytes, at most `most` a read: the numbers or the fault; and what was lost.
-fn said_of(
+pub(super) fn said_of(
     alloc: Global,
     bytes: &[u8],
     most: usize,
