@@ -40,9 +40,9 @@ module _ {R O E : Type 0} (remaining : R → Option (List ℕ)) (written : O →
     (options : RecordingOptions) (old_input new_input : Watched R) (old_output new_output : O)
     (old_errors new_errors : Watched E) where
   -- the command ends as the listing answered
-  pub record EndsListed (ended : ListEnded) (answer : Result Tally RunFault) : Type 0 where
-    pub status_is : ended.status ≡ status_of_listing answer
-    pub tally_is : ended.tally ≡ result_ok answer
+  pub record EndsListed (ended_with : ListEnded) (answer : Result Tally RunFault) : Type 0 where
+    pub status_is : ended_with.status ≡ status_of_listing answer
+    pub tally_is : ended_with.tally ≡ result_ok answer
     pub told : OnErr answer (TellsLine error_bytes old_errors new_errors)
     pub silent : OnOk answer (new_errors ≡ old_errors)
     pub ended : OnOk answer (has_ended new_input ≡ true)

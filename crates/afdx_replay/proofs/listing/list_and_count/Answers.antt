@@ -22,7 +22,7 @@ returns-clause-lists g c = inl (
     ended = c.list_in-answer.ensures.ended;
     read = c.list_in-answer.ensures.read;
     write = c.list_in-answer.ensures.write;
-    tables = c.in-Ok.tables.now;
+    tables = c.in-Ok.tables;
     spelled = c.in-Ok.ensures.ok;
     answers = c.list_in-answer.ensures.answer;
   },
