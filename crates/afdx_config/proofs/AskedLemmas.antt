@@ -1,6 +1,6 @@
 -- What links ask for.
-use Rattle.std.proofs.Common.{◌≡◌, ℕ, List, map, ap, sym, refl, ◌∙◌, Option, Some, None}
-use Rattle.std.specs.Prelude.{option_and_then, Result, Ok, Err}
+use Rattle.std.proofs.Common.{◌≡◌, ℕ, List, map, ap, sym, ◌∙◌, Option}
+use Rattle.std.specs.Prelude.{option_and_then, Result}
 use Rattle.toml.specs.Data.{Data, Members, get_member}
 use Rattle.afdx_config.specs.declared.fault.ConfigFault.{ConfigFault}
 use Rattle.afdx_config.specs.declared.keys.At.{At}
