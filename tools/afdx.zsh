@@ -15,7 +15,7 @@ local -a told=(
     '--summary[print the counts of the run at its end]'
 )
 local -a recorded=(
-    '*--interface[where the frames of an interface of the recording came in]:K=A:P:'
+    '*--interface[where the frames of an interface of the recording came in]:K=PLACE:'
     '--fcs[do recorded frames end with check sequences]:answer:(yes no)'
     '--origin[the moment of the recording that is time 0, in ns since 1970]:ns:'
 )
