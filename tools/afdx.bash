@@ -16,7 +16,7 @@ _afdx_folders() {
     mapfile -t COMPREPLY < <(compgen -d -- "${COMP_WORDS[COMP_CWORD]}")
 }
 
-_afdx_recordings() { _afdx_files pcap pcapng pcap.gz pcapng.gz; }
+_afdx_recordings() { _afdx_files pcap pcapng; }
 
 _afdx_words() { # WORD.. : those that the word begins
     mapfile -t COMPREPLY < <(compgen -W "$*" -- "${COMP_WORDS[COMP_CWORD]}")
@@ -98,16 +98,15 @@ _afdx() {
 }
 
 _afdx_capture_list() {
-    _afdx_read 2 --config --port --origin --shift --fcs --side -o --out --split
+    _afdx_read 2 --config --interface --origin --fcs -o --out --split
     if _afdx_is_option; then
-        _afdx_words --config --port --origin --shift --fcs --side --all --out --split --help
+        _afdx_words --config --interface --origin --fcs --out --split --help
         return
     fi
     case $before in
-        '') _afdx_recordings ;;
+        '') _afdx_files pcap pcapng ;;
         --config) _afdx_files toml ;;
-        --fcs) _afdx_words yes no auto ;;
-        --side) _afdx_words A B auto ;;
+        --fcs) _afdx_words yes no ;;
         -o | --out | --split) _afdx_files list ;;
     esac
 }

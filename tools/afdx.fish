@@ -47,7 +47,7 @@ function __afdx_files --description 'Folders, and files with one of these extens
     end
 end
 
-set -l pcaps pcap pcapng pcap.gz pcapng.gz
+set -l pcaps pcap pcapng
 
 # ---- afdx ----------------------------------------------------------------------------------------
 
@@ -103,18 +103,15 @@ complete -c $tool -n '__afdx_at - 0 0' -a list -d 'Recordings to a frame list'
 complete -c $tool -n '__afdx_at - 0 0' -a pcap -d 'A frame list to a recording'
 complete -c $tool -n '__afdx_at - 0 0' -a annotate -d 'A replay beside its frames'
 complete -c $tool -n '__afdx_in list' -x -l config -a '(__afdx_files toml)' -d 'Tells switch ports'
-complete -c $tool -n '__afdx_in list' -x -l port -d 'The switch port of all other frames'
+complete -c $tool -n '__afdx_in list' -x -l interface -d 'Where an interface was plugged in'
 complete -c $tool -n '__afdx_in list pcap annotate' -x -l origin -d 'ns since 1970 of time 0'
-complete -c $tool -n '__afdx_in list' -x -l shift -a 'A= B=' -d 'Add to the times of a side'
-complete -c $tool -n '__afdx_in list' -x -l fcs -a 'yes no auto' -d 'Are there check sequences?'
+complete -c $tool -n '__afdx_in list' -x -l fcs -a 'yes no' -d 'Are there check sequences?'
 complete -c $tool -n '__afdx_in pcap' -x -l fcs -a 'yes no' -d 'With check sequences?'
-complete -c $tool -n '__afdx_in list' -x -l side -a 'A B auto' -d 'The network of all frames'
 complete -c $tool -n '__afdx_in pcap' -x -l side -a 'A B' -d 'Only frames of this network'
-complete -c $tool -n '__afdx_in list' -l all -d 'Keep frames that are no AFDX frames'
 complete -c $tool -n '__afdx_in list' -r -F -s o -l out -d 'The list'
 complete -c $tool -n '__afdx_in list' -r -F -l split -d 'Write several lists'
 complete -c $tool -n '__afdx_in annotate' -l no-admission -d 'Also where the network is refused'
-complete -c $tool -n '__afdx_at list 0 9' -a "(__afdx_files $pcaps)"
+complete -c $tool -n '__afdx_at list 0 0' -a "(__afdx_files $pcaps)"
 complete -c $tool -n '__afdx_at pcap 0 0' -a '(__afdx_files list)'
 complete -c $tool -n '__afdx_at pcap 1 1' -a "(__afdx_files $pcaps)"
 complete -c $tool -n '__afdx_at annotate 0 0' -a '(__afdx_files toml)'

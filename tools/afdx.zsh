@@ -8,7 +8,7 @@ local config='configuration:_files -g "*.toml(-.)"'
 local list='frame list:_files -g "*.list(-.)"'
 local input='frame list or recording:_files -g "*.(list|pcap|pcapng)(-.)"'
 local table='table:_files -g "*.csv(-.)"'
-local recording='recording:_files -g "*.(pcap|pcapng|pcap.gz|pcapng.gz)(-.)"'
+local recording='recording:_files -g "*.(pcap|pcapng)(-.)"'
 local -a told=(
     '--explain=-[when a fault is explained]::when:(auto always never)'
     '--line-buffered[hand over each line at once]'
@@ -16,7 +16,7 @@ local -a told=(
     '--summary[print the counts of the run at its end]'
 )
 local -a recorded=(
-    '*--interface[where the frames of an interface of the recording came in]:K=A:P:'
+    '*--interface[where the frames of an interface of the recording came in]:K=PLACE:'
     '--fcs[do recorded frames end with check sequences]:answer:(yes no)'
     '--origin[the moment of the recording that is time 0, in ns since 1970]:ns:'
 )
@@ -47,7 +47,7 @@ _afdx_program() {
                 '--explain-drops[print how much too early frames came]' ":$config" ":$input"
             ;;
         list)
-            _arguments $help $told $recorded ":$config" ':recording:_files -g "*.(pcap|pcapng)(-.)"'
+            _arguments $help $told $recorded ":$config" ":$recording"
             ;;
         send)
             _arguments $help $told ":$config" ':system:_afdx_systems' \
@@ -67,13 +67,10 @@ _afdx_capture() {
         list)
             _arguments $help $origin \
                 "--config[the switch port is that of the sender in it]:$config" \
-                '--port[the switch port of all other frames]:port:' \
-                '*--shift[add to the times of a side]:A=NS or B=NS:' \
-                '--fcs[do frames end with check sequences]:answer:(yes no auto)' \
-                '--side[the network of all frames]:side:(A B auto)' \
-                '--all[keep frames that are no AFDX frames]' \
+                '*--interface[where the frames of an interface came in]:K=PLACE:' \
+                '--fcs[do frames end with check sequences]:answer:(yes no)' \
                 "(-o --out --split)"{-o,--out}"[the list]:$list" \
-                '(-o --out)--split[write several lists]:prefix:_files' "*:$recording"
+                '(-o --out)--split[write several lists]:prefix:_files' ":$recording"
             ;;
         pcap)
             _arguments $help $origin '--side[only the frames of this network]:side:(A B)' \

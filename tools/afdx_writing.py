@@ -3,10 +3,19 @@ from __future__ import annotations
 
 from typing import BinaryIO
 
-from afdx_recordings import BILLION, ETHERNET, FCS, FCS_4, FCS_KNOWN, NAME, RESOLUTION
 from afdx_tools import Refused
-from dpkt import pcap, pcapng
 
+try:
+    from dpkt import pcap, pcapng
+except ModuleNotFoundError as error:
+    raise Refused("the package dpkt is missing: apt-get install python3-dpkt") from error
+
+ETHERNET = 1
+NAME, RESOLUTION, FCS = 2, 9, 13  # options of an interface
+# In a pcap header: the bit that says that the length of the check sequence is known, and that
+# length in words of two bytes in the four bits at the top.
+FCS_KNOWN, FCS_4 = 0x0400_0000, 0x2000_0000
+BILLION = 1_000_000_000
 LONGEST_FRAME = 65_535  # bytes that a recording says it holds of a frame
 LATEST_NS = (2**32 - 1) * BILLION + BILLION - 1  # since 1970, as pcap can say it
 COMMENT = pcapng.PCAPNG_OPT_COMMENT

@@ -56,9 +56,9 @@ offer_tests() { # SHELL
         offers "$1" 'afdx police --interface 0=A:1 --fcs no 1' 1 16 128
         offers "$1" 'afdx-capture ' list pcap annotate
         offers "$1" 'afdx-capture list --fc' --fcs
-        offers "$1" 'afdx-capture list --fcs a' auto
+        offers "$1" 'afdx-capture list --fcs y' yes
         offers "$1" 'afdx-capture pcap --fcs ' yes no
-        offers "$1" 'afdx-capture list --side A --al' --all
+        offers "$1" 'afdx-capture list --interface 0=A --sp' --split
         offers "$1" "afdx send $files/one.toml " adc fcc
         offers "$1" 'afdx-icd --profile ' 1 2
         offers "$1" 'afdx-fill --keep ' jitter buffer latency skew
@@ -72,9 +72,9 @@ offer_tests() { # SHELL
         offers "$1" "afdx list $files/one.toml $files/" four.pcap
         offers "$1" "afdx send $files/one.toml adc $files/" two.list three.messages
         offers "$1" "afdx-capture list --config $files/" one.toml
-        offers "$1" "afdx-capture list --config $files/one.toml $files/" four.pcap five.pcapng.gz
+        offers "$1" "afdx-capture list --config $files/one.toml $files/" four.pcap
         offers "$1" "afdx-capture pcap $files/" two.list
-        offers "$1" "afdx-capture pcap --side A $files/two.list $files/" four.pcap five.pcapng.gz
+        offers "$1" "afdx-capture pcap --side A $files/two.list $files/" four.pcap
         offers "$1" "afdx-capture annotate $files/" one.toml
         offers "$1" "afdx-capture annotate $files/one.toml $files/" two.list
         offers "$1" "afdx-report $files/" one.toml

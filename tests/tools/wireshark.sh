@@ -203,15 +203,6 @@ annotated_tests() { # NAME CONFIG LIST [WORD..]
         grep ' drop over-rate$' "$work/wanted" | cut -d ' ' -f 1 >"$work/over"
         same "$work/over" "$work/out"
     )" "$(wc -l <"$work/over") frames"
-    launch tools/afdx-capture list --all "$work/said.pcapng"
-    tell "and $name comes back as a list" "$(
-        is_status 0
-        says err "side and port by the interfaces' names"
-        grep -v '^#' "$list" | awk '{ print $2 - first, $3, $4 } NR == 1 { first = $2 }' \
-            >"$work/wanted"
-        cut -d ' ' -f 2-4 "$work/out" >"$work/got"
-        same "$work/wanted" "$work/got"
-    )"
 }
 
 annotate_fault_tests() {
