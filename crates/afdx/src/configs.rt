@@ -19,17 +19,18 @@ fn explain_end<O: Write + Drop, E: Write + Drop>(
     errors: Watched<Heard<E>>,
 ) -> u8 {
     let (output, errors) = (output.into_inner(), errors.into_inner());
-    let line = match errors.line() {
-        "" => output.line(),
-        line => line,
-    };
     let cause = Cause {
         config,
         path: "",
         reason: output.device().reason(),
     };
-    if status != DONE {
-        explain_if_asked(rt, matches, line, &cause);
+    if status == DONE {
+        return status;
+    }
+    if errors.line().is_empty() {
+        explain_if_asked(rt, matches, output.line(), &cause);
+    } else {
+        explain_if_asked(rt, matches, errors.line(), &cause);
     }
     status
 }
