@@ -372,8 +372,8 @@ def large_config(program: Program, text: bytes, fault: bytes) -> None:
         answers(program.run("send", path, "s1", "-"), 1, b"", wanted)
     else:
         must(found.out.endswith(b"ok\n"), "it is not admitted")
-        least = 176 if b"[[link]]" in text else 64
-        must(solution.out.startswith(HEAD[:12] + b"buffer = %d\n" % least), "it is solved otherwise")
+        least = b"profile = 1\nbuffer = %d\n" % (176 if b"[[link]]" in text else 64)
+        must(solution.out.startswith(least), "it is solved otherwise")
     must(time.monotonic() - began < SOON, f"it takes more than {SOON} s")
 
 
