@@ -56,3 +56,13 @@ def one_port(profile: int, senders: int, links: int, lmax: int, rate: int) -> di
     row = tables["link"][0] | {"to": ["s24"], "bag_ms": 128, "lmax": lmax}
     rows = [row | {"vl": vl, "from": f"s{vl % senders + 1}"} for vl in range(links)]
     return tables | {"system": [*systems, system_of(24, rate)], "link": rows, "port": []}
+
+
+def unsolvable() -> list[tuple[str, dict, str]]:
+    """Tables for which no values in range are enough: why, and the line that says so."""
+    return [
+        ("a port is overloaded", one_port(1, 5, 130, 1518, 10), "no A1 24"),
+        ("a buffer is too large", one_port(2, 1, 2800, 1518, 1000), "no A2 24 .."),
+        ("a latency is too large", one_port(2, 3, 90, 1518, 10), "no A3 24 0 .."),
+        ("a sender is too busy", one_port(1, 1, 4, 1518, 100), "no A5 s1 532160"),
+    ]

@@ -24,7 +24,7 @@ import tables as made  # noqa: E402
 from first_fault import RANGES  # noqa: E402
 from judged import LINES_OF, check_all_less, checked  # noqa: E402
 from least import SOLVED, Solved, check_text, needs, solve_fault, solved  # noqa: E402
-from networks import network, one_port  # noqa: E402
+from networks import network, unsolvable  # noqa: E402
 from program import Cases, Program, answers, main_of, must  # noqa: E402
 
 # ---- what the program says of them ---------------------------------------------------------------
@@ -169,12 +169,7 @@ def try_all(cases: Cases, program: Program) -> None:
         ("gigabit.toml", {}),
     ):
         cases.try_case(f"the least values of {name}", check_example, program, name, wanted)
-    for name, tables, line in (
-        ("a port is overloaded", one_port(1, 5, 130, 1518, 10), "no A1 24"),
-        ("a buffer is too large", one_port(2, 1, 2800, 1518, 1000), "no A2 24 .."),
-        ("a latency is too large", one_port(2, 3, 90, 1518, 10), "no A3 24 0 .."),
-        ("a sender is too busy", one_port(1, 1, 4, 1518, 100), "no A5 s1 532160"),
-    ):
+    for name, tables, line in unsolvable():
         cases.try_case(f"no values are enough: {name}", check_none, program, tables, line)
     at_once: list[tuple] = [
         (f"60 generated networks, {seed}", check_all_alike, program.apart(), seed, 60)

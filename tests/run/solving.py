@@ -25,7 +25,7 @@ sys.path.insert(0, os.path.join(os.path.dirname(os.path.abspath(__file__)), ".."
 import tables as made  # noqa: E402
 from judged import check_all_less  # noqa: E402
 from least import SOLVED, solve_answer  # noqa: E402
-from networks import network, one_port  # noqa: E402
+from networks import network, unsolvable  # noqa: E402
 from program import Answer, Cases, Program, answers, main_of, must, same_text  # noqa: E402
 from tables import system_of, text_of, tomllib  # noqa: E402
 
@@ -273,12 +273,7 @@ def try_all(cases: Cases, program: Program) -> None:
     cases.try_case("the guide's network", check_guide, program)
     for name in ("base", "network", "refused", "gigabit"):
         cases.try_case(f"{name}.toml", check_example, program, f"{name}.toml")
-    for name, tables, line in (
-        ("a port is overloaded", one_port(1, 5, 130, 1518, 10), "no A1 24"),
-        ("a buffer is too large", one_port(2, 1, 2800, 1518, 1000), "no A2 24 .."),
-        ("a latency is too large", one_port(2, 3, 90, 1518, 10), "no A3 24 0 .."),
-        ("a sender is too busy", one_port(1, 1, 4, 1518, 100), "no A5 s1 532160"),
-    ):
+    for name, tables, line in unsolvable():
         cases.try_case(f"no values are enough: {name}", check_none, program, tables, line)
     at_once: list[tuple] = [("4,096 links at once", check_largest, program.apart())]
     for seed, (count, links) in enumerate([(40, 5), (20, 40), (6, 100), (3, 400), (3, 400)]):
