@@ -225,14 +225,14 @@ fn packets_have_forms_and_flags(rt: HostRuntime) -> Result<(), Fail> {
 /// What blocks say that stand behind a section, an interface and a packet.
 fn behind(
     alloc: Global,
-    block: &str,
+    block: &'static str,
 ) -> Result<Option<(Result<Option<u64>, RunFault>, u64)>, AllocError> {
     let wanted = [of_interface(0, 1, Stamp::At(FIRST))];
     said(alloc, &[low(), ethernet(), packet(), block], &wanted)
 }
 
 /// Tries blocks that are damaged: the first that isn't so.
-fn first_sound<'a>(alloc: Global, blocks: &[&'a str]) -> Result<Option<&'a str>, AllocError> {
+fn first_sound(alloc: Global, blocks: &[&'static str]) -> Result<Option<&'static str>, AllocError> {
     for block in blocks {
         if behind(alloc, block)? != Some((faulted(RecordingFault::Damaged(1)), 0)) {
             return Ok(Some(*block));
