@@ -31,13 +31,8 @@ fn recording(alloc: Global) -> Result<Vec<u8>, AllocError> {
     Ok(bytes)
 }
 
-/// The exit status for the first bytes of the recording, and what is written and told.
-fn listed(alloc: Global, length: usize) -> Result<(u8, ShortText, ShortText), Fail> {
-    let recording = recording(alloc)?;
-    let bytes = match recording.get(..length) {
-        Some(front) => front,
-        None => recording.as_slice(),
-    };
+/// The exit status for the bytes of a recording, and what is written and told.
+fn listed(alloc: Global, bytes: &[u8]) -> Result<(u8, ShortText, ShortText), Fail> {
     let mut input = Watched::new(bytes);
     let mut output = Watched::new(Vec::new(alloc));
     let mut errors = Watched::new(Vec::new(alloc));
@@ -51,7 +46,8 @@ fn listed(alloc: Global, length: usize) -> Result<(u8, ShortText, ShortText), Fa
 
 #[test]
 fn each_number_has_its_line(rt: HostRuntime) -> Result<(), Fail> {
-    let (status, text, line) = listed(rt.alloc(), 1000)?;
+    let whole = recording(rt.alloc())?;
+    let (status, text, line) = listed(rt.alloc(), whole.as_slice())?;
     let wanted = spelled(rt.alloc(), "F 0 A 1 H1\n# not-afdx\nF 3000 A 1 H1\n")?;
     equal(
         (status, text.as_str(), line.as_str()),
@@ -61,7 +57,9 @@ fn each_number_has_its_line(rt: HostRuntime) -> Result<(), Fail> {
 
 #[test]
 fn what_stands_before_a_fault_is_listed(rt: HostRuntime) -> Result<(), Fail> {
-    let (status, text, line) = listed(rt.alloc(), 120)?;
+    let mut cut = recording(rt.alloc())?;
+    cut.truncate(120);
+    let (status, text, line) = listed(rt.alloc(), cut.as_slice())?;
     let wanted = spelled(rt.alloc(), "F 0 A 1 H1\n")?;
     let fault = "recording Ended 1\n";
     equal(

@@ -89,10 +89,16 @@ fn a_recording_is_replayed(rt: HostRuntime) -> Result<(), Fail> {
 
 #[test]
 fn what_comes_before_a_fault_is_told(rt: HostRuntime) -> Result<(), Fail> {
-    let bytes = recording(rt.alloc(), &[0, 200])?;
-    let cut = &bytes.as_slice()[..175];
+    let mut cut = recording(rt.alloc(), &[0, 200])?;
+    cut.truncate(175);
     let line = "recording Ended 1\n";
-    is_replayed(rt.alloc(), cut, (3, None), "V 1 A accept\n", line)
+    is_replayed(
+        rt.alloc(),
+        cut.as_slice(),
+        (3, None),
+        "V 1 A accept\n",
+        line,
+    )
 }
 
 #[test]
