@@ -90,7 +90,7 @@ _afdx() {
     case $command.${#given[@]} in
         police.0) _afdx_words 1 2 4 8 16 32 64 128 ;;
         police.3 | replay.1) _afdx_files list pcap pcapng ;;
-        list.1) _afdx_files pcap pcapng ;;
+        list.[12] | replay.2) _afdx_recordings ;;
         check.0 | list.0 | replay.0 | send.0 | solve.0) _afdx_files toml ;;
         send.1) _afdx_systems "${given[0]}" ;;
         send.2) _afdx_files list messages ;;
@@ -104,7 +104,7 @@ _afdx_capture_list() {
         return
     fi
     case $before in
-        '') _afdx_files pcap pcapng ;;
+        '') if ((${#given[@]} < 2)); then _afdx_recordings; fi ;;
         --config) _afdx_files toml ;;
         --fcs) _afdx_words yes no ;;
         -o | --out | --split) _afdx_files list ;;
@@ -151,15 +151,18 @@ _afdx_capture() {
 _afdx_report() {
     local given before
     COMPREPLY=()
-    _afdx_read 1 --out --link --from --rows --worst --compare --title --fail-on --junit
+    _afdx_read 1 --out --link --from --rows --worst --compare --title --fail-on --junit \
+        --interface --fcs --origin
     if _afdx_is_option; then
         _afdx_words --out --no-admission --link --from --rows --worst --compare --title --json \
-            --fail-on --junit --help --version
+            --interface --fcs --origin --fail-on --junit --help --version
         return
     fi
     case $before.${#given[@]} in
         .0) _afdx_files toml ;;
-        .1) _afdx_files list ;;
+        .1) _afdx_files list pcap pcapng ;;
+        .2) _afdx_recordings ;;
+        --fcs.*) _afdx_words yes no ;;
         --out.*) _afdx_folders ;;
         --compare.*) _afdx_files json ;;
         --fail-on.*) _afdx_words dropped lost late too-old refused ;;
@@ -170,17 +173,18 @@ _afdx_report() {
 _afdx_campaign() {
     local given before
     COMPREPLY=()
-    _afdx_read 1 --out -j --jobs -S --sshlogin --fail-on --junit
+    _afdx_read 1 --out -j --jobs -S --sshlogin --fail-on --junit --interface --fcs --origin
     if _afdx_is_option; then
-        _afdx_words --out --no-admission --pages --jobs --resume --sshlogin --transfer --fail-on \
-            --junit --help --version
+        _afdx_words --out --no-admission --pages --jobs --resume --sshlogin --transfer \
+            --interface --fcs --origin --fail-on --junit --help --version
         return
     fi
     case $before.${#given[@]} in
         --fail-on.*) _afdx_words dropped lost late too-old refused ;;
         --junit.*) _afdx_files xml ;;
+        --fcs.*) _afdx_words yes no ;;
         .0) _afdx_files toml ;;
-        .*) _afdx_files list ;;
+        .*) _afdx_files list pcap pcapng ;;
         --out.*) _afdx_folders ;;
     esac
 }

@@ -85,11 +85,12 @@ complete -c afdx -n $reads -x -l fcs -a 'yes no' -d 'Are there check sequences?'
 complete -c afdx -n $reads -x -l origin -d 'ns since 1970 of time 0'
 complete -c afdx -n '__afdx_at police 0 0' -a '1 2 4 8 16 32 64 128'
 complete -c afdx -n '__afdx_at police 3 3' -a '(__afdx_files list pcap pcapng)'
-complete -c afdx -n '__afdx_at list 1 1' -a '(__afdx_files pcap pcapng)'
+complete -c afdx -n '__afdx_at list 1 2' -a '(__afdx_files pcap pcapng)'
 for command in check list replay send solve
     complete -c afdx -n "__afdx_at $command 0 0" -a '(__afdx_files toml)'
 end
 complete -c afdx -n '__afdx_at replay 1 1' -a '(__afdx_files list pcap pcapng)'
+complete -c afdx -n '__afdx_at replay 2 2' -a '(__afdx_files pcap pcapng)'
 complete -c afdx -n '__afdx_at send 1 1' -a '(__afdx_systems)'
 complete -c afdx -n '__afdx_at send 2 2' -a '(__afdx_files list messages)'
 
@@ -111,7 +112,7 @@ complete -c $tool -n '__afdx_in pcap' -x -l side -a 'A B' -d 'Only frames of thi
 complete -c $tool -n '__afdx_in list' -r -F -s o -l out -d 'The list'
 complete -c $tool -n '__afdx_in list' -r -F -l split -d 'Write several lists'
 complete -c $tool -n '__afdx_in annotate' -l no-admission -d 'Also where the network is refused'
-complete -c $tool -n '__afdx_at list 0 0' -a "(__afdx_files $pcaps)"
+complete -c $tool -n '__afdx_at list 0 1' -a "(__afdx_files $pcaps)"
 complete -c $tool -n '__afdx_at pcap 0 0' -a '(__afdx_files list)'
 complete -c $tool -n '__afdx_at pcap 1 1' -a "(__afdx_files $pcaps)"
 complete -c $tool -n '__afdx_at annotate 0 0' -a '(__afdx_files toml)'
@@ -128,10 +129,14 @@ for tool in afdx-report afdx-campaign
     complete -c $tool -x -l fail-on -d 'Status 6 where one of these is not 0' \
         -a 'dropped lost late too-old refused'
     complete -c $tool -r -l junit -d 'Write each criterion as a JUnit test case'
+    complete -c $tool -x -l interface -d 'Where an interface was plugged in'
+    complete -c $tool -x -l fcs -a 'yes no' -d 'Are there check sequences?'
+    complete -c $tool -x -l origin -d 'ns since 1970 of time 0'
     complete -c $tool -x -l out -a '(__fish_complete_directories)' -d 'The folder of the output'
     complete -c $tool -n '__afdx_at - 0 0' -a '(__afdx_files toml)'
 end
-complete -c afdx-report -n '__afdx_at - 1 1' -a '(__afdx_files list)'
+complete -c afdx-report -n '__afdx_at - 1 1' -a '(__afdx_files list pcap pcapng)'
+complete -c afdx-report -n '__afdx_at - 2 2' -a '(__afdx_files pcap pcapng)'
 complete -c afdx-report -x -l link -d 'The link of the time line'
 complete -c afdx-report -x -l from -d 'Where the time line begins, in ns'
 complete -c afdx-report -x -l rows -d 'Links in the picture of latencies'
@@ -139,7 +144,7 @@ complete -c afdx-report -x -l worst -d 'Frames nearest to their latency'
 complete -c afdx-report -r -l compare -d 'The report.json of a run to compare with'
 complete -c afdx-report -x -l title -d 'The title of the page'
 complete -c afdx-report -l json -d 'Print the JSON instead of the text'
-complete -c afdx-campaign -n '__afdx_at - 1 1000000' -a '(__afdx_files list)'
+complete -c afdx-campaign -n '__afdx_at - 1 1000000' -a '(__afdx_files list pcap pcapng)'
 complete -c afdx-campaign -l pages -d 'A page for each run too'
 complete -c afdx-campaign -x -s j -l jobs -d 'Runs at a time'
 complete -c afdx-campaign -l resume -d 'Only the lists that have not been run'

@@ -44,10 +44,11 @@ _afdx_program() {
         replay)
             _arguments $help $told $recorded \
                 '--no-admission[also where the network is refused]' \
-                '--explain-drops[print how much too early frames came]' ":$config" ":$input"
+                '--explain-drops[print how much too early frames came]' ":$config" ":$input" \
+                "::$recording"
             ;;
         list)
-            _arguments $help $told $recorded ":$config" ":$recording"
+            _arguments $help $told $recorded ":$config" ":$recording" "::$recording"
             ;;
         send)
             _arguments $help $told ":$config" ':system:_afdx_systems' \
@@ -65,12 +66,11 @@ _afdx_capture() {
     local origin='--origin[the time, in ns since 1970, that is 0 in the list]:ns:'
     case $1 in
         list)
-            _arguments $help $origin \
+            _arguments $help $recorded \
                 "--config[the switch port is that of the sender in it]:$config" \
-                '*--interface[where the frames of an interface came in]:K=PLACE:' \
-                '--fcs[do frames end with check sequences]:answer:(yes no)' \
                 "(-o --out --split)"{-o,--out}"[the list]:$list" \
-                '(-o --out)--split[write several lists]:prefix:_files' ":$recording"
+                '(-o --out)--split[write several lists]:prefix:_files' ":$recording" \
+                "::$recording"
             ;;
         pcap)
             _arguments $help $origin '--side[only the frames of this network]:side:(A B)' \
@@ -97,7 +97,8 @@ case $service in
     afdx) _afdx_of_commands _afdx_program check explain list police replay send solve ;;
     afdx-capture) _afdx_of_commands _afdx_capture list pcap annotate ;;
     afdx-report)
-        _arguments $help $version '--out[the folder for page, CSV and JSON]:folder:_path_files -/' \
+        _arguments $help $version $recorded \
+            '--out[the folder for page, CSV and JSON]:folder:_path_files -/' \
             '--no-admission[also where the network is refused]' \
             '--link[the link of the time line]:number:' \
             '--from[where the time line begins]:ns:' \
@@ -107,17 +108,18 @@ case $service in
             '--title[the title of the page]:title:' \
             '--fail-on[status 6 where one of these is not 0]:words:' \
             '--junit[write each criterion as a JUnit test case]:file:_files' \
-            '--json[print the JSON instead of the text]' ":$config" ":$list"
+            '--json[print the JSON instead of the text]' ":$config" ":$input" "::$recording"
         ;;
     afdx-campaign)
-        _arguments $help $version '--out[the folder of the campaign]:folder:_path_files -/' \
+        _arguments $help $version $recorded \
+            '--out[the folder of the campaign]:folder:_path_files -/' \
             '--no-admission[also where the network is refused]' \
             '--pages[a page for each run too]' {-j,--jobs}'[runs at a time]:number:' \
             '--resume[only the lists that have not been run]' \
             '*'{-S,--sshlogin}'[run on this machine too]:login:' \
             '--fail-on[status 6 where one of these is not 0]:words:' \
             '--junit[write each criterion as a JUnit test case]:file:_files' \
-            '--transfer[copy lists and configuration there first]' ":$config" "*:$list"
+            '--transfer[copy lists and configuration there first]' ":$config" "*:$input"
         ;;
     afdx-icd)
         _arguments $help $version '--profile[which rules its switches keep]:profile:(1 2)' \

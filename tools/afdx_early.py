@@ -10,7 +10,7 @@ from typing import IO
 import numpy as np
 
 from afdx_lines import Block, blocks_of
-from afdx_listing import Listing
+from afdx_named import Named
 
 HEAD = b"early "
 
@@ -19,8 +19,8 @@ class Early:
     """The `early` lines in their order: the list's line, and the ns that its frame came too early
     by. What else stands there is the `fault`. A last such line that was cut doesn't count."""
 
-    def __init__(self, file: IO[bytes], listing: Listing) -> None:
-        self.listing = listing
+    def __init__(self, file: IO[bytes], named: Named) -> None:
+        self.named = named
         self.parts = [(np.zeros(0, np.int32), np.zeros(0, np.int64))]
         others, end = [], 0
         for text in blocks_of(file, ended=True):
@@ -39,9 +39,8 @@ class Early:
         is_early = np.ones(len(block.starts), bool)
         for place, letter in enumerate(HEAD):
             is_early &= block.at(block.starts + place) == letter
-        lines, behind = block.numbers(block.starts[is_early] + len(HEAD))
-        self.listing.has(lines)
+        numbers, behind = block.numbers(block.starts[is_early] + len(HEAD))
         amounts, _ = block.numbers(behind + 1)
-        self.parts.append((lines.astype(np.int32), amounts))
+        self.parts.append((self.named.of(numbers), amounts))
         others = np.flatnonzero(~is_early)
         return [block.text[block.starts[n] : block.ends[n]] for n in others]

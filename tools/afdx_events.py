@@ -10,6 +10,7 @@ import numpy as np
 from afdx_early import Early
 from afdx_lines import SPACE, Block, blocks_of
 from afdx_listing import SIDES, Listing
+from afdx_named import Named
 from afdx_tools import Refused, program
 
 ACCEPT = "accept"
@@ -47,10 +48,12 @@ class Events:
     """What a replay wrote. Of each line of the list `verdict`, the place of its word in
     `verdicts.names`; of each copy that came to its end, in the order of the lines, the list's line,
     the output port, the time, the fate (the place in FATES), and what its receiver did with it (the
-    place in `ends.names`). `early` is what standard error said."""
+    place in `ends.names`). `early` is what standard error said; `named` has the number that the
+    program gave a line."""
 
     def __init__(self, listing: Listing) -> None:
         self.listing = listing
+        self.named = Named(listing)
         self.verdicts = Words(ACCEPT, *verdicts())
         self.ends = Words(DELIVERED, REDUNDANT)
         self.verdict = np.full(listing.lines + 1, NOT_YET, np.int8)
@@ -75,7 +78,7 @@ class Events:
 
     def read_errors(self, file: IO[bytes]) -> str:
         """Takes the lines of standard error, a file that was written; the fault line there."""
-        self.early = Early(file, self.listing)
+        self.early = Early(file, self.named)
         return self.early.fault
 
     def take(self, text: bytes, told: Callable[[int], None]) -> None:
@@ -89,14 +92,13 @@ class Events:
         found = [self.lost(block), self.departed(block), self.old(block)]
         part = {name: np.concatenate([one[name] for one in found]) for name in found[0]}
         order = np.argsort(part["at"], kind="stable")
-        self.listing.has(part["line"])
         self.parts.append({name: column[order] for name, column in part.items()})
 
     def judged(self, block: Block) -> np.ndarray:
         """`V n side accept` or `V n side drop WORD`"""
         at = np.flatnonzero(block.heads == LETTERS["V"])
-        lines, _ = block.numbers(block.starts[at] + 2)
-        self.listing.has(lines)
+        numbers, _ = block.numbers(block.starts[at] + 2)
+        lines = self.named.next_lines(numbers)
         verdict = np.zeros(len(at), np.int8)
         before = block.ends[at] - len(ACCEPT) - 1  # a space, where the word is as long as that
         dropped = np.flatnonzero(block.bytes[before] != SPACE)
@@ -108,18 +110,18 @@ class Events:
     def lost(self, block: Block) -> dict[str, np.ndarray]:
         """`L n side port`: the time is that of the list's line."""
         at = np.flatnonzero(block.heads == LETTERS["L"])
-        line, end = block.numbers(block.starts[at] + 2)
-        self.listing.has(line)
+        numbers, end = block.numbers(block.starts[at] + 2)
+        line = self.named.of(numbers)
         port, _ = block.numbers(end + 3)
         return copies(at, line, self.listing.time[line], port, LOST)
 
     def old(self, block: Block) -> dict[str, np.ndarray]:
         """`T n time side port`"""
-        return ended(block, "T", OLD)
+        return self.ended(block, "T", OLD)
 
     def departed(self, block: Block) -> dict[str, np.ndarray]:
         """`D n time side port`, and what the line behind it says: M, or X with its word."""
-        part = ended(block, "D", LEFT)
+        part = self.ended(block, "D", LEFT)
         behind = np.minimum(part["at"] + 1, len(block.heads) - 1)
         heads = block.heads[behind]
         part["end"][heads == LETTERS["M"]] = 0
@@ -128,9 +130,21 @@ class Events:
         part["end"][refused] = self.ends.of(names)[places]
         return part
 
+    def ended(self, block: Block, letter: str, fate: str) -> dict[str, np.ndarray]:
+        """The copies of the lines `LETTER n time side port`."""
+        at = np.flatnonzero(block.heads == LETTERS[letter])
+        numbers, end = block.numbers(block.starts[at] + 2)
+        time, end = block.numbers(end + 1)
+        port, _ = block.numbers(end + 3)
+        return copies(at, self.named.of(numbers), time, port, fate)
+
     def side_of_copies(self) -> np.ndarray:
         """The side of each copy: 0 for A, 1 for B."""
         return self.listing.side[self.line]
+
+    def number_of(self, line: int) -> int:
+        """The number that the program gave a line of the list."""
+        return int(self.named.numbers[line])
 
     def verdict_of(self, line: int) -> str:
         """The verdict of a line, as a word."""
@@ -149,15 +163,6 @@ class Events:
 def side_name(side: int) -> str:
     """A or B."""
     return SIDES[side]
-
-
-def ended(block: Block, letter: str, fate: str) -> dict[str, np.ndarray]:
-    """The copies of the lines `LETTER n time side port`."""
-    at = np.flatnonzero(block.heads == LETTERS[letter])
-    line, end = block.numbers(block.starts[at] + 2)
-    time, end = block.numbers(end + 1)
-    port, _ = block.numbers(end + 3)
-    return copies(at, line, time, port, fate)
 
 
 def none_at_all() -> dict[str, np.ndarray]:

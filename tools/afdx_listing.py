@@ -7,7 +7,7 @@ from typing import IO, Callable
 import numpy as np
 
 from afdx_lines import RETURN, SPACE, Block, blocks_of
-from afdx_tools import MOST_LINES, Refused
+from afdx_tools import MOST_LINES
 
 NO_LINK = -1  # stands for frames that name no link of the configuration
 NO_NUMBER = -1  # stands for frames too short for a sequence number
@@ -21,19 +21,26 @@ DIGIT[np.frombuffer(b"ABCDEF", np.uint8)] = range(10, 16)
 
 
 class Listing:
-    """The columns of a list, by the number of the line; `sound` where it has a line's form."""
+    """The columns of a list, by the number of the line; `sound` where it has a line's form.
+    `arrivals` are these lines. The list of one recording has any length (`is_recorded`)."""
 
-    def __init__(self, file: IO[bytes], told: Callable[[int], None] = lambda count: None) -> None:
+    def __init__(
+        self,
+        file: IO[bytes],
+        told: Callable[[int], None] = lambda count: None,
+        is_recorded: bool = False,
+    ) -> None:
         digest = hashlib.sha256()
         parts: list[dict[str, np.ndarray]] = [columns_of_none()]
         lines = 0
         for text in blocks_of(Hashed(file, digest.update)):
-            if lines <= MOST_LINES:  # the program reads no further
+            if is_recorded or lines <= MOST_LINES:  # of a list the program reads no further
                 part = columns_of(Block(text))
                 parts.append(part)
                 lines += len(part["time"])
                 told(lines)
         self.lines = lines
+        self.is_recorded = is_recorded
         self.digest = digest.hexdigest()
         joined = {name: np.concatenate([part[name] for part in parts]) for name in parts[0]}
         self.sound = joined["sound"]
@@ -42,13 +49,7 @@ class Listing:
         self.link = joined["link"]
         self.length = joined["length"]
         self.number = joined["number"]
-
-    def has(self, lines: np.ndarray) -> None:
-        """Refused where one of these is no line of the list."""
-        known = lines <= self.lines
-        wrong = lines[~known] if not known.all() else lines[~self.sound[lines]]
-        if len(wrong):
-            raise Refused(f"line {wrong[0]} of the list is gone: did the list change meanwhile?")
+        self.arrivals = np.flatnonzero(self.sound)
 
 
 class Hashed:

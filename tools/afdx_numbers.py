@@ -95,10 +95,10 @@ def side_rows(counting: Counting) -> list[Row]:
                 **{name: row[name] for name in SUMS},
                 "missing": measured.missing if measured else None,
                 "least_gap_ns": measured.gap if measured else None,
-                "gap_line": measured.gap_line if measured else None,
+                "gap_line": named(counting, measured.gap_line if measured else None),
                 "bag_ns": link.bag_ms * 1_000_000,
                 "jitter_ns": measured.jitter if measured else None,
-                "jitter_line": measured.jitter_line if measured else None,
+                "jitter_line": named(counting, measured.jitter_line if measured else None),
                 "table_jitter_ns": link.jitter_ns,
             }
         )
@@ -117,9 +117,9 @@ def skew_rows(counting: Counting) -> list[Row]:
                 "link": vl,
                 "pairs": skew.pairs,
                 "at_inputs_ns": skew.greatest,
-                "inputs_line": skew.line,
+                "inputs_line": named(counting, skew.line),
                 "at_receivers_ns": there.greatest if there else None,
-                "receivers_line": there.line if there else None,
+                "receivers_line": named(counting, there.line if there else None),
                 "table_skew_ns": counting.config.links[vl].skew_ns,
             }
         )
@@ -144,7 +144,7 @@ def latency_row(counting: Counting, checked: Checked, path: Path) -> Row:
         "p99_ns": most,
         "p99.9_ns": nearly,
         "greatest_ns": greatest,
-        "at_line": line,
+        "at_line": named(counting, line),
         "at_ns": int(counting.listing.time[line]),
         "bound_ns": bound,
         "configured_ns": link.latency_ns,
@@ -223,7 +223,7 @@ def frame_rows(counting: Counting, checked: Checked, most: int) -> list[Row]:
         rows.append(
             {
                 **frame_key(counting, line),
-                "line": line,
+                "line": named(counting, line),
                 "port": port,
                 "system": counting.by_port[port].name,
                 "latency_ns": int(counting.latency[copy]),
@@ -253,6 +253,11 @@ def frame_key(counting: Counting, line: int) -> Row:
     }
 
 
+def named(counting: Counting, line: int | None) -> int | None:
+    """The number that the program gave a line of the list."""
+    return None if line is None else counting.events.number_of(line)
+
+
 def early_rows(counting: Counting) -> list[Row]:
     """A row for each link and side with over-rate frames: how many; of the ns that they came too
     early by, the least that half of them don't exceed, and the greatest."""
@@ -279,7 +284,8 @@ def early_frames(counting: Counting, most: int) -> list[Row]:
     rows = []
     for place in largest(early.amounts, min(most, len(early.amounts))):
         line, amount = int(early.lines[place]), in_us(int(early.amounts[place]))
-        rows.append({**frame_key(counting, line), "line": line, "early_us": amount})
+        key = frame_key(counting, line)
+        rows.append({**key, "line": named(counting, line), "early_us": amount})
     return rows
 
 
@@ -296,7 +302,12 @@ def trouble_rows(counting: Counting, most: int = MOST_TROUBLES) -> list[Row]:
         words += [events.end_of(copy)] if refused[copy] else []
         found += [(int(events.line[copy]), int(events.port[copy]), word) for word in words]
     return [
-        {**frame_key(counting, line), "line": line, "port": port or None, "what": what}
+        {
+            **frame_key(counting, line),
+            "line": named(counting, line),
+            "port": port or None,
+            "what": what,
+        }
         for line, port, what in sorted(found)[:most]
     ]
 

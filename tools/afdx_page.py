@@ -303,6 +303,8 @@ def page(report: Row, counting: Counting, args: argparse.Namespace) -> str:
     title = f"AFDX replay: {report['run']['title']}"
     span = report["run"]["span_ns"] / 1e6
     words = f"{report['totals']['frames']:,} frames over {span:,.3f} ms at both switches."
+    if "skipped" in report:
+        words += f" Skipped of the recording: {cell(report['skipped'])}."
     names = {"picture": "latency", "drops": "drops"}
     names |= {name: f"table of {name}" for name in NAMES}
     early = early_sections(report, counting, args.worst)

@@ -2,25 +2,24 @@
 from __future__ import annotations
 
 import argparse
+import contextlib
 import datetime
 import hashlib
 import json
 import os
-import subprocess
 import sys
-import tempfile
-
-import numpy as np
+from typing import Iterator
 
 import afdx_numbers as numbers
-from afdx_checked import Checked, checked_of
+from afdx_checked import Checked
 from afdx_compare import compared, other_report, words_of
 from afdx_counting import Counting
 from afdx_criteria import judged, status_of, suite_of, write_junit
-from afdx_events import OVER_RATE, Events
 from afdx_listing import Listing
 from afdx_page import page
 from afdx_ranking import FEWEST, latency_text, nearest, ranked
+from afdx_recordings import recording_options
+from afdx_running import Source, check, listed_of, replay, version
 from afdx_tables import (
     COUNTED,
     EARLY,
@@ -29,58 +28,11 @@ from afdx_tables import (
     UNPROMISED,
     Row,
     as_text,
+    cell,
     write_all,
 )
 from afdx_tools import program, read_config
 from afdx_words import Failed, Progress, as_file, at_hand, shown
-
-ENDED = (0, 3)  # the list came to its end or has a fault: each over-rate frame has its line
-
-
-def check(afdx: str, config: str) -> Checked:
-    """What `check` says of the configuration."""
-    run = subprocess.run([afdx, "check", config], capture_output=True, text=True, check=False)
-    if run.stderr:
-        raise Failed(run.stderr.strip(), run.returncode)
-    return checked_of(run.stdout.splitlines())
-
-
-def listing_of(path: str, progress: Progress) -> Listing:
-    """The list's columns."""
-    with open(path, "rb") as file:
-        return Listing(file, lambda count: progress.tell(f"{count:,} lines of the list read"))
-
-
-def replay(words: list[str], events: Events, progress: Progress) -> tuple[str, int]:
-    """Runs the replay and takes its lines; its fault line and its status."""
-    most = max(events.listing.lines, 1)
-    with tempfile.TemporaryFile() as errors:
-        with subprocess.Popen(
-            words, stdout=subprocess.PIPE, stderr=errors, pipesize=1 << 20
-        ) as run:
-            assert run.stdout is not None
-            events.read(
-                run.stdout, lambda line: progress.tell(f"{100 * line // most} % of the replay")
-            )
-        errors.seek(0)
-        fault = events.read_errors(errors)
-    if run.returncode < 0:
-        return fault or f"the program was ended by signal {-run.returncode}", 128 - run.returncode
-    if run.returncode in ENDED:
-        want_whole(events)
-    return fault, run.returncode
-
-
-def want_whole(events: Events) -> None:
-    """Failed where only a part of the `early` lines came: the program says nothing of those that it
-    couldn't write."""
-    got, wanted = events.early.lines, events.lines_of(OVER_RATE)
-    if len(got) and not np.array_equal(got, wanted):
-        raise Failed(
-            f"{len(got)} lines 'early' came for {len(wanted)} over-rate frames: is there no room "
-            f"in {shown(tempfile.gettempdir())}?",
-            4,
-        )
 
 
 def digest(path: str) -> str:
@@ -89,21 +41,17 @@ def digest(path: str) -> str:
         return hashlib.file_digest(file, "sha256").hexdigest()
 
 
-def version(afdx: str) -> str:
-    """What the program calls itself. It is asked first, with standard error seen: the program of a
-    checkout may build itself first, which takes minutes and is said there."""
-    run = subprocess.run([afdx, "--version"], stdout=subprocess.PIPE, text=True, check=False)
-    return run.stdout.strip() or "afdx"
-
-
 def header(args: argparse.Namespace, counting: Counting, sums: list[str], called: str) -> Row:
     """What the run was."""
-    names = [shown(os.path.basename(path)) for path in (args.list, args.config)]
+    paths = [args.list] if args.other is None else [args.list, args.other]
+    names = [shown(os.path.basename(path)) for path in (*paths, args.config)]
+    heads = ["List"] if len(paths) == 1 else ["Recording of A", "Recording of B"]
+    config, *others = sums
     return {
-        "title": shown(args.title) if args.title else " on ".join(names),
+        "title": shown(args.title) if args.title else f"{' and '.join(names[:-1])} on {names[-1]}",
         "files": [
-            ("Configuration", shown(args.config), sums[0]),
-            ("List", shown(args.list), sums[1]),
+            ("Configuration", shown(args.config), config),
+            *zip(heads, map(shown, paths), others),
         ],
         "program": called,
         "admission_waived": args.no_admission,
@@ -113,32 +61,22 @@ def header(args: argparse.Namespace, counting: Counting, sums: list[str], called
     }
 
 
-def report_of(
-    args: argparse.Namespace, config: str, path: str, progress: Progress
-) -> tuple[Row, Counting]:
-    """Runs the program, and counts: the report, and what the pictures need."""
-    afdx = program()
-    called = version(afdx)
-    checked = check(afdx, config)
-    tables = read_config(config)
-    listing = listing_of(path, progress)
-    events = Events(listing)
-    options = ["--explain-drops", *(["--no-admission"] if args.no_admission else [])]
-    fault, status = replay([afdx, "replay", *options, config, path], events, progress)
-    progress.tell("counting")
-    counting = Counting(tables, listing, events)
+def sums_of(source: Source, listing: Listing) -> list[str]:
+    """The SHA-256 of the configuration, and of each file that was replayed."""
+    files = map(digest, source.paths) if source.is_recorded else [listing.digest]
+    return [digest(source.config), *files]
+
+
+def tables_of(counting: Counting, checked: Checked, worst: int) -> Row:
+    """What is counted of a run."""
     links, sides = numbers.link_rows(counting), numbers.side_rows(counting)
     ports, loads = numbers.port_rows(counting, checked)
-    report = {
-        "run": header(args, counting, [digest(config), listing.digest], called),
-        "admission": checked.answer,
-        "fault": fault,
-        "status": status,
+    return {
         "totals": numbers.totals(links, sides),
         "bounds": {port: vars(bound) for port, bound in checked.bounds.items()},
         "links": links,
         "latency": numbers.latency_rows(counting, checked),
-        "frames": numbers.frame_rows(counting, checked, args.worst),
+        "frames": numbers.frame_rows(counting, checked, worst),
         "sides": sides,
         "skews": numbers.skew_rows(counting),
         "ports": ports,
@@ -146,9 +84,32 @@ def report_of(
         "drops": numbers.drops_of(counting),
         "loads": loads,
         "troubles": numbers.trouble_rows(counting),
+    }
+
+
+def report_of(
+    args: argparse.Namespace, source: Source, progress: Progress
+) -> tuple[Row, Counting]:
+    """Runs the program, and counts: the report, and what the pictures need."""
+    afdx = program()
+    called = version(afdx)
+    checked = check(afdx, source.config)
+    tables = read_config(source.config)
+    listed = listed_of(source, progress)
+    events, fault, status = replay(source, listed, progress)
+    progress.tell("counting")
+    counting = Counting(tables, listed.listing, events)
+    report = {
+        "run": header(args, counting, sums_of(source, listed.listing), called),
+        "admission": checked.answer,
+        "fault": fault,
+        "status": status,
+        **tables_of(counting, checked, args.worst),
         "proved": PROVED,
         "counted": COUNTED,
     }
+    if listed.skipped and not status:
+        report["skipped"] = listed.skipped
     if len(events.early.lines):
         report["early_ns"] = numbers.early_rows(counting)
     return report, counting
@@ -161,6 +122,8 @@ def print_head(report: Row) -> None:
     for name, count in report["totals"].items():
         print(f"{name.replace('_', ' '):10} {count}")
     most = nearest(report["latency"])
+    if "skipped" in report:
+        print(f"skipped    {cell(report['skipped'])}")
     if most:
         print(f"nearest    {latency_text(most)}")
     else:
@@ -198,16 +161,30 @@ def write_folder(folder: str, report: Row, counting: Counting, args: argparse.Na
         file.write(text)
 
 
+@contextlib.contextmanager
+def source_of(args: argparse.Namespace) -> Iterator[Source]:
+    """What the words name, at hand to be read more than once."""
+    names = [args.list] if args.other is None else [args.list, args.other]
+    if names == ["-", "-"]:
+        raise Failed("words SameInput", 2)
+    of_replay = ["--no-admission"] if args.no_admission else []
+    with contextlib.ExitStack() as files:
+        config = files.enter_context(at_hand(args.config, "run.toml"))
+        paths = [files.enter_context(at_hand(name, "run.list")) for name in names]
+        yield Source(config, paths, recording_options(args), of_replay)
+
+
 def run_report(tool: str, args: argparse.Namespace) -> int:
     """Makes the report; the status."""
     progress = Progress(tool)
     other = other_report(args.compare) if args.compare else None
+    name = args.list if args.other is None else f"{args.list},{args.other}"
     try:
-        with at_hand(args.config, "run.toml") as config, at_hand(args.list, "run.list") as path:
-            report, counting = report_of(args, config, path, progress)
+        with source_of(args) as source:
+            report, counting = report_of(args, source, progress)
     except Failed as error:
         if args.junit:
-            write_junit(args.junit, [suite_of(args.list, str(error), None, args.fail_on)])
+            write_junit(args.junit, [suite_of(name, str(error), None, args.fail_on)])
         raise
     finally:
         progress.done()
@@ -217,7 +194,7 @@ def run_report(tool: str, args: argparse.Namespace) -> int:
     if args.out or not args.json:
         write_folder(as_file(args.out or "report"), report, counting, args)
     if args.junit:
-        suite = suite_of(args.list, report["fault"], report["totals"], args.fail_on)
+        suite = suite_of(name, report["fault"], report["totals"], args.fail_on)
         write_junit(args.junit, [suite])
     if args.json:
         print(json.dumps(report))

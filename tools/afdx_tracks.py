@@ -72,7 +72,10 @@ def arrivals_of(counting: Counting, lines: np.ndarray) -> list[Arrived]:
     listing, events = counting.listing, counting.events
     found = {
         int(n): Arrived(
-            int(n), int(listing.time[n]), side_name(int(listing.side[n])), events.verdict_of(n)
+            events.number_of(n),
+            int(listing.time[n]),
+            side_name(int(listing.side[n])),
+            events.verdict_of(n),
         )
         for n in lines
     }

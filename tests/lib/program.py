@@ -2,6 +2,7 @@
 from __future__ import annotations
 
 import os
+import select
 import subprocess
 import sys
 import tempfile
@@ -72,6 +73,17 @@ class Program:
             limited, capture_output=True, cwd=self.folder, timeout=LONGEST, check=False
         )
         return Answer(done.returncode, done.stdout, done.stderr)
+
+
+def text_within(pipe: int, size: int, seconds: float) -> bytes:
+    """So many bytes of a pipe, or those that come in so many seconds."""
+    text = b""
+    while len(text) < size and select.select([pipe], [], [], seconds)[0]:
+        piece = os.read(pipe, size - len(text))
+        if not piece:
+            break
+        text += piece
+    return text
 
 
 def short(text: object) -> str:

@@ -12,12 +12,15 @@ sys.dont_write_bytecode = True
 sys.path.insert(0, os.path.dirname(os.path.abspath(__file__)))
 from recorded import PCAPS, is_recording  # noqa: E402
 
-WORDS = ("pcap", "pcapng", "list")  # the two forms, and the command that makes a list of one
-NOW = "pcap,pcapng,list"  # what the program reads today
+# the two forms, the command that makes a list of one, and two recordings at once
+WORDS = ("pcap", "pcapng", "list", "two")
+NOW = "pcap,pcapng,list,two"  # what the program reads today
 
 READS = frozenset(os.environ.get("AFDX_READS", NOW).split(",")) - {""}
 if not READS <= set(WORDS) or (READS and "pcap" not in READS):
     raise SystemExit(f"AFDX_READS is {','.join(WORDS)} or a part of it with pcap")
+if "two" in READS and READS != set(WORDS):
+    raise SystemExit(f"AFDX_READS has two where it is {','.join(WORDS)}")
 
 
 def is_pcap(data: bytes) -> bool:

@@ -15,15 +15,17 @@ SKIPS = ("no-frame", "left-out", "not-afdx", "unknown-sender", "no-network", "be
 
 
 class Options(NamedTuple):
-    """The options of a run on a recording, and the port that `police` gives its frames."""
+    """The options of a run on a recording, the port that `police` gives its frames, and the side
+    that they have as those of one of two recordings."""
 
     places: dict[int, str] = {}  # of an interface: a side, a side and a port as `A:1`, or `-`
     fcs: bool | None = None
     origin: int | None = None
     port: int | None = None
+    side: str | None = None  # that of all frames, where two recordings are read at once
 
     def words(self) -> list[str]:
-        """The program's words, without that of the port."""
+        """The program's words, without those of the port and the side."""
         words = [f"--interface={each}={place}" for each, place in self.places.items()]
         if self.fcs is not None:
             words.append(f"--fcs={'yes' if self.fcs else 'no'}")
@@ -54,7 +56,7 @@ class Place(NamedTuple):
 def place_of(options: Options, ports: dict[int, int], frame: Frame) -> Place:
     """Where a frame came in; `ports` are those of the systems, by their numbers."""
     side, _, port = options.places.get(frame.interface, "").partition(":")
-    content = frame.bytes
+    side, content = side or options.side or "", frame.bytes
     claimed_side = SIDES.get(content[11]) if len(content) >= 12 else None
     is_sender = len(content) >= 11 and content[6:9] == b"\x02\0\0"
     claimed_port = ports.get(int.from_bytes(content[9:11], "big")) if is_sender else None
@@ -109,13 +111,32 @@ def outcomes(
         yield "TimeBack"
 
 
+def line_of(options: Options, frame: Frame, place: Place, time: int) -> bytes:
+    """An arrival's line of the list."""
+    kind = "B" if frame.found_wrong else "F"
+    if is_closed(frame, options) or len(frame.bytes) > MOST_LISTED:
+        kind = "R"
+    digits = frame.bytes[:MOST_LISTED].hex()
+    return f"{kind} {time} {place.side} {place.port} {digits}\n".encode()
+
+
+def no_counts() -> dict[str, int]:
+    """What is counted beside the arrivals."""
+    return dict.fromkeys([*SKIPS, "recorder-lost", "claimed"], 0)
+
+
+def skipped_line(counts: dict[str, int]) -> bytes:
+    """The line of the counts."""
+    return f"skipped {' '.join(f'{word} {count}' for word, count in counts.items())}\n".encode()
+
+
 class Run:
     """What a run has taken so far."""
 
     def __init__(self, options: Options, ports: dict[int, int]) -> None:
         self.options, self.ports = options, ports
         self.lines: list[bytes] = []
-        self.counts = dict.fromkeys([*SKIPS, "recorder-lost", "claimed"], 0)
+        self.counts = no_counts()
         self.origin, self.latest, self.arrivals = options.origin, 0, 0
 
     def arrive(self, frame: Frame, place: Place) -> str:
@@ -124,11 +145,7 @@ class Run:
         time = frame.stamp - self.origin
         if time > LATEST_TIME:
             return "TimeTooLarge"
-        kind = "B" if frame.found_wrong else "F"
-        if is_closed(frame, self.options) or len(frame.bytes) > MOST_LISTED:
-            kind = "R"
-        digits = frame.bytes[:MOST_LISTED].hex()
-        self.lines.append(f"{kind} {time} {place.side} {place.port} {digits}\n".encode())
+        self.lines.append(line_of(self.options, frame, place, time))
         self.latest = frame.stamp
         self.arrivals += 1
         self.counts["claimed"] += place.is_claimed
@@ -146,9 +163,8 @@ class Run:
 
     def told(self, fault: str) -> Told:
         """What is told where it ends here, with a fault or without."""
-        skipped = " ".join(f"{word} {count}" for word, count in self.counts.items())
         line = f"recording {fault}\n" if fault else ""
-        return Told(self.lines, line.encode(), f"skipped {skipped}\n".encode())
+        return Told(self.lines, line.encode(), skipped_line(self.counts))
 
 
 def told(options: Options, ports: dict[int, int], data: bytes) -> Told:

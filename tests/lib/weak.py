@@ -17,7 +17,8 @@ BEYOND = b"!\n"  # a line that is none: what stands before it is written, and no
 
 
 class Call(NamedTuple):
-    """A line of the log: read or write, the bytes that were asked for, and the answer."""
+    """A line of the log: read, write or a read of the second input, the bytes that were asked for,
+    and the answer."""
 
     kind: str
     asked: int
@@ -30,6 +31,7 @@ class Weak:
     def __init__(self, program: Program, words: list[str], given: bytes, by_path: bool) -> None:
         self.program, self.words, self.given, self.by_path = program.apart(), words, given, by_path
         self.shim = os.path.join(program.folder, "devices.so")
+        self.log = os.path.join(self.program.folder, "calls")
         self.known: dict[bytes, Answer] = {}
         self.whole = self.undisturbed(given)
 
@@ -44,21 +46,33 @@ class Weak:
         front = self.given[:count]
         return self.undisturbed(front[: front.rfind(b"\n") + 1] + BEYOND).out
 
+    def told_before(self, reads: list[Call]) -> bytes:
+        """What these reads give, where the run then asks for more."""
+        return self.lines_before(sum(call.answer for call in reads))
+
     def run(self, most: int, *options: str, **broken: str) -> tuple[Answer, list[Call]]:
         """One run on weak devices, with the log of its calls."""
-        log = os.path.join(self.program.folder, "calls")
-        env = {"LD_PRELOAD": self.shim, "DEVICE_LOG": log}
-        env |= {"DEVICE_MOST": str(most)} | {
-            f"DEVICE_{name.upper()}": how for name, how in broken.items()
-        }
-        if self.by_path:
-            path = env["DEVICE_LIST"] = self.program.write("list", self.given)
-            found = self.program.run(*self.words, *options, path, env=env)
-        else:
-            found = self.program.run(*self.words, *options, "-", given=self.given, env=env)
-        with open(log, encoding="ascii") as file:
+        path = self.program.write("list", self.given) if self.by_path else "-"
+        env, given = self.weakened(path, most, broken), b"" if self.by_path else self.given
+        words = [*self.words, *options, *self.inputs(path)]
+        found = self.program.run(*words, given=given, env=env)
+        return found, self.calls()
+
+    def inputs(self, weak: str) -> list[str]:
+        """The last words of the command: the input, which is weak."""
+        return [weak]
+
+    def weakened(self, path: str, most: int, broken: dict[str, str]) -> dict[str, str]:
+        """What makes the devices weak."""
+        env = {"LD_PRELOAD": self.shim, "DEVICE_LOG": self.log, "DEVICE_MOST": str(most)}
+        env |= {"DEVICE_LIST": path} if path != "-" else {}
+        return env | {f"DEVICE_{name.upper()}": how for name, how in broken.items()}
+
+    def calls(self) -> list[Call]:
+        """The log of the last run's calls."""
+        with open(self.log, encoding="ascii") as file:
             calls = [line.split() for line in file]
-        return found, [Call(kind, int(asked), int(answer)) for kind, asked, answer in calls]
+        return [Call(kind, int(asked), int(answer)) for kind, asked, answer in calls]
 
     def ends(self, found: Answer, wanted: tuple[int, bytes], out: bytes) -> None:
         """The run ended so, and wrote just this, which is a beginning of the undisturbed text."""
@@ -101,17 +115,16 @@ def each_line_at_once(weak: Weak) -> None:
     more."""
     for most in (1, FEW):
         _, calls = weak.run(most, "--line-buffered")
-        got, written = 0, 0
+        reads: list[Call] = []
+        written = 0
         for call in calls:
-            if call.kind == "r":
-                wanted = len(weak.lines_before(got))
-                must(
-                    written == wanted,
-                    f"{written} bytes written where {got} were read, wanted {wanted}",
-                )
-                got += call.answer
-            else:
+            if call.kind == "w":
                 written += call.answer
+                continue
+            wanted, got = len(weak.told_before(reads)), sum(call.answer for call in reads)
+            told = f"{written} bytes written where {got} were read, wanted {wanted}"
+            must(written == wanted, told)
+            reads.append(call)
 
 
 def broken_reads(weak: Weak, most: int, reads: list[int]) -> None:
@@ -122,6 +135,8 @@ def broken_reads(weak: Weak, most: int, reads: list[int]) -> None:
             found, calls = weak.run(most, read=f"{k}:{how}")
             weak.ends(found, READ, weak.lines_before(got))
             never_again(calls, "r")
+            kinds = "".join(call.kind for call in calls)
+            must("s" not in kinds[kinds.rfind("r") :], "the second input is read on")
         found, calls = weak.run(most, read=f"{k}:none")
         shorter = weak.undisturbed(weak.given[:got])
         answers(found, shorter.status, shorter.out, shorter.err)

@@ -6,12 +6,13 @@
  *
  * Loaded before the C library, it looks at the calls of read on standard input, or on the file that
  * DEVICE_LIST names once it is opened, and at those of write on standard output. Each moves at most
- * DEVICE_MOST bytes; where that is absent or 0, as many as it would. DEVICE_READ and DEVICE_WRITE
+ * DEVICE_MOST bytes; where that is absent or 0, as many as it would. So do those of read on a
+ * second input, the file that DEVICE_SECOND names, which never fails. DEVICE_READ and DEVICE_WRITE
  * are K:HOW, for the K-th such call from 1 on: `fails` makes this call and all later ones fail with
  * EIO, `none` makes them move no byte, `once` makes this one fail and lets the later ones go
  * through, and `interrupted` makes this one fail with EINTR. DEVICE_LOG names a file that gets a
- * line for each of these calls: `r` or `w`, how many bytes were asked for, and what was answered,
- * -1 where it failed. For one thread.
+ * line for each of these calls: `r` or `w`, or `s` for the second input, how many bytes were asked
+ * for, and what was answered, -1 where it failed. For one thread.
  */
 #define _GNU_SOURCE
 #include <dlfcn.h>
@@ -35,6 +36,8 @@ static struct device input = {"DEVICE_READ", 0, 0, 0, ""};
 static struct device output = {"DEVICE_WRITE", 1, 0, 0, ""};
 static size_t most;
 static const char *list;
+static const char *second;
+static int second_descriptor = -1;
 static int log_file = -1;
 static ssize_t (*next_read)(int, void *, size_t);
 static ssize_t (*next_write)(int, const void *, size_t);
@@ -53,6 +56,7 @@ static void begin(void) {
     next_open = (int (*)(const char *, int, ...))dlsym(RTLD_NEXT, "open");
     most = number ? (size_t)atol(number) : 0;
     list = getenv("DEVICE_LIST");
+    second = getenv("DEVICE_SECOND");
     if (list) input.descriptor = -1;
     find_break(&input);
     find_break(&output);
@@ -84,6 +88,11 @@ static size_t at_most(size_t asked) { return most && asked > most ? most : asked
 ssize_t read(int descriptor, void *bytes, size_t asked) {
     ssize_t answer;
     begin();
+    if (descriptor >= 0 && descriptor == second_descriptor) {
+        answer = next_read(descriptor, bytes, at_most(asked));
+        tell('s', asked, answer);
+        return answer;
+    }
     if (descriptor != input.descriptor) return next_read(descriptor, bytes, asked);
     if (!is_broken(&input, &answer)) answer = next_read(descriptor, bytes, at_most(asked));
     tell('r', asked, answer);
@@ -107,5 +116,6 @@ int open(const char *path, int flags, ...) {
     descriptor = next_open(path, flags, va_arg(more, int));
     va_end(more);
     if (list && !strcmp(path, list)) input.descriptor = descriptor;
+    if (second && !strcmp(path, second)) second_descriptor = descriptor;
     return descriptor;
 }

@@ -31,6 +31,16 @@ for line in ' ' 'config' 'config Twice link 1 key 7' 'config Missing link x key 
     'list BadHex' 'V 7 C drop over-rate' 'V 7 A drop overrate' '# 1 S6' 'n' '*' 'no|admit A1 3'; do
     case_of "no line of the program: '$line'" 2 '' $'words UnknownText\n' explain "$line"
 done
+for line in 'recording Ended 4 C' 'recording Ended 4 A B' 'recording Ended A' 'recording Ended 4A' \
+    'recording Ended 4  A' ' A' 'list BadHex 1 A'; do
+    case_of "no line of two recordings: '$line'" 2 '' $'words UnknownText\n' explain "$line"
+done
+tell 'a fault is explained alike for each of two recordings' "$(
+    meant=$("$program" explain recording Damaged 4)
+    for side in A B; do
+        [[ $("$program" explain recording Damaged 4 $side) == "$meant" ]] || echo "not for $side"
+    done
+)"
 text_case 'help of explain' 0 out 'afdx explain over-rate' explain --help
 text_case 'each word' 0 out 'drop over-rate' explain --list
 text_case 'neither a text nor each word' 2 err 'TEXT' explain
@@ -106,6 +116,33 @@ tell 'a terminal is told what a fault means' "$(
 )"
 explained_case 'replay explains admission' 1 '' 'admit A3 7 104 267995' 'A3 port vl bound' \
     replay --explain examples/refused.toml -
+explained_case 'replay explains the same input' 2 '' 'words SameInput' 'which is standard input' \
+    replay --explain examples/base.toml - -
+explained_case 'replay explains two lists' 3 '' 'recording NotRecording 0 A' 'two LISTs' \
+    replay --explain examples/base.toml examples/one_link.list examples/one_link.list
+
+# pcap, without a frame
+printf '\xd4\xc3\xb2\xa1\2\0\4\0\0\0\0\0\0\0\0\0\0\0\4\0\1\0\0\0' >"$work/empty.pcap"
+explained_of_two() { # NAME FAULT WORDS A B : with the command, of a device
+    explained_case "$command explains $1" 4 '' "$2" "$3" \
+        "$command" --explain examples/base.toml "$4" "$5"
+}
+for command in list replay; do
+    case_of "nothing to explain of two recordings, $command" 0 '' '' \
+        "$command" --explain examples/base.toml "$work/empty.pcap" "$work/empty.pcap"
+    explained_of_two 'the path of a first recording' 'device List' \
+        "$work/none: No such file or directory" "$work/none" -
+    explained_of_two 'the path of a second recording' 'device List' \
+        "$work/none: No such file or directory" - "$work/none"
+    explained_of_two 'a folder as a first recording' 'device Read' \
+        "$work: Is a directory" "$work" "$work/empty.pcap"
+    explained_of_two 'a folder as a second recording' 'device Read' \
+        "$work: Is a directory" "$work/empty.pcap" "$work"
+    input=$work
+    explained_of_two 'standard input as a second recording' 'device Read' \
+        'standard input: Is a directory' "$work/empty.pcap" -
+    input=/dev/null
+done
 explained_case 'send explains a name' 2 '' 'words NoSuchSystem' 'no SYSTEM of that name' \
     send --explain examples/network.toml nobody -
 status=0

@@ -2,7 +2,8 @@
 
     tests/recordings/growing_recordings.py FOLDER
 
-Prints a line for each that the program reads (tests/lib/reads.py): its name, a tab, its path.
+Prints a line for each that the program reads (tests/lib/reads.py): its name, a tab, its path; and
+for two that it reads at once their name and both paths.
 """
 from __future__ import annotations
 
@@ -13,9 +14,10 @@ sys.dont_write_bytecode = True
 TESTS = os.path.join(os.path.dirname(os.path.abspath(__file__)), "..")
 sys.path[:0] = [os.path.join(TESTS, name) for name in ("lib", "recordings")]
 from edge_rows import block, low  # noqa: E402
-from reads import is_read  # noqa: E402
+from reads import READS, is_read  # noqa: E402
 from recording_rows import H1, H2, IL, IW, ONE, PL, SL, US, ZERO, E, R, Z  # noqa: E402
 
+PAIRS = [("a pcap", "a pcapng"), ("a pcapng", "a pcap that breaks off")]
 LARGE = 200_000  # bytes: more than is held of any input at the start
 
 
@@ -35,13 +37,16 @@ def texts() -> dict[str, str]:
 
 def main() -> None:
     """Writes those that are read."""
+    paths = {}
     for name, text in texts().items():
         data = bytes.fromhex(text)
         if is_read(data):
-            path = os.path.join(sys.argv[1], name.replace(" ", "-"))
+            path = paths[name] = os.path.join(sys.argv[1], name.replace(" ", "-"))
             with open(path, "wb") as file:
                 file.write(data)
             print(f"{name}\t{path}")
+    for one, other in PAIRS if "two" in READS else ():
+        print(f"{one} and {other}\t{paths[one]}\t{paths[other]}")
 
 
 if __name__ == "__main__":

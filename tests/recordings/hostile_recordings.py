@@ -5,10 +5,12 @@ import random
 import time
 from collections.abc import Iterator
 
-from program import Program, answers, must
+from pair_wanted import PairCase
+from program import Answer, Program, answers, must
 from reads import READS, is_read
 from recorded import PCAPS
 from recorded_list import Options
+from recorded_pair import NETWORKS
 from recording_rows import H1, H2, IL, PL, SL, US, ZERO, E, R
 from wanted import POLICE, Case, path_of, with_base
 
@@ -43,6 +45,27 @@ def skips(program: Program, data: bytes, fault: str) -> None:
         began = time.monotonic()
         answers(program.run(*words, path), 3, b"", f"recording {fault}\n".encode())
         must(time.monotonic() - began < SOON, f"it takes more than {SOON} s")
+
+
+def pair_is_told(program: Program, pair: tuple[bytes, bytes]) -> None:
+    """Of two recordings at once both commands tell what the reference says, and soon."""
+    case = PairCase(pair)
+    said, wanted = case.told(), case.listed(program)
+    listed = Answer(said.status(), said.text(), said.fault)
+    paths = [program.write(name, data) for name, data in zip(NETWORKS, pair)]
+    for words, answer in ((case.words(), wanted), (["list", "base.toml"], listed)):
+        began = time.monotonic()
+        answers(program.run(*words, *paths), *answer)
+        must(time.monotonic() - began < SOON, f"it takes more than {SOON} s")
+
+
+def pair_skips(program: Program, pair: tuple[bytes, bytes], fault: str) -> None:
+    """Two recordings of which a replay tells nothing but a fault, and soon."""
+    paths = [program.write(name, data) for name, data in zip(NETWORKS, pair)]
+    began = time.monotonic()
+    found = program.run("replay", "base.toml", *paths)
+    answers(found, 3, b"", f"recording {fault}\n".encode())
+    must(time.monotonic() - began < SOON, f"it takes more than {SOON} s")
 
 
 def low(number: int) -> bytes:
@@ -108,6 +131,20 @@ def odd_bytes() -> dict[str, bytes]:
     }
 
 
+def hostile_pairs() -> dict[str, tuple[bytes, bytes]]:
+    """Two at once: sound beside hostile, and both as large as they may be."""
+    sound = HEAD + FRAME + NEXT
+    large = BEGIN + block(0x99, MOST_BLOCK + 4) + block(5, MOST_BLOCK) + ONE
+    some = {"16 MiB of both": (large, large)}
+    for name, data in (large_frames() | odd_bytes()).items():
+        some |= {f"A is {name}": (data, sound), f"B is {name}": (sound, data)}
+    return some | {
+        "100,000 sections of both": (BEGIN * 100_000 + ONE, BEGIN * 100_000 + ONE),
+        "100,000 frames beside none": (HEAD + FRAME * 100_000, HEAD),
+        "100,000 frames in turn": (HEAD + FRAME * 100_000, HEAD + FRAME * 100_000),
+    }
+
+
 def hostile_recordings(program: Program) -> Iterator[tuple]:
     """All that the program reads, each in a folder of its own."""
     every = large_frames() | large_blocks() | odd_bytes()
@@ -119,3 +156,10 @@ def hostile_recordings(program: Program) -> Iterator[tuple]:
         yield f"a recording: {MANY:,} frames of no bytes", skips, *given
         cut = with_base(program.apart()), HEAD + bytes(16 * MANY + 15), f"Ended {MANY}"
         yield f"a recording: {MANY:,} frames of no bytes, and a piece", skips, *cut
+    for name, pair in hostile_pairs().items() if "two" in READS else ():
+        yield f"two recordings: {name}", pair_is_told, with_base(program.apart()), pair
+    if "two" in READS:
+        many, sound = HEAD + bytes(16 * MANY), HEAD + FRAME
+        for side, pair in zip(NETWORKS, ((many, sound), (sound, many))):
+            given = with_base(program.apart()), pair, f"NoArrival {MANY} {side}"
+            yield f"two recordings: {MANY:,} frames of no bytes in {side}", pair_skips, *given

@@ -11,9 +11,11 @@ from recorded import SECTION
 
 ORDERS = ("little", "big")
 START = 1_700_000_000  # s since 1970
+A_SECOND = 10**9  # ns
 RESOLUTIONS = [0, 1, 2, 3, 6, 9, 10, 128, 130, 138, 148, 158, 160, 162]
 FINE = [11, 12, 15, 18, 19, 30, 127, 163, 168, 180, 191, 192, 255]
-LINE = re.compile(rb"[FBR] (\d{1,18}) [AB] \d+ ([0-9a-fA-F]*)")  # time and bytes of a list's line
+# time, side and bytes of a list's line
+LINE = re.compile(rb"[FBR] (\d{1,18}) ([AB]) \d+ ([0-9a-fA-F]*)")
 SENDERS = {1: FIRST, 2: FIRST | {"port": 2, "id": 2}}
 
 
@@ -48,10 +50,10 @@ def lengths(chance: random.Random, frame: bytes) -> tuple[bytes, int]:
 
 
 class Clock:
-    """Moments that don't go back, in ns."""
+    """Moments that don't go back, in ns; the first one is one of so many."""
 
-    def __init__(self, chance: random.Random) -> None:
-        self.chance, self.moment = chance, START * 10**9 + chance.randrange(10**9)
+    def __init__(self, chance: random.Random, spread: int) -> None:
+        self.chance, self.moment = chance, START * 10**9 + chance.randrange(spread)
 
     def tick(self) -> int:
         """The next moment."""
@@ -67,9 +69,9 @@ class Interface(NamedTuple):
     is_sealed: bool
 
 
-def made_pcap(chance: random.Random) -> bytes:
+def made_pcap(chance: random.Random, spread: int = A_SECOND) -> bytes:
     """A pcap."""
-    order, unit, clock = chance.choice(ORDERS), chance.choice([1, 1000]), Clock(chance)
+    order, unit, clock = chance.choice(ORDERS), chance.choice([1, 1000]), Clock(chance, spread)
 
     def numbers(*values: int, size: int = 4) -> bytes:
         return b"".join(value.to_bytes(size, order) for value in values)
@@ -207,18 +209,18 @@ def made_section(chance: random.Random, clock: Clock, resolutions: list[int]) ->
     return data
 
 
-def made_pcapng(chance: random.Random, is_fine: bool = False) -> bytes:
+def made_pcapng(chance: random.Random, is_fine: bool = False, spread: int = A_SECOND) -> bytes:
     """A pcapng; if it is fine, in units finer than those that tshark computes with."""
-    known, clock = FINE if is_fine else RESOLUTIONS, Clock(chance)
+    known, clock = FINE if is_fine else RESOLUTIONS, Clock(chance, spread)
     resolutions = known if chance.random() < 0.3 else [chance.choice(known)]
     sections = chance.choice([1, 1, 1, 2, 3])
     return b"".join(made_section(chance, clock, resolutions) for _ in range(sections))
 
 
-def made(chance: random.Random) -> bytes:
+def made(chance: random.Random, spread: int = A_SECOND) -> bytes:
     """A recording of any form."""
     is_pcap, is_fine = chance.random() < 0.3, chance.random() < 0.3
-    return made_pcap(chance) if is_pcap else made_pcapng(chance, is_fine)
+    return made_pcap(chance, spread) if is_pcap else made_pcapng(chance, is_fine, spread)
 
 
 def mutated(data: bytes, chance: random.Random) -> bytes:
@@ -243,14 +245,14 @@ def mutated(data: bytes, chance: random.Random) -> bytes:
     return bytes(changed)
 
 
-def pcap_of(text: bytes) -> bytes:
+def pcap_of(text: bytes, sides: bytes = b"AB") -> bytes:
     """The frames of a list as they stand there, in a pcap in ns that doesn't say whether they end
-    with their check sequence. Lines that are none are left out."""
+    with their check sequence; those of these sides. Lines that are none are left out."""
     data = bytes.fromhex("4d3cb2a1 02000400 00000000 00000000 00000400 01000000")
     for line in text.split(b"\n"):
         found = LINE.fullmatch(line.removesuffix(b"\r"))
-        if found and len(found[2]) % 2 == 0:
-            frame, size = bytes.fromhex(found[2].decode()), len(found[2]) // 2
+        if found and found[2] in sides and len(found[3]) % 2 == 0:
+            frame, size = bytes.fromhex(found[3].decode()), len(found[3]) // 2
             seconds, ns = divmod(START * 10**9 + min(int(found[1]), 10**16), 10**9)
             data += b"".join(each.to_bytes(4, "little") for each in (seconds, ns, size, size))
             data += frame
@@ -263,3 +265,18 @@ def made_data(kind: str, number: int | str) -> bytes:
     chance = random.Random(f"{kind}/{number}")
     data = made_pcap(chance) if "pcap" in kind else made(chance)
     return mutated(data, chance) if "mutated" in kind else data
+
+
+def made_pair(kind: str, number: int | str) -> tuple[bytes, bytes]:
+    """Two recordings of about the same time, made at random; of a kind `mutated` one of them has
+    bytes changed, or both."""
+    chance = random.Random(f"pair/{kind}/{number}")
+    spread = chance.choice([1, 1000, 10**6])
+    one, other = made(chance, spread), made(chance, spread)
+    if chance.random() < 0.1:
+        other = one
+    if "mutated" not in kind:
+        return one, other
+    changed = chance.choice("AAABBB*")
+    one = mutated(one, chance) if changed in "A*" else one
+    return one, mutated(other, chance) if changed in "B*" else other

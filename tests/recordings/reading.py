@@ -3,23 +3,20 @@
 recording for it (tests/lib/reads.py)."""
 from __future__ import annotations
 
-import os
 import random
-import select
 import subprocess
 
 from first_fault import list_fault
 from foreign_recordings import try_foreign
-from long_recordings import long_memory, long_runs
 from made_recordings import made_data
-from program import Cases, Program, answers, must, same_text
+from program import Cases, Program, answers, must, same_text, text_within
 from reading_words import try_words
 from reads import READS, is_read
 from recorded import recorded
 from recorded_list import Options
 from recording_rows import H1, H2, IL, PL, SL, US, ZERO, E, R, Row
-from wanted import POLICE, Case, case_of, cut_rows, path_of, random_case
-from wanted import row_holds, told_before
+from row_holds import row_holds
+from wanted import POLICE, Case, case_of, cut_rows, path_of, random_case, told_before
 
 SOON = 20  # seconds
 GROUPS, EACH = 12, 25  # recordings made at random
@@ -113,17 +110,6 @@ def one_port_each(program: Program, path: str) -> None:
 # ---- while it is recorded -------------------------------------------------------------------
 
 
-def next_text(pipe: int, size: int, seconds: float) -> bytes:
-    """So many bytes, or those that come in so many seconds."""
-    text = b""
-    while len(text) < size and select.select([pipe], [], [], seconds)[0]:
-        piece = os.read(pipe, size - len(text))
-        if not piece:
-            break
-        text += piece
-    return text
-
-
 def at_once(program: Program, words: list[str], pieces: list[bytes]) -> None:
     """While a recording is written piece by piece, each frame is told when its last byte is
     there, and not before. The first piece has no frame."""
@@ -138,13 +124,13 @@ def at_once(program: Program, words: list[str], pieces: list[bytes]) -> None:
         try:
             for piece in pieces:
                 run.stdin.write(piece[:-1])
-                must(next_text(run.stdout.fileno(), 1, 0.1) == b"", "it is told too early")
+                must(text_within(run.stdout.fileno(), 1, 0.1) == b"", "it is told too early")
                 run.stdin.write(piece[-1:])
                 done += piece
                 wanted = told_before(program, words, done)
                 must(wanted.startswith(told), "what was told is no beginning")
                 more = wanted[len(told) :]
-                found = next_text(run.stdout.fileno(), len(more), SOON)
+                found = text_within(run.stdout.fileno(), len(more), SOON)
                 same_text("what is told at once", more, found)
                 told = wanted
         finally:
@@ -169,7 +155,7 @@ def live_cases(program: Program) -> list[tuple]:
 
 
 def try_reading(cases: Cases, program: Program, every: list[Row]) -> None:
-    """All cases; these rows are spelled out."""
+    """All cases but those of memory; these rows are spelled out."""
     cases.try_at_once([(f"read: {row.name}", row_is_read, program, row) for row in every])
     try_words(cases, program)
     cuts = [row for row in cut_rows() if is_read(row.bytes())]
@@ -179,6 +165,3 @@ def try_reading(cases: Cases, program: Program, every: list[Row]) -> None:
     written = try_foreign(cases, program.folder)
     some += [(f"read: {name}", one_port_each, program, path) for name, path in written.items()]
     cases.try_at_once([*some, *live_cases(program)])
-    for run in long_runs():
-        name = f"memory of {run.frames:,} frames: {run.words[0]}"
-        cases.try_case(name, long_memory, program, run)

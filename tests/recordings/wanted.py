@@ -8,7 +8,7 @@ import threading
 from typing import NamedTuple
 
 from made_recordings import SENDERS
-from program import Answer, Program, answers, must, short
+from program import Answer, Program, answers, must
 from recorded_list import Options, Told, told
 from recording_rows import FIRST_NS, Row, rows
 from tables import example
@@ -110,23 +110,6 @@ def cut_rows() -> list[Row]:
     """Rows of `replay` with several numbers and no fault, to be cut."""
     sound = [row for row in rows() if not row.fault and not row.rule]
     return [row for row in sound if len(case_of(row).told().lines) > 1]
-
-
-def row_holds(program: Program, row: Row) -> None:
-    """The reference says what stands in the row, and so does the program's run on its list."""
-    case = case_of(row)
-    wanted = case.told()
-    fault = f"recording {row.fault}\n" if row.fault else ""
-    must(wanted.fault == fault.encode(), f"wanted {fault!r}, found {wanted.fault!r}")
-    must(fits(row.listed, wanted.text()), f"the list is {short(wanted.text())}")
-    skipped = ".." if row.skipped == ".." else f"skipped {row.skipped}"
-    must(fits(skipped, wanted.skipped), f"the counts are {wanted.skipped!r}")
-    found = case.listed(program)
-    must(fits(row.told, found.out), f"the run on the list writes {short(found.out)}")
-    if not row.fault:
-        counts = case.listed(program, "--summary").err
-        summary = ".." if row.summary == ".." else f"summary {row.summary}"
-        must(fits(summary, counts), f"the run on the list counts {counts!r}")
 
 
 def random_options(chance: random.Random) -> Options:

@@ -7,13 +7,13 @@ tests/lib/weak_devices.c, which `cc` compiles, makes the devices weak: at most 1
 the first call broken, then the second, and so on. A call is broken by an error that stays, by an
 error that is gone at the next call, by an interruption, or by moving no byte. `police`, `replay`,
 with admission and without, and `send` are run on lists of a few lines, read by path or as standard
-input, and `check` and `solve` on configurations; `police` and `replay` also on recordings, if the
-program reads them (tests/lib/reads.py). Each run must write a beginning of the undisturbed text,
-exactly as far as it has to, and end with the status and the one line of the device that failed; and
-a device that failed, or has ended, must not be asked again, nor the other one be asked for more
-than what is held. With --line-buffered the text of each line, or recorded frame, must be handed
-over before more is read. The first bytes are also read one by one, and each of these reads is
-broken too.
+input, and `check` and `solve` on configurations; `police` and `replay` also on recordings, and on
+two at once, of which one is weak, if the program reads them (tests/lib/reads.py). Each run must
+write a beginning of the undisturbed text, exactly as far as it has to, and end with the status and
+the one line of the device that failed; and a device that failed, or has ended, must not be asked
+again, nor the other one be asked for more than what is held. With --line-buffered the text of each
+line, or recorded frame, must be handed over before more is read. The first bytes are also read one
+by one, and each of these reads is broken too.
 Prints `ok NAME` or `FAILED NAME` for each case, then `N passed, M failed`; ends with status 1 if a
 case failed.
 """
@@ -34,6 +34,7 @@ from program import Cases, Program, answers, main_of, must  # noqa: E402
 from sender import Message, list_sent, submission_list  # noqa: E402
 from weak import ERRORS, FEW, WRITE, Weak, compile_devices  # noqa: E402
 from weak import never_again, of_kind, weak_devices  # noqa: E402
+from weak_pairs import weak_pairs  # noqa: E402
 from weak_recordings import weak_recordings  # noqa: E402
 
 POLICE = ["police", "1", "64", "500"]
@@ -229,6 +230,7 @@ def try_all(cases: Cases, program: Program) -> None:
             *short_lists(program, config),
             *long_lists(program, config),
             *weak_recordings(program, config),
+            *weak_pairs(program, config),
             ("check", weak_config, program, ["check"], TABLES, 0),
             ("check, not admitted", weak_config, program, ["check"], SMALL, 1),
             ("solve", weak_config, program, ["solve"], SMALL, 0),

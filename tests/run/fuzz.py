@@ -18,7 +18,8 @@ holds what must be so of any output. Beside that
 
 Where the program reads recordings (tests/lib/reads.py), one is tried beside every second case, made
 and changed at random (tests/recordings/), or from the case's list: a run on it must write what it
-writes of the list that says the same, and `list` that list. `--recordings` tries these alone.
+writes of the list that says the same, and `list` that list. Where it reads two at once, a pair is
+tried as well, whole and cut. `--recordings` tries these alone.
 
 The first case that is wrong is written to DIR (a new folder where it isn't given), its seed and
 number are printed, and the status is 1. `--seed N --first K` begins with that case. Needs Python
@@ -38,6 +39,8 @@ sys.path[:0] = [os.path.join(TESTS, name) for name in ("fuzzing", "recordings")]
 import checks  # noqa: E402
 import made  # noqa: E402
 import sending  # noqa: E402
+import pair_reading  # noqa: E402
+import pair_wanted  # noqa: E402
 import reading  # noqa: E402
 import wanted  # noqa: E402
 from made_recordings import made_data, pcap_of  # noqa: E402
@@ -214,8 +217,20 @@ def try_recording(runs, seed, number):
     reading.both(program, wanted.random_case(chance, data))
 
 
+def try_pair(runs, seed, number):
+    """Two recordings at once, every third pair with bytes changed, whole and cut."""
+    kind, name = pair_reading.KINDS[number % 3 == 2], f"{seed}/{number}"
+    whole = pair_wanted.random_pair(kind, name)
+    cut = pair_wanted.cut_pair(random.Random(f"{name}/cut"), whole)
+    for case in (whole, cut):
+        for side, data in zip("ab", case.pair):
+            runs.write(f"{side}.recording", data)
+        pair_reading.both_of_pair(Program(runs.program, runs.folder), case)
+
+
 def try_recorded_list(runs, seed, number, stored):
-    """The frames of a case's list, recorded, in its tables, admitted or not."""
+    """The frames of a case's list, recorded, in its tables, admitted or not; then the same in two
+    recordings, by their sides."""
     chance = random.Random(f"{seed}/{number}")
     case = made.random_case(chance, *stored)
     runs.write("config", case.config)
@@ -229,14 +244,19 @@ def try_recorded_list(runs, seed, number, stored):
     )
     options = wanted.random_options(chance)._replace(fcs=False)
     recording = wanted.Case(data, options, command=command)
-    reading.reads(Program(runs.program, runs.folder), recording)
+    program = Program(runs.program, runs.folder)
+    reading.reads(program, recording)
+    if "two" in READS:
+        pair = pcap_of(case.text, b"A"), pcap_of(case.text, b"B")
+        given = pair_wanted.random_options(chance)._replace(fcs=False)
+        pair_reading.both_of_pair(program, pair_wanted.PairCase(pair, given, command))
 
 
 def keep(runs, folder):
     """Copies the case to where it stays."""
     target = folder or tempfile.mkdtemp(prefix="afdx-fuzz-kept-")
     os.makedirs(target, exist_ok=True)
-    for name in ("config", "list", "one.toml"):
+    for name in ("config", "list", "one.toml", "a.recording", "b.recording"):
         if os.path.exists(runs.path(name)):
             with open(runs.path(name), "rb") as source, open(
                 os.path.join(target, name), "wb"
@@ -284,6 +304,8 @@ def main():
                     try_case(runs, given.seed, number, stored)
                 if given.recordings or (READS and number % 2):
                     try_recording(runs, given.seed, number)
+                    if "two" in READS:
+                        try_pair(runs, given.seed, number)
                 if READS and not given.recordings and number % 2 == 0:
                     try_recorded_list(runs, given.seed, number, stored)
             except Wrong as wrong:

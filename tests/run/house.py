@@ -222,7 +222,7 @@ def lists_apart() -> list[str]:
         faults.append(f"{LIST_TABLE[0]} has other faults of a list: {told ^ set(LIST_LINES)}")
     for file, forms in (("fault", lists.RUN_FAULTS), ("recording_fault", lists.RECORDING_FAULTS)):
         source = text_of(CRATES / f"afdx_lists/src/{file}.rt")
-        derived = re.findall(r'#\[error\("(.*?)"\)\]', source)
+        derived = re.findall(r'#\[error\("((?!\{0\} [AB]").*?)"\)\]', source)
         if [text.replace("{0}", "n") for text in derived] != forms:
             faults.append(f"the texts of the faults of {file}.rt are {derived}")
     return faults

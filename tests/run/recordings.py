@@ -13,6 +13,8 @@ fault, the counts. Here they must say
   editcap, mergecap, reordercap, dumpcap and tcpdump wrote, some of them cut;
 - of a recording that is cut at any byte a beginning of what they say of the whole one.
 
+tests/lib/recorded_pair.py says the same of two recordings that are read at once.
+
 With `--reads` the program itself reads all of these, and others, and must write what they say: from
 files, from pipes while they are written, and of 10,000,000 frames in the memory that 10,000 take. A
 recording of a form that it doesn't read yet (tests/lib/reads.py says which it reads) is no
@@ -33,16 +35,21 @@ import tempfile
 sys.dont_write_bytecode = True
 TESTS = os.path.join(os.path.dirname(os.path.abspath(__file__)), "..")
 sys.path[:0] = [os.path.join(TESTS, name) for name in ("lib", "recordings")]
+import pair_reading  # noqa: E402
 import reading  # noqa: E402
 from edge_rows import edges  # noqa: E402
 from foreign_recordings import try_foreign  # noqa: E402
+from long_recordings import try_long  # noqa: E402
 from made_recordings import made_data  # noqa: E402
 from outcome_rows import outcomes  # noqa: E402
+from pair_edge_rows import pair_rows  # noqa: E402
+from pair_wanted import random_pair  # noqa: E402
 from program import Cases, Program, must  # noqa: E402
 from reads import READS  # noqa: E402
 from recording_rows import Row, rows  # noqa: E402
+from row_holds import row_holds  # noqa: E402
 from tshark_frames import has, same_as_tshark  # noqa: E402
-from wanted import Case, case_of, cut_rows, random_case, row_holds, with_base  # noqa: E402
+from wanted import Case, case_of, cut_rows, random_case, with_base  # noqa: E402
 
 MADE = 48  # recordings of one kind
 CUT = 12  # places where tshark sees one cut
@@ -58,6 +65,12 @@ def many_lists(program: Program, kind: str) -> None:
     for number in range(MADE):
         chance = random.Random(f"options/{number}")
         random_case(chance, made_data(kind, number)).listed(program)
+
+
+def many_pair_lists(program: Program, kind: str) -> None:
+    """The lists of pairs made at random are sound."""
+    for number in range(MADE):
+        random_pair(kind, number).listed(program)
 
 
 def cut_anywhere(case: Case) -> None:
@@ -105,7 +118,17 @@ def try_reference(cases: Cases, program: Program) -> None:
     cases.try_at_once([(f"cut: {row.name}", cut_anywhere, case_of(row)) for row in cut_rows()])
     kinds = ["made", "mutated"]
     cases.try_at_once([(f"lists: {kind}", many_lists, program, kind) for kind in kinds])
+    cases.try_at_once([(f"two: {row.name}", row_holds, program, row) for row in pair_rows()])
+    cases.try_at_once([(f"lists of two: {kind}", many_pair_lists, program, kind) for kind in kinds])
     try_tshark(cases, program)
+
+
+def try_pairs(cases: Cases, program: Program) -> None:
+    """Two recordings at once, if the program reads two."""
+    if "two" in READS:
+        pair_reading.try_pairs(cases, program)
+    else:
+        cases.skip("two recordings at once", "the program reads one (tests/lib/reads.py)")
 
 
 def main() -> None:
@@ -125,6 +148,8 @@ def main() -> None:
             try_reference(cases, program)
         elif READS:
             reading.try_reading(cases, program, every_row())
+            try_pairs(cases, program)
+            try_long(cases, program)
     sys.exit(cases.told())
 
 

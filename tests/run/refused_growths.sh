@@ -7,11 +7,11 @@
 # PROGRAM polices examples/one_link.list on standard input, checks examples/base.toml, the same with
 # `--margins`, and with late links by `--all`, solves it with late links, explains a line, replays a
 # frame and its copy in base.toml, replays examples/gigabit.list, and sends five messages, of which
-# one is refused. It polices and replays recordings, if it reads them (tests/lib/reads.py). Each of
-# these is run with the first request refused, then the second, and so on, until a run meets no
-# refusal; and again with all requests refused from the first on, from the second on, and so on.
-# Each run must write a beginning of what the undisturbed run writes, and end either with the line
-# `memory` and status 4, or as the undisturbed run does.
+# one is refused. It polices and replays recordings, and replays and lists two at once, if it reads
+# them (tests/lib/reads.py). Each of these is run with the first request refused, then the second,
+# and so on, until a run meets no refusal; and again with all requests refused from the first on,
+# from the second on, and so on. Each run must write a beginning of what the undisturbed run writes,
+# and end either with the line `memory` and status 4, or as the undisturbed run does.
 #
 # Of each RUNNER the tests whose names, with their modules', contain `refused` are run, with one
 # request refused at a time, and with all refused from one on. Such a test makes a call again where
@@ -126,15 +126,22 @@ refuse_program() { # NAME WORD..
 }
 
 # The recordings of tests/recordings/growing_recordings.py that the program reads, each by `police`
-# and by `replay` with its options; what it can't read yet is left out.
+# and by `replay` with its options, two at once by `replay` and `list`; what it can't read yet is
+# left out.
 refuse_recordings() { # PROGRAM
-    local name path
+    local name path other base=$top/examples/base.toml
+    local options=(--interface '0=A:1' --interface '4095=-' --origin 1699999999000000000)
     python3 "$top/tests/recordings/growing_recordings.py" "$work" >"$work/recordings"
-    while IFS=$'\t' read -r name path; do
+    while IFS=$'\t' read -r name path other; do
         input=$path
-        refuse_program "police $name" "$1" police 1 64 500 -
-        refuse_program "replay $name" "$1" replay --interface 0=A:1 --interface 4095=- \
-            --origin 1699999999000000000 --summary "$top/examples/base.toml" -
+        if [[ -z $other ]]; then
+            refuse_program "police $name" "$1" police 1 64 500 -
+            refuse_program "replay $name" "$1" replay "${options[@]}" --summary "$base" -
+        else
+            refuse_program "replay $name" "$1" replay "${options[@]}" --interface 0=B:2 \
+                --summary "$base" - "$other"
+            refuse_program "list $name" "$1" list "$base" - "$other"
+        fi
     done <"$work/recordings"
 }
 

@@ -38,7 +38,7 @@ campaign_tests() {
     campaign "$work/two.list" --out "$work/login" --sshlogin 1/: --pages
     tell 'sshlogin is handed on; a page for each run' "$(
         is_status 0
-        if [[ ! -s $work/login/pages/1/report.html ]]; then echo 'there is no page'; fi
+        wants_page "$work/login/pages/1/report.html"
     )"
     launch tools/afdx-campaign examples/refused.toml "$work/two.list" --out "$work/refused"
     tell 'a network that is refused, in a campaign' "$(

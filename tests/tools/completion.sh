@@ -70,15 +70,19 @@ offer_tests() { # SHELL
         offers "$1" "afdx replay $files/one.toml $files/" two.list four.pcap
         offers "$1" "afdx police --vl 7 1 64 500 $files/" two.list four.pcap
         offers "$1" "afdx list $files/one.toml $files/" four.pcap
+        offers "$1" "afdx list $files/one.toml $files/four.pcap $files/" four.pcap
+        offers "$1" "afdx replay $files/one.toml $files/four.pcap $files/" four.pcap
         offers "$1" "afdx send $files/one.toml adc $files/" two.list three.messages
         offers "$1" "afdx-capture list --config $files/" one.toml
         offers "$1" "afdx-capture list --config $files/one.toml $files/" four.pcap
+        offers "$1" "afdx-capture list --config $files/one.toml $files/four.pcap $files/" four.pcap
         offers "$1" "afdx-capture pcap $files/" two.list
         offers "$1" "afdx-capture pcap --side A $files/two.list $files/" four.pcap
         offers "$1" "afdx-capture annotate $files/" one.toml
         offers "$1" "afdx-capture annotate $files/one.toml $files/" two.list
         offers "$1" "afdx-report $files/" one.toml
-        offers "$1" "afdx-report --rows 7 $files/one.toml $files/" two.list
+        offers "$1" "afdx-report --rows 7 $files/one.toml $files/" two.list four.pcap
+        offers "$1" "afdx-report --fcs no $files/one.toml $files/four.pcap $files/" four.pcap
         offers "$1" "afdx-report --out $files/"
         offers "$1" "afdx-icd --profile 2 $files/" seven.csv
         offers "$1" "afdx-icd $files/seven.csv $files/" seven.csv
@@ -86,7 +90,7 @@ offer_tests() { # SHELL
         offers "$1" "afdx-fill $files/" one.toml
         offers "$1" "afdx-fill --keep skew $files/one.toml $files/" one.toml
         offers "$1" "afdx-campaign $files/" one.toml
-        offers "$1" "afdx-campaign $files/one.toml $files/two.list $files/" two.list
+        offers "$1" "afdx-campaign $files/one.toml $files/two.list $files/" two.list four.pcap
     )"
     tell "$1 completes each option of --help" "$(each_help options_offered "$1")"
 }

@@ -11,6 +11,10 @@ wants_text() { # GOT WANTED WHAT
     if [[ $1 != "$2" ]]; then echo "$3: '$1', wanted '$2'"; fi
 }
 
+wants_page() { # FILE
+    if [[ ! -s $1 ]]; then echo "there is no page $1"; fi
+}
+
 wants_cases() { # JUNIT WANTED : how many test cases, errors, failures
     local got
     got=$("$python" -c 'import sys, xml.etree.ElementTree as xml

@@ -1,7 +1,45 @@
 //! Devices that remember what an explanation needs.
 
+use std::fs::File;
 use std::io;
-use std::io::{Read, Write};
+use std::io::{Read, Stdin, Write};
+
+/// The word that names standard input.
+pub const STANDARD_INPUT: &str = "-";
+
+/// What a person is told of the input that a word names.
+pub fn name_of_input(word: &str) -> &str {
+    if word == STANDARD_INPUT {
+        return "standard input";
+    }
+    word
+}
+
+/// A file, or standard input. Each call is passed on as it is.
+#[derive(Drop)]
+pub enum Input {
+    File(File),
+    Standard(Stdin),
+}
+
+impl Input {
+    /// The input that a word names.
+    pub fn open(rt: &HostRuntime, word: &str) -> io::Result<Input> {
+        if word == STANDARD_INPUT {
+            return Ok(Input::Standard(rt.stdin()));
+        }
+        Ok(Input::File(File::open(rt, word)?))
+    }
+}
+
+impl Read for Input {
+    fn read(&mut self, buf: &mut [u8]) -> io::Result<usize> {
+        match self {
+            Input::File(file) => file.read(buf),
+            Input::Standard(stdin) => stdin.read(buf),
+        }
+    }
+}
 
 /// The longest line that is remembered, in bytes: no fault's line is as long.
 const LONGEST: usize = 128;

@@ -1,6 +1,6 @@
 //! The words of `list`.
 
-use crate::recording_words::{fcs_option, interface_option, origin_option};
+use crate::recording_words::{fcs_option, interface_option, origin_option, second_list};
 use crate::words::{
     CONFIG_HELP, command, explain_option, line_buffered, progress_option, summary_option, word,
 };
@@ -24,6 +24,11 @@ bytes were recorded stands as its first 2,000. Up to 1,000,000 lines 'replay' an
 'police' read the list as they do the recording. --summary prints how many are no
 arrivals, in the line 'skipped ..'.
 
+With a second LIST the first is the recording of network A, the second that of network
+B, and both are read at once: arrivals come as 'replay' takes them, remarks where their
+frames are read, and line n is no number. --interface K=A.. is about interface K of the
+first, K=B.. of the second, K=- of both.
+
 A closed pipe, as with '| head', is the fault 'device Write', status 4.
 
 Example:
@@ -42,6 +47,7 @@ pub fn list_command<'a>(alloc: Global) -> Result<Command<'a>, AllocError> {
         summary_option(alloc),
         word(alloc, "CONFIG", CONFIG_HELP),
         word(alloc, "LIST", RECORDING_HELP),
+        second_list(alloc),
     ]?;
     command(alloc, "list", LIST_ABOUT, LIST_AFTER).args(words)
 }

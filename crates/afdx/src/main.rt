@@ -5,6 +5,7 @@ mod configs;
 mod devices;
 mod explaining;
 mod list_words;
+mod pair_running;
 mod progress;
 mod recording_words;
 mod running;
@@ -13,8 +14,10 @@ mod words;
 
 use crate::configs::{check_config, solve_tables};
 use crate::explaining::{Cause, explain, is_asked, line_of, print_lists, print_meaning};
+use crate::pair_running::{PairRun, run_pair};
 use crate::running::{Replaying, Run, run_list};
 use afdx_explain::meaning_of;
+use afdx_frame::BySide;
 use afdx_replay::status::{DONE, NO_DEVICE_OR_MEMORY, WRONG_WORDS};
 use afdx_replay::{CommandedRule, Policing, RunFault};
 use clap::error::ErrorKind;
@@ -123,12 +126,20 @@ fn replay_list(rt: &HostRuntime, matches: &ArgMatches<'_>) -> u8 {
         Ok(config) => config,
         Err(status) => return status,
     };
-    let run = Run::Replay(Replaying {
+    let replaying = Replaying {
         config: config.as_slice(),
         admission: !matches.get_flag("no-admission"),
         explains_drops: matches.get_flag("explain-drops"),
-    });
-    run_list(rt, matches, &run, list)
+    };
+    match matches.get_str("LIST_B") {
+        Some(b) => run_pair(
+            rt,
+            matches,
+            &PairRun::Replay(replaying),
+            BySide { a: list, b },
+        ),
+        None => run_list(rt, matches, &Run::Replay(replaying), list),
+    }
 }
 
 fn list_numbers(rt: &HostRuntime, matches: &ArgMatches<'_>) -> u8 {
@@ -139,10 +150,16 @@ fn list_numbers(rt: &HostRuntime, matches: &ArgMatches<'_>) -> u8 {
         Ok(config) => config,
         Err(status) => return status,
     };
-    let run = Run::List {
-        config: config.as_slice(),
-    };
-    run_list(rt, matches, &run, list)
+    let config = config.as_slice();
+    match matches.get_str("LIST_B") {
+        Some(b) => run_pair(
+            rt,
+            matches,
+            &PairRun::List { config },
+            BySide { a: list, b },
+        ),
+        None => run_list(rt, matches, &Run::List { config }, list),
+    }
 }
 
 fn send_list(rt: &HostRuntime, matches: &ArgMatches<'_>) -> u8 {

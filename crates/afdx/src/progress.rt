@@ -1,6 +1,7 @@
 //! How far a run has come, on standard error, while a person waits for it.
 
 use clap::ArgMatches;
+use std::cell::Cell;
 use std::io;
 use std::io::{IsTerminal, Read, Write};
 use std::time::{Duration, Instant};
@@ -21,24 +22,37 @@ pub fn is_told(rt: &HostRuntime, matches: &ArgMatches<'_>) -> bool {
     matches.get_flag("progress") && rt.stderr().is_terminal()
 }
 
-/// How many bytes were read, and when that is told next.
+/// How many bytes were read, of all inputs of a run, and when that is told next.
 #[derive(Drop)]
-struct Count<'a> {
+pub struct Count<'a> {
     rt: &'a HostRuntime,
-    bytes: u64,
-    due: Option<Instant>,
+    bytes: Cell<u64>,
+    due: Cell<Option<Instant>>,
 }
 
-impl Count<'_> {
-    fn add(&mut self, more: usize) {
-        self.bytes = self.bytes.saturating_add(more as u64);
-        let Some(due) = self.due else {
+impl<'a> Count<'a> {
+    /// Nothing was read. It tells nothing unless `is_told`.
+    pub fn new(rt: &'a HostRuntime, is_told: bool) -> Count<'a> {
+        let due = match Instant::now(rt) {
+            Ok(now) if is_told => now.checked_add(Duration::from_millis(SILENT)),
+            _ => None,
+        };
+        Count {
+            rt,
+            bytes: Cell::new(0),
+            due: Cell::new(due),
+        }
+    }
+
+    fn add(&self, more: usize) {
+        self.bytes.set(self.bytes.get().saturating_add(more as u64));
+        let Some(due) = self.due.get() else {
             return;
         };
         match Instant::now(self.rt) {
             Ok(now) if due <= now => {
-                self.due = now.checked_add(Duration::from_millis(APART));
-                let read = self.bytes / MEBIBYTE;
+                self.due.set(now.checked_add(Duration::from_millis(APART)));
+                let read = self.bytes.get() / MEBIBYTE;
                 let _ = eprint!(self.rt; "{CLEAR}{read} MiB read");
             }
             _ => {}
@@ -46,22 +60,17 @@ impl Count<'_> {
     }
 }
 
-/// A reader that tells from time to time how many bytes it has given. Each call is passed on as it
-/// is.
+/// A reader that tells from time to time how many bytes were read, by it and by others with the
+/// same count. Each call is passed on as it is.
 #[derive(Drop)]
 pub struct Counted<'a, R> {
     device: R,
-    count: Count<'a>,
+    count: &'a Count<'a>,
 }
 
 impl<'a, R> Counted<'a, R> {
-    /// A reader of which nothing was read. It tells nothing unless `is_told`.
-    pub fn new(rt: &'a HostRuntime, is_told: bool, device: R) -> Counted<'a, R> {
-        let due = match Instant::now(rt) {
-            Ok(now) if is_told => now.checked_add(Duration::from_millis(SILENT)),
-            _ => None,
-        };
-        let count = Count { rt, bytes: 0, due };
+    /// A reader of which nothing was read.
+    pub fn new(count: &'a Count<'a>, device: R) -> Counted<'a, R> {
         Counted { device, count }
     }
 }

@@ -2,8 +2,9 @@
 
 ghost use Rattle.std.specs.Prelude.{◌<◌, IfSome};
 
-use afdx_frame::{LAST_PORT, Side};
-use afdx_replay::{Interfaces, Place, RecordingOptions};
+use crate::devices::STANDARD_INPUT;
+use afdx_frame::{BySide, LAST_PORT, Side};
+use afdx_replay::{Interfaces, PairOptions, Place, RecordingOptions};
 use clap::{Arg, ArgAction, ArgMatches, value_parser};
 use std::alloc::{AllocError, Global};
 
@@ -51,6 +52,16 @@ pub fn origin_option<'a>(alloc: Global) -> Arg<'a> {
         .value_name("NS")
 }
 
+const SECOND_HELP: &str = "The path of the recording of network B, or - for standard input; the \
+first LIST is then that of network A";
+
+/// The word that names a second recording, which may be absent.
+pub fn second_list<'a>(alloc: Global) -> Arg<'a> {
+    Arg::new(alloc, "LIST_B")
+        .value_name("LIST")
+        .help(SECOND_HELP)
+}
+
 /// Why words are not taken.
 #[derive(Clone, Copy, Debug, PartialEq, Eq)]
 pub enum Refused {
@@ -58,6 +69,8 @@ pub enum Refused {
     BadInterface,
     /// The number of `--origin` is over 2^63 - 1.
     BadNumber,
+    /// Both recordings are standard input.
+    SameInput,
     /// There was no memory.
     Memory,
 }
@@ -127,18 +140,74 @@ fn interface_in(word: &str) -> Option<(u16, Place)>
     Some((interface, place_in(place)?))
 }
 
+/// Says where the frames of an interface came in, unless that was said before.
+fn put_once(interfaces: &mut Interfaces, interface: u16, place: Place) -> Result<(), Refused>
+    requires { interface < 4096 }
+{
+    if interfaces.place(interface).is_some() {
+        return Err(Refused::BadInterface);
+    }
+    interfaces.put(interface, place);
+    Ok(())
+}
+
 /// Where the frames of each interface came in, by the words of `--interface`.
 fn interfaces_in(alloc: Global, words: &[&str]) -> Result<Interfaces, Refused> {
     let mut interfaces = Interfaces::new(alloc)?;
     for word in words {
-        match interface_in(word) {
-            Some((interface, place)) if interfaces.place(interface).is_none() => {
-                interfaces.put(interface, place);
-            }
-            _ => return Err(Refused::BadInterface),
-        }
+        let Some((interface, place)) = interface_in(word) else {
+            return Err(Refused::BadInterface);
+        };
+        put_once(&mut interfaces, interface, place)?;
     }
     Ok(interfaces)
+}
+
+/// Says where the frames of an interface came in, unless that was said before: in the recording of
+/// the place's side, or that they are left out of both.
+fn put_in_pair(pair: &mut BySide<Interfaces>, interface: u16, place: Place) -> Result<(), Refused>
+    requires { interface < 4096 }
+{
+    match place {
+        Place::LeftOut => {
+            put_once(&mut pair.a, interface, place)?;
+            put_once(&mut pair.b, interface, place)
+        }
+        Place::OnSide(Side::A) | Place::AtPort(Side::A, _) => {
+            put_once(&mut pair.a, interface, place)
+        }
+        Place::OnSide(Side::B) | Place::AtPort(Side::B, _) => {
+            put_once(&mut pair.b, interface, place)
+        }
+    }
+}
+
+/// Where the frames of each interface of two recordings came in, by the words of `--interface`.
+fn pair_interfaces_in(alloc: Global, words: &[&str]) -> Result<BySide<Interfaces>, Refused> {
+    let mut pair = BySide {
+        a: Interfaces::new(alloc)?,
+        b: Interfaces::new(alloc)?,
+    };
+    for word in words {
+        let Some((interface, place)) = interface_in(word) else {
+            return Err(Refused::BadInterface);
+        };
+        put_in_pair(&mut pair, interface, place)?;
+    }
+    Ok(pair)
+}
+
+/// Whether each frame ends with its check sequence, where that is said.
+fn fcs_in(matches: &ArgMatches<'_>) -> Option<bool> {
+    matches.get_str("fcs").map(|said| said == "yes")
+}
+
+/// The moment that is time 0, where that is said.
+fn origin_in(matches: &ArgMatches<'_>) -> Result<Option<u64>, Refused> {
+    match matches.get_one::<u64>("origin") {
+        Some(moment) if moment > LATEST_MOMENT => Err(Refused::BadNumber),
+        origin => Ok(origin),
+    }
 }
 
 /// What the words say of a recording, if they are taken.
@@ -148,15 +217,32 @@ pub fn recording_options(
 ) -> Result<RecordingOptions, Refused> {
     let words = matches.get_strs("interface").unwrap_or(&[]);
     let interfaces = interfaces_in(alloc, words)?;
-    let origin = matches.get_one::<u64>("origin");
-    if origin.is_some_and(|moment| moment > LATEST_MOMENT) {
-        return Err(Refused::BadNumber);
-    }
-    let fcs = matches.get_str("fcs").map(|said| said == "yes");
+    let origin = origin_in(matches)?;
+    let fcs = fcs_in(matches);
     Ok(RecordingOptions {
         interfaces,
         fcs,
         origin,
+        network: None,
         are_given: !words.is_empty() || fcs.is_some() || origin.is_some(),
+    })
+}
+
+/// What the words say of two recordings, which are at these paths, if they are taken.
+pub fn pair_options(
+    alloc: Global,
+    matches: &ArgMatches<'_>,
+    lists: BySide<&str>,
+) -> Result<PairOptions, Refused> {
+    let words = matches.get_strs("interface").unwrap_or(&[]);
+    let interfaces = pair_interfaces_in(alloc, words)?;
+    let origin = origin_in(matches)?;
+    if lists.a == STANDARD_INPUT && lists.b == STANDARD_INPUT {
+        return Err(Refused::SameInput);
+    }
+    Ok(PairOptions {
+        interfaces,
+        fcs: fcs_in(matches),
+        origin,
     })
 }

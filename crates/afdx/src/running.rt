@@ -4,25 +4,25 @@ ghost use Rattle.std.specs.Prelude.{◌≡◌, false};
 ghost use Rattle.afdx_lists.specs.Peeking.{is_untouched};
 ghost use Rattle.afdx_lists.specs.Watching.{device_of, has_ended, has_failed};
 
-use crate::devices::{Heard, Traced};
+use crate::devices::{Heard, STANDARD_INPUT, Traced, name_of_input};
 use crate::explaining::Cause;
-use crate::progress::{Cleared, Counted, is_told};
+use crate::progress::{Cleared, Count, Counted, is_told};
 use crate::recording_words::{Refused, recording_options};
 use crate::{complain, explain_if_asked, memory, no_file};
 use afdx_replay::status::{DONE, WRONG_WORDS};
 use afdx_replay::{
-    CommandedRule, Ended, InputEnded, Output, Peeked, RecordingOptions, Sink, Watched, finish,
-    list_and_count, police_input, replay_input, replay_input_and_explain, send_and_count,
+    CommandedRule, Ended, InputEnded, ListEnded, Output, Peeked, RecordingOptions, Sink, Watched,
+    finish, list_and_count, police_input, replay_input, replay_input_and_explain, send_and_count,
 };
 use clap::ArgMatches;
 use std::fs::File;
-use std::io::{IsTerminal, LineWriter, Read, Write};
+use std::io::{IsTerminal, LineWriter, Read, Stderr, Write};
 
 const OUTPUT_BUFFER: usize = 65_536;
 
 /// How many bytes are gathered before they go to standard output: none if each line is to be seen
 /// at once, or a person reads.
-fn output_room(rt: &HostRuntime, matches: &ArgMatches<'_>) -> usize {
+pub fn output_room(rt: &HostRuntime, matches: &ArgMatches<'_>) -> usize {
     if matches.get_flag("line-buffered") || rt.stdout().is_terminal() {
         0
     } else {
@@ -40,28 +40,23 @@ fn print_counts(rt: &HostRuntime, ended: &InputEnded) {
     }
 }
 
-/// Ends a command that ran over a list or a recording: hands over what its output still holds,
-/// explains its fault or prints its counts, if that is asked for, and gives the exit status.
-fn end_run<R: Read + Drop, W: Write + Drop, E: Write + Drop>(
+/// Ends a command that ran over lists or recordings: hands over what its output still holds,
+/// explains its fault or prints its counts, if that is asked for, and gives the exit status. `read`
+/// says why reading failed, if it did.
+pub fn end_run<W: Write + Drop, E: Write + Drop>(
     rt: &HostRuntime,
     matches: &ArgMatches<'_>,
-    config: &[u8],
     ended: InputEnded,
-    input: Watched<Peeked<Traced<R>>>,
+    read: Cause<'_>,
     mut output: Output<Traced<W>>,
     mut errors: Watched<Heard<Cleared<'_, E>>>,
 ) -> u8 {
     let status = finish(ended.ended.status, &mut output, &mut errors);
-    let path = match matches.get_str("LIST").or(matches.get_str("SUBMISSIONS")) {
-        Some("-") | None => "standard input",
-        Some(path) => path,
-    };
-    let read = input.into_inner().into_inner().reason();
     let written = output.into_device().reason();
     let cause = Cause {
-        config,
-        path,
-        reason: read.or(written),
+        config: read.config,
+        path: read.path,
+        reason: read.reason.or(written),
     };
     let mut errors = errors.into_inner();
     errors.device_mut().notice_mut().clear();
@@ -108,13 +103,13 @@ impl Run<'_> {
     }
 }
 
-/// What the words say of a recording, or the status where they are refused.
-fn options_in(rt: &HostRuntime, matches: &ArgMatches<'_>) -> Result<RecordingOptions, u8> {
-    let line = match recording_options(rt.alloc(), matches) {
-        Ok(options) => return Ok(options),
-        Err(Refused::Memory) => return Err(memory(rt)),
-        Err(Refused::BadInterface) => "words BadInterface",
-        Err(Refused::BadNumber) => "words BadNumber",
+/// Tells why the words of a run over recordings are refused, and gives the status.
+pub fn refuse(rt: &HostRuntime, matches: &ArgMatches<'_>, refused: Refused) -> u8 {
+    let line = match refused {
+        Refused::Memory => return memory(rt),
+        Refused::BadInterface => "words BadInterface",
+        Refused::BadNumber => "words BadNumber",
+        Refused::SameInput => "words SameInput",
     };
     complain(rt, line);
     let cause = Cause {
@@ -123,7 +118,36 @@ fn options_in(rt: &HostRuntime, matches: &ArgMatches<'_>) -> Result<RecordingOpt
         reason: None,
     };
     explain_if_asked(rt, matches, line, &cause);
-    Err(WRONG_WORDS)
+    WRONG_WORDS
+}
+
+/// What the words say of a recording, or the status where they are refused.
+fn options_in(rt: &HostRuntime, matches: &ArgMatches<'_>) -> Result<RecordingOptions, u8> {
+    match recording_options(rt.alloc(), matches) {
+        Ok(options) => Ok(options),
+        Err(refused) => Err(refuse(rt, matches, refused)),
+    }
+}
+
+/// Where lines go that tell of frames that came too early. Err: the status where there is no memory
+/// for one.
+pub fn early_lines(rt: &HostRuntime) -> Result<Watched<LineWriter<Stderr>>, u8> {
+    match LineWriter::new(rt.alloc(), rt.stderr()) {
+        Ok(early) => Ok(Watched::new(early)),
+        Err(_) => Err(memory(rt)),
+    }
+}
+
+/// How a run over recordings ended that `list` made.
+pub fn ended_of(listed: ListEnded) -> InputEnded {
+    InputEnded {
+        ended: Ended {
+            status: listed.status,
+            summary: None,
+        },
+        tally: listed.tally,
+        look_failed: false,
+    }
 }
 
 /// Replays an input. Err: the status where there is no memory to tell of early frames.
@@ -144,10 +168,7 @@ fn replay_from<R: Read, O: Sink, E: Write>(
     if !replaying.explains_drops {
         return Ok(replay_input(alloc, admission, options, config, input, lines, faults));
     }
-    let Ok(early) = LineWriter::new(rt.alloc(), rt.stderr()) else {
-        return Err(memory(rt));
-    };
-    let drops = Watched::new(early);
+    let drops = early_lines(rt)?;
     let told = replay_input_and_explain(
         alloc, admission, options, config, input, lines, faults, drops,
     );
@@ -180,26 +201,23 @@ fn run_over<R: Read, O: Sink, E: Write>(
         Run::List { config } => {
             let options = options_in(rt, matches)?;
             let listed = list_and_count(rt.alloc(), options, config, input, lines, faults);
-            Ok(InputEnded {
-                ended: Ended {
-                    status: listed.status,
-                    summary: None,
-                },
-                tally: listed.tally,
-            })
+            Ok(ended_of(listed))
         }
         Run::Send { config, system } => Ok(InputEnded {
             ended: send_and_count(rt.alloc(), config, system, input, lines, faults),
             tally: None,
+            look_failed: false,
         }),
     }
 }
 
-/// Makes the run over what `input` gives, and hands all its lines to standard output.
+/// Makes the run over what `input` gives, which the word `list` names, and hands all its lines to
+/// standard output.
 fn run_from<R: Read + Drop>(
     rt: &HostRuntime,
     matches: &ArgMatches<'_>,
     run: &Run<'_>,
+    list: &str,
     input: R,
 ) -> u8 {
     let device = Traced::new(rt.stdout());
@@ -207,22 +225,29 @@ fn run_from<R: Read + Drop>(
         return memory(rt);
     };
     let told = is_told(rt, matches) && !run.explains_drops();
-    let device = Traced::new(Counted::new(rt, told, input));
+    let count = Count::new(rt, told);
+    let device = Traced::new(Counted::new(&count, input));
     let mut input = Watched::new(Peeked::new(device));
     let mut errors = Watched::new(Heard::new(Cleared::new(rt, told, rt.stderr())));
-    match run_over(rt, matches, run, &mut input, &mut output, &mut errors) {
-        Ok(ended) => end_run(rt, matches, run.config(), ended, input, output, errors),
-        Err(status) => status,
-    }
+    let ended = match run_over(rt, matches, run, &mut input, &mut output, &mut errors) {
+        Ok(ended) => ended,
+        Err(status) => return status,
+    };
+    let read = Cause {
+        config: run.config(),
+        path: name_of_input(list),
+        reason: input.into_inner().into_inner().reason(),
+    };
+    end_run(rt, matches, ended, read, output, errors)
 }
 
 /// Makes the run over a file, or over standard input, which is `-`.
 pub fn run_list(rt: &HostRuntime, matches: &ArgMatches<'_>, run: &Run<'_>, list: &str) -> u8 {
-    if list == "-" {
-        return run_from(rt, matches, run, rt.stdin());
+    if list == STANDARD_INPUT {
+        return run_from(rt, matches, run, list, rt.stdin());
     }
     match File::open(rt, list) {
-        Ok(file) => run_from(rt, matches, run, file),
+        Ok(file) => run_from(rt, matches, run, list, file),
         Err(reason) => no_file(rt, matches, "device List", list, reason),
     }
 }

@@ -1,7 +1,7 @@
 //! The words of a command line.
 
 use crate::list_words::list_command;
-use crate::recording_words::{fcs_option, interface_option, origin_option};
+use crate::recording_words::{fcs_option, interface_option, origin_option, second_list};
 use crate::solve_words::solve_command;
 use clap::{Arg, ArgAction, Command, value_parser};
 use std::alloc::{AllocError, Global};
@@ -191,6 +191,11 @@ LIST is as for 'police', a list or a recording, of which --summary alone tells w
 was left out, in the line 'skipped ..'. The tables of CONFIG have to be admitted, as
 'check' says, but for the option --no-admission.
 
+With a second LIST the first is the recording of network A, the second that of network
+B, and both are read at once. n is then a number of the side's own recording; in an X
+line, of that of the D line before it. --interface K=A.. is about interface K of the
+first, K=B.. of the second, K=- of both.
+
 A closed pipe, as with '| head', is the fault 'device Write', status 4.
 
 Example:
@@ -214,6 +219,7 @@ fn replay_command<'a>(alloc: Global) -> Result<Command<'a>, AllocError> {
         summary_option(alloc),
         word(alloc, "CONFIG", CONFIG_HELP),
         word(alloc, "LIST", LIST_HELP),
+        second_list(alloc),
     ]?;
     command(alloc, "replay", REPLAY_ABOUT, REPLAY_AFTER).args(words)
 }

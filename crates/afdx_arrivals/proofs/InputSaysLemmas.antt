@@ -16,19 +16,21 @@ use Rattle.afdx_arrivals.specs.declared.input_run.InputCount.TheVariants as coun
 use Rattle.afdx_arrivals.specs.Becoming.{Options}
 use Rattle.afdx_arrivals.specs.Claims.{Ports}
 use Rattle.afdx_arrivals.specs.InputRun.{InputAnswers}
-use Rattle.afdx_arrivals.specs.RecordingRun.{IsOver, StopsRecorded}
+use Rattle.afdx_arrivals.specs.Taking.{AreCutOff, taken_of_bytes}
+use Rattle.afdx_arrivals.specs.TakenRun.{IsOver, StopsTaken}
 use Rattle.afdx_arrivals.proofs.InputLemmas.{recorded-ok, recorded-err}
 
 -- it stops so, as a recording or as a list
 abbrev pub StopsInput : Bool → Options → Ports → (all beginning : List Arrival → Type 0) → List ℕ →
     Option (List ℕ) → RunFault → Type 0
 StopsInput true options ports all beginning bytes rest fault =
-    StopsRecorded options ports all beginning bytes rest fault
+    StopsTaken (taken_of_bytes options ports bytes) (AreCutOff options ports bytes rest) all beginning fault
 StopsInput false options ports all beginning bytes rest fault = StopsAt all beginning bytes rest fault
 
 -- this is told of all of it
 abbrev pub IsTold : Bool → Options → Ports → (told : List Arrival → Type 0) → List ℕ → InputCount → Type 0
-IsTold true options ports told bytes (count.Recorded tally) = IsOver options ports told bytes tally
+IsTold true options ports told bytes (count.Recorded tally) =
+    IsOver (taken_of_bytes options ports bytes) told tally
 IsTold false options ports told bytes (count.Lines n) = list.IsDone frames told n (lines_of bytes)
 IsTold _ options ports told bytes _ = ⊥
 
@@ -40,7 +42,7 @@ module _ (options : Options) (ports : Ports) (done told begins : List (Item Head
       → IfSome left (λ bytes. InputAnswers options ports done told begins b bytes rest (Err fault))
       → IfSome left (λ bytes. StopsInput b options ports all beginning bytes rest fault)
   input-err all beginning f g true left rest fault h =
-      recorded-err options done told begins ports all beginning f g left rest fault h
+      recorded-err options ports done told begins all beginning f g left rest fault h
   input-err all beginning f g false left rest fault h =
       answers-err frames (thing_of frames listed_frame) done told begins all beginning left rest fault f g h
 
@@ -53,7 +55,7 @@ module _ (options : Options) (ports : Ports) (done told begins : List (Item Head
       → IfSome left (λ bytes. InputAnswers options ports done told begins b bytes rest (Ok n))
       → IfSome left (λ bytes. IsTold b options ports all bytes n)
   input-ok all f true left rest (count.Recorded tally) h =
-      recorded-ok options done told begins ports all left rest tally f h
+      recorded-ok options ports done told begins all left rest tally f h
   input-ok all f true left rest (count.Lines n) h =
       nothing left (λ bytes. IsTold true options ports all bytes (count.Lines n)) h
   input-ok all f false left rest (count.Recorded tally) h =

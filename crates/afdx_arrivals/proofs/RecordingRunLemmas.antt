@@ -1,59 +1,50 @@
 -- What a run over a recording answers, from what it hands from the recording to its machine.
-use Rattle.std.proofs.Common.{◌≡◌, ◌≤◌, ◌+◌, ℕ, List, [], ◌∷◌, ◌++◌, length, length-append, if◌then◌else◌, append_assoc, append-nil, refl, ap, sym, ◌∙◌, subst}
-use Rattle.std.proofs.Common.{Option, Some, None, Result, Ok, Err, IfSome, arith, true, false, Bool, ◌⊎◌, inl, inr}
-use Rattle.std.specs.Io.KnownBytes.{Consumes, IsAtEnd}
+use Rattle.std.proofs.Common.{◌≡◌, ◌≤◌, ◌+◌, ℕ, List, [], ◌∷◌, ◌++◌, length, length-append, if◌then◌else◌, refl, ap, sym, ◌∙◌, subst}
+use Rattle.std.proofs.Common.{Option, Some, None, Result, Ok, Err, IfSome, arith, true, false, Bool, inl, inr}
+use Rattle.std.specs.Io.KnownBytes.{Consumes}
 use Rattle.std.proofs.KnownBytes.{Consumes-nil}
 use Rattle.afdx_lists.specs.Calls.{is_read}
 use Rattle.afdx_lists.specs.Watching.{has_ended}
-use Rattle.afdx_lists.specs.declared.frame_line.Heading.{Heading}
 use Rattle.afdx_lists.specs.declared.fault.RunFault.{RunFault}
 use Rattle.afdx_lists.specs.declared.fault.RunFault.TheVariants as run
+use Rattle.afdx_lists.specs.declared.recording_fault.RecordingFault.{RecordingFault}
 use Rattle.afdx_lists.specs.declared.watched.Watched.{Watched}
-use Rattle.afdx_recordings.specs.Holding.{Standing, standing, Gives, GivesSome, IsTrueToEnd, last_calls, unread}
+use Rattle.afdx_recordings.specs.Holding.{Standing, standing, GivesSome, last_calls}
 use Rattle.afdx_recordings.specs.Reading.{state_of}
-use Rattle.afdx_recordings.specs.Recordings.{State, Over, at_start, lost_by}
-use Rattle.afdx_run.specs.Engine.{Item, Runs, without_newest}
+use Rattle.afdx_recordings.specs.Recordings.{State, Over, Faulted, lost_by}
+use Rattle.afdx_run.specs.Engine.{Item}
 use Rattle.afdx_text.specs.Sinks.{IsOfOutput}
 use Rattle.afdx_arrivals.specs.declared.becoming.RecordingOptions.{RecordingOptions}
-use Rattle.afdx_arrivals.specs.declared.senders.SystemPorts.{SystemPorts}
+use Rattle.afdx_arrivals.specs.declared.counts.Counts.{Counts}
+use Rattle.afdx_arrivals.specs.declared.counts.Tally.{Tally}
+use Rattle.afdx_arrivals.specs.declared.number.Number.{Number}
 use Rattle.afdx_arrivals.specs.declared.read_recording.ReadRecording.{ReadRecording}
-use Rattle.afdx_arrivals.specs.declared.recording_run.Tally.{Tally}
+use Rattle.afdx_arrivals.specs.declared.senders.SystemPorts.{SystemPorts}
+use Rattle.afdx_arrivals.specs.declared.timed_numbers.TimedNumbers.{TimedNumbers}
+use Rattle.afdx_arrivals.specs.ArrivingSource.{AreArrivals}
 use Rattle.afdx_arrivals.specs.Becoming.{Options, options_of}
 use Rattle.afdx_arrivals.specs.Claims.{Ports, ports_of}
-use Rattle.afdx_arrivals.specs.Counting.{no_counts, skipped_in}
-use Rattle.afdx_arrivals.specs.Sequences.{Outcome}
-use Rattle.afdx_arrivals.specs.RecordingRun.{RecordingAnswers, IsAskedOnce, sequence_of_bytes, items_of_bytes}
-use Rattle.afdx_arrivals.specs.Stopping.{ItemsAnswer, FirstAreBegun, AreFirstItems, StopsBehind, tally_of}
+use Rattle.afdx_arrivals.specs.NumberLines.{Lines, arrivals_listed}
+use Rattle.afdx_arrivals.specs.ReadPair.{IsUnread, tally_of_source}
+use Rattle.afdx_arrivals.specs.RecordingRun.{IsAskedOnce}
+use Rattle.afdx_arrivals.specs.RecordingSource.{first_standing}
 use Rattle.afdx_arrivals.specs.RecordingSource.{HasGiven, HasEnded, HasStopped}
-use Rattle.afdx_arrivals.specs.RecordingSource.{first_standing, sorted_at, IsTimed}
-use Rattle.afdx_arrivals.proofs.SequenceLemmas.{sorts-first}
+use Rattle.afdx_arrivals.specs.Sequences.{Numbers, Outcome, counts_of, has_arrival, latest_of}
+use Rattle.afdx_arrivals.specs.Taking.{AreCutOff, Taken, fault_of, late_of_one, sequence_of_bytes, taken_of, taken_of_bytes}
+use Rattle.afdx_arrivals.specs.TakenRun.{TakenAnswers}
+use Rattle.afdx_arrivals.specs.TimedSource.{HasTimed, HasTimedAll, HasStoppedTiming}
+use Rattle.afdx_arrivals.specs.Timing.{Timed, fault_or, origin_in, timed}
+use Rattle.afdx_arrivals.proofs.KnownLemmas.{given-first, ended-all, stopped-fault, stopped-read, stopped-memory}
+use Rattle.afdx_arrivals.proofs.TakenLemmas.{AreFirstLines, AreAllLines, StopsBehindLines, CanBePeeled, Handed}
+use Rattle.afdx_arrivals.proofs.TakenLemmas.{hands-err, hands-ok, handed-err, handed-ok, taken-start}
+use Rattle.afdx_arrivals.proofs.TimingLemmas.{timed-extends, timed-stopped}
 
 pub not_read : (fault : RunFault) → IsOfOutput fault → is_read fault ≡ false
 not_read fault (inl e) = rw e refl
 not_read fault (inr e) = rw e refl
 
--- ---- of the whole recording, where it is known
+-- ---- how often an input is asked
 
--- what is true of what was read and whatever can follow
-of-whole : (P : List ℕ → Type 0) (left rest : Option (List ℕ)) (read : List ℕ) (ended : Bool)
-    → Consumes left rest read → (ended ≡ true → IsAtEnd rest)
-    → ((more : List ℕ) → (ended ≡ true → more ≡ []) → P (read ++ more)) → IfSome left P
-of-whole P None rest read ended c h f = tt
-of-whole P (Some bytes) None read ended c h f = absurd c
-of-whole P (Some bytes) (Some rest) read ended c h f = subst P (sym c) (f rest h)
-
--- what is true of all that was read, where nothing is left
-of-all : (P : List ℕ → Type 0) (left rest : Option (List ℕ)) (read : List ℕ) → Consumes left rest read
-    → IsAtEnd rest → P (read ++ []) → IfSome left P
-of-all P left rest read c h p = of-whole P left rest read true c (λ e. h) (λ more e. rw (e refl) p)
-
--- what is true of what was read
-of-read : (Q : List ℕ → Type 0) (left rest : Option (List ℕ)) (read : List ℕ) → Consumes left rest read → Q read
-    → IfSome left (λ bytes. (front : List ℕ) × Consumes (Some bytes) rest front × Q front)
-of-read Q None rest read c q = tt
-of-read Q (Some bytes) rest read c q = (read, c, q)
-
--- where what an input gives is known, it was asked once for each byte at most, and once more
 last-few : (now : Standing) → last_calls now ≤ 1
 last-few now = by now.over
   where
@@ -74,213 +65,331 @@ asked-of (Some left) (Some rest) given old new last c calls few =
     let n = ap (λ (xs : List ℕ). length xs) c ∙ length-append given rest in
     omega (arith, n, calls, few)
 
-asked-once : (first now : Standing) (given : List ℕ) → Gives first now given → first.over ≡ false
+-- where what it gives is known, it was asked once for each byte at most, and once more
+pub asked-once : (first now : Standing) → GivesSome first now → first.over ≡ false
     → IsAskedOnce first.left now.left first.calls now.calls
-asked-once first now given gives unasked =
+asked-once first now (given, gives) unasked =
     let calls : now.calls ≤ first.calls + length given + last_calls now =
     (let c = gives.calls in omega (arith, c)) in
     asked-of first.left now.left given first.calls now.calls (last_calls now) gives.consumed calls (last-few now)
 
-module _ {H : Type 0} (outcome_of : List ℕ → Outcome) (items_of : List ℕ → List (Item H))
-    (done told begins : List (Item H) → Type 0) (first now : Standing) where
-  abbrev Answers : Option (List ℕ) → Result Tally RunFault → Type 0
-  Answers rest result =
-      IfSome first.left (λ bytes. ItemsAnswer outcome_of items_of done told begins bytes rest result)
+-- ---- where all bytes of the input are known
 
-  abbrev Begun : List ℕ → Type 0
-  Begun bytes = FirstAreBegun outcome_of items_of done told begins bytes
+pub if-known : (left : Option (List ℕ)) (P : List ℕ → Type 0) → ((bytes : List ℕ) → left ≡ Some bytes → P bytes)
+    → IfSome left P
+if-known None P f = tt
+if-known (Some bytes) P f = f bytes refl
 
-  -- the source stopped
-  pub answers-stop : (past : List (Item H)) (fault : RunFault) → IsTrueToEnd now → told past
-      → StopsBehind outcome_of items_of first now past fault → Answers now.left (Err fault)
-  answers-stop past (run.Recording f) h t s =
-      of-whole (λ bytes. ItemsAnswer outcome_of items_of done told begins bytes now.left (Err (run.Recording f)))
-      first.left now.left s.read now.ended s.gives.consumed h
-      (λ more follows. (s.ending more follows, subst told (sym (s.items more follows)) t))
-  answers-stop past run.Read h t s =
-      of-read (λ read. told (items_of read)) first.left now.left s.read s.gives.consumed (subst told (sym s.items) t)
-  answers-stop past run.Memory h t s =
-      of-whole Begun first.left s.left s.read false s.consumed (λ e. absurd (cc))
-      (λ more follows. let i = s.items more in record {
-        past = past;
-        later = i.0;
-        items = i.1;
-        begun = inl t;
-      })
-  answers-stop past run.Write h t s = absurd s
-  answers-stop past run.TooManyLines h t s = absurd s
-  answers-stop past (run.LineTooLong m) h t s = absurd s
-  answers-stop past (run.BadLine m) h t s = absurd s
-  answers-stop past (run.BadHex m) h t s = absurd s
-  answers-stop past (run.TimeBack m) h t s = absurd s
-  answers-stop past (run.TimeTooLarge m) h t s = absurd s
-  answers-stop past (run.BadPort m) h t s = absurd s
+-- ---- its lines
 
-  -- the output failed, or the machine had no memory
-  begun-of : (bytes : List ℕ) (past later : List (Item H)) → items_of bytes ≡ later ++ past
-      → begins past ⊎ begins (without_newest past) → Begun bytes
-  begun-of bytes past later e (inl b) = record { past = past; later = later; items = e; begun = inr b }
-  begun-of bytes [] later e (inr b) = record { past = []; later = later; items = e; begun = inr b }
-  begun-of bytes (x ∷ past) later e (inr b) = record {
-    past = past;
-    later = later ++ x ∷ [];
-    items = e ∙ sym (append_assoc later (x ∷ []) past);
-    begun = inr b;
-  }
+module _ (said : Option ℕ) (outcome : Outcome) where
+  abbrev Lines-of : Numbers → Timed
+  Lines-of numbers = timed late_of_one said numbers
 
-  -- behind some first items
-  pub begun-first : (past : List (Item H)) → AreFirstItems outcome_of items_of first past
-      → begins past ⊎ begins (without_newest past) → IfSome first.left Begun
-  begun-first past s b =
-      of-whole Begun first.left s.left s.read false s.consumed (λ e. absurd (cc))
-      (λ more follows. let i = s.items more in begun-of (s.read ++ more) past i.0 i.1 b)
+  pub lines-first : (past later : Numbers) (lines : Lines) (fault : Option RunFault)
+      → Lines-of past ≡ record { lines = lines; fault = fault } → outcome.numbers ≡ later ++ past
+      → AreFirstLines (taken_of said outcome) lines
+  lines-first past later lines fault e is =
+      let h = timed-extends late_of_one said past lines fault e later in
+      (h.0, ap (λ (all : Numbers). (Lines-of all).lines) is ∙ h.1)
 
-  -- or behind all
-  pub begun-all : (past : List (Item H)) (read : List ℕ) → Gives first now read → IsAtEnd now.left
-      → items_of read ≡ past → begins past ⊎ begins (without_newest past) → IfSome first.left Begun
-  begun-all past read gives end e b =
-      of-all Begun first.left now.left read gives.consumed end
-      (begun-of (read ++ []) past [] (ap items_of (append-nil read) ∙ e) b)
-
-  pub answers-output : (fault : RunFault) (rest : Option (List ℕ)) → IsOfOutput fault → IfSome first.left Begun
-      → Answers rest (Err fault)
-  answers-output fault rest (inl e) h = rw e h
-  answers-output fault rest (inr e) h = rw e h
-
-  -- all was told
-  pub answers-done : (past : List (Item H)) (read : List ℕ) (tally : Tally) (outcome : Outcome)
-      → Gives first now read → IsAtEnd now.left → outcome_of read ≡ outcome → outcome.ending ≡ Over
-      → tally ≡ tally_of outcome → items_of read ≡ past → done past → Answers now.left (Ok tally)
-  answers-done past read tally outcome gives end says over is e d =
-      let all : outcome_of (read ++ []) ≡ outcome = ap outcome_of (append-nil read) ∙ says in
-      of-all (λ bytes. ItemsAnswer outcome_of items_of done told begins bytes now.left (Ok tally))
-      first.left now.left read gives.consumed end (record {
-        over = ap (λ (o : Outcome). o.ending) all ∙ over;
-        are_told = subst done (sym (ap items_of (append-nil read) ∙ e)) d;
-        tally_is = is ∙ sym (ap tally_of all);
-      })
-
-  -- memory ran out before anything was read
-  pub answers-start : told [] → Answers first.left (Err run.Memory)
-  answers-start t = by first.left
-    where
-      by : (left : Option (List ℕ))
-          → IfSome left (λ bytes. ItemsAnswer outcome_of items_of done told begins bytes left (Err run.Memory))
-      by None = tt
-      by (Some bytes) = record {
-        past = [];
-        later = items_of bytes;
-        items = sym (append-nil (items_of bytes));
-        begun = inl t;
+  pub lines-all : (past : Numbers) (lines : Lines) → Lines-of past ≡ record { lines = lines; fault = None }
+      → outcome.numbers ≡ past → outcome.ending ≡ Over → AreAllLines (taken_of said outcome) lines
+  lines-all past lines e is over =
+      let all = ap (λ (all : Numbers). Lines-of all) is ∙ e in record {
+        over = ap (λ (t : Timed). fault_or t.fault (fault_of run.Recording outcome.ending)) all
+            ∙ ap (λ ending. fault_of run.Recording ending) over;
+        lines_are = ap (λ (t : Timed). t.lines) all;
       }
 
-module _ {R : Type 0} (remaining : R → Option (List ℕ)) (start input : Watched R) (source : ReadRecording)
-    (done told begins : List (Item Heading) → Type 0) where
-  -- what a run hands over
-  abbrev pub RunsOver : {A : Type 0} → Result A RunFault → Type 0
-  RunsOver result =
-      Runs (HasGiven remaining start source input) (HasEnded remaining start source input)
-      done told begins (HasStopped remaining start source input) result
+  pub lines-fault : (past : Numbers) (lines : Lines) (fault : RecordingFault)
+      → Lines-of past ≡ record { lines = lines; fault = None }
+      → outcome.numbers ≡ past → outcome.ending ≡ Faulted fault
+      → ((taken_of said outcome).fault ≡ Some (run.Recording fault)) × ((taken_of said outcome).lines ≡ lines)
+  lines-fault past lines fault e is stops =
+      let all = ap (λ (all : Numbers). Lines-of all) is ∙ e in (
+        ap (λ (t : Timed). fault_or t.fault (fault_of run.Recording outcome.ending)) all
+            ∙ ap (λ ending. fault_of run.Recording ending) stops,
+        ap (λ (t : Timed). t.lines) all,
+      )
 
-  abbrev Options-of : Options
-  Options-of = options_of source.options
+  -- a number is too late
+  pub lines-late : (past later : Numbers) (lines : Lines) (fault : RunFault)
+      → Lines-of past ≡ record { lines = lines; fault = Some fault } → outcome.numbers ≡ later ++ past
+      → ((taken_of said outcome).fault ≡ Some fault) × ((taken_of said outcome).lines ≡ lines)
+  lines-late past later lines fault e is =
+      let all = ap (λ (all : Numbers). Lines-of all) is ∙ timed-stopped late_of_one said past lines fault e later in (
+        ap (λ (t : Timed). fault_or t.fault (fault_of run.Recording outcome.ending)) all,
+        ap (λ (t : Timed). t.lines) all,
+      )
 
-  abbrev Ports-of : Ports
-  Ports-of = ports_of source.ports
+abbrev timed-with : Lines → RunFault → Timed
+timed-with lines fault = record { lines = lines; fault = Some fault }
 
-  abbrev Outcome-of : List ℕ → Outcome
-  Outcome-of = sequence_of_bytes Options-of Ports-of
+-- ---- by which settings
 
-  abbrev Items-of : List ℕ → List (Item Heading)
-  Items-of = items_of_bytes Options-of Ports-of
+abbrev pub Settings-of : TimedNumbers ReadRecording → (RecordingOptions × SystemPorts) × Option ℕ
+Settings-of source = ((source.numbers.options, source.numbers.ports), source.clock.said)
+
+-- time 0 is that of the options
+abbrev pub HasSettings : RecordingOptions → SystemPorts → TimedNumbers ReadRecording → Type 0
+HasSettings o p source = Settings-of source ≡ ((o, p), o.origin)
+
+module _ (o : RecordingOptions) (p : SystemPorts) (source : TimedNumbers ReadRecording) where
+  -- those that it had, it has
+  pub still-set : (old : TimedNumbers ReadRecording) → Settings-of source ≡ Settings-of old
+      → old.numbers.options ≡ o → old.numbers.ports ≡ p → old.clock.said ≡ o.origin → HasSettings o p source
+  still-set old e options ports said = e ∙ rw (options, ports, said) refl
+
+  same-said : HasSettings o p source → source.clock.said ≡ source.numbers.options.origin
+  same-said e =
+      ap (λ (s : (RecordingOptions × SystemPorts) × Option ℕ). s.1) e
+      ∙ sym (ap (λ (s : (RecordingOptions × SystemPorts) × Option ℕ). s.0.0.origin) e)
+
+  by-settings : (P : RecordingOptions → SystemPorts → Type 0) → HasSettings o p source
+      → P source.numbers.options source.numbers.ports → P o p
+  by-settings P e h = subst (λ (s : (RecordingOptions × SystemPorts) × Option ℕ). P s.0.0 s.0.1) e h
+
+-- its counts
+pub tally-is : (tally : Tally) (source : ReadRecording) → tally.numbers ≡ source.numbers
+    → tally.counts ≡ source.counts → tally.lost ≡ lost_by (state_of source.reader) → tally ≡ tally_of_source source
+tally-is tally source numbers counts lost =
+    let with : ℕ → Counts → ℕ → Tally = λ n c l. record { numbers = n; counts = c; lost = l } in
+    ap (λ n. with n tally.counts tally.lost) numbers
+    ∙ ap (λ c. with source.numbers c tally.lost) counts
+    ∙ ap (λ l. with source.numbers source.counts l) lost
+
+-- ---- what is known of a source, from call to call
+
+module _ {R : Type 0} (remaining : R → Option (List ℕ)) (start input : Watched R) (source : TimedNumbers ReadRecording) where
+  abbrev pub Gave : Lines → Type 0
+  Gave lines = HasTimed (HasGiven remaining) (HasEnded remaining) start source input lines
+
+  abbrev pub Ended : Lines → Type 0
+  Ended lines = HasTimedAll (HasGiven remaining) (HasEnded remaining) start source input lines
+
+  abbrev pub Stopped : Lines → RunFault → Type 0
+  Stopped lines fault =
+      HasStoppedTiming (HasGiven remaining) (HasEnded remaining) (HasStopped remaining) start source input lines fault
 
   abbrev First : Standing
   First = first_standing remaining start
 
   abbrev Now : Standing
-  Now = standing remaining source.reader.held input
+  Now = standing remaining source.numbers.reader.held input
 
-  -- how often the input was asked
-  pub asked : GivesSome First Now → First.over ≡ false
-      → IsAskedOnce First.left Now.left First.calls Now.calls
-  asked (given, gives) fresh = asked-once First Now given gives fresh
+  pub stopped-failed : (lines : Lines) (fault : RunFault) → Stopped lines fault → input.failed ≡ is_read fault
+  stopped-failed lines fault (inl s) = s.stopped_so.failed
+  stopped-failed lines fault (inr s) = s.gave_them.sound ∙ sym (ap is_read s.fault_is)
 
-  pub fault-calls : First.over ≡ false → (fault : RunFault) → RunsOver {A = Unit {0}} (Err fault)
-      → IsAskedOnce First.left Now.left First.calls Now.calls
-  fault-calls fresh fault (past, inl (stop, t)) = asked stop.gives fresh
-  fault-calls fresh fault (past, inr (is, inl gave, b)) = asked (gave.sorts.read, gave.sorts.gives) fresh
-  fault-calls fresh fault (past, inr (is, inr end, b)) = asked (end.read, end.gives) fresh
+  pub stopped-gives : (lines : Lines) (fault : RunFault) → Stopped lines fault → GivesSome First Now
+  stopped-gives lines fault (inl s) = s.stopped_so.gives
+  stopped-gives lines fault (inr s) = (s.gave_them.sorts.read, s.gave_them.sorts.gives)
 
-  pub done-calls : First.over ≡ false → RunsOver {A = Unit {0}} (Ok tt)
-      → IsAskedOnce First.left Now.left First.calls Now.calls
-  done-calls fresh (past, end, d) = asked (end.read, end.gives) fresh
+  module _ (said : source.clock.said ≡ source.numbers.options.origin) (bytes : List ℕ)
+      (e : remaining start.inner ≡ Some bytes) where
+    abbrev Options-of : Options
+    Options-of = options_of source.numbers.options
 
-  pub fault-read : (fault : RunFault) → RunsOver {A = Unit {0}} (Err fault) → input.failed ≡ is_read fault
-  fault-read fault (past, inl (stop, t)) = stop.failed
-  fault-read fault (past, inr (is, inl gave, b)) = gave.sound ∙ sym (not_read fault is)
-  fault-read fault (past, inr (is, inr end, b)) = end.sound ∙ sym (not_read fault is)
+    abbrev Ports-of : Ports
+    Ports-of = ports_of source.numbers.ports
 
-  pub fault-answers : (fault : RunFault) → RunsOver {A = Unit {0}} (Err fault)
-      → IfSome (remaining start.inner) (λ bytes. RecordingAnswers Options-of Ports-of done told begins bytes
-      (remaining input.inner) (Err fault))
-  fault-answers fault (past, inl (stop, t)) =
-      answers-stop Outcome-of Items-of done told begins First Now past fault stop.honest t stop.stops
-  fault-answers fault (past, inr (is, inl gave, b)) =
-      answers-output Outcome-of Items-of done told begins First Now fault Now.left is
-      (begun-first Outcome-of Items-of done told begins First Now past
-      (sorts-first Options-of Ports-of First Now (sorted_at source.numbers source past) (state_of source.reader)
-      gave.sorts) b)
-  fault-answers fault (past, inr (is, inr end, b)) =
-      answers-output Outcome-of Items-of done told begins First Now fault Now.left is
-      (begun-all Outcome-of Items-of done told begins First Now past end.read end.gives end.last
-      (ap (λ (o : Outcome). o.sorted.items) end.says) b)
+    abbrev All : Taken
+    All = taken_of_bytes Options-of Ports-of bytes
 
-  pub done-read : RunsOver {A = Unit {0}} (Ok tt) → input.failed ≡ false
-  done-read (past, end, d) = end.sound
+    abbrev Cut : Lines → Type 0
+    Cut lines = AreCutOff Options-of Ports-of bytes (remaining input.inner) lines
 
-  pub done-ended : RunsOver {A = Unit {0}} (Ok tt) → input.ended ≡ true
-  done-ended (past, end, d) = end.ended
+    by-said : (numbers : Numbers) (all : Timed) → timed late_of_one source.clock.said numbers ≡ all
+        → timed late_of_one source.numbers.options.origin numbers ≡ all
+    by-said numbers all t = ap (λ (o : Option ℕ). timed late_of_one o numbers) (sym said) ∙ t
 
-  pub done-answers : (tally : Tally) → tally ≡ record {
-    numbers = source.numbers;
-    counts = source.counts;
-    lost = lost_by (state_of source.reader);
-  } → RunsOver {A = Unit {0}} (Ok tt)
-      → IfSome (remaining start.inner) (λ bytes. RecordingAnswers Options-of Ports-of done told begins bytes
-      (remaining input.inner) (Ok tally))
-  done-answers tally is (past, end, d) =
-      answers-done Outcome-of Items-of done told begins First Now past end.read tally _ end.gives end.last end.says refl
-      is (ap (λ (o : Outcome). o.sorted.items) end.says) d
+    pub gave-known : (lines : Lines) → Gave lines → AreFirstLines All lines
+    gave-known lines g =
+        let k = given-first remaining start input source.numbers g.numbers bytes e g.gave_them in
+        lines-first Options-of.origin (sequence_of_bytes Options-of Ports-of bytes) g.numbers k.0 lines None
+        (by-said g.numbers _ g.are_timed.timed_as) k.1
 
--- the same, of a source whose settings are those given
-pub by-settings : (P : Options → Ports → Type 0) (o o' : RecordingOptions) (p p' : SystemPorts)
-    → ◌≡◌ {A = RecordingOptions × SystemPorts} (o', p') (o, p) → P (options_of o') (ports_of p')
-    → P (options_of o) (ports_of p)
-by-settings P o o' p p' e h = subst (λ (s : RecordingOptions × SystemPorts). P (options_of s.0) (ports_of s.1)) e h
+    -- all numbers
+    whole-known : (lines : Lines) (g : Ended lines) → sequence_of_bytes Options-of Ports-of bytes
+        ≡ record { numbers = g.numbers; ending = Over; lost = lost_by (state_of source.numbers.reader) }
+    whole-known lines g = ended-all remaining start input source.numbers g.numbers bytes e g.ended_so
+
+    pub ended-known : (lines : Lines) → Ended lines → AreAllLines All lines
+    ended-known lines g =
+        let k = whole-known lines g in
+        lines-all Options-of.origin (sequence_of_bytes Options-of Ports-of bytes) g.numbers lines
+        (by-said g.numbers _ g.are_timed.timed_as) (ap (λ (o : Outcome). o.numbers) k)
+        (ap (λ (o : Outcome). o.ending) k)
+
+    pub ended-tally : (lines : Lines) → Ended lines → tally_of_source source.numbers ≡ All.tally
+    ended-tally lines g =
+        let k = whole-known lines g in
+        rw (k, g.ended_so.remembers.numbers, g.ended_so.remembers.counts) refl
+
+    stops-known : (numbers : Numbers) (lines : Lines) (fault : RunFault)
+        → timed late_of_one Options-of.origin numbers ≡ record { lines = lines; fault = None }
+        → HasStopped remaining start source.numbers input numbers fault → StopsBehindLines All Cut lines fault
+    stops-known numbers lines (run.Recording fault) t s =
+        let k = stopped-fault remaining start input source.numbers numbers bytes e fault s in
+        lines-fault Options-of.origin (sequence_of_bytes Options-of Ports-of bytes) numbers lines fault t
+        k.numbers k.ending
+    stops-known numbers lines run.Read t s =
+        let k = stopped-read remaining start input source.numbers numbers bytes e s in (
+          k.read,
+          k.gave,
+          sym (ap (λ (all : Numbers). (timed late_of_one Options-of.origin all).lines) k.numbers
+              ∙ ap (λ (t : Timed). t.lines) t),
+        )
+    stops-known numbers lines run.Memory t s =
+        let k = stopped-memory remaining start input source.numbers numbers bytes e s in
+        lines-first Options-of.origin (sequence_of_bytes Options-of Ports-of bytes) numbers k.0 lines None t k.1
+    stops-known numbers lines run.Write t s = absurd s.stops
+    stops-known numbers lines (run.RecordingOfA fault) t s = absurd s.stops
+    stops-known numbers lines (run.RecordingOfB fault) t s = absurd s.stops
+    stops-known numbers lines run.TooManyLines t s = absurd s.stops
+    stops-known numbers lines (run.LineTooLong m) t s = absurd s.stops
+    stops-known numbers lines (run.BadLine m) t s = absurd s.stops
+    stops-known numbers lines (run.BadHex m) t s = absurd s.stops
+    stops-known numbers lines (run.TimeBack m) t s = absurd s.stops
+    stops-known numbers lines (run.TimeTooLarge m) t s = absurd s.stops
+    stops-known numbers lines (run.BadPort m) t s = absurd s.stops
+
+    late-known : (before : Numbers) (x : Item Number) (lines : Lines) (fault : RunFault) → fault ≡ late_of_one x
+        → HasGiven remaining start source.numbers input (x ∷ before)
+        → timed late_of_one Options-of.origin (x ∷ before) ≡ record { lines = lines; fault = Some fault }
+        → StopsBehindLines All Cut lines fault
+    late-known before x lines fault is g t =
+        let k = given-first remaining start input source.numbers (x ∷ before) bytes e g in
+        let h = lines-late Options-of.origin (sequence_of_bytes Options-of Ports-of bytes) (x ∷ before) k.0 lines
+        (late_of_one x) (t ∙ ap (λ (f : RunFault). timed-with lines f) is) k.1 in
+        subst (λ (f : RunFault). StopsBehindLines All Cut lines f) (sym is) h
+
+    pub stopped-known : (lines : Lines) (fault : RunFault) → Stopped lines fault → StopsBehindLines All Cut lines fault
+    stopped-known lines fault (inl s) =
+        stops-known s.numbers lines fault (by-said s.numbers _ s.are_timed.timed_as) s.stopped_so
+    stopped-known lines fault (inr s) =
+        late-known s.before s.x lines fault s.fault_is s.gave_them (by-said (s.x ∷ s.before) _ s.is_late.timed_as)
+
+  -- ---- from what a run hands over
+
+  module _ {H : Type 0} (items_of : Lines → List (Item H)) (done told begins : List (Item H) → Type 0) where
+    abbrev pub RunsOver : {A : Type 0} → Result A RunFault → Type 0
+    RunsOver result = Handed items_of done told begins Gave Ended Stopped result
+
+    pub fault-read : (fault : RunFault) → RunsOver {A = Unit {0}} (Err fault) → input.failed ≡ is_read fault
+    fault-read fault h =
+        handed-err items_of done told begins Gave Ended Stopped (input.failed ≡ is_read fault) fault
+        (λ lines s. stopped-failed lines fault s) (λ is lines g. g.gave_them.sound ∙ sym (not_read fault is))
+        (λ is lines g. g.ended_so.sound ∙ sym (not_read fault is)) h
+
+    fault-gives : (fault : RunFault) → RunsOver {A = Unit {0}} (Err fault) → GivesSome First Now
+    fault-gives fault h =
+        handed-err items_of done told begins Gave Ended Stopped (GivesSome First Now) fault
+        (λ lines s. stopped-gives lines fault s) (λ is lines g. (g.gave_them.sorts.read, g.gave_them.sorts.gives))
+        (λ is lines g. (g.ended_so.read, g.ended_so.gives)) h
+
+    pub fault-calls : First.over ≡ false → (fault : RunFault) → RunsOver {A = Unit {0}} (Err fault)
+        → IsAskedOnce First.left Now.left First.calls Now.calls
+    fault-calls fresh fault h = asked-once First Now (fault-gives fault h) fresh
+
+    pub done-calls : First.over ≡ false → RunsOver {A = Unit {0}} (Ok tt)
+        → IsAskedOnce First.left Now.left First.calls Now.calls
+    done-calls fresh h =
+        asked-once First Now (handed-ok items_of done told begins Gave Ended Stopped (GivesSome First Now)
+        (λ lines g. (g.ended_so.read, g.ended_so.gives)) h) fresh
+
+    pub done-read : RunsOver {A = Unit {0}} (Ok tt) → input.failed ≡ false
+    done-read h =
+        handed-ok items_of done told begins Gave Ended Stopped (input.failed ≡ false) (λ lines g. g.ended_so.sound) h
+
+    pub done-ended : RunsOver {A = Unit {0}} (Ok tt) → input.ended ≡ true
+    done-ended h =
+        handed-ok items_of done told begins Gave Ended Stopped (input.ended ≡ true) (λ lines g. g.ended_so.ended) h
+
+    module _ (o : RecordingOptions) (p : SystemPorts) (settings : HasSettings o p source) where
+      abbrev Answers : RecordingOptions → SystemPorts → List ℕ → Result Tally RunFault → Type 0
+      Answers o p bytes result =
+          TakenAnswers (taken_of_bytes (options_of o) (ports_of p) bytes)
+          (AreCutOff (options_of o) (ports_of p) bytes (remaining input.inner)) items_of done told begins result
+
+      abbrev IfAnswers : Result Tally RunFault → RecordingOptions → SystemPorts → Type 0
+      IfAnswers result o p = IfSome (remaining start.inner) (λ bytes. Answers o p bytes result)
+
+      pub fault-answers : CanBePeeled items_of → (fault : RunFault) → RunsOver {A = Unit {0}} (Err fault)
+          → IfSome (remaining start.inner) (λ bytes. Answers o p bytes (Err fault))
+      fault-answers peel fault h =
+          let said = same-said o p source settings in
+          by-settings o p source (IfAnswers (Err fault)) settings
+          (if-known (remaining start.inner)
+          (λ bytes. Answers source.numbers.options source.numbers.ports bytes (Err fault)) (λ bytes e.
+          hands-err (taken_of_bytes (options_of source.numbers.options) (ports_of source.numbers.ports) bytes)
+          (AreCutOff (options_of source.numbers.options) (ports_of source.numbers.ports) bytes (remaining input.inner))
+          items_of done told begins Gave Ended Stopped peel fault (λ lines g. gave-known said bytes e lines g)
+          (λ lines g. ended-known said bytes e lines g) (λ lines s. stopped-known said bytes e lines fault s) h))
+
+      pub done-answers : (tally : Tally) → tally ≡ tally_of_source source.numbers → RunsOver {A = Unit {0}} (Ok tt)
+          → IfSome (remaining start.inner) (λ bytes. Answers o p bytes (Ok tally))
+      done-answers tally is h =
+          let said = same-said o p source settings in
+          by-settings o p source (IfAnswers (Ok tally)) settings
+          (if-known (remaining start.inner)
+          (λ bytes. Answers source.numbers.options source.numbers.ports bytes (Ok tally)) (λ bytes e.
+          hands-ok (taken_of_bytes (options_of source.numbers.options) (ports_of source.numbers.ports) bytes)
+          (AreCutOff (options_of source.numbers.options) (ports_of source.numbers.ports) bytes (remaining input.inner))
+          items_of done told begins Gave Ended Stopped tally
+          (λ lines g. (ended-known said bytes e lines g, is ∙ ended-tally said bytes e lines g)) h))
+
+-- ---- before the first read
 
 -- nothing was read yet
 pub gave-start : {R : Type 0} (remaining : R → Option (List ℕ)) (input : Watched R) (source : ReadRecording)
-    → input.failed ≡ false → has_ended input ≡ false → unread source.reader.held ≡ []
-    → state_of source.reader ≡ at_start → source.numbers ≡ 0 → source.origin ≡ source.options.origin
-    → source.latest ≡ 0 → source.counts ≡ no_counts → source.has_arrival ≡ false
-    → HasGiven remaining input source input []
-unfolding skipped_in
-gave-start remaining input source sound ended held state numbers origin newest counts arrival = record {
+    → input.failed ≡ false → has_ended input ≡ false → IsUnread source → HasGiven remaining input source input []
+unfolding latest_of counts_of has_arrival
+gave-start remaining input source sound ended new = record {
   sound = sound;
   honest = λ e. absurd (cc);
-  numbers = numbers ∙ sym (ap (λ (s : State). s.numbers) state);
-  few = rw numbers (omega arith);
-  sum = rw (counts, numbers) refl;
-  claimed = rw counts (omega arith);
-  arrival = arrival;
-  timed = timed source.origin source.latest;
+  numbers = sym (ap (λ (s : State). s.numbers) new.state);
+  few = omega arith;
+  remembers = record { numbers = new.numbers; latest = new.latest; counts = new.counts; arrival = new.arrival };
   sorts = record {
     read = [];
     gives = record { consumed = Consumes-nil _; calls = omega arith };
-    says = λ more. rw (held, state, numbers, origin, newest, counts) refl;
+    says = λ more. rw (new.unread_is, new.state) refl;
   };
 }
-  where
-    timed : (origin : Option ℕ) (newest : ℕ) → IsTimed origin newest []
-    timed (Some origin) newest = omega arith
-    timed None newest = refl
+
+-- nor was a line given
+pub timed-start : {R : Type 0} (remaining : R → Option (List ℕ)) (input : Watched R) (source : TimedNumbers ReadRecording)
+    → input.failed ≡ false → has_ended input ≡ false → IsUnread source.numbers → source.clock.zero ≡ source.clock.said
+    → HasTimed (HasGiven remaining) (HasEnded remaining) input source input []
+unfolding timed origin_in
+timed-start remaining input source sound ended new zero = record {
+  numbers = [];
+  gave_them = gave-start remaining input source.numbers sound ended new;
+  are_timed = record { timed_as = refl; zero = zero };
+}
+
+-- no lines are no arrivals
+pub listed-none : arrivals_listed [] ≡ []
+unfolding arrivals_listed
+listed-none = refl
+
+-- nor an arrival
+pub arriving-start : {R : Type 0} (remaining : R → Option (List ℕ)) (input : Watched R) (source : TimedNumbers ReadRecording)
+    → input.failed ≡ false → has_ended input ≡ false → IsUnread source.numbers → source.clock.zero ≡ source.clock.said
+    → AreArrivals (Gave remaining input input source) []
+arriving-start remaining input source sound ended new zero = record {
+  lines = [];
+  known_so = timed-start remaining input source sound ended new zero;
+  arrivals_are = sym listed-none;
+}
+
+-- there was no memory
+pub answers-start : {H : Type 0} (options : Options) (ports : Ports) (items_of : Lines → List (Item H))
+    (done told begins : List (Item H) → Type 0) (left rest : Option (List ℕ)) → items_of [] ≡ [] → told []
+    → IfSome left (λ bytes. TakenAnswers (taken_of_bytes options ports bytes) (AreCutOff options ports bytes rest)
+    items_of done told begins (Err run.Memory))
+answers-start options ports items_of done told begins None rest e t = tt
+answers-start options ports items_of done told begins (Some bytes) rest e t =
+    taken-start (taken_of_bytes options ports bytes) (AreCutOff options ports bytes rest) items_of done told begins e t

@@ -1,116 +1,103 @@
 -- A recording as a source: one call more.
-use Rattle.std.proofs.Common.{◌≡◌, ℕ, ◌+◌, ◌-◌, ◌≤◌, List, [], ◌∷◌, ◌++◌, append_assoc, append-nil, refl, ap, sym, ◌∙◌}
-use Rattle.std.proofs.Common.{Option, Some, None, Result, Ok, Err, arith, true, false, Bool, nat_lt, if◌then◌else◌}
-use Rattle.afdx_lists.specs.declared.frame_line.Heading.{Heading}
+use Rattle.std.proofs.Common.{◌≡◌, ℕ, ◌+◌, List, [], ◌∷◌, ◌++◌, append_assoc, append-nil, refl, ap, sym, ◌∙◌}
+use Rattle.std.proofs.Common.{Result, Ok, Err, false, length}
 use Rattle.afdx_lists.specs.declared.recording_fault.RecordingFault.{RecordingFault}
-use Rattle.afdx_lists.specs.declared.recording_fault.RecordingFault.TheVariants as fault
 use Rattle.afdx_recordings.specs.Holding.{Standing, Gives}
 use Rattle.afdx_recordings.specs.Reading.{recorded, recorded_from, CanFollow, SaysFirst, SaysEnding, SaysNothing}
 use Rattle.afdx_recordings.specs.Recordings.{State, Numbered, Recording, Ending, Over, Faulted, in_front, no_more}
 use Rattle.afdx_recordings.proofs.HeldLemmas.{Gives-then}
-use Rattle.afdx_frame.specs.Times.{latest_listed}
-use Rattle.afdx_run.specs.Engine.{Item}
-use Rattle.afdx_run.specs.Items.{arrivals}
-use Rattle.afdx_run.specs.Lists.{latest_in}
-use Rattle.afdx_run.specs.Listed.{frames}
-use Rattle.afdx_arrivals.specs.declared.becoming.Found.{Found}
-use Rattle.afdx_arrivals.specs.declared.becoming.NoArrival.{NoArrival}
-use Rattle.afdx_arrivals.specs.declared.becoming.NoArrival.TheVariants as no
-use Rattle.afdx_arrivals.specs.Becoming.{Options, becomes}
+use Rattle.afdx_run.specs.Engine.{item_of}
+use Rattle.afdx_arrivals.specs.declared.number.Number.{Number}
+use Rattle.afdx_arrivals.specs.Becoming.{Options}
 use Rattle.afdx_arrivals.specs.Claims.{Ports}
-use Rattle.afdx_arrivals.specs.Counting.{skip_one}
-use Rattle.afdx_arrivals.specs.Sequences.{Sorted, Outcome, sequence, sequence_from, sequence_of_items, sorted_with}
-use Rattle.afdx_arrivals.specs.Sequences.{sorted_by, taken, with_found, arrival_with, and_then, ending_after, has_no_arrival, origin_or}
-use Rattle.afdx_arrivals.specs.RecordingRun.{sequence_of_bytes, items_of_bytes}
-use Rattle.afdx_arrivals.specs.RecordingSource.{Sorts, IsTimed}
-use Rattle.afdx_arrivals.specs.Stopping.{IsFaultBehind, AreAllOfRead, AreFirstItems}
+use Rattle.afdx_arrivals.specs.Sequences.{Numbers, Outcome, sequence, sequence_from, sequence_of_items, number_after}
+use Rattle.afdx_arrivals.specs.Sequences.{and_then, ending_after, has_no_arrival, with_number}
+use Rattle.afdx_arrivals.specs.RecordingSource.{Sorts, IsFaultBehind, AreAllOfRead, AreFirst}
 
 module _ (options : Options) (ports : Ports) where
-  abbrev Outcome-of : List ℕ → Outcome
-  Outcome-of = sequence_of_bytes options ports
-
-  abbrev Items-of : List ℕ → List (Item Heading)
-  Items-of = items_of_bytes options ports
-
   -- one number more
-  pub sequence-ok : (sorted more : Sorted) (item : Numbered) (rest : Recording)
-      → sorted_with options ports sorted item ≡ Ok more
-      → sequence_from options ports sorted (in_front item rest) ≡ sequence_from options ports more rest
+  pub sequence-ok : (past : Numbers) (number : Number) (item : Numbered) (rest : Recording)
+      → number_after options ports past item ≡ Ok number
+      → sequence_from options ports past (in_front item rest)
+      ≡ sequence_from options ports (with_number past item.bytes number) rest
   unfolding sequence_of_items
-  sequence-ok sorted more item rest e = rw e refl
+  sequence-ok past number item rest e = rw e refl
 
   -- or its fault
-  pub sequence-err : (sorted : Sorted) (item : Numbered) (rest : Recording) (fault : RecordingFault)
-      → sorted_with options ports sorted item ≡ Err fault
-      → sequence_from options ports sorted (in_front item rest)
-      ≡ record { sorted = sorted; ending = Faulted fault; lost = rest.lost }
+  pub sequence-err : (past : Numbers) (item : Numbered) (rest : Recording) (fault : RecordingFault)
+      → number_after options ports past item ≡ Err fault
+      → sequence_from options ports past (in_front item rest)
+      ≡ record { numbers = past; ending = Faulted fault; lost = rest.lost }
   unfolding sequence_of_items
-  sequence-err sorted item rest fault e = rw e refl
+  sequence-err past item rest fault e = rw e refl
 
   -- or no number
-  pub sequence-none : (sorted : Sorted) (ending : Ending) (lost : ℕ)
-      → sequence_from options ports sorted (no_more ending lost)
-      ≡ record { sorted = sorted; ending = ending_after sorted ending; lost = lost }
+  pub sequence-none : (past : Numbers) (ending : Ending) (lost : ℕ)
+      → sequence_from options ports past (no_more ending lost)
+      ≡ record { numbers = past; ending = ending_after past ending; lost = lost }
   unfolding sequence_of_items
-  sequence-none sorted ending lost = refl
+  sequence-none past ending lost = refl
 
-  module _ (first old new : Standing) (sorted : Sorted) (before : State)
-      (s : Sorts options ports first old sorted before) where
+  module _ (first old new : Standing) (past : Numbers) (before : State)
+      (s : Sorts options ports first old past before) where
     -- what was given besides, and what follows
     pub behind : (given more : List ℕ) → sequence options ports (recorded ((s.read ++ given) ++ more))
-        ≡ sequence_from options ports sorted (recorded_from before ((old.held ++ given) ++ more))
+        ≡ sequence_from options ports past (recorded_from before ((old.held ++ given) ++ more))
     behind given more =
         ap (λ bytes. sequence options ports (recorded bytes)) (append_assoc s.read given more)
         ∙ s.says (given ++ more)
-        ∙ ap (λ bytes. sequence_from options ports sorted (recorded_from before bytes))
+        ∙ ap (λ bytes. sequence_from options ports past (recorded_from before bytes))
         (sym (append_assoc old.held given more))
 
     -- the next number was sorted
-    unfoldable pub sorts-more : (after : State) (item : Numbered) (more : Sorted) → SaysFirst old new before after item
-        → sorted_with options ports sorted item ≡ Ok more → Sorts options ports first new more after
-    sorts-more after item more f e = record {
+    unfoldable pub sorts-more : (after : State) (item : Numbered) (number : Number)
+        → SaysFirst old new before after item → number_after options ports past item ≡ Ok number
+        → Sorts options ports first new (with_number past item.bytes number) after
+    sorts-more after item number f e = record {
       read = s.read ++ f.given;
       gives = Gives-then first old new s.read f.given s.gives f.gives;
       says = λ bytes. behind f.given bytes
-          ∙ ap (λ r. sequence_from options ports sorted r) (f.says bytes)
-          ∙ sequence-ok sorted more item (recorded_from after (new.held ++ bytes)) e;
+          ∙ ap (λ r. sequence_from options ports past r) (f.says bytes)
+          ∙ sequence-ok past number item (recorded_from after (new.held ++ bytes)) e;
     }
 
     -- it is a fault
-    unfoldable pub sorts-fault : (after : State) (item : Numbered) (fault : RecordingFault) → SaysFirst old new before after item
-        → sorted_with options ports sorted item ≡ Err fault → IsFaultBehind Outcome-of Items-of first new sorted.items fault
+    unfoldable pub sorts-fault : (after : State) (item : Numbered) (fault : RecordingFault)
+        → SaysFirst old new before after item → number_after options ports past item ≡ Err fault
+        → IsFaultBehind options ports first new past fault
     sorts-fault after item fault f e =
         let is = λ (more : List ℕ). behind f.given more
-        ∙ ap (λ r. sequence_from options ports sorted r) (f.says more)
-        ∙ sequence-err sorted item (recorded_from after (new.held ++ more)) fault e in record {
+        ∙ ap (λ r. sequence_from options ports past r) (f.says more)
+        ∙ sequence-err past item (recorded_from after (new.held ++ more)) fault e in record {
           read = s.read ++ f.given;
           gives = Gives-then first old new s.read f.given s.gives f.gives;
-          items = λ more follows. ap (λ (o : Outcome). o.sorted.items) (is more);
+          numbers = λ more follows. ap (λ (o : Outcome). o.numbers) (is more);
           ending = λ more follows. ap (λ (o : Outcome). o.ending) (is more);
         }
 
     -- the recording ends so, whatever can follow
     pub ends : (ending : Ending) (lost : ℕ) (e : SaysEnding old new before ending lost) (more : List ℕ)
         → CanFollow new more → sequence options ports (recorded ((s.read ++ e.given) ++ more))
-        ≡ record { sorted = sorted; ending = ending_after sorted ending; lost = lost }
+        ≡ record { numbers = past; ending = ending_after past ending; lost = lost }
     ends ending lost e more follows =
         behind e.given more
-        ∙ ap (λ r. sequence_from options ports sorted r) (e.says more follows)
-        ∙ sequence-none sorted ending lost
+        ∙ ap (λ r. sequence_from options ports past r) (e.says more follows)
+        ∙ sequence-none past ending lost
 
     -- with a fault, its own or that no number is an arrival
-    unfoldable pub ends-fault : (ending : Ending) (lost : ℕ) (fault : RecordingFault) → SaysEnding old new before ending lost
-        → ending_after sorted ending ≡ Faulted fault → IsFaultBehind Outcome-of Items-of first new sorted.items fault
+    unfoldable pub ends-fault : (ending : Ending) (lost : ℕ) (fault : RecordingFault)
+        → SaysEnding old new before ending lost → ending_after past ending ≡ Faulted fault
+        → IsFaultBehind options ports first new past fault
     ends-fault ending lost fault e is = record {
       read = s.read ++ e.given;
       gives = Gives-then first old new s.read e.given s.gives e.gives;
-      items = λ more follows. ap (λ (o : Outcome). o.sorted.items) (ends ending lost e more follows);
+      numbers = λ more follows. ap (λ (o : Outcome). o.numbers) (ends ending lost e more follows);
       ending = λ more follows. ap (λ (o : Outcome). o.ending) (ends ending lost e more follows) ∙ is;
     }
 
     -- well
-    pub ends-well : (lost : ℕ) (e : SaysEnding old new before Over lost) → has_no_arrival sorted ≡ false
-        → sequence options ports (recorded (s.read ++ e.given)) ≡ record { sorted = sorted; ending = Over; lost = lost }
+    pub ends-well : (lost : ℕ) (e : SaysEnding old new before Over lost) → has_no_arrival past ≡ false
+        → sequence options ports (recorded (s.read ++ e.given)) ≡ record { numbers = past; ending = Over; lost = lost }
     ends-well lost e arrival =
         ap (λ bytes. sequence options ports (recorded bytes)) (sym (append-nil (s.read ++ e.given)))
         ∙ ends Over lost e [] (λ ended. refl)
@@ -121,88 +108,46 @@ module _ (options : Options) (ports : Ports) where
     ends-gives ending lost e = Gives-then first old new s.read e.given s.gives e.gives
 
     -- a read failed
-    unfoldable pub sorts-read : SaysNothing old new before → AreAllOfRead Outcome-of Items-of first new sorted.items
+    unfoldable pub sorts-read : SaysNothing old new before → AreAllOfRead options ports first new past
     sorts-read n = record {
       read = s.read ++ n.given;
       gives = Gives-then first old new s.read n.given s.gives n.gives;
-      items = ap (λ (o : Outcome). o.sorted.items)
-          (s.says n.given ∙ ap (λ r. sequence_from options ports sorted r) n.says
-          ∙ sequence-none sorted n.ending n.lost);
+      numbers = ap (λ (o : Outcome). o.numbers)
+          (s.says n.given ∙ ap (λ r. sequence_from options ports past r) n.says
+          ∙ sequence-none past n.ending n.lost);
     }
 
-  -- ---- what was taken are the first of all arrivals
+  -- ---- what was given are the first of all numbers
 
-  abbrev Extends : List (Item Heading) → List (Item Heading) → Type 0
-  Extends all past = (later : List (Item Heading)) × (all ≡ later ++ past)
+  abbrev Extends : Numbers → Numbers → Type 0
+  Extends all past = (later : Numbers) × (all ≡ later ++ past)
 
-  extends-trans : (a b c : List (Item Heading)) → Extends a b → Extends b c → Extends a c
-  extends-trans a b c h k =
-      (h.0 ++ k.0, h.1 ∙ ap (λ l. h.0 ++ l) k.1 ∙ sym (append_assoc h.0 k.0 c))
+  and-extends : (past : Numbers) (r : Result Number RecordingFault) (bytes : List ℕ) (next : Number → Outcome)
+      (lost : ℕ) → ((number : Number) → Extends (next number).numbers (with_number past bytes number))
+      → Extends (and_then next past lost r).numbers past
+  and-extends past (Ok number) bytes next lost g =
+      let h = g number in
+      let x = item_of (length past + 1) number bytes in
+      (h.0 ++ x ∷ [], h.1 ∙ sym (append_assoc h.0 (x ∷ []) past))
+  and-extends past (Err fault) bytes next lost g = ([], refl)
 
-  if-ok : {X E : Type 0} (b : Bool) (fault : E) (x y : X) → (if b then Err fault else Ok x) ≡ Ok y → x ≡ y
-  if-ok true fault x y e = absurd (cc)
-  if-ok false fault x y e = cc
-
-  taken-extends : (sorted more : Sorted) (origin : ℕ) (found : Found) (bytes : List ℕ)
-      → taken sorted origin found bytes ≡ Ok more → Extends more.items sorted.items
-  unfolding taken
-  taken-extends sorted more origin found bytes e = (
-    arrival_with (sorted.numbers + 1) origin found bytes ∷ [],
-    sym (ap (λ (s : Sorted). s.items) (if-ok (nat_lt latest_listed (found.moment - origin))
-        (fault.TimeTooLarge (sorted.numbers + 1)) (with_found sorted origin found bytes) more e)),
-  )
-
-  -- one number more
-  more-extends : (sorted more : Sorted) (bytes : List ℕ) (r : Result Found NoArrival)
-      → sorted_by sorted bytes r ≡ Ok more → Extends more.items sorted.items
-  more-extends sorted more bytes (Ok found) e =
-      taken-extends sorted more (origin_or sorted.origin found.moment) found bytes e
-  more-extends sorted more bytes (Err (no.Skipped reason)) e = (
-    [],
-    ap (λ (s : Sorted). s.items) (sym (if-ok false (fault.TimeTooLarge 0) (record sorted {
-      numbers = sorted.numbers + 1;
-      counts = skip_one reason sorted.counts;
-    }) more e)),
-  )
-  more-extends sorted more bytes (Err (no.Faulted fault)) e = absurd (cc)
-
-  sorted-extends : (sorted more : Sorted) (item : Numbered) → sorted_with options ports sorted item ≡ Ok more
-      → Extends more.items sorted.items
-  unfolding sorted_with
-  sorted-extends sorted more item e =
-      more-extends sorted more item.bytes
-      (becomes options ports sorted.latest (sorted.numbers + 1) item.what item.bytes) e
-
-  and-extends : (sorted : Sorted) (r : Result Sorted RecordingFault) (next : Sorted → Outcome) (lost : ℕ)
-      → ((more : Sorted) → r ≡ Ok more → Extends more.items sorted.items)
-      → ((more : Sorted) → Extends (next more).sorted.items more.items)
-      → Extends (and_then next sorted lost r).sorted.items sorted.items
-  and-extends sorted (Ok more) next lost f g = extends-trans _ _ _ (g more) (f more refl)
-  and-extends sorted (Err fault) next lost f g = ([], refl)
-
-  items-extends : (ending : Ending) (lost : ℕ) (sorted : Sorted) (items : List Numbered)
-      → Extends (sequence_of_items options ports ending lost sorted items).sorted.items sorted.items
+  items-extends : (ending : Ending) (lost : ℕ) (past : Numbers) (items : List Numbered)
+      → Extends (sequence_of_items options ports ending lost past items).numbers past
   unfolding sequence_of_items
-  items-extends ending lost sorted [] = ([], refl)
-  items-extends ending lost sorted (item ∷ items) =
-      and-extends sorted (sorted_with options ports sorted item)
-      (λ more. sequence_of_items options ports ending lost more items) lost
-      (λ more e. sorted-extends sorted more item e) (λ more. items-extends ending lost more items)
+  items-extends ending lost past [] = ([], refl)
+  items-extends ending lost past (item ∷ items) =
+      and-extends past (number_after options ports past item) item.bytes
+      (λ number. sequence_of_items options ports ending lost (with_number past item.bytes number) items) lost
+      (λ number. items-extends ending lost (with_number past item.bytes number) items)
 
-  pub sorts-first : (first now : Standing) (sorted : Sorted) (state : State)
-      → Sorts options ports first now sorted state → AreFirstItems Outcome-of Items-of first sorted.items
-  sorts-first first now sorted state s = record {
+  pub sorts-first : (first now : Standing) (past : Numbers) (state : State)
+      → Sorts options ports first now past state → AreFirst options ports first past
+  sorts-first first now past state s = record {
     read = s.read;
     left = now.left;
     consumed = s.gives.consumed;
-    items = λ more.
+    numbers = λ more.
         let rest = recorded_from state (now.held ++ more) in
-        let h = items-extends rest.ending rest.lost sorted rest.items in
-        (h.0, ap (λ (o : Outcome). o.sorted.items) (s.says more) ∙ h.1);
+        let h = items-extends rest.ending rest.lost past rest.items in
+        (h.0, ap (λ (o : Outcome). o.numbers) (s.says more) ∙ h.1);
   }
-
--- no arrival that was given has a later time than the next
-pub in-order : (origin : Option ℕ) (newest moment : ℕ) (past : List (Item Heading)) → IsTimed origin newest past
-    → newest ≤ moment → latest_in frames (arrivals past) ≤ moment - origin_or origin moment
-in-order (Some origin) newest moment past h le = omega (arith, h, le)
-in-order None newest moment past h le = rw h (omega arith)

@@ -27,21 +27,23 @@ use Rattle.afdx_arrivals.specs.declared.places.Place.{Place}
 use Rattle.afdx_arrivals.specs.declared.skipped.Skipped.TheVariants.{NoFrame, LeftOut, NotAfdx}
 use Rattle.afdx_arrivals.specs.declared.skipped.Skipped.TheVariants.{UnknownSender, NoNetwork}
 use Rattle.afdx_arrivals.specs.declared.skipped.Skipped.TheVariants.{BeforeOrigin}
-use Rattle.afdx_arrivals.specs.Places.{place_of, is_left_out, side_said, port_said}
+use Rattle.afdx_arrivals.specs.Places.{place_of, is_left_out, side_of, port_said}
 use Rattle.afdx_arrivals.specs.Claims.{Ports, side_claimed}
 
 -- what the options say: the place of each interface, whether frames end with their check sequence,
--- the moment that is time 0
+-- the moment that is time 0, the network whose recording it is
 pub record Options : Type 0 where
   pub place : ℕ → Option Place
   pub fcs : Option Bool
   pub origin : Option ℕ
+  pub network : Option Side
 
 abbrev pub options_of : RecordingOptions → Options
 options_of options = record {
   place = place_of options.interfaces;
   fcs = options.fcs;
   origin = options.origin;
+  network = options.network;
 }
 
 -- ---- one check after another: the first that is false decides
@@ -105,20 +107,26 @@ abbrev pub said_or : {X : Type 0} → Option X → Option X → Option X
 said_or (Some x) claimed = Some x
 said_or None claimed = claimed
 
+-- the side that is said: that of the network whose recording it is, or of the place
+abbrev pub side_said : (network : Option Side) → Option Place → Option Side
+side_said network place = said_or network (side_of place)
+
 -- the side or the port is taken from the frame's bytes
-abbrev pub is_claimed : Option Place → Ports → Bool
-is_claimed place ports =
-    not (is_some (side_said place)) || (ports.are_claimed && not (is_some (port_said place)))
+abbrev pub is_claimed : (network : Option Side) → Option Place → Ports → Bool
+is_claimed network place ports =
+    not (is_some (side_said network place))
+    || (ports.are_claimed && not (is_some (port_said place)))
 
 abbrev pub entrance_with : Side → ℕ → Bool → Entrance
 entrance_with side port claimed = record { side = side; port = port; is_claimed = claimed }
 
-unfoldable pub entrance_of : Option Place → Ports → List ℕ → Result Entrance NoArrival
-entrance_of place ports bytes = do
+unfoldable pub entrance_of : (network : Option Side) → Option Place → Ports → List ℕ →
+    Result Entrance NoArrival
+entrance_of network place ports bytes = do
   check (is_some (link_named_by bytes)) (Skipped NotAfdx)
   port ← or_else (said_or (port_said place) (ports.port bytes)) (Skipped UnknownSender)
-  side ← or_else (said_or (side_said place) (side_claimed bytes)) (Skipped NoNetwork)
-  Ok (entrance_with side port (is_claimed place ports))
+  side ← or_else (said_or (side_said network place) (side_claimed bytes)) (Skipped NoNetwork)
+  Ok (entrance_with side port (is_claimed network place ports))
 
 -- ---- its check sequence
 
@@ -181,7 +189,7 @@ unfoldable pub frame_becomes : Options → Ports → (latest n : ℕ) → Record
 frame_becomes options ports latest n frame bytes = do
   check (not (is_left_out (options.place frame.interface))) (Skipped LeftOut)
   moment ← whole_moment options.fcs n frame (length bytes)
-  entrance ← entrance_of (options.place frame.interface) ports bytes
+  entrance ← entrance_of options.network (options.place frame.interface) ports bytes
   check (not (is_before options.origin moment)) (Skipped BeforeOrigin)
   kind ← or_else (kind_with (ends_with_sequence options.fcs frame.check_sequence)
       frame.found_wrong bytes) (Faulted (FcsUnclear n))

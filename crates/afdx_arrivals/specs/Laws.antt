@@ -10,9 +10,8 @@ use Rattle.afdx_lists.specs.FrameLines.{frame_bytes}
 use Rattle.afdx_lists.specs.declared.frame_line.FrameKind.{FrameKind}
 use Rattle.afdx_arrivals.specs.Becoming.{Options, message_with, seal_with}
 use Rattle.afdx_arrivals.specs.Claims.{Ports, Agree}
-use Rattle.afdx_arrivals.specs.NumberLines.{arrivals_listed, number_lines}
 use Rattle.afdx_arrivals.specs.Sequences.{sequence}
-use Rattle.afdx_arrivals.specs.RecordingRun.{arrivals_in}
+use Rattle.afdx_arrivals.specs.Taking.{arrivals_in, taken_of, taken_of_both}
 
 -- where two ways to know a port agree, what is taken of a recording is the same
 abbrev pub SequencesAgree : Type 0
@@ -33,10 +32,10 @@ AreInOrder (x ∷ past) =
 -- so it is with all arrivals of a recording
 abbrev pub ArrivalsAreInOrder : Type 0
 ArrivalsAreInOrder = (options : Options) (ports : Ports) (recording : Recording) →
-    AreInOrder (arrivals_in (sequence options ports recording))
+    AreInOrder (arrivals_in (taken_of options.origin (sequence options ports recording)))
 
--- the arrivals of the list that says the same as a recording are those that a run takes of it
-abbrev pub LinesAreArrivals : Type 0
-LinesAreArrivals = (options : Options) (ports : Ports) (recording : Recording) →
-    arrivals_listed (number_lines options ports recording)
-    ≡ (sequence options ports recording).sorted.items
+-- and of two
+abbrev pub ArrivalsOfBothAreInOrder : Type 0
+ArrivalsOfBothAreInOrder = (of_a of_b : Options) (ports : Ports) (a b : Recording) →
+    AreInOrder (arrivals_in (taken_of_both of_a.origin (sequence of_a ports a)
+    (sequence of_b ports b)))

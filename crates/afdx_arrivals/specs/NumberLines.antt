@@ -1,65 +1,20 @@
--- A recording as the frame list that says the same: a line for each number, up to the first fault.
-use Rattle.std.specs.Prelude.{ℕ, ◌+◌, ◌-◌, List, [], ◌∷◌, Option, Some, None, Result, Ok, Err}
+-- The lines of numbers: when and where an arrival comes, or why a number is skipped. A list of them
+-- has the newest first.
+use Rattle.std.specs.Prelude.{ℕ, ◌≤◌, ◌<◌, List, [], ◌∷◌, length}
+use Rattle.afdx_frame.specs.Times.{latest_listed}
 use Rattle.afdx_lists.specs.declared.frame_line.Heading.{Heading}
-use Rattle.afdx_lists.specs.declared.recording_fault.RecordingFault.{RecordingFault}
-use Rattle.afdx_recordings.specs.Recordings.{Numbered, Recording}
 use Rattle.afdx_run.specs.Engine.{Item, item_of}
-use Rattle.afdx_arrivals.specs.declared.becoming.Found.{Found}
-use Rattle.afdx_arrivals.specs.declared.becoming.NoArrival.TheVariants as becomes_no
-use Rattle.afdx_arrivals.specs.declared.becoming.NoArrival as no_arrival
+use Rattle.afdx_run.specs.Items.{most_frames}
+use Rattle.afdx_recordings.specs.Recordings.{most_numbers}
+use Rattle.afdx_arrivals.specs.declared.number.Number.{Number}
 use Rattle.afdx_arrivals.specs.declared.number_line.NumberLine.{NumberLine}
 use Rattle.afdx_arrivals.specs.declared.number_line.NumberLine.TheVariants as line
-use Rattle.afdx_arrivals.specs.Becoming.{Options, becomes, message_with, seal_with}
-use Rattle.afdx_arrivals.specs.Claims.{Ports}
-use Rattle.afdx_arrivals.specs.Sequences.{Sorted, nothing_sorted, origin_or, sorted_with}
+use Rattle.afdx_arrivals.specs.Becoming.{message_with, seal_with}
+use Rattle.afdx_arrivals.specs.Sequences.{Numbers, latest_of}
 
--- the line of an arrival
-abbrev pub arrival_line : (origin : ℕ) → Found → NumberLine
-arrival_line origin found =
-    line.Arrival found.kind (found.moment - origin) found.side found.port
-
--- that of a number which becomes this; a fault has none
-abbrev pub line_by : Option ℕ → Result Found no_arrival.NoArrival → Option NumberLine
-line_by origin (Ok found) = Some (arrival_line (origin_or origin found.moment) found)
-line_by origin (Err (becomes_no.Skipped reason)) = Some (line.Skipped reason)
-line_by origin (Err (becomes_no.Faulted fault)) = None
-
--- that of the next number
-unfoldable pub line_with : Options → Ports → Sorted → Numbered → Option NumberLine
-line_with options ports sorted item =
-    line_by sorted.origin
-    (becomes options ports sorted.latest (sorted.numbers + 1) item.what item.bytes)
-
--- it stands behind those before it, with the recorded bytes
-abbrev pub with_line : ℕ → List ℕ → List (Item NumberLine) → Option NumberLine →
-    List (Item NumberLine)
-with_line n bytes past None = past
-with_line n bytes past (Some line) = item_of n line bytes ∷ past
-
-abbrev pub lines_then : (Sorted → List (Item NumberLine)) → List (Item NumberLine) →
-    Result Sorted RecordingFault → List (Item NumberLine)
-lines_then next past (Ok more) = next more
-lines_then next past (Err fault) = past
-
--- the lines of these numbers, behind those before them
-unfoldable pub lines_of_items : Options → Ports → Sorted → List Numbered → List (Item NumberLine) →
-    List (Item NumberLine)
-lines_of_items options ports sorted [] past = past
-lines_of_items options ports sorted (item ∷ items) past =
-    lines_then (λ more. lines_of_items options ports more items
-    (with_line (sorted.numbers + 1) item.bytes past (line_with options ports sorted item)))
-    past (sorted_with options ports sorted item)
-
--- those of the rest of a recording
-abbrev pub lines_from : Options → Ports → Sorted → List (Item NumberLine) → Recording →
-    List (Item NumberLine)
-lines_from options ports sorted past recording =
-    lines_of_items options ports sorted recording.items past
-
--- all lines of a recording, the latest first
-abbrev pub number_lines : Options → Ports → Recording → List (Item NumberLine)
-number_lines options ports recording =
-    lines_from options ports (nothing_sorted options) [] recording
+-- lines, each with the recorded bytes of its number
+abbrev pub Lines : Type 0
+Lines = List (Item NumberLine)
 
 -- the arrival that a line is read as, in front of those before it
 abbrev pub as_arrival : ℕ → List ℕ → NumberLine → List (Item Heading) → List (Item Heading)
@@ -69,6 +24,27 @@ as_arrival n bytes (line.Arrival kind time side port) past =
 as_arrival n bytes (line.Skipped reason) past = past
 
 -- those of all lines
-unfoldable pub arrivals_listed : List (Item NumberLine) → List (Item Heading)
+unfoldable pub arrivals_listed : Lines → List (Item Heading)
 arrivals_listed [] = []
 arrivals_listed (x ∷ past) = as_arrival x.number x.bytes x.head (arrivals_listed past)
+
+-- the time of an arrival, else this one
+abbrev pub time_or : NumberLine → ℕ → ℕ
+time_or (line.Arrival kind time side port) latest = time
+time_or (line.Skipped reason) latest = latest
+
+-- the time of the newest arrival, or 0
+unfoldable pub latest_time : Lines → ℕ
+latest_time [] = 0
+latest_time (x ∷ past) = time_or x.head (latest_time past)
+
+-- such a number may come after these: no earlier, and there are not too many
+pub record NumberFollows (past : Numbers) (x : Item Number) : Type 0 where
+  pub order : latest_of past ≤ latest_of (x ∷ past)
+  pub few : length past < most_numbers
+
+-- such a line may come after these: no earlier, not too late, and there are not too many
+pub record LineFollows (past : Lines) (x : Item NumberLine) : Type 0 where
+  pub order : latest_time past ≤ latest_time (x ∷ past)
+  pub early : latest_time (x ∷ past) ≤ latest_listed
+  pub few : length past < most_frames

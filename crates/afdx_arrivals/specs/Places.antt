@@ -20,10 +20,10 @@ is_left_out (Some LeftOut) = true
 is_left_out _ = false
 
 -- the side that it says, and the port
-abbrev pub side_said : Option Place → Option Side
-side_said (Some (OnSide side)) = Some side
-side_said (Some (AtPort side port)) = Some side
-side_said _ = None
+abbrev pub side_of : Option Place → Option Side
+side_of (Some (OnSide side)) = Some side
+side_of (Some (AtPort side port)) = Some side
+side_of _ = None
 
 abbrev pub port_said : Option Place → Option ℕ
 port_said (Some (AtPort side port)) = Some port

@@ -1,10 +1,8 @@
--- What a run takes of a recording: its arrivals one after another, and how that ends.
-use Rattle.std.specs.Prelude.{ℕ, Bool, true, false, ◌+◌, ◌-◌, ◌&&◌, nat_lt, List, [], ◌∷◌, Option, Some, None, Result, Ok, Err}
-use Rattle.std.specs.Prelude.{if◌then◌else◌}
-use Rattle.afdx_frame.specs.Times.{latest_listed}
-use Rattle.afdx_lists.specs.declared.frame_line.Heading.{Heading}
+-- What stands in a recording: its numbers one after another, up to the first fault. A list of them
+-- has the newest first.
+use Rattle.std.specs.Prelude.{ℕ, Bool, true, false, not, ◌+◌, ◌&&◌, ◌||◌, nat_lt, List, [], ◌∷◌, length}
+use Rattle.std.specs.Prelude.{Result, Ok, Err, if◌then◌else◌}
 use Rattle.afdx_lists.specs.declared.recording_fault.RecordingFault.{RecordingFault}
-use Rattle.afdx_lists.specs.declared.recording_fault.RecordingFault.TheVariants.{TimeTooLarge}
 use Rattle.afdx_lists.specs.declared.recording_fault.RecordingFault.TheVariants.{NoArrival}
 use Rattle.afdx_recordings.specs.Recordings.{Numbered, Recording, Ending, Over, Faulted}
 use Rattle.afdx_run.specs.Engine.{Item, item_of}
@@ -12,119 +10,88 @@ use Rattle.afdx_arrivals.specs.declared.becoming.Found.{Found}
 use Rattle.afdx_arrivals.specs.declared.becoming.NoArrival.TheVariants as becomes_no
 use Rattle.afdx_arrivals.specs.declared.becoming.NoArrival as no_arrival
 use Rattle.afdx_arrivals.specs.declared.counts.Counts.{Counts}
-use Rattle.afdx_arrivals.specs.Becoming.{Options, becomes, message_with, seal_with}
+use Rattle.afdx_arrivals.specs.declared.number.Number.{Number}
+use Rattle.afdx_arrivals.specs.declared.number.Number.TheVariants.{Arrival, Skipped}
+use Rattle.afdx_arrivals.specs.Becoming.{Options, becomes}
 use Rattle.afdx_arrivals.specs.Claims.{Ports}
-use Rattle.afdx_arrivals.specs.Counting.{no_counts, skip_one, take_one}
+use Rattle.afdx_arrivals.specs.Counting.{no_counts, count_one}
 
--- what was taken so far: how many numbers; the arrivals, the newest first; the moment that is time
--- 0, once it is known; that of the newest arrival, or 0; and the counts
-pub record Sorted : Type 0 where
-  pub numbers : ℕ
-  pub items : List (Item Heading)
-  pub origin : Option ℕ
-  pub latest : ℕ
-  pub counts : Counts
+-- numbers, each with its recorded bytes
+abbrev pub Numbers : Type 0
+Numbers = List (Item Number)
 
--- nothing yet
-abbrev pub nothing_sorted : Options → Sorted
-nothing_sorted options = record {
-  numbers = 0;
-  items = [];
-  origin = options.origin;
-  latest = 0;
-  counts = no_counts;
-}
+abbrev pub is_arrival : Number → Bool
+is_arrival (Arrival found) = true
+is_arrival (Skipped reason) = false
 
--- the moment that is time 0, once there is an arrival of this one
-abbrev pub origin_or : Option ℕ → ℕ → ℕ
-origin_or (Some origin) moment = origin
-origin_or None moment = moment
+unfoldable pub has_arrival : Numbers → Bool
+has_arrival [] = false
+has_arrival (x ∷ past) = is_arrival x.head || has_arrival past
 
--- when and where an arrival of these recorded bytes comes in, and its seal
-abbrev pub heading_of : ℕ → Found → List ℕ → Heading
-heading_of origin found bytes = record {
-  time = found.moment - origin;
-  side = found.side;
-  port = found.port;
-  seal = seal_with found.kind bytes;
-}
+-- the moment of an arrival, else this one
+abbrev pub moment_or : Number → ℕ → ℕ
+moment_or (Arrival found) latest = found.moment
+moment_or (Skipped reason) latest = latest
 
--- an arrival under this number, of these recorded bytes
-abbrev pub arrival_with : ℕ → ℕ → Found → List ℕ → Item Heading
-arrival_with n origin found bytes =
-    item_of n (heading_of origin found bytes) (message_with found.kind bytes)
+-- the moment of the newest arrival, or 0
+unfoldable pub latest_of : Numbers → ℕ
+latest_of [] = 0
+latest_of (x ∷ past) = moment_or x.head (latest_of past)
 
--- the arrival is taken
-abbrev pub with_found : Sorted → ℕ → Found → List ℕ → Sorted
-with_found sorted origin found bytes = record {
-  numbers = sorted.numbers + 1;
-  items = arrival_with (sorted.numbers + 1) origin found bytes ∷ sorted.items;
-  origin = Some origin;
-  latest = found.moment;
-  counts = take_one found.is_claimed sorted.counts;
-}
-
--- unless its time is too large
-unfoldable pub taken : Sorted → ℕ → Found → List ℕ → Result Sorted RecordingFault
-taken sorted origin found bytes =
-    if nat_lt latest_listed (found.moment - origin) then Err (TimeTooLarge (sorted.numbers + 1))
-    else Ok (with_found sorted origin found bytes)
+-- how many were skipped for each reason, and how many arrivals are claimed
+unfoldable pub counts_of : Numbers → Counts
+counts_of [] = no_counts
+counts_of (x ∷ past) = count_one x.head (counts_of past)
 
 -- a number that becomes this
-abbrev pub sorted_by : Sorted → List ℕ → Result Found no_arrival.NoArrival →
-    Result Sorted RecordingFault
-sorted_by sorted bytes (Ok found) =
-    taken sorted (origin_or sorted.origin found.moment) found bytes
-sorted_by sorted bytes (Err (becomes_no.Skipped reason)) = Ok (record sorted {
-  numbers = sorted.numbers + 1;
-  counts = skip_one reason sorted.counts;
-})
-sorted_by sorted bytes (Err (becomes_no.Faulted fault)) = Err fault
+abbrev pub number_by : Result Found no_arrival.NoArrival → Result Number RecordingFault
+number_by (Ok found) = Ok (Arrival found)
+number_by (Err (becomes_no.Skipped reason)) = Ok (Skipped reason)
+number_by (Err (becomes_no.Faulted fault)) = Err fault
 
--- the next number
-unfoldable pub sorted_with : Options → Ports → Sorted → Numbered → Result Sorted RecordingFault
-sorted_with options ports sorted item =
-    sorted_by sorted item.bytes
-    (becomes options ports sorted.latest (sorted.numbers + 1) item.what item.bytes)
+-- what comes next is this number, behind these
+unfoldable pub number_after : Options → Ports → Numbers → Numbered → Result Number RecordingFault
+number_after options ports past item =
+    number_by (becomes options ports (latest_of past) (length past + 1) item.what item.bytes)
 
--- all that a run takes, how that ends, and how many frames the recorder lost by the recording's end
+-- all numbers up to the first fault, how that ends, and how many frames the recorder lost by the
+-- recording's end
 pub record Outcome : Type 0 where
-  pub sorted : Sorted
+  pub numbers : Numbers
   pub ending : Ending
   pub lost : ℕ
 
-abbrev pub is_empty : List (Item Heading) → Bool
-is_empty [] = true
-is_empty (x ∷ items) = false
-
 -- behind the last number: a recording that has numbers has an arrival
-abbrev pub has_no_arrival : Sorted → Bool
-has_no_arrival sorted = nat_lt 0 sorted.numbers && is_empty sorted.items
+abbrev pub has_no_arrival : Numbers → Bool
+has_no_arrival past = nat_lt 0 (length past) && not (has_arrival past)
 
-abbrev pub ending_after : Sorted → Ending → Ending
-ending_after sorted Over =
-    if has_no_arrival sorted then Faulted (NoArrival sorted.numbers) else Over
-ending_after sorted (Faulted fault) = Faulted fault
+abbrev pub ending_after : Numbers → Ending → Ending
+ending_after past Over = if has_no_arrival past then Faulted (NoArrival (length past)) else Over
+ending_after past (Faulted fault) = Faulted fault
 
-abbrev pub and_then : (Sorted → Outcome) → Sorted → ℕ → Result Sorted RecordingFault → Outcome
-and_then next sorted lost (Ok more) = next more
-and_then next sorted lost (Err fault) =
-    record { sorted = sorted; ending = Faulted fault; lost = lost }
+abbrev pub and_then : (Number → Outcome) → Numbers → ℕ → Result Number RecordingFault → Outcome
+and_then next past lost (Ok number) = next number
+and_then next past lost (Err fault) =
+    record { numbers = past; ending = Faulted fault; lost = lost }
 
--- what is taken of these numbers, and of such an ending
-unfoldable pub sequence_of_items : Options → Ports → Ending → ℕ → Sorted → List Numbered → Outcome
-sequence_of_items options ports ending lost sorted [] =
-    record { sorted = sorted; ending = ending_after sorted ending; lost = lost }
-sequence_of_items options ports ending lost sorted (item ∷ items) =
-    and_then (λ more. sequence_of_items options ports ending lost more items) sorted lost
-    (sorted_with options ports sorted item)
+-- this number stands behind those, with its bytes
+abbrev pub with_number : Numbers → List ℕ → Number → Numbers
+with_number past bytes number = item_of (length past + 1) number bytes ∷ past
 
--- of the rest of a recording, behind what was taken
-abbrev pub sequence_from : Options → Ports → Sorted → Recording → Outcome
-sequence_from options ports sorted recording =
-    sequence_of_items options ports recording.ending recording.lost sorted recording.items
+-- what stands behind these numbers, and such an ending
+unfoldable pub sequence_of_items : Options → Ports → Ending → (lost : ℕ) → Numbers →
+    List Numbered → Outcome
+sequence_of_items options ports ending lost past [] =
+    record { numbers = past; ending = ending_after past ending; lost = lost }
+sequence_of_items options ports ending lost past (item ∷ items) =
+    and_then (λ number. sequence_of_items options ports ending lost
+    (with_number past item.bytes number) items) past lost (number_after options ports past item)
+
+-- the rest of a recording, behind these numbers
+abbrev pub sequence_from : Options → Ports → Numbers → Recording → Outcome
+sequence_from options ports past recording =
+    sequence_of_items options ports recording.ending recording.lost past recording.items
 
 -- the sequence of a recording
 abbrev pub sequence : Options → Ports → Recording → Outcome
-sequence options ports recording =
-    sequence_from options ports (nothing_sorted options) recording
+sequence options ports recording = sequence_from options ports [] recording

@@ -5,7 +5,7 @@ use Rattle.afdx_arrivals.specs.contracts.skipped.Skipped.{the_type}
 use Rattle.afdx_arrivals.specs.declared.skipped.Skipped.{Skipped}
 use Rattle.afdx_arrivals.specs.declared.skipped.TheConstants.{SKIPPED}
 use Rattle.afdx_arrivals.specs.declared.counts.Counts.{Counts}
-use Rattle.afdx_arrivals.specs.declared.recording_run.Tally.{Tally}
+use Rattle.afdx_arrivals.specs.declared.counts.Tally.{Tally}
 use denote.Enum.Declared.{tag_of}
 
 unfoldable pub words : List (List ℕ)

@@ -29,6 +29,8 @@ pub struct RecordingOptions {
     pub fcs: Option<bool>,
     /// The moment that is time 0, in ns since 1970, where that is said.
     pub origin: Option<u64>,
+    /// The network whose recording it is, of two that are read at once.
+    pub network: Option<Side>,
     /// Whether an option was given: then the input has to be a recording.
     pub are_given: bool,
 }
@@ -39,6 +41,7 @@ impl RecordingOptions {
         ensures given { IfOk result (λ options. options.are_given ≡ false) }
         ensures fcs { IfOk result (λ options. options.fcs ≡ None) }
         ensures origin { IfOk result (λ options. options.origin ≡ None) }
+        ensures network { IfOk result (λ options. options.network ≡ None) }
         ensures place { IfOk result (λ options. (k : ℕ) →
             places.place_of options.interfaces k ≡ None) }
     {
@@ -46,6 +49,7 @@ impl RecordingOptions {
             interfaces: Interfaces::new(alloc)?,
             fcs: None,
             origin: None,
+            network: None,
             are_given: false,
         })
     }
@@ -140,14 +144,15 @@ fn whole_moment(
     Ok(moment)
 }
 
-/// The side that a place says.
-fn side_said(place: Option<Place>) -> Option<Side>
-    ensures { result ≡ places.side_said place }
+/// The side that is said: that of the network whose recording it is, or of the place.
+fn side_said(network: Option<Side>, place: Option<Place>) -> Option<Side>
+    ensures { result ≡ spec.side_said network place }
 {
-    match place {
-        Some(Place::OnSide(side)) => Some(side),
-        Some(Place::AtPort(side, _)) => Some(side),
-        _ => None,
+    match (network, place) {
+        (Some(side), _) => Some(side),
+        (None, Some(Place::OnSide(side))) => Some(side),
+        (None, Some(Place::AtPort(side, _))) => Some(side),
+        (None, _) => None,
     }
 }
 
@@ -162,20 +167,21 @@ fn port_said(place: Option<Place>) -> Option<u8>
 }
 
 /// Whether the side or the port is taken from the frame's bytes.
-fn is_claimed(place: Option<Place>, ports: &SystemPorts) -> bool
-    ensures { result ≡ spec.is_claimed place (ports_of ports.now) }
+fn is_claimed(network: Option<Side>, place: Option<Place>, ports: &SystemPorts) -> bool
+    ensures { result ≡ spec.is_claimed network place (ports_of ports.now) }
 {
-    side_said(place).is_none() || (ports.are_claimed() && port_said(place).is_none())
+    side_said(network, place).is_none() || (ports.are_claimed() && port_said(place).is_none())
 }
 
-/// Where a frame came in: by what is said of its interface, else by its bytes.
+/// Where a frame came in: by what is said of its recording and its interface, else by its bytes.
 #[tactic(auto, unfolding(crate::specs::Becoming::entrance_of))]
 fn entrance_of(
+    network: Option<Side>,
     place: Option<Place>,
     ports: &SystemPorts,
     bytes: &[u8],
 ) -> Result<Entrance, NoArrival>
-    ensures { result ≡ spec.entrance_of place (ports_of ports.now) bytes.now }
+    ensures { result ≡ spec.entrance_of network place (ports_of ports.now) bytes.now }
 {
     if vl_of(bytes).is_none() {
         return Err(NoArrival::Skipped(Skipped::NotAfdx));
@@ -183,10 +189,10 @@ fn entrance_of(
     let Some(port) = port_said(place).or_else(|| ports.port(bytes)) else {
         return Err(NoArrival::Skipped(Skipped::UnknownSender));
     };
-    let Some(side) = side_said(place).or_else(|| side_claimed(bytes)) else {
+    let Some(side) = side_said(network, place).or_else(|| side_claimed(bytes)) else {
         return Err(NoArrival::Skipped(Skipped::NoNetwork));
     };
-    let is_claimed = is_claimed(place, ports);
+    let is_claimed = is_claimed(network, place, ports);
     Ok(Entrance {
         side,
         port,
@@ -242,7 +248,7 @@ fn frame_becomes(
         return Err(NoArrival::Skipped(Skipped::LeftOut));
     }
     let moment = whole_moment(options.fcs, n, frame, bytes.len())?;
-    let entrance = entrance_of(place, ports, bytes)?;
+    let entrance = entrance_of(options.network, place, ports, bytes)?;
     if is_before(options.origin, moment) {
         return Err(NoArrival::Skipped(Skipped::BeforeOrigin));
     }

@@ -2,6 +2,7 @@
 
 ghost use Rattle.std.specs.Prelude.{◌≡◌, ◌<◌, ◌≤◌, ◌+◌};
 ghost use Rattle.afdx_arrivals.specs.Counting as spec;
+ghost use Rattle.afdx_arrivals.specs.Counting.{AreFew, IsFew};
 
 use crate::skipped::Skipped;
 use std::fmt;
@@ -53,6 +54,24 @@ impl Counts {
         }
     }
 
+    /// Those of two recordings.
+    #[tactic(auto, unfolding(crate::specs::Counting::skipped_in))]
+    fn plus(&self, other: &Counts) -> Counts
+        requires few { AreFew self.now }
+        requires others { AreFew other.now }
+        ensures { result ≡ spec.plus_counts self.now other.now }
+    {
+        Counts {
+            no_frame: self.no_frame + other.no_frame,
+            left_out: self.left_out + other.left_out,
+            not_afdx: self.not_afdx + other.not_afdx,
+            unknown_sender: self.unknown_sender + other.unknown_sender,
+            no_network: self.no_network + other.no_network,
+            before_origin: self.before_origin + other.before_origin,
+            claimed: self.claimed + other.claimed,
+        }
+    }
+
     /// Counts an arrival, which may be claimed.
     #[tactic(auto, unfolding(crate::specs::Counting::take_one, crate::specs::Counting::skipped_in))]
     pub(crate) fn arrive(&mut self, is_claimed: bool)
@@ -84,6 +103,49 @@ impl fmt::Display for Counts {
             self.unknown_sender,
             self.no_network,
             self.before_origin
+        )
+    }
+}
+
+/// How many numbers a recording has, how many of them were skipped, and how many frames the
+/// recorder lost by its own word, 2^64 - 1 if it is more.
+#[derive(Clone, Copy, Debug, PartialEq, Eq)]
+pub struct Tally {
+    pub numbers: u64,
+    pub counts: Counts,
+    pub lost: u64,
+}
+
+impl Tally {
+    ghost use Rattle.afdx_arrivals.specs.Counting.{plus_tally};
+
+    /// That of two recordings.
+    pub(crate) fn plus(&self, other: &Tally) -> Tally
+        requires numbers { IsFew self.now }
+        requires others { IsFew other.now }
+        ensures { result ≡ plus_tally self.now other.now }
+    {
+        Tally {
+            numbers: self.numbers + other.numbers,
+            counts: self.counts.plus(&other.counts),
+            lost: self.lost.saturating_add(other.lost),
+        }
+    }
+}
+
+/// The counts of a recording in one line: `skipped no-frame 0 left-out 0 ..`. The reasons stand in
+/// their order, then the frames that the recorder lost, and the arrivals that are claimed.
+impl fmt::Display for Tally {
+    ghost use Rattle.std.specs.Prelude.{Some};
+    ghost use Rattle.afdx_arrivals.specs.Words.{skipped_line};
+
+    ghost output = { λ tally. Some (skipped_line tally) };
+
+    fn fmt<W: fmt::Write>(&self, f: &mut fmt::Formatter<W>) -> fmt::Result {
+        write!(
+            f,
+            "skipped {} recorder-lost {} claimed {}",
+            self.counts, self.lost, self.counts.claimed
         )
     }
 }

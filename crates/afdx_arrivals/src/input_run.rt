@@ -11,7 +11,8 @@ ghost use Rattle.afdx_arrivals.specs.InputRun.{InputAnswers, IsAskedFew};
 ghost use Rattle.afdx_arrivals.specs.RecordingRun.{IsAskedOnce, RecordingAnswers};
 
 use crate::becoming::RecordingOptions;
-use crate::recording_run::{Tally, run_recording};
+use crate::counts::Tally;
+use crate::recording_run::run_recording;
 use crate::senders::{SystemPorts, UnsaidPort};
 use afdx_lists::{Heading, Peeked, RunFault, Watched};
 use afdx_recordings::is_recording;

@@ -18,7 +18,7 @@ pub fn arrivals_are_in_order()
     ensures { laws.ArrivalsAreInOrder }
 {}
 
-/// The arrivals of the list that says the same as a recording are those that a run takes of it.
-pub fn lines_are_arrivals()
-    ensures { laws.LinesAreArrivals }
+/// And so it is with those of two recordings that are read at once.
+pub fn arrivals_of_both_are_in_order()
+    ensures { laws.ArrivalsOfBothAreInOrder }
 {}

@@ -1,22 +1,25 @@
 //! A recording is written as the frame list that says the same.
 
-ghost use Rattle.std.specs.Prelude.{◌≡◌, List, ℕ, OnOk, OnErr, IfErr, IfSome, true, false};
+ghost use Rattle.std.specs.Prelude.{◌≡◌, ◌||◌, List, ℕ, OnOk, OnErr, IfErr, IfSome, true, false};
 ghost use Rattle.std.specs.Io.KnownBytes.{Appends};
 ghost use Rattle.afdx_lists.specs.Calls.{AppendsFront, is_failed_read, is_failed_write};
 ghost use Rattle.afdx_lists.specs.Watching.{device_of, has_ended, has_failed};
 ghost use Rattle.afdx_text.specs.Sinks.{IsOfOutput};
 ghost use Rattle.afdx_arrivals.specs.Becoming.{options_of};
-ghost use Rattle.afdx_arrivals.specs.Claims.{ports_of};
+ghost use Rattle.afdx_arrivals.specs.Claims.{ports_of, ports_unsaid};
 ghost use Rattle.afdx_arrivals.specs.ListText as text;
-ghost use Rattle.afdx_arrivals.specs.ListingSource.{lines_of_bytes};
-ghost use Rattle.afdx_arrivals.specs.RecordingRun.{sequence_of_bytes};
-ghost use Rattle.afdx_arrivals.specs.Stopping.{ItemsAnswer};
+ghost use Rattle.afdx_arrivals.specs.ListText.{PairListingAnswers, ListingAnswers};
+ghost use Rattle.afdx_arrivals.specs.RecordingRun.{IfBothKnown};
 
 use crate::becoming::RecordingOptions;
+use crate::counts::Tally;
 use crate::number_line::NumberLine;
+use crate::pair_options::PairOptions;
+use crate::read_pair::read_pair;
 use crate::read_recording::ReadRecording;
-use crate::recording_run::Tally;
-use crate::senders::SystemPorts;
+use crate::senders::{SystemPorts, UnsaidPort};
+use crate::timed_numbers::TimedNumbers;
+use afdx_frame::BySide;
 use afdx_lists::{FrameKind, RunFault, Watched};
 use afdx_run::{Machine, drive};
 use afdx_text::{OutLine, Sink, Text};
@@ -90,6 +93,15 @@ struct Lister {
     scratch: Text,
 }
 
+impl Lister {
+    /// It wrote nothing yet.
+    fn new(alloc: Global) -> Lister {
+        Lister {
+            scratch: Text::new(alloc),
+        }
+    }
+}
+
 impl Machine<NumberLine> for Lister {
     ghost use Rattle.afdx_arrivals.specs.ListText.{WritesLines, WritesSomeLines};
 
@@ -141,21 +153,46 @@ pub fn list_recording<R: Read, O: Sink>(
     // Where the input's bytes are known: what is answered and written for the recording that they
     // are.
     ensures answer { IfSome (R.remaining (device_of input.old)) (λ bytes.
-        ItemsAnswer (sequence_of_bytes (options_of options) (ports_of ports))
-        (lines_of_bytes (options_of options) (ports_of ports))
-        (text.WritesLines (O.written output.old) (O.written output.new))
-        (text.WritesLines (O.written output.old) (O.written output.new))
-        (text.WritesSomeLines (O.written output.old) (O.written output.new))
-        bytes (R.remaining (device_of input.new)) result) }
+        ListingAnswers (options_of options) (ports_of ports) bytes
+        (R.remaining (device_of input.new)) (O.written output.old) (O.written output.new) result) }
 {
-    let mut recording = ReadRecording::new(alloc, options, ports)?;
-    let mut lister = Lister {
-        scratch: Text::new(alloc),
-    };
-    drive(&mut recording, input, &mut lister, output)?;
-    Ok(Tally {
-        numbers: recording.numbers(),
-        counts: recording.counts(),
-        lost: recording.lost(),
-    })
+    let origin = options.origin;
+    let recording = ReadRecording::new(alloc, options, ports)?;
+    let mut lines = TimedNumbers::new(recording, origin);
+    drive(&mut lines, input, &mut Lister::new(alloc), output)?;
+    Ok(lines.numbers.tally())
+}
+
+/// Writes two recordings that are read at once, of network A and of network B, as the frame list
+/// that says the same, and counts what is no arrival of both. The lines stand in the order in which
+/// `run_pair` takes the arrivals; a number that is skipped stands where it is read.
+///
+/// Each line is handed to `output` before the next frame is read. The first fault of either, as it
+/// is found, ends it; the lines before it stand written. `RunFault::Read` and `RunFault::Write`
+/// come exactly where the device of an input, or the output's, failed; none is tried again.
+pub fn list_pair<R: Read, O: Sink>(
+    alloc: Global,
+    options: PairOptions,
+    unsaid: UnsaidPort<'_>,
+    inputs: &mut BySide<Watched<R>>,
+    output: &mut O,
+) -> Result<Tally, RunFault>
+    requires sound_a { has_failed inputs.old.a ≡ false }
+    requires sound_b { has_failed inputs.old.b ≡ false }
+    requires unended_a { has_ended inputs.old.a ≡ false }
+    requires unended_b { has_ended inputs.old.b ≡ false }
+    requires sound_output { O.failed output.old ≡ false }
+    ensures ended { OnOk result (has_ended inputs.new.a ≡ true × has_ended inputs.new.b ≡ true) }
+    ensures read { (has_failed inputs.new.a || has_failed inputs.new.b) ≡ is_failed_read result }
+    ensures write { O.failed output.new ≡ is_failed_write result }
+
+    // Where the bytes of both are known: what is answered and written for the recordings that they
+    // are.
+    ensures answer { IfBothKnown R.remaining inputs.old (λ a b.
+        PairListingAnswers options (ports_unsaid unsaid.entry) R.remaining a b inputs.new
+        (O.written output.old) (O.written output.new) result) }
+{
+    let mut lines = read_pair(alloc, options, unsaid)?;
+    drive(&mut lines, inputs, &mut Lister::new(alloc), output)?;
+    Ok(lines.tally())
 }

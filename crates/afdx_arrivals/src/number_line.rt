@@ -1,6 +1,6 @@
 //! What the list that says the same as a recording has for each number.
 
-ghost use Rattle.std.specs.Prelude.{⊤};
+ghost use Rattle.afdx_arrivals.specs.NumberLines.{LineFollows};
 
 use crate::skipped::Skipped;
 use afdx_frame::Side;
@@ -25,5 +25,5 @@ pub enum NumberLine {
 }
 
 impl Head for NumberLine {
-    ghost can_follow = { λ past line. ⊤ };
+    ghost can_follow = { LineFollows };
 }

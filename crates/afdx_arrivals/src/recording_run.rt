@@ -1,48 +1,26 @@
-//! A run over a recording: a machine tells its arrivals, one by one.
+//! A run over a recording, or over two: a machine tells its arrivals, one by one.
 
-ghost use Rattle.std.specs.Prelude.{◌≡◌, [], IfSome, OnOk, true, false};
+ghost use Rattle.std.specs.Prelude.{◌≡◌, ◌||◌, [], IfSome, OnOk, true, false};
 ghost use Rattle.afdx_lists.specs.Calls.{is_failed_read, is_failed_write};
 ghost use Rattle.afdx_lists.specs.Watching.{calls_of, device_of, has_ended, has_failed};
 ghost use Rattle.afdx_arrivals.specs.Becoming.{options_of};
-ghost use Rattle.afdx_arrivals.specs.Claims.{ports_of};
-ghost use Rattle.afdx_arrivals.specs.RecordingRun.{IsAskedOnce, RecordingAnswers};
+ghost use Rattle.afdx_arrivals.specs.Claims.{ports_of, ports_unsaid};
+ghost use Rattle.afdx_arrivals.specs.RecordingRun.{IfBothKnown, IsAskedOnce, PairAnswers, RecordingAnswers};
 
+use crate::arriving::Arriving;
 use crate::becoming::RecordingOptions;
-use crate::counts::Counts;
+use crate::counts::Tally;
+use crate::pair_options::PairOptions;
+use crate::read_pair::read_pair;
 use crate::read_recording::ReadRecording;
-use crate::senders::SystemPorts;
+use crate::senders::{SystemPorts, UnsaidPort};
+use crate::timed_numbers::TimedNumbers;
+use afdx_frame::BySide;
 use afdx_lists::{Heading, RunFault, Watched};
 use afdx_run::{Machine, drive};
 use afdx_text::Sink;
 use std::alloc::Global;
-use std::fmt;
 use std::io::Read;
-
-/// How many numbers a recording has, how many of them were skipped, and how many frames the
-/// recorder lost by its own word, 2^64 - 1 if it is more.
-#[derive(Clone, Copy, Debug, PartialEq, Eq)]
-pub struct Tally {
-    pub numbers: u64,
-    pub counts: Counts,
-    pub lost: u64,
-}
-
-/// The counts of a recording in one line: `skipped no-frame 0 left-out 0 ..`. The reasons stand in
-/// their order, then the frames that the recorder lost, and the arrivals that are claimed.
-impl fmt::Display for Tally {
-    ghost use Rattle.std.specs.Prelude.{Some};
-    ghost use Rattle.afdx_arrivals.specs.Words.{skipped_line};
-
-    ghost output = { λ tally. Some (skipped_line tally) };
-
-    fn fmt<W: fmt::Write>(&self, f: &mut fmt::Formatter<W>) -> fmt::Result {
-        write!(
-            f,
-            "skipped {} recorder-lost {} claimed {}",
-            self.counts, self.lost, self.counts.claimed
-        )
-    }
-}
 
 /// Lets a machine tell the arrivals of a recording, and counts what is no arrival.
 ///
@@ -80,11 +58,56 @@ pub fn run_recording<R: Read, M: Machine<Heading>, O: Sink>(
         (M.Begins rules machine.new (O.written output.old) (O.written output.new))
         bytes (R.remaining (device_of input.new)) result) }
 {
-    let mut recording = ReadRecording::new(alloc, options, ports)?;
-    drive(&mut recording, input, machine, output)?;
-    Ok(Tally {
-        numbers: recording.numbers(),
-        counts: recording.counts(),
-        lost: recording.lost(),
-    })
+    let origin = options.origin;
+    let recording = ReadRecording::new(alloc, options, ports)?;
+    let mut arrivals = Arriving::new(TimedNumbers::new(recording, origin));
+    drive(&mut arrivals, input, machine, output)?;
+    Ok(arrivals.lines.numbers.tally())
+}
+
+/// Lets a machine tell the arrivals of two recordings that are read at once, of network A and of
+/// network B, and counts what is no arrival.
+///
+/// The heads of both are looked for, that of A first: the earlier arrival is told, that of A where
+/// both have the same moment. The whole text of an arrival is handed to `output` before the next
+/// frame is read. The first fault of either, as it is found, ends the run; the text of the arrivals
+/// before it stands written. `RunFault::Read` and `RunFault::Write` come exactly where the device
+/// of an input, or the output's, failed; none is tried again.
+pub fn run_pair<R: Read, M: Machine<Heading>, O: Sink>(
+    alloc: Global,
+    options: PairOptions,
+    unsaid: UnsaidPort<'_>,
+    machine: &mut M,
+    inputs: &mut BySide<Watched<R>>,
+    output: &mut O,
+) -> Result<Tally, RunFault>
+    requires sound_a { has_failed inputs.old.a ≡ false }
+    requires sound_b { has_failed inputs.old.b ≡ false }
+    requires unended_a { has_ended inputs.old.a ≡ false }
+    requires unended_b { has_ended inputs.old.b ≡ false }
+    requires sound_output { O.failed output.old ≡ false }
+    requires told { (rules : M.Rules) × M.Told rules machine.old
+        (O.written output.old) (O.written output.old) [] }
+    ensures ended { OnOk result (has_ended inputs.new.a ≡ true × has_ended inputs.new.b ≡ true) }
+    ensures read { (has_failed inputs.new.a || has_failed inputs.new.b) ≡ is_failed_read result }
+    ensures write { O.failed output.new ≡ is_failed_write result }
+    ensures calls_a { IsAskedOnce (R.remaining (device_of inputs.old.a))
+        (R.remaining (device_of inputs.new.a)) (calls_of inputs.old.a) (calls_of inputs.new.a) }
+    ensures calls_b { IsAskedOnce (R.remaining (device_of inputs.old.b))
+        (R.remaining (device_of inputs.new.b)) (calls_of inputs.old.b) (calls_of inputs.new.b) }
+
+    // Where the bytes of both are known: what is answered and written for the recordings that they
+    // are.
+    ensures answer { (rules : M.Rules) → M.Told rules machine.old
+        (O.written output.old) (O.written output.old) [] →
+        IfBothKnown R.remaining inputs.old (λ a b.
+        PairAnswers options (ports_unsaid unsaid.entry)
+        (M.Done rules machine.new (O.written output.old) (O.written output.new))
+        (M.Told rules machine.new (O.written output.old) (O.written output.new))
+        (M.Begins rules machine.new (O.written output.old) (O.written output.new))
+        R.remaining a b inputs.new result) }
+{
+    let mut arrivals = Arriving::new(read_pair(alloc, options, unsaid)?);
+    drive(&mut arrivals, inputs, machine, output)?;
+    Ok(arrivals.lines.tally())
 }

@@ -1,5 +1,7 @@
 -- What the lines of the program mean: each list stands in the table beside its type.
-use Rattle.std.specs.Prelude.{ℕ, List, Option, Some, None, codes, map, take, drop}
+use Rattle.std.specs.Prelude.{ℕ, ◌-◌, Bool, ◌||◌, if◌then◌else◌, List, length, Option, Some, None}
+use Rattle.std.specs.Prelude.{codes, map, take, drop}
+use Rattle.std.specs.Str.{bytes_eq}
 use Rattle.afdx_frame.specs.declared.fault.TheConstants.{MAC_FAULTS, IP_FAULTS}
 use Rattle.afdx_police.specs.declared.shape.TheConstants.{REASONS}
 use Rattle.afdx_config.specs.declared.fault.TheConstants.{CONFIG_FAULTS}
@@ -29,9 +31,18 @@ fault line = text_among (map (λ entry. (entry.0.now, entry.1.now)) FAULTS) line
 unfoldable pub run_fault : List ℕ → Option (List ℕ)
 run_fault line = text_among (map (λ entry. (entry.0.now, entry.1.now)) RUN_FAULTS) line
 
+-- ` A` or ` B`, which stands behind a fault of one of two recordings
+abbrev pub is_network : List ℕ → Bool
+is_network word = bytes_eq word (codes " A") || bytes_eq word (codes " B")
+
+-- the line but for the network at its end
+unfoldable pub without_network : List ℕ → List ℕ
+without_network line =
+    if is_network (drop (length line - 2) line) then take (length line - 2) line else line
+
 unfoldable pub recording_fault : List ℕ → Option (List ℕ)
 recording_fault line =
-    text_among (map (λ entry. (entry.0.now, entry.1.now)) RECORDING_FAULTS) line
+    text_among (map (λ entry. (entry.0.now, entry.1.now)) RECORDING_FAULTS) (without_network line)
 
 unfoldable pub config_fault : List ℕ → Option (List ℕ)
 config_fault line =

@@ -45,12 +45,26 @@ fn run_fault(line: &[u8]) -> Option<&'static str>
     text_among(&RUN_FAULTS, line)
 }
 
+/// The line of a fault without the network that stands behind it, where it is that of one of two
+/// recordings.
+#[tactic(auto, unfolding(crate::specs::Explained::without_network))]
+fn without_network(line: &[u8]) -> &[u8]
+    ensures { result.now ≡ spec.without_network line.now }
+{
+    let (fault, network) = line.split_at(line.len().saturating_sub(2));
+    if network == b" A".as_slice() || network == b" B".as_slice() {
+        fault
+    } else {
+        line
+    }
+}
+
 /// What the fault of a recording means.
 #[tactic(auto, unfolding(crate::specs::Explained::recording_fault))]
 fn recording_fault(line: &[u8]) -> Option<&'static str>
     ensures { option_copied result ≡ spec.recording_fault line.now }
 {
-    text_among(&RECORDING_FAULTS, line)
+    text_among(&RECORDING_FAULTS, without_network(line))
 }
 
 /// What the fault of a whole configuration means.

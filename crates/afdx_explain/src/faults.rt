@@ -3,7 +3,7 @@
 use crate::entry::Entry;
 
 /// Faults that come before a command has begun, and the one of 'solve'.
-pub const FAULTS: [Entry; 9] = [
+pub const FAULTS: [Entry; 10] = [
     (
         "words NotText",
         "\
@@ -16,12 +16,18 @@ Give the file another name, or name it by a path that is text.",
 A word of --interface has another form than K=PLACE, or an interface is given twice. K is the
 interface's number as Wireshark shows it, 0 to 4095 in one to four digits; 0 in a pcap. PLACE
 is A or B, the side where its frames came in; A:P or B:P with the switch's port P, 1 to 24; or
-- to leave them out.",
+- to leave them out. Of two recordings each side has its own interface K: K=A and K=B may both
+be given, but K=-, which is for both, stands alone.",
     ),
     (
         "words BadNumber",
         "\
 The number of --origin is over 2^63 - 1. It is the moment that is time 0, in ns since 1970.",
+    ),
+    (
+        "words SameInput",
+        "\
+Both recordings are -, which is standard input. Name one of them by its path.",
     ),
     (
         "words BadRule",

@@ -11,10 +11,13 @@ The list has a fault in the line of this number, counted from 1; empty lines and
 count. What the lines before it gave stands on standard output.",
     ),
     (
-        "recording * n",
+        "\
+recording * n
+recording * n A|B",
         "\
 The recording can't be replayed beyond this place; what the arrivals before it gave stands on
-standard output. Numbers are those of the frames in Wireshark, from 1.",
+standard output. Numbers are those of the frames in Wireshark, from 1. Of two recordings, A or
+B behind the number says which.",
     ),
     (
         "\

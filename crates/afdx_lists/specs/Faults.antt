@@ -1,5 +1,7 @@
 -- The faults of lines and of runs.
 use Rattle.std.specs.Prelude.{ℕ, ◌≡◌, ⊤, List, Option, Some, None, Result, Ok, Err}
+use Rattle.afdx_frame.specs.declared.link.Side.{Side}
+use Rattle.afdx_frame.specs.declared.link.Side.TheVariants.{A, B}
 use Rattle.afdx_lists.specs.declared.fault.LineFault.{LineFault}
 use Rattle.afdx_lists.specs.declared.fault.LineFault.TheVariants.{BadLine, TimeTooLarge, TimeBack}
 use Rattle.afdx_lists.specs.declared.fault.LineFault.TheVariants.{BadPort, BadHex}
@@ -7,6 +9,7 @@ use Rattle.afdx_lists.specs.declared.fault.LineError.{LineError}
 use Rattle.afdx_lists.specs.declared.fault.LineError.TheVariants as line
 use Rattle.afdx_lists.specs.declared.fault.RunFault.{RunFault}
 use Rattle.afdx_lists.specs.declared.fault.RunFault.TheVariants as run
+use Rattle.afdx_lists.specs.declared.recording_fault.RecordingFault.{RecordingFault}
 
 -- a field of digits that write these bytes, or none, wasn't read
 abbrev pub IsBytesError : Option (List ℕ) → LineError → Type 0
@@ -43,3 +46,8 @@ status_of run.Read = 4
 status_of run.Write = 4
 status_of run.Memory = 4
 status_of _ = 3
+
+-- the fault of the recording of this network, of two that are read at once
+abbrev pub fault_of_network : Side → RecordingFault → RunFault
+fault_of_network A fault = run.RecordingOfA fault
+fault_of_network B fault = run.RecordingOfB fault

@@ -1,5 +1,5 @@
 -- What is known of a reader whose first bytes may be looked at.
-use Rattle.std.specs.Prelude.{ℕ, ◌≡◌, Bool, false, List, Option, IfSome, take, slice_range}
+use Rattle.std.specs.Prelude.{ℕ, ◌≡◌, ◌<◌, Bool, true, false, List, Option, IfSome, length, take, slice_range}
 use Rattle.std.specs.Io.KnownBytes.{Keeps, prepend_known}
 use Rattle.afdx_lists.specs.declared.peeked.Peeked.{Peeked}
 use Rattle.afdx_lists.specs.declared.watched.Watched.{Watched}
@@ -26,12 +26,14 @@ has_broken peeked = has_failed peeked.inner
 abbrev pub left_in : {R : Type 0} → (R → Option (List ℕ)) → Peeked R → Option (List ℕ)
 left_in remaining peeked = prepend_known (held peeked) (still_in remaining peeked.inner)
 
--- its first bytes were looked at: it still gives what it gave, the bytes that are held are the
--- first four of that, or all, unless it failed, and for whoever watches it nothing has happened
-pub record HasLooked {R : Type 0} (remaining : R → Option (List ℕ)) (old new : Watched (Peeked R)) :
-    Type 0 where
+-- Its first bytes were looked at: it still gives what it gave, and for whoever watches it nothing
+-- has happened. The bytes that are held are the first four of what it gives, or all; if it failed
+-- before the fourth, which is answered, they are fewer.
+pub record HasLooked {R : Type 0} (remaining : R → Option (List ℕ)) (old new : Watched (Peeked R))
+    (failed : Bool) : Type 0 where
   pub left : Keeps (left_in remaining (device_of old)) (left_in remaining (device_of new))
-  pub first : has_broken (device_of new) ≡ false → IfSome (left_in remaining (device_of old))
+  pub few : failed ≡ true → length (held (device_of new)) < looked_at
+  pub first : failed ≡ false → IfSome (left_in remaining (device_of old))
       (λ bytes. held (device_of new) ≡ take looked_at bytes)
   pub sound : has_failed new ≡ has_failed old
   pub ended : has_ended new ≡ has_ended old

@@ -3,6 +3,7 @@
 ghost use Rattle.std.specs.Prelude.{◌≡◌};
 
 use crate::recording_fault::RecordingFault;
+use afdx_frame::Side;
 use std::alloc::AllocError;
 use thiserror::Error;
 
@@ -71,6 +72,12 @@ pub enum RunFault {
     /// The recording, or a frame of it, has this fault.
     #[error(transparent)]
     Recording(RecordingFault),
+    /// The recording of network A, of two that are read at once, has this fault, or a frame of it.
+    #[error("{0} A")]
+    RecordingOfA(RecordingFault),
+    /// That of network B has it.
+    #[error("{0} B")]
+    RecordingOfB(RecordingFault),
     /// The list or recording could not be read.
     #[error("device Read")]
     Read,
@@ -150,7 +157,17 @@ has a system, two queues of buffer / 64 places of 16 bytes. Replay one list at a
 ];
 
 impl RunFault {
-    ghost use Rattle.afdx_lists.specs.Faults.{status_of};
+    ghost use Rattle.afdx_lists.specs.Faults.{fault_of_network, status_of};
+
+    /// The fault of the recording of this network, of two that are read at once.
+    pub fn of_network(side: Side, fault: RecordingFault) -> RunFault
+        ensures { result ≡ fault_of_network side fault }
+    {
+        match side {
+            Side::A => RunFault::RecordingOfA(fault),
+            Side::B => RunFault::RecordingOfB(fault),
+        }
+    }
 
     /// The exit status of a command that ends with this fault: 3 for a fault of the list or the
     /// recording, 4 for a device or memory.

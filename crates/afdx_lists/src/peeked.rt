@@ -47,14 +47,21 @@ impl<R: Read> Peeked<R> {
         self.inner.into_inner()
     }
 
-    /// Reads its first four bytes, to be looked at. Fewer: it has no more, or failed behind them.
-    pub fn look(&mut self)
+    /// Reads its first four bytes, to be looked at. Fewer: it has no more, or failed behind them,
+    /// which is answered: true.
+    pub fn look(&mut self) -> bool
         requires { is_untouched self.old }
         ensures left { Keeps (left_in R.remaining self.old) (left_in R.remaining self.new) }
-        ensures first { has_broken self.new ≡ false → IfSome (left_in R.remaining self.old)
+        ensures failed { result ≡ true → length (held self.new) < looked_at }
+        ensures first { result ≡ false → IfSome (left_in R.remaining self.old)
             (λ bytes. held self.new ≡ take looked_at bytes) }
     {
-        while self.end < LOOKED_AT && self.look_further() {}
+        while self.end < LOOKED_AT {
+            if !self.look_further() {
+                return self.inner.failed();
+            }
+        }
+        false
     }
 
     /// Reads once, behind what is held. False: there is no more, or it failed.
@@ -65,6 +72,7 @@ impl<R: Read> Peeked<R> {
         ensures seen { length (held self.new) ≡ self.new.end }
         ensures left { Keeps (left_in R.remaining self.old) (left_in R.remaining self.new) }
         ensures more { result ≡ true → self.old.end < self.new.end }
+        ensures none { result ≡ false → self.new.end ≡ self.old.end }
         ensures last { result ≡ false → has_broken self.new ≡ false →
             IsAtEnd (still_in R.remaining self.new.inner) }
     {
@@ -89,12 +97,13 @@ impl<R: Read> Peeked<R> {
 impl<R: Read> Watched<Peeked<R>> {
     ghost use Rattle.afdx_lists.specs.Peeking.{held, is_untouched, HasLooked};
 
-    /// Reads the first four bytes of its reader, to be looked at, as `Peeked::look` does.
-    pub fn look(&mut self)
+    /// Reads the first four bytes of its reader, to be looked at, as `Peeked::look` does. True: it
+    /// failed before the fourth.
+    pub fn look(&mut self) -> bool
         requires { is_untouched (device_of self.old) }
-        ensures { HasLooked R.remaining self.old self.new }
+        ensures { HasLooked R.remaining self.old self.new result }
     {
-        self.inner.look();
+        self.inner.look()
     }
 
     /// The bytes that are to be looked at, and that no read gave as yet.

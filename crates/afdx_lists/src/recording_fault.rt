@@ -54,8 +54,8 @@ pub const RECORDING_FAULTS: [(&str, &str); 12] = [
         "recording NotRecording n",
         "\
 The input isn't a recording: its first four bytes are those of no pcap and no pcapng. The
-option that was given, or the command, needs one. Unpack a compressed recording (gunzip); make
-one of another format by: editcap -F pcapng IN OUT.",
+option that was given, or the command, needs one; two LISTs both have to be recordings. Unpack
+a compressed recording (gunzip); make one of another format by: editcap -F pcapng IN OUT.",
     ),
     (
         "recording BadVersion n",

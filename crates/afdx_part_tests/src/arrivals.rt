@@ -36,6 +36,7 @@ fn options(alloc: Global, said: Said) -> Result<RecordingOptions, AllocError> {
         interfaces,
         fcs,
         origin,
+        network: None,
         are_given: true,
     })
 }
@@ -187,6 +188,24 @@ fn wrong_claim(alloc: Global) -> Option<Answer> {
 #[test]
 fn what_is_said_and_claimed_decides(rt: HostRuntime) -> Result<(), Fail> {
     all_right(wrong_claim(rt.alloc()))
+}
+
+/// The side of a frame of network A in the recording of B, and whether something is claimed.
+fn side_in_b(alloc: Global) -> Result<Option<(Side, bool)>, ConfigFault> {
+    let options = RecordingOptions {
+        network: Some(Side::B),
+        ..RecordingOptions::none(alloc)?
+    };
+    let ports = ports(alloc)?;
+    match seventh(&options, &ports, FRAME, HELLO.as_slice()) {
+        Ok(found) => Ok(Some((found.side, found.is_claimed))),
+        Err(_) => Ok(None),
+    }
+}
+
+#[test]
+fn a_recording_of_a_network_says_the_side(rt: HostRuntime) -> Result<(), Fail> {
+    equal(side_in_b(rt.alloc())?, Some((Side::B, true)))
 }
 
 /// What an arrival ends with, of bytes with a check sequence or without it.

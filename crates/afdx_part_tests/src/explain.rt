@@ -28,6 +28,7 @@ fn lines_are_explained() -> Result<(), Fail> {
         ("config NotToml", "The text isn't TOML"),
         ("list BadHex 12", "An odd number of digits"),
         ("recording Ended 4", "The recording ends within its head"),
+        ("recording Ended 4 B", "The recording ends within its head"),
         ("no A2 3 252", "A2 port needed"),
         ("P 3 16800 20297 252", "P port high low buffer"),
         ("P 3 16800 - 252", "P port high low buffer"),

@@ -123,7 +123,7 @@ fn told(alloc: Global, fault: &RunFault) -> Vec<u8> {
 }
 
 /// Each fault of a run, what is told of it, and its exit status.
-const FAULTS: [(RunFault, &str, u8); 23] = [
+const FAULTS: [(RunFault, &str, u8); 25] = [
     (RunFault::BadLine(20), "list BadLine 20\n", 3),
     (RunFault::BadHex(1), "list BadHex 1\n", 3),
     (RunFault::TimeBack(2), "list TimeBack 2\n", 3),
@@ -194,6 +194,16 @@ const FAULTS: [(RunFault, &str, u8); 23] = [
     (
         RunFault::Recording(RecordingFault::TimeTooLarge(u64::MAX)),
         "recording TimeTooLarge 18446744073709551615\n",
+        3,
+    ),
+    (
+        RunFault::RecordingOfA(RecordingFault::Cut(8)),
+        "recording Cut 8 A\n",
+        3,
+    ),
+    (
+        RunFault::RecordingOfB(RecordingFault::NotRecording(0)),
+        "recording NotRecording 0 B\n",
         3,
     ),
     (RunFault::Read, "device Read\n", 4),

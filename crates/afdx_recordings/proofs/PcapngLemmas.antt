@@ -84,6 +84,10 @@ TellsBlock-meant (Err (run.TimeTooLarge n)) old new before after item head given
     absurd meant
 TellsBlock-meant (Err (run.BadPort n)) old new before after item head given h k gives few told least within rest meant =
     absurd meant
+TellsBlock-meant (Err (run.RecordingOfA n)) old new before after item head given h k gives few told least within rest meant =
+    absurd meant
+TellsBlock-meant (Err (run.RecordingOfB n)) old new before after item head given h k gives few told least within rest meant =
+    absurd meant
 TellsBlock-meant (Err (run.LineTooLong n)) old new before after item head given h k gives few told least within rest meant =
     absurd meant
 TellsBlock-meant (Err run.TooManyLines) old new before after item head given h k gives few told least within rest meant =
@@ -235,5 +239,7 @@ Meant-not_read meaning (Err (run.BadHex n)) after item meant = refl
 Meant-not_read meaning (Err (run.TimeBack n)) after item meant = refl
 Meant-not_read meaning (Err (run.TimeTooLarge n)) after item meant = refl
 Meant-not_read meaning (Err (run.BadPort n)) after item meant = refl
+Meant-not_read meaning (Err (run.RecordingOfA n)) after item meant = refl
+Meant-not_read meaning (Err (run.RecordingOfB n)) after item meant = refl
 Meant-not_read meaning (Err (run.LineTooLong n)) after item meant = refl
 Meant-not_read meaning (Err run.TooManyLines) after item meant = refl

@@ -123,7 +123,8 @@ by_length n (Some more) meaning k bytes =
     with_first (n + more) bytes k (λ whole. by_meaning (n + more) (meaning whole))
 
 -- what stands next: nothing, or a head of n bytes which tells how many follow it, and then those
-unfoldable pub next_block : ℕ → (List ℕ → Option ℕ) → (List ℕ → Meaning) → ℕ → List ℕ → Step
+unfoldable pub next_block : (head : ℕ) → (following : List ℕ → Option ℕ) →
+    (meaning : List ℕ → Meaning) → (numbers : ℕ) → List ℕ → Step
 next_block n following meaning k bytes =
     if length bytes == 0 then Ends Over
     else with_first n bytes k (λ head. by_length n (following head) meaning k bytes)

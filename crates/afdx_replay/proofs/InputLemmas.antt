@@ -12,18 +12,20 @@ use Rattle.afdx_police.specs.declared.account.LinkAccount.{LinkAccount}
 use Rattle.afdx_run.specs.Stops.{StopsAt}
 use Rattle.afdx_arrivals.specs.Becoming.{Options}
 use Rattle.afdx_arrivals.specs.Claims.{Ports, ports_of_senders, one_port}
-use Rattle.afdx_arrivals.specs.RecordingRun.{IsOver, sequence_of_bytes, arrivals_in}
+use Rattle.afdx_arrivals.specs.Taking.{Taken, arrivals_in, taken_of_bytes}
+use Rattle.afdx_arrivals.specs.TakenRun.{IsOver}
 use Rattle.afdx_arrivals.specs.declared.input_run.InputCount.{InputCount}
 use Rattle.afdx_arrivals.specs.declared.input_run.InputCount.TheVariants as count
-use Rattle.afdx_arrivals.specs.declared.recording_run.Tally.{Tally}
+use Rattle.afdx_arrivals.specs.declared.counts.Tally.{Tally}
 use Rattle.afdx_arrivals.proofs.InputSaysLemmas.{StopsInput, IsTold, if-more}
 use Rattle.afdx_replay.specs.Inputs.{counted_over, summary_of}
 use Rattle.afdx_replay.specs.policing.Input as police
 use Rattle.afdx_replay.specs.policing.Policed.{WritesText, WritesBeginning}
 use Rattle.afdx_replay.specs.policing.Told as police_told
 use Rattle.afdx_replay.specs.replaying.Early.{TellsEarly, TellsMost}
-use Rattle.afdx_replay.specs.replaying.Input.{AnswersInput, ExplainsInput}
+use Rattle.afdx_replay.specs.replaying.Input.{AnswersInput, ExplainsInput, taken_of}
 use Rattle.afdx_replay.specs.replaying.Replayed.{Known, WritesSoFar, WritesSome, ToldAll}
+use Rattle.afdx_replay.specs.replaying.Taken.{WritesRecorded}
 use Rattle.afdx_replay.specs.replaying.Text.{replay_counts}
 use Rattle.afdx_replay.specs.declared.summary.Summary.{Summary}
 use Rattle.afdx_replay.proofs.ReplayLemmas.{told-done}
@@ -31,6 +33,18 @@ use Rattle.afdx_replay.proofs.ToldLemmas as police_lemmas
 use Rattle.afdx_replay.proofs.EarlyLemmas.{done-told}
 
 -- ---- a replay
+
+-- all that there is was taken, of recordings
+pub recorded-whole : (t : Rows) (old new : Known) (counts : Summary) (tally : Tally) (whole : Taken)
+    → IsOver whole (ToldAll t counts old new) tally
+    → WritesRecorded t whole old new (summary_of counts (count.Recorded tally))
+recorded-whole t old new counts tally whole h = record {
+  sound = h.over;
+  written = h.are_told.written;
+  counted = ap (λ (c : Summary). counted_over c tally.numbers) h.are_told.counted
+      ∙ ap (λ (y : Tally). counted_over (replay_counts t (events_of t (arrivals_in whole))) y.numbers) h.tally_is;
+  tallied = ap Some h.tally_is;
+}
 
 module _ (options : Options) (t : Rows) (old new : Known) where
   abbrev From : Ports
@@ -44,18 +58,6 @@ module _ (options : Options) (t : Rows) (old new : Known) where
       if-more left (λ bytes. StopsAt (WritesSoFar t old new) (WritesSome t old new) bytes rest fault)
       (λ bytes. AnswersInput false options t bytes rest old new (Err fault)) (λ bytes s. (s, refl)) h
 
-  recorded-whole : (counts : Summary) (tally : Tally) (bytes : List ℕ) (rest : Option (List ℕ))
-      → IsOver options From (ToldAll t counts old new) bytes tally
-      → AnswersInput true options t bytes rest old new (Ok (summary_of counts (count.Recorded tally)))
-  recorded-whole counts tally bytes rest h = record {
-    sound = h.over;
-    written = h.are_told.written;
-    counted = ap (λ (c : Summary). counted_over c tally.numbers) h.are_told.counted
-        ∙ ap (λ (y : Tally). counted_over (replay_counts t
-        (events_of t (arrivals_in (sequence_of_bytes options From bytes)))) y.numbers) h.tally_is;
-    tallied = ap Some h.tally_is;
-  }
-
   nothing : (left : Option (List ℕ)) (P : List ℕ → Type 0) → IfSome left (λ bytes. ⊥) → IfSome left P
   nothing None P h = tt
   nothing (Some bytes) P h = absurd h
@@ -64,9 +66,9 @@ module _ (options : Options) (t : Rows) (old new : Known) where
       → IfSome left (λ bytes. IsTold b options From (ToldAll t counts old new) bytes n)
       → IfSome left (λ bytes. AnswersInput b options t bytes rest old new (Ok (summary_of counts n)))
   replay-ok true counts left rest (count.Recorded tally) h =
-      if-more left (λ bytes. IsOver options From (ToldAll t counts old new) bytes tally)
+      if-more left (λ bytes. IsOver (taken_of options t bytes) (ToldAll t counts old new) tally)
       (λ bytes. AnswersInput true options t bytes rest old new (Ok (summary_of counts (count.Recorded tally))))
-      (λ bytes k. recorded-whole counts tally bytes rest k) h
+      (λ bytes k. recorded-whole t old new counts tally (taken_of options t bytes) k) h
   replay-ok true counts left rest (count.Lines n) h =
       nothing left (λ bytes. AnswersInput true options t bytes rest old new (Ok (summary_of counts (count.Lines n)))) h
   replay-ok false counts left rest (count.Recorded tally) h =
@@ -99,7 +101,7 @@ module _ {D : Type 0} (contents : D → Option (List ℕ)) (options : Options) (
       → IfSome left (λ bytes. IsTold b options Senders (TellsEarly contents t old new) bytes n)
       → IfSome left (λ bytes. ExplainsInput contents b options t bytes rest old new (Ok (summary_of counts n)))
   explain-ok true counts left rest (count.Recorded tally) h =
-      if-more left (λ bytes. IsOver options Senders (TellsEarly contents t old new) bytes tally)
+      if-more left (λ bytes. IsOver (taken_of options t bytes) (TellsEarly contents t old new) tally)
       (λ bytes. ExplainsInput contents true options t bytes rest old new
       (Ok (summary_of counts (count.Recorded tally)))) (λ bytes k. k.are_told) h
   explain-ok true counts left rest (count.Lines n) h =
@@ -142,15 +144,13 @@ module _ (options : Options) (rule : Rule) (old new : Known) where
         ≡ record Counts { lines = n; accepted = b; dropped = d }
     count-of numbers n a b c d x y z = rw (x, y, z) refl
 
-    recorded-policed : (tally : Tally) (bytes : List ℕ) (rest : Option (List ℕ))
-        → IsOver options (one_port rule.port) Told bytes tally
-        → police.AnswersInput true options rule bytes rest old new (Ok (summary_of Counts (count.Recorded tally)))
-    recorded-policed tally bytes rest h = record {
+    recorded-policed : (tally : Tally) (whole : Taken) → IsOver whole Told tally
+        → police.WritesRecorded rule whole old new (summary_of Counts (count.Recorded tally))
+    recorded-policed tally whole h = record {
       sound = h.over;
       written = h.are_told.written;
-      counted = count-of tally.numbers (sequence_of_bytes options (one_port rule.port) bytes).sorted.numbers
-          accepted _ dropped _ (ap (λ (y : Tally). y.numbers) h.tally_is) h.are_told.accepted_is
-          h.are_told.dropped_is;
+      counted = count-of tally.numbers whole.tally.numbers accepted _ dropped _
+          (ap (λ (y : Tally). y.numbers) h.tally_is) h.are_told.accepted_is h.are_told.dropped_is;
       tallied = ap Some h.tally_is;
     }
 
@@ -163,9 +163,10 @@ module _ (options : Options) (rule : Rule) (old new : Known) where
         (police_told.HasTold rule accounts accepted dropped old new) bytes n)
         → IfSome left (λ bytes. police.AnswersInput b options rule bytes rest old new (Ok (summary_of Counts n)))
     police-ok true left rest (count.Recorded tally) h =
-        if-more left (λ bytes. IsOver options (one_port rule.port) Told bytes tally)
+        if-more left (λ bytes. IsOver (taken_of_bytes options (one_port rule.port) bytes) Told tally)
         (λ bytes. police.AnswersInput true options rule bytes rest old new
-        (Ok (summary_of Counts (count.Recorded tally)))) (λ bytes k. recorded-policed tally bytes rest k) h
+        (Ok (summary_of Counts (count.Recorded tally))))
+        (λ bytes k. recorded-policed tally (taken_of_bytes options (one_port rule.port) bytes) k) h
     police-ok true left rest (count.Lines n) h =
         absent left (λ bytes. police.AnswersInput true options rule bytes rest old new
         (Ok (summary_of Counts (count.Lines n)))) h

@@ -1,14 +1,17 @@
--- Before an input is read: memory ran out, or its first bytes were looked at.
-use Rattle.std.proofs.Common.{◌≡◌, ℕ, List, [], append-nil, Option, Some, None, Result, Ok, Err, IfSome, true, false, Bool, refl, sym, subst, arith, inl}
+-- Before an input, or two, are read: memory ran out, or the first bytes were looked at.
+use Rattle.std.proofs.Common.{◌≡◌, ◌<◌, ◌||◌, ℕ, List, [], length, take, append-nil, Option, Some, None, Result, Ok, Err, IfSome, true, false, Bool, refl, sym, ap, ◌∙◌, subst, arith, inl}
+use Rattle.std.proofs.lemmas.Bool.Decides.{nat_tests}
 use Rattle.std.proofs.KnownBytes.{Appends-nil}
 use Rattle.std.specs.Io.KnownBytes.{Keeps}
 use Rattle.afdx_config.specs.Admission.{IsAdmitted}
 use Rattle.afdx_config.specs.Lawful.{IsLawful}
 use Rattle.afdx_config.specs.Reading.{Spells}
 use Rattle.afdx_config.specs.Rows.{Rows}
-use Rattle.afdx_lists.specs.Peeking.{HasLooked}
+use Rattle.afdx_frame.specs.declared.by_side.BySide.{BySide}
+use Rattle.afdx_lists.specs.Peeking.{HasLooked, held, looked_at}
 use Rattle.afdx_lists.specs.Calls.{is_failed_read, is_failed_write}
-use Rattle.afdx_lists.specs.Watching.{calls_of, has_ended, has_failed}
+use Rattle.afdx_lists.specs.Watching.{calls_of, device_of}
+use Rattle.afdx_recordings.specs.Beginning.{is_recording}
 use Rattle.afdx_text.specs.Telling.{TellsLine}
 use Rattle.std.specs.Prelude.{OnOk, OnErr}
 use Rattle.std.specs.Result.{result_ok}
@@ -23,21 +26,29 @@ use Rattle.afdx_run.specs.Listed.{frames}
 use Rattle.afdx_run.proofs.RunLemmas.{stops-at-start}
 use Rattle.afdx_arrivals.specs.declared.becoming.RecordingOptions.{RecordingOptions}
 use Rattle.afdx_arrivals.specs.Becoming.{Options, options_of}
-use Rattle.afdx_arrivals.specs.Claims.{Ports, ports_of_senders}
-use Rattle.afdx_arrivals.specs.InputRun.{IsAskedFew}
-use Rattle.afdx_arrivals.specs.RecordingRun.{FirstAreTold, IsAskedOnce, arrivals_in, sequence_of_bytes}
+use Rattle.afdx_arrivals.specs.NumberLines.{Lines}
+use Rattle.afdx_arrivals.specs.InputRun.{is_recorded, IsAskedFew}
+use Rattle.afdx_arrivals.specs.RecordingRun.{IfBoth, IsAskedOnce}
+use Rattle.afdx_arrivals.specs.Taking.{Taken, arrivals_in}
+use Rattle.afdx_arrivals.specs.TakenRun.{FirstAreTold}
+use Rattle.afdx_arrivals.specs.declared.pair_options.PairOptions.{PairOptions}
 use Rattle.afdx_arrivals.proofs.RecordingRunLemmas.{unasked}
 use Rattle.afdx_replay.specs.replaying.Early.{TellsEarly, TellsMost}
-use Rattle.afdx_replay.specs.replaying.Input.{AnswersInput, ExplainsInput}
-use Rattle.afdx_replay.specs.Commands.{EndsAs, status_of_answer}
+use Rattle.afdx_replay.specs.replaying.Input.{AnswersInput, ExplainsInput, are_cut_of, taken_of}
+use Rattle.afdx_replay.specs.Commands.{EndsWith, status_of_answer}
 use Rattle.afdx_replay.specs.Inputs.{summary_in}
 use Rattle.afdx_replay.specs.policing.Input as police
-use Rattle.afdx_replay.specs.replaying.InputCommand.{is_read_recorded, left_of, ReplaysInput}
+use Rattle.afdx_replay.specs.replaying.InputCommand.{is_decided_recorded, is_read_recorded, left_of, ReplaysInput}
+use Rattle.afdx_replay.specs.replaying.Pair as pair
+use Rattle.afdx_replay.specs.replaying.Pair.{AnswersPair, ExplainsPair}
+use Rattle.afdx_replay.specs.replaying.PairCommand.{IfBothOf, IsAskedOnceFor, ReplaysPair}
 use Rattle.afdx_replay.specs.replaying.Replayed.{Known, WritesSome}
+use Rattle.afdx_replay.specs.replaying.Taken.{AnswersTaken, ExplainsTaken}
 use Rattle.afdx_replay.specs.declared.ending.Ended.{Ended}
 use Rattle.afdx_replay.specs.declared.summary.InputSummary.{InputSummary}
 use Rattle.afdx_replay.proofs.InputLemmas.{if-kept}
-use Rattle.afdx_replay.proofs.PromisedInputLemmas.{if-promised}
+use Rattle.afdx_replay.proofs.PairLemmas.{of-both}
+use Rattle.afdx_replay.proofs.PromisedInputLemmas.{if-both-promised, if-promised}
 use Rattle.afdx_replay.specs.replaying.Text.{replay_text}
 use Rattle.afdx_replay.proofs.EarlyLemmas.{early-start}
 use Rattle.afdx_replay.proofs.ReplayLemmas.{stops-start}
@@ -47,21 +58,29 @@ unasked-few true left calls = unasked left calls
 unasked-few false left calls = omega arith
 
 -- of no arrivals
-none-told : (options : Options) (ports : Ports) (told : List Arrival → Type 0) (bytes : List ℕ) → told []
-    → FirstAreTold options ports told bytes
-none-told options ports told bytes h = record {
+none-told : (whole : Taken) (told : List Arrival → Type 0) → told [] → FirstAreTold whole told
+none-told whole told h = record {
   past = [];
-  later = arrivals_in (sequence_of_bytes options ports bytes);
-  whole = sym (append-nil (arrivals_in (sequence_of_bytes options ports bytes)));
+  later = arrivals_in whole;
+  parts = sym (append-nil (arrivals_in whole));
   are_told = h;
 }
+
+module _ (t : Rows) (whole : Taken) (AreCut : Lines → Type 0) where
+  start-taken : (output : Known) → AnswersTaken t whole AreCut output output (Err run.Memory)
+  start-taken output =
+      none-told whole (WritesSome t output output) ([], replay_text t (events_of t []), refl, Appends-nil output)
+
+  start-told : {D : Type 0} (contents : D → Option (List ℕ)) (drops : Watched D)
+      → ExplainsTaken t whole AreCut contents drops drops (Err run.Memory)
+  start-told contents drops =
+      none-told whole (TellsMost contents t drops drops) (inl (early-start contents t drops))
 
 pub start-input : (options : Options) (t : Rows) (b : Bool) (left output : Known)
     → IfSome left (λ bytes. AnswersInput b options t bytes left output output (Err run.Memory))
 start-input options t b None output = tt
 start-input options t true (Some bytes) output =
-    none-told options (ports_of_senders t.systems) (WritesSome t output output) bytes
-    ([], replay_text t (events_of t []), refl, Appends-nil output)
+    start-taken t (taken_of options t bytes) (are_cut_of options t bytes (Some bytes)) output
 start-input options t false (Some bytes) output = (stops-start t (Some bytes) output, refl)
 
 pub start-explained : {D : Type 0} (contents : D → Option (List ℕ)) (options : Options) (t : Rows) (drops : Watched D)
@@ -69,21 +88,36 @@ pub start-explained : {D : Type 0} (contents : D → Option (List ℕ)) (options
     → IfSome left (λ bytes. ExplainsInput contents b options t bytes left drops drops (Err run.Memory))
 start-explained contents options t drops b None = tt
 start-explained contents options t drops true (Some bytes) =
-    none-told options (ports_of_senders t.systems) (TellsMost contents t drops drops) bytes
-    (inl (early-start contents t drops))
+    start-told t (taken_of options t bytes) (are_cut_of options t bytes (Some bytes)) contents drops
 start-explained contents options t drops false (Some bytes) =
     stops-at-start frames (TellsEarly contents t drops drops) (TellsMost contents t drops drops) (Some bytes)
     (inl (early-start contents t drops))
 
+-- the same of two
+module _ {R : Type 0} (remaining : R → Option (List ℕ)) (options : PairOptions) (t : Rows) (inputs : BySide (Watched R))
+  where
+    pub start-pair : (a b output : Known)
+        → IfBoth a b (λ a b. AnswersPair remaining options t a b inputs output output (Err run.Memory))
+    start-pair a b output =
+        of-both a b (λ a b. AnswersPair remaining options t a b inputs output output (Err run.Memory))
+        (λ a b. start-taken t (pair.taken_of options t a b) (pair.are_cut_of remaining options t a b inputs) output)
+
+    pub start-pair-explained : {D : Type 0} (contents : D → Option (List ℕ)) (drops : Watched D) (a b : Known)
+        → IfBoth a b (λ a b. ExplainsPair remaining options t a b inputs contents drops drops (Err run.Memory))
+    start-pair-explained contents drops a b =
+        of-both a b (λ a b. ExplainsPair remaining options t a b inputs contents drops drops (Err run.Memory))
+        (λ a b. start-told t (pair.taken_of options t a b) (pair.are_cut_of remaining options t a b inputs)
+        contents drops)
+
 -- ---- a command ends as its run answered
 
-pub ends-in : {R E : Type 0} (error_bytes : E → Option (List ℕ)) (input : Watched R) (failed : Bool)
+pub ends-in : {E : Type 0} (error_bytes : E → Option (List ℕ)) (all_read : Type 0) (input_failed failed : Bool)
     (old new : Watched E) (ended : Ended) (r : Result InputSummary RunFault)
     → ended.status ≡ status_of_answer (summary_in r) → ended.summary ≡ result_ok (summary_in r)
     → OnErr (summary_in r) (TellsLine error_bytes old new) → OnOk (summary_in r) (new ≡ old)
-    → OnOk r (has_ended input ≡ true) → has_failed input ≡ is_failed_read r → failed ≡ is_failed_write r
-    → EndsAs error_bytes input failed old new ended (summary_in r)
-ends-in error_bytes input failed old new ended (Ok all) a b c d e f g = record {
+    → OnOk r all_read → input_failed ≡ is_failed_read r → failed ≡ is_failed_write r
+    → EndsWith error_bytes all_read input_failed failed old new ended (summary_in r)
+ends-in error_bytes all_read input_failed failed old new ended (Ok all) a b c d e f g = record {
   status_is = a;
   summary_is = b;
   told = c;
@@ -92,7 +126,7 @@ ends-in error_bytes input failed old new ended (Ok all) a b c d e f g = record {
   read = f;
   write = g;
 }
-ends-in error_bytes input failed old new ended (Err fault) a b c d e f g = record {
+ends-in error_bytes all_read input_failed failed old new ended (Err fault) a b c d e f g = record {
   status_is = a;
   summary_is = b;
   told = c;
@@ -113,65 +147,119 @@ asked-kept true (Some bytes) (Some same) rest old between new k e h =
     (subst (λ (n : ℕ). IsAskedOnce (Some same) rest n new) e h)
 asked-kept false left looked rest old between new k e h = omega (arith, e, h)
 
--- a command that ends as its run answered, of which the first bytes were looked at
-module _ {R : Type 0} (remaining : R → Option (List ℕ)) (config : List ℕ) (admission : Bool)
-    (options : RecordingOptions) (input looked rest : Watched (Peeked R)) (h : HasLooked remaining input looked) where
-  -- with whatever else is true of what was looked at, and of the tables
-  pub replays-looked-with : (more : Watched (Peeked R) → Rows → Type 0) (old new : Known)
-      (answer : Result InputSummary RunFault) (t : Rows) → Spells config t
-      → (admission ≡ true → IsAdmitted t) → IsLawful t
-      → IsAskedFew (is_read_recorded options looked) (left_of remaining looked) (left_of remaining rest)
-      (calls_of looked) (calls_of rest)
-      → IfSome (left_of remaining looked) (λ bytes. AnswersInput (is_read_recorded options looked)
-      (options_of options) t bytes (left_of remaining rest) old new answer)
-      → more looked t
-      → (r : ReplaysInput remaining config admission options input rest old new answer) × more r.looked r.tables
-  replays-looked-with more old new answer t spelled admitted lawful asked answers also =
-      let is = is_read_recorded options looked in
-      let kept = if-kept (left_of remaining input) (left_of remaining looked) (λ bytes.
-      AnswersInput is (options_of options) t bytes (left_of remaining rest) old new answer) h.left answers in (
-        record {
-          tables = t;
-          spelled = spelled;
-          admitted = admitted;
-          looked = looked;
-          has_looked = h;
-          calls = asked-kept is (left_of remaining input) (left_of remaining looked) (left_of remaining rest)
-              (calls_of input) (calls_of looked) (calls_of rest) h.left h.calls asked;
-          answers = kept;
-          promised = λ asks. if-promised (options_of options) t lawful (admitted asks) is (left_of remaining input)
-              (left_of remaining rest) old new answer kept;
-        },
-        also,
-      )
+-- what is held decides as the bytes do, unless the look failed: then it is too short to begin as a
+-- recording
+too-short : (seen : List ℕ) → length seen < looked_at → is_recording seen ≡ false
+unfolding is_recording
+too-short seen few = grind (arith, nat_tests, few)
 
-  pub replays-looked : (old new : Known) (answer : Result InputSummary RunFault) (t : Rows) → Spells config t
-      → (admission ≡ true → IsAdmitted t) → IsLawful t
-      → IsAskedFew (is_read_recorded options looked) (left_of remaining looked) (left_of remaining rest)
-      (calls_of looked) (calls_of rest)
-      → IfSome (left_of remaining looked) (λ bytes. AnswersInput (is_read_recorded options looked)
-      (options_of options) t bytes (left_of remaining rest) old new answer)
-      → ReplaysInput remaining config admission options input rest old new answer
-  replays-looked old new answer t spelled admitted lawful asked answers =
-      (replays-looked-with (λ looked t. Unit {0}) old new answer t spelled admitted lawful asked answers tt).0
+decided-by : (options : RecordingOptions) (failed : Bool) (left : Option (List ℕ)) (seen : List ℕ)
+    → (failed ≡ true → length seen < looked_at)
+    → (failed ≡ false → IfSome left (λ bytes. seen ≡ take looked_at bytes))
+    → IfSome left (λ bytes. is_recorded options seen ≡ is_decided_recorded options failed bytes)
+decided-by options failed None seen few first = tt
+decided-by options true (Some bytes) seen few first =
+    ap (λ (x : Bool). options.are_given || x) (too-short seen (few refl))
+decided-by options false (Some bytes) seen few first =
+    ap (λ (xs : List ℕ). options.are_given || is_recording xs) (first refl)
 
--- the same of a run that polices one link
+-- a command that ends as its run answered, of which the first bytes were looked at, which it says
+-- failed or didn't
 module _ {R : Type 0} (remaining : R → Option (List ℕ)) (options : RecordingOptions)
-    (input looked rest : Watched (Peeked R)) (h : HasLooked remaining input looked) where
+    (input looked rest : Watched (Peeked R)) (failed : Bool) (h : HasLooked remaining input looked failed)
+    (said : Bool) (is_said : said ≡ failed) where
+  abbrev Is : Bool
+  Is = is_read_recorded options looked
+
+  abbrev Left : Known
+  Left = left_of remaining input
+
+  decided : IfSome Left (λ bytes. Is ≡ is_decided_recorded options said bytes)
+  decided =
+      decided-by options said Left (held (device_of looked)) (λ e. h.few (sym is_said ∙ e))
+      (λ e. h.first (sym is_said ∙ e))
+
+  module _ (config : List ℕ) (admission : Bool) where
+    -- with whatever else is true of whether it is a recording, and of the tables
+    pub replays-looked-with : (more : Bool → Rows → Type 0) (old new : Known)
+        (answer : Result InputSummary RunFault) (t : Rows) → Spells config t
+        → (admission ≡ true → IsAdmitted t) → IsLawful t
+        → IsAskedFew Is (left_of remaining looked) (left_of remaining rest) (calls_of looked) (calls_of rest)
+        → IfSome (left_of remaining looked) (λ bytes. AnswersInput Is (options_of options) t bytes
+        (left_of remaining rest) old new answer)
+        → more Is t
+        → (r : ReplaysInput remaining config admission options said input rest old new answer)
+        × more r.recorded r.tables
+    replays-looked-with more old new answer t spelled admitted lawful asked answers also =
+        let kept = if-kept Left (left_of remaining looked) (λ bytes.
+        AnswersInput Is (options_of options) t bytes (left_of remaining rest) old new answer) h.left answers in (
+          record {
+            tables = t;
+            spelled = spelled;
+            admitted = admitted;
+            recorded = Is;
+            decided = decided;
+            calls = asked-kept Is Left (left_of remaining looked) (left_of remaining rest)
+                (calls_of input) (calls_of looked) (calls_of rest) h.left h.calls asked;
+            answers = kept;
+            promised = λ asks. if-promised t lawful (admitted asks) (options_of options) Is Left
+                (left_of remaining rest) old new answer kept;
+          },
+          also,
+        )
+
+    pub replays-looked : (old new : Known) (answer : Result InputSummary RunFault) (t : Rows) → Spells config t
+        → (admission ≡ true → IsAdmitted t) → IsLawful t
+        → IsAskedFew Is (left_of remaining looked) (left_of remaining rest) (calls_of looked) (calls_of rest)
+        → IfSome (left_of remaining looked) (λ bytes. AnswersInput Is (options_of options) t bytes
+        (left_of remaining rest) old new answer)
+        → ReplaysInput remaining config admission options said input rest old new answer
+    replays-looked old new answer t spelled admitted lawful asked answers =
+        (replays-looked-with (λ recorded t. Unit {0}) old new answer t spelled admitted lawful asked answers tt).0
+
+  -- the same of a run that polices one link
   pub polices-looked : (rule : Rule) (old new : Known) (answer : Result InputSummary RunFault)
-      → IsAskedFew (is_read_recorded options looked) (left_of remaining looked) (left_of remaining rest)
-      (calls_of looked) (calls_of rest)
-      → IfSome (left_of remaining looked) (λ bytes. police.AnswersInput (is_read_recorded options looked)
-      (options_of options) rule bytes (left_of remaining rest) old new answer)
-      → police.PolicesInput remaining rule options input rest old new answer
-  polices-looked rule old new answer asked answers =
-      let is = is_read_recorded options looked in
-      record {
-        looked = looked;
-        has_looked = h;
-        calls = asked-kept is (left_of remaining input) (left_of remaining looked) (left_of remaining rest)
-            (calls_of input) (calls_of looked) (calls_of rest) h.left h.calls asked;
-        answers = if-kept (left_of remaining input) (left_of remaining looked) (λ bytes.
-            police.AnswersInput is (options_of options) rule bytes (left_of remaining rest) old new answer)
-            h.left answers;
-      }
+      → IsAskedFew Is (left_of remaining looked) (left_of remaining rest) (calls_of looked) (calls_of rest)
+      → IfSome (left_of remaining looked) (λ bytes. police.AnswersInput Is (options_of options) rule bytes
+      (left_of remaining rest) old new answer)
+      → police.PolicesInput remaining rule options said input rest old new answer
+  polices-looked rule old new answer asked answers = record {
+    recorded = Is;
+    decided = decided;
+    calls = asked-kept Is Left (left_of remaining looked) (left_of remaining rest)
+        (calls_of input) (calls_of looked) (calls_of rest) h.left h.calls asked;
+    answers = if-kept Left (left_of remaining looked) (λ bytes.
+        police.AnswersInput Is (options_of options) rule bytes (left_of remaining rest) old new answer)
+        h.left answers;
+  }
+
+-- of two, of which nothing is looked at
+module _ {R : Type 0} (remaining : R → Option (List ℕ)) (config : List ℕ) (admission : Bool)
+    (options : PairOptions) (inputs rest : BySide (Watched R)) where
+  pub replays-pair-with : (more : Rows → Type 0) (old new : Known) (answer : Result InputSummary RunFault) (t : Rows)
+      → Spells config t → (admission ≡ true → IsAdmitted t) → IsLawful t
+      → IsAskedOnceFor remaining inputs.a rest.a → IsAskedOnceFor remaining inputs.b rest.b
+      → IfBothOf remaining inputs (λ a b. AnswersPair remaining options t a b rest old new answer)
+      → more t
+      → (r : ReplaysPair remaining config admission options inputs rest old new answer) × more r.tables
+  replays-pair-with more old new answer t spelled admitted lawful asked_a asked_b answers also = (
+    record {
+      tables = t;
+      spelled = spelled;
+      admitted = admitted;
+      calls_a = asked_a;
+      calls_b = asked_b;
+      answers = answers;
+      promised = λ asks. if-both-promised t lawful (admitted asks) remaining options rest
+          (remaining (device_of inputs.a)) (remaining (device_of inputs.b)) old new answer answers;
+    },
+    also,
+  )
+
+  pub replays-pair : (old new : Known) (answer : Result InputSummary RunFault) (t : Rows)
+      → Spells config t → (admission ≡ true → IsAdmitted t) → IsLawful t
+      → IsAskedOnceFor remaining inputs.a rest.a → IsAskedOnceFor remaining inputs.b rest.b
+      → IfBothOf remaining inputs (λ a b. AnswersPair remaining options t a b rest old new answer)
+      → ReplaysPair remaining config admission options inputs rest old new answer
+  replays-pair old new answer t spelled admitted lawful asked_a asked_b answers =
+      (replays-pair-with (λ t. Unit {0}) old new answer t spelled admitted lawful asked_a asked_b answers tt).0

@@ -23,6 +23,7 @@ mod SentArrivalLemmas
 mod MergedLemmas
 mod OneRunLemmas
 mod InputLemmas
+mod PairLemmas
 mod PromisedInputLemmas
 mod InputStartLemmas
 mod ListingLemmas

@@ -1,43 +1,33 @@
 -- What a listing answers in the tables of a configuration.
-use Rattle.std.proofs.Common.{◌≡◌, ℕ, List, [], append-nil, refl, sym, inl}
-use Rattle.std.proofs.Common.{Option, Some, None, Result, Ok, Err, IfSome}
-use Rattle.afdx_config.specs.Rows.{Rows}
+use Rattle.std.proofs.Common.{ℕ, List, refl, Option, Some, None, Result, Err, IfSome}
 use Rattle.afdx_lists.specs.declared.fault.RunFault.{RunFault}
 use Rattle.afdx_lists.specs.declared.fault.RunFault.TheVariants as run
+use Rattle.afdx_run.specs.Engine.{Bytes}
 use Rattle.afdx_arrivals.specs.Becoming.{Options}
-use Rattle.afdx_arrivals.specs.Claims.{Agree, Ports, ports_of_senders}
-use Rattle.afdx_arrivals.specs.ListText.{WritesLines, WritesSomeLines}
-use Rattle.afdx_arrivals.specs.ListingSource.{lines_of_bytes}
-use Rattle.afdx_arrivals.specs.RecordingRun.{sequence_of_bytes}
-use Rattle.afdx_arrivals.specs.Stopping.{ItemsAnswer}
-use Rattle.afdx_arrivals.specs.declared.recording_run.Tally.{Tally}
-use Rattle.afdx_arrivals.proofs.ListingRunLemmas.{lines-start}
-use Rattle.afdx_replay.specs.Listing.{AnswersListing}
+use Rattle.afdx_arrivals.specs.Claims.{Agree, Ports}
+use Rattle.afdx_arrivals.specs.ListText.{lines_themselves, ListingAnswers, WritesLines, WritesSomeLines}
+use Rattle.afdx_arrivals.specs.Taking.{AreCutOff, taken_of_bytes}
+use Rattle.afdx_arrivals.specs.declared.counts.Tally.{Tally}
+use Rattle.afdx_arrivals.proofs.InputLemmas.{taken-agree, cut-agree}
+use Rattle.afdx_arrivals.proofs.ListingLemmas.{lines-start}
+use Rattle.afdx_arrivals.proofs.TakenLemmas.{answers-same, taken-start}
 
 -- memory was refused before anything was read
-pub listing-unread : (options : Options) (t : Rows) (left old : Option (List ℕ))
-    → IfSome left (λ bytes. AnswersListing options t bytes left old old (Err run.Memory))
-listing-unread options t None old = tt
-listing-unread options t (Some bytes) old = record {
-  ports = ports_of_senders t.systems;
-  agree = record { claims = refl; ports = λ frame. refl };
-  answers = record {
-    past = [];
-    later = lines_of_bytes options (ports_of_senders t.systems) bytes;
-    items = sym (append-nil (lines_of_bytes options (ports_of_senders t.systems) bytes));
-    begun = inl (lines-start old);
-  };
-}
+pub listing-unread : (options : Options) (ports : Ports) (left : Option (List ℕ)) (old : Bytes)
+    → IfSome left (λ bytes. ListingAnswers options ports bytes left old old (Err run.Memory))
+listing-unread options ports None old = tt
+listing-unread options ports (Some bytes) old =
+    taken-start (taken_of_bytes options ports bytes) (AreCutOff options ports bytes (Some bytes)) lines_themselves
+    (WritesLines old old) (WritesLines old old) (WritesSomeLines old old) refl (lines-start old)
 
--- by ports that agree with those of the senders
-pub listing-in : (options : Options) (t : Rows) (ports : Ports) → Agree ports (ports_of_senders t.systems)
-    → (left rest old new : Option (List ℕ)) (r : Result Tally RunFault)
-    → IfSome left (λ bytes. ItemsAnswer (sequence_of_bytes options ports) (lines_of_bytes options ports)
-    (WritesLines old new) (WritesLines old new) (WritesSomeLines old new) bytes rest r)
-    → IfSome left (λ bytes. AnswersListing options t bytes rest old new r)
-listing-in options t ports agree None rest old new r h = tt
-listing-in options t ports agree (Some bytes) rest old new r h = record {
-  ports = ports;
-  agree = agree;
-  answers = h;
-}
+-- by ports that agree it is the same
+pub listing-agrees : (options : Options) (p q : Ports) → Agree p q → (left rest : Option (List ℕ)) (old new : Bytes)
+    (r : Result Tally RunFault)
+    → IfSome left (λ bytes. ListingAnswers options p bytes rest old new r)
+    → IfSome left (λ bytes. ListingAnswers options q bytes rest old new r)
+listing-agrees options p q agree None rest old new r h = tt
+listing-agrees options p q agree (Some bytes) rest old new r h =
+    answers-same (taken_of_bytes options p bytes) (taken_of_bytes options q bytes)
+    (AreCutOff options p bytes rest) (AreCutOff options q bytes rest) lines_themselves
+    (WritesLines old new) (WritesLines old new) (WritesSomeLines old new) r
+    (taken-agree options p q agree bytes) (λ lines c. cut-agree options p q agree bytes rest lines c) h

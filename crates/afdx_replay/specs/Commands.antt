@@ -1,7 +1,8 @@
 -- How a command ends that runs over a list, and what a command does that polices one link.
-use Rattle.std.specs.Prelude.{ℕ, ◌≡◌, ◌≤◌, Bool, List, ◌++◌, Option, Result, Ok, Err, OnOk, OnErr, true, codes, decimal}
+use Rattle.std.specs.Prelude.{ℕ, ◌≡◌, ◌≤◌, ◌||◌, Bool, List, ◌++◌, Option, Result, Ok, Err, OnOk, OnErr, true, codes, decimal}
 use Rattle.std.specs.Result.{result_ok}
 use Rattle.afdx_frame.specs.Lengths.{least_frame}
+use Rattle.afdx_frame.specs.declared.by_side.BySide.{BySide}
 use Rattle.afdx_frame.specs.declared.link.Policing.TheVariants.{Byte}
 use Rattle.afdx_police.specs.Rule.{IsRule, Rule, rule_with}
 use Rattle.afdx_lists.specs.declared.fault.RunFault.{RunFault}
@@ -42,18 +43,42 @@ status_of_answer (Ok summary) = 0
 status_of_answer (Err fault) = status_of fault
 
 -- A command ends as its run answered: that decides the exit status, the counts that are handed out
--- and what the error output is told, which a run that is done leaves alone, and says whether the
--- input came to its end and which device failed.
-pub record EndsAs {R E : Type 0} (error_bytes : E → Option (List ℕ)) (input : Watched R)
-    (output_failed : Bool) (old_errors new_errors : Watched E) (ended_with : Ended)
+-- and what the error output is told, which a run that is done leaves alone, and says whether its
+-- input, or both of two, came to the end and which device failed.
+pub record EndsWith {E : Type 0} (error_bytes : E → Option (List ℕ)) (all_read : Type 0)
+    (input_failed output_failed : Bool) (old_errors new_errors : Watched E) (ended_with : Ended)
     (answer : Result Summary RunFault) : Type 0 where
   pub status_is : ended_with.status ≡ status_of_answer answer
   pub summary_is : ended_with.summary ≡ result_ok answer
   pub told : OnErr answer (TellsLine error_bytes old_errors new_errors)
   pub silent : OnOk answer (new_errors ≡ old_errors)
-  pub ended : OnOk answer (has_ended input ≡ true)
-  pub read : has_failed input ≡ is_failed_read answer
+  pub ended : OnOk answer all_read
+  pub read : input_failed ≡ is_failed_read answer
   pub write : output_failed ≡ is_failed_write answer
+
+-- the same of a run over one input
+abbrev pub EndsAs : {R E : Type 0} → (E → Option (List ℕ)) → (input : Watched R) →
+    (output_failed : Bool) → (old_errors new_errors : Watched E) → Ended →
+    Result Summary RunFault → Type 0
+EndsAs error_bytes input output_failed old_errors new_errors ended answer =
+    EndsWith error_bytes (has_ended input ≡ true) (has_failed input) output_failed
+    old_errors new_errors ended answer
+
+-- both of two inputs came to their ends
+abbrev pub have_ended : {R : Type 0} → BySide (Watched R) → Type 0
+have_ended inputs = (has_ended inputs.a ≡ true) × (has_ended inputs.b ≡ true)
+
+-- the device of one of two inputs failed
+abbrev pub one_has_failed : {R : Type 0} → BySide (Watched R) → Bool
+one_has_failed inputs = has_failed inputs.a || has_failed inputs.b
+
+-- the same of a run over two inputs
+abbrev pub EndsAsPair : {R E : Type 0} → (E → Option (List ℕ)) → (inputs : BySide (Watched R)) →
+    (output_failed : Bool) → (old_errors new_errors : Watched E) → Ended →
+    Result Summary RunFault → Type 0
+EndsAsPair error_bytes inputs output_failed old_errors new_errors ended answer =
+    EndsWith error_bytes (have_ended inputs) (one_has_failed inputs) output_failed
+    old_errors new_errors ended answer
 
 -- a word, a number, and what follows
 abbrev pub counted : (word : List ℕ) → ℕ → (rest : List ℕ) → List ℕ

@@ -1,9 +1,10 @@
--- Runs over an input that is a list of frames, or a recording: what they count.
+-- Runs over an input that is a list of frames, or a recording, or over two recordings: what they
+-- count.
 use Rattle.std.specs.Prelude.{ℕ, Option, Some, None, Result, Ok, Err}
 use Rattle.afdx_lists.specs.declared.fault.RunFault.{RunFault}
 use Rattle.afdx_arrivals.specs.declared.input_run.InputCount.{InputCount}
 use Rattle.afdx_arrivals.specs.declared.input_run.InputCount.TheVariants.{Lines, Recorded}
-use Rattle.afdx_arrivals.specs.declared.recording_run.Tally.{Tally}
+use Rattle.afdx_arrivals.specs.declared.counts.Tally.{Tally}
 use Rattle.afdx_replay.specs.declared.summary.Summary.{Summary}
 use Rattle.afdx_replay.specs.declared.summary.InputSummary.{InputSummary}
 

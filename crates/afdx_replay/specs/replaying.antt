@@ -7,6 +7,9 @@ pub mod Command
 pub mod Promises
 pub mod PromisedRun
 pub mod DefinedRun
+pub mod Taken
 pub mod Input
 pub mod InputCommand
+pub mod Pair
+pub mod PairCommand
 pub mod Tables

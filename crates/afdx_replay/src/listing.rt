@@ -5,13 +5,19 @@ ghost use Rattle.std.specs.Result.{result_ok};
 ghost use Rattle.afdx_lists.specs.Calls.{is_failed_read, is_failed_write};
 ghost use Rattle.afdx_lists.specs.Watching.{device_of, has_ended, has_failed};
 ghost use Rattle.afdx_arrivals.specs.Becoming.{options_of};
+ghost use Rattle.afdx_arrivals.specs.Claims.{ports_of_senders};
+ghost use Rattle.afdx_arrivals.specs.ListText.{ListingAnswers};
 ghost use Rattle.afdx_text.specs.Telling.{TellsLine};
-ghost use Rattle.afdx_replay.specs.Listing.{AnswersListing, EndsListing, status_of_listing};
+ghost use Rattle.afdx_replay.specs.Commands.{one_has_failed};
+ghost use Rattle.afdx_replay.specs.Listing.{EndsListing, EndsPairListing, status_of_listing};
 
 use crate::refusing::refuse_config;
 use crate::status::DONE;
-use afdx_arrivals::{RecordingOptions, SystemPorts, Tally, list_recording};
+use afdx_arrivals::{
+    PairOptions, RecordingOptions, SystemPorts, Tally, UnsaidPort, list_pair, list_recording,
+};
 use afdx_config::{Tables, read_tables};
+use afdx_frame::BySide;
 use afdx_lists::{RunFault, Watched};
 use afdx_text::{Sink, tell_fault};
 use std::alloc::Global;
@@ -22,6 +28,19 @@ use std::io::{Read, Write};
 pub struct ListEnded {
     pub status: u8,
     pub tally: Option<Tally>,
+}
+
+impl ListEnded {
+    /// A listing that has nothing to count: it ended with a fault.
+    fn without_counts(status: u8) -> ListEnded
+        ensures status { result.status ≡ status }
+        ensures tally { result.tally ≡ None }
+    {
+        ListEnded {
+            status,
+            tally: None,
+        }
+    }
 }
 
 /// Writes a recording as the frame list that says the same, in these tables.
@@ -39,8 +58,8 @@ fn list_in<R: Read, O: Sink>(
     ensures read { has_failed input.new ≡ is_failed_read result }
     ensures write { O.failed output.new ≡ is_failed_write result }
     ensures answer { IfSome (R.remaining (device_of input.old)) (λ bytes.
-        AnswersListing (options_of options) tables.now bytes (R.remaining (device_of input.new))
-        (O.written output.old) (O.written output.new) result) }
+        ListingAnswers (options_of options) (ports_of_senders tables.now.systems) bytes
+        (R.remaining (device_of input.new)) (O.written output.old) (O.written output.new) result) }
 {
     let ports = SystemPorts::by_sender(alloc, tables)?;
     list_recording(alloc, options, ports, input, output)
@@ -61,10 +80,7 @@ fn end_listing<E: Write>(answer: Result<Tally, RunFault>, errors: &mut Watched<E
         },
         Err(fault) => {
             tell_fault(errors, &fault);
-            ListEnded {
-                status: fault.status(),
-                tally: None,
-            }
+            ListEnded::without_counts(fault.status())
         }
     }
 }
@@ -104,13 +120,56 @@ pub fn list_and_count<R: Read, O: Sink, E: Write>(
 {
     let tables = match read_tables(alloc, config) {
         Ok(tables) => tables,
-        Err(fault) => {
-            return ListEnded {
-                status: refuse_config(fault, errors),
-                tally: None,
-            };
-        }
+        Err(fault) => return ListEnded::without_counts(refuse_config(fault, errors)),
     };
     let answer = list_in(alloc, options, &tables, input, output);
+    end_listing(answer, errors)
+}
+
+/// Writes two recordings that are read at once, one of network A and one of network B, as the frame
+/// list that says the same, as `list_and_count` writes one: the arrivals of both stand in the order
+/// of their moments, that of A first where two have the same; a number that is skipped stands where
+/// it is read. The lines go to `output`, a fault's one line to `errors`. It also gives what it
+/// counted of both.
+///
+/// No first bytes are looked at: both have to be recordings. Each frame came in on the side of the
+/// network whose recording it is of. Where no option says at which port, it is that of the system
+/// of the tables that its source address names. The tables need not be admitted. The exit status is
+/// 0 done, 1 a fault of the configuration, 3 a fault of a recording, 4 a device or memory.
+pub fn list_pair_and_count<R: Read, O: Sink, E: Write>(
+    alloc: Global,
+    options: PairOptions,
+    config: &[u8],
+    inputs: &mut BySide<Watched<R>>,
+    output: &mut O,
+    errors: &mut Watched<E>,
+) -> ListEnded
+    requires sound_a { has_failed inputs.old.a ≡ false }
+    requires sound_b { has_failed inputs.old.b ≡ false }
+    requires unended_a { has_ended inputs.old.a ≡ false }
+    requires unended_b { has_ended inputs.old.b ≡ false }
+    requires sound_output { O.failed output.old ≡ false }
+
+    // 0 comes only where both came to their ends, 4 wherever a device failed; counts come with 0.
+    ensures statuses { let status = result.status in
+        (status ≡ 0) ⊎ (status ≡ 1) ⊎ (status ≡ 3) ⊎ (status ≡ 4) }
+    ensures counts { IsSome result.tally ↔ (result.status ≡ 0) }
+    ensures done { result.status ≡ 0 →
+        (has_ended inputs.new.a ≡ true) × (has_ended inputs.new.b ≡ true)
+        × (has_failed inputs.new.a ≡ false) × (has_failed inputs.new.b ≡ false)
+        × (O.failed output.new ≡ false) }
+    ensures device { (one_has_failed inputs.new || O.failed output.new) ≡ true →
+        result.status ≡ 4 }
+
+    // The command ends as the listing answered, or nothing is read and nothing is written.
+    ensures lists { EndsPairListing R.remaining O.written O.failed E.contents config.now options
+        inputs.old inputs.new output.old output.new errors.old errors.new result }
+{
+    let tables = match read_tables(alloc, config) {
+        Ok(tables) => tables,
+        Err(fault) => return ListEnded::without_counts(refuse_config(fault, errors)),
+    };
+    let ports = UnsaidPort::OfSender(&tables);
+    let answer = list_pair(alloc, options, ports, inputs, output);
     end_listing(answer, errors)
 }

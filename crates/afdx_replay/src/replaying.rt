@@ -6,5 +6,7 @@ mod explained;
 pub mod input;
 pub mod input_command;
 mod lines;
+pub mod pair;
+pub mod pair_command;
 pub mod run;
 mod tables;

@@ -258,6 +258,8 @@ module _ {Y X : Type 0} (k : Kind Y X) where
     stops-more (run.TimeBack m) h = told-more (run.TimeBack m) h
     stops-more (run.TimeTooLarge m) h = told-more (run.TimeTooLarge m) h
     stops-more (run.BadPort m) h = told-more (run.BadPort m) h
+    stops-more (run.RecordingOfA m) h = told-more (run.RecordingOfA m) h
+    stops-more (run.RecordingOfB m) h = told-more (run.RecordingOfB m) h
     stops-more (run.Recording f) h = told-more (run.Recording f) h
 
   -- ---- a run that has read these things
@@ -350,6 +352,8 @@ module _ {Y X : Type 0} (k : Kind Y X) where
     stop_answers all beginning bytes rest between after oe ne u v (run.TimeBack m) h stop gave taken honest by a = absurd stop
     stop_answers all beginning bytes rest between after oe ne u v (run.TimeTooLarge m) h stop gave taken honest by a = absurd stop
     stop_answers all beginning bytes rest between after oe ne u v (run.BadPort m) h stop gave taken honest by a = absurd stop
+    stop_answers all beginning bytes rest between after oe ne u v (run.RecordingOfA m) h stop gave taken honest by a = absurd stop
+    stop_answers all beginning bytes rest between after oe ne u v (run.RecordingOfB m) h stop gave taken honest by a = absurd stop
     stop_answers all beginning bytes rest between after oe ne u v (run.Recording f) h stop gave taken honest by a = absurd stop
 
     pub stops-reader : (all beginning : List X → Type 0) (input left between after : Option (List ℕ))

@@ -5,6 +5,7 @@ mod checks;
 mod commands;
 mod end_to_end;
 mod listings;
+mod pairs;
 mod premises;
 mod recordings;
 mod refusals;

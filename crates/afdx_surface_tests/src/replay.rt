@@ -5,7 +5,7 @@ ghost use Rattle.afdx_lists.specs.Watching.{has_failed, has_ended};
 
 use afdx_admit::Admitted;
 use afdx_config::{SystemId, Tables};
-use afdx_frame::{Policing, VlId};
+use afdx_frame::{Policing, Side, VlId};
 use afdx_police::LinkRule;
 use afdx_replay::{
     RecordingFault, RunFault, Summary, Watched, check, police, replay, run, run_police, run_send,
@@ -174,6 +174,8 @@ fn number_of(fault: &RunFault) -> Option<u64> {
         RunFault::BadPort(n) => Some(*n),
         RunFault::LineTooLong(n) => Some(*n),
         RunFault::Recording(fault) => Some(number_in(*fault)),
+        RunFault::RecordingOfA(fault) => Some(number_in(*fault)),
+        RunFault::RecordingOfB(fault) => Some(number_in(*fault)),
         RunFault::TooManyLines | RunFault::Read | RunFault::Write | RunFault::Memory => None,
     }
 }
@@ -183,6 +185,10 @@ fn faults(_rt: HostRuntime) -> Result<(), Fail> {
     equal(number_of(&RunFault::BadPort(7)), Some(7))?;
     equal(
         number_of(&RunFault::Recording(RecordingFault::Cut(9))),
+        Some(9),
+    )?;
+    equal(
+        number_of(&RunFault::of_network(Side::B, RecordingFault::Cut(9))),
         Some(9),
     )?;
     equal(number_of(&RunFault::TooManyLines), None)

@@ -73,8 +73,7 @@ fn is_looked_at(alloc: Global, list: &str, most: usize, wanted: &str) -> bool
         most,
         calls: 99,
     }));
-    input.look();
-    if input.seen() != wanted.as_bytes() {
+    if input.look() || input.seen() != wanted.as_bytes() {
         return false;
     }
     let mut reader = match LineReader::new(alloc) {

@@ -20,6 +20,9 @@ use std::io::{Read, Write};
 ///
 /// Nothing of the input is read before the tables are taken; then its first four bytes are looked
 /// at. It is a recording if it begins as one; if an option of recordings is given, it has to be.
+/// Where the input fails before the fourth of them, which is answered (`look_failed`), it is a list
+/// unless an option is given.
+///
 /// The exit status is 0 done, 1 a fault of the configuration or tables that are not admitted, 3 a
 /// fault of the list or the recording, 4 a device or memory.
 pub fn replay_input<R: Read, O: Sink, E: Write>(
@@ -55,9 +58,9 @@ pub fn replay_input<R: Read, O: Sink, E: Write>(
         Ok(taken) => taken,
         Err(status) => return InputEnded::without_counts(status),
     };
-    input.look();
+    let look_failed = input.look();
     let answer = replay_input_into(alloc, options, taken.tables(), input, output);
-    end_input(answer, errors)
+    end_input(answer, look_failed, errors)
 }
 
 /// Replays an input as `replay_input` does, and tells `drops`, in a line each, by how much frames
@@ -95,8 +98,8 @@ pub fn replay_input_and_explain<R: Read, O: Sink, E: Write, D: Write + Drop>(
         Ok(taken) => taken,
         Err(status) => return (InputEnded::without_counts(status), drops),
     };
-    input.look();
+    let look_failed = input.look();
     let tables = taken.tables();
     let (answer, drops) = explain_input_into(alloc, options, tables, input, output, drops);
-    (end_input(answer, errors), drops)
+    (end_input(answer, look_failed, errors), drops)
 }

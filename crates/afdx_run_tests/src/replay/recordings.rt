@@ -16,7 +16,7 @@ const HEAD: [u8; 24] = [
 ];
 
 /// A recording of HELLO so many us behind a second, once for each.
-fn recording(alloc: Global, moments: &[u8]) -> Result<Vec<u8>, AllocError> {
+pub fn recording(alloc: Global, moments: &[u8]) -> Result<Vec<u8>, AllocError> {
     let mut bytes = Vec::new(alloc);
     bytes.extend_from_slice(HEAD.as_slice())?;
     for us in moments {
@@ -28,9 +28,9 @@ fn recording(alloc: Global, moments: &[u8]) -> Result<Vec<u8>, AllocError> {
 }
 
 /// How a command ended, and what it told.
-type Told = (InputEnded, ShortText, ShortText);
+pub type Told = (InputEnded, ShortText, ShortText);
 
-fn told(
+pub fn told(
     ended: InputEnded,
     output: Watched<Vec<u8>>,
     errors: Watched<Vec<u8>>,
@@ -60,7 +60,7 @@ fn replayed(alloc: Global, input: &[u8]) -> Result<Told, Fail> {
 }
 
 /// How many arrivals are claimed, if it was a recording.
-fn claimed(ended: InputEnded) -> Option<u64> {
+pub fn claimed(ended: InputEnded) -> Option<u64> {
     match ended.tally {
         Some(tally) => Some(tally.counts.claimed),
         None => None,
@@ -77,6 +77,7 @@ fn is_replayed(
 ) -> Result<(), Fail> {
     let (ended, found, faults) = replayed(alloc, input)?;
     equal((ended.ended.status, claimed(ended)), answer)?;
+    equal(ended.look_failed, false)?;
     equal((found.as_str(), faults.as_str()), (text, line))
 }
 
@@ -133,6 +134,7 @@ fn a_recording_is_policed(rt: HostRuntime) -> Result<(), Fail> {
     let bytes = recording(rt.alloc(), &[0, 1])?;
     let (ended, text, line) = policed(rt.alloc(), bytes.as_slice())?;
     equal((ended.ended.status, claimed(ended)), (0, Some(2)))?;
+    equal(ended.look_failed, false)?;
     let wanted = "V 1 A accept\nV 2 A drop over-rate\n";
     equal((text.as_str(), line.as_str()), (wanted, ""))
 }

@@ -1,22 +1,19 @@
 use Rattle.std.proofs.Common.{rules}
 use Rattle.afdx_arrivals.specs.Becoming.{options_of}
 use Rattle.afdx_arrivals.specs.Claims.{ports_of, ports_unsaid}
+use Rattle.afdx_arrivals.specs.NumberLines.{arrivals_listed}
 use Rattle.afdx_arrivals.proofs.InputLemmas.{if-agree}
-use Rattle.afdx_arrivals.specs.RecordingRun.{sequence_of_bytes, items_of_bytes}
-use Rattle.afdx_arrivals.specs.RecordingSource.{first_standing}
-use Rattle.afdx_arrivals.proofs.RecordingRunLemmas.{answers-start}
+use Rattle.afdx_arrivals.proofs.RecordingRunLemmas.{answers-start, listed-none}
 use Rattle.afdx_arrivals.proofs.input_run.run_recorded.Goals as goal
 
 -- there was no memory
 pub returns-in_err-ports-clause-answer : goal.returns-in_err-ports-clause-answer
 returns-in_err-ports-clause-answer g c law start =
     let old = g.O.Sink.written c.args.output.now in
-    let options = options_of c.args.options in
-    let ports = ports_unsaid c.args.unsaid in
-    let first = first_standing g.R.Read.remaining c.args.input.now in
-    let stop = answers-start (sequence_of_bytes options ports) (items_of_bytes options ports)
+    let stop = answers-start (options_of c.args.options) (ports_unsaid c.args.unsaid) arrivals_listed
     (g.M.Machine.Done law c.args.machine.now old old) (g.M.Machine.Told law c.args.machine.now old old)
-    (g.M.Machine.Begins law c.args.machine.now old old) first first start in
+    (g.M.Machine.Begins law c.args.machine.now old old)
+    (g.R.Read.remaining c.args.input.now.inner) (g.R.Read.remaining c.args.input.now.inner) listed-none start in
     search rules
 
 pub returns-clause-answer : goal.returns-clause-answer
@@ -24,8 +21,8 @@ returns-clause-answer g c law start =
     let old = g.O.Sink.written c.args.output.now in
     let new = g.O.Sink.written c.run_recording.new.output in
     let machine = c.run_recording.new.machine in
-    if-agree (options_of c.args.options) (g.M.Machine.Done law machine old new) (g.M.Machine.Told law machine old new)
-    (g.M.Machine.Begins law machine old new) (ports_of c.in_ok-ports.ports) (ports_unsaid c.args.unsaid)
-    c.in_ok-ports.ensures (g.R.Read.remaining c.args.input.now.inner)
+    if-agree (options_of c.args.options) (ports_of c.in_ok-ports.ports) (ports_unsaid c.args.unsaid)
+    c.in_ok-ports.ensures (g.M.Machine.Done law machine old new) (g.M.Machine.Told law machine old new)
+    (g.M.Machine.Begins law machine old new) (g.R.Read.remaining c.args.input.now.inner)
     (g.R.Read.remaining c.run_recording.new.input.inner) c.run_recording.result
     (c.run_recording.ensures.answer law start)

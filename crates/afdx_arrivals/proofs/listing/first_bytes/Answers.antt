@@ -1,4 +1,4 @@
-use Rattle.std.proofs.Common.{sym, ap, ◌∙◌, ℕ, take}
+use Rattle.std.proofs.Common.{ap, ◌∙◌, ℕ, take}
 use Rattle.std.proofs.lemmas.List.{take_min}
 use Rattle.afdx_arrivals.proofs.listing.first_bytes.Goals as goal
 

@@ -4,9 +4,9 @@ use Rattle.afdx_replay.proofs.listing.list_and_count.Goals as goal
 
 pub returns-in-Err-clause-lists : goal.returns-in-Err-clause-lists
 returns-in-Err-clause-lists g c = inr (record {
-  refused = config-refused _ _ _ _ _ _ c.refuse_config.ensures.told c.refuse_config.ensures.memory
-      c.in-Err.ensures.fault;
-  tally = refl;
+  refused = rw c.without_counts.ensures.status (config-refused _ _ _ _ _ _ c.refuse_config.ensures.told
+      c.refuse_config.ensures.memory c.in-Err.ensures.fault);
+  tally = c.without_counts.ensures.tally;
   unread = refl;
   unwritten = refl;
 })
@@ -24,6 +24,6 @@ returns-clause-lists g c = inl (
     write = c.list_in-answer.ensures.write;
     tables = c.in-Ok.tables;
     spelled = c.in-Ok.ensures.ok;
-    answers = c.list_in-answer.ensures.answer;
+    answered = c.list_in-answer.ensures.answer;
   },
 )

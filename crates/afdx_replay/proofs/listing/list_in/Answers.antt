@@ -1,19 +1,20 @@
 use Rattle.std.proofs.Common.{rules}
 use Rattle.afdx_arrivals.specs.Becoming.{options_of}
-use Rattle.afdx_arrivals.specs.Claims.{ports_of}
-use Rattle.afdx_replay.proofs.ListingLemmas.{listing-unread, listing-in}
+use Rattle.afdx_arrivals.specs.Claims.{ports_of, ports_of_senders}
+use Rattle.afdx_replay.proofs.ListingLemmas.{listing-unread, listing-agrees}
 use Rattle.afdx_replay.proofs.listing.list_in.Goals as goal
 
 -- there was no memory
 pub returns-in_err-ports-clause-answer : goal.returns-in_err-ports-clause-answer
 returns-in_err-ports-clause-answer g c =
-    let stop = listing-unread (options_of c.args.options) c.args.tables.now
+    let stop = listing-unread (options_of c.args.options) (ports_of_senders c.args.tables.now.systems)
     (g.R.Read.remaining c.args.input.now.inner) (g.O.Sink.written c.args.output.now) in
     search rules
 
 pub returns-clause-answer : goal.returns-clause-answer
 returns-clause-answer g c =
-    listing-in (options_of c.args.options) c.args.tables.now (ports_of c.in_ok-ports.ports) c.in_ok-ports.ensures
+    listing-agrees (options_of c.args.options) (ports_of c.in_ok-ports.ports)
+    (ports_of_senders c.args.tables.now.systems) c.in_ok-ports.ensures
     (g.R.Read.remaining c.args.input.now.inner) (g.R.Read.remaining c.list_recording.new.input.inner)
     (g.O.Sink.written c.args.output.now) (g.O.Sink.written c.list_recording.new.output) c.list_recording.result
     c.list_recording.ensures.answer

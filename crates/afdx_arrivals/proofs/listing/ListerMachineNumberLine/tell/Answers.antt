@@ -1,6 +1,6 @@
 use Rattle.std.proofs.Common.{rules, ◌≡◌, Err, inr}
 use Rattle.afdx_run.specs.Engine.{item_of}
-use Rattle.afdx_arrivals.proofs.ListingRunLemmas.{lines-told, lines-begun}
+use Rattle.afdx_arrivals.proofs.ListingLemmas.{lines-told, lines-begun}
 use Rattle.afdx_arrivals.proofs.listing.ListerMachineNumberLine.tell.Goals as goal
 
 pub returns-in_err-put_number-clause-begins : goal.returns-in_err-put_number-clause-begins

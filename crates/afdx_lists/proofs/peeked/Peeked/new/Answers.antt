@@ -1,4 +1,3 @@
-use Rattle.std.proofs.Common.{rules}
 use Rattle.std.proofs.KnownBytes.{prepend_known-nil}
 use Rattle.afdx_lists.specs.Peeking.{held}
 use Rattle.afdx_lists.proofs.peeked.Peeked.new.Goals as goal

@@ -1,4 +1,3 @@
-use Rattle.std.proofs.Common.{rules}
 use Rattle.afdx_lists.specs.Peeking.{held}
 use Rattle.afdx_lists.proofs.PeekLemmas.{none-held, held-given}
 use Rattle.afdx_lists.proofs.peeked.PeekedRead.read.Goals as goal

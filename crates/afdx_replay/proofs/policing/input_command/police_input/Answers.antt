@@ -1,3 +1,5 @@
+use Rattle.std.proofs.Common.{◌≡◌, true}
+use Rattle.afdx_lists.specs.Watching.{has_ended, has_failed}
 use Rattle.afdx_replay.specs.Commands.{commanded_rule}
 use Rattle.afdx_replay.proofs.InputStartLemmas.{ends-in, polices-looked}
 use Rattle.afdx_replay.proofs.policing.input_command.police_input.Goals as goal
@@ -5,13 +7,15 @@ use Rattle.afdx_replay.proofs.policing.input_command.police_input.Goals as goal
 pub returns-clause-polices : goal.returns-clause-polices
 returns-clause-polices g c commanded = (
   c.police_input_into-answer.result,
-  ends-in g.E.Write.contents c.police_input_into-answer.new.input (g.O.Sink.failed c.police_input_into-answer.new.output) c.args.errors.now
+  ends-in g.E.Write.contents (has_ended c.police_input_into-answer.new.input ≡ true)
+      (has_failed c.police_input_into-answer.new.input) (g.O.Sink.failed c.police_input_into-answer.new.output) c.args.errors.now
       c.end_input.new.errors c.end_input.result.ended c.police_input_into-answer.result c.end_input.ensures.status
       c.end_input.ensures.summary c.end_input.ensures.told c.end_input.ensures.silent c.police_input_into-answer.ensures.ended
       c.police_input_into-answer.ensures.read c.police_input_into-answer.ensures.write,
   c.end_input.ensures.tally,
-  polices-looked g.R.Read.remaining c.args.options c.args.input.now c.look.new.self
-      c.police_input_into-answer.new.input c.look.ensures (commanded_rule c.args.given.now)
+  polices-looked g.R.Read.remaining c.args.options c.args.input.now c.look-look_failed.new.self
+      c.police_input_into-answer.new.input c.look-look_failed.result c.look-look_failed.ensures
+      c.end_input.result.look_failed c.end_input.ensures.look (commanded_rule c.args.given.now)
       (g.O.Sink.written c.args.output.now) (g.O.Sink.written c.police_input_into-answer.new.output)
       c.police_input_into-answer.result c.police_input_into-answer.ensures.calls
       (rw c.in-Some.ensures.given at c.police_input_into-answer.ensures.answer),

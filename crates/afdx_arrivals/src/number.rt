@@ -1,0 +1,20 @@
+//! What a number of a recording is.
+
+ghost use Rattle.afdx_arrivals.specs.NumberLines.{NumberFollows};
+
+use crate::becoming::Found;
+use crate::skipped::Skipped;
+use afdx_run::Head;
+
+/// What a number of a recording is.
+#[derive(Clone, Copy, Debug, PartialEq, Eq)]
+pub enum Number {
+    /// An arrival.
+    Arrival(Found),
+    /// It is skipped.
+    Skipped(Skipped),
+}
+
+impl Head for Number {
+    ghost can_follow = { NumberFollows };
+}

@@ -1,0 +1,39 @@
+//! What the options of a run over two recordings say.
+
+ghost use Rattle.std.specs.Prelude.{◌≡◌};
+ghost use Rattle.afdx_arrivals.specs.Becoming.{options_of};
+ghost use Rattle.afdx_arrivals.specs.PairOptions.{options_of_a, options_of_b};
+
+use crate::becoming::RecordingOptions;
+use crate::places::Interfaces;
+use afdx_frame::{BySide, Side};
+
+/// What the options of a run over two recordings say, that of network A and that of network B.
+#[derive(Debug, Drop)]
+pub struct PairOptions {
+    /// Where the frames of each interface came in, of each of both.
+    pub interfaces: BySide<Interfaces>,
+    /// Whether each frame of both ends with its check sequence, where that is said.
+    pub fcs: Option<bool>,
+    /// The moment that is time 0, in ns since 1970, where that is said.
+    pub origin: Option<u64>,
+}
+
+impl PairOptions {
+    /// What they say of each.
+    pub(crate) fn split(self) -> (RecordingOptions, RecordingOptions)
+        ensures a { options_of result.0 ≡ options_of_a self }
+        ensures b { options_of result.1 ≡ options_of_b self }
+    {
+        let BySide { a, b } = self.interfaces;
+        let (fcs, origin) = (self.fcs, self.origin);
+        let of = |interfaces, network| RecordingOptions {
+            interfaces,
+            fcs,
+            origin,
+            network: Some(network),
+            are_given: true,
+        };
+        (of(a, Side::A), of(b, Side::B))
+    }
+}

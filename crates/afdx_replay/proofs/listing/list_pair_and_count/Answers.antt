@@ -1,0 +1,29 @@
+use Rattle.std.proofs.Common.{refl, inl, inr}
+use Rattle.afdx_replay.proofs.RefusalLemmas.{config-refused}
+use Rattle.afdx_replay.proofs.listing.list_pair_and_count.Goals as goal
+
+pub returns-in-Err-clause-lists : goal.returns-in-Err-clause-lists
+returns-in-Err-clause-lists g c = inr (record {
+  refused = rw c.without_counts.ensures.status (config-refused _ _ _ _ _ _ c.refuse_config.ensures.told
+      c.refuse_config.ensures.memory c.in-Err.ensures.fault);
+  tally = c.without_counts.ensures.tally;
+  unread = refl;
+  unwritten = refl;
+})
+
+pub returns-clause-lists : goal.returns-clause-lists
+returns-clause-lists g c = inl (
+  c.list_pair-answer.result,
+  record {
+    status_is = c.end_listing.ensures.status;
+    tally_is = c.end_listing.ensures.tally;
+    told = c.end_listing.ensures.told;
+    silent = c.end_listing.ensures.silent;
+    ended = c.list_pair-answer.ensures.ended;
+    read = c.list_pair-answer.ensures.read;
+    write = c.list_pair-answer.ensures.write;
+    tables = c.in-Ok.tables;
+    spelled = c.in-Ok.ensures.ok;
+    answered = c.list_pair-answer.ensures.answer;
+  },
+)

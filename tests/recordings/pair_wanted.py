@@ -1,0 +1,110 @@
+"""What must be written of two recordings: the reference of tests/lib gives the list that says the
+same, the fault and the counts, and the program's run on that list the text, but for the numbers."""
+from __future__ import annotations
+
+import random
+from collections.abc import Callable
+from typing import NamedTuple
+
+from made_recordings import made_pair
+from pair_rows import PairRow
+from program import Answer, Program, must
+from recorded_pair import Number, PairOptions, ToldPair, told_pair
+from recording_rows import FIRST_NS
+from wanted import BEYOND, IN_BASE, Case, Command
+
+AT = {b"V": 1, b"L": 1, b"D": 1, b"T": 1, b"X": 3, b"early": 1}  # where a line's number stands
+PLACES = ["A", "B", "A:1", "B:1", "A:2", "B:2", "A:24", "-"]
+
+
+def renumbered(text: bytes, number_of: Callable[[int], int]) -> bytes:
+    """The text of a run with other numbers of frames."""
+    lines = []
+    for line in text.splitlines():
+        words = line.split(b" ")
+        at = AT.get(words[0])
+        if at is not None:
+            words[at] = b"%d" % number_of(int(words[at]))
+        lines.append(b" ".join(words) + b"\n")
+    return b"".join(lines)
+
+
+def numbered(text: bytes, numbers: list[Number]) -> bytes:
+    """The text of a run on a list, with the numbers that its lines have in their recordings."""
+    return renumbered(text, lambda line: numbers[line - 1].number)
+
+
+class PairCase(NamedTuple):
+    """Two recordings and the options of the run, a replay."""
+
+    pair: tuple[bytes, bytes]
+    options: PairOptions = PairOptions()
+    command: Command = IN_BASE
+
+    def told(self, opens: str = "") -> ToldPair:
+        """What the reference says; `opens` are the sides of which more bytes are to come."""
+        return told_pair(self.options, self.command.ports, self.pair, opens)
+
+    def words(self) -> list[str]:
+        """The command with its options, without the recordings."""
+        return [*self.command.words, *self.options.words()]
+
+    def with_half(self, place: int, data: bytes) -> PairCase:
+        """The same with another recording in the place of one."""
+        pair = (data, self.pair[1]) if place == 0 else (self.pair[0], data)
+        return self._replace(pair=pair)
+
+    def listed(self, program: Program, *more: str, opens: str = "") -> Answer:
+        """What the program must write of them: what it writes of the list that says the same, up to
+        the fault. Where it ends well, standard error has what `more` words ask for."""
+        wanted = self.told(opens)
+        given = wanted.text() + (BEYOND if wanted.fault else b"")
+        found = Case(b"", command=self.command).run_on(program, given, *more)
+        out, err = numbered(found.out, wanted.numbers), found.err
+        if not wanted.fault:
+            must(found.status == 0, f"the list of it has a fault: {found.err!r}")
+            return Answer(0, out, numbered(err, wanted.numbers))
+        line = b"list BadLine %d\n" % (len(wanted.lines) + 1)
+        must(found.status == 3 and err.endswith(line), f"the list of it: {err!r}")
+        early = numbered(err.removesuffix(line), wanted.numbers)
+        return Answer(wanted.status(), out, early + wanted.fault)
+
+
+def pair_case(row: PairRow) -> PairCase:
+    """The recordings of a row."""
+    return PairCase(row.pair(), row.options)
+
+
+def random_options(chance: random.Random) -> PairOptions:
+    """Options that mostly leave arrivals of both."""
+    places = []
+    for interface in range(6 if chance.random() < 0.5 else 0):
+        for side in "AB":
+            if chance.random() < 0.15:
+                port = chance.choice(["", ":1", ":2", ":24"])
+                places.append(f"{interface}={side}{port}")
+        if chance.random() < 0.05 and not any(each[0] == str(interface) for each in places):
+            places.append(f"{interface}=-")
+    chance.shuffle(places)
+    origin = FIRST_NS + chance.choice([-(10**15), -1, 0, 1000, 10**6, 10**10])
+    return PairOptions(
+        tuple(places),
+        chance.choice([None, None, None, True, False]),
+        origin if chance.random() < 0.3 else None,
+    )
+
+
+def random_pair(kind: str, number: int | str) -> PairCase:
+    """Two recordings made at random, half of them with random options."""
+    chance = random.Random(f"pair options/{kind}/{number}")
+    options = random_options(chance) if chance.random() < 0.5 else PairOptions()
+    return PairCase(made_pair(kind, number), options)
+
+
+def cut_pair(chance: random.Random, case: PairCase) -> PairCase:
+    """The same with one of them cut at a byte, or both."""
+    cut = chance.choice([(0,), (1,), (0, 1)])
+    for place in cut:
+        data = case.pair[place]
+        case = case.with_half(place, data[: chance.randrange(len(data) + 1)])
+    return case

@@ -1,0 +1,96 @@
+"""Commands on two recordings, one of which is weak; a part of tests/run/devices.py."""
+from __future__ import annotations
+
+import os
+from collections.abc import Iterator
+
+from pair_wanted import PairCase
+from program import Answer, Program
+from reads import READS
+from recorded_pair import NETWORKS
+from recording_rows import F1, G1, H1, H2, IL, PL, SL, US, ZERO, E, R
+from wanted import IN_BASE, Command
+from weak import Call, Weak, weak_devices
+
+FOREIGN = "ff" + H1[2:]  # a frame that is no AFDX frame
+STEADY = "steady"  # the file of the one that doesn't fail
+
+
+class WeakHalf(Weak):
+    """A command on two recordings, one of which is read from a weak device, by path or as standard
+    input; the other one by path."""
+
+    def __init__(self, program: Program, case: PairCase, place: int, by_path: bool) -> None:
+        self.case, self.place = case, place
+        super().__init__(program, list(case.command.words), case.pair[place], by_path)
+
+    def inputs(self, weak: str) -> list[str]:
+        """Both; the weak one is named so."""
+        steady = self.program.write(STEADY, self.case.pair[1 - self.place])
+        return [weak, steady] if self.place == 0 else [steady, weak]
+
+    def undisturbed(self, given: bytes) -> Answer:
+        """The answer where the weak one has these bytes, on devices that do as they should."""
+        if given not in self.known:
+            paths = self.inputs(self.program.write("whole", given))
+            self.known[given] = self.program.run(*self.words, *paths)
+        return self.known[given]
+
+    def weakened(self, path: str, most: int, broken: dict[str, str]) -> dict[str, str]:
+        """What makes the devices weak; the steady one moves little."""
+        steady = os.path.join(self.program.folder, STEADY)
+        return super().weakened(path, most, broken) | {"DEVICE_SECOND": steady}
+
+    def text_of(self, case: PairCase, opens: str) -> bytes:
+        """What is told of the recordings where the run asks for more of one of these sides."""
+        if self.words[0] == "list":
+            return case.told(opens).text()
+        return case.listed(self.program, opens=opens).out
+
+    def lines_before(self, count: int) -> bytes:
+        """What is told once so many bytes of the weak one were read, where the run then stops."""
+        case = self.case.with_half(self.place, self.given[:count])
+        return self.text_of(case, NETWORKS[self.place])
+
+    def told_before(self, reads: list[Call]) -> bytes:
+        """What these reads give; an input of which one gives nothing is at its end."""
+        case, opens = self.case, NETWORKS
+        for kind, place in (("r", self.place), ("s", 1 - self.place)):
+            moved = [call.answer for call in reads if call.kind == kind]
+            case = case.with_half(place, self.case.pair[place][: sum(moved)])
+            opens = opens.replace(NETWORKS[place], "") if 0 in moved else opens
+        return self.text_of(case, opens)
+
+
+def pairs() -> dict[str, tuple[str, str]]:
+    """Sound ones of both forms, and some with faults."""
+    a = PL + R(ZERO, H1) + R("02000000", FOREIGN) + R("04000000", H2)
+    b = SL + IL + E(US, H1) + E("03401e18", H2)
+    return {
+        "in turn": (a, b),
+        "A's fault": (F1 + PL, b),
+        "B's fault": (a, G1 + "00" * 12),
+        "nothing is left of B": (F1, PL + R(ZERO, FOREIGN)),
+        "A has no frame": (PL, b),
+    }
+
+
+def weak_half(program: Program, case: PairCase, place: int, by_path: bool) -> None:
+    """All that weak devices do to one of two recordings."""
+    weak_devices(WeakHalf(program, case, place, by_path))
+
+
+def weak_pairs(program: Program, config: str) -> Iterator[tuple]:
+    """Each command on two recordings, each of which is weak, by path and as standard input by
+    turns; the configuration is that of the base tables."""
+    commands = [["replay", config], ["replay", "--no-admission", config], ["list", config]]
+    by_path = False
+    for name, texts in pairs().items() if "two" in READS else ():
+        pair = bytes.fromhex(texts[0]), bytes.fromhex(texts[1])
+        for words in commands:
+            case = PairCase(pair, command=Command(tuple(words), IN_BASE.ports))
+            for place, side in enumerate(NETWORKS):
+                by_path = not by_path
+                given = program, case, place, by_path
+                yield f"{' '.join(words[:-1])}, {side} is weak: {name}", weak_half, *given
+            by_path = not by_path

@@ -1,0 +1,47 @@
+"""Recordings among the words of the tools: what is one, and the options that `afdx` takes."""
+from __future__ import annotations
+
+import argparse
+import os
+
+HEADS = frozenset(
+    bytes.fromhex(head) for head in ("d4c3b2a1", "a1b2c3d4", "4d3cb2a1", "a1b23c4d", "0a0d0d0a")
+)
+
+
+def add_recording_words(parser: argparse.ArgumentParser) -> None:
+    """The options of recordings, which are handed on to the program."""
+    add = parser.add_argument
+    add(
+        "--interface",
+        action="append",
+        default=[],
+        metavar="K=PLACE",
+        help="where the frames of interface K came in: A, B, A:PORT or B:PORT; - leaves them out",
+    )
+    add("--fcs", choices=("yes", "no"), help="do recorded frames end with their check sequence?")
+    origin = "the moment that is time 0, in ns since 1970 (that of the first arrival)"
+    add("--origin", metavar="NS", help=origin)
+
+
+def recording_options(args: argparse.Namespace) -> list[str]:
+    """The options that were given, as the program takes them."""
+    words = [f"--interface={each}" for each in args.interface]
+    if args.fcs is not None:
+        words.append(f"--fcs={args.fcs}")
+    return words if args.origin is None else [*words, f"--origin={args.origin}"]
+
+
+def is_recording(path: str) -> bool:
+    """The program takes the file for a recording, by its first four bytes."""
+    with open(path, "rb") as file:
+        return file.read(4) in HEADS
+
+
+def files_of(word: str) -> tuple[str, ...]:
+    """The files that a word names: a list or a recording, or those of both networks with a comma
+    between, if no file has all of that name."""
+    first, _, second = word.partition(",")
+    if not (first and second) or os.path.exists(word):
+        return (word,)
+    return first, second
