@@ -205,7 +205,8 @@ recorded_campaign_tests() {
     tell 'a pair of which one is not there' "$(is_status 4; says out 'No such file')"
 }
 
-# Another machine, as GNU parallel and rsync see it: another folder of this one.
+# Another machine, as GNU parallel and rsync see it: another folder of this one, with the shell that
+# a login gives.
 transfer_tests() {
     local a=$recorded/one.A.pcap b=$recorded/one.B.pcap out=$recorded/there
     mkdir -p "$recorded/machine"
@@ -215,7 +216,7 @@ while [[ \$1 == -* ]]; do if [[ \$1 == -l ]]; then shift; fi; shift; done
 shift
 if [[ \$1 == -- ]]; then shift; fi
 cd '$recorded/machine' || exit 1
-HOME=\$PWD exec bash -c "\$*"
+HOME=\$PWD SHELL=/bin/bash exec bash -c "\$*"
 END_OF_FILE
     chmod +x "$recorded/ssh"
     campaign "$a,$b" "$recorded/one.list" --out "$out" --pages --transfer \
@@ -227,6 +228,10 @@ END_OF_FILE
             "['./base.toml', './one.A.pcap', './one.B.pcap']" 'files'
         wants_page "$out/pages/1/report.html"
     )"
+    printf '#!/bin/bash\n' >"$recorded/silent"
+    chmod +x "$recorded/silent"
+    campaign "$recorded/one.list" --out "$out" --sshlogin "1/$recorded/silent one"
+    tell 'a machine that answers nothing' "$(is_status 4; says out 'no answer')"
     campaign "$a,$b" "$a,$a" --out "$out" --transfer --sshlogin "1/$recorded/ssh one"
     tell 'transfer wants two names for a pair' "$(is_status 2; says err 'than one another')"
 }
