@@ -1,5 +1,5 @@
-"""The rows that spell out a recording, or two of them: what stands there is what the reference says,
-and what the program writes of the list that says the same."""
+"""The rows that spell out a recording, or two of them: what stands there is what the reference
+says, and what the program writes of the list that says the same."""
 from __future__ import annotations
 
 from pair_rows import PairRow
