@@ -6,7 +6,8 @@ PROGRAM is the built program, crates/afdx/out/afdx where it isn't given. The lis
 (1,000,000 where it isn't given), but at most about 500 MB, and are made in a temporary folder by
 bench/make_list.py, bench/make_network.py and bench/make_messages.py. Each list is run T times (3
 where it isn't given) from a file into /dev/null. Where the program reads recordings, frames are
-also recorded, by bench/make_recording.py; each counts as a line. One table in Markdown is printed:
+also recorded, by bench/make_recording.py; each counts as a line. They stand in order, and none is
+held but in rows that say so. One table in Markdown is printed:
 
     seconds        user and system seconds together, the least of the runs
     user seconds   the least of the runs
@@ -57,12 +58,15 @@ POLICE = [
     ("police, R lines of 200 random bytes", {"length": 200, "raw": True}),
 ]
 OF_64, OF_1518 = POLICE[1][0], POLICE[3][0]
-# a name, the length of the frames, an option, and the row of the list that says the same
+HELD = ["--fcs=no", "--reorder=10000"]
+# a name, the length of the frames, options, and the row of the list that says the same
 RECORDED = [
     ("police, a recording, 64 random bytes a frame", 64, [], OF_64),
     ("the same with --fcs no, 64 bytes", 64, ["--fcs=no"], OF_64),
+    ("the same, 10,000 frames held, 64 bytes", 64, HELD, OF_64),
     ("police, a recording, 1,518 random bytes a frame", 1518, [], OF_1518),
     ("the same with --fcs no, 1,518 bytes", 1518, ["--fcs=no"], OF_1518),
+    ("the same, 10,000 frames held, 1,518 bytes", 1518, HELD, OF_1518),
 ]
 REPLAY = [
     ("replay, 24 systems, 400 links, 100 Mbit/s", "aircraft", True),
@@ -301,17 +305,19 @@ def show_police(bench, given, baseline):
     return by_name
 
 
-def reads_recordings(program):
+def knows(program, option):
     """Its help names an option of recordings."""
     told = subprocess.run([program, "police", "--help"], capture_output=True, check=True)
-    return b"--interface" in told.stdout
+    return option in told.stdout
 
 
 def show_recorded(bench, given, empty):
     """The rows of recordings, each with the name of its list's row."""
-    rows = []
+    rows, orders = [], knows(bench.program, b"--reorder")
     for name, length, options, listed in RECORDED:
-        if given.only in name:
+        if options is not HELD and orders:
+            options = [*options, "--reorder=0"]
+        if given.only in name and (options is not HELD or orders):
             rows.append((bench.recording(name, length, options, given.lines), listed))
             show([*rows[-1][0].cells(), *empty])
     return rows
@@ -358,7 +364,7 @@ def main():
             subprocess.run(["cc", "-O2", "-o", built, BASELINE], check=True)
         head([*HEAD, *(RATIOS if built else [])])
         by_name, recorded = show_police(bench, given, built), []
-        if reads_recordings(bench.program):
+        if knows(bench.program, b"--interface"):
             recorded = show_recorded(bench, given, empty)
         by_kind = show_replay(bench, given, empty)
         if given.only in SEND:

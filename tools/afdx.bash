@@ -60,18 +60,20 @@ _afdx_is_option() { [[ -z $before && ${COMP_WORDS[COMP_CWORD]} == -* ]]; }
 _afdx() {
     local command=${COMP_WORDS[1]-} given before
     local told=(--explain --line-buffered --progress --summary --help)
-    local recorded=(--interface --fcs --origin)
+    local recorded=(--interface --fcs --origin --reorder)
     COMPREPLY=()
     if ((COMP_CWORD == 1)); then
         _afdx_commands check explain list police replay send solve
         return
     fi
-    _afdx_read 2 --vl --port --lmin --policing --keep "${recorded[@]}"
+    _afdx_read 2 --vl --port --lmin --policing --keep --stamps "${recorded[@]}"
     if _afdx_is_option; then
         case $command in
-            replay) _afdx_words --no-admission --explain-drops "${recorded[@]}" "${told[@]}" ;;
+            replay)
+                _afdx_words --no-admission --explain-drops --stamps "${recorded[@]}" "${told[@]}"
+                ;;
             send) _afdx_words "${told[@]}" ;;
-            list) _afdx_words "${recorded[@]}" "${told[@]}" ;;
+            list) _afdx_words --stamps "${recorded[@]}" "${told[@]}" ;;
             police) _afdx_words --vl --port --lmin --policing "${recorded[@]}" "${told[@]}" ;;
             check) _afdx_words --all --margins --explain --help ;;
             solve) _afdx_words --keep --raise-only --explain --help ;;
@@ -84,6 +86,7 @@ _afdx() {
             --policing) _afdx_words byte frame ;;
             --keep) _afdx_words jitter buffer latency skew ;;
             --fcs) _afdx_words yes no ;;
+            --stamps) _afdx_words end start ;;
         esac
         return
     fi
@@ -98,15 +101,16 @@ _afdx() {
 }
 
 _afdx_capture_list() {
-    _afdx_read 2 --config --interface --origin --fcs -o --out --split
+    _afdx_read 2 --config --interface --origin --fcs --reorder --stamps -o --out --split
     if _afdx_is_option; then
-        _afdx_words --config --interface --origin --fcs --out --split --help
+        _afdx_words --config --interface --origin --fcs --reorder --stamps --out --split --help
         return
     fi
     case $before in
         '') if ((${#given[@]} < 2)); then _afdx_recordings; fi ;;
         --config) _afdx_files toml ;;
         --fcs) _afdx_words yes no ;;
+        --stamps) _afdx_words end start ;;
         -o | --out | --split) _afdx_files list ;;
     esac
 }
@@ -152,10 +156,10 @@ _afdx_report() {
     local given before
     COMPREPLY=()
     _afdx_read 1 --out --link --from --rows --worst --compare --title --fail-on --junit \
-        --interface --fcs --origin
+        --interface --fcs --origin --reorder --stamps
     if _afdx_is_option; then
         _afdx_words --out --no-admission --link --from --rows --worst --compare --title --json \
-            --interface --fcs --origin --fail-on --junit --help --version
+            --interface --fcs --origin --reorder --stamps --fail-on --junit --help --version
         return
     fi
     case $before.${#given[@]} in
@@ -163,6 +167,7 @@ _afdx_report() {
         .1) _afdx_files list pcap pcapng ;;
         .2) _afdx_recordings ;;
         --fcs.*) _afdx_words yes no ;;
+        --stamps.*) _afdx_words end start ;;
         --out.*) _afdx_folders ;;
         --compare.*) _afdx_files json ;;
         --fail-on.*) _afdx_words dropped lost late too-old refused ;;
@@ -173,16 +178,18 @@ _afdx_report() {
 _afdx_campaign() {
     local given before
     COMPREPLY=()
-    _afdx_read 1 --out -j --jobs -S --sshlogin --fail-on --junit --interface --fcs --origin
+    _afdx_read 1 --out -j --jobs -S --sshlogin --fail-on --junit --interface --fcs --origin \
+        --reorder --stamps
     if _afdx_is_option; then
         _afdx_words --out --no-admission --pages --jobs --resume --sshlogin --transfer \
-            --interface --fcs --origin --fail-on --junit --help --version
+            --interface --fcs --origin --reorder --stamps --fail-on --junit --help --version
         return
     fi
     case $before.${#given[@]} in
         --fail-on.*) _afdx_words dropped lost late too-old refused ;;
         --junit.*) _afdx_files xml ;;
         --fcs.*) _afdx_words yes no ;;
+        --stamps.*) _afdx_words end start ;;
         .0) _afdx_files toml ;;
         .*) _afdx_files list pcap pcapng ;;
         --out.*) _afdx_folders ;;

@@ -16,8 +16,8 @@ function __afdx_given --description 'Words behind the command that belong to no 
     test (count $given) -gt 0; and printf '%s\n' $given
 end
 
-set -g __afdx_valued --vl --port --lmin --policing --keep --interface --config --origin --shift \
-    --fcs --side -o --out --split --link --from --rows --title -j --jobs -S --sshlogin
+set -g __afdx_valued --vl --port --lmin --policing --keep --interface --config --origin --reorder \
+    --stamps --fcs --side -o --out --split --link --from --rows --title -j --jobs -S --sshlogin
 
 function __afdx_at --description 'Is the word the one of that number behind COMMAND (- for none)?'
     set -l given (__afdx_given $__afdx_valued)
@@ -83,6 +83,8 @@ set -l reads '__afdx_in list police replay'
 complete -c afdx -n $reads -x -l interface -d 'Where an interface was plugged in'
 complete -c afdx -n $reads -x -l fcs -a 'yes no' -d 'Are there check sequences?'
 complete -c afdx -n $reads -x -l origin -d 'ns since 1970 of time 0'
+complete -c afdx -n $reads -x -l reorder -d 'How many in front may be later'
+complete -c afdx -n '__afdx_in list replay' -x -l stamps -a 'end start' -d 'Last bit or first?'
 complete -c afdx -n '__afdx_at police 0 0' -a '1 2 4 8 16 32 64 128'
 complete -c afdx -n '__afdx_at police 3 3' -a '(__afdx_files list pcap pcapng)'
 complete -c afdx -n '__afdx_at list 1 2' -a '(__afdx_files pcap pcapng)'
@@ -107,6 +109,8 @@ complete -c $tool -n '__afdx_in list' -x -l config -a '(__afdx_files toml)' -d '
 complete -c $tool -n '__afdx_in list' -x -l interface -d 'Where an interface was plugged in'
 complete -c $tool -n '__afdx_in list pcap annotate' -x -l origin -d 'ns since 1970 of time 0'
 complete -c $tool -n '__afdx_in list' -x -l fcs -a 'yes no' -d 'Are there check sequences?'
+complete -c $tool -n '__afdx_in list' -x -l reorder -d 'How many in front may be later'
+complete -c $tool -n '__afdx_in list' -x -l stamps -a 'end start' -d 'Last bit or first?'
 complete -c $tool -n '__afdx_in pcap' -x -l fcs -a 'yes no' -d 'With check sequences?'
 complete -c $tool -n '__afdx_in pcap' -x -l side -a 'A B' -d 'Only frames of this network'
 complete -c $tool -n '__afdx_in list' -r -F -s o -l out -d 'The list'
@@ -132,6 +136,8 @@ for tool in afdx-report afdx-campaign
     complete -c $tool -x -l interface -d 'Where an interface was plugged in'
     complete -c $tool -x -l fcs -a 'yes no' -d 'Are there check sequences?'
     complete -c $tool -x -l origin -d 'ns since 1970 of time 0'
+    complete -c $tool -x -l reorder -d 'How many in front may be later'
+    complete -c $tool -x -l stamps -a 'end start' -d 'Last bit or first?'
     complete -c $tool -x -l out -a '(__fish_complete_directories)' -d 'The folder of the output'
     complete -c $tool -n '__afdx_at - 0 0' -a '(__afdx_files toml)'
 end

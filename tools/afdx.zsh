@@ -19,7 +19,9 @@ local -a recorded=(
     '*--interface[where the frames of an interface of the recording came in]:K=PLACE:'
     '--fcs[do recorded frames end with check sequences]:answer:(yes no)'
     '--origin[the moment of the recording that is time 0, in ns since 1970]:ns:'
+    '--reorder[how many arrivals in front of a frame may be later]:number:'
 )
+local stamps='--stamps[are stamps those of the last bit or of the first]:end:(end start)'
 
 _afdx_systems() { # the names of the systems of the configuration that was given
     local -a names=(${(f)"$(sed -n -e '/^ *\(\[\[link\]\]\|link *=\)/q' \
@@ -42,13 +44,13 @@ _afdx_program() {
                 ':BAG in ms:(1 2 4 8 16 32 64 128)' ':Lmax in bytes:' ':jitter in us:' ":$input"
             ;;
         replay)
-            _arguments $help $told $recorded \
+            _arguments $help $told $recorded $stamps \
                 '--no-admission[also where the network is refused]' \
                 '--explain-drops[print how much too early frames came]' ":$config" ":$input" \
                 "::$recording"
             ;;
         list)
-            _arguments $help $told $recorded ":$config" ":$recording" "::$recording"
+            _arguments $help $told $recorded $stamps ":$config" ":$recording" "::$recording"
             ;;
         send)
             _arguments $help $told ":$config" ':system:_afdx_systems' \
@@ -66,7 +68,7 @@ _afdx_capture() {
     local origin='--origin[the time, in ns since 1970, that is 0 in the list]:ns:'
     case $1 in
         list)
-            _arguments $help $recorded \
+            _arguments $help $recorded $stamps \
                 "--config[the switch port is that of the sender in it]:$config" \
                 "(-o --out --split)"{-o,--out}"[the list]:$list" \
                 '(-o --out)--split[write several lists]:prefix:_files' ":$recording" \
@@ -97,7 +99,7 @@ case $service in
     afdx) _afdx_of_commands _afdx_program check explain list police replay send solve ;;
     afdx-capture) _afdx_of_commands _afdx_capture list pcap annotate ;;
     afdx-report)
-        _arguments $help $version $recorded \
+        _arguments $help $version $recorded $stamps \
             '--out[the folder for page, CSV and JSON]:folder:_path_files -/' \
             '--no-admission[also where the network is refused]' \
             '--link[the link of the time line]:number:' \
@@ -111,7 +113,7 @@ case $service in
             '--json[print the JSON instead of the text]' ":$config" ":$input" "::$recording"
         ;;
     afdx-campaign)
-        _arguments $help $version $recorded \
+        _arguments $help $version $recorded $stamps \
             '--out[the folder of the campaign]:folder:_path_files -/' \
             '--no-admission[also where the network is refused]' \
             '--pages[a page for each run too]' {-j,--jobs}'[runs at a time]:number:' \

@@ -22,14 +22,20 @@ def add_recording_words(parser: argparse.ArgumentParser) -> None:
     add("--fcs", choices=("yes", "no"), help="do recorded frames end with their check sequence?")
     origin = "the moment that is time 0, in ns since 1970 (that of the first arrival)"
     add("--origin", metavar="NS", help=origin)
+    reorder = "how many arrivals in front of a frame may be later; it is put before them (10000)"
+    add("--reorder", metavar="N", help=reorder)
+    stamps = "whether stamps are those of a frame's last bit or of its first (end)"
+    add("--stamps", choices=("end", "start"), help=stamps)
 
 
 def recording_options(args: argparse.Namespace) -> list[str]:
     """The options that were given, as the program takes them."""
     words = [f"--interface={each}" for each in args.interface]
-    if args.fcs is not None:
-        words.append(f"--fcs={args.fcs}")
-    return words if args.origin is None else [*words, f"--origin={args.origin}"]
+    for name in ("fcs", "origin", "reorder", "stamps"):
+        said = getattr(args, name)
+        if said is not None:
+            words.append(f"--{name}={said}")
+    return words
 
 
 def is_recording(path: str) -> bool:

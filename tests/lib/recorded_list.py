@@ -2,41 +2,23 @@
 the fault, and the counts, as docs/FORMATS.md has them."""
 from __future__ import annotations
 
-import zlib
-from typing import Iterator, NamedTuple
+from typing import NamedTuple, NoReturn
 
-from recorded import Frame, is_recording, recorded
+from recorded_arrivals import BROKEN, SKIPS, Arrival, Options, Systems
+from recorded_arrivals import is_closed, looks, standing_in
 
 LATEST_TIME = 10**15  # ns of a run
 MOST_LISTED = 2_000  # bytes of a recorded frame in the list; every switch drops a longer one
-SEALED = 0x2144DF1C  # the check sequence of bytes that end with that of the others
-SIDES = {0x20: "A", 0x40: "B"}
-SKIPS = ("no-frame", "left-out", "not-afdx", "unknown-sender", "no-network", "before-origin")
-
-
-class Options(NamedTuple):
-    """The options of a run on a recording, the port that `police` gives its frames, and the side
-    that they have as those of one of two recordings."""
-
-    places: dict[int, str] = {}  # of an interface: a side, a side and a port as `A:1`, or `-`
-    fcs: bool | None = None
-    origin: int | None = None
-    port: int | None = None
-    side: str | None = None  # that of all frames, where two recordings are read at once
-
-    def words(self) -> list[str]:
-        """The program's words, without those of the port and the side."""
-        words = [f"--interface={each}={place}" for each, place in self.places.items()]
-        if self.fcs is not None:
-            words.append(f"--fcs={'yes' if self.fcs else 'no'}")
-        return words if self.origin is None else [*words, f"--origin={self.origin}"]
+MOST_LOST = 2**64 - 1
 
 
 class Told(NamedTuple):
-    """What is told of a recording: a line of the list for each number, the line of the fault, which
-    is empty where there is none, and the line of the counts."""
+    """What is told of a recording, or of two: a line of the list for each number, in the order in
+    which the numbers are read and taken; those numbers; the line of the fault, which is empty where
+    there is none; the line of the counts."""
 
     lines: list[bytes]
+    numbers: list[int]
     fault: bytes
     skipped: bytes
 
@@ -44,141 +26,98 @@ class Told(NamedTuple):
         """The list."""
         return b"".join(self.lines)
 
-
-class Place(NamedTuple):
-    """Where a frame came in: a side and a port, None where nothing says it."""
-
-    side: str | None
-    port: int | None
-    is_claimed: bool  # the frame's own bytes say one of them
+    def status(self) -> int:
+        """How the run ends."""
+        if self.fault == f"{BROKEN}\n".encode():
+            return 4
+        return 3 if self.fault else 0
 
 
-def place_of(options: Options, ports: dict[int, int], frame: Frame) -> Place:
-    """Where a frame came in; `ports` are those of the systems, by their numbers."""
-    side, _, port = options.places.get(frame.interface, "").partition(":")
-    side, content = side or options.side or "", frame.bytes
-    claimed_side = SIDES.get(content[11]) if len(content) >= 12 else None
-    is_sender = len(content) >= 11 and content[6:9] == b"\x02\0\0"
-    claimed_port = ports.get(int.from_bytes(content[9:11], "big")) if is_sender else None
-    known = int(port) if port else options.port
-    return Place(
-        side or claimed_side,
-        claimed_port if known is None else known,
-        side == "" or known is None,
-    )
+class Ends(Exception):
+    """The run ends with this line."""
 
 
-def is_cut(frame: Frame, options: Options) -> bool:
-    """Bytes of the frame are missing, beside its check sequence where the frames have none."""
-    missing = frame.original - len(frame.bytes)
-    return missing > 0 and not (options.fcs is False and missing == 4)
-
-
-def is_closed(frame: Frame, options: Options) -> bool | None:
-    """It ends with its check sequence; None where that isn't said."""
-    said = {4: True, 0: False}.get(frame.check_sequence)
-    return said if options.fcs is None else options.fcs
-
-
-def outcomes(
-    options: Options, frame: Frame | None, place: Place | None, latest: int
-) -> Iterator[str]:
-    """What becomes of a number, by the first word; an arrival has none. Words of SKIPS are skipped,
-    the others are faults. `latest` is the moment of the last arrival."""
-    if frame is None or place is None:
-        yield "no-frame"
-    if options.places.get(frame.interface) == "-":
-        yield "left-out"
-    if frame.link_type != 1:
-        yield "NotEthernet"
-    if frame.stamp is None:
-        yield "NoTime"
-    if not frame.in_range:
-        yield "BadTime"
-    if is_cut(frame, options):
-        yield "Cut"
-    if len(frame.bytes) < 6 or frame.bytes[:4] != b"\x03\0\0\0":
-        yield "not-afdx"
-    if place.port is None:
-        yield "unknown-sender"
-    if place.side is None:
-        yield "no-network"
-    if options.origin is not None and frame.stamp < options.origin:
-        yield "before-origin"
-    if is_closed(frame, options) is None and zlib.crc32(frame.bytes) == SEALED:
-        yield "FcsUnclear"
-    if frame.stamp < latest:
-        yield "TimeBack"
-
-
-def line_of(options: Options, frame: Frame, place: Place, time: int) -> bytes:
+def line_of(options: Options, arrival: Arrival, time: int) -> bytes:
     """An arrival's line of the list."""
+    frame, place = arrival.frame, arrival.place
     kind = "B" if frame.found_wrong else "F"
-    if is_closed(frame, options) or len(frame.bytes) > MOST_LISTED:
+    if is_closed(options, frame) or len(frame.bytes) > MOST_LISTED:
         kind = "R"
     digits = frame.bytes[:MOST_LISTED].hex()
     return f"{kind} {time} {place.side} {place.port} {digits}\n".encode()
 
 
-def no_counts() -> dict[str, int]:
-    """What is counted beside the arrivals."""
-    return dict.fromkeys([*SKIPS, "recorder-lost", "claimed"], 0)
+class Source:
+    """A recording that a run reads, or one of two. Where it is open its bytes are not all."""
 
+    def __init__(
+        self, options: Options, systems: Systems, data: bytes, is_open: bool = False
+    ) -> None:
+        standing = standing_in(options, systems, data, is_open)
+        self.options, self.lost = options, standing.lost
+        self.looks = looks(standing, options.held())
 
-def skipped_line(counts: dict[str, int]) -> bytes:
-    """The line of the counts."""
-    return f"skipped {' '.join(f'{word} {count}' for word, count in counts.items())}\n".encode()
+    def end(self, fault: str) -> NoReturn:
+        """Ends the run with a fault of this recording, of which two name the side."""
+        side = self.options.side
+        raise Ends(fault if fault == BROKEN else f"recording {fault}{f' {side}' if side else ''}")
 
 
 class Run:
-    """What a run has taken so far."""
+    """What a run has read and taken so far."""
 
-    def __init__(self, options: Options, ports: dict[int, int]) -> None:
-        self.options, self.ports = options, ports
+    def __init__(self, origin: int | None) -> None:
+        self.origin = origin
         self.lines: list[bytes] = []
-        self.counts = no_counts()
-        self.origin, self.latest, self.arrivals = options.origin, 0, 0
+        self.numbers: list[int] = []
+        self.counts = dict.fromkeys([*SKIPS, "recorder-lost", "claimed"], 0)
 
-    def arrive(self, frame: Frame, place: Place) -> str:
-        """Takes an arrival; its fault, which is empty where it has none."""
-        self.origin = frame.stamp if self.origin is None else self.origin
-        time = frame.stamp - self.origin
+    def tell(self, number: int, line: bytes) -> None:
+        """One line more."""
+        self.lines.append(line)
+        self.numbers.append(number)
+
+    def seek(self, source: Source) -> Arrival | None:
+        """The next arrival of a recording, None at its end; what stands before it is skipped."""
+        look = next(source.looks)
+        for number, word in look.skipped:
+            self.counts[word] += 1
+            self.tell(number, f"# {word}\n".encode())
+        if look.fault:
+            source.end(look.fault)
+        return look.arrival
+
+    def take(self, source: Source, arrival: Arrival) -> None:
+        """Takes an arrival: the first one says when time 0 is, where no word does."""
+        self.origin = arrival.moment if self.origin is None else self.origin
+        time = arrival.moment - self.origin
         if time > LATEST_TIME:
-            return "TimeTooLarge"
-        self.lines.append(line_of(self.options, frame, place, time))
-        self.latest = frame.stamp
-        self.arrivals += 1
-        self.counts["claimed"] += place.is_claimed
-        return ""
+            source.end(f"TimeTooLarge {arrival.number}")
+        self.tell(arrival.number, line_of(source.options, arrival, time))
+        self.counts["claimed"] += arrival.place.is_claimed
 
-    def take(self, frame: Frame | None) -> str:
-        """Takes what has the next number; its fault, which is empty where it has none."""
-        place = frame and place_of(self.options, self.ports, frame)
-        outcome = next(outcomes(self.options, frame, place, self.latest), "")
-        if outcome in SKIPS:
-            self.counts[outcome] += 1
-            self.lines.append(f"# {outcome}\n".encode())
-            return ""
-        return outcome or self.arrive(frame, place)
+    def take_all(self, sources: list[Source]) -> None:
+        """Takes the arrivals of all recordings, up to a fault or to all ends: always the earliest
+        of their next ones, of equal moments the first recording's."""
+        heads = [self.seek(source) for source in sources]
+        while any(heads):
+            _, first = min((head.moment, place) for place, head in enumerate(heads) if head)
+            self.take(sources[first], heads[first])
+            heads[first] = self.seek(sources[first])
 
-    def told(self, fault: str) -> Told:
-        """What is told where it ends here, with a fault or without."""
-        line = f"recording {fault}\n" if fault else ""
-        return Told(self.lines, line.encode(), skipped_line(self.counts))
+    def told(self, sources: list[Source]) -> Told:
+        """What is told of these recordings."""
+        fault = ""
+        try:
+            self.take_all(sources)
+        except Ends as ends:
+            fault = f"{ends}\n"
+        lost = sum(source.lost for source in sources)
+        self.counts["recorder-lost"] = min(lost, MOST_LOST)
+        counts = " ".join(f"{word} {count}" for word, count in self.counts.items())
+        return Told(self.lines, self.numbers, fault.encode(), f"skipped {counts}\n".encode())
 
 
-def told(options: Options, ports: dict[int, int], data: bytes) -> Told:
-    """What is told of the bytes of a recording."""
-    run = Run(options, ports)
-    if not is_recording(data):
-        return run.told("NotRecording 0")
-    said = recorded(data)
-    run.counts["recorder-lost"] = said.lost
-    for number, frame in enumerate(said.numbers, 1):
-        fault = run.take(frame)
-        if fault:
-            return run.told(f"{fault} {number}")
-    count = len(said.numbers)
-    if said.fault:
-        return run.told(f"{said.fault} {count}")
-    return run.told(f"NoArrival {count}" if count and not run.arrivals else "")
+def told(options: Options, systems: Systems, data: bytes, is_open: bool = False) -> Told:
+    """What is told of the bytes of a recording; where it is open they are not all."""
+    return Run(options.origin).told([Source(options, systems, data, is_open)])

@@ -4,7 +4,8 @@ from __future__ import annotations
 from typing import NamedTuple
 
 from frames import HELLO, sealed
-from recorded_list import Options
+from reads import ORDERS
+from recorded_arrivals import Options
 
 # the frames of docs/FORMATS.md: link 1 with the message `hello`, link 2 with `world`, 60 bytes each
 H1 = HELLO.hex()
@@ -55,6 +56,7 @@ def statistics(interface: str, drops: str, system_drops: str) -> str:
 R, E, N, Z = pcap_frame, packet_us, packet_ns, statistics
 F1 = f"{PL} {R(ZERO, H1)}"
 G1 = f"{SL} {IL} {E(US, H1)}"
+BACK = PL + R(ONE, H1) + R(ZERO, H2)
 
 
 def from_sender(address: str) -> str:
@@ -178,7 +180,7 @@ def fault_rows() -> list[Row]:
             ACCEPT,
             "BadTime 2",
         ),
-        Row("back in time", PL + R(ONE, H1) + R(ZERO, H2), ACCEPT, "TimeBack 2"),
+        Row("back, --line-buffered", BACK, ACCEPT, "TimeBack 2", Options(at_once=True)),
         Row("a packet without a stamp", SL + IL + simple, "", "NoTime 1"),
         Row("another version", PL.replace("02000400", "02000300"), "", "BadVersion 0"),
         Row(
@@ -245,3 +247,10 @@ WRONG_WORDS = [
     (["--interface=1=A", "--interface=1=-"], "words BadInterface"),
     (["--origin=9223372036854775808"], "words BadNumber"),
 ]
+WRONG_ORDERS = [
+    (["--reorder=100001"], "words BadNumber"),
+    ([f"--reorder={2**64 - 1}", "--line-buffered"], "words BadNumber"),
+    (["--reorder=100001", "--origin=9223372036854775808"], "words BadNumber"),
+    (["--reorder=100001", "--interface=0=A:25"], "words BadInterface"),
+]
+WRONG_WORDS += WRONG_ORDERS if ORDERS else []

@@ -41,14 +41,15 @@ class Weak:
             self.known[given] = self.program.run(*self.words, "-", given=given)
         return self.known[given]
 
-    def lines_before(self, count: int) -> bytes:
-        """What the whole lines of the first bytes give, where the run then stops."""
+    def lines_before(self, count: int, at_once: bool = False) -> bytes:
+        """What the whole lines of the first bytes give, where the run then stops; whether each line
+        is written at once changes that for recordings."""
         front = self.given[:count]
         return self.undisturbed(front[: front.rfind(b"\n") + 1] + BEYOND).out
 
     def told_before(self, reads: list[Call]) -> bytes:
-        """What these reads give, where the run then asks for more."""
-        return self.lines_before(sum(call.answer for call in reads))
+        """What these reads give with --line-buffered, where the run then asks for more."""
+        return self.lines_before(sum(call.answer for call in reads), at_once=True)
 
     def run(self, most: int, *options: str, **broken: str) -> tuple[Answer, list[Call]]:
         """One run on weak devices, with the log of its calls."""

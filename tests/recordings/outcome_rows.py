@@ -2,10 +2,11 @@
 from __future__ import annotations
 
 from edge_rows import ARRIVAL, CLOSED, RAW, UNCLEAR, block, edge, interface, low, option, packet
-from recorded_list import Options
+from recorded_arrivals import Options
 from recording_rows import F1, FIRST_NS, G1, H1, H2, IL, IW, ONE, PL, SL, US, ZERO
 from recording_rows import E, R, Row, Z, from_sender
 
+AS_READ = Options(reorder=0)
 AT_START = Options(origin=FIRST_NS)
 AT_1 = Options({0: "A:1"})
 SIDE_B = Options({0: "B"})
@@ -71,7 +72,7 @@ def order_rows() -> list[Row]:
         edge("Cut before not-afdx", PL + cut, fault="Cut 1"),
         edge("no-network before the origin", nowhere, "# no-network", NONE, LATER),
         edge("before the origin, and unclear", PL + early, "# before-origin", NONE, AT_START),
-        edge("FcsUnclear before TimeBack", F1 + early, ARRIVAL, "FcsUnclear 2"),
+        edge("FcsUnclear before TimeBack", F1 + early, ARRIVAL, "FcsUnclear 2", AS_READ),
         edge("Cut before Ended", PL + cut + "00", fault="Cut 1"),
         edge("Ended before NoArrival", PL + R(ZERO, FOREIGN) + "00", "# not-afdx", "Ended 1"),
         edge("the first of two faults", PL + odd_time + cut, fault="BadTime 1"),
@@ -82,13 +83,14 @@ def time_rows() -> list[Row]:
     """Moments, the origin, and times."""
     one, late, foreign = PL + R(ZERO, H1), R("02000000", H2), R("09000000", FOREIGN)
     early, before = R(ZERO, H1, seconds="fff05365"), "# before-origin"
-    shown = f"F 2000 A 2 {H2}"
+    shown, early_as_read = f"F 2000 A 2 {H2}", AT_START._replace(reorder=0)
+    between = f"{ARRIVAL} / # not-afdx / {shown}"
     least, last = Options(origin=FIRST_NS - 10**15), Options(origin=2**63 - 1)
     return [
         edge("equal times", F1 + R(ZERO, H2), f"{ARRIVAL} / F 0 A 2 {H2}"),
-        edge("a skipped frame between", F1 + foreign + late, f"{ARRIVAL} / # not-afdx / {shown}"),
-        edge("back", F1 + late + R(ONE, H1), f"{ARRIVAL} / {shown}", "TimeBack 3"),
-        edge("early", F1 + early + late, f"{ARRIVAL} / {before} / {shown}", "", AT_START),
+        edge("a skipped frame between", F1 + foreign + late, between, "", AS_READ),
+        edge("back", F1 + late + R(ONE, H1), f"{ARRIVAL} / {shown}", "TimeBack 3", AS_READ),
+        edge("early", F1 + early + late, f"{ARRIVAL} / {before} / {shown}", "", early_as_read),
         edge("the origin later than all", one, before, NONE, LATER),
         edge("the origin a ns before", one, f"F 1 A 1 {H1}", "", Options(origin=FIRST_NS - 1)),
         edge("the origin 1970", one, "", "TimeTooLarge 1", Options(origin=0)),

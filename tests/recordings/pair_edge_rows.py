@@ -51,7 +51,14 @@ def fault_rows() -> list[PairRow]:
         faulty("A's version", PL.replace("400 ", "300 "), G1, "BadVersion 0 A"),
         faulty("B is damaged", F1, damaged, "Damaged 1 B", TWO),
         faulty("B isn't Ethernet", F1, SL + IW + E(US, H1), "NotEthernet 1 B"),
-        faulty("back in B alone", PL + R("09000000", H1), in_b, "TimeBack 2 B", "V 1 B accept"),
+        PairRow(
+            "back in B alone",
+            PL + R("09000000", H1),
+            in_b,
+            "V 1 B accept",
+            "TimeBack 2 B",
+            PairOptions(at_once=True),
+        ),
         faulty("unclear in B", F1, UNCLEAR, "FcsUnclear 1 B"),
     ]
 
@@ -134,7 +141,7 @@ def place_rows() -> list[PairRow]:
             "an interface of both that is left out",
             SL + IL + IL + E(US, H1) + of_interface(1),
             SL + IL + IW + of_interface(1) + E(US, H1),
-            options=at_places("1=-", "0=B:2"),
+            options=at_places("1=-", "0=B:2")._replace(reorder=0),
             listed=f"{left} / {ARRIVAL} / {left} / {at_2}",
             skipped="no-frame 0 left-out 2 .. claimed 1",
         ),

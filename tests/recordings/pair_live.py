@@ -1,5 +1,5 @@
 """Two recordings that come through pipes: each arrival is told once it is known that none comes
-before it, and not before."""
+before it, and not before; with --line-buffered, which holds none, or as many as --reorder says."""
 from __future__ import annotations
 
 import os
@@ -10,7 +10,8 @@ from typing import NamedTuple
 
 from pair_wanted import PairCase
 from program import Program, must, same_text, text_within
-from recorded_pair import NETWORKS
+from reads import ORDERS
+from recorded_pair import NETWORKS, PairOptions
 from recording_rows import H1, H2, IL, PL, SL, US, ZERO, E, R
 
 SOON = 20  # seconds
@@ -48,7 +49,7 @@ def started(program: Program, words: list[str], by_stdin: str) -> Iterator[Live]
     if by_stdin:
         names[by_stdin], given = "-", ends[by_stdin][0]
     process = subprocess.Popen(
-        [program.path, *words, "--line-buffered", *names.values()],
+        [program.path, *words, *names.values()],
         stdin=given,
         stdout=subprocess.PIPE,
         stderr=subprocess.PIPE,
@@ -81,11 +82,13 @@ def silent(live: Live) -> None:
     must(found == b"", "it is told too early")
 
 
-def live_pair(program: Program, words: list[str], steps: list[Step], by_stdin: str) -> None:
+def live_pair(
+    program: Program, words: list[str], reorder: int | None, steps: list[Step], by_stdin: str
+) -> None:
     """After each step everything is told that is known then, and before its last byte nothing of
     that; where both end, the run does."""
-    case, told, opens = PairCase((b"", b"")), b"", NETWORKS
-    with started(program, words, by_stdin) as live:
+    case, told, opens = held_case(reorder), b"", NETWORKS
+    with started(program, [*words, *case.options.words()], by_stdin) as live:
         for step in steps:
             place = NETWORKS.index(step.side)
             if step.data is None:
@@ -107,6 +110,32 @@ def live_pair(program: Program, words: list[str], steps: list[Step], by_stdin: s
         if said.status() != WAITS:
             found = live.process.wait(SOON), live.process.stderr.read()
             must(found == (said.status(), said.fault), f"it ends with {found}")
+
+
+def held_case(reorder: int | None) -> PairCase:
+    """Two recordings of which no byte has come yet."""
+    return PairCase((b"", b""), PairOptions(reorder=reorder, at_once=True))
+
+
+def held_in_order() -> dict[str, tuple[str, list[int]]]:
+    """The same where one arrival of each is held."""
+    first, second = R(ZERO, H1), R("01000000", H2)
+    third, fourth, foreign = R("02000000", H1), R("03000000", H2), R(ZERO, FOREIGN)
+    heads = f"A{PL} / B{PL}"
+    return {
+        "one is held, in order": (
+            f"{heads} / A{first} / B{first} / A{second} / B{second} / A{third} / A / B",
+            [0, 0, 0, 0, 0, 1, 2, 2, 5],
+        ),
+        "one is held, out of order": (
+            f"{heads} / A{second} / A{first} / B{fourth} / B{third} / A{foreign} / A / B",
+            [0, 0, 0, 0, 0, 1, 1, 3, 4],
+        ),
+        "one is held, a fault of A": (
+            f"{heads} / A{second} / B{first} / B{third} / A{fourth} / A{first} / B",
+            [0, 0, 0, 0, 0, 1, 1, 4],
+        ),
+    }
 
 
 def held_back() -> dict[str, tuple[str, list[int]]]:
@@ -144,9 +173,9 @@ def held_back() -> dict[str, tuple[str, list[int]]]:
     }
 
 
-def counts_hold(steps: list[Step], counts: list[int]) -> None:
+def counts_hold(reorder: int | None, steps: list[Step], counts: list[int]) -> None:
     """The reference tells so many arrivals behind each step."""
-    case, opens, found = PairCase((b"", b"")), NETWORKS, []
+    case, opens, found = held_case(reorder), NETWORKS, []
     for step in steps:
         place = NETWORKS.index(step.side)
         if step.data is None:
@@ -160,10 +189,13 @@ def counts_hold(steps: list[Step], counts: list[int]) -> None:
 def live_pairs(program: Program) -> Iterator[tuple]:
     """All, by `replay` and by `list`, from two pipes and from one and standard input."""
     turns = ["", "A", "B"]
-    for name, (text, counts) in held_back().items():
+    tries = [(name, None, *each) for name, each in held_back().items()]
+    if ORDERS:
+        tries += [(name, 1, *each) for name, each in held_in_order().items()]
+    for name, reorder, text, counts in tries:
         steps = steps_of(text)
-        yield f"two, as they come: {name}, counted", counts_hold, steps, counts
+        yield f"two, as they come: {name}, counted", counts_hold, reorder, steps, counts
         for command in ("replay", "list"):
             turns.append(turns.pop(0))
-            given = program, [command, "base.toml"], steps, turns[0]
+            given = program, [command, "base.toml"], reorder, steps, turns[0]
             yield f"two, as they come: {name}, {command}", live_pair, *given

@@ -7,15 +7,16 @@ import random
 import threading
 
 from made_recordings import made_data
-from pair_edge_rows import pair_rows
 from pair_live import live_pairs
 from pair_rows import PairRow
-from pair_wanted import PairCase, cut_pair, pair_case, random_pair, renumbered
+from pair_wanted import PairCase, cut_pair, pair_case, random_pair
 from pair_words import try_pair_words
 from program import Answer, Cases, Program, answers, must, same_text
+from reads import ORDERS
 from recorded_pair import NETWORKS
 from recording_rows import PL
 from row_holds import row_holds
+from wanted import renumbered
 
 KINDS = ("made", "mutated")
 GROUPS, EACH = 8, 15  # pairs made at random
@@ -42,7 +43,8 @@ def reads_pair(program: Program, case: PairCase) -> None:
     words, said, wanted = case.words(), case.told(), case.listed(program)
     from_anywhere(program, words, case, wanted)
     paths = paths_of(program, case.pair)
-    answers(program.run(*words, "--line-buffered", *paths), *wanted)
+    live = case.at_once()
+    answers(program.run(*live.words(), *paths), *live.listed(program))
     counts = said.fault or case.listed(program, "--summary").err + said.skipped
     answers(program.run(*words, "--summary", *paths), wanted.status, wanted.out, counts)
     early = case.listed(program, "--explain-drops")
@@ -58,7 +60,9 @@ def lists_pair(program: Program, case: PairCase) -> None:
     """`list` writes the list that says the same."""
     words, said = list_words(case), case.told()
     from_anywhere(program, words, case, Answer(said.status(), said.text(), said.fault))
-    counted = program.run(*words, "--line-buffered", "--summary", *paths_of(program, case.pair))
+    live = case.at_once()
+    said, paths = live.told(), paths_of(program, case.pair)
+    counted = program.run(*list_words(live), "--summary", *paths)
     answers(counted, said.status(), said.text(), said.fault or said.skipped)
 
 
@@ -110,9 +114,8 @@ def reads_and_lists(program: Program, case: PairCase) -> None:
     answers(found, said.status(), said.text(), said.fault)
 
 
-def cut_each_byte(program: Program, row: PairRow, place: int) -> None:
+def cut_each_byte(program: Program, case: PairCase, place: int) -> None:
     """A pair of which one recording is cut at each byte."""
-    case = pair_case(row)
     for size in range(len(case.pair[place])):
         reads_and_lists(program, case.with_half(place, case.pair[place][:size]))
 
@@ -130,20 +133,27 @@ def alone(program: Program, number: int) -> None:
         answers(found, wanted.status, wanted.out, err)
 
 
-def sound_rows() -> list[PairRow]:
-    """Those with the most numbers, of two sound recordings."""
-    sound = [row for row in pair_rows() if not row.fault]
-    return sorted(sound, key=lambda row: -len(pair_case(row).told().lines))[:CUT_ROWS]
+def cut_cases(every: list[PairRow]) -> dict[str, PairCase]:
+    """Those with the most numbers, of two sound recordings: as they stand, and where arrivals are
+    held."""
+    sound = [pair_case(row) for row in every if not row.fault]
+    longest = sorted(sound, key=lambda case: -len(case.told().lines))[:CUT_ROWS]
+    reorders = {"as they stand": 0} | ({"one is held": 1, "held": None} if ORDERS else {})
+    return {
+        f"{number}, {name}": case._replace(options=case.options._replace(reorder=reorder))
+        for number, case in enumerate(longest, 1)
+        for name, reorder in reorders.items()
+    }
 
 
-def try_pairs(cases: Cases, program: Program) -> None:
-    """All cases but those of memory."""
-    cases.try_at_once([(f"two: {row.name}", pair_row_is_read, program, row) for row in pair_rows()])
+def try_pairs(cases: Cases, program: Program, every: list[PairRow]) -> None:
+    """All cases but those of memory; these rows are spelled out."""
+    cases.try_at_once([(f"two: {row.name}", pair_row_is_read, program, row) for row in every])
     try_pair_words(cases, program)
     some = []
     for place, side in enumerate(NETWORKS):
-        named = [(f"two, {side} cut: {row.name}", row) for row in sound_rows()]
-        some += [(name, cut_each_byte, program, row, place) for name, row in named]
+        for name, case in cut_cases(every).items():
+            some.append((f"two, {side} cut: {name}", cut_each_byte, program, case, place))
     for kind in KINDS:
         names = [(f"two: {kind}, {group}", group) for group in range(GROUPS)]
         some += [(name, many_pairs, program, kind, group) for name, group in names]

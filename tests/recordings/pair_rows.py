@@ -13,6 +13,7 @@ OF_B = f"F 0 B 1 {H1}"
 FIVE, SIX, EIGHT = "05000000", "06000000", "08000000"  # us
 TOLD_OF_B = "V 1 B accept / D 1 6720 B 3 / M 6720 s3 1 68656c6c6f"
 CUT = R(FIVE, H1[:80], "28000000 3c000000")
+AS_READ = PairOptions(reorder=0)
 
 
 class PairRow(NamedTuple):
@@ -115,6 +116,7 @@ def reading_rows() -> list[PairRow]:
             "skipped numbers, where they are read",
             a,
             b,
+            options=AS_READ,
             listed=f"# no-frame / # not-afdx / {ARRIVAL} / # no-frame / F 1000 B 1 {H1}"
             f" / # not-afdx / F 5000 A 2 {H2}",
             summary="lines 7 accepted 3 ..",

@@ -3,35 +3,17 @@ same, the fault and the counts, and the program's run on that list the text, but
 from __future__ import annotations
 
 import random
-from collections.abc import Callable
 from typing import NamedTuple
 
 from made_recordings import made_pair
 from pair_rows import PairRow
-from program import Answer, Program, must
-from recorded_pair import Number, PairOptions, ToldPair, told_pair
+from program import Answer, Program
+from recorded_list import Told
+from recorded_pair import PairOptions, told_pair
 from recording_rows import FIRST_NS
-from wanted import BEYOND, IN_BASE, Case, Command
+from wanted import IN_BASE, Case, Command, random_order
 
-AT = {b"V": 1, b"L": 1, b"D": 1, b"T": 1, b"X": 3, b"early": 1}  # where a line's number stands
 PLACES = ["A", "B", "A:1", "B:1", "A:2", "B:2", "A:24", "-"]
-
-
-def renumbered(text: bytes, number_of: Callable[[int], int]) -> bytes:
-    """The text of a run with other numbers of frames."""
-    lines = []
-    for line in text.splitlines():
-        words = line.split(b" ")
-        at = AT.get(words[0])
-        if at is not None:
-            words[at] = b"%d" % number_of(int(words[at]))
-        lines.append(b" ".join(words) + b"\n")
-    return b"".join(lines)
-
-
-def numbered(text: bytes, numbers: list[Number]) -> bytes:
-    """The text of a run on a list, with the numbers that its lines have in their recordings."""
-    return renumbered(text, lambda line: numbers[line - 1].number)
 
 
 class PairCase(NamedTuple):
@@ -41,9 +23,13 @@ class PairCase(NamedTuple):
     options: PairOptions = PairOptions()
     command: Command = IN_BASE
 
-    def told(self, opens: str = "") -> ToldPair:
+    def told(self, opens: str = "") -> Told:
         """What the reference says; `opens` are the sides of which more bytes are to come."""
-        return told_pair(self.options, self.command.ports, self.pair, opens)
+        return told_pair(self.options, self.command.systems, self.pair, opens)
+
+    def at_once(self) -> PairCase:
+        """The same where each line is written at once."""
+        return self._replace(options=self.options._replace(at_once=True))
 
     def words(self) -> list[str]:
         """The command with its options, without the recordings."""
@@ -56,18 +42,9 @@ class PairCase(NamedTuple):
 
     def listed(self, program: Program, *more: str, opens: str = "") -> Answer:
         """What the program must write of them: what it writes of the list that says the same, up to
-        the fault. Where it ends well, standard error has what `more` words ask for."""
-        wanted = self.told(opens)
-        given = wanted.text() + (BEYOND if wanted.fault else b"")
-        found = Case(b"", command=self.command).run_on(program, given, *more)
-        out, err = numbered(found.out, wanted.numbers), found.err
-        if not wanted.fault:
-            must(found.status == 0, f"the list of it has a fault: {found.err!r}")
-            return Answer(0, out, numbered(err, wanted.numbers))
-        line = b"list BadLine %d\n" % (len(wanted.lines) + 1)
-        must(found.status == 3 and err.endswith(line), f"the list of it: {err!r}")
-        early = numbered(err.removesuffix(line), wanted.numbers)
-        return Answer(wanted.status(), out, early + wanted.fault)
+        the fault, but for the numbers of frames. Where it ends well, standard error has what `more`
+        words ask for."""
+        return Case(b"", command=self.command).run_of(program, self.told(opens), *more)
 
 
 def pair_case(row: PairRow) -> PairCase:
@@ -91,6 +68,7 @@ def random_options(chance: random.Random) -> PairOptions:
         tuple(places),
         chance.choice([None, None, None, True, False]),
         origin if chance.random() < 0.3 else None,
+        **random_order(chance),
     )
 
 

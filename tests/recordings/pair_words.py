@@ -8,12 +8,14 @@ from pair_rows import PairRow
 from pair_wanted import PairCase, pair_case
 from program import Cases, Program, answers, must, same_text
 from reading_words import BAD_INTERFACES, GOOD_INTERFACES, SPELLED, TIGHT
+from reads import ORDERS
 from recorded_pair import PairOptions
 from recording_rows import FIRST_NS
 from wanted import with_base
 
 COMMANDS = [["replay", "base.toml"], ["list", "base.toml"]]
 BAD, LATE = "--interface=0=C", "--origin=9223372036854775808"
+MANY = "--reorder=100001"
 PAIR = SPELLED["pcap"], SPELLED["pcapng"]
 
 # places that can't be said together, and those that can
@@ -76,9 +78,14 @@ def sides_of_one(program: Program, paths: list[str]) -> None:
 
 def spaced(program: Program, paths: list[str]) -> None:
     """An option and its value as two words, before the recordings, between and behind them."""
-    case = PairCase(PAIR, PairOptions(("0=A:1", "7=-", "0=B:2"), True, FIRST_NS - 5))
+    options = PairOptions(("0=A:1", "7=-", "0=B:2"), True, FIRST_NS - 5)
     places = ["--interface", "7=-", "--origin", f"{FIRST_NS - 5}", "--interface", "0=B:2"]
-    more, wanted = ["--fcs", "yes", "--interface", "0=A:1"], case.listed(program)
+    more = ["--fcs", "yes", "--interface", "0=A:1"]
+    if ORDERS:
+        options = options._replace(reorder=3, stamps="start")
+        places, more = [*places, "--reorder", "3"], [*more, "--stamps", "start"]
+    case = PairCase(PAIR, options)
+    wanted = case.listed(program)
     answers(program.run("replay", *places, *more, "base.toml", *paths), *wanted)
     answers(program.run("replay", "base.toml", paths[0], *places, paths[1], *more), *wanted)
     answers(program.run("replay", *more, "base.toml", *places, *paths), *wanted)
@@ -130,6 +137,13 @@ def order(program: Program, paths: list[str]) -> None:
         (["base.toml", *other], 3, b"recording NotRecording 0 B\n"),
         (["base.toml", *reversed(other)], 3, b"recording NotRecording 0 A\n"),
     ]
+    if ORDERS:
+        tries += [
+            ([MANY, BAD, "bad.toml", *twice], 2, b"words BadInterface\n"),
+            ([MANY, "bad.toml", *twice], 2, b"words BadNumber\n"),
+            ([MANY, LATE, "base.toml", *other], 2, b"words BadNumber\n"),
+            (["--reorder=0", "--stamps=start", "bad.toml", *twice], 2, b"words SameInput\n"),
+        ]
     for words, status, err in tries:
         for command in ("replay", "list"):
             answers(program.run(command, *words), status, b"", err)

@@ -4,9 +4,9 @@ from __future__ import annotations
 from first_fault import list_fault
 from frames import HELLO
 from program import Cases, Program, answers, must, same_text
-from reads import READS, is_read
-from recorded_list import Options
-from recording_rows import F1, FIRST_NS, G1, PL, WRONG_WORDS, Row, rows
+from reads import HELD, ORDERS, READS, is_read
+from recorded_arrivals import Options
+from recording_rows import BACK, F1, FIRST_NS, G1, PL, WRONG_WORDS, Row, rows
 from tables import base_tables, text_of
 from wanted import POLICE, Case, case_of, path_of
 
@@ -20,6 +20,18 @@ TIGHT = text_of(base_tables() | {"buffer": 251})  # not admitted
 BAD_INTERFACES = ["", "0", "=A", "0=", "0=a", "0=C", "0=AB", "0=A:", "0=A:0", "0=A:25", "0=A:001"]
 BAD_INTERFACES += ["0=A:1:2", "0=A:+1", "0=-:1", "0=:1", "0=--", "+0=A", "4096=A", "00001=A", "x=A"]
 BAD_INTERFACES += ["0= A", " 0=A", "0=A ", "0=A:1 ", "0 =A", "0==A", "0x1=A"]
+# words that are taken, and how many arrivals are held
+GOOD_ORDERS = [
+    (["--reorder=0"], 0),
+    (["--reorder=1"], 1),
+    (["--reorder=100000"], 100_000),
+    (["--reorder", "0000001"], 1),
+    (["--stamps=end"], HELD),
+    (["--line-buffered"], 0),
+    (["--line-buffered", "--reorder=0"], 0),
+    (["--reorder=10000", "--stamps=end", "--line-buffered"], 10_000),
+]
+BAD_STAMPS = ["--stamps", "--stamps=", "--stamps=middle", "--stamps=END", "--stamps=0"]
 GOOD_INTERFACES = ["0=A", "0=B", "0=A:1", "0=B:24", "0=A:01", "0000=A", "4095=-", "0=-"]
 
 
@@ -41,36 +53,65 @@ def good_words(program: Program, word: str) -> None:
         answers(found, 3 if said.fault else 0, said.text(), said.fault)
 
 
+def good_orders(program: Program, words: list[str], held: int) -> None:
+    """The words are taken, and as many arrivals are held as they say."""
+    data = bytes.fromhex(BACK)
+    path, case = path_of(program, data), Case(data, Options(reorder=held))
+    said, wanted = case.told(), case.listed(program)
+    answers(program.run("replay", *words, "base.toml", path), *wanted)
+    found = program.run("list", *words, "base.toml", path)
+    answers(found, said.status(), said.text(), said.fault)
+    police = Case(data, Options(port=1, reorder=held), " ".join(POLICE[1:]))
+    words = [word for word in words if not word.startswith("--stamps")]
+    answers(program.run(*POLICE, *words, path), *police.listed(program))
+
+
 def spaced_words(program: Program) -> None:
     """An option and its value as two words, and the options in any order."""
-    case = Case(SPELLED["pcap"], Options({0: "B:2", 7: "-"}, True, FIRST_NS - 5))
+    options = Options({0: "B:2", 7: "-"}, True, FIRST_NS - 5)
     words = ["--interface", "7=-", "--origin", f"{FIRST_NS - 5}", "--interface", "0=B:2"]
+    if ORDERS:
+        options = options._replace(reorder=3, stamps="start")
+        words += ["--reorder", "3", "--stamps", "start"]
+    case = Case(SPELLED["pcap"], options)
     path, wanted = path_of(program, case.data), case.listed(program)
     answers(program.run("replay", *words, "--fcs", "yes", "base.toml", path), *wanted)
     answers(program.run("replay", "base.toml", path, "--fcs", "yes", *words), *wanted)
 
 
+def numbers_of(word: str) -> list[str]:
+    """An option with what is no number of 64 bits, and with nothing."""
+    return [word, *(f"{word}={each}" for each in ("-1", "", "x", "1e9", "0x1", 2**64))]
+
+
 def unknown_words(program: Program) -> None:
-    """What the parser of words refuses, in lines of its own."""
+    """What the parser of words refuses, in lines of its own; `--stamps` is no word of `police`."""
     path = path_of(program, SPELLED["pcap"])
-    numbers = ["--origin=-1", "--origin=", "--origin=x", "--origin=1e9", f"--origin={2**64}"]
-    for word in ["--fcs=maybe", "--fcs=", "--fcs", "--origin", "--interface", *numbers]:
-        for command in COMMANDS:
-            found = program.run(*command, path, word)
-            must((found.status, found.out) == (2, b""), f"{word}: status {found.status}")
-            must(found.err != b"", f"{word}: nothing is told")
-    for twice in (["--fcs=yes", "--fcs=no"], ["--origin=0", "--origin=1"]):
-        found = program.run(*COMMANDS[0], path, *twice)
-        must(found.status == 2 and found.out == b"", f"{twice}: status {found.status}")
+    each = ["--fcs=maybe", "--fcs=", "--fcs", "--interface", *numbers_of("--origin")]
+    twice = [["--fcs=yes", "--fcs=no"], ["--origin=0", "--origin=1"]]
+    of_police: list[str] = []
+    if ORDERS:
+        each += [*numbers_of("--reorder"), *BAD_STAMPS]
+        twice += [["--reorder=0", "--reorder=0"], ["--stamps=end", "--stamps=start"]]
+        of_police += ["--stamps=end", "--stamps=start"]
+    tries = [(command, [word]) for command in COMMANDS for word in each]
+    tries += [(POLICE, [word]) for word in of_police]
+    tries += [(COMMANDS[0], words) for words in twice]
+    for command, words in tries:
+        found = program.run(*command, path, *words)
+        must((found.status, found.out) == (2, b""), f"{words}: status {found.status}")
+        must(found.err != b"", f"{words}: nothing is told")
 
 
 def helpful(program: Program) -> None:
     """The help names the options, and says that --summary alone tells what was left out, in the
     line `skipped`."""
     for command, *_ in COMMANDS:
-        found = program.run(command, "--help")
-        for word in (b"--interface", b"--fcs", b"--origin", b"'skipped"):
-            must(word in found.out, f"the help of {command} has no {word.decode()}")
+        found, words = program.run(command, "--help"), ["--interface", "--fcs", "--origin"]
+        words += ["--reorder"] if ORDERS else []
+        words += ["--stamps"] if ORDERS and command != "police" else []
+        for word in [*words, "'skipped"]:
+            must(word.encode() in found.out, f"the help of {command} has no {word}")
 
 
 def word_cases(program: Program) -> list[tuple]:
@@ -91,7 +132,26 @@ def word_cases(program: Program) -> list[tuple]:
     for each in GOOD_INTERFACES:
         word = f"--interface={each}"
         cases.append((f"words: {word}", good_words, program, word))
+    for words, held in GOOD_ORDERS if ORDERS else ():
+        cases.append((f"words: {' '.join(words)}", good_orders, program, words, held))
     return cases
+
+
+def late_orders(path: str, bad: str, late: str) -> list[tuple[list[str], int, bytes]]:
+    """Words of `--reorder` that are out of range, and what comes before and behind that."""
+    many, number = "--reorder=100001", b"words BadNumber\n"
+    return [
+        (["replay", many, "none.toml", path], 4, b"device Config\n"),
+        (["replay", many, "base.toml", "none"], 4, b"device List\n"),
+        (["replay", many, bad, "bad.toml", path], 2, b"words BadInterface\n"),
+        (["replay", many, "bad.toml", path], 2, number),
+        (["replay", many, late, "base.toml", path], 2, number),
+        (["list", many, "bad.toml", path], 2, number),
+        (["list", "--stamps=start", "bad.toml", path], 1, b"config BadProfile\n"),
+        (["police", many, "3", "64", "500", path], 2, number),
+        (["police", many, bad, "3", "64", "500", path], 2, b"words BadInterface\n"),
+        (["police", "--reorder=0", "3", "64", "500", path], 2, b"words BadRule\n"),
+    ]
 
 
 def word_order(program: Program) -> None:
@@ -124,6 +184,7 @@ def word_order(program: Program) -> None:
         (["list", "--fcs=yes", "bad.toml", listed], 1, b"config BadProfile\n"),
     ]
     tries += lists if "list" in READS else []
+    tries += late_orders(path, bad, late) if ORDERS else []
     for words, status, err in tries:
         answers(program.run(*words), status, b"", err)
 
@@ -138,9 +199,12 @@ def no_recordings(program: Program) -> None:
         path = path_of(program, data)
         if "list" in READS:
             answers(program.run("list", "base.toml", path), *fault)
-        for option in ("--interface=0=A", "--fcs=no", "--origin=0"):
+        options = ["--interface=0=A", "--fcs=no", "--origin=0"]
+        options += ["--reorder=0", "--reorder=10000", "--stamps=end"] if ORDERS else []
+        for option in options:
             answers(program.run("replay", option, "base.toml", path), *fault)
-            answers(program.run(*POLICE, option, path), *fault)
+            if "stamps" not in option:
+                answers(program.run(*POLICE, option, path), *fault)
         line = list_fault(data, True)
         answers(program.run("replay", "base.toml", path), 3 if line else 0, None, line)
 
@@ -160,7 +224,7 @@ def not_admitted(program: Program) -> None:
 
 def explained(program: Program, row: Row) -> None:
     """A fault with what it means, as `explain` has it."""
-    path, words = path_of(program, row.bytes()), [*case_of(row).words(), *row.options.words()]
+    path, words = path_of(program, row.bytes()), case_of(row).run_words()
     meant = program.run("explain", "recording", *row.fault.split())
     answers(meant, 0, None, b"")
     found = program.run(*words, "--explain", path)
@@ -172,8 +236,11 @@ def explained(program: Program, row: Row) -> None:
 def explained_cases(program: Program) -> list[tuple]:
     """A row for each name of a fault."""
     by_name = {row.fault.split()[0]: row for row in rows() if row.fault}
-    faulty = [row for row in by_name.values() if is_read(row.bytes()) or row.options.words()]
-    return [(f"explained: {row.fault}", explained, program, row) for row in faulty]
+    return [
+        (f"explained: {row.fault}", explained, program, row)
+        for row in by_name.values()
+        if is_read(row.bytes()) or row.options.want_recording()
+    ]
 
 
 def try_words(cases: Cases, program: Program) -> None:

@@ -6,8 +6,9 @@ import shutil
 import subprocess
 from typing import NamedTuple
 
-from program import Wrong, must
+from program import Program, Wrong, must
 from recorded import Broken, Frame, Recording, Section, numbered, recorded
+from recorded_arrivals import Options
 
 LONGEST = 120  # seconds of one run
 
@@ -86,6 +87,42 @@ def same_frame(number: int, frame: Frame | None, layers: dict, are_fine: bool) -
         wanted["stamp"] = found["stamp"]
     for what, value in wanted.items():
         must(found[what] == value, f"{number}, {what}: {value}, by tshark {found[what]}")
+
+
+def interface_of(layers: dict) -> int:
+    """The number of a frame's interface."""
+    return int(layers["frame"].get("frame.interface_id", "0"))
+
+
+def lines_of(frames: list[dict]) -> list[str]:
+    """The lines of a list that say what tshark says of frames, where interface K is at A:K+1; first
+    letters aside."""
+    lines, origin = list[str](), None
+    for layers in frames:
+        told, content = layers["frame"], layers.get("frame_raw", [""])[0]
+        if "frame.encap_type" not in told:
+            lines.append("# no-frame")
+        elif not content.startswith("03000000"):
+            lines.append("# not-afdx")
+        else:
+            moment = nanoseconds(told["frame.time_epoch"])
+            origin = moment if origin is None else origin
+            lines.append(f" {moment - origin} A {interface_of(layers) + 1} {content}")
+    return lines
+
+
+def listed_as_tshark(program: Program, path: str) -> None:
+    """`list` says of number n what tshark says of frame n, in line n, where no arrival is held; up
+    to a fault."""
+    frames = said_of(path).frames
+    places = {interface_of(layers): f"A:{interface_of(layers) + 1}" for layers in frames}
+    options, wanted = Options(places, reorder=0), lines_of(frames)
+    found = program.run("list", *options.words(), "base.toml", path)
+    lines = [line if line[0] == "#" else line[1:] for line in found.out.decode().splitlines()]
+    must(found.status in (0, 3), f"status {found.status}: {found.err!r}")
+    must(found.status == 3 or len(lines) == len(wanted), f"{len(lines)} lines")
+    for number, (line, said) in enumerate(zip(lines, wanted), 1):
+        must(line == said, f"line {number} is {line}, by tshark {said}")
 
 
 def same_as_tshark(path: str) -> Recording:

@@ -5,17 +5,20 @@ from __future__ import annotations
 import random
 import re
 import threading
+from collections.abc import Callable
 from typing import NamedTuple
 
-from made_recordings import SENDERS
+from order_rows import orders
 from program import Answer, Program, answers, must
-from recorded_list import Options, Told, told
+from reads import ORDERS
+from recorded_arrivals import Options, Systems
+from recorded_list import Told, told
 from recording_rows import FIRST_NS, Row, rows
-from tables import example
+from tables import example, example_tables
 
-PORTS = {system["id"]: system["port"] for system in SENDERS.values()} | {3: 3}
 POLICE = ["police", "1", "64", "500"]
 BEYOND = b"!\n"  # a line that is none: what stands before it is written, and no more
+AT = {b"V": 1, b"L": 1, b"D": 1, b"T": 1, b"X": 3, b"early": 1}  # where a line's number stands
 
 
 def fits(pattern: str, text: bytes) -> bool:
@@ -26,16 +29,40 @@ def fits(pattern: str, text: bytes) -> bool:
     return re.fullmatch(re.escape(lines).replace(r"\.\.", ".*"), text.decode()) is not None
 
 
+def renumbered(text: bytes, number_of: Callable[[int], int]) -> bytes:
+    """The text of a run with other numbers of frames."""
+    lines = []
+    for line in text.splitlines():
+        words = line.split(b" ")
+        at = AT.get(words[0])
+        if at is not None:
+            words[at] = b"%d" % number_of(int(words[at]))
+        lines.append(b" ".join(words) + b"\n")
+    return b"".join(lines)
+
+
+def numbered(text: bytes, numbers: list[int]) -> bytes:
+    """The text of a run on a list, with the numbers that its lines have in their recordings."""
+    return renumbered(text, lambda line: numbers[line - 1])
+
+
+def systems_of(tables: dict) -> Systems:
+    """The systems of a configuration."""
+    ports = {system["id"]: system["port"] for system in tables["system"]}
+    return Systems(ports, {system["port"]: system["rate"] for system in tables["system"]})
+
+
 class Command(NamedTuple):
-    """A replay without the options and the list, and the ports of the systems by their numbers."""
+    """A replay without the options and the list, and the systems of its configuration."""
 
     words: tuple[str, ...]
-    ports: dict[int, int]
+    systems: Systems
 
 
-IN_BASE = Command(("replay", "base.toml"), PORTS)
+IN_BASE = Command(("replay", "base.toml"), systems_of(example_tables("base.toml")))
 KNOWN: dict[tuple, Answer] = {}  # answers to lists of a few bytes, which many recordings give
 FEW = 10_000
+CUT_ROWS = ("remarks, --reorder 1", "remarks, no option", "by number", "stamps of starts")
 
 
 class Case(NamedTuple):
@@ -48,13 +75,25 @@ class Case(NamedTuple):
 
     def told(self) -> Told:
         """What the reference says."""
-        return told(self.options, self.command.ports, self.data)
+        return told(self.options, self.command.systems, self.data)
+
+    def at_once(self) -> Case:
+        """The same where each line is written at once."""
+        return self._replace(options=self.options._replace(at_once=True))
 
     def words(self) -> list[str]:
         """The command without the options and the list."""
         if not self.rule:
             return list(self.command.words)
         return ["police", f"--port={self.options.port}", *self.rule.split()]
+
+    def run_words(self) -> list[str]:
+        """The command with its options, without the recording."""
+        return [*self.words(), *self.options.words()]
+
+    def list_words(self) -> list[str]:
+        """`list` in the place of the replay, with its options."""
+        return ["list", *self.options.words(), self.command.words[-1]]
 
     def run_on(self, program: Program, given: bytes, *more: str) -> Answer:
         """The program's run on a list."""
@@ -68,16 +107,22 @@ class Case(NamedTuple):
 
     def listed(self, program: Program, *more: str) -> Answer:
         """What the program must write of it: what it writes of the list that says the same, up to
-        the fault. Where it ends well, standard error has what `more` words ask for."""
-        wanted = self.told()
-        given = wanted.text() + (BEYOND if wanted.fault else b"")
+        the fault, but for the numbers of frames. Where it ends well, standard error has what `more`
+        words ask for."""
+        return self.run_of(program, self.told(), *more)
+
+    def run_of(self, program: Program, said: Told, *more: str) -> Answer:
+        """What the program must write of a recording, or of two, of which this is said."""
+        given = said.text() + (BEYOND if said.fault else b"")
         found = self.run_on(program, given, *more)
-        if not wanted.fault:
-            must(found.status == 0, f"the list of it has a fault: {found.err!r}")
-            return found
-        line = b"list BadLine %d\n" % (len(wanted.lines) + 1)
-        must(found.status == 3 and found.err.endswith(line), f"the list of it: {found.err!r}")
-        return Answer(3, found.out, found.err.removesuffix(line) + wanted.fault)
+        out, err = numbered(found.out, said.numbers), found.err
+        if not said.fault:
+            must(found.status == 0, f"the list of it has a fault: {err!r}")
+            return Answer(0, out, numbered(err, said.numbers))
+        line = b"list BadLine %d\n" % (len(said.lines) + 1)
+        must(found.status == 3 and err.endswith(line), f"the list of it: {err!r}")
+        early = numbered(err.removesuffix(line), said.numbers)
+        return Answer(said.status(), out, early + said.fault)
 
 
 def case_of(row: Row) -> Case:
@@ -96,20 +141,36 @@ def path_of(program: Program, data: bytes) -> str:
     return program.write(f"recording-{threading.get_ident()}", data)
 
 
-def told_before(program: Program, words: list[str], data: bytes) -> bytes:
-    """What a command writes of the whole frames in these bytes, where the run then stops."""
-    lines = Case(data, Options(port=1) if words == POLICE else Options()).told().lines
+def told_before(program: Program, words: list[str], options: Options, data: bytes) -> bytes:
+    """What a command with these options writes of the whole frames in these bytes, where the run
+    asks for more."""
+    options = options._replace(port=1) if words == POLICE else options
+    said = told(options, IN_BASE.systems, data, is_open=True)
     if words[0] == "list":
-        return b"".join(lines)
-    found = program.run(*words, "-", given=b"".join(lines) + BEYOND)
-    answers(found, 3, None, b"list BadLine %d\n" % (len(lines) + 1))
-    return found.out
+        return said.text()
+    found = program.run(*words, "-", given=said.text() + BEYOND)
+    answers(found, 3, None, b"list BadLine %d\n" % (len(said.lines) + 1))
+    return numbered(found.out, said.numbers)
 
 
-def cut_rows() -> list[Row]:
-    """Rows of `replay` with several numbers and no fault, to be cut."""
-    sound = [row for row in rows() if not row.fault and not row.rule]
-    return [row for row in sound if len(case_of(row).told().lines) > 1]
+def cut_cases() -> dict[str, Case]:
+    """Recordings of `replay` with several numbers and no fault, to be cut, by their names: as they
+    stand, and where arrivals are held."""
+    sound = {row.name: row for row in rows() if not row.fault and not row.rule}
+    sound = {name: row for name, row in sound.items() if len(case_of(row).told().lines) > 1}
+    as_read = {name: row.options._replace(reorder=0) for name, row in sound.items()}
+    cases = {name: Case(row.bytes(), as_read[name]) for name, row in sound.items()}
+    if ORDERS:
+        cases |= {f"{name}, held": case_of(row) for name, row in sound.items()}
+        cases |= {row.name: case_of(row) for row in orders() if row.name in CUT_ROWS}
+    return cases
+
+
+def random_order(chance: random.Random) -> dict[str, int | str | None]:
+    """The options of the order: none where the program doesn't know them."""
+    reorder = chance.choice([None, None, None, 0, 1, 2, 3, 7, 9_999, 10_000, 100_000])
+    stamps = chance.choice([None, None, "start", "start", "end"])
+    return {"reorder": reorder, "stamps": stamps} if ORDERS else {}
 
 
 def random_options(chance: random.Random) -> Options:
@@ -123,6 +184,7 @@ def random_options(chance: random.Random) -> Options:
         places if chance.random() < 0.5 else {},
         chance.choice([None, None, None, True, False]),
         origin if chance.random() < 0.3 else None,
+        **random_order(chance),
     )
 
 
@@ -130,5 +192,6 @@ def random_case(chance: random.Random, data: bytes) -> Case:
     """A recording with random options, sometimes of `police`."""
     options = random_options(chance)
     if chance.random() < 0.3:
-        return Case(data, options._replace(port=chance.randint(1, 3)), "1 64 500")
+        police = options._replace(port=chance.randint(1, 3), stamps=None)
+        return Case(data, police, "1 64 500")
     return Case(data, options)

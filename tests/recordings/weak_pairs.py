@@ -6,8 +6,8 @@ from collections.abc import Iterator
 
 from pair_wanted import PairCase
 from program import Answer, Program
-from reads import READS
-from recorded_pair import NETWORKS
+from reads import ORDERS, READS
+from recorded_pair import NETWORKS, PairOptions
 from recording_rows import F1, G1, H1, H2, IL, PL, SL, US, ZERO, E, R
 from wanted import IN_BASE, Command
 from weak import Call, Weak, weak_devices
@@ -22,7 +22,7 @@ class WeakHalf(Weak):
 
     def __init__(self, program: Program, case: PairCase, place: int, by_path: bool) -> None:
         self.case, self.place = case, place
-        super().__init__(program, list(case.command.words), case.pair[place], by_path)
+        super().__init__(program, case.words(), case.pair[place], by_path)
 
     def inputs(self, weak: str) -> list[str]:
         """Both; the weak one is named so."""
@@ -41,25 +41,27 @@ class WeakHalf(Weak):
         steady = os.path.join(self.program.folder, STEADY)
         return super().weakened(path, most, broken) | {"DEVICE_SECOND": steady}
 
-    def text_of(self, case: PairCase, opens: str) -> bytes:
+    def text_of(self, case: PairCase, opens: str, at_once: bool) -> bytes:
         """What is told of the recordings where the run asks for more of one of these sides."""
+        case = case.at_once() if at_once else case
         if self.words[0] == "list":
             return case.told(opens).text()
         return case.listed(self.program, opens=opens).out
 
-    def lines_before(self, count: int) -> bytes:
+    def lines_before(self, count: int, at_once: bool = False) -> bytes:
         """What is told once so many bytes of the weak one were read, where the run then stops."""
         case = self.case.with_half(self.place, self.given[:count])
-        return self.text_of(case, NETWORKS[self.place])
+        return self.text_of(case, NETWORKS[self.place], at_once)
 
     def told_before(self, reads: list[Call]) -> bytes:
-        """What these reads give; an input of which one gives nothing is at its end."""
+        """What these reads give with --line-buffered; an input of which one gives nothing is at its
+        end."""
         case, opens = self.case, NETWORKS
         for kind, place in (("r", self.place), ("s", 1 - self.place)):
             moved = [call.answer for call in reads if call.kind == kind]
             case = case.with_half(place, self.case.pair[place][: sum(moved)])
             opens = opens.replace(NETWORKS[place], "") if 0 in moved else opens
-        return self.text_of(case, opens)
+        return self.text_of(case, opens, at_once=True)
 
 
 def pairs() -> dict[str, tuple[str, str]]:
@@ -80,17 +82,35 @@ def weak_half(program: Program, case: PairCase, place: int, by_path: bool) -> No
     weak_devices(WeakHalf(program, case, place, by_path))
 
 
+def out_of_order() -> tuple[str, str]:
+    """Both of them, and behind what is held of B a fault."""
+    a = PL + R("05000000", H1) + R("06000000", FOREIGN) + R("03000000", H2) + R("09000000", H1)
+    return a, SL + IL + E("08401e18", H1) + E("04401e18", H2) + "00" * 12
+
+
+def tries(command: str) -> Iterator[tuple[str, tuple[str, str], int | None]]:
+    """Pairs with their names, and how many arrivals are held of each. That of `list` is said, since
+    it tells elsewhere than --line-buffered does what is skipped."""
+    for name, texts in pairs().items():
+        yield name, texts, 0
+        if ORDERS:
+            yield name, texts, 1 if command == "list" else None
+    if ORDERS:
+        yield "out of order", out_of_order(), 1
+
+
 def weak_pairs(program: Program, config: str) -> Iterator[tuple]:
     """Each command on two recordings, each of which is weak, by path and as standard input by
     turns; the configuration is that of the base tables."""
     commands = [["replay", config], ["replay", "--no-admission", config], ["list", config]]
     by_path = False
-    for name, texts in pairs().items() if "two" in READS else ():
-        pair = bytes.fromhex(texts[0]), bytes.fromhex(texts[1])
-        for words in commands:
-            case = PairCase(pair, command=Command(tuple(words), IN_BASE.ports))
+    for words in commands if "two" in READS else ():
+        for name, texts, reorder in tries(words[0]):
+            pair, options = tuple(map(bytes.fromhex, texts)), PairOptions(reorder=reorder)
+            case = PairCase(pair, options, Command(tuple(words), IN_BASE.systems))
             for place, side in enumerate(NETWORKS):
                 by_path = not by_path
                 given = program, case, place, by_path
-                yield f"{' '.join(words[:-1])}, {side} is weak: {name}", weak_half, *given
+                named = f"{' '.join(words[:-1])}, {side} is weak: {name}, {reorder} held"
+                yield named, weak_half, *given
             by_path = not by_path

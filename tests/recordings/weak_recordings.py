@@ -4,7 +4,8 @@ from __future__ import annotations
 from collections.abc import Iterator
 
 from program import Program
-from reads import READS, is_read
+from reads import HELD, ORDERS, READS, is_read
+from recorded_arrivals import Options
 from recording_rows import F1, G1, H1, H2, IL, PL, SL, US, ZERO, E, R
 from wanted import POLICE, told_before
 from weak import Weak, weak_devices
@@ -13,29 +14,61 @@ OTHER = "ff" + H1[2:]  # a frame that is no AFDX frame
 
 
 class WeakRecording(Weak):
-    """A command on a recording, read from a weak device."""
+    """A command with options on a recording, read from a weak device. With --line-buffered it must
+    write the same, sooner."""
 
-    def lines_before(self, count: int) -> bytes:
-        """What the whole frames of the first bytes give, where the run then stops."""
-        return told_before(self.program, self.words, self.given[:count])
+    def __init__(
+        self, program: Program, words: list[str], options: Options, data: bytes, by_path: bool
+    ) -> None:
+        self.command, self.options = words, options
+        super().__init__(program, [*words, *options.words()], data, by_path)
+
+    def lines_before(self, count: int, at_once: bool = False) -> bytes:
+        """What is told of the whole frames of the first bytes, where the run then asks for more."""
+        options = self.options._replace(at_once=at_once)
+        return told_before(self.program, self.command, options, self.given[:count])
 
 
-def recordings() -> dict[str, bytes]:
+def in_order() -> dict[str, str]:
     """Of both forms: sound ones, one that is damaged, and one of which nothing is left."""
     frames = [R(f"{2 * k:02x}000000", each) for k, each in enumerate((H1, OTHER, H2))]
-    texts = {
+    return {
         "a pcap": PL + "".join(frames),
         "a pcap that breaks off": F1 + PL,
         "a pcap of which nothing is left": PL + R(ZERO, OTHER),
         "a pcapng": SL + IL + E(US, H1) + E(US, H2),
         "a damaged pcapng": G1 + "00" * 12,
     }
-    return {name: bytes.fromhex(text) for name, text in texts.items()}
 
 
-def weak_run(program: Program, words: list[str], data: bytes, by_path: bool) -> None:
+def out_of_order() -> dict[str, str]:
+    """Of both forms, one of them with a fault behind what is held."""
+    frames = [(5, H1), (7, OTHER), (3, H2), (9, H1), (8, H2)]
+    back = "".join(R(f"{us:02x}000000", each) for us, each in frames)
+    return {
+        "a pcap out of order": PL + back,
+        "a pcap out of order that breaks off": PL + back + PL,
+        "a pcapng out of order": SL + IL + E("05401e18", H1) + E("03401e18", H2),
+    }
+
+
+def tries(command: str) -> Iterator[tuple[str, str, int | None]]:
+    """Recordings with their names, and how many arrivals are held. That of `list` is said, since it
+    tells elsewhere than --line-buffered does what is skipped."""
+    for name, text in in_order().items():
+        yield name, text, 0
+        if ORDERS:
+            yield name, text, HELD if command == "list" else None
+    for name, text in out_of_order().items() if ORDERS else ():
+        yield name, text, 1
+        yield name, text, HELD
+
+
+def weak_run(
+    program: Program, words: list[str], options: Options, data: bytes, by_path: bool
+) -> None:
     """All that weak devices do to one command on a recording."""
-    weak_devices(WeakRecording(program, words, data, by_path))
+    weak_devices(WeakRecording(program, words, options, data, by_path))
 
 
 def weak_recordings(program: Program, config: str) -> Iterator[tuple]:
@@ -44,8 +77,9 @@ def weak_recordings(program: Program, config: str) -> Iterator[tuple]:
     commands = [["replay", config], ["replay", "--no-admission", config], POLICE]
     commands += [["list", config]] if "list" in READS else []
     by_path = False
-    for name, data in recordings().items():
-        for words in commands if is_read(data) else []:
-            by_path = not by_path
-            given = program, words, data, by_path
-            yield f"{' '.join(words[:-1])}: {name}", weak_run, *given
+    for words in commands:
+        for name, text, reorder in tries(words[0]):
+            data, by_path = bytes.fromhex(text), not by_path
+            if is_read(data):
+                given = program, words, Options(reorder=reorder), data, by_path
+                yield f"{' '.join(words[:-1])}: {name}, {reorder} held", weak_run, *given

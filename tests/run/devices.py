@@ -12,8 +12,9 @@ two at once, of which one is weak, if the program reads them (tests/lib/reads.py
 write a beginning of the undisturbed text, exactly as far as it has to, and end with the status and
 the one line of the device that failed; and a device that failed, or has ended, must not be asked
 again, nor the other one be asked for more than what is held. With --line-buffered the text of each
-line, or recorded frame, must be handed over before more is read. The first bytes are also read one
-by one, and each of these reads is broken too.
+line, or recorded frame, must be handed over before more is read; frames that are held to be put in
+order are told at the end and at a fault, and not after a failed read. The first bytes are also read
+one by one, and each of these reads is broken too.
 Prints `ok NAME` or `FAILED NAME` for each case, then `N passed, M failed`; ends with status 1 if a
 case failed.
 """

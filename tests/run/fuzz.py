@@ -18,8 +18,9 @@ holds what must be so of any output. Beside that
 
 Where the program reads recordings (tests/lib/reads.py), one is tried beside every second case, made
 and changed at random (tests/recordings/), or from the case's list: a run on it must write what it
-writes of the list that says the same, and `list` that list. Where it reads two at once, a pair is
-tried as well, whole and cut. `--recordings` tries these alone.
+writes of the list that says the same, and `list` that list. Where it puts arrivals in order, frames
+stand out of order in some. Where it reads two at once, a pair is tried as well, whole and cut.
+`--recordings` tries these alone.
 
 The first case that is wrong is written to DIR (a new folder where it isn't given), its seed and
 number are printed, and the status is 1. `--seed N --first K` begins with that case. Needs Python
@@ -236,18 +237,16 @@ def try_recorded_list(runs, seed, number, stored):
     runs.write("config", case.config)
     if case.tables is None or runs.run(["check", "config"])[2]:
         return
-    data = pcap_of(case.text)
+    data = pcap_of(case.text, chance)
     runs.write("list", data)
-    command = wanted.Command(
-        ("replay", "--no-admission", "config"),
-        {system["id"]: system["port"] for system in case.tables["system"]},
-    )
+    words = "replay", "--no-admission", "config"
+    command = wanted.Command(words, wanted.systems_of(case.tables))
     options = wanted.random_options(chance)._replace(fcs=False)
     recording = wanted.Case(data, options, command=command)
     program = Program(runs.program, runs.folder)
     reading.reads(program, recording)
     if "two" in READS:
-        pair = pcap_of(case.text, b"A"), pcap_of(case.text, b"B")
+        pair = pcap_of(case.text, chance, b"A"), pcap_of(case.text, chance, b"B")
         given = pair_wanted.random_options(chance)._replace(fcs=False)
         pair_reading.both_of_pair(program, pair_wanted.PairCase(pair, given, command))
 

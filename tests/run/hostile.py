@@ -6,11 +6,11 @@
 Tried are all beginnings of a configuration, of frame lists, of a submission list and of frames;
 lines as long as they may be and one byte longer; fields that are nearly right; numbers of up to
 5,000 digits; as many lines as there may be and one more; configurations of 4 MB; recordings that
-are large or senseless, if the program reads them (tests/lib/reads.py). Each run must end at once
-with the status and the one line of the first fault, by the orders of docs/FORMATS.md, which
-tests/lib/ follows apart from the program, and with the output of the lines before it. Prints `ok
-NAME` or `FAILED NAME` for each case, then `N passed, M failed`; ends with status 1 if a case
-failed. Needs Python 3.11.
+are large, senseless or far out of order, if the program reads them (tests/lib/reads.py). Each run
+must end at once with the status and the one line of the first fault, by the orders of
+docs/FORMATS.md, which tests/lib/ follows apart from the program, and with the output of the lines
+before it. Prints `ok NAME` or `FAILED NAME` for each case, then `N passed, M failed`; ends with
+status 1 if a case failed. Needs Python 3.11.
 """
 from __future__ import annotations
 

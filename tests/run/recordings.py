@@ -11,18 +11,18 @@ fault, the counts. Here they must say
   tests/recordings/), and the program's run on that list must write what stands there;
 - of each frame what tshark says, in recordings made at random, and in those that text2pcap,
   editcap, mergecap, reordercap, dumpcap and tcpdump wrote, some of them cut;
-- of a recording that is cut at any byte a beginning of what they say of the whole one.
+- of a recording that is cut at any byte what stands before the cut, as they say it of the whole.
 
 tests/lib/recorded_pair.py says the same of two recordings that are read at once.
 
 With `--reads` the program itself reads all of these, and others, and must write what they say: from
-files, from pipes while they are written, and of 10,000,000 frames in the memory that 10,000 take. A
+files, from pipes while they are written, and of 10,000,000 frames in the memory that 20,000 take. A
 recording of a form that it doesn't read yet (tests/lib/reads.py says which it reads) is no
 recording for it; if it reads none, nothing is tried.
 
 Prints `ok NAME`, `FAILED NAME` or `skipped NAME: why` for each case, then `N passed, M failed`;
-ends with status 1 if a case failed. A case is skipped only where a program isn't installed. Needs
-Python 3.11.
+ends with status 1 if a case failed. A case is skipped only where a program isn't installed, or
+where the program doesn't know its words yet. Needs Python 3.11.
 """
 from __future__ import annotations
 
@@ -41,23 +41,33 @@ from edge_rows import edges  # noqa: E402
 from foreign_recordings import try_foreign  # noqa: E402
 from long_recordings import try_long  # noqa: E402
 from made_recordings import made_data  # noqa: E402
+from order_reading import order_cases  # noqa: E402
+from order_rows import orders  # noqa: E402
 from outcome_rows import outcomes  # noqa: E402
 from pair_edge_rows import pair_rows  # noqa: E402
+from pair_order_rows import pair_orders  # noqa: E402
+from pair_rows import PairRow  # noqa: E402
 from pair_wanted import random_pair  # noqa: E402
 from program import Cases, Program, must  # noqa: E402
-from reads import READS  # noqa: E402
+from reads import ORDERS, READS  # noqa: E402
+from recorded_list import Told  # noqa: E402
 from recording_rows import Row, rows  # noqa: E402
 from row_holds import row_holds  # noqa: E402
 from tshark_frames import has, same_as_tshark  # noqa: E402
-from wanted import Case, case_of, cut_rows, random_case, with_base  # noqa: E402
+from wanted import Case, cut_cases, random_case, with_base  # noqa: E402
 
 MADE = 48  # recordings of one kind
 CUT = 12  # places where tshark sees one cut
 
 
 def every_row() -> list[Row]:
-    """What is spelled out."""
-    return rows() + edges() + outcomes()
+    """What is spelled out, as far as the program knows the options."""
+    return rows() + edges() + outcomes() + (orders() if ORDERS else [])
+
+
+def every_pair_row() -> list[PairRow]:
+    """The same of two recordings."""
+    return pair_rows() + (pair_orders() if ORDERS else [])
 
 
 def many_lists(program: Program, kind: str) -> None:
@@ -73,13 +83,24 @@ def many_pair_lists(program: Program, kind: str) -> None:
         random_pair(kind, number).listed(program)
 
 
+def taken(said: Told) -> list[int]:
+    """The numbers of the arrivals that are told, in their order."""
+    told = zip(said.numbers, said.lines)
+    return [number for number, line in told if not line.startswith(b"#")]
+
+
 def cut_anywhere(case: Case) -> None:
-    """Of what is cut at any byte a beginning is told, and the fault that it ends there."""
+    """Of what is cut at any byte all is told that stands before, arrivals in the same order, and
+    the fault that it ends there; where none is held, a beginning of what is told of the whole."""
     whole = case.told()
     for size in range(4, len(case.data)):
         part = case._replace(data=case.data[:size]).told()
         count = len(part.lines)
-        must(part.lines == whole.lines[:count], f"cut at {size} it tells something else")
+        must(sorted(part.numbers) == [*range(1, count + 1)], f"cut at {size}: {part.numbers}")
+        wanted = [number for number in taken(whole) if number <= count]
+        must(taken(part) == wanted, f"cut at {size} it takes {taken(part)}")
+        is_same = case.options.held() > 0 or part.lines == whole.lines[:count]
+        must(is_same, f"cut at {size} it tells something else")
         ended = [b"", b"recording Ended %d\n" % count, b"recording NoArrival %d\n" % count]
         must(part.fault in ended, f"cut at {size}: {part.fault!r}")
 
@@ -115,18 +136,26 @@ def try_tshark(cases: Cases, program: Program) -> None:
 def try_reference(cases: Cases, program: Program) -> None:
     """What the reference says."""
     cases.try_at_once([(f"row: {row.name}", row_holds, program, row) for row in every_row()])
-    cases.try_at_once([(f"cut: {row.name}", cut_anywhere, case_of(row)) for row in cut_rows()])
+    cases.try_at_once([(f"cut: {name}", cut_anywhere, case) for name, case in cut_cases().items()])
     kinds = ["made", "mutated"]
     cases.try_at_once([(f"lists: {kind}", many_lists, program, kind) for kind in kinds])
-    cases.try_at_once([(f"two: {row.name}", row_holds, program, row) for row in pair_rows()])
+    cases.try_at_once([(f"two: {row.name}", row_holds, program, row) for row in every_pair_row()])
     cases.try_at_once([(f"lists of two: {kind}", many_pair_lists, program, kind) for kind in kinds])
     try_tshark(cases, program)
+
+
+def try_orders(cases: Cases, program: Program) -> None:
+    """Frames out of order, if the program puts them in order."""
+    if ORDERS:
+        cases.try_at_once([*order_cases(program)])
+    else:
+        cases.skip("frames out of order", "the program takes none (tests/lib/reads.py)")
 
 
 def try_pairs(cases: Cases, program: Program) -> None:
     """Two recordings at once, if the program reads two."""
     if "two" in READS:
-        pair_reading.try_pairs(cases, program)
+        pair_reading.try_pairs(cases, program, every_pair_row())
     else:
         cases.skip("two recordings at once", "the program reads one (tests/lib/reads.py)")
 
@@ -148,6 +177,7 @@ def main() -> None:
             try_reference(cases, program)
         elif READS:
             reading.try_reading(cases, program, every_row())
+            try_orders(cases, program)
             try_pairs(cases, program)
             try_long(cases, program)
     sys.exit(cases.told())

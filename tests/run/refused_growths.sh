@@ -127,7 +127,7 @@ refuse_program() { # NAME WORD..
 
 # The recordings of tests/recordings/growing_recordings.py that the program reads, each by `police`
 # and by `replay` with its options, two at once by `replay` and `list`; what it can't read yet is
-# left out.
+# left out. Of one the frames stand out of order: all of them are held, or three.
 refuse_recordings() { # PROGRAM
     local name path other base=$top/examples/base.toml
     local options=(--interface '0=A:1' --interface '4095=-' --origin 1699999999000000000)
@@ -137,6 +137,10 @@ refuse_recordings() { # PROGRAM
         if [[ -z $other ]]; then
             refuse_program "police $name" "$1" police 1 64 500 -
             refuse_program "replay $name" "$1" replay "${options[@]}" --summary "$base" -
+            if [[ $name == *order ]]; then
+                refuse_program "list $name" "$1" list --stamps start "$base" -
+                refuse_program "list $name, three held" "$1" list --reorder 3 "$base" -
+            fi
         else
             refuse_program "replay $name" "$1" replay "${options[@]}" --interface 0=B:2 \
                 --summary "$base" - "$other"

@@ -54,11 +54,18 @@ offer_tests() { # SHELL
         offers "$1" 'afdx replay --fc' --fcs
         offers "$1" 'afdx replay --fcs ' yes no
         offers "$1" 'afdx police --interface 0=A:1 --fcs no 1' 1 16 128
+        offers "$1" 'afdx police --reorder 0 1' 1 16 128
+        offers "$1" 'afdx replay --reo' --reorder
+        offers "$1" 'afdx replay --stamps ' end start
+        offers "$1" 'afdx list --stamps s' start
         offers "$1" 'afdx-capture ' list pcap annotate
         offers "$1" 'afdx-capture list --fc' --fcs
         offers "$1" 'afdx-capture list --fcs y' yes
         offers "$1" 'afdx-capture pcap --fcs ' yes no
         offers "$1" 'afdx-capture list --interface 0=A --sp' --split
+        offers "$1" 'afdx-capture list --reorder 7 --stamps ' end start
+        offers "$1" 'afdx-report --stamps ' end start
+        offers "$1" 'afdx-campaign --stamps e' end
         offers "$1" "afdx send $files/one.toml " adc fcc
         offers "$1" 'afdx-icd --profile ' 1 2
         offers "$1" 'afdx-fill --keep ' jitter buffer latency skew
@@ -68,6 +75,7 @@ offer_tests() { # SHELL
         offers "$1" "afdx solve --keep skew $files/" one.toml
         offers "$1" "afdx replay --no-admission $files/" one.toml
         offers "$1" "afdx replay $files/one.toml $files/" two.list four.pcap
+        offers "$1" "afdx replay --reorder 7 --stamps end $files/" one.toml
         offers "$1" "afdx police --vl 7 1 64 500 $files/" two.list four.pcap
         offers "$1" "afdx list $files/one.toml $files/" four.pcap
         offers "$1" "afdx list $files/one.toml $files/four.pcap $files/" four.pcap
@@ -83,6 +91,7 @@ offer_tests() { # SHELL
         offers "$1" "afdx-report $files/" one.toml
         offers "$1" "afdx-report --rows 7 $files/one.toml $files/" two.list four.pcap
         offers "$1" "afdx-report --fcs no $files/one.toml $files/four.pcap $files/" four.pcap
+        offers "$1" "afdx-report --reorder 0 --stamps end $files/" one.toml
         offers "$1" "afdx-report --out $files/"
         offers "$1" "afdx-icd --profile 2 $files/" seven.csv
         offers "$1" "afdx-icd $files/seven.csv $files/" seven.csv
@@ -90,6 +99,7 @@ offer_tests() { # SHELL
         offers "$1" "afdx-fill $files/" one.toml
         offers "$1" "afdx-fill --keep skew $files/one.toml $files/" one.toml
         offers "$1" "afdx-campaign $files/" one.toml
+        offers "$1" "afdx-campaign --reorder 0 --stamps end $files/" one.toml
         offers "$1" "afdx-campaign $files/one.toml $files/two.list $files/" two.list four.pcap
     )"
     tell "$1 completes each option of --help" "$(each_help options_offered "$1")"
@@ -117,7 +127,9 @@ each_help() { # FUNCTION WORD.. : calls it with the words, a command's name and 
 }
 
 options_offered() { # SHELL NAME OPTIONS
-    "offered_by_$1" "$2 --" | sed -n 's/^\(--[^=]*\)=\?$/\1/p' | grep -vx -- --version |
+    local others='--version'
+    if [[ $2 == 'afdx '* && $reads != *reorder* ]]; then others+='|--reorder|--stamps'; fi
+    "offered_by_$1" "$2 --" | sed -n 's/^\(--[^=]*\)=\?$/\1/p' | grep -vxE -- "$others" |
         sort -u >"$work/offered"
     if ! diff <(grep -vx -- --version "$3") "$work/offered" >"$work/diff"; then
         echo "$2 --help and what is offered:"

@@ -122,6 +122,96 @@ END_OF_FILE
     )"
 }
 
+# ---- the order of a recording --------------------------------------------------------------
+
+swap_frames() { # PCAP OTHER : each two frames of different times change their places
+    "$python" - "$@" <<'END_OF_FILE'
+import struct, sys
+with open(sys.argv[1], "rb") as file:
+    data = file.read()
+at, frames = 24, []
+while at < len(data):
+    end = at + 16 + struct.unpack_from("<I", data, at + 8)[0]
+    frames.append(data[at:end])
+    at = end
+pairs = [frames[place : place + 2] for place in range(0, len(frames), 2)]
+swapped = [pair[::-1] if pair[0][:8] != pair[-1][:8] else pair for pair in pairs]
+with open(sys.argv[2], "wb") as file:
+    file.write(data[:24] + b"".join(frame for pair in swapped for frame in pair))
+END_OF_FILE
+}
+
+without_numbers() { # NAME : the report's sums and rows, but for the numbers of frames
+    json_of "$recorded/$1/report.json" 'r["totals"], [{key: value for key, value in row.items()
+        if "line" not in key} for row in r["latency"] + r["sides"] + r["ports"]]'
+}
+
+order_tests() {
+    local config=examples/network.toml mixed=$recorded/mixed.pcap
+    swap_frames "$recorded/sample.pcap" "$mixed"
+    report_on mixed "$config" --reorder 1 "$mixed"
+    tell 'a report on a recording that is out of order' "$(
+        is_status 0
+        wants_lines mixed --reorder 1 "$config" "$mixed"
+        wants_text "$(without_numbers mixed)" "$(without_numbers whole)" 'the report'
+    )"
+    report_on mixed "$config" --reorder 0 "$mixed"
+    tell 'where none may be out of order' "$(is_status 3; says err 'recording TimeBack 2')"
+    report_on starts "$config" --stamps start --origin 0 "$recorded/sample.pcap"
+    tell 'a report on stamps of starts' "$(
+        is_status 0
+        wants_lines starts --stamps start --origin 0 "$config" "$recorded/sample.pcap"
+    )"
+}
+
+# A program that notes its words, and hands on those that it may know.
+noting() { # WORD..
+    cat >"$recorded/noting" <<END_OF_FILE
+#!/bin/bash
+echo "\$*" >>"$recorded/words"
+words=()
+for word in "\$@"; do
+    case \$word in
+        --reorder=* | --stamps=*) ;;
+        *) words+=("\$word") ;;
+    esac
+done
+exec "$program" "\${words[@]}"
+END_OF_FILE
+    chmod +x "$recorded/noting"
+    rm -f "$recorded/words"
+    launch env AFDX="$recorded/noting" "$@"
+}
+
+handed_on() { # COMMAND.. : each of these got both options
+    local command
+    is_status 0
+    for command in "$@"; do
+        if ! grep -q "^$command .*--reorder=7 --stamps=start" "$recorded/words"; then
+            echo "$command has other words:"
+            grep "^$command " "$recorded/words"
+        fi
+    done
+}
+
+handed_on_tests() {
+    local options=(--reorder 7 --stamps start) whole=$recorded/sample.pcap
+    noting tools/afdx-report "${options[@]}" examples/network.toml "$whole" --json
+    tell 'the order of a recording is handed on' "$(handed_on list replay)"
+    noting tools/afdx-capture list "${options[@]}" --config examples/network.toml "$whole"
+    tell 'that of a list too' "$(handed_on list)"
+    if has parallel; then
+        noting tools/afdx-campaign "${options[@]}" examples/network.toml "$whole" \
+            --out "$recorded/noted"
+        tell 'and that of a campaign' "$(handed_on list replay)"
+    fi
+    if [[ $reads == *two* ]]; then
+        noting tools/afdx-report "${options[@]}" examples/network.toml "$recorded/sample.A.pcap" \
+            "$recorded/sample.B.pcap" --json
+        tell 'and that of two recordings' "$(handed_on list)"
+    fi
+}
+
 # ---- two recordings ------------------------------------------------------------------------
 
 two_tests() {
@@ -243,6 +333,12 @@ else
     one_tests
     one_fault_tests
     numbers_test
+    handed_on_tests
+    if [[ $reads == *reorder* ]]; then
+        order_tests
+    else
+        skip 'recordings out of order' 'the program puts none in order yet (tests/lib/reads.py)'
+    fi
 fi
 if [[ -z $reporting || -z $dpkt || $reads != *two* ]]; then
     skip 'two recordings at once' 'the program takes no two yet (tests/lib/reads.py), or as above'

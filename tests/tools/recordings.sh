@@ -182,8 +182,16 @@ wireshark_tests() {
     launch mergecap -I all -w "$work/one.pcapng" "$work/ta.pcap" "$work/tb.pcap"
     listed_as_wanted 'mergecap, one interface' "$work/one.pcapng"
     launch mergecap -a -I none -w "$work/behind.pcapng" "$work/tb.pcap" "$work/ta.pcap"
-    launch tools/afdx-capture list --config examples/base.toml "$work/behind.pcapng"
-    tell 'a recording whose times go back' "$(is_status 3; says err 'recording TimeBack 3')"
+    local as_read=()
+    if [[ $reads == *reorder* ]]; then
+        listed_as_wanted 'a recording whose times go back' "$work/behind.pcapng"
+        as_read=(--reorder 0)
+    fi
+    launch tools/afdx-capture list --config examples/base.toml "${as_read[@]}" "$work/behind.pcapng"
+    tell 'a recording whose times go back, as read' "$(
+        is_status 3
+        says err 'recording TimeBack 3'
+    )"
     launch reordercap "$work/behind.pcapng" "$work/ordered.pcapng"
     listed_as_wanted 'and in order' "$work/ordered.pcapng"
     launch tshark -r "$work/sound.pcap" -F pcapng -w "$work/sound.pcapng"

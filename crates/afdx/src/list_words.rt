@@ -1,6 +1,8 @@
 //! The words of `list`.
 
-use crate::recording_words::{fcs_option, interface_option, origin_option, second_list};
+use crate::recording_words::{
+    fcs_option, interface_option, origin_option, reorder_option, second_list, stamps_option,
+};
 use crate::words::{
     CONFIG_HELP, command, explain_option, line_buffered, progress_option, summary_option, word,
 };
@@ -10,7 +12,8 @@ use std::alloc::{AllocError, Global};
 const LIST_ABOUT: &str = "Writes a recording as the frame list that says the same";
 
 const LIST_AFTER: &str = "\
-Line n of the list is what has number n in the recording, as Wireshark counts:
+Line n of the list is what has number n in the recording, as Wireshark counts, with
+--reorder 0; else a remark may stand before arrivals that come before it:
 
   R time side port HEX    a frame that ends with its check sequence
   F time side port HEX    one that has none: 'replay' adds the right one
@@ -41,6 +44,8 @@ pub fn list_command<'a>(alloc: Global) -> Result<Command<'a>, AllocError> {
         interface_option(alloc),
         fcs_option(alloc),
         origin_option(alloc),
+        reorder_option(alloc),
+        stamps_option(alloc),
         explain_option(alloc),
         line_buffered(alloc),
         progress_option(alloc),

@@ -52,6 +52,38 @@ pub fn origin_option<'a>(alloc: Global) -> Arg<'a> {
         .value_name("NS")
 }
 
+/// How many arrivals may be later than one behind them, where no option says it.
+const USUAL_REORDER: u32 = 10_000;
+
+/// The most that may be said.
+const MOST_REORDER: u64 = 100_000;
+
+const REORDER_HELP: &str = "By how many arrivals times of a recording may go back, at most \
+100,000; else 10,000, and with --line-buffered 0";
+
+/// The option that says by how many arrivals times may go back.
+pub fn reorder_option<'a>(alloc: Global) -> Arg<'a> {
+    Arg::new(alloc, "reorder")
+        .help(REORDER_HELP)
+        .value_parser(value_parser!(u64))
+        .long("reorder")
+        .value_name("N")
+}
+
+const STAMPS_HELP: &str = "Whether the recorder stamps the end of a frame, as most do, or its \
+start";
+
+const STAMPED: &[&str] = &["end", "start"];
+
+/// The option that says which bit of a frame is stamped.
+pub fn stamps_option<'a>(alloc: Global) -> Arg<'a> {
+    Arg::new(alloc, "stamps")
+        .long("stamps")
+        .help(STAMPS_HELP)
+        .value_name("BIT")
+        .value_parser(STAMPED)
+}
+
 const SECOND_HELP: &str = "The path of the recording of network B, or - for standard input; the \
 first LIST is then that of network A";
 
@@ -67,7 +99,7 @@ pub fn second_list<'a>(alloc: Global) -> Arg<'a> {
 pub enum Refused {
     /// A word of `--interface` has another form, or its interface was named before.
     BadInterface,
-    /// The number of `--origin` is over 2^63 - 1.
+    /// The number of `--origin` is over 2^63 - 1, or that of `--reorder` over 100,000.
     BadNumber,
     /// Both recordings are standard input.
     SameInput,
@@ -210,6 +242,42 @@ fn origin_in(matches: &ArgMatches<'_>) -> Result<Option<u64>, Refused> {
     }
 }
 
+/// By how many arrivals times may go back, where that is said.
+fn reorder_in(matches: &ArgMatches<'_>) -> Result<Option<u32>, Refused> {
+    match matches.get_one::<u64>("reorder") {
+        Some(most) if most > MOST_REORDER => Err(Refused::BadNumber),
+        Some(most) => Ok(Some(most as u32)),
+        None => Ok(None),
+    }
+}
+
+/// The same where it isn't said: a command that tells each line at once holds nothing.
+fn usual_reorder(matches: &ArgMatches<'_>) -> u32 {
+    if matches.get_flag("line-buffered") {
+        0
+    } else {
+        USUAL_REORDER
+    }
+}
+
+/// What is said of the recorder's clock and of its order, where it is.
+#[derive(Clone, Copy, Debug)]
+struct Moments {
+    origin: Option<u64>,
+    reorder: Option<u32>,
+    /// Whether the stamps of frames' first bits are meant.
+    from_start: Option<bool>,
+}
+
+/// What the words say of it.
+fn moments_in(matches: &ArgMatches<'_>) -> Result<Moments, Refused> {
+    Ok(Moments {
+        origin: origin_in(matches)?,
+        reorder: reorder_in(matches)?,
+        from_start: matches.get_str("stamps").map(|bit| bit == "start"),
+    })
+}
+
 /// What the words say of a recording, if they are taken.
 pub fn recording_options(
     alloc: Global,
@@ -217,14 +285,21 @@ pub fn recording_options(
 ) -> Result<RecordingOptions, Refused> {
     let words = matches.get_strs("interface").unwrap_or(&[]);
     let interfaces = interfaces_in(alloc, words)?;
-    let origin = origin_in(matches)?;
     let fcs = fcs_in(matches);
+    let Moments {
+        origin,
+        reorder,
+        from_start,
+    } = moments_in(matches)?;
+    let of_moments = origin.is_some() || reorder.is_some() || from_start.is_some();
     Ok(RecordingOptions {
         interfaces,
         fcs,
         origin,
         network: None,
-        are_given: !words.is_empty() || fcs.is_some() || origin.is_some(),
+        reorder: reorder.unwrap_or(usual_reorder(matches)),
+        from_start: from_start.unwrap_or(false),
+        are_given: !words.is_empty() || fcs.is_some() || of_moments,
     })
 }
 
@@ -236,13 +311,15 @@ pub fn pair_options(
 ) -> Result<PairOptions, Refused> {
     let words = matches.get_strs("interface").unwrap_or(&[]);
     let interfaces = pair_interfaces_in(alloc, words)?;
-    let origin = origin_in(matches)?;
+    let moments = moments_in(matches)?;
     if lists.a == STANDARD_INPUT && lists.b == STANDARD_INPUT {
         return Err(Refused::SameInput);
     }
     Ok(PairOptions {
         interfaces,
         fcs: fcs_in(matches),
-        origin,
+        origin: moments.origin,
+        reorder: moments.reorder.unwrap_or(usual_reorder(matches)),
+        from_start: moments.from_start.unwrap_or(false),
     })
 }

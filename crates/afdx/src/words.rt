@@ -1,7 +1,9 @@
 //! The words of a command line.
 
 use crate::list_words::list_command;
-use crate::recording_words::{fcs_option, interface_option, origin_option, second_list};
+use crate::recording_words::{
+    fcs_option, interface_option, origin_option, reorder_option, second_list, stamps_option,
+};
 use crate::solve_words::solve_command;
 use clap::{Arg, ArgAction, Command, value_parser};
 use std::alloc::{AllocError, Global};
@@ -213,6 +215,8 @@ fn replay_command<'a>(alloc: Global) -> Result<Command<'a>, AllocError> {
         interface_option(alloc),
         fcs_option(alloc),
         origin_option(alloc),
+        reorder_option(alloc),
+        stamps_option(alloc),
         explain_option(alloc),
         line_buffered(alloc),
         progress_option(alloc),
@@ -317,6 +321,7 @@ fn police_command<'a>(alloc: Global) -> Result<Command<'a>, AllocError> {
         interface_option(alloc),
         fcs_option(alloc),
         origin_option(alloc),
+        reorder_option(alloc),
         explain_option(alloc),
         line_buffered(alloc),
         progress_option(alloc),

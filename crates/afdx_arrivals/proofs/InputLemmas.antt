@@ -1,5 +1,5 @@
 -- What a run over a recording answers, and what that says of its arrivals.
-use Rattle.std.proofs.Common.{◌≡◌, ℕ, List, ◌++◌, ap, sym, ◌∙◌, subst}
+use Rattle.std.proofs.Common.{◌≡◌, ℕ, List, ap, ◌∙◌}
 use Rattle.std.proofs.Common.{Option, Some, None, Result, Ok, Err, IfSome}
 use Rattle.afdx_lists.specs.declared.frame_line.Heading.{Heading}
 use Rattle.afdx_lists.specs.declared.fault.RunFault.{RunFault}
@@ -12,11 +12,12 @@ use Rattle.afdx_arrivals.specs.Becoming.{Options}
 use Rattle.afdx_arrivals.specs.Claims.{Ports, Agree}
 use Rattle.afdx_arrivals.specs.NumberLines.{Lines, arrivals_listed}
 use Rattle.afdx_arrivals.specs.RecordingRun.{RecordingAnswers}
-use Rattle.afdx_arrivals.specs.Sequences.{Outcome}
-use Rattle.afdx_arrivals.specs.Taking.{AreCutOff, taken_of, taken_of_bytes, arrivals_in}
+use Rattle.afdx_arrivals.specs.Ordering.{Sequence}
+use Rattle.afdx_arrivals.specs.Taking.{AreCutOff, late_of_one, taken_of, taken_of_bytes}
 use Rattle.afdx_arrivals.specs.TakenRun.{IsOver, StopsTaken}
+use Rattle.afdx_arrivals.specs.Timing.{timed}
 use Rattle.afdx_arrivals.proofs.LawLemmas.{sequences-agree}
-use Rattle.afdx_arrivals.proofs.TakenLemmas.{answers-same, says-ok, says-err, taken-more}
+use Rattle.afdx_arrivals.proofs.TakenLemmas.{answers-same, says-ok, says-err}
 
 -- ---- by ports that agree
 
@@ -24,11 +25,16 @@ module _ (options : Options) (p q : Ports) (a : Agree p q) where
   -- what is taken is the same
   pub taken-agree : (bytes : List ℕ) → taken_of_bytes options p bytes ≡ taken_of_bytes options q bytes
   taken-agree bytes =
-      ap (λ (o : Outcome). taken_of options.origin o) (sequences-agree options p q (recorded bytes) a)
+      ap (λ (s : Sequence). taken_of options.origin s) (sequences-agree options p q (recorded bytes) a)
 
   pub cut-agree : (bytes : List ℕ) (rest : Option (List ℕ)) (lines : Lines) → AreCutOff options p bytes rest lines
       → AreCutOff options q bytes rest lines
-  cut-agree bytes rest lines h = (h.0, h.1, h.2 ∙ ap (λ w. w.lines) (taken-agree h.0))
+  cut-agree bytes rest lines h = (
+    h.0,
+    h.1,
+    h.2 ∙ ap (λ (s : Sequence). (timed late_of_one options.origin s.known).lines)
+        (sequences-agree options p q (recorded h.0) a),
+  )
 
   module _ (done told begins : List (Item Heading) → Type 0) where
     pub answers-agree : (bytes : List ℕ) (rest : Option (List ℕ)) (r : Result Tally RunFault)
@@ -67,22 +73,3 @@ module _ (options : Options) (ports : Ports) (done told begins : List (Item Head
   recorded-err all beginning f g (Some bytes) rest fault h =
       says-err (taken_of_bytes options ports bytes) (AreCutOff options ports bytes rest) done told begins
       all beginning f g fault h
-
--- what is told of more words
-module _ (options : Options) (ports : Ports) (all beginning all' beginning' : List Arrival → Type 0)
-    (f : (bytes : List ℕ) → all (arrivals_in (taken_of_bytes options ports bytes))
-    → all' (arrivals_in (taken_of_bytes options ports bytes))) (bytes : List ℕ)
-    (g : (past later : List Arrival) → arrivals_in (taken_of_bytes options ports bytes) ≡ later ++ past
-    → beginning past → beginning' past) where
-  pub recorded-more : (rest : Option (List ℕ)) (fault : RunFault)
-      → StopsTaken (taken_of_bytes options ports bytes) (AreCutOff options ports bytes rest) all beginning fault
-      → StopsTaken (taken_of_bytes options ports bytes) (AreCutOff options ports bytes rest) all' beginning' fault
-  recorded-more rest fault h =
-      taken-more (taken_of_bytes options ports bytes) (AreCutOff options ports bytes rest) all beginning all' beginning'
-      (f bytes) (λ lines c t. by lines c t) g fault h
-    where
-      by : (lines : Lines) → AreCutOff options ports bytes rest lines → all (arrivals (arrivals_listed lines))
-          → all' (arrivals (arrivals_listed lines))
-      by lines c t =
-          let told = subst (λ (xs : Lines). all (arrivals (arrivals_listed xs))) c.2 t in
-          subst (λ (xs : Lines). all' (arrivals (arrivals_listed xs))) (sym c.2) (f c.0 told)

@@ -7,6 +7,13 @@ pub mod ArrivingLemmas
 pub mod ClockLemmas
 pub mod ListingLemmas
 pub mod KnownLemmas
+pub mod SortingLemmas
+pub mod HandingLemmas
+pub mod FallingLemmas
+pub mod HoldingLemmas
+pub mod OrderedLemmas
+pub mod StepLemmas
+pub mod OrderedKnownLemmas
 pub mod MergeLemmas
 pub mod CutLemmas
 pub mod TakenLemmas

@@ -1,128 +1,27 @@
 -- The moments of the arrivals of recordings don't decrease, nor do their times.
-use Rattle.std.proofs.Common.{◌≡◌, ◌≤◌, ◌+◌, ℕ, List, [], ◌∷◌, ◌++◌, length, reverse, nat_le, refl, ap, sym, ◌∙◌, subst}
-use Rattle.std.proofs.Common.{Option, Some, None, Result, Ok, Err, arith, true, false, Bool, not, if◌then◌else◌}
-use Rattle.std.proofs.lemmas.Bool.{ltb-false, ltb-true, leb-true}
+use Rattle.std.proofs.Common.{◌≡◌, ◌≤◌, ℕ, List, [], ◌∷◌, ◌++◌, reverse, refl, ap, sym, ◌∙◌, subst}
+use Rattle.std.proofs.Common.{Option, Some, None, arith, true, false, Bool, if◌then◌else◌}
+use Rattle.std.proofs.lemmas.Bool.{ltb-false, ltb-true}
 use Rattle.std.proofs.lemmas.List.{reverse-append}
 use Rattle.afdx_lists.specs.declared.fault.RunFault.{RunFault}
-use Rattle.afdx_lists.specs.declared.frame_line.FrameKind.{FrameKind}
-use Rattle.afdx_lists.specs.declared.recording_fault.RecordingFault.{RecordingFault}
-use Rattle.afdx_lists.specs.declared.recording_fault.RecordingFault.TheVariants as fault
-use Rattle.afdx_recordings.specs.declared.recorded.Recorded.{Recorded}
-use Rattle.afdx_recordings.specs.declared.recorded.Recorded.TheVariants as recorded
-use Rattle.afdx_recordings.specs.declared.recorded.RecordedFrame.{RecordedFrame}
-use Rattle.afdx_recordings.specs.Recordings.{Numbered, Ending}
 use Rattle.afdx_run.specs.Engine.{Item}
 use Rattle.afdx_run.specs.Items.{arrivals}
 use Rattle.afdx_run.specs.Lists.{latest_in}
 use Rattle.afdx_run.specs.Listed.{frames}
-use Rattle.afdx_arrivals.specs.declared.becoming.Entrance.{Entrance}
 use Rattle.afdx_arrivals.specs.declared.becoming.Found.{Found}
-use Rattle.afdx_arrivals.specs.declared.becoming.NoArrival.{NoArrival}
-use Rattle.afdx_arrivals.specs.declared.becoming.NoArrival.TheVariants as no
 use Rattle.afdx_arrivals.specs.declared.number.Number.{Number}
 use Rattle.afdx_arrivals.specs.declared.number.Number.TheVariants as number
 use Rattle.afdx_arrivals.specs.declared.number_line.NumberLine.{NumberLine}
 use Rattle.afdx_arrivals.specs.declared.number_line.NumberLine.TheVariants as line
-use Rattle.afdx_arrivals.specs.declared.skipped.Skipped.TheVariants as why
-use Rattle.afdx_arrivals.specs.Becoming.{Options, becomes, frame_becomes, entrance_of, check, or_else, found_with, ◌>>=◌, ◌>>◌}
-use Rattle.afdx_arrivals.specs.Becoming.{whole_moment, is_before, kind_with, ends_with_sequence}
-use Rattle.afdx_arrivals.specs.Places.{is_left_out}
-use Rattle.afdx_arrivals.specs.Claims.{Ports}
 use Rattle.afdx_arrivals.specs.Laws.{AreInOrder}
 use Rattle.afdx_arrivals.specs.Merging.{Merged, merge, merged, rest_of_b, behind_a, at_head_of_a, by_head_of_a, is_first}
 use Rattle.afdx_arrivals.specs.NumberLines.{Lines, arrivals_listed, as_arrival, latest_time, time_or}
-use Rattle.afdx_arrivals.specs.Sequences.{Outcome, Numbers, sequence_of_items, number_after, number_by, and_then, latest_of, moment_or, with_number}
+use Rattle.afdx_arrivals.specs.Sequences.{Numbers, latest_of, moment_or}
 use Rattle.afdx_arrivals.specs.Timing.{Timed, is_late, line_by, origin_in, time_next, timed}
+use Rattle.afdx_arrivals.proofs.HandingLemmas.{AreOrdered}
 use Rattle.afdx_arrivals.proofs.TimingLemmas.{Line-of, IsInTime, in-time, in-time-more, time-grows}
 
--- the moments of these numbers don't decrease
-abbrev pub AreOrdered : Numbers → Type 0
-AreOrdered [] = Unit {0}
-AreOrdered (x ∷ past) = (latest_of past ≤ latest_of (x ∷ past)) × AreOrdered past
-
--- ---- the numbers of a recording
-
-module _ (options : Options) (ports : Ports) where
-  -- an arrival is no earlier than the one before it
-  by-checks : (latest moment : ℕ) (entrance : Entrance) (sealing : FrameKind) (on_time later : Bool) (early back : NoArrival)
-      (found : Found) → nat_le latest moment ≡ later
-      → (check on_time early >> (check later back >> Ok (found_with moment entrance sealing))) ≡ Ok found
-      → latest ≤ found.moment
-  by-checks latest moment entrance sealing true true early back found is e =
-      let h : latest ≤ moment = leb-true latest moment is in
-      let same : found_with moment entrance sealing ≡ found = cc in
-      subst (λ (x : Found). latest ≤ x.moment) same h
-  by-checks latest moment entrance sealing true false early back found is e = absurd (cc)
-  by-checks latest moment entrance sealing false later early back found is e = absurd (cc)
-
-  by-parts : (latest : ℕ) (stays : Bool) (left : NoArrival) (moment : Result ℕ NoArrival)
-      (entrance : Result Entrance NoArrival) (on_time : ℕ → Bool) (early : NoArrival) (sealing : Option FrameKind)
-      (unclear back : NoArrival) (found : Found)
-      → (check stays left >> (moment >>= (λ m. entrance >>= (λ x. check (on_time m) early
-      >> (or_else sealing unclear >>= (λ z. check (nat_le latest m) back >> Ok (found_with m x z))))))) ≡ Ok found
-      → latest ≤ found.moment
-  by-parts latest true left (Ok m) (Ok x) on_time early (Some z) unclear back found e =
-      by-checks latest m x z (on_time m) (nat_le latest m) early back found refl e
-  by-parts latest true left (Ok m) (Ok x) on_time early None unclear back found e =
-      absurd (unsealed (on_time m) early unclear found e)
-    where
-      unsealed : (t : Bool) (early unclear : NoArrival) (found : Found)
-          → (check t early >> Err unclear) ≡ Ok found → ⊥
-      unsealed true early unclear found e = absurd (cc)
-      unsealed false early unclear found e = absurd (cc)
-  by-parts latest true left (Ok m) (Err why) on_time early sealing unclear back found e = absurd (cc)
-  by-parts latest true left (Err why) entrance on_time early sealing unclear back found e = absurd (cc)
-  by-parts latest false left moment entrance on_time early sealing unclear back found e = absurd (cc)
-
-  frame-later : (latest n : ℕ) (frame : RecordedFrame) (bytes : List ℕ) (found : Found)
-      → frame_becomes options ports latest n frame bytes ≡ Ok found → latest ≤ found.moment
-  unfolding frame_becomes
-  frame-later latest n frame bytes found e =
-      by-parts latest (not (is_left_out (options.place frame.interface))) (no.Skipped why.LeftOut)
-      (whole_moment options.fcs n frame (length bytes))
-      (entrance_of options.network (options.place frame.interface) ports bytes)
-      (λ moment. not (is_before options.origin moment)) (no.Skipped why.BeforeOrigin)
-      (kind_with (ends_with_sequence options.fcs frame.check_sequence) frame.found_wrong bytes)
-      (no.Faulted (fault.FcsUnclear n)) (no.Faulted (fault.TimeBack n)) found e
-
-  found-later : (latest n : ℕ) (what : Recorded) (bytes : List ℕ) (found : Found)
-      → becomes options ports latest n what bytes ≡ Ok found → latest ≤ found.moment
-  found-later latest n recorded.NoFrame bytes found e = absurd (cc)
-  found-later latest n (recorded.Frame frame) bytes found e = frame-later latest n frame bytes found e
-
-  by-number : (latest : ℕ) (r : Result Found NoArrival) (x : Number)
-      → ((found : Found) → r ≡ Ok found → latest ≤ found.moment) → number_by r ≡ Ok x → latest ≤ moment_or x latest
-  by-number latest (Ok found) x h e =
-      let same : number.Arrival found ≡ x = cc in
-      subst (λ (y : Number). latest ≤ moment_or y latest) same (h found refl)
-  by-number latest (Err (no.Skipped reason)) x h e =
-      let same : number.Skipped reason ≡ x = cc in
-      subst (λ (y : Number). latest ≤ moment_or y latest) same (omega arith)
-  by-number latest (Err (no.Faulted fault)) x h e = absurd (cc)
-
-  number-later : (past : Numbers) (item : Numbered) (x : Number) → number_after options ports past item ≡ Ok x
-      → latest_of past ≤ moment_or x (latest_of past)
-  unfolding number_after
-  number-later past item x e =
-      by-number (latest_of past) (becomes options ports (latest_of past) (length past + 1) item.what item.bytes) x
-      (λ found is. found-later (latest_of past) (length past + 1) item.what item.bytes found is) e
-
-  next-ordered : (past : Numbers) (r : Result Number RecordingFault) (next : Number → Outcome) (lost : ℕ)
-      → AreOrdered past → ((x : Number) → r ≡ Ok x → AreOrdered (next x).numbers)
-      → AreOrdered (and_then next past lost r).numbers
-  next-ordered past (Ok x) next lost h f = f x refl
-  next-ordered past (Err fault) next lost h f = h
-
-  pub items-ordered : (ending : Ending) (lost : ℕ) (past : Numbers) (items : List Numbered) → AreOrdered past
-      → AreOrdered (sequence_of_items options ports ending lost past items).numbers
-  unfolding sequence_of_items latest_of
-  items-ordered ending lost past [] h = h
-  items-ordered ending lost past (item ∷ items) h =
-      next-ordered past (number_after options ports past item)
-      (λ x. sequence_of_items options ports ending lost (with_number past item.bytes x) items) lost h
-      (λ x e. items-ordered ending lost (with_number past item.bytes x) items (number-later past item x e, h))
-
--- ---- those of two
+-- ---- the numbers of two recordings
 
 -- these come, and none is earlier than this moment, or than those before it
 abbrev Ascend : ℕ → List (Item Number) → Type 0

@@ -17,7 +17,6 @@ use Rattle.afdx_arrivals.specs.declared.ahead.AtHead.TheVariants as at
 use Rattle.afdx_arrivals.specs.declared.becoming.RecordingOptions.{RecordingOptions}
 use Rattle.afdx_arrivals.specs.declared.counts.Tally.{Tally}
 use Rattle.afdx_arrivals.specs.declared.pair_options.PairOptions.{PairOptions}
-use Rattle.afdx_arrivals.specs.declared.read_recording.ReadRecording.{ReadRecording}
 use Rattle.afdx_arrivals.specs.declared.senders.SystemPorts.{SystemPorts}
 use Rattle.afdx_arrivals.specs.declared.timed_pair.TimedPair.{TimedPair}
 use Rattle.afdx_arrivals.specs.Becoming.{Options, options_of}
@@ -26,15 +25,18 @@ use Rattle.afdx_arrivals.specs.Counting.{IsFew, plus_tally}
 use Rattle.afdx_arrivals.specs.NumberLines.{Lines}
 use Rattle.afdx_arrivals.specs.PairOptions.{options_of_a, options_of_b}
 use Rattle.afdx_arrivals.specs.PairSource.{IsAhead, IsAheadBy, IsPaired, NoneIsBefore, StopsPairing, head_by}
-use Rattle.afdx_arrivals.specs.ReadPair.{IsNewPair, tally_of_source}
+use Rattle.afdx_arrivals.specs.OrderedRecording.{OrderedRecording, IsSetInOrder, HasTaken, HasTakenAll, HasStoppedTaking}
+use Rattle.afdx_arrivals.specs.OrderedRecording.{number_taken, tally_of_source}
+use Rattle.afdx_arrivals.specs.Ordering.{Sequence}
+use Rattle.afdx_arrivals.specs.ReadPair.{IsNewPair}
 use Rattle.afdx_arrivals.specs.RecordingRun.{AreCutOffInPair, IfBoth, IsAskedOnce, of_a, of_b, taken_of_pair}
-use Rattle.afdx_arrivals.specs.RecordingSource.{HasGiven, HasEnded, HasStopped, first_standing, given}
-use Rattle.afdx_arrivals.specs.Sequences.{Numbers, Outcome, latest_of}
-use Rattle.afdx_arrivals.specs.Taking.{Taken, AreCutOffAtOne, sequence_of_bytes, side_of}
+use Rattle.afdx_arrivals.specs.RecordingSource.{first_standing}
+use Rattle.afdx_arrivals.specs.Sequences.{Numbers, latest_of, numbers_read}
+use Rattle.afdx_arrivals.specs.Taking.{Taken, AreCutOffAtOne, sequence_of_bytes, side_of, taken_of_both}
 use Rattle.afdx_arrivals.specs.TakenRun.{TakenAnswers}
 use Rattle.afdx_arrivals.specs.TimedPairSource.{HasPaired, HasPairedAll, HasStoppedPairing}
 use Rattle.afdx_arrivals.specs.Timing.{origin_in, timed}
-use Rattle.afdx_arrivals.proofs.KnownLemmas.{ended-all}
+use Rattle.afdx_arrivals.proofs.OrderedKnownLemmas.{ended-all, taken-sound, all-sound, stopped-sound}
 use Rattle.afdx_arrivals.proofs.LawLemmas.{sequences-agree}
 use Rattle.afdx_arrivals.proofs.PairRunLemmas.{Whole, AreCut, pair-gave, pair-ended, pair-stopped, named-read, network-unread}
 use Rattle.afdx_arrivals.proofs.PairRunLemmas.{either-false, either-left, either-right, sound-by}
@@ -50,20 +52,29 @@ if-both (Some x) None P f = tt
 if-both None (Some y) P f = tt
 if-both None None P f = tt
 
+same-tallies : (a b c d : Tally) → a ≡ c → b ≡ d → plus_tally a b ≡ plus_tally c d
+same-tallies a b c d e f = rw (e, f) refl
+
+-- what is taken of sequences that are the same
+same-taken : (said said' : Option ℕ) (a a' b b' : Sequence) → a ≡ a' → b ≡ b' → said ≡ said'
+    → taken_of_both said a b ≡ taken_of_both said' a' b'
+same-taken said said' a a' b b' e f g = rw (e, f, g) refl
+
 -- ---- one of the two
 
-module _ {R : Type 0} (remaining : R → Option (List ℕ)) (start input : Watched R) (source : ReadRecording) where
+module _ {R : Type 0} (remaining : R → Option (List ℕ)) (start input : Watched R) (source : OrderedRecording) where
   gives-by : (head : AtHead) (taken : Numbers)
-      → IsAheadBy (HasGiven remaining start source input) (HasEnded remaining start source input) (given source) head
-      taken → GivesSome (first_standing remaining start) (standing remaining source.reader.held input)
-  gives-by at.Unknown taken h = (h.sorts.read, h.sorts.gives)
-  gives-by (at.Arrival moment) taken h = (h.0.sorts.read, h.0.sorts.gives)
-  gives-by at.Over taken h = (h.read, h.gives)
+      → IsAheadBy (HasTaken remaining start source input) (HasTakenAll remaining start source input) (number_taken source) head
+      taken → GivesSome (first_standing remaining start) (standing remaining source.source.reader.held input)
+  gives-by at.Unknown taken h = (taken-sound remaining start input source taken h).1
+  gives-by (at.Arrival moment) taken h = (taken-sound remaining start input source (number_taken source ∷ taken) h.0).1
+  gives-by at.Over taken h = (all-sound remaining start input source taken h).2
 
-  few-of : (taken : Numbers) → HasEnded remaining start source input taken → IsFew (tally_of_source source)
-  few-of taken h =
-      let skipped = few-skipped taken in
-      let claimed = few-claimed taken in record {
+  few-of : (taken : Numbers) → HasTakenAll remaining start source input taken → IsFew (tally_of_source source)
+  few-of taken all =
+      let h = all.ended_so in
+      let skipped = few-skipped (numbers_read all.read) in
+      let claimed = few-claimed (numbers_read all.read) in record {
         numbers = omega (arith, h.remembers.numbers, h.few);
         counts = record {
           skipped = rw h.remembers.counts (omega (arith, skipped, h.few));
@@ -72,27 +83,27 @@ module _ {R : Type 0} (remaining : R → Option (List ℕ)) (start input : Watch
       }
 
 module _ {R : Type 0} (remaining : R → Option (List ℕ)) (start inputs : BySide (Watched R))
-    (source : TimedPair ReadRecording) where
+    (source : TimedPair OrderedRecording) where
   abbrev pub Gave : Lines → Type 0
-  Gave lines = HasPaired given (HasGiven remaining) (HasEnded remaining) start source inputs lines
+  Gave lines = HasPaired number_taken (HasTaken remaining) (HasTakenAll remaining) start source inputs lines
 
   abbrev pub Ended : Lines → Type 0
-  Ended lines = HasPairedAll given (HasGiven remaining) (HasEnded remaining) start source inputs lines
+  Ended lines = HasPairedAll number_taken (HasTaken remaining) (HasTakenAll remaining) start source inputs lines
 
   abbrev pub Stopped : Lines → RunFault → Type 0
   Stopped lines fault =
-      HasStoppedPairing given (HasGiven remaining) (HasEnded remaining) (HasStopped remaining) start source inputs lines
+      HasStoppedPairing number_taken (HasTaken remaining) (HasTakenAll remaining) (HasStoppedTaking remaining) start source inputs lines
       fault
 
   -- ---- whether a device failed
 
   abbrev AheadA : ℕ → Numbers → Type 0
   AheadA latest taken =
-      IsAhead given (HasGiven remaining) (HasEnded remaining) latest start.a source.pair.a inputs.a taken
+      IsAhead number_taken (HasTaken remaining) (HasTakenAll remaining) latest start.a source.pair.a inputs.a taken
 
   abbrev AheadB : ℕ → Numbers → Type 0
   AheadB latest taken =
-      IsAhead given (HasGiven remaining) (HasEnded remaining) latest start.b source.pair.b inputs.b taken
+      IsAhead number_taken (HasTaken remaining) (HasTakenAll remaining) latest start.b source.pair.b inputs.b taken
 
   sound-a : (latest : ℕ) (taken : Numbers) → AheadA latest taken → inputs.a.failed ≡ false
   sound-a latest taken h =
@@ -102,22 +113,24 @@ module _ {R : Type 0} (remaining : R → Option (List ℕ)) (start inputs : BySi
   sound-b latest taken h =
       sound-by remaining start.b inputs.b source.pair.b.source source.pair.b.head taken h.known
 
-  paired-sound : (past : Numbers) → IsPaired given (HasGiven remaining) (HasEnded remaining) start source.pair inputs past
+  paired-sound : (past : Numbers) → IsPaired number_taken (HasTaken remaining) (HasTakenAll remaining) start source.pair inputs past
       → (inputs.a.failed || inputs.b.failed) ≡ false
   paired-sound past h =
       either-false inputs.a.failed inputs.b.failed (sound-a (latest_of past) h.taken_a h.a)
       (sound-b (latest_of past) h.taken_b h.b)
 
   stops-failed : (past : Numbers) (fault : RunFault)
-      → StopsPairing given (HasGiven remaining) (HasEnded remaining) (HasStopped remaining) start source.pair inputs past
+      → StopsPairing number_taken (HasTaken remaining) (HasTakenAll remaining) (HasStoppedTaking remaining) start source.pair inputs past
       fault → (inputs.a.failed || inputs.b.failed) ≡ is_read fault
   stops-failed past fault (inl h) =
       either-left inputs.a.failed inputs.b.failed (is_read fault)
-      (h.stopped_a.failed ∙ sym (named-read A h.fault_a) ∙ sym (ap is_read h.fault_is))
+      ((stopped-sound remaining start.a inputs.a source.pair.a.source h.taken_a h.fault_a h.stopped_a).0
+      ∙ sym (named-read A h.fault_a) ∙ sym (ap is_read h.fault_is))
       (sound-b (latest_of past) h.taken_b h.b)
   stops-failed past fault (inr h) =
       either-right inputs.a.failed inputs.b.failed (is_read fault) (sound-a (latest_of past) h.taken_a h.a)
-      (h.stopped_b.failed ∙ sym (named-read B h.fault_b) ∙ sym (ap is_read h.fault_is))
+      ((stopped-sound remaining start.b inputs.b source.pair.b.source h.taken_b h.fault_b h.stopped_b).0
+      ∙ sym (named-read B h.fault_b) ∙ sym (ap is_read h.fault_is))
 
   stopped-failed : (lines : Lines) (fault : RunFault) → Stopped lines fault
       → (inputs.a.failed || inputs.b.failed) ≡ is_read fault
@@ -138,11 +151,11 @@ module _ {R : Type 0} (remaining : R → Option (List ℕ)) (start inputs : BySi
 
   abbrev GivesA : Type 0
   GivesA =
-      GivesSome (first_standing remaining start.a) (standing remaining source.pair.a.source.reader.held inputs.a)
+      GivesSome (first_standing remaining start.a) (standing remaining source.pair.a.source.source.reader.held inputs.a)
 
   abbrev GivesB : Type 0
   GivesB =
-      GivesSome (first_standing remaining start.b) (standing remaining source.pair.b.source.reader.held inputs.b)
+      GivesSome (first_standing remaining start.b) (standing remaining source.pair.b.source.source.reader.held inputs.b)
 
   ahead-gives-a : (latest : ℕ) (taken : Numbers) → AheadA latest taken → GivesA
   ahead-gives-a latest taken h =
@@ -152,33 +165,39 @@ module _ {R : Type 0} (remaining : R → Option (List ℕ)) (start inputs : BySi
   ahead-gives-b latest taken h =
       gives-by remaining start.b inputs.b source.pair.b.source source.pair.b.head taken h.known
 
-  paired-gives : (past : Numbers) → IsPaired given (HasGiven remaining) (HasEnded remaining) start source.pair inputs past
+  paired-gives : (past : Numbers) → IsPaired number_taken (HasTaken remaining) (HasTakenAll remaining) start source.pair inputs past
       → GivesA × GivesB
   paired-gives past h =
       (ahead-gives-a (latest_of past) h.taken_a h.a, ahead-gives-b (latest_of past) h.taken_b h.b)
 
   stops-gives : (past : Numbers) (fault : RunFault)
-      → StopsPairing given (HasGiven remaining) (HasEnded remaining) (HasStopped remaining) start source.pair inputs past
+      → StopsPairing number_taken (HasTaken remaining) (HasTakenAll remaining) (HasStoppedTaking remaining) start source.pair inputs past
       fault → GivesA × GivesB
-  stops-gives past fault (inl h) = (h.stopped_a.gives, ahead-gives-b (latest_of past) h.taken_b h.b)
-  stops-gives past fault (inr h) = (ahead-gives-a (latest_of past) h.taken_a h.a, h.stopped_b.gives)
+  stops-gives past fault (inl h) = (
+    (stopped-sound remaining start.a inputs.a source.pair.a.source h.taken_a h.fault_a h.stopped_a).1,
+    ahead-gives-b (latest_of past) h.taken_b h.b,
+  )
+  stops-gives past fault (inr h) = (
+    ahead-gives-a (latest_of past) h.taken_a h.a,
+    (stopped-sound remaining start.b inputs.b source.pair.b.source h.taken_b h.fault_b h.stopped_b).1,
+  )
 
   stopped-gives : (lines : Lines) (fault : RunFault) → Stopped lines fault → GivesA × GivesB
   stopped-gives lines fault (inl h) = stops-gives h.past fault h.stops
   stopped-gives lines fault (inr h) = paired-gives (h.x ∷ h.before) h.is_paired
 
   ended-gives : (lines : Lines) → Ended lines → GivesA × GivesB
-  ended-gives lines h =
-      let a = h.is_paired.ended_a in
-      let b = h.is_paired.ended_b in
-      ((a.read, a.gives), (b.read, b.gives))
+  ended-gives lines h = (
+    (all-sound remaining start.a inputs.a source.pair.a.source h.is_paired.taken_a h.is_paired.ended_a).2,
+    (all-sound remaining start.b inputs.b source.pair.b.source h.is_paired.taken_b h.is_paired.ended_b).2,
+  )
 
   asked-both : (first_standing remaining start.a).over ≡ false → (first_standing remaining start.b).over ≡ false
       → GivesA × GivesB → AskedA × AskedB
   asked-both fresh-a fresh-b (a, b) = (
-    asked-once (first_standing remaining start.a) (standing remaining source.pair.a.source.reader.held inputs.a) a
+    asked-once (first_standing remaining start.a) (standing remaining source.pair.a.source.source.reader.held inputs.a) a
         fresh-a,
-    asked-once (first_standing remaining start.b) (standing remaining source.pair.b.source.reader.held inputs.b) b
+    asked-once (first_standing remaining start.b) (standing remaining source.pair.b.source.source.reader.held inputs.b) b
         fresh-b,
   )
 
@@ -194,18 +213,18 @@ module _ {R : Type 0} (remaining : R → Option (List ℕ)) (start inputs : BySi
         ((inputs.a.failed || inputs.b.failed) ≡ is_read fault) fault
         (λ lines s. stopped-failed lines fault s)
         (λ is lines k. paired-sound k.past k.is_paired ∙ sym (not_read fault is))
-        (λ is lines k. either-false inputs.a.failed inputs.b.failed k.is_paired.ended_a.sound k.is_paired.ended_b.sound
+        (λ is lines k. either-false inputs.a.failed inputs.b.failed k.is_paired.ended_a.ended_so.sound k.is_paired.ended_b.ended_so.sound
         ∙ sym (not_read fault is)) h
 
     pub ok-read : PairHands (Ok tt) → (inputs.a.failed || inputs.b.failed) ≡ false
     ok-read h =
         handed-ok items_of done told begins Gave Ended Stopped ((inputs.a.failed || inputs.b.failed) ≡ false)
-        (λ lines k. either-false inputs.a.failed inputs.b.failed k.is_paired.ended_a.sound k.is_paired.ended_b.sound) h
+        (λ lines k. either-false inputs.a.failed inputs.b.failed k.is_paired.ended_a.ended_so.sound k.is_paired.ended_b.ended_so.sound) h
 
     pub ok-ended : PairHands (Ok tt) → (inputs.a.ended ≡ true) × (inputs.b.ended ≡ true)
     ok-ended h =
         handed-ok items_of done told begins Gave Ended Stopped ((inputs.a.ended ≡ true) × (inputs.b.ended ≡ true))
-        (λ lines k. (k.is_paired.ended_a.ended, k.is_paired.ended_b.ended)) h
+        (λ lines k. (k.is_paired.ended_a.ended_so.ended, k.is_paired.ended_b.ended_so.ended)) h
 
     pub ok-few : PairHands (Ok tt) → IsFew (tally_of_source source.pair.a.source) × IsFew (tally_of_source source.pair.b.source)
     ok-few h =
@@ -229,32 +248,31 @@ module _ {R : Type 0} (remaining : R → Option (List ℕ)) (start inputs : BySi
         asked-both fresh-a fresh-b (handed-ok items_of done told begins Gave Ended Stopped (GivesA × GivesB)
         (λ lines k. ended-gives lines k) h)
 
-    module _ (bytes_a bytes_b : List ℕ) (known_a : remaining start.a.inner ≡ Some bytes_a)
+    module _ (set_a : IsSetInOrder source.pair.a.source) (set_b : IsSetInOrder source.pair.b.source)
+        (bytes_a bytes_b : List ℕ) (known_a : remaining start.a.inner ≡ Some bytes_a)
         (known_b : remaining start.b.inner ≡ Some bytes_b) where
       abbrev All : Taken
-      All = Whole remaining start inputs source bytes_a bytes_b known_a known_b
+      All = Whole remaining start inputs source set_a set_b bytes_a bytes_b known_a known_b
 
       abbrev Cut : Lines → Type 0
-      Cut = AreCut remaining start inputs source bytes_a bytes_b known_a known_b
+      Cut = AreCut remaining start inputs source set_a set_b bytes_a bytes_b known_a known_b
 
       err-taken : CanBePeeled items_of → (fault : RunFault) → PairHands (Err fault)
           → TakenAnswers All Cut items_of done told begins (Err fault)
       err-taken peel fault h =
           hands-err All Cut items_of done told begins Gave Ended Stopped peel fault
-          (pair-gave remaining start inputs source bytes_a bytes_b known_a known_b)
-          (pair-ended remaining start inputs source bytes_a bytes_b known_a known_b)
-          (λ lines s. pair-stopped remaining start inputs source bytes_a bytes_b known_a known_b lines fault s) h
+          (pair-gave remaining start inputs source set_a set_b bytes_a bytes_b known_a known_b)
+          (pair-ended remaining start inputs source set_a set_b bytes_a bytes_b known_a known_b)
+          (λ lines s. pair-stopped remaining start inputs source set_a set_b bytes_a bytes_b known_a known_b lines fault s) h
 
       tally-of-ended : (lines : Lines) → Ended lines
           → plus_tally (tally_of_source source.pair.a.source) (tally_of_source source.pair.b.source) ≡ All.tally
       tally-of-ended lines k =
-          let a = ended-all remaining start.a inputs.a source.pair.a.source k.is_paired.taken_a bytes_a known_a
+          let a = ended-all remaining start.a inputs.a source.pair.a.source set_a k.is_paired.taken_a bytes_a known_a
           k.is_paired.ended_a in
-          let b = ended-all remaining start.b inputs.b source.pair.b.source k.is_paired.taken_b bytes_b known_b
+          let b = ended-all remaining start.b inputs.b source.pair.b.source set_b k.is_paired.taken_b bytes_b known_b
           k.is_paired.ended_b in
-          let ra = k.is_paired.ended_a.remembers in
-          let rb = k.is_paired.ended_b.remembers in
-          rw (a, b, ra.numbers, ra.counts, rb.numbers, rb.counts) refl
+          same-tallies _ _ _ _ a.tally b.tally
 
       ok-taken : (tally : Tally)
           → tally ≡ plus_tally (tally_of_source source.pair.a.source) (tally_of_source source.pair.b.source)
@@ -262,43 +280,52 @@ module _ {R : Type 0} (remaining : R → Option (List ℕ)) (start inputs : BySi
       ok-taken tally is h =
           hands-ok All Cut items_of done told begins Gave Ended Stopped tally
           (λ lines k. (
-            pair-ended remaining start inputs source bytes_a bytes_b known_a known_b lines k,
+            pair-ended remaining start inputs source set_a set_b bytes_a bytes_b known_a known_b lines k,
             is ∙ tally-of-ended lines k,
           )) h
 
 -- ---- by which settings
 
-abbrev pub PairSettings : Type 0
-PairSettings = (RecordingOptions × SystemPorts) × (RecordingOptions × SystemPorts) × Option ℕ
+abbrev Settings : Type 0
+Settings = (RecordingOptions × SystemPorts) × ℕ
 
-abbrev pub settings-of : TimedPair ReadRecording → PairSettings
+abbrev pub PairSettings : Type 0
+PairSettings = Settings × Settings × Option ℕ
+
+abbrev pub settings-of : TimedPair OrderedRecording → PairSettings
 settings-of source = (
-  (source.pair.a.source.options, source.pair.a.source.ports),
-  (source.pair.b.source.options, source.pair.b.source.ports),
+  ((source.pair.a.source.source.options, source.pair.a.source.source.ports), source.pair.a.source.most),
+  ((source.pair.b.source.source.options, source.pair.b.source.source.ports), source.pair.b.source.most),
   source.clock.said,
 )
 
 -- the sequences are those of the options
 pub record IsSetBy (options : PairOptions) (ports : Ports) (s : PairSettings) : Type 0 where
-  pub a : (bytes : List ℕ) → sequence_of_bytes (options_of s.0.0) (ports_of s.0.1) bytes ≡ of_a options ports bytes
-  pub b : (bytes : List ℕ) → sequence_of_bytes (options_of s.1.0) (ports_of s.1.1) bytes ≡ of_b options ports bytes
+  pub a : (bytes : List ℕ) → sequence_of_bytes (options_of s.0.0.0) (ports_of s.0.0.1) bytes ≡ of_a options ports bytes
+  pub b : (bytes : List ℕ) → sequence_of_bytes (options_of s.1.0.0) (ports_of s.1.0.1) bytes ≡ of_b options ports bytes
+  pub order_a : s.0.1 ≡ s.0.0.0.reorder
+  pub order_b : s.1.1 ≡ s.1.0.0.reorder
   pub said : s.2 ≡ options.origin
 
-pub new-set : (options : PairOptions) (ports : Ports) (source : TimedPair ReadRecording)
+pub new-set : (options : PairOptions) (ports : Ports) (source : TimedPair OrderedRecording)
     → IsNewPair options ports source → IsSetBy options ports (settings-of source)
-new-set options ports source new = record {
-  a = λ bytes. ap (λ (o : Options). sequence_of_bytes o (ports_of source.pair.a.source.ports) bytes) new.options_a
-      ∙ sequences-agree (options_of_a options) (ports_of source.pair.a.source.ports) ports _ new.ports_a;
-  b = λ bytes. ap (λ (o : Options). sequence_of_bytes o (ports_of source.pair.b.source.ports) bytes) new.options_b
-      ∙ sequences-agree (options_of_b options) (ports_of source.pair.b.source.ports) ports _ new.ports_b;
-  said = new.said;
-}
+new-set options ports source new =
+    let of_a = source.pair.a.source.source in
+    let of_b = source.pair.b.source.source in record {
+      a = λ bytes. ap (λ (o : Options). sequence_of_bytes o (ports_of of_a.ports) bytes) new.options_a
+          ∙ sequences-agree (options_of_a options) (ports_of of_a.ports) ports _ new.ports_a;
+      b = λ bytes. ap (λ (o : Options). sequence_of_bytes o (ports_of of_b.ports) bytes) new.options_b
+          ∙ sequences-agree (options_of_b options) (ports_of of_b.ports) ports _ new.ports_b;
+      order_a = new.order_a;
+      order_b = new.order_b;
+      said = new.said;
+    }
 
-pub still-set-pair : (options : PairOptions) (ports : Ports) (old source : TimedPair ReadRecording)
+pub still-set-pair : (options : PairOptions) (ports : Ports) (old source : TimedPair OrderedRecording)
     → settings-of source ≡ settings-of old → IsNewPair options ports old → IsSetBy options ports (settings-of source)
 still-set-pair options ports old source e new = subst (IsSetBy options ports) (sym e) (new-set options ports old new)
 
-cut-same : (said said' : Option ℕ) (a a' b b' : List ℕ → Outcome) → said ≡ said'
+cut-same : (said said' : Option ℕ) (a a' b b' : List ℕ → Sequence) → said ≡ said'
     → ((bytes : List ℕ) → a bytes ≡ a' bytes) → ((bytes : List ℕ) → b bytes ≡ b' bytes)
     → (fa fb : Bool) (bytes_a bytes_b : List ℕ) (rest_a rest_b : Option (List ℕ)) (lines : Lines)
     → AreCutOffAtOne said a b fa fb bytes_a bytes_b rest_a rest_b lines
@@ -309,25 +336,25 @@ cut-same said said' a a' b b' e f g fa fb bytes_a bytes_b rest_a rest_b lines (i
     inr (failed, (read, gave, rw (← e, ← f bytes_a, ← g read) is))
 
 module _ {R : Type 0} (remaining : R → Option (List ℕ)) (start inputs : BySide (Watched R))
-    (source : TimedPair ReadRecording) (options : PairOptions) (ports : Ports)
+    (source : TimedPair OrderedRecording) (options : PairOptions) (ports : Ports)
     (set : IsSetBy options ports (settings-of source)) {H : Type 0} (items_of : Lines → List (Item H))
     (done told begins : List (Item H) → Type 0) where
   by-options : (bytes_a bytes_b : List ℕ) (known_a : remaining start.a.inner ≡ Some bytes_a)
       (known_b : remaining start.b.inner ≡ Some bytes_b) (r : Result Tally RunFault)
-      → TakenAnswers (Whole remaining start inputs source bytes_a bytes_b known_a known_b)
-      (AreCut remaining start inputs source bytes_a bytes_b known_a known_b) items_of done told begins r
+      → TakenAnswers (Whole remaining start inputs source set.order_a set.order_b bytes_a bytes_b known_a known_b)
+      (AreCut remaining start inputs source set.order_a set.order_b bytes_a bytes_b known_a known_b) items_of done told begins r
       → TakenAnswers (taken_of_pair options ports bytes_a bytes_b)
       (AreCutOffInPair options ports remaining bytes_a bytes_b inputs) items_of done told begins r
   by-options bytes_a bytes_b known_a known_b r h =
-      answers-same (Whole remaining start inputs source bytes_a bytes_b known_a known_b)
+      answers-same (Whole remaining start inputs source set.order_a set.order_b bytes_a bytes_b known_a known_b)
       (taken_of_pair options ports bytes_a bytes_b)
-      (AreCut remaining start inputs source bytes_a bytes_b known_a known_b)
+      (AreCut remaining start inputs source set.order_a set.order_b bytes_a bytes_b known_a known_b)
       (AreCutOffInPair options ports remaining bytes_a bytes_b inputs) items_of done told begins r
-      (rw (set.a bytes_a, set.b bytes_b, set.said) refl)
+      (same-taken _ _ _ _ _ _ (set.a bytes_a) (set.b bytes_b) set.said)
       (λ lines k. cut-same source.clock.said options.origin
-      (sequence_of_bytes (options_of source.pair.a.source.options) (ports_of source.pair.a.source.ports))
+      (sequence_of_bytes (options_of source.pair.a.source.source.options) (ports_of source.pair.a.source.source.ports))
       (of_a options ports)
-      (sequence_of_bytes (options_of source.pair.b.source.options) (ports_of source.pair.b.source.ports))
+      (sequence_of_bytes (options_of source.pair.b.source.source.options) (ports_of source.pair.b.source.source.ports))
       (of_b options ports) set.said set.a set.b
       (has_failed inputs.a) (has_failed inputs.b) bytes_a bytes_b (remaining (device_of inputs.a))
       (remaining (device_of inputs.b)) lines k) h
@@ -346,7 +373,7 @@ module _ {R : Type 0} (remaining : R → Option (List ℕ)) (start inputs : BySi
       (λ a b. TakenAnswers (taken_of_pair options ports a b) (AreCutOffInPair options ports remaining a b inputs)
       items_of done told begins (Err fault))
       (λ a b known_a known_b. by-options a b known_a known_b (Err fault)
-      (err-taken remaining start inputs source items_of done told begins a b known_a known_b peel fault h))
+      (err-taken remaining start inputs source items_of done told begins set.order_a set.order_b a b known_a known_b peel fault h))
 
   pub ok-answers : (tally : Tally)
       → tally ≡ plus_tally (tally_of_source source.pair.a.source) (tally_of_source source.pair.b.source)
@@ -356,25 +383,25 @@ module _ {R : Type 0} (remaining : R → Option (List ℕ)) (start inputs : BySi
       (λ a b. TakenAnswers (taken_of_pair options ports a b) (AreCutOffInPair options ports remaining a b inputs)
       items_of done told begins (Ok tally))
       (λ a b known_a known_b. by-options a b known_a known_b (Ok tally)
-      (ok-taken remaining start inputs source items_of done told begins a b known_a known_b tally is h))
+      (ok-taken remaining start inputs source items_of done told begins set.order_a set.order_b a b known_a known_b tally is h))
 
 -- ---- before the first read
 
-ahead-start : {R : Type 0} (remaining : R → Option (List ℕ)) (input : Watched R) (ahead : Ahead ReadRecording)
-    → ahead.head ≡ at.Unknown → HasGiven remaining input ahead.source input []
-    → IsAhead given (HasGiven remaining) (HasEnded remaining) (latest_of []) input ahead input []
+ahead-start : {R : Type 0} (remaining : R → Option (List ℕ)) (input : Watched R) (ahead : Ahead OrderedRecording)
+    → ahead.head ≡ at.Unknown → HasTaken remaining input ahead.source input []
+    → IsAhead number_taken (HasTaken remaining) (HasTakenAll remaining) (latest_of []) input ahead input []
 ahead-start remaining input ahead e gave = record {
-  known = subst (λ (h : AtHead). IsAheadBy (HasGiven remaining input ahead.source input)
-      (HasEnded remaining input ahead.source input) (given ahead.source) h []) (sym e) gave;
+  known = subst (λ (h : AtHead). IsAheadBy (HasTaken remaining input ahead.source input)
+      (HasTakenAll remaining input ahead.source input) (number_taken ahead.source) h []) (sym e) gave;
   order = subst (λ (h : AtHead). NoneIsBefore (latest_of []) h []) (sym e) (omega arith);
-  few = subst (λ (h : AtHead). length (head_by (given ahead.source) h ++ []) ≤ most_numbers) (sym e) (omega arith);
+  few = subst (λ (h : AtHead). length (head_by (number_taken ahead.source) h ++ []) ≤ most_numbers) (sym e) (omega arith);
 }
 
 pub pair-start : {R : Type 0} (remaining : R → Option (List ℕ)) (inputs : BySide (Watched R))
-    (source : TimedPair ReadRecording) (options : PairOptions) (ports : Ports) → inputs.a.failed ≡ false
+    (source : TimedPair OrderedRecording) (options : PairOptions) (ports : Ports) → inputs.a.failed ≡ false
     → inputs.b.failed ≡ false → has_ended inputs.a ≡ false → has_ended inputs.b ≡ false
     → IsNewPair options ports source
-    → HasPaired given (HasGiven remaining) (HasEnded remaining) inputs source inputs []
+    → HasPaired number_taken (HasTaken remaining) (HasTakenAll remaining) inputs source inputs []
 unfolding timed origin_in
 pair-start remaining inputs source options ports sound_a sound_b ended_a ended_b new = record {
   past = [];

@@ -18,7 +18,6 @@ use Rattle.afdx_arrivals.specs.declared.ahead.Ahead.{Ahead}
 use Rattle.afdx_arrivals.specs.declared.ahead.AtHead.{AtHead}
 use Rattle.afdx_arrivals.specs.declared.ahead.AtHead.TheVariants as at
 use Rattle.afdx_arrivals.specs.declared.number.Number.{Number}
-use Rattle.afdx_arrivals.specs.declared.read_recording.ReadRecording.{ReadRecording}
 use Rattle.afdx_arrivals.specs.declared.timed_pair.TimedPair.{TimedPair}
 use Rattle.afdx_arrivals.specs.Becoming.{options_of}
 use Rattle.afdx_arrivals.specs.Claims.{ports_of}
@@ -26,14 +25,17 @@ use Rattle.afdx_arrivals.specs.Merging.{Coming, Merged, merge, merged}
 use Rattle.afdx_arrivals.specs.NumberLines.{Lines}
 use Rattle.afdx_arrivals.specs.PairSource.{CanCome, IsAhead, IsAheadBy, IsPaired, StopsPairing}
 use Rattle.afdx_arrivals.specs.PairSource.{fault_named, head_by}
-use Rattle.afdx_arrivals.specs.RecordingSource.{HasGiven, HasEnded, HasStopped, given}
-use Rattle.afdx_arrivals.specs.Sequences.{Numbers, Outcome, latest_of}
+use Rattle.afdx_arrivals.specs.OrderedRecording.{OrderedRecording, IsSetInOrder, HasTaken, HasTakenAll, HasStoppedTaking}
+use Rattle.afdx_arrivals.specs.OrderedRecording.{number_taken}
+use Rattle.afdx_arrivals.specs.Ordering.{Sequence}
+use Rattle.afdx_arrivals.specs.Sequences.{Numbers, latest_of}
 use Rattle.afdx_arrivals.specs.Taking.{Taken, AreCutOffAtOne, coming_of, coming_until_read, fault_of, late_of_both}
 use Rattle.afdx_arrivals.specs.Taking.{sequence_of_bytes, side_of, taken_of_both, timed_of_both}
 use Rattle.afdx_arrivals.specs.TimedPairSource.{HasPaired, HasPairedAll, HasStoppedPairing}
 use Rattle.afdx_arrivals.specs.Timing.{Timed, timed}
 use Rattle.afdx_arrivals.proofs.CutLemmas.{cut-at-a, cut-at-b}
-use Rattle.afdx_arrivals.proofs.KnownLemmas.{given-first, ended-all, stopped-fault, stopped-read, stopped-memory}
+use Rattle.afdx_arrivals.proofs.OrderedKnownLemmas.{given-first, ended-all, stopped-fault, stopped-read}
+use Rattle.afdx_arrivals.proofs.OrderedKnownLemmas.{CanStop, stopped-memory, can-stop, taken-sound}
 use Rattle.afdx_arrivals.proofs.MergeLemmas.{EndsIn, merge-extends, reverse-taken}
 use Rattle.afdx_arrivals.proofs.TakenLemmas.{AreAllLines, AreFirstLines, StopsBehindLines}
 use Rattle.afdx_arrivals.proofs.TimingLemmas.{timed-extends, timed-stopped}
@@ -41,62 +43,64 @@ use Rattle.afdx_arrivals.proofs.TimingLemmas.{timed-extends, timed-stopped}
 -- ---- one of the two
 
 -- what comes of it behind its head
-pub record Comes (side : Side) (outcome : Outcome) (x : Item Number) (head : AtHead) (taken : Numbers) : Type 0 where
+pub record Comes (side : Side) (outcome : Sequence) (x : Item Number) (head : AtHead) (taken : Numbers) : Type 0 where
   pub next : List (Item Number)
   pub fault : Option RunFault
   pub can : CanCome head next fault
   pub coming_is : coming_of side outcome ≡ record { next = reverse taken ++ (head_by x head ++ next); fault = fault }
 
 module _ {R : Type 0} (remaining : R → Option (List ℕ)) (side : Side) (start input : Watched R)
-    (source : ReadRecording) (bytes : List ℕ) (known : remaining start.inner ≡ Some bytes) where
-  abbrev Outcome-of : Outcome
-  Outcome-of = sequence_of_bytes (options_of source.options) (ports_of source.ports) bytes
+    (source : OrderedRecording) (set : IsSetInOrder source) (bytes : List ℕ)
+    (known : remaining start.inner ≡ Some bytes) where
+  abbrev Sequence-of : Sequence
+  Sequence-of = sequence_of_bytes (options_of source.source.options) (ports_of source.source.ports) bytes
 
-  coming-first : (taken later : Numbers) → Outcome-of.numbers ≡ later ++ taken
-      → reverse Outcome-of.numbers ≡ reverse taken ++ reverse later
+  coming-first : (taken later : Numbers) → Sequence-of.numbers ≡ later ++ taken
+      → reverse Sequence-of.numbers ≡ reverse taken ++ reverse later
   coming-first taken later e = ap reverse e ∙ reverse-append later taken
 
   comes-by : (head : AtHead) (taken : Numbers)
-      → IsAheadBy (HasGiven remaining start source input) (HasEnded remaining start source input) (given source) head
-      taken → Comes side Outcome-of (given source) head taken
+      → IsAheadBy (HasTaken remaining start source input) (HasTakenAll remaining start source input) (number_taken source) head
+      taken → Comes side Sequence-of (number_taken source) head taken
   comes-by at.Unknown taken h =
-      let f = given-first remaining start input source taken bytes known h in record {
+      let f = given-first remaining start input source set taken bytes known h in record {
         next = reverse f.0;
-        fault = fault_of (fault_of_network side) Outcome-of.ending;
+        fault = fault_of (fault_of_network side) Sequence-of.ending;
         can = tt;
         coming_is = rw (coming-first taken f.0 f.1) refl;
       }
   comes-by (at.Arrival moment) taken h =
-      let f = given-first remaining start input source (given source ∷ taken) bytes known h.0 in record {
+      let f = given-first remaining start input source set (number_taken source ∷ taken) bytes known h.0 in record {
         next = reverse f.0;
-        fault = fault_of (fault_of_network side) Outcome-of.ending;
+        fault = fault_of (fault_of_network side) Sequence-of.ending;
         can = tt;
-        coming_is = rw (coming-first (given source ∷ taken) f.0 f.1 ∙ reverse-taken (given source) taken (reverse f.0))
+        coming_is = rw (coming-first (number_taken source ∷ taken) f.0 f.1 ∙ reverse-taken (number_taken source) taken (reverse f.0))
             refl;
       }
   comes-by at.Over taken h =
-      let e = ended-all remaining start input source taken bytes known h in record {
+      let e = ended-all remaining start input source set taken bytes known h in record {
         next = [];
         fault = None;
         can = (refl, refl);
-        coming_is = rw (e, append-nil (reverse taken)) refl;
+        coming_is = rw (e.numbers, e.ending, append-nil (reverse taken)) refl;
       }
 
-  pub comes : (latest : ℕ) (ahead : Ahead ReadRecording) (taken : Numbers) → ahead.source ≡ source
-      → IsAhead given (HasGiven remaining) (HasEnded remaining) latest start ahead input taken
-      → Comes side Outcome-of (given source) ahead.head taken
+  pub comes : (latest : ℕ) (ahead : Ahead OrderedRecording) (taken : Numbers) → ahead.source ≡ source
+      → IsAhead number_taken (HasTaken remaining) (HasTakenAll remaining) latest start ahead input taken
+      → Comes side Sequence-of (number_taken source) ahead.head taken
   comes latest ahead taken e h =
-      comes-by ahead.head taken (subst (λ (s : ReadRecording). IsAheadBy (HasGiven remaining start s input)
-      (HasEnded remaining start s input) (given s) ahead.head taken) e h.known)
+      comes-by ahead.head taken (subst (λ (s : OrderedRecording). IsAheadBy (HasTaken remaining start s input)
+      (HasTakenAll remaining start s input) (number_taken s) ahead.head taken) e h.known)
 
 -- its device didn't fail
-pub sound-by : {R : Type 0} (remaining : R → Option (List ℕ)) (start input : Watched R) (source : ReadRecording)
+pub sound-by : {R : Type 0} (remaining : R → Option (List ℕ)) (start input : Watched R) (source : OrderedRecording)
     (head : AtHead) (taken : Numbers)
-    → IsAheadBy (HasGiven remaining start source input) (HasEnded remaining start source input) (given source) head
-    taken → input.failed ≡ false
-sound-by remaining start input source at.Unknown taken h = h.sound
-sound-by remaining start input source (at.Arrival moment) taken h = h.0.sound
-sound-by remaining start input source at.Over taken h = h.sound
+    → IsAheadBy (HasTaken remaining start source input) (HasTakenAll remaining start source input)
+    (number_taken source) head taken → input.failed ≡ false
+sound-by remaining start input source at.Unknown taken h = (taken-sound remaining start input source taken h).0
+sound-by remaining start input source (at.Arrival moment) taken h =
+    (taken-sound remaining start input source (number_taken source ∷ taken) h.0).0
+sound-by remaining start input source at.Over taken h = h.ended_so.sound
 
 -- a fault that is named is a failed read where it was one
 pub named-read : (side : Side) (fault : RunFault) → is_read (fault_named side fault) ≡ is_read fault
@@ -176,13 +180,14 @@ ends-from : (past past' all : Numbers) → past' ≡ past → EndsIn past' all �
 ends-from past past' all e h = subst (λ (p : Numbers). EndsIn p all) e h
 
 module _ {R : Type 0} (remaining : R → Option (List ℕ)) (start inputs : BySide (Watched R))
-    (source : TimedPair ReadRecording) (bytes_a bytes_b : List ℕ) (known_a : remaining start.a.inner ≡ Some bytes_a)
-    (known_b : remaining start.b.inner ≡ Some bytes_b) where
-  abbrev Of-a : List ℕ → Outcome
-  Of-a = sequence_of_bytes (options_of source.pair.a.source.options) (ports_of source.pair.a.source.ports)
+    (source : TimedPair OrderedRecording) (set_a : IsSetInOrder source.pair.a.source)
+    (set_b : IsSetInOrder source.pair.b.source) (bytes_a bytes_b : List ℕ)
+    (known_a : remaining start.a.inner ≡ Some bytes_a) (known_b : remaining start.b.inner ≡ Some bytes_b) where
+  abbrev Of-a : List ℕ → Sequence
+  Of-a = sequence_of_bytes (options_of source.pair.a.source.source.options) (ports_of source.pair.a.source.source.ports)
 
-  abbrev Of-b : List ℕ → Outcome
-  Of-b = sequence_of_bytes (options_of source.pair.b.source.options) (ports_of source.pair.b.source.ports)
+  abbrev Of-b : List ℕ → Sequence
+  Of-b = sequence_of_bytes (options_of source.pair.b.source.source.options) (ports_of source.pair.b.source.source.ports)
 
   abbrev Said : Option ℕ
   Said = source.clock.said
@@ -197,27 +202,27 @@ module _ {R : Type 0} (remaining : R → Option (List ℕ)) (start inputs : BySi
       (remaining (device_of inputs.a)) (remaining (device_of inputs.b)) lines
 
   abbrev Paired : Lines → Type 0
-  Paired lines = HasPaired given (HasGiven remaining) (HasEnded remaining) start source inputs lines
+  Paired lines = HasPaired number_taken (HasTaken remaining) (HasTakenAll remaining) start source inputs lines
 
   abbrev PairedAll : Lines → Type 0
-  PairedAll lines = HasPairedAll given (HasGiven remaining) (HasEnded remaining) start source inputs lines
+  PairedAll lines = HasPairedAll number_taken (HasTaken remaining) (HasTakenAll remaining) start source inputs lines
 
   abbrev Stopped : Lines → RunFault → Type 0
   Stopped lines fault =
-      HasStoppedPairing given (HasGiven remaining) (HasEnded remaining) (HasStopped remaining) start source inputs lines
+      HasStoppedPairing number_taken (HasTaken remaining) (HasTakenAll remaining) (HasStoppedTaking remaining) start source inputs lines
       fault
 
   -- these numbers come first
-  paired-first : (past : Numbers) → IsPaired given (HasGiven remaining) (HasEnded remaining) start source.pair inputs past
+  paired-first : (past : Numbers) → IsPaired number_taken (HasTaken remaining) (HasTakenAll remaining) start source.pair inputs past
       → EndsIn past (merged (coming_of A (Of-a bytes_a)) (coming_of B (Of-b bytes_b))).numbers
   paired-first past h =
-      let a = comes remaining A start.a inputs.a source.pair.a.source bytes_a known_a (latest_of past) source.pair.a
+      let a = comes remaining A start.a inputs.a source.pair.a.source set_a bytes_a known_a (latest_of past) source.pair.a
       h.taken_a refl h.a in
-      let b = comes remaining B start.b inputs.b source.pair.b.source bytes_b known_b (latest_of past) source.pair.b
+      let b = comes remaining B start.b inputs.b source.pair.b.source set_b bytes_b known_b (latest_of past) source.pair.b
       h.taken_b refl h.b in
       let joined = h.joins a.next b.next a.fault b.fault a.can b.can in
-      let e = merge-extends past (head_by (given source.pair.a.source) source.pair.a.head ++ a.next) a.fault
-      (head_by (given source.pair.b.source) source.pair.b.head ++ b.next) b.fault in
+      let e = merge-extends past (head_by (number_taken source.pair.a.source) source.pair.a.head ++ a.next) a.fault
+      (head_by (number_taken source.pair.b.source) source.pair.b.head ++ b.next) b.fault in
       (e.0, ap (λ (m : Merged). m.numbers) (both-coming _ _ _ _ a.coming_is b.coming_is ∙ joined) ∙ e.1)
 
   pub pair-gave : (lines : Lines) → Paired lines → AreFirstLines Whole lines
@@ -227,12 +232,12 @@ module _ {R : Type 0} (remaining : R → Option (List ℕ)) (start inputs : BySi
 
   pub pair-ended : (lines : Lines) → PairedAll lines → AreAllLines Whole lines
   pair-ended lines h =
-      let a = ended-all remaining start.a inputs.a source.pair.a.source h.is_paired.taken_a bytes_a known_a
+      let a = ended-all remaining start.a inputs.a source.pair.a.source set_a h.is_paired.taken_a bytes_a known_a
       h.is_paired.ended_a in
-      let b = ended-all remaining start.b inputs.b source.pair.b.source h.is_paired.taken_b bytes_b known_b
+      let b = ended-all remaining start.b inputs.b source.pair.b.source set_b h.is_paired.taken_b bytes_b known_b
       h.is_paired.ended_b in
       let all = up-to Said h.past lines (coming_of A (Of-a bytes_a)) (coming_of B (Of-b bytes_b)) None
-      h.are_timed.timed_as (rw (a, b) h.is_paired.joined) in
+      h.are_timed.timed_as (rw (a.numbers, a.ending, b.numbers, b.ending) h.is_paired.joined) in
       record { over = ap (λ (t : Timed). t.fault) all; lines_are = ap (λ (t : Timed). t.lines) all }
 
   abbrev Next : List (Item Number) → Option RunFault → Coming
@@ -245,108 +250,116 @@ module _ {R : Type 0} (remaining : R → Option (List ℕ)) (start inputs : BySi
   Coming-b = coming_of B (Of-b bytes_b)
 
   abbrev Head-a : List (Item Number)
-  Head-a = head_by (given source.pair.a.source) source.pair.a.head
+  Head-a = head_by (number_taken source.pair.a.source) source.pair.a.head
 
   abbrev Head-b : List (Item Number)
-  Head-b = head_by (given source.pair.b.source) source.pair.b.head
+  Head-b = head_by (number_taken source.pair.b.source) source.pair.b.head
 
   -- the recording of A stopped
   module _ (past taken taken-o : Numbers) (lines : Lines)
       (t : timed late_of_both Said past ≡ record { lines = lines; fault = None })
-      (other : Comes B (Of-b bytes_b) (given source.pair.b.source) source.pair.b.head taken-o)
+      (other : Comes B (Of-b bytes_b) (number_taken source.pair.b.source) source.pair.b.head taken-o)
       (joined : (ys : List (Item Number)) (fy : Option RunFault) (any : RunFault) → CanCome source.pair.b.head ys fy
       → merge [] (reverse taken) (Some any) (reverse taken-o ++ (Head-b ++ ys)) fy
       ≡ record { numbers = past; fault = Some any }) where
-    stop-a : (fault : RunFault) → HasStopped remaining start.a source.pair.a.source inputs.a taken fault
+    no-other-a : (fault : RunFault)
+        → HasStoppedTaking remaining start.a source.pair.a.source inputs.a taken fault → CanStop fault
+    no-other-a fault h = can-stop remaining start.a inputs.a source.pair.a.source taken fault h
+
+    stop-a : (fault : RunFault) → HasStoppedTaking remaining start.a source.pair.a.source inputs.a taken fault
         → StopsBehindLines Whole AreCut lines (fault_named A fault)
     stop-a (run.Recording f) h =
-        let s = stopped-fault remaining start.a inputs.a source.pair.a.source taken bytes_a known_a f h in
+        let s = stopped-fault remaining start.a inputs.a source.pair.a.source set_a taken bytes_a known_a f h in
         let own : Coming-a ≡ Next (reverse taken) (Some (fault_of_network A f)) = rw (s.numbers, s.ending) refl in
         let all = up-to Said past lines (Coming-a) Coming-b (Some (fault_of_network A f)) t
         (both-coming _ _ _ _ own other.coming_is ∙ joined other.next other.fault (fault_of_network A f) other.can) in
         late-behind Whole AreCut lines A f (ap (λ (t : Timed). t.fault) all) (ap (λ (t : Timed). t.lines) all)
     stop-a run.Read h =
-        let s = stopped-read remaining start.a inputs.a source.pair.a.source taken bytes_a known_a h in
-        let own : coming_until_read (Of-a s.read) ≡ Next (reverse taken) (Some run.Read) = rw s.numbers refl in
+        let s = stopped-read remaining start.a inputs.a source.pair.a.source set_a taken bytes_a known_a h in
+        let own : coming_until_read (Of-a s.read) ≡ Next (reverse taken) (Some run.Read) = rw s.known_is refl in
         let all = up-to Said past lines (coming_until_read (Of-a s.read)) Coming-b (Some run.Read) t
         (both-coming _ _ _ _ own other.coming_is ∙ joined other.next other.fault run.Read other.can) in
         inl (s.failed, (s.read, s.gave, sym (ap (λ (t : Timed). t.lines) all)))
     stop-a run.Memory h =
-        let s = stopped-memory remaining start.a inputs.a source.pair.a.source taken bytes_a known_a h in
+        let s = stopped-memory remaining start.a inputs.a source.pair.a.source set_a taken bytes_a known_a h in
         let own : Coming-a ≡ Next (reverse taken ++ reverse s.0) (fault_of (fault_of_network A) (Of-a bytes_a).ending) =
-        rw (coming-first remaining A start.a inputs.a source.pair.a.source bytes_a known_a taken s.0 s.1) refl in
+        rw (coming-first remaining A start.a inputs.a source.pair.a.source set_a bytes_a known_a taken s.0 s.1) refl in
         let cut = cut-at-a [] (reverse taken) run.Memory (reverse taken-o ++ (Head-b ++ other.next)) other.fault
         (reverse s.0) (fault_of (fault_of_network A) (Of-a bytes_a).ending) in
         let before = ap (λ (m : Merged). m.numbers) (joined other.next other.fault run.Memory other.can) in
         first-lines Said past lines Coming-a Coming-b t
         (ends-same past _ _ (ap (λ (m : Merged). m.numbers) (both-coming _ _ _ _ own other.coming_is))
         (ends-from past _ _ before cut))
-    stop-a run.Write h = absurd h.stops
-    stop-a run.TooManyLines h = absurd h.stops
-    stop-a (run.LineTooLong m) h = absurd h.stops
-    stop-a (run.BadLine m) h = absurd h.stops
-    stop-a (run.BadHex m) h = absurd h.stops
-    stop-a (run.TimeBack m) h = absurd h.stops
-    stop-a (run.TimeTooLarge m) h = absurd h.stops
-    stop-a (run.BadPort m) h = absurd h.stops
-    stop-a (run.RecordingOfA m) h = absurd h.stops
-    stop-a (run.RecordingOfB m) h = absurd h.stops
+    stop-a run.Write h = absurd (no-other-a run.Write h)
+    stop-a run.TooManyLines h = absurd (no-other-a run.TooManyLines h)
+    stop-a (run.LineTooLong m) h = absurd (no-other-a (run.LineTooLong m) h)
+    stop-a (run.BadLine m) h = absurd (no-other-a (run.BadLine m) h)
+    stop-a (run.BadHex m) h = absurd (no-other-a (run.BadHex m) h)
+    stop-a (run.TimeBack m) h = absurd (no-other-a (run.TimeBack m) h)
+    stop-a (run.TimeTooLarge m) h = absurd (no-other-a (run.TimeTooLarge m) h)
+    stop-a (run.BadPort m) h = absurd (no-other-a (run.BadPort m) h)
+    stop-a (run.RecordingOfA m) h = absurd (no-other-a (run.RecordingOfA m) h)
+    stop-a (run.RecordingOfB m) h = absurd (no-other-a (run.RecordingOfB m) h)
 
   -- the recording of B stopped
   module _ (past taken taken-o : Numbers) (lines : Lines)
       (t : timed late_of_both Said past ≡ record { lines = lines; fault = None })
-      (other : Comes A (Of-a bytes_a) (given source.pair.a.source) source.pair.a.head taken-o)
+      (other : Comes A (Of-a bytes_a) (number_taken source.pair.a.source) source.pair.a.head taken-o)
       (joined : (xs : List (Item Number)) (fx : Option RunFault) (any : RunFault) → CanCome source.pair.a.head xs fx
       → merge [] (reverse taken-o ++ (Head-a ++ xs)) fx (reverse taken) (Some any)
       ≡ record { numbers = past; fault = Some any }) where
-    stop-b : (fault : RunFault) → HasStopped remaining start.b source.pair.b.source inputs.b taken fault
+    no-other-b : (fault : RunFault)
+        → HasStoppedTaking remaining start.b source.pair.b.source inputs.b taken fault → CanStop fault
+    no-other-b fault h = can-stop remaining start.b inputs.b source.pair.b.source taken fault h
+
+    stop-b : (fault : RunFault) → HasStoppedTaking remaining start.b source.pair.b.source inputs.b taken fault
         → StopsBehindLines Whole AreCut lines (fault_named B fault)
     stop-b (run.Recording f) h =
-        let s = stopped-fault remaining start.b inputs.b source.pair.b.source taken bytes_b known_b f h in
+        let s = stopped-fault remaining start.b inputs.b source.pair.b.source set_b taken bytes_b known_b f h in
         let own : Coming-b ≡ Next (reverse taken) (Some (fault_of_network B f)) = rw (s.numbers, s.ending) refl in
         let all = up-to Said past lines Coming-a (Coming-b) (Some (fault_of_network B f)) t
         (both-coming _ _ _ _ other.coming_is own ∙ joined other.next other.fault (fault_of_network B f) other.can) in
         late-behind Whole AreCut lines B f (ap (λ (t : Timed). t.fault) all) (ap (λ (t : Timed). t.lines) all)
     stop-b run.Read h =
-        let s = stopped-read remaining start.b inputs.b source.pair.b.source taken bytes_b known_b h in
-        let own : coming_until_read (Of-b s.read) ≡ Next (reverse taken) (Some run.Read) = rw s.numbers refl in
+        let s = stopped-read remaining start.b inputs.b source.pair.b.source set_b taken bytes_b known_b h in
+        let own : coming_until_read (Of-b s.read) ≡ Next (reverse taken) (Some run.Read) = rw s.known_is refl in
         let all = up-to Said past lines Coming-a (coming_until_read (Of-b s.read)) (Some run.Read) t
         (both-coming _ _ _ _ other.coming_is own ∙ joined other.next other.fault run.Read other.can) in
         inr (s.failed, (s.read, s.gave, sym (ap (λ (t : Timed). t.lines) all)))
     stop-b run.Memory h =
-        let s = stopped-memory remaining start.b inputs.b source.pair.b.source taken bytes_b known_b h in
+        let s = stopped-memory remaining start.b inputs.b source.pair.b.source set_b taken bytes_b known_b h in
         let own : Coming-b ≡ Next (reverse taken ++ reverse s.0) (fault_of (fault_of_network B) (Of-b bytes_b).ending) =
-        rw (coming-first remaining B start.b inputs.b source.pair.b.source bytes_b known_b taken s.0 s.1) refl in
+        rw (coming-first remaining B start.b inputs.b source.pair.b.source set_b bytes_b known_b taken s.0 s.1) refl in
         let cut = cut-at-b [] (reverse taken-o ++ (Head-a ++ other.next)) other.fault (reverse taken) run.Memory
         (reverse s.0) (fault_of (fault_of_network B) (Of-b bytes_b).ending) in
         let before = ap (λ (m : Merged). m.numbers) (joined other.next other.fault run.Memory other.can) in
         first-lines Said past lines Coming-a Coming-b t
         (ends-same past _ _ (ap (λ (m : Merged). m.numbers) (both-coming _ _ _ _ other.coming_is own))
         (ends-from past _ _ before cut))
-    stop-b run.Write h = absurd h.stops
-    stop-b run.TooManyLines h = absurd h.stops
-    stop-b (run.LineTooLong m) h = absurd h.stops
-    stop-b (run.BadLine m) h = absurd h.stops
-    stop-b (run.BadHex m) h = absurd h.stops
-    stop-b (run.TimeBack m) h = absurd h.stops
-    stop-b (run.TimeTooLarge m) h = absurd h.stops
-    stop-b (run.BadPort m) h = absurd h.stops
-    stop-b (run.RecordingOfA m) h = absurd h.stops
-    stop-b (run.RecordingOfB m) h = absurd h.stops
+    stop-b run.Write h = absurd (no-other-b run.Write h)
+    stop-b run.TooManyLines h = absurd (no-other-b run.TooManyLines h)
+    stop-b (run.LineTooLong m) h = absurd (no-other-b (run.LineTooLong m) h)
+    stop-b (run.BadLine m) h = absurd (no-other-b (run.BadLine m) h)
+    stop-b (run.BadHex m) h = absurd (no-other-b (run.BadHex m) h)
+    stop-b (run.TimeBack m) h = absurd (no-other-b (run.TimeBack m) h)
+    stop-b (run.TimeTooLarge m) h = absurd (no-other-b (run.TimeTooLarge m) h)
+    stop-b (run.BadPort m) h = absurd (no-other-b (run.BadPort m) h)
+    stop-b (run.RecordingOfA m) h = absurd (no-other-b (run.RecordingOfA m) h)
+    stop-b (run.RecordingOfB m) h = absurd (no-other-b (run.RecordingOfB m) h)
 
   pub pair-stopped : (lines : Lines) (fault : RunFault) → Stopped lines fault
       → StopsBehindLines Whole AreCut lines fault
   pair-stopped lines fault (inl h) = by h.stops
     where
-      by : StopsPairing given (HasGiven remaining) (HasEnded remaining) (HasStopped remaining) start source.pair inputs
+      by : StopsPairing number_taken (HasTaken remaining) (HasTakenAll remaining) (HasStoppedTaking remaining) start source.pair inputs
           h.past fault → StopsBehindLines Whole AreCut lines fault
       by (inl a) =
           rw a.fault_is (stop-a h.past a.taken_a a.taken_b lines h.are_timed.timed_as
-          (comes remaining B start.b inputs.b source.pair.b.source bytes_b known_b (latest_of h.past) source.pair.b
+          (comes remaining B start.b inputs.b source.pair.b.source set_b bytes_b known_b (latest_of h.past) source.pair.b
           a.taken_b refl a.b) a.joined a.fault_a a.stopped_a)
       by (inr b) =
           rw b.fault_is (stop-b h.past b.taken_b b.taken_a lines h.are_timed.timed_as
-          (comes remaining A start.a inputs.a source.pair.a.source bytes_a known_a (latest_of h.past) source.pair.a
+          (comes remaining A start.a inputs.a source.pair.a.source set_a bytes_a known_a (latest_of h.past) source.pair.a
           b.taken_a refl b.a) b.joined b.fault_b b.stopped_b)
   pair-stopped lines fault (inr h) =
       let all = late-lines Said (h.x ∷ h.before) lines (coming_of A (Of-a bytes_a)) (coming_of B (Of-b bytes_b)) fault

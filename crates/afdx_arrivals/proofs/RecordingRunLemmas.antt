@@ -3,6 +3,8 @@ use Rattle.std.proofs.Common.{◌≡◌, ◌≤◌, ◌+◌, ℕ, List, [], ◌�
 use Rattle.std.proofs.Common.{Option, Some, None, Result, Ok, Err, IfSome, arith, true, false, Bool, inl, inr}
 use Rattle.std.specs.Io.KnownBytes.{Consumes}
 use Rattle.std.proofs.KnownBytes.{Consumes-nil}
+use Rattle.std.proofs.Math.Seq.{take-nil}
+use Rattle.std.proofs.lemmas.List.Sorted.{IsPermutation-refl}
 use Rattle.afdx_lists.specs.Calls.{is_read}
 use Rattle.afdx_lists.specs.Watching.{has_ended}
 use Rattle.afdx_lists.specs.declared.fault.RunFault.{RunFault}
@@ -10,31 +12,32 @@ use Rattle.afdx_lists.specs.declared.fault.RunFault.TheVariants as run
 use Rattle.afdx_lists.specs.declared.recording_fault.RecordingFault.{RecordingFault}
 use Rattle.afdx_lists.specs.declared.watched.Watched.{Watched}
 use Rattle.afdx_recordings.specs.Holding.{Standing, standing, GivesSome, last_calls}
-use Rattle.afdx_recordings.specs.Reading.{state_of}
-use Rattle.afdx_recordings.specs.Recordings.{State, Over, Faulted, lost_by}
+use Rattle.afdx_recordings.specs.Recordings.{State, Over, Faulted}
 use Rattle.afdx_run.specs.Engine.{Item}
 use Rattle.afdx_text.specs.Sinks.{IsOfOutput}
 use Rattle.afdx_arrivals.specs.declared.becoming.RecordingOptions.{RecordingOptions}
-use Rattle.afdx_arrivals.specs.declared.counts.Counts.{Counts}
 use Rattle.afdx_arrivals.specs.declared.counts.Tally.{Tally}
 use Rattle.afdx_arrivals.specs.declared.number.Number.{Number}
-use Rattle.afdx_arrivals.specs.declared.read_recording.ReadRecording.{ReadRecording}
 use Rattle.afdx_arrivals.specs.declared.senders.SystemPorts.{SystemPorts}
 use Rattle.afdx_arrivals.specs.declared.timed_numbers.TimedNumbers.{TimedNumbers}
 use Rattle.afdx_arrivals.specs.ArrivingSource.{AreArrivals}
 use Rattle.afdx_arrivals.specs.Becoming.{Options, options_of}
 use Rattle.afdx_arrivals.specs.Claims.{Ports, ports_of}
 use Rattle.afdx_arrivals.specs.NumberLines.{Lines, arrivals_listed}
-use Rattle.afdx_arrivals.specs.ReadPair.{IsUnread, tally_of_source}
+use Rattle.afdx_arrivals.specs.OrderedRecording.{OrderedRecording, IsSetInOrder, IsUnread, tally_of_source}
+use Rattle.afdx_arrivals.specs.OrderedRecording.{HasTaken, HasTakenAll, HasStoppedTaking}
+use Rattle.afdx_arrivals.specs.OrderedSource.{AreHeld}
+use Rattle.afdx_arrivals.specs.Ordering.{Sequence, forward, handed_on, in_order}
 use Rattle.afdx_arrivals.specs.RecordingRun.{IsAskedOnce}
-use Rattle.afdx_arrivals.specs.RecordingSource.{first_standing}
-use Rattle.afdx_arrivals.specs.RecordingSource.{HasGiven, HasEnded, HasStopped}
-use Rattle.afdx_arrivals.specs.Sequences.{Numbers, Outcome, counts_of, has_arrival, latest_of}
+use Rattle.afdx_arrivals.specs.RecordingSource.{first_standing, HasRead}
+use Rattle.afdx_arrivals.specs.Sequences.{Numbers, counts_of, has_arrival, latest_of}
 use Rattle.afdx_arrivals.specs.Taking.{AreCutOff, Taken, fault_of, late_of_one, sequence_of_bytes, taken_of, taken_of_bytes}
 use Rattle.afdx_arrivals.specs.TakenRun.{TakenAnswers}
 use Rattle.afdx_arrivals.specs.TimedSource.{HasTimed, HasTimedAll, HasStoppedTiming}
 use Rattle.afdx_arrivals.specs.Timing.{Timed, fault_or, origin_in, timed}
-use Rattle.afdx_arrivals.proofs.KnownLemmas.{given-first, ended-all, stopped-fault, stopped-read, stopped-memory}
+use Rattle.afdx_arrivals.proofs.OrderedKnownLemmas.{AreAll, CanStop, IsSound, taken-sound, all-sound, stopped-sound}
+use Rattle.afdx_arrivals.proofs.OrderedKnownLemmas.{given-first, ended-all, stopped-fault, stopped-read}
+use Rattle.afdx_arrivals.proofs.OrderedKnownLemmas.{stopped-memory, can-stop}
 use Rattle.afdx_arrivals.proofs.TakenLemmas.{AreFirstLines, AreAllLines, StopsBehindLines, CanBePeeled, Handed}
 use Rattle.afdx_arrivals.proofs.TakenLemmas.{hands-err, hands-ok, handed-err, handed-ok, taken-start}
 use Rattle.afdx_arrivals.proofs.TimingLemmas.{timed-extends, timed-stopped}
@@ -82,7 +85,7 @@ if-known (Some bytes) P f = f bytes refl
 
 -- ---- its lines
 
-module _ (said : Option ℕ) (outcome : Outcome) where
+module _ (said : Option ℕ) (outcome : Sequence) where
   abbrev Lines-of : Numbers → Timed
   Lines-of numbers = timed late_of_one said numbers
 
@@ -128,71 +131,75 @@ timed-with lines fault = record { lines = lines; fault = Some fault }
 
 -- ---- by which settings
 
-abbrev pub Settings-of : TimedNumbers ReadRecording → (RecordingOptions × SystemPorts) × Option ℕ
-Settings-of source = ((source.numbers.options, source.numbers.ports), source.clock.said)
+abbrev Settings : Type 0
+Settings = ((RecordingOptions × SystemPorts) × ℕ) × Option ℕ
 
--- time 0 is that of the options
-abbrev pub HasSettings : RecordingOptions → SystemPorts → TimedNumbers ReadRecording → Type 0
-HasSettings o p source = Settings-of source ≡ ((o, p), o.origin)
+abbrev pub Settings-of : TimedNumbers OrderedRecording → Settings
+Settings-of source =
+    (((source.numbers.source.options, source.numbers.source.ports), source.numbers.most), source.clock.said)
 
-module _ (o : RecordingOptions) (p : SystemPorts) (source : TimedNumbers ReadRecording) where
+-- time 0, and how many arrivals may come late, are those of the options
+abbrev pub HasSettings : RecordingOptions → SystemPorts → TimedNumbers OrderedRecording → Type 0
+HasSettings o p source = Settings-of source ≡ (((o, p), o.reorder), o.origin)
+
+module _ (o : RecordingOptions) (p : SystemPorts) (source : TimedNumbers OrderedRecording) where
   -- those that it had, it has
-  pub still-set : (old : TimedNumbers ReadRecording) → Settings-of source ≡ Settings-of old
-      → old.numbers.options ≡ o → old.numbers.ports ≡ p → old.clock.said ≡ o.origin → HasSettings o p source
-  still-set old e options ports said = e ∙ rw (options, ports, said) refl
+  pub still-set : (old : TimedNumbers OrderedRecording) → Settings-of source ≡ Settings-of old
+      → old.numbers.source.options ≡ o → old.numbers.source.ports ≡ p → IsSetInOrder old.numbers
+      → old.clock.said ≡ o.origin → HasSettings o p source
+  still-set old e options ports order said = e ∙ rw (order, options, ports, said) refl
 
-  same-said : HasSettings o p source → source.clock.said ≡ source.numbers.options.origin
-  same-said e =
-      ap (λ (s : (RecordingOptions × SystemPorts) × Option ℕ). s.1) e
-      ∙ sym (ap (λ (s : (RecordingOptions × SystemPorts) × Option ℕ). s.0.0.origin) e)
+  same-said : HasSettings o p source → source.clock.said ≡ source.numbers.source.options.origin
+  same-said e = ap (λ (s : Settings). s.1) e ∙ sym (ap (λ (s : Settings). s.0.0.0.origin) e)
+
+  same-order : HasSettings o p source → IsSetInOrder source.numbers
+  same-order e = ap (λ (s : Settings). s.0.1) e ∙ sym (ap (λ (s : Settings). s.0.0.0.reorder) e)
 
   by-settings : (P : RecordingOptions → SystemPorts → Type 0) → HasSettings o p source
-      → P source.numbers.options source.numbers.ports → P o p
-  by-settings P e h = subst (λ (s : (RecordingOptions × SystemPorts) × Option ℕ). P s.0.0 s.0.1) e h
-
--- its counts
-pub tally-is : (tally : Tally) (source : ReadRecording) → tally.numbers ≡ source.numbers
-    → tally.counts ≡ source.counts → tally.lost ≡ lost_by (state_of source.reader) → tally ≡ tally_of_source source
-tally-is tally source numbers counts lost =
-    let with : ℕ → Counts → ℕ → Tally = λ n c l. record { numbers = n; counts = c; lost = l } in
-    ap (λ n. with n tally.counts tally.lost) numbers
-    ∙ ap (λ c. with source.numbers c tally.lost) counts
-    ∙ ap (λ l. with source.numbers source.counts l) lost
+      → P source.numbers.source.options source.numbers.source.ports → P o p
+  by-settings P e h = subst (λ (s : Settings). P s.0.0.0 s.0.0.1) e h
 
 -- ---- what is known of a source, from call to call
 
-module _ {R : Type 0} (remaining : R → Option (List ℕ)) (start input : Watched R) (source : TimedNumbers ReadRecording) where
+module _ {R : Type 0} (remaining : R → Option (List ℕ)) (start input : Watched R) (source : TimedNumbers OrderedRecording) where
   abbrev pub Gave : Lines → Type 0
-  Gave lines = HasTimed (HasGiven remaining) (HasEnded remaining) start source input lines
+  Gave lines = HasTimed (HasTaken remaining) (HasTakenAll remaining) start source input lines
 
   abbrev pub Ended : Lines → Type 0
-  Ended lines = HasTimedAll (HasGiven remaining) (HasEnded remaining) start source input lines
+  Ended lines = HasTimedAll (HasTaken remaining) (HasTakenAll remaining) start source input lines
 
   abbrev pub Stopped : Lines → RunFault → Type 0
   Stopped lines fault =
-      HasStoppedTiming (HasGiven remaining) (HasEnded remaining) (HasStopped remaining) start source input lines fault
+      HasStoppedTiming (HasTaken remaining) (HasTakenAll remaining) (HasStoppedTaking remaining) start source input
+      lines fault
 
   abbrev First : Standing
   First = first_standing remaining start
 
   abbrev Now : Standing
-  Now = standing remaining source.numbers.reader.held input
+  Now = standing remaining source.numbers.source.reader.held input
 
-  pub stopped-failed : (lines : Lines) (fault : RunFault) → Stopped lines fault → input.failed ≡ is_read fault
-  stopped-failed lines fault (inl s) = s.stopped_so.failed
-  stopped-failed lines fault (inr s) = s.gave_them.sound ∙ sym (ap is_read s.fault_is)
+  pub gave-sound : (lines : Lines) → Gave lines → IsSound remaining start input source.numbers
+  gave-sound lines g = taken-sound remaining start input source.numbers g.numbers g.gave_them
 
-  pub stopped-gives : (lines : Lines) (fault : RunFault) → Stopped lines fault → GivesSome First Now
-  stopped-gives lines fault (inl s) = s.stopped_so.gives
-  stopped-gives lines fault (inr s) = (s.gave_them.sorts.read, s.gave_them.sorts.gives)
+  pub ended-sound : (lines : Lines) → Ended lines → (input.failed ≡ false) × (input.ended ≡ true) × GivesSome First Now
+  ended-sound lines g = all-sound remaining start input source.numbers g.numbers g.ended_so
 
-  module _ (said : source.clock.said ≡ source.numbers.options.origin) (bytes : List ℕ)
+  pub stopped-so : (lines : Lines) (fault : RunFault) → Stopped lines fault
+      → (input.failed ≡ is_read fault) × GivesSome First Now
+  stopped-so lines fault (inl s) = stopped-sound remaining start input source.numbers s.numbers fault s.stopped_so
+  stopped-so lines fault (inr s) =
+      let k = taken-sound remaining start input source.numbers (s.x ∷ s.before) s.gave_them in
+      (k.0 ∙ sym (ap is_read s.fault_is), k.1)
+
+  module _ (said : source.clock.said ≡ source.numbers.source.options.origin) (set : IsSetInOrder source.numbers)
+      (bytes : List ℕ)
       (e : remaining start.inner ≡ Some bytes) where
     abbrev Options-of : Options
-    Options-of = options_of source.numbers.options
+    Options-of = options_of source.numbers.source.options
 
     abbrev Ports-of : Ports
-    Ports-of = ports_of source.numbers.ports
+    Ports-of = ports_of source.numbers.source.ports
 
     abbrev All : Taken
     All = taken_of_bytes Options-of Ports-of bytes
@@ -201,66 +208,65 @@ module _ {R : Type 0} (remaining : R → Option (List ℕ)) (start input : Watch
     Cut lines = AreCutOff Options-of Ports-of bytes (remaining input.inner) lines
 
     by-said : (numbers : Numbers) (all : Timed) → timed late_of_one source.clock.said numbers ≡ all
-        → timed late_of_one source.numbers.options.origin numbers ≡ all
+        → timed late_of_one source.numbers.source.options.origin numbers ≡ all
     by-said numbers all t = ap (λ (o : Option ℕ). timed late_of_one o numbers) (sym said) ∙ t
 
     pub gave-known : (lines : Lines) → Gave lines → AreFirstLines All lines
     gave-known lines g =
-        let k = given-first remaining start input source.numbers g.numbers bytes e g.gave_them in
+        let k = given-first remaining start input source.numbers set g.numbers bytes e g.gave_them in
         lines-first Options-of.origin (sequence_of_bytes Options-of Ports-of bytes) g.numbers k.0 lines None
         (by-said g.numbers _ g.are_timed.timed_as) k.1
 
-    -- all numbers
-    whole-known : (lines : Lines) (g : Ended lines) → sequence_of_bytes Options-of Ports-of bytes
-        ≡ record { numbers = g.numbers; ending = Over; lost = lost_by (state_of source.numbers.reader) }
-    whole-known lines g = ended-all remaining start input source.numbers g.numbers bytes e g.ended_so
+    whole-known : (lines : Lines) (g : Ended lines) → AreAll remaining start input source.numbers set g.numbers bytes e
+    whole-known lines g = ended-all remaining start input source.numbers set g.numbers bytes e g.ended_so
 
     pub ended-known : (lines : Lines) → Ended lines → AreAllLines All lines
     ended-known lines g =
         let k = whole-known lines g in
         lines-all Options-of.origin (sequence_of_bytes Options-of Ports-of bytes) g.numbers lines
-        (by-said g.numbers _ g.are_timed.timed_as) (ap (λ (o : Outcome). o.numbers) k)
-        (ap (λ (o : Outcome). o.ending) k)
+        (by-said g.numbers _ g.are_timed.timed_as) k.numbers k.ending
 
     pub ended-tally : (lines : Lines) → Ended lines → tally_of_source source.numbers ≡ All.tally
-    ended-tally lines g =
-        let k = whole-known lines g in
-        rw (k, g.ended_so.remembers.numbers, g.ended_so.remembers.counts) refl
+    ended-tally lines g = (whole-known lines g).tally
+
+    no-other : (numbers : Numbers) (fault : RunFault)
+        → HasStoppedTaking remaining start source.numbers input numbers fault → CanStop fault
+    no-other numbers fault s = can-stop remaining start input source.numbers numbers fault s
 
     stops-known : (numbers : Numbers) (lines : Lines) (fault : RunFault)
         → timed late_of_one Options-of.origin numbers ≡ record { lines = lines; fault = None }
-        → HasStopped remaining start source.numbers input numbers fault → StopsBehindLines All Cut lines fault
+        → HasStoppedTaking remaining start source.numbers input numbers fault → StopsBehindLines All Cut lines fault
     stops-known numbers lines (run.Recording fault) t s =
-        let k = stopped-fault remaining start input source.numbers numbers bytes e fault s in
+        let k = stopped-fault remaining start input source.numbers set numbers bytes e fault s in
         lines-fault Options-of.origin (sequence_of_bytes Options-of Ports-of bytes) numbers lines fault t
         k.numbers k.ending
     stops-known numbers lines run.Read t s =
-        let k = stopped-read remaining start input source.numbers numbers bytes e s in (
+        let k = stopped-read remaining start input source.numbers set numbers bytes e s in (
           k.read,
           k.gave,
-          sym (ap (λ (all : Numbers). (timed late_of_one Options-of.origin all).lines) k.numbers
+          sym (ap (λ (all : Numbers). (timed late_of_one Options-of.origin all).lines) k.known_is
               ∙ ap (λ (t : Timed). t.lines) t),
         )
     stops-known numbers lines run.Memory t s =
-        let k = stopped-memory remaining start input source.numbers numbers bytes e s in
+        let k = stopped-memory remaining start input source.numbers set numbers bytes e s in
         lines-first Options-of.origin (sequence_of_bytes Options-of Ports-of bytes) numbers k.0 lines None t k.1
-    stops-known numbers lines run.Write t s = absurd s.stops
-    stops-known numbers lines (run.RecordingOfA fault) t s = absurd s.stops
-    stops-known numbers lines (run.RecordingOfB fault) t s = absurd s.stops
-    stops-known numbers lines run.TooManyLines t s = absurd s.stops
-    stops-known numbers lines (run.LineTooLong m) t s = absurd s.stops
-    stops-known numbers lines (run.BadLine m) t s = absurd s.stops
-    stops-known numbers lines (run.BadHex m) t s = absurd s.stops
-    stops-known numbers lines (run.TimeBack m) t s = absurd s.stops
-    stops-known numbers lines (run.TimeTooLarge m) t s = absurd s.stops
-    stops-known numbers lines (run.BadPort m) t s = absurd s.stops
+    stops-known numbers lines run.Write t s = absurd (no-other numbers run.Write s)
+    stops-known numbers lines (run.RecordingOfA fault) t s = absurd (no-other numbers (run.RecordingOfA fault) s)
+    stops-known numbers lines (run.RecordingOfB fault) t s = absurd (no-other numbers (run.RecordingOfB fault) s)
+    stops-known numbers lines run.TooManyLines t s = absurd (no-other numbers run.TooManyLines s)
+    stops-known numbers lines (run.LineTooLong m) t s = absurd (no-other numbers (run.LineTooLong m) s)
+    stops-known numbers lines (run.BadLine m) t s = absurd (no-other numbers (run.BadLine m) s)
+    stops-known numbers lines (run.BadHex m) t s = absurd (no-other numbers (run.BadHex m) s)
+    stops-known numbers lines (run.TimeBack m) t s = absurd (no-other numbers (run.TimeBack m) s)
+    stops-known numbers lines (run.TimeTooLarge m) t s = absurd (no-other numbers (run.TimeTooLarge m) s)
+    stops-known numbers lines (run.BadPort m) t s = absurd (no-other numbers (run.BadPort m) s)
 
     late-known : (before : Numbers) (x : Item Number) (lines : Lines) (fault : RunFault) → fault ≡ late_of_one x
-        → HasGiven remaining start source.numbers input (x ∷ before)
+        → HasTaken remaining start source.numbers input (x ∷ before)
         → timed late_of_one Options-of.origin (x ∷ before) ≡ record { lines = lines; fault = Some fault }
         → StopsBehindLines All Cut lines fault
     late-known before x lines fault is g t =
-        let k = given-first remaining start input source.numbers (x ∷ before) bytes e g in
+        let k = given-first remaining start input source.numbers set (x ∷ before) bytes e g in
         let h = lines-late Options-of.origin (sequence_of_bytes Options-of Ports-of bytes) (x ∷ before) k.0 lines
         (late_of_one x) (t ∙ ap (λ (f : RunFault). timed-with lines f) is) k.1 in
         subst (λ (f : RunFault). StopsBehindLines All Cut lines f) (sym is) h
@@ -280,14 +286,14 @@ module _ {R : Type 0} (remaining : R → Option (List ℕ)) (start input : Watch
     pub fault-read : (fault : RunFault) → RunsOver {A = Unit {0}} (Err fault) → input.failed ≡ is_read fault
     fault-read fault h =
         handed-err items_of done told begins Gave Ended Stopped (input.failed ≡ is_read fault) fault
-        (λ lines s. stopped-failed lines fault s) (λ is lines g. g.gave_them.sound ∙ sym (not_read fault is))
-        (λ is lines g. g.ended_so.sound ∙ sym (not_read fault is)) h
+        (λ lines s. (stopped-so lines fault s).0) (λ is lines g. (gave-sound lines g).0 ∙ sym (not_read fault is))
+        (λ is lines g. (ended-sound lines g).0 ∙ sym (not_read fault is)) h
 
     fault-gives : (fault : RunFault) → RunsOver {A = Unit {0}} (Err fault) → GivesSome First Now
     fault-gives fault h =
         handed-err items_of done told begins Gave Ended Stopped (GivesSome First Now) fault
-        (λ lines s. stopped-gives lines fault s) (λ is lines g. (g.gave_them.sorts.read, g.gave_them.sorts.gives))
-        (λ is lines g. (g.ended_so.read, g.ended_so.gives)) h
+        (λ lines s. (stopped-so lines fault s).1) (λ is lines g. (gave-sound lines g).1)
+        (λ is lines g. (ended-sound lines g).2) h
 
     pub fault-calls : First.over ≡ false → (fault : RunFault) → RunsOver {A = Unit {0}} (Err fault)
         → IsAskedOnce First.left Now.left First.calls Now.calls
@@ -297,15 +303,15 @@ module _ {R : Type 0} (remaining : R → Option (List ℕ)) (start input : Watch
         → IsAskedOnce First.left Now.left First.calls Now.calls
     done-calls fresh h =
         asked-once First Now (handed-ok items_of done told begins Gave Ended Stopped (GivesSome First Now)
-        (λ lines g. (g.ended_so.read, g.ended_so.gives)) h) fresh
+        (λ lines g. (ended-sound lines g).2) h) fresh
 
     pub done-read : RunsOver {A = Unit {0}} (Ok tt) → input.failed ≡ false
     done-read h =
-        handed-ok items_of done told begins Gave Ended Stopped (input.failed ≡ false) (λ lines g. g.ended_so.sound) h
+        handed-ok items_of done told begins Gave Ended Stopped (input.failed ≡ false) (λ lines g. (ended-sound lines g).0) h
 
     pub done-ended : RunsOver {A = Unit {0}} (Ok tt) → input.ended ≡ true
     done-ended h =
-        handed-ok items_of done told begins Gave Ended Stopped (input.ended ≡ true) (λ lines g. g.ended_so.ended) h
+        handed-ok items_of done told begins Gave Ended Stopped (input.ended ≡ true) (λ lines g. (ended-sound lines g).1) h
 
     module _ (o : RecordingOptions) (p : SystemPorts) (settings : HasSettings o p source) where
       abbrev Answers : RecordingOptions → SystemPorts → List ℕ → Result Tally RunFault → Type 0
@@ -320,38 +326,41 @@ module _ {R : Type 0} (remaining : R → Option (List ℕ)) (start input : Watch
           → IfSome (remaining start.inner) (λ bytes. Answers o p bytes (Err fault))
       fault-answers peel fault h =
           let said = same-said o p source settings in
+          let set = same-order o p source settings in
           by-settings o p source (IfAnswers (Err fault)) settings
           (if-known (remaining start.inner)
-          (λ bytes. Answers source.numbers.options source.numbers.ports bytes (Err fault)) (λ bytes e.
-          hands-err (taken_of_bytes (options_of source.numbers.options) (ports_of source.numbers.ports) bytes)
-          (AreCutOff (options_of source.numbers.options) (ports_of source.numbers.ports) bytes (remaining input.inner))
-          items_of done told begins Gave Ended Stopped peel fault (λ lines g. gave-known said bytes e lines g)
-          (λ lines g. ended-known said bytes e lines g) (λ lines s. stopped-known said bytes e lines fault s) h))
+          (λ bytes. Answers source.numbers.source.options source.numbers.source.ports bytes (Err fault)) (λ bytes e.
+          hands-err (taken_of_bytes (options_of source.numbers.source.options) (ports_of source.numbers.source.ports) bytes)
+          (AreCutOff (options_of source.numbers.source.options) (ports_of source.numbers.source.ports) bytes (remaining input.inner))
+          items_of done told begins Gave Ended Stopped peel fault (λ lines g. gave-known said set bytes e lines g)
+          (λ lines g. ended-known said set bytes e lines g) (λ lines s. stopped-known said set bytes e lines fault s) h))
 
       pub done-answers : (tally : Tally) → tally ≡ tally_of_source source.numbers → RunsOver {A = Unit {0}} (Ok tt)
           → IfSome (remaining start.inner) (λ bytes. Answers o p bytes (Ok tally))
       done-answers tally is h =
           let said = same-said o p source settings in
+          let set = same-order o p source settings in
           by-settings o p source (IfAnswers (Ok tally)) settings
           (if-known (remaining start.inner)
-          (λ bytes. Answers source.numbers.options source.numbers.ports bytes (Ok tally)) (λ bytes e.
-          hands-ok (taken_of_bytes (options_of source.numbers.options) (ports_of source.numbers.ports) bytes)
-          (AreCutOff (options_of source.numbers.options) (ports_of source.numbers.ports) bytes (remaining input.inner))
+          (λ bytes. Answers source.numbers.source.options source.numbers.source.ports bytes (Ok tally)) (λ bytes e.
+          hands-ok (taken_of_bytes (options_of source.numbers.source.options) (ports_of source.numbers.source.ports) bytes)
+          (AreCutOff (options_of source.numbers.source.options) (ports_of source.numbers.source.ports) bytes (remaining input.inner))
           items_of done told begins Gave Ended Stopped tally
-          (λ lines g. (ended-known said bytes e lines g, is ∙ ended-tally said bytes e lines g)) h))
+          (λ lines g. (ended-known said set bytes e lines g, is ∙ ended-tally said set bytes e lines g)) h))
 
 -- ---- before the first read
 
 -- nothing was read yet
-pub gave-start : {R : Type 0} (remaining : R → Option (List ℕ)) (input : Watched R) (source : ReadRecording)
-    → input.failed ≡ false → has_ended input ≡ false → IsUnread source → HasGiven remaining input source input []
-unfolding latest_of counts_of has_arrival
-gave-start remaining input source sound ended new = record {
+read-start : {R : Type 0} (remaining : R → Option (List ℕ)) (input : Watched R) (source : OrderedRecording)
+    → input.failed ≡ false → has_ended input ≡ false → IsUnread source
+    → HasRead remaining input source.source input []
+unfolding counts_of has_arrival
+read-start remaining input source sound ended new = record {
   sound = sound;
   honest = λ e. absurd (cc);
   numbers = sym (ap (λ (s : State). s.numbers) new.state);
   few = omega arith;
-  remembers = record { numbers = new.numbers; latest = new.latest; counts = new.counts; arrival = new.arrival };
+  remembers = record { numbers = new.numbers; counts = new.counts; arrival = new.arrival };
   sorts = record {
     read = [];
     gives = record { consumed = Consumes-nil _; calls = omega arith };
@@ -359,10 +368,24 @@ gave-start remaining input source sound ended new = record {
   };
 }
 
+none-held : (most : ℕ) (held : List (Item Number)) → held ≡ [] → AreHeld most [] held []
+unfolding in_order handed_on
+none-held most held e = record { are_held = rw (e, take-nil most) (IsPermutation-refl []); handed = refl }
+
+pub gave-start : {R : Type 0} (remaining : R → Option (List ℕ)) (input : Watched R) (source : OrderedRecording)
+    → input.failed ≡ false → has_ended input ≡ false → IsUnread source → HasTaken remaining input source input []
+unfolding latest_of forward
+gave-start remaining input source sound ended new = record {
+  read = [];
+  are_forward = record { numbered = tt; few = omega arith; forward_is = refl };
+  latest = new.latest;
+  stands = rw new.stage (read-start remaining input source sound ended new, none-held source.most source.held new.held);
+}
+
 -- nor was a line given
-pub timed-start : {R : Type 0} (remaining : R → Option (List ℕ)) (input : Watched R) (source : TimedNumbers ReadRecording)
+pub timed-start : {R : Type 0} (remaining : R → Option (List ℕ)) (input : Watched R) (source : TimedNumbers OrderedRecording)
     → input.failed ≡ false → has_ended input ≡ false → IsUnread source.numbers → source.clock.zero ≡ source.clock.said
-    → HasTimed (HasGiven remaining) (HasEnded remaining) input source input []
+    → HasTimed (HasTaken remaining) (HasTakenAll remaining) input source input []
 unfolding timed origin_in
 timed-start remaining input source sound ended new zero = record {
   numbers = [];
@@ -376,7 +399,7 @@ unfolding arrivals_listed
 listed-none = refl
 
 -- nor an arrival
-pub arriving-start : {R : Type 0} (remaining : R → Option (List ℕ)) (input : Watched R) (source : TimedNumbers ReadRecording)
+pub arriving-start : {R : Type 0} (remaining : R → Option (List ℕ)) (input : Watched R) (source : TimedNumbers OrderedRecording)
     → input.failed ≡ false → has_ended input ≡ false → IsUnread source.numbers → source.clock.zero ≡ source.clock.said
     → AreArrivals (Gave remaining input input source) []
 arriving-start remaining input source sound ended new zero = record {

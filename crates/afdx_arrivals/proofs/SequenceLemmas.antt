@@ -8,45 +8,45 @@ use Rattle.afdx_recordings.specs.Recordings.{State, Numbered, Recording, Ending,
 use Rattle.afdx_recordings.proofs.HeldLemmas.{Gives-then}
 use Rattle.afdx_run.specs.Engine.{item_of}
 use Rattle.afdx_arrivals.specs.declared.number.Number.{Number}
-use Rattle.afdx_arrivals.specs.Becoming.{Options}
+use Rattle.afdx_arrivals.specs.Becoming.{Options, first_bytes}
 use Rattle.afdx_arrivals.specs.Claims.{Ports}
-use Rattle.afdx_arrivals.specs.Sequences.{Numbers, Outcome, sequence, sequence_from, sequence_of_items, number_after}
+use Rattle.afdx_arrivals.specs.Sequences.{Numbers, Outcome, as_read, read_from, read_of_items, number_after}
 use Rattle.afdx_arrivals.specs.Sequences.{and_then, ending_after, has_no_arrival, with_number}
 use Rattle.afdx_arrivals.specs.RecordingSource.{Sorts, IsFaultBehind, AreAllOfRead, AreFirst}
 
 module _ (options : Options) (ports : Ports) where
   -- one number more
-  pub sequence-ok : (past : Numbers) (number : Number) (item : Numbered) (rest : Recording)
+  pub read-ok : (past : Numbers) (number : Number) (item : Numbered) (rest : Recording)
       → number_after options ports past item ≡ Ok number
-      → sequence_from options ports past (in_front item rest)
-      ≡ sequence_from options ports (with_number past item.bytes number) rest
-  unfolding sequence_of_items
-  sequence-ok past number item rest e = rw e refl
+      → read_from options ports past (in_front item rest)
+      ≡ read_from options ports (with_number past item.bytes number) rest
+  unfolding read_of_items
+  read-ok past number item rest e = rw e refl
 
   -- or its fault
-  pub sequence-err : (past : Numbers) (item : Numbered) (rest : Recording) (fault : RecordingFault)
+  pub read-err : (past : Numbers) (item : Numbered) (rest : Recording) (fault : RecordingFault)
       → number_after options ports past item ≡ Err fault
-      → sequence_from options ports past (in_front item rest)
+      → read_from options ports past (in_front item rest)
       ≡ record { numbers = past; ending = Faulted fault; lost = rest.lost }
-  unfolding sequence_of_items
-  sequence-err past item rest fault e = rw e refl
+  unfolding read_of_items
+  read-err past item rest fault e = rw e refl
 
   -- or no number
-  pub sequence-none : (past : Numbers) (ending : Ending) (lost : ℕ)
-      → sequence_from options ports past (no_more ending lost)
+  pub read-none : (past : Numbers) (ending : Ending) (lost : ℕ)
+      → read_from options ports past (no_more ending lost)
       ≡ record { numbers = past; ending = ending_after past ending; lost = lost }
-  unfolding sequence_of_items
-  sequence-none past ending lost = refl
+  unfolding read_of_items
+  read-none past ending lost = refl
 
   module _ (first old new : Standing) (past : Numbers) (before : State)
       (s : Sorts options ports first old past before) where
     -- what was given besides, and what follows
-    pub behind : (given more : List ℕ) → sequence options ports (recorded ((s.read ++ given) ++ more))
-        ≡ sequence_from options ports past (recorded_from before ((old.held ++ given) ++ more))
+    pub behind : (given more : List ℕ) → as_read options ports (recorded ((s.read ++ given) ++ more))
+        ≡ read_from options ports past (recorded_from before ((old.held ++ given) ++ more))
     behind given more =
-        ap (λ bytes. sequence options ports (recorded bytes)) (append_assoc s.read given more)
+        ap (λ bytes. as_read options ports (recorded bytes)) (append_assoc s.read given more)
         ∙ s.says (given ++ more)
-        ∙ ap (λ bytes. sequence_from options ports past (recorded_from before bytes))
+        ∙ ap (λ bytes. read_from options ports past (recorded_from before bytes))
         (sym (append_assoc old.held given more))
 
     -- the next number was sorted
@@ -57,8 +57,8 @@ module _ (options : Options) (ports : Ports) where
       read = s.read ++ f.given;
       gives = Gives-then first old new s.read f.given s.gives f.gives;
       says = λ bytes. behind f.given bytes
-          ∙ ap (λ r. sequence_from options ports past r) (f.says bytes)
-          ∙ sequence-ok past number item (recorded_from after (new.held ++ bytes)) e;
+          ∙ ap (λ r. read_from options ports past r) (f.says bytes)
+          ∙ read-ok past number item (recorded_from after (new.held ++ bytes)) e;
     }
 
     -- it is a fault
@@ -67,8 +67,8 @@ module _ (options : Options) (ports : Ports) where
         → IsFaultBehind options ports first new past fault
     sorts-fault after item fault f e =
         let is = λ (more : List ℕ). behind f.given more
-        ∙ ap (λ r. sequence_from options ports past r) (f.says more)
-        ∙ sequence-err past item (recorded_from after (new.held ++ more)) fault e in record {
+        ∙ ap (λ r. read_from options ports past r) (f.says more)
+        ∙ read-err past item (recorded_from after (new.held ++ more)) fault e in record {
           read = s.read ++ f.given;
           gives = Gives-then first old new s.read f.given s.gives f.gives;
           numbers = λ more follows. ap (λ (o : Outcome). o.numbers) (is more);
@@ -77,12 +77,12 @@ module _ (options : Options) (ports : Ports) where
 
     -- the recording ends so, whatever can follow
     pub ends : (ending : Ending) (lost : ℕ) (e : SaysEnding old new before ending lost) (more : List ℕ)
-        → CanFollow new more → sequence options ports (recorded ((s.read ++ e.given) ++ more))
+        → CanFollow new more → as_read options ports (recorded ((s.read ++ e.given) ++ more))
         ≡ record { numbers = past; ending = ending_after past ending; lost = lost }
     ends ending lost e more follows =
         behind e.given more
-        ∙ ap (λ r. sequence_from options ports past r) (e.says more follows)
-        ∙ sequence-none past ending lost
+        ∙ ap (λ r. read_from options ports past r) (e.says more follows)
+        ∙ read-none past ending lost
 
     -- with a fault, its own or that no number is an arrival
     unfoldable pub ends-fault : (ending : Ending) (lost : ℕ) (fault : RecordingFault)
@@ -97,9 +97,9 @@ module _ (options : Options) (ports : Ports) where
 
     -- well
     pub ends-well : (lost : ℕ) (e : SaysEnding old new before Over lost) → has_no_arrival past ≡ false
-        → sequence options ports (recorded (s.read ++ e.given)) ≡ record { numbers = past; ending = Over; lost = lost }
+        → as_read options ports (recorded (s.read ++ e.given)) ≡ record { numbers = past; ending = Over; lost = lost }
     ends-well lost e arrival =
-        ap (λ bytes. sequence options ports (recorded bytes)) (sym (append-nil (s.read ++ e.given)))
+        ap (λ bytes. as_read options ports (recorded bytes)) (sym (append-nil (s.read ++ e.given)))
         ∙ ends Over lost e [] (λ ended. refl)
         ∙ rw arrival refl
 
@@ -113,8 +113,8 @@ module _ (options : Options) (ports : Ports) where
       read = s.read ++ n.given;
       gives = Gives-then first old new s.read n.given s.gives n.gives;
       numbers = ap (λ (o : Outcome). o.numbers)
-          (s.says n.given ∙ ap (λ r. sequence_from options ports past r) n.says
-          ∙ sequence-none past n.ending n.lost);
+          (s.says n.given ∙ ap (λ r. read_from options ports past r) n.says
+          ∙ read-none past n.ending n.lost);
     }
 
   -- ---- what was given are the first of all numbers
@@ -127,17 +127,17 @@ module _ (options : Options) (ports : Ports) where
       → Extends (and_then next past lost r).numbers past
   and-extends past (Ok number) bytes next lost g =
       let h = g number in
-      let x = item_of (length past + 1) number bytes in
+      let x = item_of (length past + 1) number (first_bytes bytes) in
       (h.0 ++ x ∷ [], h.1 ∙ sym (append_assoc h.0 (x ∷ []) past))
   and-extends past (Err fault) bytes next lost g = ([], refl)
 
   items-extends : (ending : Ending) (lost : ℕ) (past : Numbers) (items : List Numbered)
-      → Extends (sequence_of_items options ports ending lost past items).numbers past
-  unfolding sequence_of_items
+      → Extends (read_of_items options ports ending lost past items).numbers past
+  unfolding read_of_items
   items-extends ending lost past [] = ([], refl)
   items-extends ending lost past (item ∷ items) =
       and-extends past (number_after options ports past item) item.bytes
-      (λ number. sequence_of_items options ports ending lost (with_number past item.bytes number) items) lost
+      (λ number. read_of_items options ports ending lost (with_number past item.bytes number) items) lost
       (λ number. items-extends ending lost (with_number past item.bytes number) items)
 
   pub sorts-first : (first now : Standing) (past : Numbers) (state : State)

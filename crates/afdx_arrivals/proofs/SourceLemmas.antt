@@ -1,6 +1,7 @@
 -- A recording as a source: what it answers to one call.
 use Rattle.std.proofs.Common.{◌≡◌, ℕ, suc, ◌+◌, ◌≤◌, Option, List, [], ◌∷◌, ◌++◌, length, refl, ap, sym, ◌∙◌, subst}
 use Rattle.std.proofs.Common.{Result, Ok, Err, IfErr, arith, true, false, Bool, nat_lt, not, ◌&&◌, ◌||◌, if◌then◌else◌}
+use Rattle.std.proofs.lemmas.List.{length-map}
 use Rattle.afdx_lists.specs.Calls.{is_read, is_write}
 use Rattle.afdx_lists.specs.declared.fault.RunFault.{RunFault}
 use Rattle.afdx_lists.specs.declared.fault.RunFault.TheVariants as run
@@ -14,17 +15,19 @@ use Rattle.afdx_recordings.specs.Reading.{state_of, latest, Tells, SaysFirst}
 use Rattle.afdx_recordings.specs.Recordings.{State, Numbered, Over, Faulted, lost_by, most_numbers}
 use Rattle.afdx_arrivals.specs.declared.counts.Counts.{Counts}
 use Rattle.afdx_arrivals.specs.declared.becoming.RecordingOptions.{RecordingOptions}
+use Rattle.afdx_arrivals.specs.declared.number.AsRead.{AsRead}
 use Rattle.afdx_arrivals.specs.declared.number.Number.{Number}
+use Rattle.afdx_run.specs.Engine.{Item}
 use Rattle.afdx_arrivals.specs.declared.number.Number.TheVariants.{Arrival, Skipped}
 use Rattle.afdx_arrivals.specs.declared.senders.SystemPorts.{SystemPorts}
 use Rattle.afdx_arrivals.specs.declared.read_recording.ReadRecording.{ReadRecording}
 use Rattle.afdx_arrivals.specs.declared.skipped.Skipped.TheVariants as why
 use Rattle.afdx_arrivals.specs.declared.skipped.Skipped as reason
-use Rattle.afdx_arrivals.specs.Becoming.{Options, options_of}
+use Rattle.afdx_arrivals.specs.Becoming.{Options, options_of, first_bytes}
 use Rattle.afdx_arrivals.specs.Claims.{Ports, ports_of}
 use Rattle.afdx_arrivals.specs.Counting.{count_one, skipped_in, skip_one, take_one}
-use Rattle.afdx_arrivals.specs.NumberLines.{NumberFollows}
-use Rattle.afdx_arrivals.specs.Sequences.{Numbers, counts_of, has_arrival, is_arrival, latest_of, moment_or, number_after, with_number}
+use Rattle.afdx_arrivals.specs.NumberLines.{ReadFollows}
+use Rattle.afdx_arrivals.specs.Sequences.{Numbers, counts_of, has_arrival, is_arrival, number_after, number_read, numbers_read, with_number}
 use Rattle.afdx_arrivals.specs.RecordingSource.{Sorts, StopsBehind, FailsBy, first_standing}
 use Rattle.afdx_arrivals.specs.RecordingSource.{given, end_of, Remembers, RemembersOne, HasGiven, HasEnded, HasStopped}
 use Rattle.afdx_arrivals.proofs.SequenceLemmas.{sorts-more, sorts-fault, ends-fault, ends-well, ends-gives, sorts-read, sorts-first}
@@ -230,31 +233,30 @@ pub record Sorting {R : Type 0} (remaining : R → Option (List ℕ)) (old input
   pub options_are : new.options ≡ source.options
   pub ports_are : new.ports ≡ source.ports
   pub remembers : RemembersOne (record source { reader = reader }) new
-  pub order : source.latest ≤ new.latest
 
 module _ {R : Type 0} (remaining : R → Option (List ℕ)) (start old input : Watched R) (source : ReadRecording)
     (reader : FrameReader) (new : ReadRecording) (past : Numbers)
     (h : HasGiven remaining start source old past) (k : Sorting remaining old input source reader new)
-    (is : number_after (options_of source.options) (ports_of source.ports) past (latest reader) ≡ Ok new.number) where
+    (is : number_after (options_of source.options) (ports_of source.ports) past (latest reader) ≡ Ok new.number.becomes) where
   -- the number that was given
-  given-is : given new ≡ record { number = length past + 1; head = new.number; bytes = (latest reader).bytes }
+  given-is : number_read (given new)
+      ≡ record { number = length past + 1; head = new.number.becomes; bytes = first_bytes (latest reader).bytes }
   given-is =
       rw (k.remembers.numbers ∙ k.number ∙ ap (λ m. m + 1) (sym h.numbers), k.reader_is) refl
 
-  remembers-next : Remembers new (given new ∷ past)
-  unfolding latest_of counts_of has_arrival
+  remembers-next : Remembers new (number_read (given new) ∷ past)
+  unfolding counts_of has_arrival
   remembers-next = record {
     numbers = omega (arith, k.remembers.numbers, k.number, h.numbers);
-    latest = k.remembers.latest ∙ ap (moment_or new.number) h.remembers.latest;
-    counts = k.remembers.counts ∙ ap (count_one new.number) h.remembers.counts;
-    arrival = k.remembers.arrival ∙ ap (λ b. is_arrival new.number || b) h.remembers.arrival;
+    counts = k.remembers.counts ∙ ap (count_one new.number.becomes) h.remembers.counts;
+    arrival = k.remembers.arrival ∙ ap (λ b. is_arrival new.number.becomes || b) h.remembers.arrival;
   }
 
   by-length : (state_of new.reader).numbers ≡ (state_of reader).numbers → (state_of reader).numbers ≡ length past + 1
-      → length (given new ∷ past) ≡ (state_of new.reader).numbers
+      → length (number_read (given new) ∷ past) ≡ (state_of new.reader).numbers
   by-length same n = omega (arith, same, n)
 
-  pub gave-item : HasGiven remaining start new input (given new ∷ past)
+  pub gave-item : HasGiven remaining start new input (number_read (given new) ∷ past)
   gave-item =
       let n : (state_of reader).numbers ≡ length past + 1 = k.number ∙ ap (λ m. m + 1) (sym h.numbers) in record {
         sound = k.sound;
@@ -263,21 +265,20 @@ module _ {R : Type 0} (remaining : R → Option (List ℕ)) (start old input : W
         few = omega (arith, n, k.few);
         remembers = remembers-next;
         sorts = rw given-is (same (λ o p r. Sorts (options_of o) (ports_of p) (first_standing remaining start)
-            (standing remaining r.held input) (with_number past (latest reader).bytes new.number) (state_of r))
+            (standing remaining r.held input) (with_number past (latest reader).bytes new.number.becomes) (state_of r))
             source.options new.options source.ports new.ports reader new.reader
             k.options_are k.ports_are k.reader_is
             (sorts-more (options_of source.options) (ports_of source.ports) (first_standing remaining start)
             (standing remaining source.reader.held old) (standing remaining reader.held input)
-            past (state_of source.reader) h.sorts (state_of reader) (latest reader) new.number k.says is));
+            past (state_of source.reader) h.sorts (state_of reader) (latest reader) new.number.becomes k.says is));
       }
 
-  pub item-follows : NumberFollows past (given new)
-  unfolding latest_of
-  item-follows = record {
-    order = subst (λ n. n ≤ moment_or new.number (latest_of past)) h.remembers.latest
-        (subst (λ n. source.latest ≤ n) (k.remembers.latest ∙ ap (moment_or new.number) h.remembers.latest) k.order);
-    few = omega (arith, k.number, h.numbers, k.few);
-  }
+  pub item-follows : (read : List (Item AsRead)) → past ≡ numbers_read read → ReadFollows read (given new)
+  item-follows read e =
+      let same : length past ≡ length read = ap (λ (xs : Numbers). length xs) e ∙ length-map read number_read in record {
+        number = k.remembers.numbers ∙ k.number ∙ ap (λ m. m + 1) (sym h.numbers ∙ same);
+        few = omega (arith, k.number, h.numbers, k.few, same);
+      }
 
 module _ {R : Type 0} (remaining : R → Option (List ℕ)) (start old input : Watched R) (source : ReadRecording)
     (reader : FrameReader) (past : Numbers) (h : HasGiven remaining start source old past)
@@ -297,7 +298,6 @@ module _ {R : Type 0} (remaining : R → Option (List ℕ)) (start old input : W
     few = h.few;
     remembers = record {
       numbers = h.remembers.numbers;
-      latest = h.remembers.latest;
       counts = h.remembers.counts;
       arrival = h.remembers.arrival;
     };

@@ -1,4 +1,4 @@
--- Tables of which some places hold something, and the ports of systems by their numbers.
+-- Tables of which some places hold something, and what systems have.
 use Rattle.std.proofs.Common.{◌≡◌, ◌<◌, ◌==◌, ℕ, zero, suc, List, [], ◌∷◌, length, drop, refl, sym, ◌∙◌, ap}
 use Rattle.std.proofs.Common.{Option, Some, None, option_and_then, slice_get, slice_set, true, false, arith, if◌then◌else◌}
 use Rattle.std.proofs.Common.{Bool, Vec, Global, ◌≢◌, get_or}
@@ -6,7 +6,7 @@ use Rattle.std.proofs.Math.ListN.{replicate}
 use Rattle.std.proofs.lemmas.List.{get_or-set_other}
 use Rattle.std.proofs.lemmas.Grind.{get_or-set_at, common_steps}
 use Rattle.afdx_config.specs.Rows.{SystemRow}
-use Rattle.afdx_arrivals.specs.Claims.{port_of_system, ports_of, ports_of_senders, Agree, sender_of}
+use Rattle.afdx_arrivals.specs.Claims.{byte_ns_at, of_system, port_of_system, ports_of, ports_of_senders, Agree, sender_of}
 use Rattle.afdx_arrivals.specs.declared.senders.SystemPorts.TheVariants.{BySender}
 use Rattle.afdx_arrivals.specs.Tables.{known}
 
@@ -45,24 +45,24 @@ known-set xs i j x lt =
     known-get (slice_set xs i (Some x)) j ∙ set-by xs i j x (i == j) refl lt
     ∙ ap (λ y. if i == j then Some x else y) (sym (known-get xs j))
 
--- the ports of the systems from one place on, where its row is known
-ports-from : (systems : List SystemRow) (place : ℕ) (s : SystemRow) (number : ℕ) → slice_get systems place ≡ Some s
-    → port_of_system (drop place systems) number
-    ≡ (if s.id == number then Some s.port else port_of_system (drop (suc place) systems) number)
-ports-from [] place s number e = absurd (cc)
-ports-from (r ∷ systems) zero s number e = let same : r ≡ s = cc in rw same refl
-ports-from (r ∷ systems) (suc place) s number e = ports-from systems place s number e
+-- what the systems from one place on have, where its row is known
+module _ (key value : SystemRow → ℕ) where
+  of-from : (systems : List SystemRow) (place : ℕ) (s : SystemRow) (n : ℕ) → slice_get systems place ≡ Some s
+      → of_system key value (drop place systems) n
+      ≡ (if key s == n then Some (value s) else of_system key value (drop (suc place) systems) n)
+  of-from [] place s n e = absurd (cc)
+  of-from (r ∷ systems) zero s n e = let same : r ≡ s = cc in rw same refl
+  of-from (r ∷ systems) (suc place) s n e = of-from systems place s n e
 
--- one system more
-pub ports-put : (systems : List SystemRow) (place next at : ℕ) (s : SystemRow) (ports : List (Option ℕ))
-    → next ≡ suc place → at ≡ s.id → slice_get systems place ≡ Some s → at < length ports
-    → ((number : ℕ) → known (slice_get ports number) ≡ port_of_system (drop next systems) number)
-    → (number : ℕ) → known (slice_get (slice_set ports at (Some s.port)) number)
-    ≡ port_of_system (drop place systems) number
-ports-put systems place next at s ports is here row within before number =
-    known-set ports at number s.port within
-    ∙ rw here (ap (λ (p : Option ℕ). if s.id == number then Some s.port else p) (rw is at (before number)))
-    ∙ sym (ports-from systems place s number row)
+  -- one system more
+  pub value-put : (systems : List SystemRow) (place next at x : ℕ) (s : SystemRow) (table : List (Option ℕ))
+      → next ≡ suc place → at ≡ key s → x ≡ value s → slice_get systems place ≡ Some s → at < length table
+      → ((n : ℕ) → known (slice_get table n) ≡ of_system key value (drop next systems) n)
+      → (n : ℕ) → known (slice_get (slice_set table at (Some x)) n) ≡ of_system key value (drop place systems) n
+  value-put systems place next at x s table is here same row within before n =
+      known-set table at n x within
+      ∙ rw (here, same) (ap (λ (p : Option ℕ). if key s == n then Some (value s) else p) (rw is at (before n)))
+      ∙ sym (of-from systems place s n row)
 
 -- both tables have the same ports, and so they say the same of each frame
 then-same : (f g : ℕ → Option ℕ) (number : Option ℕ) → ((n : ℕ) → f n ≡ g n)
@@ -70,11 +70,13 @@ then-same : (f g : ℕ → Option ℕ) (number : Option ℕ) → ((n : ℕ) → 
 then-same f g None h = refl
 then-same f g (Some n) h = h n
 
-pub agree : (ports : Vec (Option ℕ) Global) (systems : List SystemRow)
+pub agree : (ports byte_ns : Vec (Option ℕ) Global) (systems : List SystemRow)
     → ((number : ℕ) → known (slice_get ports.items number) ≡ port_of_system systems number)
-    → Agree (ports_of (BySender ports)) (ports_of_senders systems)
-agree ports systems h = record {
+    → ((port : ℕ) → known (slice_get byte_ns.items port) ≡ byte_ns_at systems port)
+    → Agree (ports_of (BySender ports byte_ns)) (ports_of_senders systems)
+agree ports byte_ns systems h k = record {
   claims = refl;
   ports = λ bytes.
       then-same (λ n. known (slice_get ports.items n)) (port_of_system systems) (sender_of bytes) h;
+  byte_times = k;
 }

@@ -1,6 +1,7 @@
 -- What a number of a recording becomes: an arrival, or it is skipped, or a fault of the recording.
-use Rattle.std.specs.Prelude.{ℕ, ◌+◌, ◌-◌, Bool, true, false, not, ◌&&◌, ◌||◌, ◌==◌, nat_le, nat_lt, List, length, take}
+use Rattle.std.specs.Prelude.{ℕ, ◌+◌, ◌-◌, Bool, true, false, not, ◌&&◌, ◌||◌, ◌==◌, ◌*◌, nat_lt, List, length, take}
 use Rattle.std.specs.Prelude.{Option, Some, None, is_some, Result, Ok, Err, if◌then◌else◌}
+use Rattle.std.specs.Option.{unwrap_or}
 use Rattle.afdx_frame.specs.Layout.{link_named_by}
 use Rattle.afdx_frame.specs.Sealing.{sequence_of, is_sealed}
 use Rattle.afdx_frame.specs.declared.seals.Seal.{Seal}
@@ -10,7 +11,7 @@ use Rattle.afdx_lists.specs.declared.frame_line.FrameKind.{FrameKind}
 use Rattle.afdx_lists.specs.declared.frame_line.FrameKind.TheVariants.{Good, Bad, Raw}
 use Rattle.afdx_lists.specs.declared.recording_fault.RecordingFault.TheVariants.{NotEthernet, NoTime}
 use Rattle.afdx_lists.specs.declared.recording_fault.RecordingFault.TheVariants.{BadTime, Cut}
-use Rattle.afdx_lists.specs.declared.recording_fault.RecordingFault.TheVariants.{FcsUnclear, TimeBack}
+use Rattle.afdx_lists.specs.declared.recording_fault.RecordingFault.TheVariants.{FcsUnclear}
 use Rattle.afdx_recordings.specs.declared.recorded.Stamp.{Stamp}
 use Rattle.afdx_recordings.specs.declared.recorded.Stamp.TheVariants.{Missing, Bad, At}
 use Rattle.afdx_recordings.specs.declared.recorded.CheckSequence.{CheckSequence}
@@ -31,12 +32,15 @@ use Rattle.afdx_arrivals.specs.Places.{place_of, is_left_out, side_of, port_said
 use Rattle.afdx_arrivals.specs.Claims.{Ports, side_claimed}
 
 -- what the options say: the place of each interface, whether frames end with their check sequence,
--- the moment that is time 0, the network whose recording it is
+-- the moment that is time 0, the network whose recording it is, by how many arrivals times may go
+-- back, and whether stamps are those of first bits
 pub record Options : Type 0 where
   pub place : ℕ → Option Place
   pub fcs : Option Bool
   pub origin : Option ℕ
   pub network : Option Side
+  pub reorder : ℕ
+  pub from_start : Bool
 
 abbrev pub options_of : RecordingOptions → Options
 options_of options = record {
@@ -44,6 +48,8 @@ options_of options = record {
   fcs = options.fcs;
   origin = options.origin;
   network = options.network;
+  reorder = options.reorder;
+  from_start = options.from_start;
 }
 
 -- ---- one check after another: the first that is false decides
@@ -167,6 +173,42 @@ seal_by Bad own = seal.Wrong
 abbrev pub seal_with : FrameKind → List ℕ → Seal
 seal_with kind bytes = seal_by kind (has_own kind bytes)
 
+-- ---- its length
+
+-- with its check sequence
+abbrev pub whole_length : Option Bool → List ℕ → ℕ
+whole_length (Some true) bytes = length bytes
+whole_length _ bytes = length bytes + 4
+
+-- how long it lasts at this port, in ns
+abbrev pub line_time : Ports → ℕ → Option Bool → List ℕ → ℕ
+line_time ports port has_sequence bytes =
+    whole_length has_sequence bytes * unwrap_or (ports.byte_ns port) 0
+
+-- the greatest moment
+abbrev pub latest_moment : ℕ
+latest_moment = 9223372036854775807
+
+-- that of its last bit, where that of its first is stamped, and it lasts so long
+abbrev pub last_bit : (n stamp time : ℕ) → Result ℕ NoArrival
+last_bit n stamp time =
+    if nat_lt latest_moment (stamp + time) then Err (Faulted (BadTime n)) else Ok (stamp + time)
+
+-- that of its last bit, by its stamp
+abbrev pub moment_by : (from_start : Bool) → (n stamp time : ℕ) → Result ℕ NoArrival
+moment_by from_start n stamp time = if from_start then last_bit n stamp time else Ok stamp
+
+-- the most recorded bytes of an arrival that are used: no switch takes a longer frame
+abbrev pub most_used : ℕ
+most_used = 2000
+
+abbrev pub first_bytes : List ℕ → List ℕ
+first_bytes bytes = take most_used bytes
+
+-- of a longer one these bytes, as they are
+abbrev pub kind_used : FrameKind → List ℕ → FrameKind
+kind_used kind bytes = if nat_lt most_used (length bytes) then Raw else kind
+
 -- ---- all of it
 
 -- the moment is before that of time 0
@@ -183,22 +225,21 @@ found_with moment entrance kind = record {
   kind = kind;
 }
 
--- what frame n becomes, whose recording's arrival before it has the latest moment
-unfoldable pub frame_becomes : Options → Ports → (latest n : ℕ) → RecordedFrame → List ℕ →
+-- what frame n becomes
+unfoldable pub frame_becomes : Options → Ports → (n : ℕ) → RecordedFrame → List ℕ →
     Result Found NoArrival
-frame_becomes options ports latest n frame bytes = do
+frame_becomes options ports n frame bytes = do
   check (not (is_left_out (options.place frame.interface))) (Skipped LeftOut)
-  moment ← whole_moment options.fcs n frame (length bytes)
+  stamp ← whole_moment options.fcs n frame (length bytes)
   entrance ← entrance_of options.network (options.place frame.interface) ports bytes
+  moment ← moment_by options.from_start n stamp (line_time ports entrance.port
+      (ends_with_sequence options.fcs frame.check_sequence) bytes)
   check (not (is_before options.origin moment)) (Skipped BeforeOrigin)
   kind ← or_else (kind_with (ends_with_sequence options.fcs frame.check_sequence)
       frame.found_wrong bytes) (Faulted (FcsUnclear n))
-  check (nat_le latest moment) (Faulted (TimeBack n))
-  Ok (found_with moment entrance kind)
+  Ok (found_with moment entrance (kind_used kind bytes))
 
 -- the same of whatever takes the number n
-abbrev pub becomes : Options → Ports → (latest n : ℕ) → Recorded → List ℕ →
-    Result Found NoArrival
-becomes options ports latest n recorded.NoFrame bytes = Err (Skipped NoFrame)
-becomes options ports latest n (recorded.Frame frame) bytes =
-    frame_becomes options ports latest n frame bytes
+abbrev pub becomes : Options → Ports → (n : ℕ) → Recorded → List ℕ → Result Found NoArrival
+becomes options ports n recorded.NoFrame bytes = Err (Skipped NoFrame)
+becomes options ports n (recorded.Frame frame) bytes = frame_becomes options ports n frame bytes

@@ -10,7 +10,8 @@ use Rattle.afdx_lists.specs.FrameLines.{frame_bytes}
 use Rattle.afdx_lists.specs.declared.frame_line.FrameKind.{FrameKind}
 use Rattle.afdx_arrivals.specs.Becoming.{Options, message_with, seal_with}
 use Rattle.afdx_arrivals.specs.Claims.{Ports, Agree}
-use Rattle.afdx_arrivals.specs.Sequences.{sequence}
+use Rattle.afdx_arrivals.specs.Ordering.{arrivals_only, forward, in_order, sequence}
+use Rattle.afdx_arrivals.specs.Sequences.{as_read}
 use Rattle.afdx_arrivals.specs.Taking.{arrivals_in, taken_of, taken_of_both}
 
 -- where two ways to know a port agree, what is taken of a recording is the same
@@ -22,6 +23,12 @@ SequencesAgree = (options : Options) (p q : Ports) (recording : Recording) → A
 abbrev pub ArrivalsHaveTheirBytes : Type 0
 ArrivalsHaveTheirBytes = (kind : FrameKind) (bytes : List ℕ) →
     whole (seal_with kind bytes) (message_with kind bytes) ≡ frame_bytes kind bytes
+
+-- the arrivals of a recording are taken in order: all that are read before its first fault
+abbrev pub ArrivalsAreTakenInOrder : Type 0
+ArrivalsAreTakenInOrder = (options : Options) (ports : Ports) (recording : Recording) →
+    arrivals_only (sequence options ports recording).numbers
+    ≡ in_order (forward options.reorder (as_read options ports recording).numbers).numbers
 
 -- the times of these arrivals don't decrease, and none is too late
 abbrev pub AreInOrder : List Arrival → Type 0

@@ -6,12 +6,17 @@ pub mod Claims
 pub mod Becoming
 pub mod Counting
 pub mod Sequences
+pub mod Ordering
+pub mod Holding
 pub mod NumberLines
 pub mod Timing
 pub mod Merging
 pub mod Taking
 pub mod TakenRun
 pub mod RecordingSource
+pub mod OrderedSource
+pub mod OrderedSteps
+pub mod OrderedRecording
 pub mod TimedSource
 pub mod ArrivingSource
 pub mod PairSource

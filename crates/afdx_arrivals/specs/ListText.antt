@@ -1,11 +1,9 @@
 -- The text of the frame list that says the same as a recording.
-use Rattle.std.specs.Prelude.{ℕ, List, [], ◌∷◌, ◌++◌, length, take, nat_lt, Option, Result, if◌then◌else◌}
+use Rattle.std.specs.Prelude.{ℕ, List, [], ◌∷◌, ◌++◌, Option, Result}
 use Rattle.std.specs.Io.KnownBytes.{Appends}
 use Rattle.afdx_frame.specs.declared.by_side.BySide.{BySide}
 use Rattle.afdx_lists.specs.declared.fault.RunFault.{RunFault}
 use Rattle.afdx_lists.specs.declared.watched.Watched.{Watched}
-use Rattle.afdx_lists.specs.declared.frame_line.FrameKind.{FrameKind}
-use Rattle.afdx_lists.specs.declared.frame_line.FrameKind.TheVariants.{Raw}
 use Rattle.afdx_lists.specs.Calls.{AppendsFront}
 use Rattle.afdx_run.specs.Engine.{Bytes, Item}
 use Rattle.afdx_text.specs.OutLines.{frame_line, remark_line}
@@ -21,20 +19,10 @@ use Rattle.afdx_arrivals.specs.Taking.{AreCutOff, taken_of_bytes}
 use Rattle.afdx_arrivals.specs.TakenRun.{TakenAnswers}
 use Rattle.afdx_arrivals.specs.Words.{skipped_word}
 
--- the most recorded bytes that a line has; a longer frame stands cut, and no switch takes it either
-abbrev pub most_listed : ℕ
-most_listed = 2000
-
-abbrev pub kind_listed : FrameKind → List ℕ → FrameKind
-kind_listed kind bytes = if nat_lt most_listed (length bytes) then Raw else kind
-
-abbrev pub take_listed : List ℕ → List ℕ
-take_listed bytes = take most_listed bytes
-
--- the line of a number, with the bytes that were recorded
+-- the line of a number, with its recorded bytes
 abbrev pub number_text : NumberLine → List ℕ → List ℕ
 number_text (Arrival kind time side port) bytes =
-    frame_line (kind_listed kind bytes) side port time (take_listed bytes)
+    frame_line kind side port time bytes
 number_text (Skipped reason) bytes = remark_line (skipped_word reason)
 
 -- all lines; the latest stands first in the list of them, and last in the text

@@ -1,11 +1,12 @@
 -- The lines of numbers: when and where an arrival comes, or why a number is skipped. A list of them
 -- has the newest first.
-use Rattle.std.specs.Prelude.{ℕ, ◌≤◌, ◌<◌, List, [], ◌∷◌, length}
+use Rattle.std.specs.Prelude.{ℕ, ◌≡◌, ◌+◌, ◌≤◌, ◌<◌, List, [], ◌∷◌, length}
 use Rattle.afdx_frame.specs.Times.{latest_listed}
 use Rattle.afdx_lists.specs.declared.frame_line.Heading.{Heading}
 use Rattle.afdx_run.specs.Engine.{Item, item_of}
 use Rattle.afdx_run.specs.Items.{most_frames}
 use Rattle.afdx_recordings.specs.Recordings.{most_numbers}
+use Rattle.afdx_arrivals.specs.declared.number.AsRead.{AsRead}
 use Rattle.afdx_arrivals.specs.declared.number.Number.{Number}
 use Rattle.afdx_arrivals.specs.declared.number_line.NumberLine.{NumberLine}
 use Rattle.afdx_arrivals.specs.declared.number_line.NumberLine.TheVariants as line
@@ -37,6 +38,11 @@ time_or (line.Skipped reason) latest = latest
 unfoldable pub latest_time : Lines → ℕ
 latest_time [] = 0
 latest_time (x ∷ past) = time_or x.head (latest_time past)
+
+-- such a number may be read after these: it is the next one, and there are not too many
+pub record ReadFollows (past : List (Item AsRead)) (x : Item AsRead) : Type 0 where
+  pub number : x.number ≡ length past + 1
+  pub few : length past < most_numbers
 
 -- such a number may come after these: no earlier, and there are not too many
 pub record NumberFollows (past : Numbers) (x : Item Number) : Type 0 where

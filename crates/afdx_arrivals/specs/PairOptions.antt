@@ -12,6 +12,8 @@ options_of_a options = record {
   fcs = options.fcs;
   origin = options.origin;
   network = Some A;
+  reorder = options.reorder;
+  from_start = options.from_start;
 }
 
 -- of that of network B
@@ -21,4 +23,6 @@ options_of_b options = record {
   fcs = options.fcs;
   origin = options.origin;
   network = Some B;
+  reorder = options.reorder;
+  from_start = options.from_start;
 }

@@ -12,7 +12,7 @@ use Rattle.afdx_arrivals.specs.Becoming.{Options}
 use Rattle.afdx_arrivals.specs.Claims.{Ports}
 use Rattle.afdx_arrivals.specs.NumberLines.{Lines, arrivals_listed}
 use Rattle.afdx_arrivals.specs.PairOptions.{options_of_a, options_of_b}
-use Rattle.afdx_arrivals.specs.Sequences.{Outcome}
+use Rattle.afdx_arrivals.specs.Ordering.{Sequence}
 use Rattle.afdx_arrivals.specs.Taking.{Taken, taken_of_bytes, taken_of_both, AreCutOff, AreCutOffAtOne, sequence_of_bytes}
 use Rattle.afdx_arrivals.specs.TakenRun.{TakenAnswers}
 
@@ -41,10 +41,10 @@ IfBothKnown remaining inputs holds =
 
 module _ (options : PairOptions) (ports : Ports) where
   -- the sequences of the recordings of A and of B
-  abbrev pub of_a : List ℕ → Outcome
+  abbrev pub of_a : List ℕ → Sequence
   of_a bytes = sequence_of_bytes (options_of_a options) ports bytes
 
-  abbrev pub of_b : List ℕ → Outcome
+  abbrev pub of_b : List ℕ → Sequence
   of_b bytes = sequence_of_bytes (options_of_b options) ports bytes
 
   -- what a run takes of recordings of these bytes

@@ -13,18 +13,18 @@ use Rattle.afdx_recordings.specs.Holding.{Standing, standing, Gives, GivesSome, 
 use Rattle.afdx_recordings.specs.Reading.{state_of, latest, recorded, recorded_from, CanFollow}
 use Rattle.afdx_recordings.specs.Recordings.{State, Over, Faulted, lost_by, most_numbers}
 use Rattle.afdx_run.specs.Engine.{Item, item_of}
+use Rattle.afdx_arrivals.specs.declared.number.AsRead.{AsRead}
 use Rattle.afdx_arrivals.specs.declared.number.Number.{Number}
 use Rattle.afdx_arrivals.specs.declared.read_recording.ReadRecording.{ReadRecording}
-use Rattle.afdx_arrivals.specs.Becoming.{Options, options_of}
+use Rattle.afdx_arrivals.specs.Becoming.{Options, options_of, first_bytes}
 use Rattle.afdx_arrivals.specs.Claims.{Ports, ports_of}
 use Rattle.afdx_arrivals.specs.Counting.{count_one}
-use Rattle.afdx_arrivals.specs.Sequences.{Numbers, counts_of, has_arrival, is_arrival, latest_of, moment_or}
-use Rattle.afdx_arrivals.specs.Sequences.{number_after, sequence, sequence_from}
+use Rattle.afdx_arrivals.specs.Sequences.{Numbers, counts_of, has_arrival, is_arrival}
+use Rattle.afdx_arrivals.specs.Sequences.{number_after, numbers_read, as_read, read_from}
 
 -- the number that was read last
-abbrev pub given : ReadRecording → Item Number
-given source =
-    item_of source.numbers source.number (latest source.reader).bytes
+abbrev pub given : ReadRecording → Item AsRead
+given source = item_of source.numbers source.number (first_bytes (latest source.reader).bytes)
 
 -- that number, as it comes behind these
 abbrev pub next_number : ReadRecording → Numbers → Result Number RecordingFault
@@ -34,16 +34,14 @@ next_number source past =
 -- the source remembers what has to be known of these numbers
 pub record Remembers (source : ReadRecording) (past : Numbers) : Type 0 where
   pub numbers : source.numbers ≡ length past
-  pub latest : source.latest ≡ latest_of past
   pub counts : source.counts ≡ counts_of past
   pub arrival : source.has_arrival ≡ has_arrival past
 
 -- the number that was read last is added to what the source remembers
 pub record RemembersOne (old new : ReadRecording) : Type 0 where
   pub numbers : new.numbers ≡ (state_of old.reader).numbers
-  pub latest : new.latest ≡ moment_or new.number old.latest
-  pub counts : new.counts ≡ count_one new.number old.counts
-  pub arrival : new.has_arrival ≡ (is_arrival new.number || old.has_arrival)
+  pub counts : new.counts ≡ count_one new.number.becomes old.counts
+  pub arrival : new.has_arrival ≡ (is_arrival new.number.becomes || old.has_arrival)
 
 -- the answer behind the last of n numbers
 abbrev pub end_of : Bool → ℕ → Result Bool RunFault
@@ -65,13 +63,13 @@ first_standing remaining input = record {
 }
 
 module _ (options : Options) (ports : Ports) where
-  -- the input gave some bytes; whatever follows, the sequence of the recording is these numbers,
-  -- and then that of what is held and follows
+  -- the input gave some bytes; whatever follows, the recording is read as these numbers, and
+  -- then as what is held and follows
   pub record Sorts (first now : Standing) (past : Numbers) (state : State) : Type 0 where
     pub read : List ℕ
     pub gives : Gives first now read
-    pub says : (more : List ℕ) → sequence options ports (recorded (read ++ more))
-        ≡ sequence_from options ports past (recorded_from state (now.held ++ more))
+    pub says : (more : List ℕ) → as_read options ports (recorded (read ++ more))
+        ≡ read_from options ports past (recorded_from state (now.held ++ more))
 
   -- whatever can follow, these are all numbers, and this fault stands behind them
   pub record IsFaultBehind (first now : Standing) (past : Numbers) (fault : RecordingFault)
@@ -79,15 +77,15 @@ module _ (options : Options) (ports : Ports) where
     pub read : List ℕ
     pub gives : Gives first now read
     pub numbers : (more : List ℕ) → CanFollow now more →
-        (sequence options ports (recorded (read ++ more))).numbers ≡ past
+        (as_read options ports (recorded (read ++ more))).numbers ≡ past
     pub ending : (more : List ℕ) → CanFollow now more →
-        (sequence options ports (recorded (read ++ more))).ending ≡ Faulted fault
+        (as_read options ports (recorded (read ++ more))).ending ≡ Faulted fault
 
   -- these are all numbers of what the input gave
   pub record AreAllOfRead (first now : Standing) (past : Numbers) : Type 0 where
     pub read : List ℕ
     pub gives : Gives first now read
-    pub numbers : (sequence options ports (recorded read)).numbers ≡ past
+    pub numbers : (as_read options ports (recorded read)).numbers ≡ past
 
   -- whatever the whole recording is, these are its first numbers
   pub record AreFirst (first : Standing) (past : Numbers) : Type 0 where
@@ -95,7 +93,7 @@ module _ (options : Options) (ports : Ports) where
     pub left : Option (List ℕ)
     pub consumed : Consumes first.left left read
     pub numbers : (more : List ℕ) → (later : Numbers)
-        × ((sequence options ports (recorded (read ++ more))).numbers ≡ later ++ past)
+        × ((as_read options ports (recorded (read ++ more))).numbers ≡ later ++ past)
 
   -- where the source stops
   abbrev pub StopsBehind : (first now : Standing) → Numbers → RunFault → Type 0
@@ -128,7 +126,7 @@ module _ {R : Type 0} (remaining : R → Option (List ℕ)) where
     pub read : List ℕ
     pub gives : Gives (first_standing remaining start)
         (standing remaining source.reader.held input) read
-    pub says : sequence (options_of source.options) (ports_of source.ports) (recorded read)
+    pub says : as_read (options_of source.options) (ports_of source.ports) (recorded read)
         ≡ record { numbers = past; ending = Over; lost = lost_by (state_of source.reader) }
 
   -- or this fault stands behind them
@@ -140,3 +138,16 @@ module _ {R : Type 0} (remaining : R → Option (List ℕ)) where
         (standing remaining source.reader.held input)
     pub stops : StopsBehind (options_of source.options) (ports_of source.ports)
         (first_standing remaining start) (standing remaining source.reader.held input) past fault
+
+  -- ---- the same of numbers as they are read
+
+  abbrev pub HasRead : Watched R → ReadRecording → Watched R → List (Item AsRead) → Type 0
+  HasRead start source input read = HasGiven start source input (numbers_read read)
+
+  abbrev pub HasReadAll : Watched R → ReadRecording → Watched R → List (Item AsRead) → Type 0
+  HasReadAll start source input read = HasEnded start source input (numbers_read read)
+
+  abbrev pub HasStoppedReading : Watched R → ReadRecording → Watched R → List (Item AsRead) →
+      RunFault → Type 0
+  HasStoppedReading start source input read fault =
+      HasStopped start source input (numbers_read read) fault

@@ -1,6 +1,6 @@
--- What stands in a recording: its numbers one after another, up to the first fault. A list of them
--- has the newest first.
-use Rattle.std.specs.Prelude.{ℕ, Bool, true, false, not, ◌+◌, ◌&&◌, ◌||◌, nat_lt, List, [], ◌∷◌, length}
+-- What stands in a recording: its numbers one after another, up to the first fault that doesn't
+-- depend on their order. A list of them has the newest first.
+use Rattle.std.specs.Prelude.{ℕ, Bool, true, false, not, ◌+◌, ◌&&◌, ◌||◌, nat_lt, List, [], ◌∷◌, length, map}
 use Rattle.std.specs.Prelude.{Result, Ok, Err, if◌then◌else◌}
 use Rattle.afdx_lists.specs.declared.recording_fault.RecordingFault.{RecordingFault}
 use Rattle.afdx_lists.specs.declared.recording_fault.RecordingFault.TheVariants.{NoArrival}
@@ -10,15 +10,23 @@ use Rattle.afdx_arrivals.specs.declared.becoming.Found.{Found}
 use Rattle.afdx_arrivals.specs.declared.becoming.NoArrival.TheVariants as becomes_no
 use Rattle.afdx_arrivals.specs.declared.becoming.NoArrival as no_arrival
 use Rattle.afdx_arrivals.specs.declared.counts.Counts.{Counts}
+use Rattle.afdx_arrivals.specs.declared.number.AsRead.{AsRead}
 use Rattle.afdx_arrivals.specs.declared.number.Number.{Number}
 use Rattle.afdx_arrivals.specs.declared.number.Number.TheVariants.{Arrival, Skipped}
-use Rattle.afdx_arrivals.specs.Becoming.{Options, becomes}
+use Rattle.afdx_arrivals.specs.Becoming.{Options, becomes, first_bytes}
 use Rattle.afdx_arrivals.specs.Claims.{Ports}
 use Rattle.afdx_arrivals.specs.Counting.{no_counts, count_one}
 
 -- numbers, each with its recorded bytes
 abbrev pub Numbers : Type 0
 Numbers = List (Item Number)
+
+-- a number as it is read
+abbrev pub number_read : Item AsRead → Item Number
+number_read x = item_of x.number x.head.becomes x.bytes
+
+abbrev pub numbers_read : List (Item AsRead) → Numbers
+numbers_read past = map number_read past
 
 abbrev pub is_arrival : Number → Bool
 is_arrival (Arrival found) = true
@@ -52,7 +60,7 @@ number_by (Err (becomes_no.Faulted fault)) = Err fault
 -- what comes next is this number, behind these
 unfoldable pub number_after : Options → Ports → Numbers → Numbered → Result Number RecordingFault
 number_after options ports past item =
-    number_by (becomes options ports (latest_of past) (length past + 1) item.what item.bytes)
+    number_by (becomes options ports (length past + 1) item.what item.bytes)
 
 -- all numbers up to the first fault, how that ends, and how many frames the recorder lost by the
 -- recording's end
@@ -74,24 +82,24 @@ and_then next past lost (Ok number) = next number
 and_then next past lost (Err fault) =
     record { numbers = past; ending = Faulted fault; lost = lost }
 
--- this number stands behind those, with its bytes
+-- this number stands behind those, with those of its bytes that are used
 abbrev pub with_number : Numbers → List ℕ → Number → Numbers
-with_number past bytes number = item_of (length past + 1) number bytes ∷ past
+with_number past bytes number = item_of (length past + 1) number (first_bytes bytes) ∷ past
 
 -- what stands behind these numbers, and such an ending
-unfoldable pub sequence_of_items : Options → Ports → Ending → (lost : ℕ) → Numbers →
-    List Numbered → Outcome
-sequence_of_items options ports ending lost past [] =
+unfoldable pub read_of_items : Options → Ports → Ending → (lost : ℕ) → Numbers → List Numbered →
+    Outcome
+read_of_items options ports ending lost past [] =
     record { numbers = past; ending = ending_after past ending; lost = lost }
-sequence_of_items options ports ending lost past (item ∷ items) =
-    and_then (λ number. sequence_of_items options ports ending lost
+read_of_items options ports ending lost past (item ∷ items) =
+    and_then (λ number. read_of_items options ports ending lost
     (with_number past item.bytes number) items) past lost (number_after options ports past item)
 
 -- the rest of a recording, behind these numbers
-abbrev pub sequence_from : Options → Ports → Numbers → Recording → Outcome
-sequence_from options ports past recording =
-    sequence_of_items options ports recording.ending recording.lost past recording.items
+abbrev pub read_from : Options → Ports → Numbers → Recording → Outcome
+read_from options ports past recording =
+    read_of_items options ports recording.ending recording.lost past recording.items
 
--- the sequence of a recording
-abbrev pub sequence : Options → Ports → Recording → Outcome
-sequence options ports recording = sequence_from options ports [] recording
+-- a recording as it is read, before its arrivals are put in order
+abbrev pub as_read : Options → Ports → Recording → Outcome
+as_read options ports recording = read_from options ports [] recording

@@ -1,5 +1,5 @@
 -- What a run takes of a recording, or of two that are read at once, and how that ends.
-use Rattle.std.specs.Prelude.{ℕ, ◌≡◌, ◌⊎◌, Bool, true, List, length, reverse, Option, Some, None}
+use Rattle.std.specs.Prelude.{ℕ, ◌≡◌, ◌⊎◌, Bool, true, List, reverse, Option, Some, None}
 use Rattle.std.specs.Io.KnownBytes.{Consumes}
 use Rattle.afdx_frame.specs.declared.link.Side.{Side}
 use Rattle.afdx_frame.specs.declared.link.Side.TheVariants.{A, B}
@@ -21,8 +21,8 @@ use Rattle.afdx_arrivals.specs.Claims.{Ports}
 use Rattle.afdx_arrivals.specs.Counting.{plus_tally}
 use Rattle.afdx_arrivals.specs.Merging.{Coming, merged}
 use Rattle.afdx_arrivals.specs.NumberLines.{Lines, arrivals_listed}
-use Rattle.afdx_arrivals.specs.Sequences.{Outcome, sequence, counts_of}
-use Rattle.afdx_arrivals.specs.Timing.{Timed, timed_up_to}
+use Rattle.afdx_arrivals.specs.Ordering.{Sequence, sequence}
+use Rattle.afdx_arrivals.specs.Timing.{Timed, timed, timed_up_to}
 
 -- all that a run takes: a line for each number, the newest first; the fault that stands behind
 -- them; and how many numbers were read, of which so many were skipped
@@ -34,13 +34,6 @@ pub record Taken : Type 0 where
 -- the arrivals among them
 abbrev pub arrivals_in : Taken → List Arrival
 arrivals_in taken = arrivals (arrivals_listed taken.lines)
-
-abbrev pub tally_of : Outcome → Tally
-tally_of outcome = record {
-  numbers = length outcome.numbers;
-  counts = counts_of outcome.numbers;
-  lost = outcome.lost;
-}
 
 abbrev pub fault_of : (RecordingFault → RunFault) → Ending → Option RunFault
 fault_of said Over = None
@@ -56,25 +49,26 @@ abbrev pub late_of_one : Item Number → RunFault
 late_of_one x = run.Recording (TimeTooLarge x.number)
 
 -- what a run takes of a sequence; time 0 is the moment that is said, or that of the first arrival
-abbrev pub taken_of : (said : Option ℕ) → Outcome → Taken
-taken_of said outcome =
+abbrev pub taken_of : (said : Option ℕ) → Sequence → Taken
+taken_of said sequence =
     taken_with
-    (timed_up_to late_of_one said outcome.numbers (fault_of run.Recording outcome.ending))
-    (tally_of outcome)
+    (timed_up_to late_of_one said sequence.numbers (fault_of run.Recording sequence.ending))
+    sequence.tally
 
 -- the sequence of the recording of these bytes
-abbrev pub sequence_of_bytes : Options → Ports → List ℕ → Outcome
+abbrev pub sequence_of_bytes : Options → Ports → List ℕ → Sequence
 sequence_of_bytes options ports bytes = sequence options ports (recorded bytes)
 
 -- what a run takes of that recording
 abbrev pub taken_of_bytes : Options → Ports → List ℕ → Taken
 taken_of_bytes options ports bytes = taken_of options.origin (sequence_of_bytes options ports bytes)
 
--- these are the lines of what was read until a read failed: the input gave that, and has `rest`
+-- these are the lines of what was taken until a read failed: the input gave `read`, and has `rest`
 abbrev pub AreCutOff : Options → Ports → List ℕ → (rest : Option (List ℕ)) → Lines → Type 0
 AreCutOff options ports bytes rest lines =
     (read : List ℕ) × Consumes (Some bytes) rest read
-    × (lines ≡ (taken_of_bytes options ports read).lines)
+    × (lines ≡ (timed late_of_one options.origin
+    (sequence_of_bytes options ports read).known).lines)
 
 -- ---- of two
 
@@ -87,28 +81,28 @@ abbrev pub late_of_both : Item Number → RunFault
 late_of_both x = fault_of_network (side_of x.head) (TimeTooLarge x.number)
 
 -- the numbers of a sequence as they come
-abbrev pub coming_of : Side → Outcome → Coming
-coming_of side outcome = record {
-  next = reverse outcome.numbers;
-  fault = fault_of (fault_of_network side) outcome.ending;
+abbrev pub coming_of : Side → Sequence → Coming
+coming_of side sequence = record {
+  next = reverse sequence.numbers;
+  fault = fault_of (fault_of_network side) sequence.ending;
 }
 
--- behind those that were read a read fails
-abbrev pub coming_until_read : Outcome → Coming
-coming_until_read outcome = record { next = reverse outcome.numbers; fault = Some run.Read }
+-- behind those that are known a read fails
+abbrev pub coming_until_read : Sequence → Coming
+coming_until_read sequence = record { next = reverse sequence.known; fault = Some run.Read }
 
 abbrev pub timed_of_both : (said : Option ℕ) → Coming → Coming → Timed
 timed_of_both said a b =
     let all = merged a b in timed_up_to late_of_both said all.numbers all.fault
 
 -- what a run takes of the sequences of network A and of network B
-abbrev pub taken_of_both : (said : Option ℕ) → Outcome → Outcome → Taken
+abbrev pub taken_of_both : (said : Option ℕ) → Sequence → Sequence → Taken
 taken_of_both said a b =
     taken_with (timed_of_both said (coming_of A a) (coming_of B b))
-    (plus_tally (tally_of a) (tally_of b))
+    (plus_tally a.tally b.tally)
 
--- these are the lines of what was read of one until a read failed, and of all of the other
-module _ (said : Option ℕ) (sequence_a sequence_b : List ℕ → Outcome) where
+-- these are the lines of what was taken of one until a read failed, and of all of the other
+module _ (said : Option ℕ) (sequence_a sequence_b : List ℕ → Sequence) where
   abbrev pub AreCutOffAtA : (bytes_a : List ℕ) → (rest_a : Option (List ℕ)) → (bytes_b : List ℕ) →
       Lines → Type 0
   AreCutOffAtA bytes_a rest_a bytes_b lines =

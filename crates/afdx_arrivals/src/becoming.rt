@@ -1,6 +1,6 @@
 //! What a number of a recording becomes.
 
-ghost use Rattle.std.specs.Prelude.{◌≡◌, ◌≤◌, ℕ, IfOk, None, false};
+ghost use Rattle.std.specs.Prelude.{◌≡◌, ◌<◌, ℕ, IfOk, None, false};
 ghost use Rattle.afdx_arrivals.specs.Becoming as spec;
 ghost use Rattle.afdx_arrivals.specs.Becoming.{options_of};
 ghost use Rattle.afdx_arrivals.specs.Claims.{ports_of};
@@ -31,6 +31,10 @@ pub struct RecordingOptions {
     pub origin: Option<u64>,
     /// The network whose recording it is, of two that are read at once.
     pub network: Option<Side>,
+    /// How many arrivals may have a later moment than one that stands behind them.
+    pub reorder: u32,
+    /// Whether stamps are those of frames' first bits, else of their last ones.
+    pub from_start: bool,
     /// Whether an option was given: then the input has to be a recording.
     pub are_given: bool,
 }
@@ -42,6 +46,8 @@ impl RecordingOptions {
         ensures fcs { IfOk result (λ options. options.fcs ≡ None) }
         ensures origin { IfOk result (λ options. options.origin ≡ None) }
         ensures network { IfOk result (λ options. options.network ≡ None) }
+        ensures reorder { IfOk result (λ options. options.reorder ≡ 0) }
+        ensures start { IfOk result (λ options. options.from_start ≡ false) }
         ensures place { IfOk result (λ options. (k : ℕ) →
             places.place_of options.interfaces k ≡ None) }
     {
@@ -50,6 +56,8 @@ impl RecordingOptions {
             fcs: None,
             origin: None,
             network: None,
+            reorder: 0,
+            from_start: false,
             are_given: false,
         })
     }
@@ -219,6 +227,64 @@ fn kind_with(has_sequence: Option<bool>, found_wrong: bool, bytes: &[u8]) -> Opt
     }
 }
 
+/// The greatest moment, in ns since 1970.
+const LATEST_MOMENT: u128 = 9_223_372_036_854_775_807;
+
+/// How many bytes a frame has with its check sequence.
+fn whole_length(has_sequence: Option<bool>, bytes: &[u8]) -> u128
+    ensures { result ≡ spec.whole_length has_sequence bytes.now }
+{
+    let length = bytes.len() as u128;
+    if has_sequence == Some(true) {
+        length
+    } else {
+        length + 4
+    }
+}
+
+/// How long a frame lasts at this port, in ns.
+fn line_time(ports: &SystemPorts, port: u8, has_sequence: Option<bool>, bytes: &[u8]) -> u128
+    ensures time { result ≡ spec.line_time (ports_of ports.now) port has_sequence bytes.now }
+    ensures small { result < 0x20000000000000000000000000 }
+{
+    let byte_ns = ports.byte_ns(port).unwrap_or(0);
+    whole_length(has_sequence, bytes) * u128::from(byte_ns)
+}
+
+/// The moment of the last bit of frame n, whose first bit is stamped, and which lasts so long.
+fn last_bit(n: u64, stamp: u64, time: u128) -> Result<u64, NoArrival>
+    requires { time < 0x20000000000000000000000000 }
+    ensures { result ≡ spec.last_bit n stamp time }
+{
+    let last = u128::from(stamp) + time;
+    if last > LATEST_MOMENT {
+        return Err(NoArrival::Faulted(RecordingFault::BadTime(n)));
+    }
+    Ok(last as u64)
+}
+
+/// The most recorded bytes of an arrival that are used.
+const MOST_USED: usize = 2000;
+
+/// What is done with those bytes of an arrival that are used: a longer one has no room for its
+/// check sequence.
+fn kind_used(kind: FrameKind, bytes: &[u8]) -> FrameKind
+    ensures { result ≡ spec.kind_used kind bytes.now }
+{
+    if bytes.len() > MOST_USED {
+        FrameKind::Raw
+    } else {
+        kind
+    }
+}
+
+/// Those of these bytes that are used.
+pub(crate) fn first_bytes(bytes: &[u8]) -> &[u8]
+    ensures { result.now ≡ spec.first_bytes bytes.entry.now }
+{
+    &bytes[..MOST_USED.min(bytes.len())]
+}
+
 /// Whether a moment is before that of time 0.
 fn is_before(origin: Option<u64>, moment: u64) -> bool
     ensures { result ≡ spec.is_before origin moment }
@@ -234,61 +300,60 @@ fn is_before(origin: Option<u64>, moment: u64) -> bool
 fn frame_becomes(
     options: &RecordingOptions,
     ports: &SystemPorts,
-    latest: u64,
     n: u64,
     frame: &RecordedFrame,
     bytes: &[u8],
 ) -> Result<Found, NoArrival>
-    ensures becomes { result ≡ spec.frame_becomes (options_of options.now) (ports_of ports.now)
-        latest n frame.now bytes.now }
-    ensures order { IfOk result (λ found. latest ≤ found.moment) }
+    ensures { result ≡ spec.frame_becomes (options_of options.now) (ports_of ports.now)
+        n frame.now bytes.now }
 {
     let place = options.interfaces.place(frame.interface);
     if place == Some(Place::LeftOut) {
         return Err(NoArrival::Skipped(Skipped::LeftOut));
     }
-    let moment = whole_moment(options.fcs, n, frame, bytes.len())?;
+    let stamp = whole_moment(options.fcs, n, frame, bytes.len())?;
     let entrance = entrance_of(options.network, place, ports, bytes)?;
+    let has_sequence = ends_with_sequence(options.fcs, frame.check_sequence);
+    let moment = if options.from_start {
+        let time = line_time(ports, entrance.port, has_sequence, bytes);
+        last_bit(n, stamp, time)?
+    } else {
+        stamp
+    };
     if is_before(options.origin, moment) {
         return Err(NoArrival::Skipped(Skipped::BeforeOrigin));
     }
-    let has_sequence = ends_with_sequence(options.fcs, frame.check_sequence);
     let Some(kind) = kind_with(has_sequence, frame.found_wrong, bytes) else {
         return Err(NoArrival::Faulted(RecordingFault::FcsUnclear(n)));
     };
-    if moment < latest {
-        return Err(NoArrival::Faulted(RecordingFault::TimeBack(n)));
-    }
     Ok(Found {
         moment,
         side: entrance.side,
         port: entrance.port,
         is_claimed: entrance.is_claimed,
-        kind,
+        kind: kind_used(kind, bytes),
     })
 }
 
 /// What the number n of a recording becomes, whose captured bytes these are.
 ///
-/// `latest` is the moment of the arrival before it, 0 if there is none. The first check that is
-/// false decides, in this order. A block that is no frame, and a frame whose interface is left out,
-/// are skipped. Faults are `NotEthernet`, `NoTime`, `BadTime` and `Cut`. A frame of no link, of no
-/// known port, of no known side, and one before the origin are skipped. Faults are `FcsUnclear`
-/// and `TimeBack`.
+/// The first check that is false decides, in this order. A block that is no frame, and a frame
+/// whose interface is left out, are skipped. Faults are `NotEthernet`, `NoTime`, `BadTime` and
+/// `Cut`. A frame of no link, of no known port, of no known side, and one before the origin are
+/// skipped. The last fault is `FcsUnclear`. An arrival of more than 2,000 bytes is taken as its
+/// first 2,000, as they are.
 pub fn becomes(
     options: &RecordingOptions,
     ports: &SystemPorts,
-    latest: u64,
     n: u64,
     recorded: &Recorded,
     bytes: &[u8],
 ) -> Result<Found, NoArrival>
-    ensures becomes { result ≡ spec.becomes (options_of options.now) (ports_of ports.now)
-        latest n recorded.now bytes.now }
-    ensures order { IfOk result (λ found. latest ≤ found.moment) }
+    ensures { result ≡ spec.becomes (options_of options.now) (ports_of ports.now)
+        n recorded.now bytes.now }
 {
     match recorded {
         Recorded::NoFrame => Err(NoArrival::Skipped(Skipped::NoFrame)),
-        Recorded::Frame(frame) => frame_becomes(options, ports, latest, n, frame, bytes),
+        Recorded::Frame(frame) => frame_becomes(options, ports, n, frame, bytes),
     }
 }

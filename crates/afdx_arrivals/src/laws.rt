@@ -13,6 +13,12 @@ pub fn arrivals_have_their_bytes()
     ensures { laws.ArrivalsHaveTheirBytes }
 {}
 
+/// The arrivals of a recording are taken by their moments, and those of one moment as they stand:
+/// all that are read before its first fault.
+pub fn arrivals_are_taken_in_order()
+    ensures { laws.ArrivalsAreTakenInOrder }
+{}
+
 /// The times of the arrivals of a recording don't decrease, and none is over 10^15 ns.
 pub fn arrivals_are_in_order()
     ensures { laws.ArrivalsAreInOrder }

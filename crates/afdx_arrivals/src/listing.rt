@@ -14,38 +14,17 @@ ghost use Rattle.afdx_arrivals.specs.RecordingRun.{IfBothKnown};
 use crate::becoming::RecordingOptions;
 use crate::counts::Tally;
 use crate::number_line::NumberLine;
+use crate::ordered_recording::ordered_recording;
 use crate::pair_options::PairOptions;
 use crate::read_pair::read_pair;
-use crate::read_recording::ReadRecording;
 use crate::senders::{SystemPorts, UnsaidPort};
 use crate::timed_numbers::TimedNumbers;
 use afdx_frame::BySide;
-use afdx_lists::{FrameKind, RunFault, Watched};
+use afdx_lists::{RunFault, Watched};
 use afdx_run::{Machine, drive};
 use afdx_text::{OutLine, Sink, Text};
 use std::alloc::Global;
 use std::io::Read;
-
-/// The most recorded bytes that a line has.
-const MOST_LISTED: usize = 2000;
-
-/// What the line of a frame says of its bytes: one that is cut has no check sequence to be added.
-fn kind_listed(kind: FrameKind, bytes: &[u8]) -> FrameKind
-    ensures { result ≡ text.kind_listed kind bytes.now }
-{
-    if bytes.len() > MOST_LISTED {
-        FrameKind::Raw
-    } else {
-        kind
-    }
-}
-
-/// As many of these bytes as a line has.
-fn first_bytes(bytes: &[u8]) -> &[u8]
-    ensures { result.now ≡ text.take_listed bytes.entry.now }
-{
-    &bytes[..MOST_LISTED.min(bytes.len())]
-}
 
 /// Puts the line of a number.
 fn put_number<O: Sink>(
@@ -70,11 +49,11 @@ fn put_number<O: Sink>(
             port,
         } => {
             let line = OutLine::Listed {
-                kind: kind_listed(*kind, bytes),
+                kind: *kind,
                 time: *time,
                 side: *side,
                 port: *port,
-                bytes: first_bytes(bytes),
+                bytes,
             };
             output.put(&line, scratch)
         }
@@ -130,11 +109,12 @@ impl Machine<NumberLine> for Lister {
 }
 
 /// Writes a recording as the frame list that says the same: a line for each number, that of its
-/// arrival, or a remark, `#` with the word of the reason, where it is skipped. A frame of which
-/// over 2,000 bytes were recorded stands as its first 2,000. Counts what is no arrival.
+/// arrival where it is taken, or a remark, `#` with the word of the reason, where it is skipped as
+/// soon as it is read. Counts what is no arrival.
 ///
 /// Each line is handed to `output` before the next frame is read. The first fault ends it; the
-/// lines of the numbers before it stand written. `RunFault::Read` and `RunFault::Write` come
+/// lines of the numbers before it stand written, but for arrivals that are held where a device or
+/// memory fails. `RunFault::Read` and `RunFault::Write` come
 /// exactly where the input's or the output's device failed; neither is tried again.
 pub fn list_recording<R: Read, O: Sink>(
     alloc: Global,
@@ -157,7 +137,7 @@ pub fn list_recording<R: Read, O: Sink>(
         (R.remaining (device_of input.new)) (O.written output.old) (O.written output.new) result) }
 {
     let origin = options.origin;
-    let recording = ReadRecording::new(alloc, options, ports)?;
+    let recording = ordered_recording(alloc, options, ports)?;
     let mut lines = TimedNumbers::new(recording, origin);
     drive(&mut lines, input, &mut Lister::new(alloc), output)?;
     Ok(lines.numbers.tally())

@@ -1,6 +1,6 @@
 //! What a number of a recording is.
 
-ghost use Rattle.afdx_arrivals.specs.NumberLines.{NumberFollows};
+ghost use Rattle.afdx_arrivals.specs.NumberLines.{NumberFollows, ReadFollows};
 
 use crate::becoming::Found;
 use crate::skipped::Skipped;
@@ -17,4 +17,15 @@ pub enum Number {
 
 impl Head for Number {
     ghost can_follow = { NumberFollows };
+}
+
+/// A number of a recording as it is read, before arrivals are put in order.
+#[derive(Clone, Copy, Debug, PartialEq, Eq)]
+pub struct AsRead {
+    /// What it is.
+    pub becomes: Number,
+}
+
+impl Head for AsRead {
+    ghost can_follow = { ReadFollows };
 }

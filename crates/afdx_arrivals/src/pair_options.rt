@@ -17,6 +17,10 @@ pub struct PairOptions {
     pub fcs: Option<bool>,
     /// The moment that is time 0, in ns since 1970, where that is said.
     pub origin: Option<u64>,
+    /// How many arrivals of each may have a later moment than one that stands behind them.
+    pub reorder: u32,
+    /// Whether the stamps of both are those of frames' first bits, else of their last ones.
+    pub from_start: bool,
 }
 
 impl PairOptions {
@@ -26,12 +30,15 @@ impl PairOptions {
         ensures b { options_of result.1 ≡ options_of_b self }
     {
         let BySide { a, b } = self.interfaces;
-        let (fcs, origin) = (self.fcs, self.origin);
+        let (fcs, origin, reorder) = (self.fcs, self.origin, self.reorder);
+        let from_start = self.from_start;
         let of = |interfaces, network| RecordingOptions {
             interfaces,
             fcs,
             origin,
             network: Some(network),
+            reorder,
+            from_start,
             are_given: true,
         };
         (of(a, Side::A), of(b, Side::B))

@@ -1,12 +1,14 @@
 //! Two recordings that are read at once, as a source of lines.
 
-ghost use Rattle.std.specs.Prelude.{◌≡◌, IfOk, [], false};
-ghost use Rattle.afdx_recordings.specs.Reading.{state_of};
+ghost use Rattle.std.specs.Prelude.{◌≡◌, IfOk};
 ghost use Rattle.afdx_arrivals.specs.Counting.{IsFew, plus_tally};
 ghost use Rattle.afdx_arrivals.specs.Claims.{ports_unsaid};
-ghost use Rattle.afdx_arrivals.specs.ReadPair.{IsNewPair, tally_of_source};
+ghost use Rattle.afdx_arrivals.specs.OrderedRecording.{tally_of_source};
+ghost use Rattle.afdx_arrivals.specs.ReadPair.{IsNewPair};
 
 use crate::counts::Tally;
+use crate::ordered::Ordered;
+use crate::ordered_recording::ordered_recording;
 use crate::pair_options::PairOptions;
 use crate::read_recording::ReadRecording;
 use crate::senders::{SystemPorts, UnsaidPort};
@@ -18,17 +20,17 @@ pub(crate) fn read_pair(
     alloc: Global,
     options: PairOptions,
     unsaid: UnsaidPort<'_>,
-) -> Result<TimedPair<ReadRecording>, AllocError>
+) -> Result<TimedPair<Ordered<ReadRecording>>, AllocError>
     ensures { IfOk result (λ source. IsNewPair options (ports_unsaid unsaid.entry) source) }
 {
     let origin = options.origin;
     let (of_a, of_b) = options.split();
-    let a = ReadRecording::new(alloc, of_a, SystemPorts::unsaid(alloc, unsaid)?)?;
-    let b = ReadRecording::new(alloc, of_b, SystemPorts::unsaid(alloc, unsaid)?)?;
+    let a = ordered_recording(alloc, of_a, SystemPorts::unsaid(alloc, unsaid)?)?;
+    let b = ordered_recording(alloc, of_b, SystemPorts::unsaid(alloc, unsaid)?)?;
     Ok(TimedPair::new(a, b, origin))
 }
 
-impl TimedPair<ReadRecording> {
+impl TimedPair<Ordered<ReadRecording>> {
     /// How many numbers of both were read, how many of them were skipped, and why, how many
     /// arrivals are claimed, and how many frames the recorders lost, by their own word.
     pub(crate) fn tally(&self) -> Tally

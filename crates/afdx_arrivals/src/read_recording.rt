@@ -1,6 +1,6 @@
-//! A recording, as a source: each of its numbers, an arrival or skipped.
+//! A recording, as a source: each of its numbers as it is read, an arrival or skipped.
 
-ghost use Rattle.std.specs.Prelude.{◌≡◌, ◌<◌, ◌≤◌, ◌+◌, ◌-◌, length, [], Ok};
+ghost use Rattle.std.specs.Prelude.{◌≡◌, ◌<◌, ◌+◌, ◌-◌, length, [], Ok};
 ghost use Rattle.std.specs.Prelude.{IfOk, IfErr, OnOk, false};
 ghost use Rattle.afdx_recordings.specs.Reading.{state_of};
 ghost use Rattle.afdx_recordings.specs.Recordings.{at_start, lost_by, most_numbers};
@@ -8,11 +8,11 @@ ghost use Rattle.afdx_recordings.specs.Holding.{unread};
 ghost use Rattle.afdx_arrivals.specs.Counting.{no_counts, skipped_in};
 ghost use Rattle.afdx_arrivals.specs.RecordingSource as source;
 ghost use Rattle.afdx_arrivals.specs.RecordingSource.{FailsBy, RemembersOne};
-ghost use Rattle.afdx_arrivals.specs.Sequences.{Numbers, latest_of};
+ghost use Rattle.afdx_arrivals.specs.Sequences.{Numbers};
 
-use crate::becoming::{NoArrival, RecordingOptions, becomes};
+use crate::becoming::{NoArrival, RecordingOptions, becomes, first_bytes};
 use crate::counts::{Counts, Tally};
-use crate::number::Number;
+use crate::number::{AsRead, Number};
 use crate::senders::SystemPorts;
 use crate::skipped::Skipped;
 use afdx_lists::{RecordingFault, RunFault, Watched};
@@ -27,11 +27,9 @@ pub struct ReadRecording {
     options: RecordingOptions,
     ports: SystemPorts,
     numbers: u64,
-    /// The moment of the last arrival, or 0.
-    latest: u64,
     counts: Counts,
     has_arrival: bool,
-    number: Number,
+    number: AsRead,
 }
 
 impl Drop for ReadRecording {
@@ -42,7 +40,6 @@ impl Drop for ReadRecording {
             options,
             ports,
             numbers,
-            latest,
             counts,
             has_arrival,
             number,
@@ -62,7 +59,6 @@ impl ReadRecording {
         ensures unread { IfOk result (λ source. unread source.reader.held ≡ []) }
         ensures state { IfOk result (λ source. state_of source.reader ≡ at_start) }
         ensures numbers { IfOk result (λ source. source.numbers ≡ 0) }
-        ensures latest { IfOk result (λ source. source.latest ≡ 0) }
         ensures counts { IfOk result (λ source. source.counts ≡ no_counts) }
         ensures arrival { IfOk result (λ source. source.has_arrival ≡ false) }
     {
@@ -71,10 +67,11 @@ impl ReadRecording {
             options,
             ports,
             numbers: 0,
-            latest: 0,
             counts: Counts::none(),
             has_arrival: false,
-            number: Number::Skipped(Skipped::NoFrame),
+            number: AsRead {
+                becomes: Number::Skipped(Skipped::NoFrame),
+            },
         })
     }
 
@@ -101,11 +98,10 @@ impl ReadRecording {
         ensures options { self.new.options ≡ self.old.options }
         ensures ports { self.new.ports ≡ self.old.ports }
         ensures remembers { OnOk result (RemembersOne self.old self.new) }
-        ensures order { OnOk result (self.old.latest ≤ self.new.latest) }
-        ensures number { OnOk result ((past : Numbers) → self.old.latest ≡ latest_of past →
+        ensures number { OnOk result ((past : Numbers) →
             (state_of self.old.reader).numbers ≡ length past + 1 →
-            source.next_number self.old past ≡ Ok self.new.number) }
-        ensures fault { IfErr result (λ fault. (past : Numbers) → self.old.latest ≡ latest_of past →
+            source.next_number self.old past ≡ Ok self.new.number.becomes) }
+        ensures fault { IfErr result (λ fault. (past : Numbers) →
             (state_of self.old.reader).numbers ≡ length past + 1 →
             FailsBy fault (source.next_number self.old past)) }
     {
@@ -113,17 +109,16 @@ impl ReadRecording {
         self.numbers = n;
         let recorded = self.reader.recorded();
         let bytes = self.reader.bytes();
-        match becomes(&self.options, &self.ports, self.latest, n, &recorded, bytes) {
+        match becomes(&self.options, &self.ports, n, &recorded, bytes) {
             Ok(found) => {
-                self.latest = found.moment;
                 self.has_arrival = true;
                 self.counts.arrive(found.is_claimed);
-                self.number = Number::Arrival(found);
+                self.number.becomes = Number::Arrival(found);
                 Ok(())
             }
             Err(NoArrival::Skipped(reason)) => {
                 self.counts.skip(reason);
-                self.number = Number::Skipped(reason);
+                self.number.becomes = Number::Skipped(reason);
                 Ok(())
             }
             Err(NoArrival::Faulted(fault)) => Err(RunFault::Recording(fault)),
@@ -141,10 +136,11 @@ impl ReadRecording {
     }
 }
 
-impl<R: Read> Source<Number, Watched<R>> for ReadRecording {
+impl<R: Read> Source<AsRead, Watched<R>> for ReadRecording {
     ghost use Rattle.afdx_arrivals.specs.declared.becoming.RecordingOptions.{RecordingOptions};
     ghost use Rattle.afdx_arrivals.specs.declared.senders.SystemPorts.{SystemPorts};
-    ghost use Rattle.afdx_arrivals.specs.RecordingSource.{given, HasGiven, HasEnded, HasStopped};
+    ghost use Rattle.afdx_arrivals.specs.RecordingSource.{given, HasRead, HasReadAll};
+    ghost use Rattle.afdx_arrivals.specs.RecordingSource.{HasStoppedReading};
 
     ghost current = { given };
 
@@ -154,11 +150,11 @@ impl<R: Read> Source<Number, Watched<R>> for ReadRecording {
 
     ghost settings = { λ source. (source.options, source.ports) };
 
-    ghost Gave = { HasGiven R.remaining };
+    ghost Gave = { HasRead R.remaining };
 
-    ghost Ended = { HasEnded R.remaining };
+    ghost Ended = { HasReadAll R.remaining };
 
-    ghost Stopped = { HasStopped R.remaining };
+    ghost Stopped = { HasStoppedReading R.remaining };
 
     fn next(&mut self, input: &mut Watched<R>) -> Result<bool, RunFault> {
         if !self.reader.next(input)? {
@@ -172,11 +168,11 @@ impl<R: Read> Source<Number, Watched<R>> for ReadRecording {
         self.numbers
     }
 
-    fn head(&self) -> Number {
+    fn head(&self) -> AsRead {
         self.number
     }
 
     fn bytes(&self) -> &[u8] {
-        self.reader.bytes()
+        first_bytes(self.reader.bytes())
     }
 }

@@ -10,9 +10,9 @@ ghost use Rattle.afdx_arrivals.specs.RecordingRun.{IfBothKnown, IsAskedOnce, Pai
 use crate::arriving::Arriving;
 use crate::becoming::RecordingOptions;
 use crate::counts::Tally;
+use crate::ordered_recording::ordered_recording;
 use crate::pair_options::PairOptions;
 use crate::read_pair::read_pair;
-use crate::read_recording::ReadRecording;
 use crate::senders::{SystemPorts, UnsaidPort};
 use crate::timed_numbers::TimedNumbers;
 use afdx_frame::BySide;
@@ -24,8 +24,10 @@ use std::io::Read;
 
 /// Lets a machine tell the arrivals of a recording, and counts what is no arrival.
 ///
-/// The whole text of an arrival is handed to `output` before the next frame is read. The first
-/// fault ends the run; the text of the arrivals before it stands written. `RunFault::Read` and
+/// Arrivals are told by their moments. One is told once `reorder` others were read that come behind
+/// it, or the end or a fault was; its whole text is handed to `output` before the next frame is
+/// read. The first fault ends the run; the text of the arrivals before it stands written, but for
+/// those that are held where a device or memory fails. `RunFault::Read` and
 /// `RunFault::Write` come exactly where the input's or the output's device failed; neither is tried
 /// again.
 pub fn run_recording<R: Read, M: Machine<Heading>, O: Sink>(
@@ -59,7 +61,7 @@ pub fn run_recording<R: Read, M: Machine<Heading>, O: Sink>(
         bytes (R.remaining (device_of input.new)) result) }
 {
     let origin = options.origin;
-    let recording = ReadRecording::new(alloc, options, ports)?;
+    let recording = ordered_recording(alloc, options, ports)?;
     let mut arrivals = Arriving::new(TimedNumbers::new(recording, origin));
     drive(&mut arrivals, input, machine, output)?;
     Ok(arrivals.lines.numbers.tally())

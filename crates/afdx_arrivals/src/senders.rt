@@ -12,14 +12,21 @@ use std::alloc::{AllocError, Global};
 /// How many numbers a system may have: 0 to 65535.
 const NUMBERS: usize = 65_536;
 
-/// At which port a frame came in that no option says it of.
+/// How many numbers a port may have, where no limit of them is known.
+const PORTS: usize = 256;
+
+/// At which port a frame came in that no option says it of, and how long a byte lasts on a line.
 #[derive(Debug, Drop)]
 pub enum SystemPorts {
-    /// At this one, whatever sent it.
+    /// At this one, whatever sent it. Of no line the rate is known.
     One(u8),
-    /// At that of the system that sent it: for each number in a source address the port of the
-    /// system that has it, if one has.
-    BySender(Vec<Option<u8>>),
+    /// At that of the system that sent it.
+    BySender {
+        /// For each number in a source address the port of the system that has it, if one has.
+        ports: Vec<Option<u8>>,
+        /// For each port the time of a byte on the line of the system that has it, in ns.
+        byte_ns: Vec<Option<u32>>,
+    },
 }
 
 /// Which port is meant where no option says at which a frame came in.
@@ -102,6 +109,22 @@ fn put_ports(tables: &Tables, ports: &mut Vec<Option<u8>>)
     }
 }
 
+/// Puts for each port the time of a byte on the line of the system that has it.
+fn put_byte_times(tables: &Tables, byte_ns: &mut Vec<Option<u32>>)
+    requires room { vec_len byte_ns.old ≡ 256 }
+    requires none { (port : ℕ) → known (slice_get byte_ns.old.items port) ≡ None }
+    ensures { (port : ℕ) → known (slice_get byte_ns.new.items port)
+        ≡ claims.byte_ns_at tables.now.systems port }
+{
+    let mut place = tables.system_count();
+    while place > 0 {
+        place -= 1;
+        let id = SystemId(place as u8);
+        let port = tables.system(id).port;
+        byte_ns[usize::from(port)] = Some(tables.byte_ns(id) as u32);
+    }
+}
+
 impl SystemPorts {
     /// The ports of the systems of these tables, by what a frame says of its sender.
     pub fn by_sender(alloc: Global, tables: &Tables) -> Result<SystemPorts, AllocError>
@@ -110,7 +133,9 @@ impl SystemPorts {
     {
         let mut ports = vec![in alloc; None; NUMBERS]?;
         put_ports(tables, &mut ports);
-        Ok(SystemPorts::BySender(ports))
+        let mut byte_ns = vec![in alloc; None; PORTS]?;
+        put_byte_times(tables, &mut byte_ns);
+        Ok(SystemPorts::BySender { ports, byte_ns })
     }
 
     /// The ports that are meant where no option says it.
@@ -129,7 +154,7 @@ impl SystemPorts {
     {
         match self {
             SystemPorts::One(_) => false,
-            SystemPorts::BySender(_) => true,
+            SystemPorts::BySender { .. } => true,
         }
     }
 
@@ -139,8 +164,21 @@ impl SystemPorts {
     {
         match self {
             SystemPorts::One(port) => Some(*port),
-            SystemPorts::BySender(ports) => match sender_of(bytes) {
+            SystemPorts::BySender { ports, .. } => match sender_of(bytes) {
                 Some(number) => port_at(ports, number),
+                None => None,
+            },
+        }
+    }
+
+    /// The time of a byte on the line of this port, in ns, if a system has it.
+    pub fn byte_ns(&self, port: u8) -> Option<u32>
+        ensures { result ≡ (ports_of self.now).byte_ns port }
+    {
+        match self {
+            SystemPorts::One(_) => None,
+            SystemPorts::BySender { byte_ns, .. } => match byte_ns.get(usize::from(port)) {
+                Some(time) => *time,
                 None => None,
             },
         }

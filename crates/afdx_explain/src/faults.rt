@@ -22,7 +22,8 @@ be given, but K=-, which is for both, stands alone.",
     (
         "words BadNumber",
         "\
-The number of --origin is over 2^63 - 1. It is the moment that is time 0, in ns since 1970.",
+The number of --origin is over 2^63 - 1, or that of --reorder is over 100,000. --origin is the
+moment that is time 0, in ns since 1970; --reorder is by how many arrivals times may go back.",
     ),
     (
         "words SameInput",

@@ -39,7 +39,7 @@ pub enum RecordingFault {
     /// Nobody says whether the frame of this number ends with its check sequence, and it seems to.
     #[error("recording FcsUnclear {0}")]
     FcsUnclear(u64),
-    /// The arrival of this number has an earlier moment than one before it.
+    /// More arrivals before that of this number have a later moment than may.
     #[error("recording TimeBack {0}")]
     TimeBack(u64),
     /// The arrival of this number has a time over 10^15 ns.
@@ -118,8 +118,9 @@ Say --fcs yes if each frame ends with it, --fcs no if none does.",
     (
         "recording TimeBack n",
         "\
-The frame came too early: its moment is before that of an arrival in front of it.
-Put the frames in order by: reordercap IN OUT.",
+More arrivals in front of the frame have a later moment than --reorder N says: 10,000 if it isn't
+given, none with --line-buffered. With --line-buffered --reorder N each verdict comes N frames
+later. reordercap IN OUT puts a file in order. A clock that was set back also looks so.",
     ),
     (
         "recording TimeTooLarge n",

@@ -37,6 +37,8 @@ fn options(alloc: Global, said: Said) -> Result<RecordingOptions, AllocError> {
         fcs,
         origin,
         network: None,
+        reorder: 0,
+        from_start: false,
         are_given: true,
     })
 }
@@ -47,14 +49,14 @@ fn ports(alloc: Global) -> Result<SystemPorts, ConfigFault> {
     Ok(SystemPorts::by_sender(alloc, &tables)?)
 }
 
-/// What number 7 becomes behind an arrival of moment 900.
+/// What number 7 becomes.
 fn seventh(
     options: &RecordingOptions,
     ports: &SystemPorts,
     frame: RecordedFrame,
     bytes: &[u8],
 ) -> Result<Found, NoArrival> {
-    becomes(options, ports, 900, 7, &Recorded::Frame(frame), bytes)
+    becomes(options, ports, 7, &Recorded::Frame(frame), bytes)
 }
 
 /// The same of a frame of 60 bytes, HELLO with one other byte.
@@ -126,13 +128,6 @@ fn wrong_frame(alloc: Global) -> Option<Answer> {
             },
             Answer::Faulted(RecordingFault::Cut(7)),
         ),
-        (
-            RecordedFrame {
-                stamp: Stamp::At(899),
-                ..FRAME
-            },
-            Answer::Faulted(RecordingFault::TimeBack(7)),
-        ),
         (FRAME, Answer::Arrival(Side::A, 1, true)),
     ];
     for (frame, wanted) in frames {
@@ -201,6 +196,28 @@ fn side_in_b(alloc: Global) -> Result<Option<(Side, bool)>, ConfigFault> {
         Ok(found) => Ok(Some((found.side, found.is_claimed))),
         Err(_) => Ok(None),
     }
+}
+
+/// The moment of a frame of 64 bytes whose first bit is stamped, on the line of the first system
+/// and on a line of which nothing is known.
+fn moments_of_last_bits(alloc: Global) -> Result<(Option<u64>, Option<u64>), ConfigFault> {
+    let options = RecordingOptions {
+        from_start: true,
+        ..RecordingOptions::none(alloc)?
+    };
+    let known = ports(alloc)?;
+    let unknown = SystemPorts::One(5);
+    let on = |ports: &SystemPorts| match seventh(&options, ports, FRAME, HELLO.as_slice()) {
+        Ok(found) => Some(found.moment),
+        Err(_) => None,
+    };
+    Ok((on(&known), on(&unknown)))
+}
+
+#[test]
+fn a_frame_whose_first_bit_is_stamped_lasts(rt: HostRuntime) -> Result<(), Fail> {
+    let moments = moments_of_last_bits(rt.alloc())?;
+    equal(moments, (Some(6_120), Some(1_000)))
 }
 
 #[test]

@@ -103,6 +103,9 @@ impl Held {
             (has_ended input.new ≡ true) × (length (unread self.new) < n) }
         ensures few { is_failed_read result ≡ true → length (unread self.new) < n }
     {
+        if n <= self.count() {
+            return Ok(true);
+        }
         self.make_room(n)?;
         'reads: while self.end - self.start < n {
             if !self.refill(input)? {

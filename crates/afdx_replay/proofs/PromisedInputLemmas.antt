@@ -21,7 +21,7 @@ use Rattle.afdx_arrivals.specs.PairOptions.{options_of_a, options_of_b}
 use Rattle.afdx_arrivals.specs.RecordingRun.{IfBoth}
 use Rattle.afdx_arrivals.specs.Taking.{Taken, arrivals_in}
 use Rattle.afdx_arrivals.specs.declared.pair_options.PairOptions.{PairOptions}
-use Rattle.afdx_arrivals.proofs.LawLemmas.{both-in-order, bytes-in-order, cut-in-order}
+use Rattle.afdx_arrivals.proofs.LawLemmas.{both-in-order, bytes-in-order, cut-in-order, cut-one-in-order}
 use Rattle.afdx_arrivals.proofs.TakenLemmas.{taken-more}
 use Rattle.afdx_replay.specs.Inputs.{summary_in}
 use Rattle.afdx_replay.specs.replaying.Input.{AnswersInput, PromisedInput, are_cut_of, taken_of}
@@ -80,16 +80,11 @@ module _ (t : Rows) (lawful : IsLawful t) (admitted : IsAdmitted t) where
       fault h
 
   module _ (options : Options) where
-    cut-ordered : (bytes : List ℕ) (rest : Known) (lines : Lines) → are_cut_of options t bytes rest lines
-        → AreInOrder (arrivals (arrivals_listed lines))
-    cut-ordered bytes rest lines c =
-        subst (λ (xs : Lines). AreInOrder (arrivals (arrivals_listed xs))) (sym c.2) (bytes-in-order options From c.0)
-
     pub input-promised : (b : Bool) (bytes : List ℕ) (rest old new : Known) (r : Result InputSummary RunFault)
         → AnswersInput b options t bytes rest old new r → PromisedInput b options t bytes rest old new r
     input-promised true bytes rest old new r h =
         taken-promised (taken_of options t bytes) (are_cut_of options t bytes rest) (bytes-in-order options From bytes)
-        (λ lines c. cut-ordered bytes rest lines c) old new r h
+        (λ lines c. cut-one-in-order options From bytes rest lines c) old new r h
     input-promised false bytes rest old new r h =
         promised-answers t bytes old new lawful admitted rest (summary_in r) h.0
 

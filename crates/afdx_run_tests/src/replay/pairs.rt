@@ -22,6 +22,8 @@ fn no_options(alloc: Global) -> Result<PairOptions, AllocError> {
         },
         fcs: None,
         origin: None,
+        reorder: 1,
+        from_start: false,
     })
 }
 

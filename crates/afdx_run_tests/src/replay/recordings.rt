@@ -42,7 +42,15 @@ pub fn told(
 
 /// What `replay` tells of an input, with admission.
 fn replayed(alloc: Global, input: &[u8]) -> Result<Told, Fail> {
-    let options = RecordingOptions::none(alloc)?;
+    replayed_behind(alloc, 0, input)
+}
+
+/// The same where so many arrivals may have a later moment than one behind them.
+fn replayed_behind(alloc: Global, reorder: u32, input: &[u8]) -> Result<Told, Fail> {
+    let options = RecordingOptions {
+        reorder,
+        ..RecordingOptions::none(alloc)?
+    };
     let mut input = Watched::new(Peeked::new(input));
     let mut output = Watched::new(Vec::new(alloc));
     let mut errors = Watched::new(Vec::new(alloc));
@@ -100,6 +108,28 @@ fn what_comes_before_a_fault_is_told(rt: HostRuntime) -> Result<(), Fail> {
         "V 1 A accept\n",
         line,
     )
+}
+
+#[test]
+fn no_time_goes_back_where_none_may(rt: HostRuntime) -> Result<(), Fail> {
+    let bytes = recording(rt.alloc(), &[1, 0])?;
+    let line = "recording TimeBack 2\n";
+    is_replayed(
+        rt.alloc(),
+        bytes.as_slice(),
+        (3, None),
+        "V 1 A accept\n",
+        line,
+    )
+}
+
+#[test]
+fn an_earlier_arrival_comes_first_where_it_may(rt: HostRuntime) -> Result<(), Fail> {
+    let bytes = recording(rt.alloc(), &[1, 0])?;
+    let (ended, text, line) = replayed_behind(rt.alloc(), 1, bytes.as_slice())?;
+    equal((ended.ended.status, claimed(ended)), (0, Some(2)))?;
+    let first = text.as_str().starts_with("V 2 A accept\nV 1 A accept\n");
+    equal((first, line.as_str()), (true, ""))
 }
 
 #[test]

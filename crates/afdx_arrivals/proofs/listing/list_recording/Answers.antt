@@ -3,7 +3,7 @@ use Rattle.afdx_arrivals.specs.Becoming.{options_of}
 use Rattle.afdx_arrivals.specs.Claims.{ports_of}
 use Rattle.afdx_arrivals.specs.ListText.{WritesLines, WritesSomeLines, lines_themselves}
 use Rattle.afdx_arrivals.proofs.ListingLemmas.{lines-start}
-use Rattle.afdx_arrivals.proofs.RecordingRunLemmas.{Gave, Ended, Stopped, timed-start, still-set, tally-is, answers-start}
+use Rattle.afdx_arrivals.proofs.RecordingRunLemmas.{Gave, Ended, Stopped, timed-start, still-set, answers-start}
 use Rattle.afdx_arrivals.proofs.RecordingRunLemmas.{fault-read, fault-answers, done-read, done-ended, done-answers}
 use Rattle.afdx_arrivals.proofs.TakenLemmas.{lines-handed, lines-peeled}
 use Rattle.afdx_arrivals.proofs.listing.list_recording.Goals as goal
@@ -21,14 +21,7 @@ drive-requires-clause-gave g c =
     let new = c.in_ok-recording.ensures in
     let lines = c.new-lines.ensures in
     timed-start g.R.Read.remaining c.args.input.now c.new-lines.result c.requires.sound_input c.requires.unended
-    (rw lines.numbers (record {
-      unread_is = new.unread;
-      state = new.state;
-      numbers = new.numbers;
-      latest = new.latest;
-      counts = new.counts;
-      arrival = new.arrival;
-    })) (lines.zero ∙ sym lines.said)
+    (rw lines.numbers new.unread) (lines.zero ∙ sym lines.said)
 
 pub drive-requires-clause-told : goal.drive-requires-clause-told
 drive-requires-clause-told g c = (tt, lines-start (g.O.Sink.written c.args.output.now))
@@ -59,8 +52,8 @@ returns-in_err-drive-clause-answer g c =
     let lines = c.new-lines.ensures in
     let recording = c.in_ok-recording.ensures in
     let settings = still-set c.args.options c.args.ports source c.new-lines.result c.in_err-drive.ensures.settings
-    (ap (λ s. s.options) lines.numbers ∙ recording.options) (ap (λ s. s.ports) lines.numbers ∙ recording.ports)
-    lines.said in
+    (ap (λ s. s.source.options) lines.numbers ∙ recording.options)
+    (ap (λ s. s.source.ports) lines.numbers ∙ recording.ports) (rw lines.numbers recording.order) lines.said in
     let stop = fault-answers remaining start input source lines_themselves (WritesLines old new) (WritesLines old new)
     (WritesSomeLines old new) c.args.options c.args.ports settings lines-peeled c.in_err-drive.field-0.0
     (lines-handed (WritesLines old new) (WritesLines old new) (WritesSomeLines old new)
@@ -108,11 +101,11 @@ returns-clause-answer g c =
     let lines = c.new-lines.ensures in
     let recording = c.in_ok-recording.ensures in
     let settings = still-set c.args.options c.args.ports source c.new-lines.result c.in_ok-drive.ensures.settings
-    (ap (λ s. s.options) lines.numbers ∙ recording.options) (ap (λ s. s.ports) lines.numbers ∙ recording.ports)
-    lines.said in
+    (ap (λ s. s.source.options) lines.numbers ∙ recording.options)
+    (ap (λ s. s.source.ports) lines.numbers ∙ recording.ports) (rw lines.numbers recording.order) lines.said in
     done-answers remaining start input source lines_themselves (WritesLines old new) (WritesLines old new)
     (WritesSomeLines old new) c.args.options c.args.ports settings c.tally.result
-    (tally-is c.tally.result source.numbers c.tally.ensures.numbers c.tally.ensures.counts c.tally.ensures.lost)
+    c.tally.ensures
     (lines-handed (WritesLines old new) (WritesLines old new) (WritesSomeLines old new)
     (Gave remaining start input source) (Ended remaining start input source) (Stopped remaining start input source)
     {A = Unit {0}} (Ok tt) (c.in_ok-drive.ensures.answer tt (lines-start old)))

@@ -7,7 +7,7 @@ use Rattle.afdx_arrivals.proofs.listing.put_number.Goals as goal
 pub returns-in-Arrival-clause-front : goal.returns-in-Arrival-clause-front
 returns-in-Arrival-clause-front g c =
     let e : number_text c.args.line.now c.args.bytes.now
-    ≡ frame_line c.kind_listed.result c.in-Arrival.side c.in-Arrival.port c.in-Arrival.time c.first_bytes.result.now =
-    rw (c.in-Arrival.is, c.kind_listed.ensures, c.first_bytes.ensures) refl in
+    ≡ frame_line c.in-Arrival.kind c.in-Arrival.side c.in-Arrival.port c.in-Arrival.time c.args.bytes.now =
+    rw c.in-Arrival.is refl in
     subst (λ (x : List ℕ). OnErr c.put.result (AppendsFront (g.O.Sink.written c.args.output.now)
     (g.O.Sink.written c.put.new.self) x)) (sym e) c.put.ensures.front

@@ -2,7 +2,7 @@ use Rattle.std.proofs.Common.{rules, refl, ap, sym, ◌∙◌, ◌≡◌, Ok, Er
 use Rattle.afdx_arrivals.specs.Becoming.{options_of}
 use Rattle.afdx_arrivals.specs.Claims.{ports_of}
 use Rattle.afdx_arrivals.specs.NumberLines.{arrivals_listed}
-use Rattle.afdx_arrivals.proofs.RecordingRunLemmas.{Gave, Ended, Stopped, still-set, tally-is, answers-start}
+use Rattle.afdx_arrivals.proofs.RecordingRunLemmas.{Gave, Ended, Stopped, still-set, answers-start}
 use Rattle.afdx_arrivals.proofs.RecordingRunLemmas.{fault-read, fault-answers, done-read, done-ended, done-answers}
 use Rattle.afdx_arrivals.proofs.RecordingRunLemmas.{Settings-of, fault-calls, done-calls, unasked, listed-none, arriving-start}
 use Rattle.afdx_arrivals.proofs.TakenLemmas.{arrivals-handed, arrivals-peeled}
@@ -24,17 +24,10 @@ returns-in_err-recording-clause-calls g c =
 pub drive-requires-clause-gave : goal.drive-requires-clause-gave
 drive-requires-clause-gave g c =
     let new = c.in_ok-recording.ensures in
-    let lines = c.new-2.ensures in
-    rw c.new-arrivals.ensures (arriving-start g.R.Read.remaining c.args.input.now c.new-2.result
+    let lines = c.new.ensures in
+    rw c.new-arrivals.ensures (arriving-start g.R.Read.remaining c.args.input.now c.new.result
     c.requires.sound_input c.requires.unended
-    (rw lines.numbers (record {
-      unread_is = new.unread;
-      state = new.state;
-      numbers = new.numbers;
-      latest = new.latest;
-      counts = new.counts;
-      arrival = new.arrival;
-    })) (lines.zero ∙ sym lines.said))
+    (rw lines.numbers new.unread) (lines.zero ∙ sym lines.said))
 
 pub returns-in_err-drive-clause-read : goal.returns-in_err-drive-clause-read
 returns-in_err-drive-clause-read g c =
@@ -88,12 +81,12 @@ returns-in_err-drive-clause-answer g c law start =
     let handed = arrivals-handed done tells begins (Gave remaining first input source)
     (Ended remaining first input source) (Stopped remaining first input source) {A = Unit {0}} (Err c.in_err-drive.field-0.0)
     (c.in_err-drive.ensures.answer law start) in
-    let lines = c.new-2.ensures in
+    let lines = c.new.ensures in
     let recording = c.in_ok-recording.ensures in
-    let settings = still-set c.args.options c.args.ports source c.new-2.result (c.in_err-drive.ensures.settings
+    let settings = still-set c.args.options c.args.ports source c.new.result (c.in_err-drive.ensures.settings
     ∙ ap Settings-of c.new-arrivals.ensures)
-    (ap (λ s. s.options) lines.numbers ∙ recording.options) (ap (λ s. s.ports) lines.numbers ∙ recording.ports)
-    lines.said in
+    (ap (λ s. s.source.options) lines.numbers ∙ recording.options)
+    (ap (λ s. s.source.ports) lines.numbers ∙ recording.ports) (rw lines.numbers recording.order) lines.said in
     let e : c.from_residual-in_err-drive.result ≡ Err c.in_err-drive.field-0.0 = search rules in
     rw e (fault-answers remaining first input source arrivals_listed done tells begins c.args.options c.args.ports
     settings arrivals-peeled c.in_err-drive.field-0.0 handed)
@@ -167,13 +160,13 @@ returns-clause-answer g c law start =
     let handed = arrivals-handed done tells begins (Gave remaining first input source)
     (Ended remaining first input source) (Stopped remaining first input source) {A = Unit {0}} (Ok tt)
     (c.in_ok-drive.ensures.answer law start) in
-    let lines = c.new-2.ensures in
+    let lines = c.new.ensures in
     let recording = c.in_ok-recording.ensures in
-    let settings = still-set c.args.options c.args.ports source c.new-2.result (c.in_ok-drive.ensures.settings
+    let settings = still-set c.args.options c.args.ports source c.new.result (c.in_ok-drive.ensures.settings
     ∙ ap Settings-of c.new-arrivals.ensures)
-    (ap (λ s. s.options) lines.numbers ∙ recording.options) (ap (λ s. s.ports) lines.numbers ∙ recording.ports)
-    lines.said in
+    (ap (λ s. s.source.options) lines.numbers ∙ recording.options)
+    (ap (λ s. s.source.ports) lines.numbers ∙ recording.ports) (rw lines.numbers recording.order) lines.said in
     done-answers remaining first input source arrivals_listed done tells begins c.args.options c.args.ports settings
     c.tally.result
-    (tally-is c.tally.result source.numbers c.tally.ensures.numbers c.tally.ensures.counts c.tally.ensures.lost)
+    c.tally.ensures
     handed

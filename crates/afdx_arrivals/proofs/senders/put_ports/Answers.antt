@@ -1,6 +1,6 @@
-use Rattle.std.proofs.Common.{rules, arith, ◌≡◌, ◌<◌, ◌-◌, length, suc}
+use Rattle.std.proofs.Common.{rules, arith, refl, ◌≡◌, ◌<◌, ◌-◌, length, suc}
 use Rattle.afdx_config.specs.Rows.{system_row}
-use Rattle.afdx_arrivals.proofs.TableLemmas.{ports-put}
+use Rattle.afdx_arrivals.proofs.TableLemmas.{value-put}
 use Rattle.afdx_arrivals.proofs.senders.put_ports.Goals as goal
 
 pub loop-place-preserved : goal.loop-place-preserved
@@ -11,7 +11,7 @@ loop-place-preserved c =
     let inside : c.from.result < length c.loop-place.ports.items = search rules in record {
       room = i.room;
       within = omega (arith, i.within);
-      ports = ports-put c.args.tables.now.systems (c.loop-place.place - 1) c.loop-place.place c.from.result
-          (system_row c.system-system.result.now) c.loop-place.ports.items next c.from.ensures
+      ports = value-put (λ s. s.id) (λ s. s.port) c.args.tables.now.systems (c.loop-place.place - 1) c.loop-place.place
+          c.from.result _ (system_row c.system-system.result.now) c.loop-place.ports.items next c.from.ensures refl
           c.system-system.ensures.row inside i.ports;
     }
