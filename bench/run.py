@@ -13,7 +13,8 @@ held but in rows that say so. One table in Markdown is printed:
     user seconds   the least of the runs
     peak memory    the greatest of the runs
     instructions   for each line, by valgrind's callgrind, the run of 20,000 lines less that of
-                   none; `-` where valgrind isn't installed
+                   none, where frames are held of 40,000 less that of 20,000; `-` where valgrind
+                   isn't installed
 
 MB are 1,000,000 bytes of the list. Lines below the table say what each further copy of a frame
 takes (the run in which a link goes to 23 ports less that in which it goes to one), and what share
@@ -159,24 +160,25 @@ class Bench:
         runs = self.by_turns(words)[0]
         return min(run.seconds for run in runs), max(run.memory for run in runs)
 
-    def a_line(self, make, words):
-        """Instructions for each line: a list less one of no lines.
+    def a_line(self, make, words, first):
+        """Instructions for each line: a list less one of the first lines alone.
 
         `make` writes a list of so many lines.
         """
         counts = []
-        for count in (0, FEW):
+        for count in (first, first + FEW):
             make(self.path("few.list"), count)
             counts.append(instructions([*words, self.path("few.list")], self.folder))
         return None if None in counts else (counts[1] - counts[0]) / FEW
 
-    def rows(self, programs, count, make):
-        """A row for each program, a name and its words, on the long list of so many lines."""
+    def rows(self, programs, count, make, first=0):
+        """A row for each program, a name and its words, on the long list of so many lines. Those of
+        the first lines don't count as instructions."""
         listing = self.path("long.list")
         size = os.path.getsize(listing)
         all_runs = self.by_turns(*([*words, listing] for _, words in programs))
         return [
-            Row(name, count, size, runs, self.a_line(make, words))
+            Row(name, count, size, runs, self.a_line(make, words, first))
             for (name, words), runs in zip(programs, all_runs)
         ]
 
@@ -199,7 +201,8 @@ class Bench:
         make = lambda path, count: write_recording(path, count, length)
         make(self.path("long.list"), count)
         words = [self.program, "police", *options, "1", str(length), "500"]
-        return self.rows([(name, words)], count, make)[0]
+        first = FEW if options is HELD else 0  # so many are held, and more
+        return self.rows([(name, words)], count, make, first)[0]
 
     def compare(self, both):
         """Both programs must print the same of the long list."""

@@ -150,7 +150,7 @@ def late_rows() -> list[Row]:
         edge("late before a fault", PL + first + second + CUT, shown, "TimeTooLarge 1"),
         edge("late, and another behind it", between, both, "TimeTooLarge 2"),
         edge("late, --reorder 0", PL + first + second, ARRIVAL, "TimeBack 2", held(0)),
-        edge("too late for one at once", between, ARRIVAL, "TimeTooLarge 2", held(0)),
+        edge("late between, --reorder 0", between, ARRIVAL, "TimeTooLarge 2", held(0)),
     ]
 
 
