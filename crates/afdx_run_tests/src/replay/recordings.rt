@@ -128,8 +128,13 @@ fn an_earlier_arrival_comes_first_where_it_may(rt: HostRuntime) -> Result<(), Fa
     let bytes = recording(rt.alloc(), &[1, 0])?;
     let (ended, text, line) = replayed_behind(rt.alloc(), 1, bytes.as_slice())?;
     equal((ended.ended.status, claimed(ended)), (0, Some(2)))?;
-    let first = text.as_str().starts_with("V 2 A accept\nV 1 A accept\n");
-    equal((first, line.as_str()), (true, ""))
+    let wanted = "\
+V 2 A accept
+V 1 A drop over-rate
+D 2 6720 A 3
+M 6720 s3 1 68656c6c6f
+";
+    equal((text.as_str(), line.as_str()), (wanted, ""))
 }
 
 #[test]
