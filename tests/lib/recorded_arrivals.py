@@ -15,7 +15,6 @@ SEALED = 0x2144DF1C  # the check sequence of bytes that end with that of the oth
 SIDES = {0x20: "A", 0x40: "B"}
 SKIPS = ("no-frame", "left-out", "not-afdx", "unknown-sender", "no-network", "before-origin")
 BYTE_NS = 8_000  # of a byte at 1 Mbit/s
-LATEST_MOMENT = 2**63 - 1
 AT_ONCE = "--line-buffered"
 BROKEN = "device Read"  # where more bytes are asked for than there are to come
 
@@ -181,8 +180,6 @@ def outcomes(
     if place.side is None:
         yield "no-network"
     moment = moment_of(options, systems, frame, place)
-    if moment > LATEST_MOMENT:
-        yield "BadTime"
     if options.origin is not None and moment < options.origin:
         yield "before-origin"
     if is_closed(options, frame) is None and zlib.crc32(frame.bytes) == SEALED:

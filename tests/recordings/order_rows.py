@@ -200,9 +200,10 @@ def length_rows() -> list[Row]:
 
 
 def start_limits() -> list[Row]:
-    """The origin is compared with the moment, and so is the range of stamps."""
+    """The origin is compared with the moment; the range is that of stamps."""
     last = SL + interface(option(9, "09")) + packet(ticks=LATEST - 5120)
-    beyond = SL + interface(option(9, "09")) + packet(ticks=LATEST - 5119)
+    stamped_last = SL + interface(option(9, "09")) + packet(ticks=LATEST)
+    beyond = SL + interface(option(9, "09")) + packet(ticks=LATEST + 1)
     at_end, behind = (STARTS._replace(origin=FIRST_NS + ns) for ns in (5120, 5121))
     latest = STARTS._replace(origin=LATEST)
     return [
@@ -210,7 +211,8 @@ def start_limits() -> list[Row]:
         edge("starts: an origin behind it", F1, "# before-origin", "NoArrival 1", behind),
         edge("starts: the last moment", last, ARRIVAL, "", latest),
         edge("starts: the last moment alone", last, ARRIVAL, "", Options(stamps="start")),
-        edge("starts: one behind it", beyond, "", "BadTime 1", latest),
+        edge("starts: a moment behind it", stamped_last, f"F 5120 A 1 {H1}", "", latest),
+        edge("starts: a stamp behind the last", beyond, "", "BadTime 1", latest),
     ]
 
 

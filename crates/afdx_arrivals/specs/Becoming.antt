@@ -185,9 +185,9 @@ abbrev pub line_time : Ports → ℕ → Option Bool → List ℕ → ℕ
 line_time ports port has_sequence bytes =
     whole_length has_sequence bytes * unwrap_or (ports.byte_ns port) 0
 
--- the greatest moment
+-- the greatest moment that is told; far behind all that a stamp can say
 abbrev pub latest_moment : ℕ
-latest_moment = 9223372036854775807
+latest_moment = 18446744073709551615
 
 -- that of its last bit, where that of its first is stamped, and it lasts so long
 abbrev pub last_bit : (n stamp time : ℕ) → Result ℕ NoArrival

@@ -86,6 +86,7 @@ impl<I, S: Source<NumberLine, I>> Source<Heading, I> for Arriving<S> {
     ghost Stopped = { λ start source input past fault.
         AreArrivals (λ lines. S.Stopped start source.lines input lines fault) past };
 
+    #[inline(always)]
     fn next(&mut self, input: &mut I) -> Result<bool, RunFault> {
         while self.lines.next(input)? {
             if let NumberLine::Arrival {

@@ -66,7 +66,7 @@ impl RecordingOptions {
 /// An arrival, beside its number and its recorded bytes.
 #[derive(Clone, Copy, Debug, PartialEq, Eq)]
 pub struct Found {
-    /// When it came, in ns since 1970, at most 2^63 - 1.
+    /// When it came, in ns since 1970.
     pub moment: u64,
     /// The network by which it came.
     pub side: Side,
@@ -227,8 +227,8 @@ fn kind_with(has_sequence: Option<bool>, found_wrong: bool, bytes: &[u8]) -> Opt
     }
 }
 
-/// The greatest moment, in ns since 1970.
-const LATEST_MOMENT: u128 = 9_223_372_036_854_775_807;
+/// The greatest moment that is told, in ns since 1970: far behind all that a stamp can say.
+const LATEST_MOMENT: u128 = 18_446_744_073_709_551_615;
 
 /// How many bytes a frame has with its check sequence.
 fn whole_length(has_sequence: Option<bool>, bytes: &[u8]) -> u128

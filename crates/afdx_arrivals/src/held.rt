@@ -152,6 +152,7 @@ impl Ord for HeldArrival {
 }
 
 /// An arrival with a copy of these bytes, in the memory of another that isn't needed any more.
+#[inline(always)]
 fn held_arrival(
     alloc: Global,
     room: Option<HeldArrival>,
@@ -231,6 +232,7 @@ impl Held {
     }
 
     /// Holds one more, in the memory of another that isn't needed any more, if there is one.
+    #[inline(always)]
     pub fn hold(
         &mut self,
         alloc: Global,
@@ -254,6 +256,7 @@ impl Held {
     }
 
     /// Takes out the one that comes first. None: none is held.
+    #[inline(always)]
     pub fn take_first(&mut self) -> Option<HeldArrival>
         ensures first { IfSome result (λ x. ComesFirst x self.new) }
         ensures rest { IfSome result (λ x. IsPermutation self.old (x ∷ self.new)) }

@@ -6,9 +6,10 @@ ghost use Rattle.afdx_lists.specs.Calls.{is_failed_write};
 ghost use Rattle.afdx_arrivals.specs.NumberLines.{NumberFollows};
 ghost use Rattle.afdx_arrivals.specs.OrderedSource as spec;
 ghost use Rattle.afdx_arrivals.specs.OrderedSource.{HasOrdered, HasStoppedOrdering};
-ghost use Rattle.afdx_arrivals.specs.OrderedSteps.{HandsOn, TakesIn, left_in_order, steps_left};
+ghost use Rattle.afdx_arrivals.specs.OrderedSteps.{HandsOn, IsInTime, TakesIn, left_in_order, steps_left};
 ghost use Rattle.afdx_arrivals.specs.Sequences.{Numbers};
 
+use crate::becoming::Found;
 use crate::held::{Held, HeldArrival};
 use crate::number::{AsRead, Number};
 use afdx_lists::{RecordingFault, RunFault};
@@ -67,6 +68,7 @@ impl<S> Ordered<S> {
     }
 
     /// Hands on the arrival that comes first of those that are held. False: none is held.
+    #[inline(always)]
     fn hand_on(&mut self) -> bool
         ensures first { result ≡ true → HandsOn self.old self.new }
         ensures none { result ≡ false → (self.old.held ≡ []) × (self.new ≡ self.old) }
@@ -85,6 +87,7 @@ impl<S> Ordered<S> {
 
 /// Reads one number more. True: one is given. False: it is held, or the end is known. A fault that
 /// is returned is none of the recording.
+#[inline(always)]
 fn read_one<I, S: Source<AsRead, I>>(
     ordered: &mut Ordered<S>,
     input: &mut I,
@@ -130,10 +133,10 @@ fn read_one<I, S: Source<AsRead, I>>(
 }
 
 /// Takes in the number that was read last. True: one is given.
+#[inline(always)]
 fn take_in<I, S: Source<AsRead, I>>(ordered: &mut Ordered<S>) -> Result<bool, RunFault>
     ensures { TakesIn (S.current ordered.old.source) ordered.old ordered.new result }
 {
-    let number = ordered.source.number();
     let found = match ordered.source.head().becomes {
         Number::Arrival(found) => found,
         Number::Skipped(_) => {
@@ -142,7 +145,7 @@ fn take_in<I, S: Source<AsRead, I>>(ordered: &mut Ordered<S>) -> Result<bool, Ru
         }
     };
     if found.moment < ordered.latest {
-        ordered.stage = Stage::Stopped(RecordingFault::TimeBack(number));
+        ordered.stage = Stage::Stopped(RecordingFault::TimeBack(ordered.source.number()));
         return Ok(false);
     }
     if ordered.most == 0 {
@@ -150,7 +153,21 @@ fn take_in<I, S: Source<AsRead, I>>(ordered: &mut Ordered<S>) -> Result<bool, Ru
         ordered.latest = found.moment;
         return Ok(true);
     }
+    hold_one(ordered, found)
+}
+
+/// Holds the arrival that was read last. True: one is given, as more are held than may be.
+#[inline(always)]
+fn hold_one<I, S: Source<AsRead, I>>(
+    ordered: &mut Ordered<S>,
+    found: Found,
+) -> Result<bool, RunFault>
+    requires arrival { (S.current ordered.old.source).head.becomes ≡ Number.Arrival found }
+    requires in_time { IsInTime (S.current ordered.old.source) ordered.old }
+    ensures { TakesIn (S.current ordered.old.source) ordered.old ordered.new result }
+{
     let room = ordered.last.take();
+    let number = ordered.source.number();
     let bytes = ordered.source.bytes();
     ordered
         .held
@@ -176,6 +193,7 @@ impl<I, S: Source<AsRead, I>> Source<Number, I> for Ordered<S> {
 
     ghost Stopped = { spec.HasStoppedOrdering S.Gave S.Ended S.Stopped };
 
+    #[inline(always)]
     fn next(&mut self, input: &mut I) -> Result<bool, RunFault> {
         while let Stage::Reading = self.stage {
             if read_one(self, input)? {

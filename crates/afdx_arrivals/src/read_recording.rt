@@ -90,6 +90,7 @@ impl ReadRecording {
     }
 
     /// Sorts the number that was read last.
+    #[inline(always)]
     #[tactic(auto, unfolding(crate::specs::Sequences::number_after))]
     fn sort(&mut self) -> Result<(), RunFault>
         requires skipped { skipped_in self.old.counts < most_numbers }
@@ -156,6 +157,7 @@ impl<R: Read> Source<AsRead, Watched<R>> for ReadRecording {
 
     ghost Stopped = { HasStoppedReading R.remaining };
 
+    #[inline(always)]
     fn next(&mut self, input: &mut Watched<R>) -> Result<bool, RunFault> {
         if !self.reader.next(input)? {
             return self.end();

@@ -51,6 +51,7 @@ impl<I, S: Source<Number, I>> Source<NumberLine, I> for TimedNumbers<S> {
 
     ghost Stopped = { HasStoppedTiming S.Gave S.Ended S.Stopped };
 
+    #[inline(always)]
     fn next(&mut self, input: &mut I) -> Result<bool, RunFault> {
         if !self.numbers.next(input)? {
             return Ok(false);

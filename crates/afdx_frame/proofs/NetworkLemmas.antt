@@ -14,7 +14,8 @@ use Rattle.afdx_frame.specs.declared.builder.Address.{Address}
 use Rattle.afdx_frame.specs.Sealing.{AreBytes, sequence_of, sealed}
 use Rattle.afdx_frame.specs.Layout.{unsealed}
 use Rattle.afdx_frame.specs.Grammar.{network, source_of, built_body}
-use Rattle.afdx_frame.proofs.RegisterLemmas.{shift_xor, shift-pow, shift-add, number-append, number_lt}
+use Rattle.afdx_frame.proofs.RegisterLemmas.{shift_xor, shift-pow, shift-add}
+use Rattle.afdx_frame.proofs.LeftLemmas.{number-append, number_lt}
 use Rattle.afdx_frame.proofs.SealingLemmas.{register_lt, shift_lt, wide}
 
 -- ---- the table

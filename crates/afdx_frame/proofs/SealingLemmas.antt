@@ -17,7 +17,8 @@ use Rattle.afdx_frame.specs.Sequence.{IsSequence, IsSealed}
 use Rattle.afdx_frame.specs.Register.{shifted, shift, number}
 use Rattle.afdx_frame.specs.Sealing.{sequence_of, sealed, sealed_wrongly, is_sealed, AreBytes}
 use Rattle.afdx_frame.specs.Sealing.{SequenceIsComputed, SealingIsComputed}
-use Rattle.afdx_frame.proofs.RegisterLemmas.{sequence_is, number_lt}
+use Rattle.afdx_frame.proofs.RegisterLemmas.{sequence_is}
+use Rattle.afdx_frame.proofs.LeftLemmas.{number_lt}
 use Rattle.afdx_frame.proofs.OnlyOneLemmas.{only_one}
 use Rattle.afdx_frame.proofs.SealedLemmas as last
 

@@ -140,6 +140,56 @@ fn check_sequences(rt: HostRuntime) -> Result<(), Fail> {
     all_right(wrong_sequence(rows.as_slice()))
 }
 
+/// The first bytes of a fixed pattern.
+fn pattern() -> [u8; 4000] {
+    let mut bytes = [0; 4000];
+    for place in 0..4000 {
+        bytes[place] = ((place * 7 + place / 256 * 13 + 3) % 256) as u8;
+    }
+    bytes
+}
+
+/// The sequence wanted of the first length at which the pattern has another one.
+fn wrong_length(rows: &[(usize, u32)]) -> Option<u32> {
+    let bytes = pattern();
+    for (length, wanted) in rows {
+        let Some(message) = bytes.get(..*length) else {
+            return Some(*wanted);
+        };
+        if fcs(message) != *wanted {
+            return Some(*wanted);
+        }
+    }
+    None
+}
+
+/// The values are those of zlib's crc32. Long messages are folded, at most 1,536 bytes at a time.
+#[test]
+fn check_sequences_of_each_length(rt: HostRuntime) -> Result<(), Fail> {
+    let rows: [(usize, u32); 19] = [
+        (0, 0x0000_0000),
+        (1, 0x4b0b_be37),
+        (2, 0x8a21_a822),
+        (3, 0x6d58_af33),
+        (60, 0x7fb0_bee4),
+        (64, 0xcbd9_ecf0),
+        (319, 0x71be_e55d),
+        (320, 0x2511_0635),
+        (511, 0x5477_47c9),
+        (512, 0x4932_5a7a),
+        (513, 0x019d_292c),
+        (1514, 0x3d51_b5c9),
+        (1518, 0x83d4_8584),
+        (1535, 0xe410_ca9e),
+        (1536, 0x9d39_0d15),
+        (1537, 0xa32e_5309),
+        (2000, 0x2d09_9423),
+        (3072, 0x4c3e_eb0c),
+        (4000, 0x1209_9402),
+    ];
+    all_right(wrong_length(rows.as_slice()))
+}
+
 #[test]
 fn seals_or_is_refused(rt: HostRuntime) -> Result<(), Fail> {
     let mut bytes = copied(rt.alloc(), b"123456789")?;

@@ -89,6 +89,7 @@ impl FrameReader {
     /// `Recording` comes for what is wrong with the recording, `Read` exactly where the input
     /// failed and the next byte was needed, `Memory` where there is no room for a frame. The input
     /// isn't read once a frame stands whole, nor after its end or a fault.
+    #[inline(always)]
     pub fn next<R: Read>(&mut self, input: &mut Watched<R>) -> Result<bool, RunFault>
         requires sound { has_failed input.old ≡ false }
         requires honest { IsTrueToEnd (standing R.remaining self.old.held input.old) }
@@ -111,6 +112,7 @@ impl FrameReader {
     }
 
     /// The next number of a recording of this form.
+    #[inline(always)]
     fn next_of<R: Read>(&mut self, form: Form, input: &mut Watched<R>) -> Result<bool, RunFault>
         requires sound { has_failed input.old ≡ false }
         requires honest { IsTrueToEnd (standing R.remaining self.old.held input.old) }
@@ -203,6 +205,7 @@ impl FrameReader {
     }
 
     /// The next frame of a pcap.
+    #[inline(always)]
     fn next_packet<R: Read>(
         &mut self,
         form: PcapForm,

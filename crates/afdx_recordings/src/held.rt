@@ -90,6 +90,7 @@ impl Held {
     ///
     /// `Read` comes where the input failed and fewer are held, `Memory` where there is no room for
     /// so many. It reads only while fewer are held.
+    #[inline(always)]
     pub fn fill<R: Read>(&mut self, input: &mut Watched<R>, n: usize) -> Result<bool, RunFault>
         requires sound { has_failed input.old ≡ false }
         requires honest { IsTrueToEnd (standing R.remaining self.old input.old) }
@@ -106,6 +107,23 @@ impl Held {
         if n <= self.count() {
             return Ok(true);
         }
+        self.read_until(input, n)
+    }
+
+    /// Reads until `n` bytes are held, where there may be no room for them yet.
+    fn read_until<R: Read>(&mut self, input: &mut Watched<R>, n: usize) -> Result<bool, RunFault>
+        requires sound { has_failed input.old ≡ false }
+        requires honest { IsTrueToEnd (standing R.remaining self.old input.old) }
+        ensures honest { IsTrueToEnd (standing R.remaining self.new input.new) }
+        ensures failed { has_failed input.new ≡ is_failed_read result }
+        ensures fault { IfErr result IsOfReading }
+        ensures passes { Passes (standing R.remaining self.old input.old)
+            (standing R.remaining self.new input.new) [] }
+        ensures enough { result ≡ Ok true → n ≤ length (unread self.new) }
+        ensures last { result ≡ Ok false →
+            (has_ended input.new ≡ true) × (length (unread self.new) < n) }
+        ensures few { is_failed_read result ≡ true → length (unread self.new) < n }
+    {
         self.make_room(n)?;
         'reads: while self.end - self.start < n {
             if !self.refill(input)? {

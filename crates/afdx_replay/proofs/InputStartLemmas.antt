@@ -28,7 +28,7 @@ use Rattle.afdx_arrivals.specs.declared.becoming.RecordingOptions.{RecordingOpti
 use Rattle.afdx_arrivals.specs.Becoming.{Options, options_of}
 use Rattle.afdx_arrivals.specs.NumberLines.{Lines}
 use Rattle.afdx_arrivals.specs.InputRun.{is_recorded, IsAskedFew}
-use Rattle.afdx_arrivals.specs.RecordingRun.{IfBoth, IsAskedOnce}
+use Rattle.afdx_arrivals.specs.RecordingRun.{IfBoth, IfBothKnown, IsAskedOnce}
 use Rattle.afdx_arrivals.specs.Taking.{Taken, arrivals_in}
 use Rattle.afdx_arrivals.specs.TakenRun.{FirstAreTold}
 use Rattle.afdx_arrivals.specs.declared.pair_options.PairOptions.{PairOptions}
@@ -41,7 +41,7 @@ use Rattle.afdx_replay.specs.policing.Input as police
 use Rattle.afdx_replay.specs.replaying.InputCommand.{is_decided_recorded, is_read_recorded, left_of, ReplaysInput}
 use Rattle.afdx_replay.specs.replaying.Pair as pair
 use Rattle.afdx_replay.specs.replaying.Pair.{AnswersPair, ExplainsPair}
-use Rattle.afdx_replay.specs.replaying.PairCommand.{IfBothOf, IsAskedOnceFor, ReplaysPair}
+use Rattle.afdx_replay.specs.replaying.PairCommand.{IsAskedOnceFor, ReplaysPair}
 use Rattle.afdx_replay.specs.replaying.Replayed.{Known, WritesSome}
 use Rattle.afdx_replay.specs.replaying.Taken.{AnswersTaken, ExplainsTaken}
 use Rattle.afdx_replay.specs.declared.ending.Ended.{Ended}
@@ -239,7 +239,7 @@ module _ {R : Type 0} (remaining : R → Option (List ℕ)) (config : List ℕ) 
   pub replays-pair-with : (more : Rows → Type 0) (old new : Known) (answer : Result InputSummary RunFault) (t : Rows)
       → Spells config t → (admission ≡ true → IsAdmitted t) → IsLawful t
       → IsAskedOnceFor remaining inputs.a rest.a → IsAskedOnceFor remaining inputs.b rest.b
-      → IfBothOf remaining inputs (λ a b. AnswersPair remaining options t a b rest old new answer)
+      → IfBothKnown remaining inputs (λ a b. AnswersPair remaining options t a b rest old new answer)
       → more t
       → (r : ReplaysPair remaining config admission options inputs rest old new answer) × more r.tables
   replays-pair-with more old new answer t spelled admitted lawful asked_a asked_b answers also = (
@@ -259,7 +259,7 @@ module _ {R : Type 0} (remaining : R → Option (List ℕ)) (config : List ℕ) 
   pub replays-pair : (old new : Known) (answer : Result InputSummary RunFault) (t : Rows)
       → Spells config t → (admission ≡ true → IsAdmitted t) → IsLawful t
       → IsAskedOnceFor remaining inputs.a rest.a → IsAskedOnceFor remaining inputs.b rest.b
-      → IfBothOf remaining inputs (λ a b. AnswersPair remaining options t a b rest old new answer)
+      → IfBothKnown remaining inputs (λ a b. AnswersPair remaining options t a b rest old new answer)
       → ReplaysPair remaining config admission options inputs rest old new answer
   replays-pair old new answer t spelled admitted lawful asked_a asked_b answers =
       (replays-pair-with (λ t. Unit {0}) old new answer t spelled admitted lawful asked_a asked_b answers tt).0

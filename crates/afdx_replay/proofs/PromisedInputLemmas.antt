@@ -1,5 +1,5 @@
 -- A replay of admitted tables tells what is promised, of a list, of a recording or of two.
-use Rattle.std.proofs.Common.{ℕ, List, [], ◌∷◌, ◌++◌, Option, Some, None, Result, Ok, Err, IfSome, true, false, Bool, ap, sym, subst, arith}
+use Rattle.std.proofs.Common.{ℕ, List, [], ◌∷◌, ◌++◌, Option, Some, None, Result, Ok, Err, IfSome, true, false, Bool, ap, subst, arith}
 use Rattle.afdx_frame.specs.declared.by_side.BySide.{BySide}
 use Rattle.afdx_config.proofs.AmongOthersLemmas.{among-others, admitted-serving}
 use Rattle.afdx_config.specs.Admission.{IsAdmitted}

@@ -13,7 +13,7 @@ use Rattle.afdx_lists.specs.declared.watched.Watched.{Watched}
 use Rattle.afdx_arrivals.specs.Becoming.{options_of}
 use Rattle.afdx_arrivals.specs.Claims.{ports_of_senders}
 use Rattle.afdx_arrivals.specs.ListText.{ListingAnswers, PairListingAnswers}
-use Rattle.afdx_arrivals.specs.RecordingRun.{IfBoth}
+use Rattle.afdx_arrivals.specs.RecordingRun.{IfBothKnown}
 use Rattle.afdx_arrivals.specs.declared.becoming.RecordingOptions.{RecordingOptions}
 use Rattle.afdx_arrivals.specs.declared.pair_options.PairOptions.{PairOptions}
 use Rattle.afdx_arrivals.specs.declared.counts.Tally.{Tally}
@@ -79,7 +79,6 @@ module _ {R O E : Type 0} (remaining : R → Option (List ℕ)) (written : O →
   EndsPairListing options old_inputs new_inputs old_output new_output old_errors new_errors ended =
       EndsListingWith error_bytes config old_inputs new_inputs old_output new_output
       old_errors new_errors (have_ended new_inputs) (one_has_failed new_inputs) (failed new_output)
-      (λ t answer.
-      IfBoth (remaining (device_of old_inputs.a)) (remaining (device_of old_inputs.b)) (λ a b.
+      (λ t answer. IfBothKnown remaining old_inputs (λ a b.
       PairListingAnswers options (ports_of_senders t.systems) remaining a b new_inputs
       (written old_output) (written new_output) answer)) ended

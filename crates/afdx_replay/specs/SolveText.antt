@@ -1,6 +1,6 @@
 -- What the command `solve` writes and tells: the solved tables as a configuration, and each link
 -- that needs more at an output port than it asked for; or the first false line of admission.
-use Rattle.std.specs.Prelude.{ℕ, zero, suc, ◌+◌, ◌*◌, ◌≡◌, ◌⊎◌, Bool, true, false, nat_le, List, [], ◌++◌}
+use Rattle.std.specs.Prelude.{ℕ, zero, suc, ◌*◌, ◌≡◌, ◌⊎◌, true, false, nat_le, List, [], ◌++◌}
 use Rattle.std.specs.Prelude.{codes, length, slice_get, Option, Some, None, option_and_then, if◌then◌else◌}
 use Rattle.std.specs.Option.{option_map_or}
 use Rattle.std.specs.Io.KnownBytes.{Appends}

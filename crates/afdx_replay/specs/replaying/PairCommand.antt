@@ -7,7 +7,7 @@ use Rattle.afdx_config.specs.Rows.{Rows}
 use Rattle.afdx_lists.specs.Watching.{calls_of, device_of}
 use Rattle.afdx_lists.specs.declared.fault.RunFault.{RunFault}
 use Rattle.afdx_lists.specs.declared.watched.Watched.{Watched}
-use Rattle.afdx_arrivals.specs.RecordingRun.{IfBoth, IsAskedOnce}
+use Rattle.afdx_arrivals.specs.RecordingRun.{IfBothKnown, IsAskedOnce}
 use Rattle.afdx_arrivals.specs.declared.pair_options.PairOptions.{PairOptions}
 use Rattle.afdx_replay.specs.Commands.{EndsAsPair}
 use Rattle.afdx_replay.specs.Inputs.{summary_in, tally_in}
@@ -24,12 +24,6 @@ IsAskedOnceFor remaining input rest =
     IsAskedOnce (remaining (device_of input)) (remaining (device_of rest))
     (calls_of input) (calls_of rest)
 
--- this holds of the bytes of two inputs, where both are known
-abbrev pub IfBothOf : {R : Type 0} → (R → Option (List ℕ)) → BySide (Watched R) →
-    (List ℕ → List ℕ → Type 0) → Type 0
-IfBothOf remaining inputs holds =
-    IfBoth (remaining (device_of inputs.a)) (remaining (device_of inputs.b)) holds
-
 -- Two recordings are replayed in the tables that the configuration spells, which are admitted if
 -- that is asked for. Where the bytes of both are known, what is written is what goes with this
 -- answer; and if admission is asked for, it is as promised.
@@ -41,9 +35,9 @@ pub record ReplaysPair {R : Type 0} (remaining : R → Option (List ℕ)) (confi
   pub admitted : admission ≡ true → IsAdmitted tables
   pub calls_a : IsAskedOnceFor remaining inputs.a rest.a
   pub calls_b : IsAskedOnceFor remaining inputs.b rest.b
-  pub answers : IfBothOf remaining inputs (λ a b.
+  pub answers : IfBothKnown remaining inputs (λ a b.
       AnswersPair remaining options tables a b rest old new answer)
-  pub promised : admission ≡ true → IfBothOf remaining inputs (λ a b.
+  pub promised : admission ≡ true → IfBothKnown remaining inputs (λ a b.
       PromisedPair remaining options tables a b rest old new answer)
 
 module _ {R O E : Type 0} (remaining : R → Option (List ℕ)) (written : O → Option (List ℕ))
@@ -74,6 +68,7 @@ module _ {R O E : Type 0} (remaining : R → Option (List ℕ)) (written : O →
       (old_drops new_drops : Watched D) → InputEnded → Type 0
   EndsPairExplained drop_bytes old_drops new_drops ended =
       ((answer : Result InputSummary RunFault) × (ends : EndsPairAs ended answer)
-      × IfBothOf remaining old_inputs (λ a b. ExplainsPair remaining options ends.replays.tables a b
+      × IfBothKnown remaining old_inputs (λ a b.
+      ExplainsPair remaining options ends.replays.tables a b
       new_inputs drop_bytes old_drops new_drops answer))
       ⊎ (EndsPairUnread ended × (new_drops ≡ old_drops))

@@ -3,9 +3,8 @@
 ghost use Rattle.std.specs.Prelude.{◌≡◌, ◌||◌, OnOk, true, false};
 ghost use Rattle.afdx_lists.specs.Calls.{is_failed_read, is_failed_write};
 ghost use Rattle.afdx_lists.specs.Watching.{calls_of, device_of, has_ended, has_failed};
-ghost use Rattle.afdx_arrivals.specs.RecordingRun.{IsAskedOnce};
+ghost use Rattle.afdx_arrivals.specs.RecordingRun.{IfBothKnown, IsAskedOnce};
 ghost use Rattle.afdx_replay.specs.replaying.Pair.{AnswersPair, ExplainsPair};
-ghost use Rattle.afdx_replay.specs.replaying.PairCommand.{IfBothOf};
 
 use crate::replaying::explained::Explaining;
 use crate::replaying::run::Replay;
@@ -42,7 +41,7 @@ pub(crate) fn replay_pair_into<R: Read, O: Sink>(
 
     // Where the bytes of both are known: what is answered and written for the recordings that they
     // are.
-    ensures answer { IfBothOf R.remaining inputs.old (λ a b.
+    ensures answer { IfBothKnown R.remaining inputs.old (λ a b.
         AnswersPair R.remaining options tables.now a b inputs.new
         (O.written output.old) (O.written output.new) result) }
 {
@@ -74,10 +73,10 @@ pub(crate) fn explain_pair_into<R: Read, O: Sink, D: Write + Drop>(
         (R.remaining (device_of inputs.new.a)) (calls_of inputs.old.a) (calls_of inputs.new.a) }
     ensures calls_b { IsAskedOnce (R.remaining (device_of inputs.old.b))
         (R.remaining (device_of inputs.new.b)) (calls_of inputs.old.b) (calls_of inputs.new.b) }
-    ensures answer { IfBothOf R.remaining inputs.old (λ a b.
+    ensures answer { IfBothKnown R.remaining inputs.old (λ a b.
         AnswersPair R.remaining options tables.now a b inputs.new
         (O.written output.old) (O.written output.new) result.0) }
-    ensures explains { IfBothOf R.remaining inputs.old (λ a b.
+    ensures explains { IfBothKnown R.remaining inputs.old (λ a b.
         ExplainsPair R.remaining options tables.now a b inputs.new D.contents
         drops result.1 result.0) }
 {

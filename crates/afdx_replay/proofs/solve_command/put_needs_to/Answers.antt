@@ -1,6 +1,5 @@
 use Rattle.std.specs.Prelude.{string_bytes}
 use Rattle.afdx_config.specs.Rows.{link_row}
-use Rattle.afdx_replay.specs.SolveText.{need_at}
 use Rattle.afdx_replay.proofs.SolveLemmas.{no_link, link-next}
 use Rattle.afdx_replay.proofs.solve_command.put_needs_to.Goals as goal
 

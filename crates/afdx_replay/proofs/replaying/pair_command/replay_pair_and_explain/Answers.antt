@@ -1,7 +1,7 @@
 use Rattle.std.proofs.Common.{refl, inl, inr}
 use Rattle.afdx_replay.specs.Commands.{have_ended, one_has_failed}
 use Rattle.afdx_replay.specs.replaying.Pair.{ExplainsPair}
-use Rattle.afdx_replay.specs.replaying.PairCommand.{IfBothOf}
+use Rattle.afdx_arrivals.specs.RecordingRun.{IfBothKnown}
 use Rattle.afdx_replay.specs.replaying.Tables.{tables_of}
 use Rattle.afdx_replay.proofs.InputStartLemmas.{ends-in, replays-pair-with}
 use Rattle.afdx_replay.proofs.replaying.pair_command.replay_pair_and_explain.Goals as goal
@@ -22,7 +22,7 @@ pub returns-clause-explains : goal.returns-clause-explains
 returns-clause-explains g c =
     let replays = replays-pair-with g.R.Read.remaining c.args.config.now c.args.admission c.args.options
     c.args.inputs.now c.explain_pair_into-answer.new.inputs
-    (λ t. IfBothOf g.R.Read.remaining c.args.inputs.now (λ a b. ExplainsPair g.R.Read.remaining c.args.options t a b
+    (λ t. IfBothKnown g.R.Read.remaining c.args.inputs.now (λ a b. ExplainsPair g.R.Read.remaining c.args.options t a b
     c.explain_pair_into-answer.new.inputs g.D.Write.contents c.args.drops c.explain_pair_into-answer.result.1
     c.explain_pair_into-answer.result.0))
     (g.O.Sink.written c.args.output.now) (g.O.Sink.written c.explain_pair_into-answer.new.output)

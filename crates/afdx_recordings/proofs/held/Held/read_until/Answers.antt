@@ -1,6 +1,6 @@
 use Rattle.std.proofs.Common.{rules, arith}
 use Rattle.afdx_recordings.proofs.HeldLemmas.{unread_length}
-use Rattle.afdx_recordings.proofs.held.Held.fill.Goals as goal
+use Rattle.afdx_recordings.proofs.held.Held.read_until.Goals as goal
 
 pub returns-in_err-refill-clause-few : goal.returns-in_err-refill-clause-few
 returns-in_err-refill-clause-few g c = λ _.

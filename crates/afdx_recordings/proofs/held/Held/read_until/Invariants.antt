@@ -1,6 +1,6 @@
 use Rattle.std.proofs.Common.{◌≡◌, ◌≤◌, ◌-◌, [], false, vec_len}
 use Rattle.afdx_recordings.specs.Holding.{standing, Passes, IsTrueToEnd}
-use Rattle.afdx_recordings.proofs.held.Held.fill.Given as goal
+use Rattle.afdx_recordings.proofs.held.Held.read_until.Given as goal
 
 abbrev pub invariant-reads : goal.invariant-reads
 invariant-reads g l = record {
