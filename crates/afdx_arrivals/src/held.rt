@@ -170,17 +170,18 @@ fn held_arrival(
 }
 
 /// Whether the first of all is one of those that came late.
+#[inline(always)]
 fn is_late_first(queue: &VecDeque<HeldArrival>, late: &BinaryHeap<HeldArrival>) -> bool
     requires rising { AreRising queue.now.items }
     requires heap { IsHeap holding.by_rank (heap_items late.now) }
     ensures { MatchBool result (Leads (heap_items late.now) queue.now.items)
         (Leads queue.now.items (heap_items late.now)) }
 {
-    let Some(first) = queue.front() else {
-        return true;
-    };
     let Some(top) = late.peek() else {
         return false;
+    };
+    let Some(first) = queue.front() else {
+        return true;
     };
     top.rank() < first.rank()
 }
