@@ -102,6 +102,13 @@ pub said-last : (order : Order) (code size : ℕ) (bytes : List ℕ) → next_op
 unfolding said
 said-last order code size bytes e = ap (option_and_then (first_said order code size)) (options_in-last order bytes e)
 
+-- no bytes say nothing
+pub said-none : (order : Order) (code size : ℕ) (bytes : List ℕ) → length bytes ≡ 0
+    → said order code size bytes ≡ Some None
+unfolding said options_in next_option
+said-none order code size [] h = refl
+said-none order code size (b ∷ bytes) h = absurd (omega arith)
+
 pub said-broken : (order : Order) (code size : ℕ) (bytes : List ℕ) → is_some (options_in order bytes) ≡ false
     → said order code size bytes ≡ None
 unfolding said

@@ -128,6 +128,7 @@ impl Kind {
 }
 
 /// What the first bytes of a block say, in a section of this order. None: they can't be right.
+#[inline(always)]
 #[tactic(auto, unfolding(crate::specs::Blocks::head_by))]
 pub fn head_of(before: Order, head: &[u8]) -> Option<Head>
     requires { 12 ≤ length head.now }

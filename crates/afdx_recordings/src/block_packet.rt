@@ -57,6 +57,7 @@ fn check_of(interface: CheckSequence, flags: u64) -> CheckSequence
 }
 
 /// The frame of a packet with such flags.
+#[inline(always)]
 #[tactic(auto, unfolding(crate::specs::Packets::packet_frame))]
 fn frame_with(
     order: Order,
@@ -81,6 +82,7 @@ fn frame_with(
 }
 
 /// A packet of an interface. None: its bytes don't fit, or its options are wrong.
+#[inline(always)]
 #[tactic(auto, unfolding(crate::specs::Packets::packet_by))]
 pub fn packet_of(order: Order, body: &[u8], place: u16, interface: Interface) -> Option<Placed>
     requires { 20 ≤ length body.now }

@@ -46,6 +46,7 @@ impl Known {
     ghost use Rattle.afdx_recordings.specs.Recordings.{state_of_known, at_start, after_number};
     ghost use Rattle.afdx_recordings.specs.Recordings.{after_block, lost_by};
     ghost use Rattle.afdx_recordings.specs.Blocks.{least_of};
+    ghost use Rattle.afdx_recordings.specs.Orders.{half_at};
     ghost use Rattle.afdx_recordings.specs.Pcapng.{section_meaning, interface_meaning};
     ghost use Rattle.afdx_recordings.specs.Pcapng.{after_interface};
     ghost use Rattle.afdx_recordings.specs.Pcapng.{statistics_meaning, packet_meaning_at};
@@ -115,6 +116,7 @@ impl Known {
     }
 
     /// A section begins.
+    #[inline(never)]
     #[tactic(auto, unfolding(crate::specs::Pcapng::section_meaning))]
     fn begin_section(&mut self, order: Order, body: &[u8]) -> Result<Option<Placed>, RunFault>
         requires few { self.old.blocks < 100000000000000000 }
@@ -151,6 +153,7 @@ impl Known {
     }
 
     /// An interface is described.
+    #[inline(never)]
     #[tactic(auto, unfolding(crate::specs::Pcapng::interface_meaning))]
     fn add_interface(&mut self, order: Order, body: &[u8]) -> Result<Option<Placed>, RunFault>
         requires few { self.old.blocks < 100000000000000000 }
@@ -174,6 +177,7 @@ impl Known {
     }
 
     /// Statistics of an interface.
+    #[inline(never)]
     #[tactic(auto, unfolding(crate::specs::Pcapng::statistics_meaning))]
     fn add_statistics(&mut self, order: Order, body: &[u8]) -> Result<Option<Placed>, RunFault>
         requires few { self.old.blocks < 100000000000000000 }
@@ -197,6 +201,7 @@ impl Known {
     }
 
     /// A packet of an interface.
+    #[inline(always)]
     #[tactic(auto, unfolding(crate::specs::Pcapng::packet_meaning_at))]
     fn take_packet(
         &mut self,
@@ -222,7 +227,22 @@ impl Known {
         Ok(Some(placed))
     }
 
+    /// A packet of the old form.
+    #[inline(never)]
+    fn take_old_packet(&mut self, order: Order, body: &[u8]) -> Result<Option<Placed>, RunFault>
+        requires few { self.old.blocks < 100000000000000000 }
+        requires long { 20 ≤ length body.now }
+        ensures means { Means (packet_meaning_at (state_of_known self.old) order
+            (half_at order 0 body.now) body.now) result (state_of_known self.new) body.now }
+        ensures form { self.new.form ≡ self.old.form }
+        ensures counts { Counts result (state_of_known self.old) (state_of_known self.new) }
+        ensures within { IsPlaced result body.now }
+    {
+        self.take_packet(order, usize::from(order.half(body, 0)), body)
+    }
+
     /// A simple packet.
+    #[inline(never)]
     #[tactic(auto, unfolding(crate::specs::Pcapng::simple_meaning))]
     fn take_simple_packet(&mut self, order: Order, body: &[u8]) -> Result<Option<Placed>, RunFault>
         requires few { self.old.blocks < 100000000000000000 }
@@ -247,6 +267,7 @@ impl Known {
     ///
     /// `Recording` comes for what is wrong with it, `Memory` where there is no room for an
     /// interface.
+    #[inline(always)]
     pub fn take_body(
         &mut self,
         kind: Kind,
@@ -266,7 +287,7 @@ impl Known {
             Kind::Interface => self.add_interface(order, body),
             Kind::Statistics => self.add_statistics(order, body),
             Kind::Packet => self.take_packet(order, order.word(body, 0) as usize, body),
-            Kind::OldPacket => self.take_packet(order, usize::from(order.half(body, 0)), body),
+            Kind::OldPacket => self.take_old_packet(order, body),
             Kind::SimplePacket => self.take_simple_packet(order, body),
             Kind::NoFrame => {
                 self.count_number();

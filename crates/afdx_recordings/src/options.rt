@@ -69,7 +69,21 @@ fn are_whole(order: Order, options: &[u8]) -> bool
 
 /// The number that the options say for a code whose value has so many bytes. None: an option is
 /// broken, or the first of this code has another length.
+#[inline(always)]
 pub fn said_in(order: Order, options: &[u8], code: u16, size: usize) -> Option<Option<u64>>
+    requires some { 1 ≤ size }
+    requires few { size ≤ 8 }
+    ensures said { result ≡ said order code size options.now }
+    ensures within { IfSome result (λ number. IfSome number (λ n. n < 256 ^ size)) }
+{
+    if options.is_empty() {
+        return Some(None);
+    }
+    said_among(order, options, code, size)
+}
+
+/// The same, where there may be some.
+fn said_among(order: Order, options: &[u8], code: u16, size: usize) -> Option<Option<u64>>
     requires some { 1 ≤ size }
     requires few { size ≤ 8 }
     ensures said { result ≡ said order code size options.now }

@@ -33,6 +33,7 @@ pub fn stamp_of(nanoseconds: bool, seconds: u32, fraction: u32) -> Stamp
 }
 
 /// The stamp of a pcapng: so many units of its interface's resolution, and an offset in s.
+#[inline(always)]
 #[tactic(auto, unfolding(crate::specs::Stamps::ticked_stamp))]
 pub fn stamp_by(resolution: u8, offset: u64, ticks: u64) -> Stamp
     ensures { result ≡ ticked_stamp resolution offset ticks }
@@ -55,7 +56,9 @@ fn with_offset(offset: u64, ns: u64) -> Stamp
     requires { ns ≤ latest_stamp }
     ensures { result ≡ stamp_with offset ns }
 {
-    if offset <= LATEST {
+    if offset == 0 {
+        Stamp::At(ns)
+    } else if offset <= LATEST {
         let sum = ns.saturating_add(offset.saturating_mul(SECOND));
         if sum <= LATEST {
             Stamp::At(sum)

@@ -53,6 +53,7 @@ impl FrameReader {
     }
 
     /// Takes a block of which the head is held. True: it took a number.
+    #[inline(always)]
     fn take_block<R: Read>(&mut self, input: &mut Watched<R>) -> Result<bool, RunFault>
         requires sound { has_failed input.old ≡ false }
         requires honest { IsTrueToEnd (standing R.remaining self.old.held input.old) }
@@ -75,6 +76,7 @@ impl FrameReader {
     }
 
     /// What the first bytes of a block say.
+    #[inline(always)]
     #[tactic(auto, unfolding(crate::specs::Pcapng::block_rest))]
     fn head(&self) -> Result<Head, RunFault>
         requires { 12 ≤ length (unread self.now.held) }
@@ -95,6 +97,7 @@ impl FrameReader {
     }
 
     /// Takes a block that is held whole first.
+    #[inline(always)]
     fn hold_block<R: Read>(&mut self, head: Head, input: &mut Watched<R>) -> Result<bool, RunFault>
         requires sound { has_failed input.old ≡ false }
         requires honest { IsTrueToEnd (standing R.remaining self.old.held input.old) }
@@ -118,6 +121,7 @@ impl FrameReader {
     }
 
     /// Takes a block that is held whole.
+    #[inline(always)]
     fn take_held(&mut self, head: Head) -> Result<bool, RunFault>
         requires few { self.old.known.blocks < 100000000000000000 }
         requires least { least_of head.kind ≤ head.size }
@@ -151,6 +155,7 @@ impl FrameReader {
     }
 
     /// Takes a block of which only the ends are looked at.
+    #[inline(never)]
     fn skip_block<R: Read>(&mut self, head: Head, input: &mut Watched<R>) -> Result<bool, RunFault>
         requires sound { has_failed input.old ≡ false }
         requires honest { IsTrueToEnd (standing R.remaining self.old.held input.old) }
@@ -178,6 +183,7 @@ impl FrameReader {
     }
 
     /// Takes a block of which the last bytes are held.
+    #[inline(never)]
     fn take_skipped(&mut self, head: Head) -> Result<bool, RunFault>
         requires few { self.old.known.blocks < 100000000000000000 }
         requires least { least_of head.kind ≤ head.size }

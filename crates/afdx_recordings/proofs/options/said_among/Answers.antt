@@ -1,6 +1,6 @@
 use Rattle.std.proofs.Common.{rules, sym, ◌∙◌}
 use Rattle.afdx_recordings.proofs.OptionLemmas.{said-broken}
-use Rattle.afdx_recordings.proofs.options.said_in.Goals as goal
+use Rattle.afdx_recordings.proofs.options.said_among.Goals as goal
 
 pub returns-then-not-are_whole-clause-said : goal.returns-then-not-are_whole-clause-said
 returns-then-not-are_whole-clause-said c =
