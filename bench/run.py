@@ -60,14 +60,17 @@ POLICE = [
 ]
 OF_64, OF_1518 = POLICE[1][0], POLICE[3][0]
 HELD = ["--fcs=no", "--reorder=10000"]
-# a name, the length of the frames, options, and the row of the list that says the same
+NO_FCS = ["--fcs=no"]
+# a name, the form, the length of the frames, options, and the row of the list that says the same
 RECORDED = [
-    ("police, a recording, 64 random bytes a frame", 64, [], OF_64),
-    ("the same with --fcs no, 64 bytes", 64, ["--fcs=no"], OF_64),
-    ("the same, 10,000 frames held, 64 bytes", 64, HELD, OF_64),
-    ("police, a recording, 1,518 random bytes a frame", 1518, [], OF_1518),
-    ("the same with --fcs no, 1,518 bytes", 1518, ["--fcs=no"], OF_1518),
-    ("the same, 10,000 frames held, 1,518 bytes", 1518, HELD, OF_1518),
+    ("police, a recording, 64 random bytes a frame", "pcap", 64, [], OF_64),
+    ("the same with --fcs no, 64 bytes", "pcap", 64, NO_FCS, OF_64),
+    ("the same as pcapng, 64 bytes", "pcapng", 64, NO_FCS, OF_64),
+    ("the same as pcap, 10,000 frames held, 64 bytes", "pcap", 64, HELD, OF_64),
+    ("police, a recording, 1,518 random bytes a frame", "pcap", 1518, [], OF_1518),
+    ("the same with --fcs no, 1,518 bytes", "pcap", 1518, NO_FCS, OF_1518),
+    ("the same as pcapng, 1,518 bytes", "pcapng", 1518, NO_FCS, OF_1518),
+    ("the same as pcap, 10,000 frames held, 1,518 bytes", "pcap", 1518, HELD, OF_1518),
 ]
 REPLAY = [
     ("replay, 24 systems, 400 links, 100 Mbit/s", "aircraft", True),
@@ -195,10 +198,10 @@ class Bench:
             self.compare([words for _, words in programs])
         return self.rows(programs, count, make)
 
-    def recording(self, name, length, options, lines):
+    def recording(self, name, form, length, options, lines):
         """The row of `police` on a recording."""
         count = min(lines, MOST_BYTES // (length + 16))
-        make = lambda path, count: write_recording(path, count, length)
+        make = lambda path, count: write_recording(path, count, length, form=form)
         make(self.path("long.list"), count)
         words = [self.program, "police", *options, "1", str(length), "500"]
         first = FEW if options is HELD else 0  # so many are held, and more
@@ -317,11 +320,11 @@ def knows(program, option):
 def show_recorded(bench, given, empty):
     """The rows of recordings, each with the name of its list's row."""
     rows, orders = [], knows(bench.program, b"--reorder")
-    for name, length, options, listed in RECORDED:
+    for name, form, length, options, listed in RECORDED:
         if options is not HELD and orders:
             options = [*options, "--reorder=0"]
         if given.only in name and (options is not HELD or orders):
-            rows.append((bench.recording(name, length, options, given.lines), listed))
+            rows.append((bench.recording(name, form, length, options, given.lines), listed))
             show([*rows[-1][0].cells(), *empty])
     return rows
 

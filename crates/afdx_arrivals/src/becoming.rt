@@ -296,6 +296,7 @@ fn is_before(origin: Option<u64>, moment: u64) -> bool
 }
 
 /// What frame n becomes.
+#[inline(always)]
 #[tactic(auto, unfolding(crate::specs::Becoming::frame_becomes))]
 fn frame_becomes(
     options: &RecordingOptions,
@@ -342,6 +343,7 @@ fn frame_becomes(
 /// `Cut`. A frame of no link, of no known port, of no known side, and one before the origin are
 /// skipped. The last fault is `FcsUnclear`. An arrival of more than 2,000 bytes is taken as its
 /// first 2,000, as they are.
+#[inline(always)]
 pub fn becomes(
     options: &RecordingOptions,
     ports: &SystemPorts,

@@ -1,12 +1,14 @@
 //! Heads of the blocks of a pcapng.
 
 ghost use Rattle.std.specs.Prelude.{◌≡◌, ◌≤◌, length, true, IfSome};
-ghost use Rattle.afdx_recordings.specs.Blocks.{kind_of, least_of, is_held, is_size, order_by, is_ordered, head_by};
+ghost use Rattle.afdx_recordings.specs.Blocks.{kind_of, least_of, is_held, is_size, order_by, is_ordered, head_by, head_of_kind};
 
 use crate::order::Order;
 
 /// The number by which a section tells its order.
 const ORDER_MAGIC: u32 = 0x1a2b_3c4d;
+/// The type of a packet.
+const PACKET: u32 = 6;
 /// The most bytes of a block that is looked into.
 const LONGEST_BLOCK: u32 = 16_777_216;
 
@@ -43,6 +45,7 @@ pub struct Head {
 }
 
 /// The kind of a block of this type.
+#[inline(never)]
 #[tactic(auto, unfolding(crate::specs::Blocks::kind_of))]
 fn kind_named(number: u32) -> Kind
     ensures { result ≡ kind_of number }
@@ -128,14 +131,30 @@ impl Kind {
 }
 
 /// What the first bytes of a block say, in a section of this order. None: they can't be right.
+///
+/// Most blocks are packets. So what is asked of these is written out by itself.
 #[inline(always)]
-#[tactic(auto, unfolding(crate::specs::Blocks::head_by))]
+#[tactic(auto, unfolding(crate::specs::Blocks::head_by, crate::specs::Blocks::kind_of))]
 pub fn head_of(before: Order, head: &[u8]) -> Option<Head>
     requires { 12 ≤ length head.now }
     ensures told { result ≡ head_by before head.now }
     ensures least { IfSome result (λ head. least_of head.kind ≤ head.size) }
 {
-    let kind = kind_named(before.word(head, 0));
+    let number = before.word(head, 0);
+    if number == PACKET {
+        head_of_kind(Kind::Packet, before, head)
+    } else {
+        head_of_kind(kind_named(number), before, head)
+    }
+}
+
+/// The same of a block of this kind.
+#[inline(always)]
+fn head_of_kind(kind: Kind, before: Order, head: &[u8]) -> Option<Head>
+    requires { 12 ≤ length head.now }
+    ensures told { result ≡ head_of_kind kind (order_by kind before head.now) head.now }
+    ensures least { IfSome result (λ head. least_of head.kind ≤ head.size) }
+{
     let order = kind.order(before, head);
     let size = order.word(head, 4);
     if kind.tells_order(order, head) && kind.may_have(size) {

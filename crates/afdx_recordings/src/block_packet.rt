@@ -94,8 +94,11 @@ pub fn packet_of(order: Order, body: &[u8], place: u16, interface: Interface) ->
         return None;
     }
     let count = captured as usize;
-    let flags = said_in(order, &body[PACKET_START + filled_up(count)..], FLAGS, 4)?;
-    let frame = frame_with(order, body, place, interface, flags.unwrap_or(0));
+    // (most packets say no flags: what is found then is written out by itself)
+    let frame = match said_in(order, &body[PACKET_START + filled_up(count)..], FLAGS, 4)? {
+        None => frame_with(order, body, place, interface, 0),
+        Some(flags) => frame_with(order, body, place, interface, flags),
+    };
     Some(Placed {
         what: Recorded::Frame(frame),
         start: PACKET_START,

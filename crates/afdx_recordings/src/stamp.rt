@@ -10,6 +10,8 @@ use crate::recorded::Stamp;
 const SECOND: u64 = 1_000_000_000;
 /// The latest stamp, in ns.
 const LATEST: u64 = 0x7fff_ffff_ffff_ffff;
+/// The resolution of ns.
+const NANOSECONDS: u8 = 9;
 /// The first resolution of a power of two.
 const BINARY: u8 = 128;
 /// What 32 bits count to.
@@ -51,6 +53,7 @@ pub fn stamp_by(resolution: u8, offset: u64, ticks: u64) -> Stamp
 }
 
 /// The stamp with an offset in s, two's complement.
+#[inline(always)]
 #[tactic(auto, unfolding(crate::specs::Stamps::stamp_with))]
 fn with_offset(offset: u64, ns: u64) -> Stamp
     requires { ns ≤ latest_stamp }
@@ -58,7 +61,19 @@ fn with_offset(offset: u64, ns: u64) -> Stamp
 {
     if offset == 0 {
         Stamp::At(ns)
-    } else if offset <= LATEST {
+    } else {
+        moved_by(offset, ns)
+    }
+}
+
+/// The same, where there may be one.
+#[inline(never)]
+#[tactic(auto, unfolding(crate::specs::Stamps::stamp_with))]
+fn moved_by(offset: u64, ns: u64) -> Stamp
+    requires { ns ≤ latest_stamp }
+    ensures { result ≡ stamp_with offset ns }
+{
+    if offset <= LATEST {
         let sum = ns.saturating_add(offset.saturating_mul(SECOND));
         if sum <= LATEST {
             Stamp::At(sum)
@@ -76,11 +91,14 @@ fn with_offset(offset: u64, ns: u64) -> Stamp
 }
 
 /// The whole ns of so many units, if they fit 64 bits.
+#[inline(always)]
 #[tactic(auto, unfolding(crate::specs::Stamps::whole_ns, crate::specs::Stamps::units))]
 pub fn to_ns(resolution: u8, ticks: u64) -> Option<u64>
     ensures { SomeIff result (whole_ns resolution ticks < 2 ^ 64) (whole_ns resolution ticks) }
 {
-    if resolution < BINARY {
+    if resolution == NANOSECONDS {
+        Some(ticks)
+    } else if resolution < BINARY {
         decimal_ns(u32::from(resolution), ticks)
     } else {
         binary_ns(u32::from(resolution - BINARY), ticks)
@@ -88,6 +106,7 @@ pub fn to_ns(resolution: u8, ticks: u64) -> Option<u64>
 }
 
 /// The whole ns of so many units of 10^-n s.
+#[inline(never)]
 fn decimal_ns(n: u32, ticks: u64) -> Option<u64>
     ensures { SomeIff result (ticks * second / 10 ^ n < 2 ^ 64) (ticks * second / 10 ^ n) }
 {
@@ -101,6 +120,7 @@ fn decimal_ns(n: u32, ticks: u64) -> Option<u64>
 }
 
 /// The whole ns of so many units of 2^-n s.
+#[inline(never)]
 fn binary_ns(n: u32, ticks: u64) -> Option<u64>
     ensures { SomeIff result (ticks * second / 2 ^ n < 2 ^ 64) (ticks * second / 2 ^ n) }
 {

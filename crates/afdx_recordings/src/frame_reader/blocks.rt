@@ -5,8 +5,9 @@ ghost use Rattle.std.specs.Prelude.{true, false, IfOk, OnOk, MatchResult};
 ghost use Rattle.afdx_lists.specs.Calls.{is_failed_read};
 
 use super::FrameReader;
-use crate::block::{Head, head_of};
+use crate::block::{Head, Kind, head_of};
 use crate::known::MOST_NUMBERS;
+use crate::order::Order;
 use afdx_lists::{RecordingFault, RunFault, Watched};
 use std::io::Read;
 
@@ -28,6 +29,7 @@ impl FrameReader {
     ghost use Rattle.afdx_recordings.specs.declared.form.Form.TheVariants.{Pcapng};
 
     /// The next number of a pcapng.
+    #[inline(never)]
     pub(crate) fn next_in_blocks<R: Read>(
         &mut self,
         input: &mut Watched<R>,
@@ -53,6 +55,9 @@ impl FrameReader {
     }
 
     /// Takes a block of which the head is held. True: it took a number.
+    ///
+    /// Most blocks are packets with the low byte first. So what is done with these is written out by
+    /// itself.
     #[inline(always)]
     fn take_block<R: Read>(&mut self, input: &mut Watched<R>) -> Result<bool, RunFault>
         requires sound { has_failed input.old ≡ false }
@@ -68,8 +73,10 @@ impl FrameReader {
         ensures counts { CountsBlock result (state_of self.old) (state_of self.new) }
     {
         let head = self.head()?;
-        if head.kind.is_held() {
+        if head.kind == Kind::Packet && head.order == Order::LowFirst {
             self.hold_block(head, input)
+        } else if head.kind.is_held() {
+            self.hold_another(head, input)
         } else {
             self.skip_block(head, input)
         }
@@ -118,6 +125,31 @@ impl FrameReader {
             return Err(self.ended());
         }
         self.take_held(head)
+    }
+
+    /// The same, not written out where it is called.
+    #[inline(never)]
+    fn hold_another<R: Read>(
+        &mut self,
+        head: Head,
+        input: &mut Watched<R>,
+    ) -> Result<bool, RunFault>
+        requires sound { has_failed input.old ≡ false }
+        requires honest { IsTrueToEnd (standing R.remaining self.old.held input.old) }
+        requires form { self.old.known.form ≡ Some Pcapng }
+        requires held { 12 ≤ length (unread self.old.held) }
+        requires few { self.old.known.blocks < 100000000000000000 }
+        requires least { least_of head.kind ≤ head.size }
+        requires told { head_by self.old.known.order (unread self.old.held) ≡ Some head }
+        ensures honest { IsTrueToEnd (standing R.remaining self.new.held input.new) }
+        ensures failed { has_failed input.new ≡ is_failed_read result }
+        ensures tells { TellsBlock result (standing R.remaining self.old.held input.old)
+            (standing R.remaining self.new.held input.new)
+            (state_of self.old) (state_of self.new) (latest self.new) }
+        ensures form { self.new.known.form ≡ self.old.known.form }
+        ensures counts { CountsBlock result (state_of self.old) (state_of self.new) }
+    {
+        self.hold_block(head, input)
     }
 
     /// Takes a block that is held whole.
