@@ -3,11 +3,11 @@
 
     bench/make_recording.py PATH [N] [--length L] [--fcs yes|no|unsaid] [--form pcap|pcapng]
 
-Writes a pcap or a pcapng in ns of N frames (1,000,000 where it isn't given; there may be more) to PATH. Each is
-a frame of link 1 of system 1, each next one 1 ms later. Without --length all are one and the same
-frame of 64 bytes. With it they have L bytes, 64 to 1518, their messages are random bytes, and each
-is another. Their check sequences are recorded with `--fcs yes`; else they are left off, and with
-`no` the head says so. `-` as PATH is standard output.
+Writes a pcap or a pcapng in ns of N frames (1,000,000 where it isn't given; there may be more) to
+PATH. Each is a frame of link 1 of system 1, each next one 1 ms later. Without --length all are one
+and the same frame of 64 bytes. With it they have L bytes, 64 to 1518, their messages are random
+bytes, and each is another. Their check sequences are recorded with `--fcs yes`; else they are left
+off, and with `no` the recording says so. `-` as PATH is standard output.
 """
 import argparse
 import contextlib

@@ -56,8 +56,8 @@ impl FrameReader {
 
     /// Takes a block of which the head is held. True: it took a number.
     ///
-    /// Most blocks are packets with the low byte first. So what is done with these is written out by
-    /// itself.
+    /// Most blocks are packets with the low byte first. So what is done with these is written out
+    /// by itself.
     #[inline(always)]
     fn take_block<R: Read>(&mut self, input: &mut Watched<R>) -> Result<bool, RunFault>
         requires sound { has_failed input.old ≡ false }
