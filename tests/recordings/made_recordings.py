@@ -6,7 +6,7 @@ import random
 import re
 from typing import NamedTuple
 
-from frames import FIRST, frame_of
+from frames import FIRST, HELLO, frame_of
 from reads import ORDERS
 from recorded import SECTION
 
@@ -258,6 +258,14 @@ def recorded_at(time: int, frame: bytes) -> bytes:
     seconds, ns = divmod(START * 10**9 + time, 10**9)
     head = (seconds, ns, len(frame), len(frame))
     return b"".join(each.to_bytes(4, "little") for each in head) + frame
+
+
+def of_each_length() -> bytes:
+    """A pcap of frames of link 1, one of each length, up to some that no switch takes."""
+    chance, start = random.Random("each length"), HELLO[:12]
+    lengths_behind = range(2_100 - len(start))
+    frames = [start + chance.randbytes(length) for length in lengths_behind]
+    return PCAP_NS + b"".join(recorded_at(10**6 * at, frame) for at, frame in enumerate(frames))
 
 
 def shuffled(frames: list[bytes], chance: random.Random) -> list[bytes]:

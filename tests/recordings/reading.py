@@ -8,7 +8,7 @@ import subprocess
 
 from first_fault import list_fault
 from foreign_recordings import try_foreign
-from made_recordings import made_data
+from made_recordings import made_data, of_each_length
 from program import Cases, Program, answers, must, same_text, text_within
 from reading_words import try_words
 from reads import ORDERS, READS, is_read
@@ -87,6 +87,11 @@ def many(program: Program, kind: str, group: int) -> None:
         chance, data = random.Random(f"options/{number}"), made_data(kind, number)
         both(program, Case(data))
         both(program, random_case(chance, data))
+
+
+def each_length(program: Program, options: Options) -> None:
+    """Frames of each length."""
+    both(program, Case(of_each_length(), options))
 
 
 def from_a_file(program: Program, case: Case) -> None:
@@ -188,6 +193,16 @@ def live_cases(program: Program) -> list[tuple]:
 # ---- all ------------------------------------------------------------------------------------
 
 
+def each_lengths() -> dict[str, Options]:
+    """Options for recordings of frames of each length."""
+    given = {
+        "as it is": Options(),
+        "with check sequences": Options(fcs=True),
+        "without": Options(fcs=False),
+    }
+    return given | {"none held": Options(reorder=0)} if ORDERS else given
+
+
 def try_reading(cases: Cases, program: Program, every: list[Row]) -> None:
     """All cases but those of memory; these rows are spelled out."""
     cases.try_at_once([(f"read: {row.name}", row_is_read, program, row) for row in every])
@@ -196,6 +211,8 @@ def try_reading(cases: Cases, program: Program, every: list[Row]) -> None:
     some = [(f"cut: {name}", cut_anywhere, program, case) for name, case in cuts.items()]
     for kind in KINDS:
         some += [(f"read: {kind}, {group}", many, program, kind, group) for group in range(GROUPS)]
+    for name, options in each_lengths().items():
+        some.append((f"read: frames of each length, {name}", each_length, program, options))
     written = try_foreign(cases, program.folder)
     some += [(f"read: {name}", one_port_each, program, path) for name, path in written.items()]
     if has("tshark") and "list" in READS:

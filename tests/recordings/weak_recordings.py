@@ -3,12 +3,13 @@ from __future__ import annotations
 
 from collections.abc import Iterator
 
+from made_recordings import of_each_length
 from program import Program
 from reads import HELD, ORDERS, READS, is_read
 from recorded_arrivals import Options
 from recording_rows import F1, G1, H1, H2, IL, PL, SL, US, ZERO, E, R
 from wanted import POLICE, told_before
-from weak import Weak, weak_devices
+from weak import FEW, Weak, weak_devices
 
 OTHER = "ff" + H1[2:]  # a frame that is no AFDX frame
 
@@ -71,12 +72,20 @@ def weak_run(
     weak_devices(WeakRecording(program, words, options, data, by_path))
 
 
+def each_length(program: Program, words: list[str]) -> None:
+    """Frames of each length, of which a read gives a few bytes: so for each there must be read."""
+    weak = WeakRecording(program, words, Options(), of_each_length(), True)
+    found, _ = weak.run(FEW)
+    weak.ends(found, (weak.whole.status, weak.whole.err), weak.whole.out)
+
+
 def weak_recordings(program: Program, config: str) -> Iterator[tuple]:
     """Each command on recordings, read by path and as standard input by turns; the configuration
     is that of the base tables."""
     commands = [["replay", config], ["replay", "--no-admission", config], POLICE]
     commands += [["list", config]] if "list" in READS else []
     by_path = False
+    yield "police: a pcap with frames of each length", each_length, program, POLICE
     for words in commands:
         for name, text, reorder in tries(words[0]):
             data, by_path = bytes.fromhex(text), not by_path
