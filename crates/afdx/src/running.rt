@@ -146,7 +146,6 @@ pub fn ended_of(listed: ListEnded) -> InputEnded {
             summary: None,
         },
         tally: listed.tally,
-        look_failed: false,
     }
 }
 
@@ -206,7 +205,6 @@ fn run_over<R: Read, O: Sink, E: Write>(
         Run::Send { config, system } => Ok(InputEnded {
             ended: send_and_count(rt.alloc(), config, system, input, lines, faults),
             tally: None,
-            look_failed: false,
         }),
     }
 }

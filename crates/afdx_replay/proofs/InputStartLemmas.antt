@@ -27,7 +27,7 @@ use Rattle.afdx_run.proofs.RunLemmas.{stops-at-start}
 use Rattle.afdx_arrivals.specs.declared.becoming.RecordingOptions.{RecordingOptions}
 use Rattle.afdx_arrivals.specs.Becoming.{Options, options_of}
 use Rattle.afdx_arrivals.specs.NumberLines.{Lines}
-use Rattle.afdx_arrivals.specs.InputRun.{is_recorded, IsAskedFew}
+use Rattle.afdx_arrivals.specs.InputRun.{is_read_recorded, IsAskedFew}
 use Rattle.afdx_arrivals.specs.RecordingRun.{IfBoth, IfBothKnown, IsAskedOnce}
 use Rattle.afdx_arrivals.specs.Taking.{Taken, arrivals_in}
 use Rattle.afdx_arrivals.specs.TakenRun.{FirstAreTold}
@@ -38,7 +38,7 @@ use Rattle.afdx_replay.specs.replaying.Input.{AnswersInput, ExplainsInput, are_c
 use Rattle.afdx_replay.specs.Commands.{EndsWith, status_of_answer}
 use Rattle.afdx_replay.specs.Inputs.{summary_in}
 use Rattle.afdx_replay.specs.policing.Input as police
-use Rattle.afdx_replay.specs.replaying.InputCommand.{is_decided_recorded, is_read_recorded, left_of, ReplaysInput}
+use Rattle.afdx_replay.specs.replaying.InputCommand.{left_of, ReplaysInput}
 use Rattle.afdx_replay.specs.replaying.Pair as pair
 use Rattle.afdx_replay.specs.replaying.Pair.{AnswersPair, ExplainsPair}
 use Rattle.afdx_replay.specs.replaying.PairCommand.{IsAskedOnceFor, ReplaysPair}
@@ -52,10 +52,6 @@ use Rattle.afdx_replay.proofs.PromisedInputLemmas.{if-both-promised, if-promised
 use Rattle.afdx_replay.specs.replaying.Text.{replay_text}
 use Rattle.afdx_replay.proofs.EarlyLemmas.{early-start}
 use Rattle.afdx_replay.proofs.ReplayLemmas.{stops-start}
-
-pub unasked-few : (b : Bool) (left : Option (List ℕ)) (calls : ℕ) → IsAskedFew b left left calls calls
-unasked-few true left calls = unasked left calls
-unasked-few false left calls = omega arith
 
 -- of no arrivals
 none-told : (whole : Taken) (told : List Arrival → Type 0) → told [] → FirstAreTold whole told
@@ -136,101 +132,24 @@ ends-in error_bytes all_read input_failed failed old new ended (Err fault) a b c
   write = g;
 }
 
--- ---- what was looked at still comes
-
-pub asked-kept : (b : Bool) (left looked rest : Option (List ℕ)) (old between new : ℕ) → Keeps left looked
-    → between ≡ old → IsAskedFew b looked rest between new → IsAskedFew b left rest old new
-asked-kept true None looked rest old between new k e h = tt
-asked-kept true (Some bytes) None rest old between new k e h = absurd k
-asked-kept true (Some bytes) (Some same) rest old between new k e h =
-    subst (λ (x : List ℕ). IsAskedOnce (Some x) rest old new) k
-    (subst (λ (n : ℕ). IsAskedOnce (Some same) rest n new) e h)
-asked-kept false left looked rest old between new k e h = omega (arith, e, h)
-
--- what is held decides as the bytes do, unless the look failed: then it is too short to begin as a
--- recording
-too-short : (seen : List ℕ) → length seen < looked_at → is_recording seen ≡ false
-unfolding is_recording
-too-short seen few = grind (arith, nat_tests, few)
-
-decided-by : (options : RecordingOptions) (failed : Bool) (left : Option (List ℕ)) (seen : List ℕ)
-    → (failed ≡ true → length seen < looked_at)
-    → (failed ≡ false → IfSome left (λ bytes. seen ≡ take looked_at bytes))
-    → IfSome left (λ bytes. is_recorded options seen ≡ is_decided_recorded options failed bytes)
-decided-by options failed None seen few first = tt
-decided-by options true (Some bytes) seen few first =
-    ap (λ (x : Bool). options.are_given || x) (too-short seen (few refl))
-decided-by options false (Some bytes) seen few first =
-    ap (λ (xs : List ℕ). options.are_given || is_recording xs) (first refl)
-
--- a command that ends as its run answered, of which the first bytes were looked at, which it says
--- failed or didn't
-module _ {R : Type 0} (remaining : R → Option (List ℕ)) (options : RecordingOptions)
-    (input looked rest : Watched (Peeked R)) (failed : Bool) (h : HasLooked remaining input looked failed)
-    (said : Bool) (is_said : said ≡ failed) where
-  abbrev Is : Bool
-  Is = is_read_recorded options looked
-
-  abbrev Left : Known
-  Left = left_of remaining input
-
-  decided : IfSome Left (λ bytes. Is ≡ is_decided_recorded options said bytes)
-  decided =
-      decided-by options said Left (held (device_of looked)) (λ e. h.few (sym is_said ∙ e))
-      (λ e. h.first (sym is_said ∙ e))
-
-  module _ (config : List ℕ) (admission : Bool) where
-    -- with whatever else is true of whether it is a recording, and of the tables
-    pub replays-looked-with : (more : Bool → Rows → Type 0) (old new : Known)
-        (answer : Result InputSummary RunFault) (t : Rows) → Spells config t
-        → (admission ≡ true → IsAdmitted t) → IsLawful t
-        → IsAskedFew Is (left_of remaining looked) (left_of remaining rest) (calls_of looked) (calls_of rest)
-        → IfSome (left_of remaining looked) (λ bytes. AnswersInput Is (options_of options) t bytes
-        (left_of remaining rest) old new answer)
-        → more Is t
-        → (r : ReplaysInput remaining config admission options said input rest old new answer)
-        × more r.recorded r.tables
-    replays-looked-with more old new answer t spelled admitted lawful asked answers also =
-        let kept = if-kept Left (left_of remaining looked) (λ bytes.
-        AnswersInput Is (options_of options) t bytes (left_of remaining rest) old new answer) h.left answers in (
-          record {
-            tables = t;
-            spelled = spelled;
-            admitted = admitted;
-            recorded = Is;
-            decided = decided;
-            calls = asked-kept Is Left (left_of remaining looked) (left_of remaining rest)
-                (calls_of input) (calls_of looked) (calls_of rest) h.left h.calls asked;
-            answers = kept;
-            promised = λ asks. if-promised t lawful (admitted asks) (options_of options) Is Left
-                (left_of remaining rest) old new answer kept;
-          },
-          also,
-        )
-
-    pub replays-looked : (old new : Known) (answer : Result InputSummary RunFault) (t : Rows) → Spells config t
-        → (admission ≡ true → IsAdmitted t) → IsLawful t
-        → IsAskedFew Is (left_of remaining looked) (left_of remaining rest) (calls_of looked) (calls_of rest)
-        → IfSome (left_of remaining looked) (λ bytes. AnswersInput Is (options_of options) t bytes
-        (left_of remaining rest) old new answer)
-        → ReplaysInput remaining config admission options said input rest old new answer
-    replays-looked old new answer t spelled admitted lawful asked answers =
-        (replays-looked-with (λ recorded t. Unit {0}) old new answer t spelled admitted lawful asked answers tt).0
-
-  -- the same of a run that polices one link
-  pub polices-looked : (rule : Rule) (old new : Known) (answer : Result InputSummary RunFault)
-      → IsAskedFew Is (left_of remaining looked) (left_of remaining rest) (calls_of looked) (calls_of rest)
-      → IfSome (left_of remaining looked) (λ bytes. police.AnswersInput Is (options_of options) rule bytes
-      (left_of remaining rest) old new answer)
-      → police.PolicesInput remaining rule options said input rest old new answer
-  polices-looked rule old new answer asked answers = record {
-    recorded = Is;
-    decided = decided;
-    calls = asked-kept Is Left (left_of remaining looked) (left_of remaining rest)
-        (calls_of input) (calls_of looked) (calls_of rest) h.left h.calls asked;
-    answers = if-kept Left (left_of remaining looked) (λ bytes.
-        police.AnswersInput Is (options_of options) rule bytes (left_of remaining rest) old new answer)
-        h.left answers;
+-- a command that ends as its run answered
+module _ {R : Type 0} (remaining : R → Option (List ℕ)) (config : List ℕ) (admission : Bool)
+    (options : RecordingOptions) (input rest : Watched (Peeked R)) where
+  pub replays-input : (old new : Known) (answer : Result InputSummary RunFault) (t : Rows) → Spells config t
+      → (admission ≡ true → IsAdmitted t) → IsLawful t
+      → IsAskedFew options (left_of remaining input) (left_of remaining rest) (calls_of input) (calls_of rest)
+      → IfSome (left_of remaining input) (λ bytes. AnswersInput (is_read_recorded options (left_of remaining input))
+      (options_of options) t bytes (left_of remaining rest) old new answer)
+      → ReplaysInput remaining config admission options input rest old new answer
+  replays-input old new answer t spelled admitted lawful asked answers = record {
+    tables = t;
+    spelled = spelled;
+    admitted = admitted;
+    calls = asked;
+    answers = answers;
+    promised = λ asks. if-promised t lawful (admitted asks) (options_of options)
+        (is_read_recorded options (left_of remaining input)) (left_of remaining input)
+        (left_of remaining rest) old new answer answers;
   }
 
 -- of two, of which nothing is looked at
