@@ -28,4 +28,4 @@ pub mod PairAnswerLemmas
 pub mod OverTwoLemmas
 pub mod InputLemmas
 pub mod InputSaysLemmas
-mod LookLemmas
+pub mod LookLemmas

@@ -30,9 +30,9 @@ left_in remaining peeked = prepend_known (held peeked) (still_in remaining peeke
 abbrev pub asked_of : {R : Type 0} → Peeked R → ℕ
 asked_of peeked = calls_of peeked.inner
 
--- Its first bytes were looked at, in at most four reads: it still gives what it gave. The bytes that
--- are held are the first four of what it gives, or all; if its reader failed before the fourth,
--- which is answered, they are fewer, and it has failed.
+-- Its first bytes were looked at, in at most four reads: it still gives what it gave. The bytes
+-- that are held are the first four of what it gives, or all; if its reader failed before the
+-- fourth, which is answered, they are fewer, and it has failed.
 pub record HasLooked {R : Type 0} (remaining : R → Option (List ℕ)) (old new : Watched (Peeked R))
     (failed : Bool) : Type 0 where
   pub left : Keeps (left_in remaining (device_of old)) (left_in remaining (device_of new))

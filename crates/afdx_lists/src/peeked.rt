@@ -55,8 +55,8 @@ impl<R: Read> Peeked<R> {
         self.inner.calls()
     }
 
-    /// Reads its first four bytes, to be looked at, in at most four reads. Fewer: it has no more, or
-    /// failed after them, which is answered: true.
+    /// Reads its first four bytes, to be looked at, in at most four reads. Fewer: it has no more,
+    /// or failed after them, which is answered: true.
     pub fn look(&mut self) -> bool
         requires { is_untouched self.old }
         ensures left { Keeps (left_in R.remaining self.old) (left_in R.remaining self.new) }

@@ -1,23 +1,19 @@
--- Before an input, or two, are read: memory ran out, or the first bytes were looked at.
-use Rattle.std.proofs.Common.{◌≡◌, ◌<◌, ◌||◌, ℕ, List, [], length, take, append-nil, Option, Some, None, Result, Ok, Err, IfSome, true, false, Bool, refl, sym, ap, ◌∙◌, subst, arith, inl}
-use Rattle.std.proofs.lemmas.Bool.Decides.{nat_tests}
+-- Before an input, or two, are read memory ran out; and how a command ends as its run answered.
+use Rattle.std.proofs.Common.{◌≡◌, ℕ, List, [], append-nil, Option, Some, None, Result, Ok, Err, IfSome, true, false}
+use Rattle.std.proofs.Common.{Bool, refl, sym, inl}
 use Rattle.std.proofs.KnownBytes.{Appends-nil}
-use Rattle.std.specs.Io.KnownBytes.{Keeps}
 use Rattle.afdx_config.specs.Admission.{IsAdmitted}
 use Rattle.afdx_config.specs.Lawful.{IsLawful}
 use Rattle.afdx_config.specs.Reading.{Spells}
 use Rattle.afdx_config.specs.Rows.{Rows}
 use Rattle.afdx_frame.specs.declared.by_side.BySide.{BySide}
-use Rattle.afdx_lists.specs.Peeking.{HasLooked, held, looked_at}
 use Rattle.afdx_lists.specs.Calls.{is_failed_read, is_failed_write}
 use Rattle.afdx_lists.specs.Watching.{calls_of, device_of}
-use Rattle.afdx_recordings.specs.Beginning.{is_recording}
 use Rattle.afdx_text.specs.Telling.{TellsLine}
 use Rattle.std.specs.Prelude.{OnOk, OnErr}
 use Rattle.std.specs.Result.{result_ok}
 use Rattle.afdx_lists.specs.declared.fault.RunFault.{RunFault}
 use Rattle.afdx_lists.specs.declared.peeked.Peeked.{Peeked}
-use Rattle.afdx_police.specs.Rule.{Rule}
 use Rattle.afdx_lists.specs.declared.fault.RunFault.TheVariants as run
 use Rattle.afdx_lists.specs.declared.watched.Watched.{Watched}
 use Rattle.afdx_network.specs.Order.{events_of}
@@ -28,16 +24,14 @@ use Rattle.afdx_arrivals.specs.declared.becoming.RecordingOptions.{RecordingOpti
 use Rattle.afdx_arrivals.specs.Becoming.{Options, options_of}
 use Rattle.afdx_arrivals.specs.NumberLines.{Lines}
 use Rattle.afdx_arrivals.specs.InputRun.{is_read_recorded, IsAskedFew}
-use Rattle.afdx_arrivals.specs.RecordingRun.{IfBoth, IfBothKnown, IsAskedOnce}
+use Rattle.afdx_arrivals.specs.RecordingRun.{IfBoth, IfBothKnown}
 use Rattle.afdx_arrivals.specs.Taking.{Taken, arrivals_in}
 use Rattle.afdx_arrivals.specs.TakenRun.{FirstAreTold}
 use Rattle.afdx_arrivals.specs.declared.pair_options.PairOptions.{PairOptions}
-use Rattle.afdx_arrivals.proofs.RecordingRunLemmas.{unasked}
 use Rattle.afdx_replay.specs.replaying.Early.{TellsEarly, TellsMost}
 use Rattle.afdx_replay.specs.replaying.Input.{AnswersInput, ExplainsInput, are_cut_of, taken_of}
 use Rattle.afdx_replay.specs.Commands.{EndsWith, status_of_answer}
 use Rattle.afdx_replay.specs.Inputs.{summary_in}
-use Rattle.afdx_replay.specs.policing.Input as police
 use Rattle.afdx_replay.specs.replaying.InputCommand.{left_of, ReplaysInput}
 use Rattle.afdx_replay.specs.replaying.Pair as pair
 use Rattle.afdx_replay.specs.replaying.Pair.{AnswersPair, ExplainsPair}
@@ -46,7 +40,6 @@ use Rattle.afdx_replay.specs.replaying.Replayed.{Known, WritesSome}
 use Rattle.afdx_replay.specs.replaying.Taken.{AnswersTaken, ExplainsTaken}
 use Rattle.afdx_replay.specs.declared.ending.Ended.{Ended}
 use Rattle.afdx_replay.specs.declared.summary.InputSummary.{InputSummary}
-use Rattle.afdx_replay.proofs.InputLemmas.{if-kept}
 use Rattle.afdx_replay.proofs.PairLemmas.{of-both}
 use Rattle.afdx_replay.proofs.PromisedInputLemmas.{if-both-promised, if-promised}
 use Rattle.afdx_replay.specs.replaying.Text.{replay_text}

@@ -139,8 +139,8 @@ impl<W: Write + Drop> Sink for Output<W> {
     ghost failed = { λ o. device_has_failed o };
 
     /// Puts a line in its place among those that are held. Where that fails, none of it was put; or
-    /// all of it, where it is handed over at once and the device failed. Where lines are handed over
-    /// at once nothing is held after it.
+    /// all of it, where it is handed over at once and the device failed. Where lines are handed
+    /// over at once nothing is held after it.
     #[inline(always)]
     fn put(&mut self, line: &OutLine<'_>, _scratch: &mut Text) -> Result<(), RunFault>
         requires sound { device_has_failed self.old ≡ false }

@@ -19,8 +19,8 @@ use afdx_text::Sink;
 use std::alloc::Global;
 use std::io::Read;
 
-/// Polices the frames of an input, a list or a recording, for one virtual link. Frames of a recording
-/// come in at the link's port, where no option says another.
+/// Polices the frames of an input, a list or a recording, for one virtual link. Frames of a
+/// recording come in at the link's port, where no option says another.
 pub(crate) fn police_input_into<R: Read, O: Sink>(
     alloc: Global,
     options: RecordingOptions,

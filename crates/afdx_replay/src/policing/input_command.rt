@@ -24,9 +24,9 @@ use std::io::{Read, Write};
 /// does, or a recording: verdicts go to `output`, a fault's one line to `errors`. It also gives
 /// what the run counted.
 ///
-/// The input's first four bytes are looked at, in at most four reads. It is a recording if it begins
-/// as one; if an option of recordings is given, it has to be. Frames of a recording come in at the
-/// rule's port, where no option says another.
+/// The input's first four bytes are looked at, in at most four reads. It is a recording if it
+/// begins as one; if an option of recordings is given, it has to be. Frames of a recording come in
+/// at the rule's port, where no option says another.
 ///
 /// The exit status is 0 done, 2 a value out of range, 3 a fault of the list or the recording, 4 a
 /// device or memory.

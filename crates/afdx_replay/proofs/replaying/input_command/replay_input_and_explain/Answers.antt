@@ -1,7 +1,11 @@
 use Rattle.std.proofs.Common.{◌≡◌, true, refl, inl, inr}
 use Rattle.afdx_lists.specs.Watching.{has_ended, has_failed}
+use Rattle.afdx_arrivals.specs.Becoming.{options_of}
+use Rattle.afdx_arrivals.specs.InputRun.{is_read_recorded}
+use Rattle.afdx_replay.specs.replaying.InputCommand.{left_of}
 use Rattle.afdx_replay.specs.replaying.Tables.{tables_of}
-use Rattle.afdx_replay.proofs.InputStartLemmas.{ends-in, replays-input}
+use Rattle.afdx_replay.proofs.InputStartLemmas.{ends-in}
+use Rattle.afdx_replay.proofs.PromisedInputLemmas.{if-promised}
 use Rattle.afdx_replay.proofs.replaying.input_command.replay_input_and_explain.Goals as goal
 
 pub returns-in-Err-clause-explains : goal.returns-in-Err-clause-explains
@@ -27,12 +31,21 @@ returns-clause-explains g c = inl (
         (rw c.in-Ok.ensures.silent at c.end_input.ensures.silent) c.explain_input_into-answer.ensures.ended
         c.explain_input_into-answer.ensures.read c.explain_input_into-answer.ensures.write;
     tally = c.end_input.ensures.tally;
-    replays = replays-input g.R.Read.remaining c.args.config.now c.args.admission c.args.options c.args.input.now
-        c.explain_input_into-answer.new.input
-        (g.O.Sink.written c.args.output.now) (g.O.Sink.written c.explain_input_into-answer.new.output)
-        c.explain_input_into-answer.result.0 (tables_of c.in-Ok.taken) c.in-Ok.ensures.spelled
-        c.in-Ok.ensures.admitted c.in-Ok.ensures.lawful c.explain_input_into-answer.ensures.calls
-        (rw c.tables-tables.ensures at c.explain_input_into-answer.ensures.answer);
+    replays = record {
+      tables = tables_of c.in-Ok.taken;
+      spelled = c.in-Ok.ensures.spelled;
+      admitted = c.in-Ok.ensures.admitted;
+      calls = c.explain_input_into-answer.ensures.calls;
+      answers = rw c.tables-tables.ensures at c.explain_input_into-answer.ensures.answer;
+      promised = λ asks. if-promised (tables_of c.in-Ok.taken) c.in-Ok.ensures.lawful
+          (c.in-Ok.ensures.admitted asks) (options_of c.args.options)
+          (is_read_recorded c.args.options (left_of g.R.Read.remaining c.args.input.now))
+          (left_of g.R.Read.remaining c.args.input.now)
+          (left_of g.R.Read.remaining c.explain_input_into-answer.new.input)
+          (g.O.Sink.written c.args.output.now) (g.O.Sink.written c.explain_input_into-answer.new.output)
+          c.explain_input_into-answer.result.0
+          (rw c.tables-tables.ensures at c.explain_input_into-answer.ensures.answer);
+    };
   },
   rw c.tables-tables.ensures at c.explain_input_into-answer.ensures.explains,
 )
