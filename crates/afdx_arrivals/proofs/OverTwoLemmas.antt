@@ -3,12 +3,13 @@ use Rattle.std.proofs.Common.{◌≡◌, List, [], ℕ, Option, Some, None, Resu
 use Rattle.afdx_frame.specs.declared.by_side.BySide.{BySide}
 use Rattle.afdx_lists.specs.declared.fault.RunFault.{RunFault}
 use Rattle.afdx_lists.specs.declared.watched.Watched.{Watched}
+use Rattle.afdx_run.specs.Engine.{Item}
 use Rattle.afdx_arrivals.specs.Becoming.{options_of}
 use Rattle.afdx_arrivals.specs.Claims.{Ports, ports_of}
-use Rattle.afdx_arrivals.specs.ListText.{lines_themselves}
 use Rattle.afdx_arrivals.specs.NumberLines.{Lines}
 use Rattle.afdx_arrivals.specs.OrderedRecording.{OrderedRecording}
 use Rattle.afdx_arrivals.specs.Over.{both, whole_of_two, CutOfTwo}
+use Rattle.afdx_arrivals.specs.ReadPair.{IsNewOne, IsNewPair}
 use Rattle.afdx_arrivals.specs.RecordingRun.{AreCutOffInPair, IfBoth, taken_of_pair}
 use Rattle.afdx_arrivals.specs.Taking.{AreCutOff, taken_of_bytes}
 use Rattle.afdx_arrivals.specs.TakenRun.{TakenAnswers}
@@ -16,8 +17,9 @@ use Rattle.afdx_arrivals.specs.declared.becoming.RecordingOptions.{RecordingOpti
 use Rattle.afdx_arrivals.specs.declared.counts.Tally.{Tally}
 use Rattle.afdx_arrivals.specs.declared.pair_options.PairOptions.{PairOptions}
 use Rattle.afdx_arrivals.specs.declared.senders.SystemPorts.{SystemPorts}
+use Rattle.afdx_arrivals.specs.declared.timed_numbers.TimedNumbers.{TimedNumbers}
 use Rattle.afdx_arrivals.specs.declared.timed_pair.TimedPair.{TimedPair}
-use Rattle.afdx_arrivals.proofs.PairAnswerLemmas.{IsSetBy, by-options, if-both, settings-of}
+use Rattle.afdx_arrivals.proofs.PairAnswerLemmas.{by-options, if-both, new-set, settings-of}
 
 first_in : Option (List ℕ × List ℕ) → List ℕ
 first_in None = []
@@ -44,35 +46,38 @@ of-both : (x y : Option (List ℕ)) (Q : List ℕ × List ℕ → Type 0) → If
 of-both x y Q h a b ka kb =
     subst (λ (o : Option (List ℕ)). IfSome (both (Some a) o) Q) kb (subst (λ (o : Option (List ℕ)). IfSome (both o y) Q) ka h)
 
--- of one, by the options and the ports that the source was made with
-pub one-by : (o o' : RecordingOptions) (p p' : SystemPorts) → o ≡ o' → p ≡ p' → (left rest : Option (List ℕ))
-    (done told begins : Lines → Type 0) (r : Result Tally RunFault)
-    → IfSome left (λ bytes. TakenAnswers (taken_of_bytes (options_of o) (ports_of p) bytes)
-    (AreCutOff (options_of o) (ports_of p) bytes rest) lines_themselves done told begins r)
-    → IfSome left (λ bytes. TakenAnswers (taken_of_bytes (options_of o') (ports_of p') bytes)
-    (AreCutOff (options_of o') (ports_of p') bytes rest) lines_themselves done told begins r)
-one-by o o' p p' e f left rest done told begins r h =
-    subst (λ (q : SystemPorts). IfSome left (λ bytes. TakenAnswers (taken_of_bytes (options_of o') (ports_of q) bytes)
-    (AreCutOff (options_of o') (ports_of q) bytes rest) lines_themselves done told begins r)) f
-    (subst (λ (q : RecordingOptions). IfSome left (λ bytes. TakenAnswers (taken_of_bytes (options_of q) (ports_of p) bytes)
-    (AreCutOff (options_of q) (ports_of p) bytes rest) lines_themselves done told begins r)) e h)
+-- ---- what is answered by the options and the ports that a source was made with
 
--- and of two
-pub two-by : {R : Type 0} (remaining : R → Option (List ℕ)) (start rest : BySide (Watched R))
-    (source : TimedPair OrderedRecording) (options : PairOptions) (ports : Ports)
-    → IsSetBy options ports (settings-of source)
-    → (done told begins : Lines → Type 0) (r : Result Tally RunFault)
-    → IfSome (both (remaining start.a.inner) (remaining start.b.inner)) (λ bytes.
-    TakenAnswers (whole_of_two (settings-of source) bytes) (CutOfTwo remaining (settings-of source) bytes rest)
-    lines_themselves done told begins r)
-    → IfBoth (remaining start.a.inner) (remaining start.b.inner) (λ a b.
-    TakenAnswers (taken_of_pair options ports a b) (AreCutOffInPair options ports remaining a b rest)
-    lines_themselves done told begins r)
-two-by remaining start rest source options ports set done told begins r h =
-    if-both (remaining start.a.inner) (remaining start.b.inner)
-    (λ a b. TakenAnswers (taken_of_pair options ports a b) (AreCutOffInPair options ports remaining a b rest)
-    lines_themselves done told begins r)
-    (λ a b known_a known_b. by-options remaining start rest source options ports set lines_themselves done told begins
-    a b known_a known_b r (of-both (remaining start.a.inner) (remaining start.b.inner) (λ bytes.
-    TakenAnswers (whole_of_two (settings-of source) bytes) (CutOfTwo remaining (settings-of source) bytes rest)
-    lines_themselves done told begins r) h a b known_a known_b))
+module _ {H : Type 0} (items_of : Lines → List (Item H)) (done told begins : List (Item H) → Type 0)
+    (r : Result Tally RunFault) where
+  -- of one
+  abbrev OneAnswers : (left rest : Option (List ℕ)) → RecordingOptions → SystemPorts → Type 0
+  OneAnswers left rest o p =
+      IfSome left (λ bytes. TakenAnswers (taken_of_bytes (options_of o) (ports_of p) bytes)
+      (AreCutOff (options_of o) (ports_of p) bytes rest) items_of done told begins r)
+
+  pub one-by : (o : RecordingOptions) (p : SystemPorts) (source : TimedNumbers OrderedRecording) → IsNewOne o p source
+      → (left rest : Option (List ℕ))
+      → OneAnswers left rest source.numbers.source.options source.numbers.source.ports → OneAnswers left rest o p
+  one-by o p source new left rest h =
+      subst (λ (q : SystemPorts). OneAnswers left rest o q) new.ports_are
+      (subst (λ (q : RecordingOptions). OneAnswers left rest q source.numbers.source.ports) new.options_are h)
+
+  -- and of two
+  pub two-by : {R : Type 0} (remaining : R → Option (List ℕ)) (start rest : BySide (Watched R))
+      (options : PairOptions) (ports : Ports) (source : TimedPair OrderedRecording) → IsNewPair options ports source
+      → IfSome (both (remaining start.a.inner) (remaining start.b.inner)) (λ bytes.
+      TakenAnswers (whole_of_two (settings-of source) bytes) (CutOfTwo remaining (settings-of source) bytes rest)
+      items_of done told begins r)
+      → IfBoth (remaining start.a.inner) (remaining start.b.inner) (λ a b.
+      TakenAnswers (taken_of_pair options ports a b) (AreCutOffInPair options ports remaining a b rest)
+      items_of done told begins r)
+  two-by remaining start rest options ports source new h =
+      if-both (remaining start.a.inner) (remaining start.b.inner)
+      (λ a b. TakenAnswers (taken_of_pair options ports a b) (AreCutOffInPair options ports remaining a b rest)
+      items_of done told begins r)
+      (λ a b known_a known_b. by-options remaining start rest source options ports (new-set options ports source new)
+      items_of done told begins
+      a b known_a known_b r (of-both (remaining start.a.inner) (remaining start.b.inner) (λ bytes.
+      TakenAnswers (whole_of_two (settings-of source) bytes) (CutOfTwo remaining (settings-of source) bytes rest)
+      items_of done told begins r) h a b known_a known_b))
