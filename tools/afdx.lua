@@ -231,9 +231,9 @@ end
 
 register_postdissector(afdx)
 
--- ---- what stands behind a datagram -----------------------------------------------------------
+-- ---- what follows a datagram ----------------------------------------------------------------
 
--- Padding of zeros with the sequence number behind it is taken for a trailer of an AFDX frame. Else
+-- Padding of zeros with the sequence number after it is taken for a trailer of an AFDX frame. Else
 -- Wireshark notes at each short frame that its padding isn't zero, and takes the end of a frame
 -- whose recording doesn't say otherwise for a check sequence.
 local FIRST, LAST = Address.ether("03:00:00:00:00:00"), Address.ether("03:00:00:00:ff:ff")

@@ -41,7 +41,7 @@ def meaning(line: str, again: Sequence[str] = ()) -> str:
 
 
 def explain(line: str, again: Sequence[str] = ()) -> None:
-    """Says what a fault that was told just now means, if standard error is a terminal, as the
+    """Says what a fault that was reported just now means, if standard error is a terminal, as the
     program itself does."""
     if sys.stderr is not None and sys.stderr.isatty():
         with contextlib.suppress(OSError, Refused):
@@ -49,7 +49,7 @@ def explain(line: str, again: Sequence[str] = ()) -> None:
 
 
 def explain_all(lines: Iterable[str], again: Sequence[str] = ()) -> None:
-    """The same of several, each meaning once, behind the first line that has it."""
+    """The same of several, each meaning once, after the first line that has it."""
     if not sys.stderr.isatty():
         return
     known = set()

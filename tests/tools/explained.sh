@@ -7,7 +7,7 @@ on_terminal() { # WORD.. : standard error, a terminal, goes to $work/out
     launch "$python" tests/lib/on_terminal.py "$@"
 }
 
-# The fault's line comes first, and behind it all that the program says of it.
+# The fault's line comes first, and after it all that the program says of it.
 explained() { # NAME STATUS LINE WORD.. : LINE is what the tool writes, its name before it
     local name=$1 wanted=$2 line=$3
     shift 3
