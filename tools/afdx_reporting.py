@@ -15,6 +15,7 @@ from afdx_checked import Checked
 from afdx_compare import compared, other_report, words_of
 from afdx_counting import Counting
 from afdx_criteria import judged, status_of, suite_of, write_junit
+from afdx_explaining import explain
 from afdx_listing import Listing
 from afdx_page import page
 from afdx_ranking import FEWEST, latency_text, nearest, ranked
@@ -203,4 +204,5 @@ def run_report(tool: str, args: argparse.Namespace) -> int:
     for line in [report["fault"], *report["unmet"]]:
         if line:
             print(f"{tool}: {line}", file=sys.stderr)
+            explain(line)
     return status_of(report["status"], report["unmet"])

@@ -75,7 +75,7 @@ def check(afdx: str, config: str) -> Checked:
     """What `check` says of the configuration."""
     run = subprocess.run([afdx, "check", config], capture_output=True, text=True, check=False)
     if run.stderr:
-        raise Failed(run.stderr.strip(), run.returncode)
+        raise Failed(run.stderr.strip(), run.returncode, ["check", config])
     return checked_of(run.stdout.splitlines())
 
 

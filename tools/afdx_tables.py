@@ -71,7 +71,8 @@ def as_text(rows: Sequence[Row]) -> str:
         return "(none)\n"
     table = [heads(rows)] + [[cell(value) for value in row.values()] for row in rows]
     widths = [max(len(line[n]) for line in table) for n in range(len(table[0]))]
-    is_number = [isinstance(value, (int, float)) or value is None for value in rows[0].values()]
+    columns = zip(*(row.values() for row in rows))
+    is_number = [all(v is None or isinstance(v, (int, float)) for v in each) for each in columns]
     lines = []
     for line in table:
         cells = (c.rjust(w) if n else c.ljust(w) for c, w, n in zip(line, widths, is_number))

@@ -9,8 +9,9 @@ import stat
 import sys
 import tempfile
 import time
-from typing import IO, Callable, Iterator, NoReturn
+from typing import IO, Callable, Iterator, NoReturn, Sequence
 
+from afdx_explaining import explain
 from afdx_tools import Refused, leave
 
 WAIT = 2.0  # seconds after which progress is told
@@ -99,11 +100,13 @@ class Progress:
 
 
 class Failed(Exception):
-    """The program ended with a fault before there was anything to report."""
+    """The program ended with a fault before there was anything to report. `again` are words of the
+    program that end with this fault at once, if there are such."""
 
-    def __init__(self, line: str, status: int) -> None:
+    def __init__(self, line: str, status: int, again: Sequence[str] = ()) -> None:
         super().__init__(line)
         self.status = status
+        self.again = again
 
 
 def streams() -> bool:
@@ -128,7 +131,9 @@ def streams() -> bool:
 def end_of(tool: str, error: BaseException, stopped: str) -> NoReturn:
     """The last line and the status for an exception."""
     if isinstance(error, Failed):
-        leave(tool, error, error.status)
+        print(f"{tool}: {error}", file=sys.stderr)
+        explain(str(error), error.again)
+        sys.exit(error.status)
     if isinstance(error, Refused):
         leave(tool, shown(str(error)))
     if isinstance(error, KeyboardInterrupt):
