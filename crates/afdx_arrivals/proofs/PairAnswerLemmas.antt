@@ -1,6 +1,6 @@
 -- What a run over two recordings answers, from what it hands from them to its machine.
 use Rattle.std.proofs.Common.{◌≡◌, ℕ, ◌≤◌, List, [], ◌∷◌, ◌++◌, length, refl, ap, sym, ◌∙◌, subst, arith}
-use Rattle.std.proofs.Common.{Option, Some, None, Result, Err, Bool, false, ◌||◌, inl, inr}
+use Rattle.std.proofs.Common.{IfSome, Option, Some, None, Result, Err, Bool, false, ◌||◌, inl, inr}
 use Rattle.afdx_frame.specs.declared.by_side.BySide.{BySide}
 use Rattle.afdx_frame.specs.declared.link.Side.TheVariants.{A, B}
 use Rattle.afdx_lists.specs.Calls.{is_read}
@@ -14,17 +14,15 @@ use Rattle.afdx_run.specs.Engine.{Item}
 use Rattle.afdx_arrivals.specs.declared.ahead.Ahead.{Ahead}
 use Rattle.afdx_arrivals.specs.declared.ahead.AtHead.{AtHead}
 use Rattle.afdx_arrivals.specs.declared.ahead.AtHead.TheVariants as at
-use Rattle.afdx_arrivals.specs.declared.becoming.RecordingOptions.{RecordingOptions}
 use Rattle.afdx_arrivals.specs.declared.counts.Tally.{Tally}
 use Rattle.afdx_arrivals.specs.declared.pair_options.PairOptions.{PairOptions}
-use Rattle.afdx_arrivals.specs.declared.senders.SystemPorts.{SystemPorts}
 use Rattle.afdx_arrivals.specs.declared.timed_pair.TimedPair.{TimedPair}
-use Rattle.afdx_arrivals.specs.Becoming.{Options, options_of}
+use Rattle.afdx_arrivals.specs.Becoming.{Options}
 use Rattle.afdx_arrivals.specs.Claims.{Ports, ports_of}
 use Rattle.afdx_arrivals.specs.Counting.{IsFew, plus_tally}
 use Rattle.afdx_arrivals.specs.ListText.{lines_themselves}
 use Rattle.afdx_arrivals.specs.NumberLines.{Lines}
-use Rattle.afdx_arrivals.specs.Over.{IsAsked, Takes}
+use Rattle.afdx_arrivals.specs.Over.{CutOfTwo, IsAsked, Takes, both, of_set, way_of_two, whole_of_two}
 use Rattle.afdx_arrivals.specs.PairOptions.{options_of_a, options_of_b}
 use Rattle.afdx_arrivals.specs.PairSource.{IsAhead, IsAheadBy, IsPaired, NoneIsBefore, StopsPairing, head_by}
 use Rattle.afdx_arrivals.specs.OrderedRecording.{OrderedRecording, IsSetInOrder, HasTaken, HasTakenAll, HasStoppedTaking}
@@ -34,13 +32,13 @@ use Rattle.afdx_arrivals.specs.ReadPair.{IsNewPair}
 use Rattle.afdx_arrivals.specs.RecordingRun.{AreCutOffInPair, IfBoth, of_a, of_b, taken_of_pair}
 use Rattle.afdx_arrivals.specs.RecordingSource.{first_standing}
 use Rattle.afdx_arrivals.specs.Sequences.{Numbers, latest_of, numbers_read}
-use Rattle.afdx_arrivals.specs.Taking.{Taken, AreCutOffAtOne, sequence_of_bytes, side_of, taken_of_both}
+use Rattle.afdx_arrivals.specs.Taking.{AreCutOffAtOne, sequence_of_bytes, side_of, taken_of_both}
 use Rattle.afdx_arrivals.specs.TakenRun.{TakenAnswers}
 use Rattle.afdx_arrivals.specs.TimedPairSource.{HasPaired, HasPairedAll, HasStoppedPairing}
 use Rattle.afdx_arrivals.specs.Timing.{origin_in, timed}
 use Rattle.afdx_arrivals.proofs.OrderedKnownLemmas.{ended-all, taken-sound, all-sound, stopped-sound}
 use Rattle.afdx_arrivals.proofs.LawLemmas.{sequences-agree}
-use Rattle.afdx_arrivals.proofs.PairRunLemmas.{Whole, AreCut, pair-gave, pair-ended, pair-stopped, named-read, network-unread}
+use Rattle.afdx_arrivals.proofs.PairRunLemmas.{pair-gave, pair-ended, pair-stopped, named-read, network-unread}
 use Rattle.afdx_arrivals.proofs.PairRunLemmas.{either-false, either-left, either-right, sound-by}
 use Rattle.afdx_arrivals.proofs.RecordingRunLemmas.{asked-by, gave-start}
 use Rattle.afdx_arrivals.proofs.SourceLemmas.{few-claimed, few-skipped}
@@ -53,6 +51,33 @@ if-both (Some x) (Some y) P f = f x y refl refl
 if-both (Some x) None P f = tt
 if-both None (Some y) P f = tt
 if-both None None P f = tt
+
+pub both-more : (x y : Option (List ℕ)) (Q : List ℕ × List ℕ → Type 0) (P : List ℕ → List ℕ → Type 0)
+    → ((a b : List ℕ) → Q (a, b) → P a b) → IfSome (both x y) Q → IfBoth x y P
+both-more (Some a) (Some b) Q P f h = f a b h
+both-more (Some a) None Q P f h = tt
+both-more None (Some b) Q P f h = tt
+both-more None None Q P f h = tt
+
+first_in : Option (List ℕ × List ℕ) → List ℕ
+first_in None = []
+first_in (Some p) = p.0
+
+second_in : Option (List ℕ × List ℕ) → List ℕ
+second_in None = []
+second_in (Some p) = p.1
+
+pub both-a : (a b : Option (List ℕ)) (bytes : List ℕ × List ℕ) → both a b ≡ Some bytes → a ≡ Some bytes.0
+unfolding first_in
+both-a (Some a) (Some b) bytes e = ap (λ (o : Option (List ℕ × List ℕ)). Some (first_in o)) e
+both-a (Some a) None bytes e = absurd (cc)
+both-a None b bytes e = absurd (cc)
+
+pub both-b : (a b : Option (List ℕ)) (bytes : List ℕ × List ℕ) → both a b ≡ Some bytes → b ≡ Some bytes.1
+unfolding second_in
+both-b (Some a) (Some b) bytes e = ap (λ (o : Option (List ℕ × List ℕ)). Some (second_in o)) e
+both-b (Some a) None bytes e = absurd (cc)
+both-b None b bytes e = absurd (cc)
 
 same-tallies : (a b c d : Tally) → a ≡ c → b ≡ d → plus_tally a b ≡ plus_tally c d
 same-tallies a b c d e f = rw (e, f) refl
@@ -195,14 +220,9 @@ module _ {R : Type 0} (remaining : R → Option (List ℕ)) (start inputs : BySi
   module _ (set_a : IsSetInOrder source.pair.a.source) (set_b : IsSetInOrder source.pair.b.source)
       (bytes_a bytes_b : List ℕ) (known_a : remaining start.a.inner ≡ Some bytes_a)
       (known_b : remaining start.b.inner ≡ Some bytes_b) where
-    abbrev All : Taken
-    All = Whole remaining start inputs source set_a set_b bytes_a bytes_b known_a known_b
-
-    abbrev Cut : Lines → Type 0
-    Cut = AreCut remaining start inputs source set_a set_b bytes_a bytes_b known_a known_b
-
     tally-of-two : (lines : Lines) → Ended lines
-        → plus_tally (tally_of_source source.pair.a.source) (tally_of_source source.pair.b.source) ≡ All.tally
+        → plus_tally (tally_of_source source.pair.a.source) (tally_of_source source.pair.b.source)
+        ≡ (whole_of_two (way_of_two source) (bytes_a, bytes_b)).tally
     tally-of-two lines k =
         let a = ended-all remaining start.a inputs.a source.pair.a.source set_a k.is_paired.taken_a bytes_a known_a
         k.is_paired.ended_a in
@@ -210,7 +230,8 @@ module _ {R : Type 0} (remaining : R → Option (List ℕ)) (start inputs : BySi
         k.is_paired.ended_b in
         same-tallies _ _ _ _ a.tally b.tally
 
-    pub two-take : Takes lines_themselves All Cut Gave Ended Stopped
+    pub two-take : Takes lines_themselves (whole_of_two (way_of_two source) (bytes_a, bytes_b))
+        (CutOfTwo remaining (way_of_two source) (bytes_a, bytes_b) inputs) Gave Ended Stopped
         (plus_tally (tally_of_source source.pair.a.source) (tally_of_source source.pair.b.source))
     two-take = record {
       first = λ lines k. record {
@@ -231,42 +252,7 @@ module _ {R : Type 0} (remaining : R → Option (List ℕ)) (start inputs : BySi
       };
     }
 
--- ---- by which settings
-
-abbrev Settings : Type 0
-Settings = (RecordingOptions × SystemPorts) × ℕ
-
-abbrev pub PairSettings : Type 0
-PairSettings = Settings × Settings × Option ℕ
-
-abbrev pub settings-of : TimedPair OrderedRecording → PairSettings
-settings-of source = (
-  ((source.pair.a.source.source.options, source.pair.a.source.source.ports), source.pair.a.source.most),
-  ((source.pair.b.source.source.options, source.pair.b.source.source.ports), source.pair.b.source.most),
-  source.clock.said,
-)
-
--- the sequences are those of the options
-pub record IsSetBy (options : PairOptions) (ports : Ports) (s : PairSettings) : Type 0 where
-  pub a : (bytes : List ℕ) → sequence_of_bytes (options_of s.0.0.0) (ports_of s.0.0.1) bytes ≡ of_a options ports bytes
-  pub b : (bytes : List ℕ) → sequence_of_bytes (options_of s.1.0.0) (ports_of s.1.0.1) bytes ≡ of_b options ports bytes
-  pub order_a : s.0.1 ≡ s.0.0.0.reorder
-  pub order_b : s.1.1 ≡ s.1.0.0.reorder
-  pub said : s.2 ≡ options.origin
-
-pub new-set : (options : PairOptions) (ports : Ports) (source : TimedPair OrderedRecording)
-    → IsNewPair options ports source → IsSetBy options ports (settings-of source)
-new-set options ports source new =
-    let of_a = source.pair.a.source.source in
-    let of_b = source.pair.b.source.source in record {
-      a = λ bytes. ap (λ (o : Options). sequence_of_bytes o (ports_of of_a.ports) bytes) new.options_a
-          ∙ sequences-agree (options_of_a options) (ports_of of_a.ports) ports _ new.ports_a;
-      b = λ bytes. ap (λ (o : Options). sequence_of_bytes o (ports_of of_b.ports) bytes) new.options_b
-          ∙ sequences-agree (options_of_b options) (ports_of of_b.ports) ports _ new.ports_b;
-      order_a = new.order_a;
-      order_b = new.order_b;
-      said = new.said;
-    }
+-- ---- by the options and the ports that they were made with
 
 cut-same : (said said' : Option ℕ) (a a' b b' : List ℕ → Sequence) → said ≡ said'
     → ((bytes : List ℕ) → a bytes ≡ a' bytes) → ((bytes : List ℕ) → b bytes ≡ b' bytes)
@@ -278,29 +264,41 @@ cut-same said said' a a' b b' e f g fa fb bytes_a bytes_b rest_a rest_b lines (i
 cut-same said said' a a' b b' e f g fa fb bytes_a bytes_b rest_a rest_b lines (inr (failed, (read, gave, is))) =
     inr (failed, (read, gave, rw (← e, ← f bytes_a, ← g read) is))
 
-module _ {R : Type 0} (remaining : R → Option (List ℕ)) (start inputs : BySide (Watched R))
-    (source : TimedPair OrderedRecording) (options : PairOptions) (ports : Ports)
-    (set : IsSetBy options ports (settings-of source)) {H : Type 0} (items_of : Lines → List (Item H))
-    (done told begins : List (Item H) → Type 0) where
-  pub by-options : (bytes_a bytes_b : List ℕ) (known_a : remaining start.a.inner ≡ Some bytes_a)
-      (known_b : remaining start.b.inner ≡ Some bytes_b) (r : Result Tally RunFault)
-      → TakenAnswers (Whole remaining start inputs source set.order_a set.order_b bytes_a bytes_b known_a known_b)
-      (AreCut remaining start inputs source set.order_a set.order_b bytes_a bytes_b known_a known_b) items_of done told begins r
-      → TakenAnswers (taken_of_pair options ports bytes_a bytes_b)
-      (AreCutOffInPair options ports remaining bytes_a bytes_b inputs) items_of done told begins r
-  by-options bytes_a bytes_b known_a known_b r h =
-      answers-same (Whole remaining start inputs source set.order_a set.order_b bytes_a bytes_b known_a known_b)
-      (taken_of_pair options ports bytes_a bytes_b)
-      (AreCut remaining start inputs source set.order_a set.order_b bytes_a bytes_b known_a known_b)
-      (AreCutOffInPair options ports remaining bytes_a bytes_b inputs) items_of done told begins r
-      (same-taken _ _ _ _ _ _ (set.a bytes_a) (set.b bytes_b) set.said)
+module _ (options : PairOptions) (ports : Ports) (source : TimedPair OrderedRecording)
+    (new : IsNewPair options ports source) where
+  same-a : (bytes : List ℕ) → of_set (way_of_two source).0 bytes ≡ of_a options ports bytes
+  same-a bytes =
+      let of_a = source.pair.a.source.source in
+      ap (λ (o : Options). sequence_of_bytes o (ports_of of_a.ports) bytes) new.options_a
+      ∙ sequences-agree (options_of_a options) (ports_of of_a.ports) ports _ new.ports_a
+
+  same-b : (bytes : List ℕ) → of_set (way_of_two source).1 bytes ≡ of_b options ports bytes
+  same-b bytes =
+      let of_b = source.pair.b.source.source in
+      ap (λ (o : Options). sequence_of_bytes o (ports_of of_b.ports) bytes) new.options_b
+      ∙ sequences-agree (options_of_b options) (ports_of of_b.ports) ports _ new.ports_b
+
+  pub two-by : {H : Type 0} (items_of : Lines → List (Item H)) (done told begins : List (Item H) → Type 0)
+      (r : Result Tally RunFault) {R : Type 0} (remaining : R → Option (List ℕ)) (start rest : BySide (Watched R))
+      → IfSome (both (remaining start.a.inner) (remaining start.b.inner)) (λ bytes.
+      TakenAnswers (whole_of_two (way_of_two source) bytes) (CutOfTwo remaining (way_of_two source) bytes rest)
+      items_of done told begins r)
+      → IfBoth (remaining start.a.inner) (remaining start.b.inner) (λ a b.
+      TakenAnswers (taken_of_pair options ports a b) (AreCutOffInPair options ports remaining a b rest)
+      items_of done told begins r)
+  two-by items_of done told begins r remaining start rest =
+      both-more (remaining start.a.inner) (remaining start.b.inner)
+      (λ bytes. TakenAnswers (whole_of_two (way_of_two source) bytes) (CutOfTwo remaining (way_of_two source) bytes rest)
+      items_of done told begins r)
+      (λ a b. TakenAnswers (taken_of_pair options ports a b) (AreCutOffInPair options ports remaining a b rest)
+      items_of done told begins r)
+      (λ a b h. answers-same (whole_of_two (way_of_two source) (a, b)) (taken_of_pair options ports a b)
+      (CutOfTwo remaining (way_of_two source) (a, b) rest) (AreCutOffInPair options ports remaining a b rest)
+      items_of done told begins r (same-taken _ _ _ _ _ _ (same-a a) (same-b b) new.said)
       (λ lines k. cut-same source.clock.said options.origin
-      (sequence_of_bytes (options_of source.pair.a.source.source.options) (ports_of source.pair.a.source.source.ports))
-      (of_a options ports)
-      (sequence_of_bytes (options_of source.pair.b.source.source.options) (ports_of source.pair.b.source.source.ports))
-      (of_b options ports) set.said set.a set.b
-      (has_failed inputs.a) (has_failed inputs.b) bytes_a bytes_b (remaining (device_of inputs.a))
-      (remaining (device_of inputs.b)) lines k) h
+      (of_set (way_of_two source).0) (of_a options ports) (of_set (way_of_two source).1) (of_b options ports)
+      new.said same-a same-b (has_failed rest.a) (has_failed rest.b) a b (remaining (device_of rest.a))
+      (remaining (device_of rest.b)) lines k) h)
 
 -- ---- before the first read
 

@@ -1,6 +1,6 @@
 -- What a run over a recording answers, from what it hands from the recording to its machine.
 use Rattle.std.proofs.Common.{◌≡◌, ◌≤◌, ◌+◌, ℕ, List, [], ◌∷◌, ◌++◌, length, length-append, if◌then◌else◌, refl, ap, sym, ◌∙◌, subst}
-use Rattle.std.proofs.Common.{Option, Some, None, Err, IfSome, arith, true, false, Bool, inl, inr}
+use Rattle.std.proofs.Common.{Option, Some, None, Result, Err, IfSome, arith, true, false, Bool, inl, inr}
 use Rattle.std.specs.Io.KnownBytes.{Consumes}
 use Rattle.std.proofs.KnownBytes.{Consumes-nil}
 use Rattle.std.proofs.Math.Seq.{take-nil}
@@ -17,6 +17,7 @@ use Rattle.afdx_recordings.specs.declared.held.Held.{Held}
 use Rattle.afdx_run.specs.Engine.{Item}
 use Rattle.afdx_text.specs.Sinks.{IsOfOutput}
 use Rattle.afdx_arrivals.specs.declared.becoming.RecordingOptions.{RecordingOptions}
+use Rattle.afdx_arrivals.specs.declared.counts.Tally.{Tally}
 use Rattle.afdx_arrivals.specs.declared.number.Number.{Number}
 use Rattle.afdx_arrivals.specs.declared.senders.SystemPorts.{SystemPorts}
 use Rattle.afdx_arrivals.specs.declared.timed_numbers.TimedNumbers.{TimedNumbers}
@@ -39,7 +40,7 @@ use Rattle.afdx_arrivals.specs.Timing.{Timed, fault_or, origin_in, timed}
 use Rattle.afdx_arrivals.proofs.OrderedKnownLemmas.{AreAll, CanStop, IsSound, taken-sound, all-sound, stopped-sound}
 use Rattle.afdx_arrivals.proofs.OrderedKnownLemmas.{given-first, ended-all, stopped-fault, stopped-read}
 use Rattle.afdx_arrivals.proofs.OrderedKnownLemmas.{stopped-memory, can-stop}
-use Rattle.afdx_arrivals.specs.Over.{AreFirstLines, AreAllLines, IsAsked, IsSetOne, StopsBehindLines, Takes}
+use Rattle.afdx_arrivals.specs.Over.{AreFirstLines, AreAllLines, IsAsked, IsSetOne, StopsBehindLines, Takes, way_of_one}
 use Rattle.afdx_arrivals.proofs.TakenLemmas.{taken-start}
 use Rattle.afdx_arrivals.proofs.TimingLemmas.{timed-extends, timed-stopped}
 
@@ -300,8 +301,21 @@ module _ (o : RecordingOptions) (p : SystemPorts) (source : TimedNumbers Ordered
   }
 
   -- and it is set as its options say
-  pub one-set : IsSetOne (((source.numbers.source.options, source.numbers.source.ports), source.numbers.most), source.clock.said)
+  pub one-set : IsSetOne (way_of_one source)
   one-set = record { order = new.order; said = new.said ∙ sym (ap (λ (o : RecordingOptions). o.origin) new.options_are) }
+
+  -- what is answered by the options and the ports that it was made with
+  module _ {H : Type 0} (items_of : Lines → List (Item H)) (done told begins : List (Item H) → Type 0)
+      (r : Result Tally RunFault) (left rest : Option (List ℕ)) where
+    abbrev OneAnswers : RecordingOptions → SystemPorts → Type 0
+    OneAnswers o p =
+        IfSome left (λ bytes. TakenAnswers (taken_of_bytes (options_of o) (ports_of p) bytes)
+        (AreCutOff (options_of o) (ports_of p) bytes rest) items_of done told begins r)
+
+    pub one-by : OneAnswers source.numbers.source.options source.numbers.source.ports → OneAnswers o p
+    one-by h =
+        subst (λ (q : SystemPorts). OneAnswers o q) new.ports_are
+        (subst (λ (q : RecordingOptions). OneAnswers q source.numbers.source.ports) new.options_are h)
 
 -- no lines are no arrivals
 pub listed-none : arrivals_listed [] ≡ []

@@ -9,6 +9,7 @@ use Rattle.afdx_run.specs.Engine.{Item}
 use Rattle.afdx_arrivals.specs.Becoming.{options_of}
 use Rattle.afdx_arrivals.specs.Claims.{ports_of}
 use Rattle.afdx_arrivals.specs.NumberLines.{AreItems, Lines}
+use Rattle.afdx_arrivals.specs.OrderedRecording.{OrderedRecording}
 use Rattle.afdx_arrivals.specs.Ordering.{Sequence}
 use Rattle.afdx_arrivals.specs.RecordingRun.{IsAskedOnce}
 use Rattle.afdx_arrivals.specs.Taking.{Taken, AreCutOff, AreCutOffAtOne, sequence_of_bytes, taken_of_both, taken_of_bytes}
@@ -16,6 +17,8 @@ use Rattle.afdx_arrivals.specs.TakenRun.{HasNoFault}
 use Rattle.afdx_arrivals.specs.declared.counts.Tally.{Tally}
 use Rattle.afdx_arrivals.specs.declared.becoming.RecordingOptions.{RecordingOptions}
 use Rattle.afdx_arrivals.specs.declared.senders.SystemPorts.{SystemPorts}
+use Rattle.afdx_arrivals.specs.declared.timed_numbers.TimedNumbers.{TimedNumbers}
+use Rattle.afdx_arrivals.specs.declared.timed_pair.TimedPair.{TimedPair}
 
 -- one that was not over was asked at most once for each byte that it gave, and once more
 abbrev pub IsAsked : {R : Type 0} → (R → Option (List ℕ)) → (first last : Watched R) → Type 0
@@ -57,6 +60,12 @@ pub record Takes {H : Type 0} (items_of : Lines → List (Item H)) (whole : Take
 abbrev pub Set : Type 0
 Set = (RecordingOptions × SystemPorts) × ℕ
 
+abbrev set_of : OrderedRecording → Set
+set_of source = ((source.source.options, source.source.ports), source.most)
+
+abbrev pub way_of_one : TimedNumbers OrderedRecording → Set × Option ℕ
+way_of_one source = (set_of source.numbers, source.clock.said)
+
 -- so many arrivals may come late, and time 0 is that moment, as the options say
 pub record IsSetOne (s : Set × Option ℕ) : Type 0 where
   pub order : s.0.1 ≡ s.0.0.0.reorder
@@ -76,6 +85,10 @@ abbrev pub both : Option (List ℕ) → Option (List ℕ) → Option (List ℕ �
 both (Some a) (Some b) = Some (a, b)
 both (Some a) None = None
 both None b = None
+
+abbrev pub way_of_two : TimedPair OrderedRecording → Set × Set × Option ℕ
+way_of_two source =
+    (set_of source.pair.a.source, set_of source.pair.b.source, source.clock.said)
 
 pub record IsSetTwo (s : Set × Set × Option ℕ) : Type 0 where
   pub order_a : s.0.1 ≡ s.0.0.0.reorder

@@ -143,7 +143,7 @@ pub trait Reads<H: OfLines, I: Input>: Source<H, I> {
 
 impl<R: Read> Reads<NumberLine, Watched<R>> for TimedNumbers<Ordered<ReadRecording>> {
     ghost use Rattle.afdx_arrivals.specs.OrderedRecording.{tally_of_source};
-    ghost use Rattle.afdx_arrivals.specs.Over.{Set, IsSetOne, whole_of_one, CutOfOne};
+    ghost use Rattle.afdx_arrivals.specs.Over.{Set, IsSetOne, way_of_one, whole_of_one, CutOfOne};
 
     ghost Bytes = { List ℕ };
 
@@ -155,10 +155,7 @@ impl<R: Read> Reads<NumberLine, Watched<R>> for TimedNumbers<Ordered<ReadRecordi
 
     ghost Way = { Set × Option ℕ };
 
-    ghost way = { λ source. (
-      ((source.numbers.source.options, source.numbers.source.ports), source.numbers.most),
-      source.clock.said,
-    ) };
+    ghost way = { way_of_one };
 
     ghost IsSet = { IsSetOne };
 
@@ -180,7 +177,7 @@ impl<R: Read> Reads<NumberLine, Watched<R>> for TimedNumbers<Ordered<ReadRecordi
 impl<R: Read> Reads<NumberLine, BySide<Watched<R>>> for TimedPair<Ordered<ReadRecording>> {
     ghost use Rattle.afdx_arrivals.specs.Counting.{IsFew, plus_tally};
     ghost use Rattle.afdx_arrivals.specs.OrderedRecording.{tally_of_source};
-    ghost use Rattle.afdx_arrivals.specs.Over.{both, Set, IsSetTwo, whole_of_two, CutOfTwo};
+    ghost use Rattle.afdx_arrivals.specs.Over.{both, Set, IsSetTwo, way_of_two, whole_of_two, CutOfTwo};
 
     ghost Bytes = { List ℕ × List ℕ };
 
@@ -195,17 +192,7 @@ impl<R: Read> Reads<NumberLine, BySide<Watched<R>>> for TimedPair<Ordered<ReadRe
 
     ghost Way = { Set × Set × Option ℕ };
 
-    ghost way = { λ source. (
-      (
-        (source.pair.a.source.source.options, source.pair.a.source.source.ports),
-        source.pair.a.source.most,
-      ),
-      (
-        (source.pair.b.source.source.options, source.pair.b.source.source.ports),
-        source.pair.b.source.most,
-      ),
-      source.clock.said,
-    ) };
+    ghost way = { way_of_two };
 
     ghost IsSet = { IsSetTwo };
 

@@ -3,8 +3,7 @@ use Rattle.afdx_lists.specs.declared.fault.RunFault.TheVariants as run
 use Rattle.afdx_arrivals.specs.Claims.{ports_unsaid}
 use Rattle.afdx_arrivals.specs.ListText.{WritesLines, WritesSomeLines, lines_themselves}
 use Rattle.afdx_arrivals.proofs.ListingLemmas.{lines-start}
-use Rattle.afdx_arrivals.proofs.OverTwoLemmas.{two-by}
-use Rattle.afdx_arrivals.proofs.PairAnswerLemmas.{pair-start, pair-unread}
+use Rattle.afdx_arrivals.proofs.PairAnswerLemmas.{pair-start, pair-unread, two-by}
 use Rattle.afdx_arrivals.proofs.RecordingRunLemmas.{unasked}
 use Rattle.afdx_arrivals.proofs.listing.list_pair.Goals as goal
 
@@ -48,6 +47,6 @@ pub returns-clause-answer : goal.returns-clause-answer
 returns-clause-answer g c =
     let old = g.O.Sink.written c.args.output.now in
     let new = g.O.Sink.written c.run_over.new.output in
-    two-by lines_themselves (WritesLines old new) (WritesLines old new) (WritesSomeLines old new) c.run_over.result
-    g.R.Read.remaining c.args.inputs.now c.run_over.new.input c.args.options (ports_unsaid c.args.unsaid)
-    c.in_ok-lines.lines c.in_ok-lines.ensures (c.run_over.ensures.answer tt (lines-start old))
+    two-by c.args.options (ports_unsaid c.args.unsaid) c.in_ok-lines.lines c.in_ok-lines.ensures lines_themselves
+    (WritesLines old new) (WritesLines old new) (WritesSomeLines old new) c.run_over.result
+    g.R.Read.remaining c.args.inputs.now c.run_over.new.input (c.run_over.ensures.answer tt (lines-start old))

@@ -3,8 +3,7 @@ use Rattle.afdx_arrivals.specs.Becoming.{options_of}
 use Rattle.afdx_arrivals.specs.Claims.{ports_of}
 use Rattle.afdx_arrivals.specs.ListText.{WritesLines, WritesSomeLines, lines_themselves}
 use Rattle.afdx_arrivals.proofs.ListingLemmas.{lines-start}
-use Rattle.afdx_arrivals.proofs.OverTwoLemmas.{one-by}
-use Rattle.afdx_arrivals.proofs.RecordingRunLemmas.{answers-start, one-set, timed-start, unasked}
+use Rattle.afdx_arrivals.proofs.RecordingRunLemmas.{answers-start, one-by, one-set, timed-start, unasked}
 use Rattle.afdx_arrivals.proofs.listing.list_recording.Goals as goal
 
 pub returns-in_err-lines-clause-calls : goal.returns-in_err-lines-clause-calls
@@ -37,6 +36,6 @@ pub returns-clause-answer : goal.returns-clause-answer
 returns-clause-answer g c =
     let old = g.O.Sink.written c.args.output.now in
     let new = g.O.Sink.written c.run_over.new.output in
-    one-by lines_themselves (WritesLines old new) (WritesLines old new) (WritesSomeLines old new) c.run_over.result
-    c.args.options c.args.ports c.in_ok-lines.lines c.in_ok-lines.ensures (g.R.Read.remaining c.args.input.now.inner)
+    one-by c.args.options c.args.ports c.in_ok-lines.lines c.in_ok-lines.ensures lines_themselves
+    (WritesLines old new) (WritesLines old new) (WritesSomeLines old new) c.run_over.result (g.R.Read.remaining c.args.input.now.inner)
     (g.R.Read.remaining c.run_over.new.input.inner) (c.run_over.ensures.answer tt (lines-start old))

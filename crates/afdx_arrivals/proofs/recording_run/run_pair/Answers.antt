@@ -3,8 +3,7 @@ use Rattle.afdx_lists.specs.declared.fault.RunFault.TheVariants as run
 use Rattle.afdx_arrivals.specs.Claims.{ports_unsaid}
 use Rattle.afdx_arrivals.specs.NumberLines.{arrivals_listed}
 use Rattle.afdx_arrivals.specs.ReadPair.{IsNewPair}
-use Rattle.afdx_arrivals.proofs.OverTwoLemmas.{two-by}
-use Rattle.afdx_arrivals.proofs.PairAnswerLemmas.{pair-start, pair-unread}
+use Rattle.afdx_arrivals.proofs.PairAnswerLemmas.{pair-start, pair-unread, two-by}
 use Rattle.afdx_arrivals.proofs.RecordingRunLemmas.{listed-none, unasked}
 use Rattle.afdx_arrivals.proofs.recording_run.run_pair.Goals as goal
 
@@ -58,7 +57,6 @@ returns-clause-answer g c law start =
     let ports = ports_unsaid c.args.unsaid in
     let lines = c.new-arrivals.result.lines in
     let is : IsNewPair c.args.options ports lines = rw c.new-arrivals.ensures c.in_ok-read_pair.ensures in
-    two-by arrivals_listed (g.M.Machine.Done law machine old new) (g.M.Machine.Told law machine old new)
-    (g.M.Machine.Begins law machine old new) c.run_over.result
-    g.R.Read.remaining c.args.inputs.now c.run_over.new.input c.args.options ports
-    lines is (c.run_over.ensures.answer law start)
+    two-by c.args.options ports lines is arrivals_listed (g.M.Machine.Done law machine old new)
+    (g.M.Machine.Told law machine old new) (g.M.Machine.Begins law machine old new) c.run_over.result
+    g.R.Read.remaining c.args.inputs.now c.run_over.new.input (c.run_over.ensures.answer law start)

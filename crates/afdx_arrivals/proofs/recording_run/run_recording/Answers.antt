@@ -3,8 +3,7 @@ use Rattle.afdx_arrivals.specs.Becoming.{options_of}
 use Rattle.afdx_arrivals.specs.Claims.{ports_of}
 use Rattle.afdx_arrivals.specs.NumberLines.{arrivals_listed}
 use Rattle.afdx_arrivals.specs.ReadPair.{IsNewOne}
-use Rattle.afdx_arrivals.proofs.OverTwoLemmas.{one-by}
-use Rattle.afdx_arrivals.proofs.RecordingRunLemmas.{answers-start, listed-none, one-set, timed-start, unasked}
+use Rattle.afdx_arrivals.proofs.RecordingRunLemmas.{answers-start, listed-none, one-by, one-set, timed-start, unasked}
 use Rattle.afdx_arrivals.proofs.recording_run.run_recording.Goals as goal
 
 pub returns-in_err-read_one-clause-calls : goal.returns-in_err-read_one-clause-calls
@@ -43,7 +42,6 @@ returns-clause-answer g c law start =
     let new = g.O.Sink.written c.run_over.new.output in
     let lines = c.new-arrivals.result.lines in
     let is : IsNewOne c.args.options c.args.ports lines = rw c.new-arrivals.ensures c.in_ok-read_one.ensures in
-    one-by arrivals_listed (g.M.Machine.Done law machine old new) (g.M.Machine.Told law machine old new)
-    (g.M.Machine.Begins law machine old new) c.run_over.result
-    c.args.options c.args.ports lines is (g.R.Read.remaining c.args.input.now.inner)
+    one-by c.args.options c.args.ports lines is arrivals_listed (g.M.Machine.Done law machine old new)
+    (g.M.Machine.Told law machine old new) (g.M.Machine.Begins law machine old new) c.run_over.result (g.R.Read.remaining c.args.input.now.inner)
     (g.R.Read.remaining c.run_over.new.input.inner) (c.run_over.ensures.answer law start)

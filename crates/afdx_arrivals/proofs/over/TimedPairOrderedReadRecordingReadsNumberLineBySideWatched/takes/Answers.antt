@@ -1,5 +1,4 @@
-use Rattle.afdx_arrivals.proofs.OverTwoLemmas.{both-a, both-b}
-use Rattle.afdx_arrivals.proofs.PairAnswerLemmas.{two-take}
+use Rattle.afdx_arrivals.proofs.PairAnswerLemmas.{both-a, both-b, two-take}
 use Rattle.afdx_arrivals.proofs.over.TimedPairOrderedReadRecordingReadsNumberLineBySideWatched.takes.Goals as goal
 
 pub returns : goal.returns
