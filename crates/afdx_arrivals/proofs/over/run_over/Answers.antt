@@ -10,15 +10,10 @@ returns-in_err-drive-clause-read g c =
     let start = c.args.input.now in
     let input = c.drive.new.input in
     let source = c.drive.new.source in
-    let machine = c.drive.new.machine in
-    let old = g.O.Sink.written c.args.output.now in
-    let new = g.O.Sink.written c.drive.new.output in
     let fault = c.in_err-drive.field-0.0 in
     let reads = c.reads.ensures in
     let e : c.from_residual.result ≡ Err fault = search rules in
-    rw e (over-err (g.S.Source.Gave start source input) (g.S.Source.Ended start source input)
-    (g.S.Source.Stopped start source input) (g.M.Machine.Done told.0 machine old new)
-    (g.M.Machine.Told told.0 machine old new) (g.M.Machine.Begins told.0 machine old new)
+    rw e (over-err _ _ (g.S.Source.Stopped start source input) (λ past. Unit {0}) _ _
     (g.I.Input.failed input ≡ is_read fault) fault
     (λ past k. reads.stopped start input source past fault k)
     (λ is past k. reads.gave start input source past k ∙ sym (not_read fault is))
@@ -31,14 +26,9 @@ returns-in_err-drive-clause-calls g c =
     let start = c.args.input.now in
     let input = c.drive.new.input in
     let source = c.drive.new.source in
-    let machine = c.drive.new.machine in
-    let old = g.O.Sink.written c.args.output.now in
-    let new = g.O.Sink.written c.drive.new.output in
     let fault = c.in_err-drive.field-0.0 in
     let reads = c.reads.ensures in
-    over-err (g.S.Source.Gave start source input) (g.S.Source.Ended start source input)
-    (g.S.Source.Stopped start source input) (g.M.Machine.Done told.0 machine old new)
-    (g.M.Machine.Told told.0 machine old new) (g.M.Machine.Begins told.0 machine old new)
+    over-err _ _ (g.S.Source.Stopped start source input) (λ past. Unit {0}) _ _
     (g.I.Input.asked start input) fault
     (λ past k. reads.stopped_asked start input source past fault k)
     (λ is past k. reads.gave_asked start input source past k)
@@ -50,14 +40,9 @@ returns-in_err-drive-clause-answer g c law first =
     let start = c.args.input.now in
     let input = c.drive.new.input in
     let source = c.drive.new.source in
-    let machine = c.drive.new.machine in
-    let old = g.O.Sink.written c.args.output.now in
-    let new = g.O.Sink.written c.drive.new.output in
     let fault = c.in_err-drive.field-0.0 in
     let e : c.from_residual.result ≡ Err fault = search rules in
-    rw e (err-answers (g.S.Source.Gave start source input) (g.S.Source.Ended start source input)
-    (g.S.Source.Stopped start source input) (g.M.Machine.Done law machine old new)
-    (g.M.Machine.Told law machine old new) (g.M.Machine.Begins law machine old new)
+    rw e (err-answers _ _ (g.S.Source.Stopped start source input) _ _ _
     g.H.OfLines.items_of (g.S.Reads.known start) g.S.Reads.whole (λ w bytes. g.S.Reads.AreCut w bytes input)
     g.S.Reads.IsSet (g.S.Reads.way c.args.source.now) (g.S.Reads.way source)
     (c.stays.ensures source c.args.source.now c.in_err-drive.ensures.settings) c.requires.set
@@ -89,12 +74,7 @@ returns-clause-answer g c law first =
     let start = c.args.input.now in
     let input = c.drive.new.input in
     let source = c.drive.new.source in
-    let machine = c.drive.new.machine in
-    let old = g.O.Sink.written c.args.output.now in
-    let new = g.O.Sink.written c.drive.new.output in
-    ok-answers (g.S.Source.Gave start source input) (g.S.Source.Ended start source input)
-    (g.S.Source.Stopped start source input) (g.M.Machine.Done law machine old new)
-    (g.M.Machine.Told law machine old new) (g.M.Machine.Begins law machine old new)
+    ok-answers _ _ (g.S.Source.Stopped start source input) _ _ _
     g.H.OfLines.items_of (g.S.Reads.known start) g.S.Reads.whole (λ w bytes. g.S.Reads.AreCut w bytes input)
     g.S.Reads.IsSet (g.S.Reads.way c.args.source.now) (g.S.Reads.way source)
     (c.stays.ensures source c.args.source.now c.in_ok-drive.ensures.settings) c.requires.set

@@ -51,12 +51,8 @@ returns-clause-calls_b g c = c.run_over.ensures.calls.1 (rw (c.requires.sound_b,
 
 pub returns-clause-answer : goal.returns-clause-answer
 returns-clause-answer g c law start =
-    let machine = c.run_over.new.machine in
-    let old = g.O.Sink.written c.args.output.now in
-    let new = g.O.Sink.written c.run_over.new.output in
     let ports = ports_unsaid c.args.unsaid in
     let lines = c.new-arrivals.result.lines in
     let is : IsNewPair c.args.options ports lines = rw c.new-arrivals.ensures c.in_ok-read_pair.ensures in
-    two-by c.args.options ports lines is arrivals_listed (g.M.Machine.Done law machine old new)
-    (g.M.Machine.Told law machine old new) (g.M.Machine.Begins law machine old new) c.run_over.result
+    two-by c.args.options ports lines is arrivals_listed _ _ _ c.run_over.result
     g.R.Read.remaining c.args.inputs.now c.run_over.new.input (c.run_over.ensures.answer law start)

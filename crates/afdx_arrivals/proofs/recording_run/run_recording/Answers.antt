@@ -37,11 +37,8 @@ returns-clause-calls g c = c.run_over.ensures.calls (rw (c.requires.sound_input,
 
 pub returns-clause-answer : goal.returns-clause-answer
 returns-clause-answer g c law start =
-    let machine = c.run_over.new.machine in
-    let old = g.O.Sink.written c.args.output.now in
-    let new = g.O.Sink.written c.run_over.new.output in
     let lines = c.new-arrivals.result.lines in
     let is : IsNewOne c.args.options c.args.ports lines = rw c.new-arrivals.ensures c.in_ok-read_one.ensures in
-    one-by c.args.options c.args.ports lines is arrivals_listed (g.M.Machine.Done law machine old new)
-    (g.M.Machine.Told law machine old new) (g.M.Machine.Begins law machine old new) c.run_over.result (g.R.Read.remaining c.args.input.now.inner)
-    (g.R.Read.remaining c.run_over.new.input.inner) (c.run_over.ensures.answer law start)
+    one-by c.args.options c.args.ports lines is arrivals_listed _ _ _ c.run_over.result
+    (g.R.Read.remaining c.args.input.now.inner) (g.R.Read.remaining c.run_over.new.input.inner)
+    (c.run_over.ensures.answer law start)
