@@ -69,7 +69,7 @@ expect 'the first call proves what the program stands on, and builds' called "$o
 expect 'it ends as the program does' [ "$status" = 3 ]
 expect 'standard output is the program'"'"'s alone' cmp -s "$room/out" <(echo 'ran police --help')
 expect 'it says how far it is' grep -q '^afdx: checked low: 1 of 2, after' "$room/err"
-expect 'and when all is checked' grep -q '^afdx: now the program is compiled' "$room/err"
+expect 'and when all is checked' grep -q '^afdx: now the program is compiled,' "$room/err"
 launch check
 expect 'the second call builds nothing' called ''
 expect 'and says nothing' [ ! -s "$room/err" ]
@@ -90,8 +90,8 @@ touch "$SLOW"
 launch check
 expect 'it is built once that is mended' [ "$status" = 3 ]
 stands='^afdx: 0 of 2 crates checked, after [1-9][0-9]* s; now low for [1-9][0-9]* s '
-stands+='([1-9][0-9]* s of processor): 0 of 2 functions checked; in a large crate that stands'
-expect 'where a crate takes long it says which, how far it is, and that it works' \
+stands+='([0-9][0-9]* s of processor): 0 of 2 functions checked; in a large crate that stands'
+expect 'where a crate takes long it says which, how far it is, and how much work it was' \
     grep -q "$stands" "$room/err"
 expect 'between two crates it says how many are checked' \
     grep -q '^afdx: 1 of 2 crates checked, after [1-9][0-9]* s$' "$room/err"
