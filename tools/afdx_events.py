@@ -16,7 +16,7 @@ from afdx_tools import Refused, program
 ACCEPT = "accept"
 DELIVERED, REDUNDANT = "delivered", "redundant"
 OVER_RATE = "over-rate"
-LOST, OLD, LEFT = "lost", "too-old", "left"
+LOST, OLD, LEFT = "full-buffer", "too-old", "left"
 FATES = (LEFT, LOST, OLD)
 NOT_YET = -1  # stands for a line without a verdict, and for a departure without a receiver's line
 LETTERS = {letter: ord(letter) for letter in "VLDTMX"}

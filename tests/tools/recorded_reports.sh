@@ -30,7 +30,7 @@ END_OF_FILE
 wants_lines() { # NAME WORD.. : the report's sums are those of the lines of the replay
     local json=$recorded/$1/report.json letter key
     "$program" replay "${@:2}" >"$work/lines" 2>"$work/said"
-    for key in frames:V departed:D lost:L too_old:T delivered:M; do
+    for key in frames:V departed:D full_buffer:L too_old:T delivered:M; do
         letter=${key#*:}
         wants_number "$json" "r['totals']['${key%:*}']" "$(grep -c "^$letter" "$work/lines")"
     done
@@ -59,7 +59,7 @@ one_tests() {
         json_of "$recorded/whole/report.json" \
             '" ".join(f"{word} {count}" for word, count in r["skipped"].items())' >"$work/got"
         same "$work/wanted" "$work/got"
-        says out 'skipped    0 no-frame'
+        says out 'skipped     0 no-frame'
         if ! grep -q 'Skipped of the recording: 0 no-frame' "$recorded/whole/report.html"; then
             echo 'its page does not'
         fi
