@@ -50,6 +50,11 @@ def number_of(counting: Counting, line: int) -> int | None:
     return counting.events.number_of(line) if line else None
 
 
+def side_of(counting: Counting, line: int) -> str | None:
+    """The side of a line's frame, None for none."""
+    return side_name(int(counting.listing.side[line])) if line else None
+
+
 # ---- silences ------------------------------------------------------------------------------------
 
 
@@ -166,8 +171,10 @@ def skew_rows(counting: Counting, copied: Copied) -> list[Row]:
                 "pairs": skew.pairs,
                 "at_inputs_ns": skew.greatest,
                 "inputs_line": number_of(counting, skew.line),
+                "inputs_side": side_of(counting, skew.line),
                 "at_receivers_ns": there.greatest if there else None,
                 "receivers_line": number_of(counting, there.line if there else 0),
+                "receivers_side": side_of(counting, there.line if there else 0),
                 "table_skew_ns": counting.config.links[vl].skew_ns,
                 "twice": twice.get(vl, 0),
             }

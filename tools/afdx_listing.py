@@ -26,14 +26,15 @@ NETWORK[[0x20, 0x40]] = 0, 1
 class Listing:
     """The columns of a list, by the number of the line; `sound` where it has a line's form.
     `arrivals` are these lines. `port` is where the frame came in; `source` the end system that its
-    source address names, and `network` the side. The list of one recording has any length
-    (`is_recorded`)."""
+    source address names, and `network` the side. That of one recording (`is_recorded`), or of two
+    (`is_pair` too), has any length."""
 
     def __init__(
         self,
         file: IO[bytes],
         told: Callable[[int], None] = lambda count: None,
         is_recorded: bool = False,
+        is_pair: bool = False,
     ) -> None:
         digest = hashlib.sha256()
         parts: list[dict[str, np.ndarray]] = [columns_of_none()]
@@ -45,7 +46,7 @@ class Listing:
                 lines += len(part["time"])
                 told(lines)
         self.lines = lines
-        self.is_recorded = is_recorded
+        self.is_recorded, self.is_pair = is_recorded, is_pair
         self.digest = digest.hexdigest()
         joined = {name: np.concatenate([part[name] for part in parts]) for name in parts[0]}
         self.sound = joined["sound"]
