@@ -152,6 +152,11 @@ _afdx_capture() {
     fi
 }
 
+_afdx_criteria() {
+    _afdx_words silent contradicted clock twice late full-buffer too-old dropped unequal missing \
+        refused skew jitter first-number recorder-lost left-out unused claimed lost
+}
+
 _afdx_report() {
     local given before
     COMPREPLY=()
@@ -170,7 +175,7 @@ _afdx_report() {
         --stamps.*) _afdx_words end start ;;
         --out.*) _afdx_folders ;;
         --compare.*) _afdx_files json ;;
-        --fail-on.*) _afdx_words dropped lost late too-old refused ;;
+        --fail-on.*) _afdx_criteria ;;
         --junit.*) _afdx_files xml ;;
     esac
 }
@@ -186,7 +191,7 @@ _afdx_campaign() {
         return
     fi
     case $before.${#given[@]} in
-        --fail-on.*) _afdx_words dropped lost late too-old refused ;;
+        --fail-on.*) _afdx_criteria ;;
         --junit.*) _afdx_files xml ;;
         --fcs.*) _afdx_words yes no ;;
         --stamps.*) _afdx_words end start ;;

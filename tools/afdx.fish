@@ -131,7 +131,8 @@ for tool in afdx-report afdx-campaign
     complete -c $tool -l version -d 'Print the version and leave'
     complete -c $tool -l no-admission -d 'Also where the network is refused'
     complete -c $tool -x -l fail-on -d 'Status 6 where one of these is not 0' \
-        -a 'dropped lost late too-old refused'
+        -a 'silent contradicted clock twice late full-buffer too-old dropped unequal missing
+            refused skew jitter first-number recorder-lost left-out unused claimed lost'
     complete -c $tool -r -l junit -d 'Write each criterion as a JUnit test case'
     complete -c $tool -x -l interface -d 'Where an interface was plugged in'
     complete -c $tool -x -l fcs -a 'yes no' -d 'Are there check sequences?'

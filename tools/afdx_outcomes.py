@@ -15,7 +15,7 @@ SUMS = (
     "frames",
     "accepted",
     "dropped",
-    "lost",
+    "full_buffer",
     "late",
     "too_old",
     "delivered",

@@ -9,11 +9,14 @@ from typing import Sequence
 
 Row = dict
 NAMES = {
+    "silences": "Silences: which network, system or link, on which side, from when to when",
+    "dropped": "Dropped frames: by link, side, reason and the port where they came in",
     "links": "Links: what became of their frames",
     "latency": "Links, ports and sides: latency in the replay, in ns",
     "frames": "Frames nearest to their configured latency, or over it",
-    "sides": "Links and sides: sums, missing numbers, gaps and jitter of the arrivals",
+    "sides": "Links and sides: sums, numbers, gaps and jitter of the arrivals",
     "skews": "Links: greatest time between the two copies of a frame, in ns",
+    "clocks": "Senders: by how much their copies came later on side B, in ns",
     "ports": "Ports: load, greatest backlog in bytes, and frames that left",
 }
 EARLY = "Links and sides: over-rate frames, and by how much they came too early"
@@ -29,7 +32,8 @@ COUNTED = (
     "Counted by this report from those lines and the list, and not proved: all sums; latencies in "
     "the replay (a departure less the arrival of its line) with their percentiles, and which are "
     "late; backlogs (bytes of frames that wait in an output port, without the one that is being "
-    "sent); loads; gaps, jitter, missing numbers and skews; shares; and the pictures."
+    "sent); loads; gaps, jitter, numbers, skews and clocks; silences and what came on one side "
+    "alone; shares; and the pictures."
 )
 FORMULA = ("=", "+", "-", "@", "\t", "\r")
 
@@ -101,10 +105,24 @@ def write_csv(path: str, rows: Sequence[Row]) -> None:
             writer.writerow([plain(value) for value in row.values()])
 
 
+def over_time(arrivals: Row) -> list[Row]:
+    """The arrivals of each link and side, a column for each step of time, by its begin in ns."""
+    start, width = arrivals["start_ns"], arrivals["step_ns"]
+    return [
+        {
+            "link": row["link"],
+            "side": row["side"],
+            **{str(start + n * width): count for n, count in enumerate(row["counts"])},
+        }
+        for row in arrivals["links"]
+    ]
+
+
 def write_all(folder: str, report: Row) -> None:
     """The tables as CSV files, and all of the report as JSON."""
     for name in NAMES:
         write_csv(os.path.join(folder, f"{name}.csv"), report[name])
+    write_csv(os.path.join(folder, "arrivals.csv"), over_time(report["arrivals"]))
     if "early_ns" in report:
         write_csv(os.path.join(folder, "early.csv"), report["early_ns"])
     if report.get("compared"):
