@@ -11,7 +11,7 @@ from afdx_compare import words_of
 from afdx_counting import Counting
 from afdx_numbers import early_frames
 from afdx_ranking import FEWEST, nearest, ranked
-from afdx_style import SCRIPT, STYLE
+from afdx_style import POLICY, SCRIPT, STYLE
 from afdx_tables import (
     COUNTED,
     EARLY,
@@ -311,6 +311,7 @@ def page(report: Row, counting: Counting, args: argparse.Namespace) -> str:
     names |= {"early": "table of over-rate frames"} if early else {}
     parts = [
         "<!doctype html><html lang='en'><head><meta charset='utf-8'>",
+        f'<meta http-equiv="Content-Security-Policy" content="{POLICY}">',
         "<meta name='viewport' content='width=device-width, initial-scale=1'>",
         f"<title>{escape(title)}</title><style>{STYLE}</style></head><body><main>",
         f"<header><h1>{escape(title)}</h1><p>{escape(words)}</p></header>",

@@ -73,7 +73,8 @@ else
 fi
 
 parts="recordings report hardening criteria early page capture_faults wireshark icd"
-parts+=" icd_faults fill completion hostile_completion around campaigns recorded_reports package"
+parts+=" icd_faults fill completion hostile_completion safe_outputs hostile_files around campaigns"
+parts+=" recorded_reports package"
 for part in $parts; do
     # shellcheck source=/dev/null
     source "$top/tests/tools/$part.sh"
