@@ -18,8 +18,12 @@ _afdx_folders() {
 
 _afdx_recordings() { _afdx_files pcap pcapng; }
 
+# `compgen -W` isn't called: it expands its words, and runs what stands in them.
 _afdx_words() { # WORD.. : those that the word begins
-    mapfile -t COMPREPLY < <(compgen -W "$*" -- "${COMP_WORDS[COMP_CWORD]}")
+    local word
+    for word in "$@"; do
+        if [[ $word == "${COMP_WORDS[COMP_CWORD]}"* ]]; then COMPREPLY+=("$word"); fi
+    done
 }
 
 _afdx_commands() { # COMMAND.. : the first word
@@ -30,12 +34,13 @@ _afdx_commands() { # COMMAND.. : the first word
     fi
 }
 
+# Byte by byte, so that no other can stand in a name; of a configuration's greatest size.
 _afdx_systems() { # CONFIG : the names of its systems
     local names
-    names=$(sed -n -e '/^ *\(\[\[link\]\]\|link *=\)/q' \
-        -e 's/.*\bname *= *"\([A-Za-z0-9]*\)".*/\1/p' "$1" 2>/dev/null)
-    # shellcheck disable=SC2086
-    _afdx_words $names
+    if [[ ! -f $1 || ! -r $1 ]]; then return; fi
+    mapfile -t names < <(head -c 4194304 <"$1" | LC_ALL=C sed 's/#.*//' |
+        LC_ALL=C grep -aoE '\bname[[:blank:]]*=[[:blank:]]*"[A-Za-z0-9]{1,16}"' | cut -d '"' -f 2)
+    _afdx_words "${names[@]}"
 }
 
 # Takes apart what stands before the word: `given` are the words that belong to no option, `before`

@@ -36,9 +36,11 @@ function __afdx_in --description 'Is the command one of these?'
 end
 
 function __afdx_systems --description 'The names of the systems of the configuration'
+    # Byte by byte, so that no other can stand in a name; of a configuration's greatest size.
     set -l given (__afdx_given $__afdx_valued)
-    sed -n -e '/^ *\(\[\[link\]\]\|link *=\)/q' -e 's/.*\bname *= *"\([A-Za-z0-9]*\)".*/\1/p' \
-        $given[2] 2>/dev/null
+    test -f "$given[2]"; and test -r "$given[2]"; or return
+    head -c 4194304 <$given[2] | LC_ALL=C sed 's/#.*//' |
+        LC_ALL=C grep -aoE '\bname[[:blank:]]*=[[:blank:]]*"[A-Za-z0-9]{1,16}"' | cut -d '"' -f 2
 end
 
 function __afdx_files --description 'Folders, and files with one of these extensions'

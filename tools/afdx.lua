@@ -52,6 +52,7 @@ local SIDES = { [0x20] = "A", [0x40] = "B" }
 local LOOKED_AT = 10           -- frames in which check sequences are looked for
 local SHORTEST = 60            -- bytes of the shortest frame without its check sequence
 local MOST_STEPS = 127         -- forward from one number to another
+local LONGEST = 1518           -- bytes of the longest frame with it; what is longer is no AFDX
 
 -- Of each link on each network: true once a right check sequence was found, frames whose check
 -- sequence was computed, time and number of the frame before.
@@ -213,7 +214,7 @@ end
 
 function afdx.dissector(tvb, pinfo, root)
     local length = tvb:len()
-    if length < 14 then return end
+    if length < 14 or tvb:reported_len() > LONGEST then return end
     local head = tvb:raw(0, length < 30 and length or 30)
     if head:sub(1, 4) ~= CONSTANT then return end
 

@@ -23,9 +23,15 @@ local -a recorded=(
 )
 local stamps='--stamps[are stamps those of the last bit or of the first]:end:(end start)'
 
-_afdx_systems() { # the names of the systems of the configuration that was given
-    local -a names=(${(f)"$(sed -n -e '/^ *\(\[\[link\]\]\|link *=\)/q' \
-        -e 's/.*\bname *= *"\([A-Za-z0-9]*\)".*/\1/p' "${(Q)line[1]}" 2>/dev/null)"})
+# The names of the systems of the configuration that was given: byte by byte, so that no other can
+# stand in a name; of a configuration's greatest size.
+_afdx_systems() {
+    local file=${(Q)line[1]}
+    local -a names
+    if [[ ! -f $file || ! -r $file ]] return 1
+    names=(${(f)"$(head -c 4194304 <"$file" | LC_ALL=C sed 's/#.*//' |
+        LC_ALL=C grep -aoE '\bname[[:blank:]]*=[[:blank:]]*"[A-Za-z0-9]{1,16}"' |
+        cut -d '"' -f 2)"})
     compadd -a names
 }
 

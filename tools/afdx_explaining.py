@@ -7,14 +7,14 @@ import subprocess
 import sys
 from typing import Iterable, Sequence
 
-from afdx_tools import Refused, program
+from afdx_tools import Refused, program, shown
 
 LINE = re.compile(r"[a-z]+( [A-Za-z0-9-]+)*")  # what a line of the program may be
 OF_CONFIG = ("config ", "device Config")
 
 
 def said(words: Sequence[str], stream: str) -> str:
-    """What a run of the program writes on one of its streams."""
+    """What a run of the program writes on one of its streams, as it can be printed."""
     run = subprocess.run(
         [program(), *words],
         stdin=subprocess.DEVNULL,
@@ -24,7 +24,7 @@ def said(words: Sequence[str], stream: str) -> str:
         errors="replace",
         check=False,
     )
-    return str(getattr(run, stream))
+    return "\n".join(map(shown, getattr(run, stream).split("\n")))
 
 
 def meaning(line: str, again: Sequence[str] = ()) -> str:

@@ -6,7 +6,7 @@ import re
 import time
 from typing import Sequence
 
-from afdx_outputs import finished
+from afdx_outputs import whole
 
 THIS = ":"  # the machine on which the tool runs
 MOST_FAILED = 3  # runs in a row that didn't begin or broke off
@@ -72,7 +72,7 @@ class Machines:
 
     def write(self, path: str, names: Sequence[str]) -> None:
         """Writes logins into a file. GNU parallel reads it again where it is two seconds newer."""
-        with finished(path) as file:
+        with whole(path) as file:
             for name in names:
                 file.write(os.fsencode(patient(self.logins[name]).replace(",", ",,") + "\n"))
         self._stamp += 2

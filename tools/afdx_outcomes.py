@@ -2,6 +2,7 @@
 from __future__ import annotations
 
 import json
+import math
 import os
 from typing import NamedTuple, Sequence
 
@@ -51,13 +52,29 @@ def text_of(path: str) -> str:
         return ""
 
 
+def is_report(report: Row) -> bool:
+    """Has a report what stands in the table, each of its kind?"""
+    counts = [report["totals"][key] for key in SUMS]
+    counts += [row[key] for row in report["latency"] for key in ("greatest_ns", "configured_ns")]
+    counts += [row[key] for row in report["latency"] for key in ("frames", "late", "bound_ns")]
+    places = [(row["link"], row["port"], row["side"]) for row in report["latency"]]
+    return (
+        all(count is None or isinstance(count, int) for count in counts)
+        and all(isinstance(part, (int, str)) for place in places for part in place)
+        and all(0 <= row["share"] < math.inf for row in report["latency"])
+        and isinstance(report["fault"], str)
+    )
+
+
 def report_of(out: str, number: int) -> tuple[Row | None, str]:
     """A run's report, if it gave one, and its fault."""
     folder = os.path.join(out, "runs", str(number))
     try:
         report = json.loads(text_of(os.path.join(folder, "stdout")))
-        return report, report["fault"]
-    except (ValueError, KeyError, TypeError):
+        if is_report(report):
+            return report, report["fault"]
+        return None, "its report has values of another kind"
+    except (ValueError, LookupError, TypeError, RecursionError):
         said = text_of(os.path.join(folder, "stderr")).splitlines()
         return None, said[-1] if said else "no answer"
 

@@ -14,7 +14,7 @@ from afdx_lanes import lanes
 from afdx_numbers import early_frames
 from afdx_parts import section, table_section
 from afdx_ranking import FEWEST, ranked
-from afdx_style import SCRIPT, STYLE
+from afdx_style import POLICY, SCRIPT, STYLE
 from afdx_tables import COUNTED, EARLY, NAMES, PROVED, UNPROMISED, Row, cell, in_us
 
 EARLY_FRAMES = "Over-rate frames that came too early by most, in us"
@@ -184,6 +184,7 @@ def page(report: Row, counting: Counting, args: argparse.Namespace) -> str:
     names |= {"early": "table of over-rate frames"} if early else {}
     parts = [
         "<!doctype html><html lang='en'><head><meta charset='utf-8'>",
+        f'<meta http-equiv="Content-Security-Policy" content="{POLICY}">',
         "<meta name='viewport' content='width=device-width, initial-scale=1'>",
         f"<title>{escape(title)}</title><style>{STYLE}</style></head><body><main>",
         f"<header><h1>{escape(title)}</h1><p>{escape(words)}</p></header>",

@@ -20,23 +20,27 @@ from afdx_criteria import judged, status_of, suite_of, write_junit
 from afdx_explaining import explain
 from afdx_lanes import arrivals_of
 from afdx_listing import Listing
+from afdx_outputs import write_folder
 from afdx_page import page
+from afdx_program import version
 from afdx_ranking import FEWEST, latency_text, nearest, ranked
+from afdx_reading import read_config
 from afdx_recordings import recording_options
 from afdx_silence import Silences
-from afdx_running import Source, check, listed_of, replay, version
+from afdx_running import Source, check, listed_of, replay
 from afdx_tables import (
     COUNTED,
     EARLY,
     NAMES,
     PROVED,
     UNPROMISED,
+    WRITTEN,
     Row,
     as_text,
     cell,
-    write_all,
+    files_of,
 )
-from afdx_tools import program, read_config
+from afdx_tools import program
 from afdx_words import Failed, Progress, as_file, at_hand, shown
 
 
@@ -98,11 +102,10 @@ def tables_of(counting: Counting, checked: Checked, worst: int) -> Row:
 
 def report_of(args: argparse.Namespace, source: Source, progress: Progress) -> tuple[Row, Counting]:
     """Runs the program, and counts: the report, and what the pictures need."""
-    afdx = program()
-    called = version(afdx)
-    checked = check(afdx, source.config)
+    called = version()
+    checked = check(program(), source.config)
     tables = read_config(source.config)
-    listed = listed_of(source, progress)
+    listed = listed_of(source, progress, checked.answer == "ok" or args.no_admission)
     events, fault, status = replay(source, listed, progress)
     progress.tell("counting")
     counting = Counting(tables, listed.listing, events)
@@ -162,15 +165,6 @@ def print_text(report: Row) -> None:
     print(f"\n{PROVED}\n{COUNTED}")
 
 
-def write_folder(folder: str, report: Row, counting: Counting, args: argparse.Namespace) -> None:
-    """Writes page, CSV files and JSON into a folder."""
-    os.makedirs(folder, exist_ok=True)
-    write_all(folder, report)
-    text = page(report, counting, args)
-    with open(os.path.join(folder, "report.html"), "w", encoding="utf-8") as file:
-        file.write(text)
-
-
 @contextlib.contextmanager
 def source_of(args: argparse.Namespace) -> Iterator[Source]:
     """What the words name, at hand to be read more than once."""
@@ -179,8 +173,8 @@ def source_of(args: argparse.Namespace) -> Iterator[Source]:
         raise Failed("words SameInput", 2)
     of_replay = ["--no-admission"] if args.no_admission else []
     with contextlib.ExitStack() as files:
-        config = files.enter_context(at_hand(args.config, "run.toml"))
-        paths = [files.enter_context(at_hand(name, "run.list")) for name in names]
+        config = files.enter_context(at_hand(args.config))
+        paths = [files.enter_context(at_hand(name)) for name in names]
         yield Source(config, paths, recording_options(args), of_replay)
 
 
@@ -202,7 +196,8 @@ def run_report(tool: str, args: argparse.Namespace) -> int:
     if other is not None:
         report["compared"] = compared(report, other, args.compare)
     if args.out or not args.json:
-        write_folder(as_file(args.out or "report"), report, counting, args)
+        texts = {**files_of(report), "report.html": page(report, counting, args)}
+        write_folder(as_file(args.out or "report"), texts, WRITTEN)
     if args.junit:
         suite = suite_of(name, report["fault"], report["totals"], args.fail_on)
         write_junit(args.junit, [suite])

@@ -10,6 +10,8 @@ from collections import defaultdict
 from typing import Callable, Iterable, NamedTuple, Sequence
 
 from afdx_machines import Machines
+from afdx_outputs import whole
+from afdx_program import end
 
 PAUSE = 0.2  # seconds between two looks at the job log
 HEAD = b"Seq\tHost\tStarttime\tJobRuntime\tSend\tReceive\tExitval\tSignal\tCommand\n"
@@ -26,13 +28,16 @@ class Attempt(NamedTuple):
 
 
 def attempt_of(line: bytes) -> Attempt | None:
-    """What a line of the job log says, if it is about a run."""
+    """What a line of the job log says, if it is about a run, and wasn't cut."""
     fields = line.split(b"\t", 8)
     if len(fields) < 9 or not fields[8].startswith(MARK):
         return None
-    number = fields[8][len(MARK) :].partition(b";")[0]
-    status, signal = int(fields[6]), int(fields[7])
-    return Attempt(int(number), os.fsdecode(fields[1]), 128 + signal if signal else status)
+    try:
+        number = int(fields[8][len(MARK) :].partition(b";")[0])
+        status, signal = int(fields[6]), int(fields[7])
+    except ValueError:
+        return None
+    return Attempt(number, os.fsdecode(fields[1]), 128 + signal if signal else status)
 
 
 class JobLog:
@@ -42,7 +47,7 @@ class JobLog:
         self._path = path
         self._place = 0
         if not (goes_on and os.path.exists(path)):
-            with open(path, "wb") as file:
+            with whole(path) as file:
                 file.write(HEAD)
 
     def new(self) -> list[Attempt]:
@@ -92,6 +97,5 @@ def play(
                     has_ended = run.returncode is not None
                     if not look():
                         run.terminate()
-            except BaseException:
-                run.terminate()
-                raise
+            finally:
+                end(run)

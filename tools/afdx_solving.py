@@ -5,9 +5,11 @@ import re
 import subprocess
 from typing import NamedTuple, Sequence
 
+from afdx_program import version
 from afdx_tools import program
 from afdx_words import Failed, shown
 
+AS_WRITTEN = "jitter,buffer,latency,skew"  # the keys that `solve` finds; kept, all stay
 NEED = re.compile(r"vl (\d+) at (\d+): (\d+) ns needed, (\d+) us asked")
 
 
@@ -46,6 +48,7 @@ class Said(NamedTuple):
 
 def run(words: list[str], config: bytes) -> Said:
     """Runs the program on a configuration; Failed where it said nothing of it."""
+    version()
     done = subprocess.run(
         [program(), *words, "/dev/stdin"], input=config, capture_output=True, check=False
     )

@@ -1,4 +1,9 @@
-"""How a report looks on light and dark screens and on paper, and its search field."""
+"""How a report looks on light and dark screens and on paper, its search field, and what a browser
+lets it do."""
+from __future__ import annotations
+
+import base64
+import hashlib
 
 STYLE = """
 :root { --ground: #f6f6f4; --sheet: #ffffff; --ink: #1d2126; --muted: #5f6771; --rule: #ececea;
@@ -119,3 +124,10 @@ SCRIPT = """
   find.addEventListener('input', () => { clearTimeout(waiting); waiting = setTimeout(look, 150); });
 })();
 """
+
+# A page loads nothing, and runs this script alone, whatever else might stand in it.
+DIGEST = base64.b64encode(hashlib.sha256(SCRIPT.encode()).digest()).decode()
+POLICY = (
+    f"default-src 'none'; style-src 'unsafe-inline'; script-src 'sha256-{DIGEST}'; "
+    "base-uri 'none'; form-action 'none'"
+)

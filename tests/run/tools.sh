@@ -73,8 +73,8 @@ else
 fi
 
 parts="recordings report hardening criteria early page capture_faults wireshark icd"
-parts+=" explained icd_faults fill completion around campaigns recorded_reports absence"
-parts+=" package"
+parts+=" explained icd_faults fill completion hostile_completion safe_outputs hostile_files"
+parts+=" around campaigns recorded_reports absence package"
 for part in $parts; do
     # shellcheck source=/dev/null
     source "$top/tests/tools/$part.sh"

@@ -55,7 +55,14 @@ found_rows() { # WORDS : what the page says of them in its search field
     local typed="const field = document.getElementById(\"find\"); field.value = \"$1\";"
     typed+='field.dispatchEvent(new Event("input"))'
     sed "s|</body>|<script>$typed</script></body>|" "$work/timelines/report.html" \
-        >"$work/find.html"
+        >"$work/closed.html"
+    sed 's|<meta http-equiv[^>]*>||' "$work/closed.html" >"$work/find.html"
+    launch chromium --headless --no-sandbox --disable-gpu --virtual-time-budget=3000 --dump-dom \
+        "file://$work/closed.html"
+    tell 'a page runs no script but its own' "$(
+        if ! grep -q 'id="found"' "$work/out"; then echo 'no field'; fi
+        grep -oE 'id="found"[^>]*>[^<]*rows' "$work/out"
+    )"
     launch chromium --headless --no-sandbox --disable-gpu --virtual-time-budget=3000 --dump-dom \
         "file://$work/find.html"
     grep -oE 'id="found"[^>]*>[^<]*' "$work/out" | grep -oE '[0-9]+ rows'

@@ -202,6 +202,24 @@ speed_tests() { # 30,000 frames; more of a recording takes as much longer
     rm -f "$work"/long.*
 }
 
+long_frame_tests() { # what is longer than a frame, each on a link of its own, is no AFDX frame
+    local alone with
+    "$python" -c 'import struct, sys
+file = open(sys.argv[1], "wb")
+file.write(struct.pack("<IHHIIII", 0xA1B2C3D4, 2, 4, 0, 0, 262144, 1))
+for size, count in ((1518, 1), (1519, 1), (262000, 200)):
+    for n in range(count):
+        frame = bytes.fromhex("03000000%04x02000000012088b5" % n)
+        file.write(struct.pack("<IIII", n, 0, size, size) + frame.ljust(size, b"\0"))' \
+        "$work/with.pcap"
+    alone=$(hundredths_of -r "$work/with.pcap" -Y 'udp.port == 1')
+    with=$(hundredths_of -X lua_script:tools/afdx.lua -r "$work/with.pcap" -Y 'udp.port == 1')
+    tell 'what is longer than a frame is passed over, without being read' "$(
+        numbers_found afdx '1'
+        if [[ $with -gt $((alone + 200)) ]]; then echo "$with hundredths, $alone without"; fi
+    )" "$with and $alone hundredths of a second"
+}
+
 # ---- annotated recordings ------------------------------------------------------------------
 
 comments_of() { # RECORDING : each frame's comments, one a line, behind the frame's place
@@ -255,9 +273,15 @@ annotate_fault_tests() {
     launch env AFDX=/nowhere tools/afdx-capture annotate examples/base.toml \
         examples/one_link.list "$work/no.png"
     tell 'annotate without a program' "$(is_status 4; says err '/nowhere')"
-    launch env AFDX=/bin/echo tools/afdx-capture annotate examples/base.toml \
+    cat >"$work/echoing" <<END_OF_FILE
+#!/bin/sh
+if [ "\$1" = replay ]; then exec echo "\$@"; fi
+exec "$program" "\$@"
+END_OF_FILE
+    chmod +x "$work/echoing"
+    launch env AFDX="$work/echoing" tools/afdx-capture annotate examples/base.toml \
         examples/one_link.list "$work/no.png"
-    tell 'annotate with another program' "$(is_status 2; says err 'is none of this replay')"
+    tell 'annotate with another replay' "$(is_status 2; says err 'is none of this replay')"
     printf '#!/bin/sh\nkill -9 $$\n' >"$work/killed"
     chmod +x "$work/killed"
     launch env AFDX="$work/killed" tools/afdx-capture annotate examples/base.toml \
@@ -293,6 +317,7 @@ elif has tshark && has mergecap; then
     interface_tests
     expert_tests
     speed_tests
+    long_frame_tests
     if [[ -n $built ]]; then
         annotated_tests 'a bench' examples/network.toml examples/bench.list
         annotated_tests 'a network that is not admitted' examples/gigabit.toml \
