@@ -199,13 +199,14 @@ _afdx_campaign() {
 _afdx_icd() {
     local given before
     COMPREPLY=()
-    _afdx_read 1 --profile
+    _afdx_read 1 --profile --reserve --since
     if _afdx_is_option; then
-        _afdx_words --profile --raise --help --version
+        _afdx_words --profile --fill --raise --reserve --since --help --version
         return
     fi
     case $before.${#given[@]} in
         --profile.*) _afdx_words 1 2 ;;
+        --since.*) _afdx_files toml ;;
         .0 | .1) _afdx_files csv ;;
         .2) _afdx_files toml ;;
     esac

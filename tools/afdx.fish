@@ -159,12 +159,15 @@ complete -c afdx-campaign -l transfer -d 'Copy lists and configuration there fir
 
 # ---- afdx-icd, afdx-fill -------------------------------------------------------------------------
 
-set -ga __afdx_valued --profile --keep
+set -ga __afdx_valued --profile --keep --reserve --since
 complete -c afdx-icd -f
 complete -c afdx-icd -l help -d 'Print help and leave'
 complete -c afdx-icd -l version -d 'Print the version and leave'
 complete -c afdx-icd -x -l profile -a '1 2' -d 'Which rules its switches keep'
 complete -c afdx-icd -l raise -d 'Also where messages are late'
+complete -c afdx-icd -l fill -d 'An empty cell has the value of the one above'
+complete -c afdx-icd -x -l reserve -d 'Percent of room beyond what is needed'
+complete -c afdx-icd -x -l since -a '(__afdx_files toml)' -d 'Say what changed since this one'
 complete -c afdx-icd -n '__afdx_at - 0 1' -a '(__afdx_files csv)'
 complete -c afdx-icd -n '__afdx_at - 2 2' -a '(__afdx_files toml)'
 complete -c afdx-fill -f

@@ -125,7 +125,10 @@ case $service in
         ;;
     afdx-icd)
         _arguments $help $version '--profile[which rules its switches keep]:profile:(1 2)' \
-            '--raise[also where messages are late]' ":$table" ":$table" ":$config"
+            '--fill[an empty cell has the value of the one above]' \
+            '--raise[also where messages are late]' \
+            '--reserve[room beyond what is needed]:percent:' \
+            "--since[say what changed since this one]:$config" ":$table" ":$table" ":$config"
         ;;
     afdx-fill)
         _arguments $help $version \

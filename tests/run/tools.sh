@@ -73,7 +73,8 @@ else
 fi
 
 parts="recordings report hardening criteria early page capture_faults wireshark icd"
-parts+=" icd_faults fill completion around campaigns recorded_reports package"
+parts+=" icd_faults icd_documents icd_growth fill completion around campaigns"
+parts+=" recorded_reports package"
 for part in $parts; do
     # shellcheck source=/dev/null
     source "$top/tests/tools/$part.sh"

@@ -95,6 +95,7 @@ offer_tests() { # SHELL
         offers "$1" "afdx-report --out $files/"
         offers "$1" "afdx-icd --profile 2 $files/" seven.csv
         offers "$1" "afdx-icd $files/seven.csv $files/" seven.csv
+        offers "$1" "afdx-icd --fill --reserve 20 $files/seven.csv --since $files/" one.toml
         offers "$1" "afdx-icd $files/seven.csv $files/seven.csv $files/" one.toml
         offers "$1" "afdx-fill $files/" one.toml
         offers "$1" "afdx-fill --keep skew $files/one.toml $files/" one.toml
