@@ -212,6 +212,22 @@ _afdx_icd() {
     esac
 }
 
+_afdx_traffic() {
+    local given before
+    COMPREPLY=()
+    _afdx_read 1 --profile --seconds --seed --config
+    if _afdx_is_option; then
+        _afdx_words --profile --fill --seconds --seed --config --help --version
+        return
+    fi
+    case $before.${#given[@]} in
+        --profile.*) _afdx_words 1 2 ;;
+        --config.*) _afdx_files toml ;;
+        .0 | .1) _afdx_files csv ;;
+        .2) _afdx_folders ;;
+    esac
+}
+
 _afdx_fill() {
     local given before
     COMPREPLY=()
@@ -232,3 +248,4 @@ complete -F _afdx_report afdx-report
 complete -F _afdx_campaign afdx-campaign
 complete -F _afdx_icd afdx-icd
 complete -F _afdx_fill afdx-fill
+complete -F _afdx_traffic afdx-traffic

@@ -157,9 +157,9 @@ complete -c afdx-campaign -l resume -d 'Only the lists that have not been run'
 complete -c afdx-campaign -x -s S -l sshlogin -d 'Run on this machine too'
 complete -c afdx-campaign -l transfer -d 'Copy lists and configuration there first'
 
-# ---- afdx-icd, afdx-fill -------------------------------------------------------------------------
+# ---- afdx-icd, afdx-traffic, afdx-fill -----------------------------------------------------------
 
-set -ga __afdx_valued --profile --keep --reserve --since
+set -ga __afdx_valued --profile --keep --reserve --since --seconds --seed
 complete -c afdx-icd -f
 complete -c afdx-icd -l help -d 'Print help and leave'
 complete -c afdx-icd -l version -d 'Print the version and leave'
@@ -170,6 +170,16 @@ complete -c afdx-icd -x -l reserve -d 'Percent of room beyond what is needed'
 complete -c afdx-icd -x -l since -a '(__afdx_files toml)' -d 'Say what changed since this one'
 complete -c afdx-icd -n '__afdx_at - 0 1' -a '(__afdx_files csv)'
 complete -c afdx-icd -n '__afdx_at - 2 2' -a '(__afdx_files toml)'
+complete -c afdx-traffic -f
+complete -c afdx-traffic -l help -d 'Print help and leave'
+complete -c afdx-traffic -l version -d 'Print the version and leave'
+complete -c afdx-traffic -x -l profile -a '1 2' -d 'Which rules its switches keep'
+complete -c afdx-traffic -l fill -d 'An empty cell has the value of the one above'
+complete -c afdx-traffic -x -l seconds -d 'For how long'
+complete -c afdx-traffic -x -l seed -d 'Which chance begins the messages'
+complete -c afdx-traffic -x -l config -a '(__afdx_files toml)' -d 'Write frames too'
+complete -c afdx-traffic -n '__afdx_at - 0 1' -a '(__afdx_files csv)'
+complete -c afdx-traffic -n '__afdx_at - 2 2' -a '(__fish_complete_directories)'
 complete -c afdx-fill -f
 complete -c afdx-fill -l help -d 'Print help and leave'
 complete -c afdx-fill -l version -d 'Print the version and leave'

@@ -1,4 +1,4 @@
-#compdef afdx afdx-capture afdx-report afdx-campaign afdx-icd afdx-fill
+#compdef afdx afdx-capture afdx-report afdx-campaign afdx-icd afdx-fill afdx-traffic
 # Completes the words of `afdx` and of its tools in zsh. `bin/install PREFIX` puts it at
 # PREFIX/share/zsh/site-functions/_afdx; where zsh doesn't look there, put that folder into `fpath`.
 
@@ -129,6 +129,14 @@ case $service in
             '--raise[also where messages are late]' \
             '--reserve[room beyond what is needed]:percent:' \
             "--since[say what changed since this one]:$config" ":$table" ":$table" ":$config"
+        ;;
+    afdx-traffic)
+        _arguments $help $version '--profile[which rules its switches keep]:profile:(1 2)' \
+            '--fill[an empty cell has the value of the one above]' \
+            '--seconds[for how long]:seconds:' \
+            '--seed[which chance begins the messages]:number:' \
+            "--config[write frames too, as sent on this network]:$config" ":$table" ":$table" \
+            ':folder:_path_files -/'
         ;;
     afdx-fill)
         _arguments $help $version \
