@@ -228,6 +228,21 @@ _afdx_traffic() {
     esac
 }
 
+_afdx_taps() {
+    local given before
+    COMPREPLY=()
+    _afdx_read 1
+    if _afdx_is_option; then
+        _afdx_words --anyway --help --version
+        return
+    fi
+    case ${#given[@]} in
+        0) _afdx_files toml ;;
+        1) _afdx_files csv ;;
+        2 | 3) _afdx_recordings ;;
+    esac
+}
+
 _afdx_fill() {
     local given before
     COMPREPLY=()
@@ -249,3 +264,4 @@ complete -F _afdx_campaign afdx-campaign
 complete -F _afdx_icd afdx-icd
 complete -F _afdx_fill afdx-fill
 complete -F _afdx_traffic afdx-traffic
+complete -F _afdx_taps afdx-taps

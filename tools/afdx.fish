@@ -157,7 +157,7 @@ complete -c afdx-campaign -l resume -d 'Only the lists that have not been run'
 complete -c afdx-campaign -x -s S -l sshlogin -d 'Run on this machine too'
 complete -c afdx-campaign -l transfer -d 'Copy lists and configuration there first'
 
-# ---- afdx-icd, afdx-traffic, afdx-fill -----------------------------------------------------------
+# ---- afdx-icd, afdx-traffic, afdx-taps, afdx-fill ------------------------------------------------
 
 set -ga __afdx_valued --profile --keep --reserve --since --seconds --seed
 complete -c afdx-icd -f
@@ -180,6 +180,13 @@ complete -c afdx-traffic -x -l seed -d 'Which chance begins the messages'
 complete -c afdx-traffic -x -l config -a '(__afdx_files toml)' -d 'Write frames too'
 complete -c afdx-traffic -n '__afdx_at - 0 1' -a '(__afdx_files csv)'
 complete -c afdx-traffic -n '__afdx_at - 2 2' -a '(__fish_complete_directories)'
+complete -c afdx-taps -f
+complete -c afdx-taps -l help -d 'Print help and leave'
+complete -c afdx-taps -l version -d 'Print the version and leave'
+complete -c afdx-taps -l anyway -d 'Print the words also where they do not agree'
+complete -c afdx-taps -n '__afdx_at - 0 0' -a '(__afdx_files toml)'
+complete -c afdx-taps -n '__afdx_at - 1 1' -a '(__afdx_files csv)'
+complete -c afdx-taps -n '__afdx_at - 2 3' -a '(__afdx_files pcap pcapng)'
 complete -c afdx-fill -f
 complete -c afdx-fill -l help -d 'Print help and leave'
 complete -c afdx-fill -l version -d 'Print the version and leave'

@@ -1,4 +1,4 @@
-#compdef afdx afdx-capture afdx-report afdx-campaign afdx-icd afdx-fill afdx-traffic
+#compdef afdx afdx-capture afdx-report afdx-campaign afdx-icd afdx-fill afdx-traffic afdx-taps
 # Completes the words of `afdx` and of its tools in zsh. `bin/install PREFIX` puts it at
 # PREFIX/share/zsh/site-functions/_afdx; where zsh doesn't look there, put that folder into `fpath`.
 
@@ -137,6 +137,10 @@ case $service in
             '--seed[which chance begins the messages]:number:' \
             "--config[write frames too, as sent on this network]:$config" ":$table" ":$table" \
             ':folder:_path_files -/'
+        ;;
+    afdx-taps)
+        _arguments $help $version '--anyway[print the words also where they do not agree]' \
+            ":$config" ":$table" ":$recording" "::$recording"
         ;;
     afdx-fill)
         _arguments $help $version \

@@ -61,7 +61,8 @@ if [[ ! -x $python ]]; then
 fi
 
 if "$python" -c 'import numpy' 2>"$work/err"; then numpy=1; else numpy=; fi
-for tool in afdx-capture ${numpy:+afdx-report} afdx-campaign afdx-icd afdx-fill afdx-traffic; do
+for tool in afdx-capture ${numpy:+afdx-report} afdx-campaign afdx-icd afdx-fill afdx-traffic \
+    afdx-taps; do
     launch "tools/$tool" --help
     tell "$tool --help" "$(is_status 0; says out usage)"
 done
@@ -73,7 +74,7 @@ else
 fi
 
 parts="recordings report hardening criteria early page capture_faults wireshark icd"
-parts+=" icd_faults icd_documents icd_growth traffic fill completion around campaigns"
+parts+=" icd_faults icd_documents icd_growth traffic taps fill completion around campaigns"
 parts+=" recorded_reports package"
 for part in $parts; do
     # shellcheck source=/dev/null

@@ -22,7 +22,8 @@ installed_tests() { # DEB
         dpkg --root="$root" --status afdx 2>&1 | grep -q '^Status: install ok installed' ||
             echo 'dpkg says that it is not'
         cmp "$program" "$root/usr/bin/afdx" 2>&1
-        for file in share/man/man1/afdx{,-capture,-report,-campaign,-icd,-fill,-traffic}.1.gz \
+        for file in share/man/man1/afdx{,-capture,-report,-campaign,-icd,-fill}.1.gz \
+            share/man/man1/afdx{-traffic,-taps}.1.gz \
             share/doc/afdx/TOOLS.md share/doc/afdx/examples/messages.csv \
             share/bash-completion/completions/afdx{,-capture} share/zsh/vendor-completions/_afdx \
             share/fish/vendor_completions.d/afdx{,-report}.fish share/doc/afdx/changelog.gz \
