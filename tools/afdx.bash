@@ -101,12 +101,14 @@ _afdx() {
 }
 
 _afdx_capture_list() {
-    _afdx_read 2 --config --interface --origin --fcs --reorder --stamps -o --out --split
+    _afdx_read 2 --config --interface --taps --origin --fcs --reorder --stamps -o --out --split
     if _afdx_is_option; then
-        _afdx_words --config --interface --origin --fcs --reorder --stamps --out --split --help
+        _afdx_words --config --interface --taps --origin --fcs --reorder --stamps --out --split \
+            --help
         return
     fi
     case $before in
+        --taps) _afdx_files csv ;;
         '') if ((${#given[@]} < 2)); then _afdx_recordings; fi ;;
         --config) _afdx_files toml ;;
         --fcs) _afdx_words yes no ;;
@@ -156,10 +158,10 @@ _afdx_report() {
     local given before
     COMPREPLY=()
     _afdx_read 1 --out --link --from --rows --worst --compare --title --fail-on --junit \
-        --interface --fcs --origin --reorder --stamps
+        --interface --taps --fcs --origin --reorder --stamps
     if _afdx_is_option; then
         _afdx_words --out --no-admission --link --from --rows --worst --compare --title --json \
-            --interface --fcs --origin --reorder --stamps --fail-on --junit --help --version
+            --interface --taps --fcs --origin --reorder --stamps --fail-on --junit --help --version
         return
     fi
     case $before.${#given[@]} in
@@ -170,6 +172,7 @@ _afdx_report() {
         --stamps.*) _afdx_words end start ;;
         --out.*) _afdx_folders ;;
         --compare.*) _afdx_files json ;;
+        --taps.*) _afdx_files csv ;;
         --fail-on.*) _afdx_words dropped lost late too-old refused ;;
         --junit.*) _afdx_files xml ;;
     esac
@@ -178,16 +181,17 @@ _afdx_report() {
 _afdx_campaign() {
     local given before
     COMPREPLY=()
-    _afdx_read 1 --out -j --jobs -S --sshlogin --fail-on --junit --interface --fcs --origin \
-        --reorder --stamps
+    _afdx_read 1 --out -j --jobs -S --sshlogin --fail-on --junit --interface --taps --fcs \
+        --origin --reorder --stamps
     if _afdx_is_option; then
         _afdx_words --out --no-admission --pages --jobs --resume --sshlogin --transfer \
-            --interface --fcs --origin --reorder --stamps --fail-on --junit --help --version
+            --interface --taps --fcs --origin --reorder --stamps --fail-on --junit --help --version
         return
     fi
     case $before.${#given[@]} in
         --fail-on.*) _afdx_words dropped lost late too-old refused ;;
         --junit.*) _afdx_files xml ;;
+        --taps.*) _afdx_files csv ;;
         --fcs.*) _afdx_words yes no ;;
         --stamps.*) _afdx_words end start ;;
         .0) _afdx_files toml ;;

@@ -107,6 +107,7 @@ complete -c $tool -n '__afdx_at - 0 0' -a pcap -d 'A frame list to a recording'
 complete -c $tool -n '__afdx_at - 0 0' -a annotate -d 'A replay beside its frames'
 complete -c $tool -n '__afdx_in list' -x -l config -a '(__afdx_files toml)' -d 'Tells switch ports'
 complete -c $tool -n '__afdx_in list' -x -l interface -d 'Where an interface was plugged in'
+complete -c $tool -n '__afdx_in list' -x -l taps -a '(__afdx_files csv)' -d 'A table of taps'
 complete -c $tool -n '__afdx_in list pcap annotate' -x -l origin -d 'ns since 1970 of time 0'
 complete -c $tool -n '__afdx_in list' -x -l fcs -a 'yes no' -d 'Are there check sequences?'
 complete -c $tool -n '__afdx_in list' -x -l reorder -d 'How many in front may be later'
@@ -134,6 +135,7 @@ for tool in afdx-report afdx-campaign
         -a 'dropped lost late too-old refused'
     complete -c $tool -r -l junit -d 'Write each criterion as a JUnit test case'
     complete -c $tool -x -l interface -d 'Where an interface was plugged in'
+    complete -c $tool -x -l taps -a '(__afdx_files csv)' -d 'A table of taps'
     complete -c $tool -x -l fcs -a 'yes no' -d 'Are there check sequences?'
     complete -c $tool -x -l origin -d 'ns since 1970 of time 0'
     complete -c $tool -x -l reorder -d 'How many in front may be later'
@@ -159,7 +161,8 @@ complete -c afdx-campaign -l transfer -d 'Copy lists and configuration there fir
 
 # ---- afdx-icd, afdx-traffic, afdx-taps, afdx-fill ------------------------------------------------
 
-set -ga __afdx_valued --profile --keep --reserve --since --seconds --seed
+set -ga __afdx_valued --profile --keep --reserve --since --seconds --seed \
+    --taps
 complete -c afdx-icd -f
 complete -c afdx-icd -l help -d 'Print help and leave'
 complete -c afdx-icd -l version -d 'Print the version and leave'

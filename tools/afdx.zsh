@@ -21,6 +21,7 @@ local -a recorded=(
     '--origin[the moment of the recording that is time 0, in ns since 1970]:ns:'
     '--reorder[how many arrivals in front of a frame may be later]:number:'
 )
+local taps='--taps[a table of taps in the place of --interface]:table:_files -g "*.csv(-.)"'
 local stamps='--stamps[are stamps those of the last bit or of the first]:end:(end start)'
 
 _afdx_systems() { # the names of the systems of the configuration that was given
@@ -68,7 +69,7 @@ _afdx_capture() {
     local origin='--origin[the time, in ns since 1970, that is 0 in the list]:ns:'
     case $1 in
         list)
-            _arguments $help $recorded $stamps \
+            _arguments $help $recorded $stamps $taps \
                 "--config[the switch port is that of the sender in it]:$config" \
                 "(-o --out --split)"{-o,--out}"[the list]:$list" \
                 '(-o --out)--split[write several lists]:prefix:_files' ":$recording" \
@@ -99,7 +100,7 @@ case $service in
     afdx) _afdx_of_commands _afdx_program check explain list police replay send solve ;;
     afdx-capture) _afdx_of_commands _afdx_capture list pcap annotate ;;
     afdx-report)
-        _arguments $help $version $recorded $stamps \
+        _arguments $help $version $recorded $stamps $taps \
             '--out[the folder for page, CSV and JSON]:folder:_path_files -/' \
             '--no-admission[also where the network is refused]' \
             '--link[the link of the time line]:number:' \
@@ -113,7 +114,7 @@ case $service in
             '--json[print the JSON instead of the text]' ":$config" ":$input" "::$recording"
         ;;
     afdx-campaign)
-        _arguments $help $version $recorded $stamps \
+        _arguments $help $version $recorded $stamps $taps \
             '--out[the folder of the campaign]:folder:_path_files -/' \
             '--no-admission[also where the network is refused]' \
             '--pages[a page for each run too]' {-j,--jobs}'[runs at a time]:number:' \

@@ -10,13 +10,14 @@ from typing import NamedTuple
 from afdx_cells import Cells
 from afdx_interfaces import OTHERS, Interface, interfaces_of
 from afdx_sheets import Row, read_sheet
-from afdx_tools import Config, Refused
-from afdx_words import shown
+from afdx_tools import Config, Refused, read_config
+from afdx_words import Failed, shown
 
 COLUMNS = dict.fromkeys(("interface", "side", "port", "direction"), True)
 SIDES = {0x20: "A", 0x40: "B"}  # by the last byte of a source address
 SENDER = b"\x02\0\0"  # a source address of an end system begins with it
 IN, OUT, NONE = "in", "out", "none"
+DISAGREE = 3  # the status where recording and table don't agree
 FEW = 3  # places that are named of frames that contradict theirs
 
 
@@ -61,10 +62,11 @@ class Recording(NamedTuple):
 
 @dataclass
 class Found:
-    """What the recordings are, by the table: the words of the program; what contradicts the table,
-    and what is only worth knowing."""
+    """What the recordings are, by the table: the words of the program, and their interfaces as rows
+    of a report; what contradicts the table, and what is only worth knowing."""
 
     words: list[str] = field(default_factory=list)
+    rows: list[dict] = field(default_factory=list)
     faults: list[str] = field(default_factory=list)
     remarks: list[str] = field(default_factory=list)
 
@@ -227,30 +229,43 @@ class Claims:
 
     def agrees(self, tap: Tap, source: bytes) -> bool:
         """A frame of that source can come there: into the switch only from the system at the port,
-        out of it only from another one on that side."""
+        out of it only from another one on that side; anything where it doesn't count."""
         place = self.place_of(source)
+        if tap.direction == NONE:
+            return True
         if tap.direction == IN:
             return place == tap.place
         return place is not None and place.side == tap.place.side and place != tap.place
 
 
-def note_frames(found: Found, claims: Claims, tap: Tap, at: str, interface: Interface) -> None:
-    """Notes the frames of an interface that contradict its place. If not one of its frames names
-    it, the place is wrong; else some frames are worth a look."""
+def note_frames(found: Found, claims: Claims, tap: Tap, recording: Recording, number: int) -> None:
+    """Notes what frames an interface has, and those that contradict its place. If not one of them
+    names it, the place is wrong; else some frames are worth a look."""
+    interface = recording.interfaces[number]
     others = {s: n for s, n in interface.sources.items() if not claims.agrees(tap, s)}
     count, total = sum(source.frames for source in others.values()), interface.frames
-    if not total:
-        found.remarks.append(f"{at} is {tap.says} by {tap.row.place}, and has no AFDX frame")
+    found.rows.append(
+        {
+            "recording": recording.name,
+            "interface": number,
+            "name": None if interface.name is None else shown(interface.name),
+            "place": str(tap.place) if tap.place else None,
+            "direction": tap.direction,
+            "frames": total,
+            "contradicting": count,
+        }
+    )
+    at = f"{recording.name}: {called(number, interface.name)} is {tap.says} by {tap.row.place}"
+    if not total and tap.direction != NONE:
+        found.remarks.append(f"{at}, and has no AFDX frame")
     if not count:
         return
     most = sorted(others, key=lambda source: -others[source].frames)
     places = ", ".join(claims.called(source) for source in most[:FEW])
     more = f" and {len(most) - FEW} others" if len(most) > FEW else ""
     first = min(source.first for source in others.values())
-    line = (
-        f"{at} is {tap.says} by {tap.row.place}, and {count} of its {total} AFDX frames name "
-        f"{places}{more}; the first is number {first}"
-    )
+    line = f"{at}, and {count} of its {total} AFDX frames name {places}{more}; "
+    line += f"the first is number {first}"
     (found.faults if count == total else found.remarks).append(line)
 
 
@@ -296,10 +311,16 @@ def checked(config: Config, taps: list[Tap], paths: list[str], names: list[str])
             continue
         rows.append(matched(found, taps, recording))
         for number, tap in rows[-1].items():
-            interface = recording.interfaces[number]
-            if tap.direction != NONE:
-                note_frames(
-                    found, claims, tap, f"{name}: {called(number, interface.name)}", interface
-                )
+            note_frames(found, claims, tap, recording, number)
     note_words(found, rows)
+    return found
+
+
+def of_words(taps: str, config: str, paths: list[str], names: list[str]) -> Found:
+    """What the recordings are, by a table of --taps; Failed where they don't agree with it."""
+    found = checked(read_config(config), read_taps(taps), paths, names)
+    if found.faults:
+        more = len(found.faults) - 1
+        others = f" (and {more} lines more; afdx-taps has them all)" if more else ""
+        raise Failed(found.faults[0] + others, DISAGREE)
     return found

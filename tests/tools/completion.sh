@@ -84,6 +84,7 @@ offer_tests() { # SHELL
         offers "$1" "afdx-capture list --config $files/" one.toml
         offers "$1" "afdx-capture list --config $files/one.toml $files/" four.pcap
         offers "$1" "afdx-capture list --config $files/one.toml $files/four.pcap $files/" four.pcap
+        offers "$1" "afdx-capture list --taps $files/" seven.csv
         offers "$1" "afdx-capture pcap $files/" two.list
         offers "$1" "afdx-capture pcap --side A $files/two.list $files/" four.pcap
         offers "$1" "afdx-capture annotate $files/" one.toml
@@ -93,6 +94,7 @@ offer_tests() { # SHELL
         offers "$1" "afdx-report --fcs no $files/one.toml $files/four.pcap $files/" four.pcap
         offers "$1" "afdx-report --reorder 0 --stamps end $files/" one.toml
         offers "$1" "afdx-report --out $files/"
+        offers "$1" "afdx-report --taps $files/seven.csv $files/" one.toml
         offers "$1" "afdx-icd --profile 2 $files/" seven.csv
         offers "$1" "afdx-icd $files/seven.csv $files/" seven.csv
         offers "$1" "afdx-icd --fill --reserve 20 $files/seven.csv --since $files/" one.toml
@@ -107,6 +109,7 @@ offer_tests() { # SHELL
         offers "$1" "afdx-fill $files/" one.toml
         offers "$1" "afdx-fill --keep skew $files/one.toml $files/" one.toml
         offers "$1" "afdx-campaign $files/" one.toml
+        offers "$1" "afdx-campaign --taps $files/" seven.csv
         offers "$1" "afdx-campaign --reorder 0 --stamps end $files/" one.toml
         offers "$1" "afdx-campaign $files/one.toml $files/two.list $files/" two.list four.pcap
     )"

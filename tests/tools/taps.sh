@@ -241,6 +241,91 @@ file_taps_tests() {
     tell 'the help of afdx-taps fits 80 columns' "$(is_status 0; grep -E '.{81}' "$work/out")"
 }
 
+# ---- the option of the tools ---------------------------------------------------------------
+
+annotated() { # NAME SIDE.. : the frames of these sides, at the interfaces where they came in
+    grep "^#\|^. [0-9]* [${*:2}] " examples/bench.list >"$tapped/$1.list"
+    capture annotate --no-admission examples/network.toml "$tapped/$1.list" "$tapped/$1.pcapng"
+}
+
+bench_taps() { # a table of all places that examples/bench.list names
+    echo interface,side,port,direction
+    sed -n 's/^[FBR] [0-9]* \([AB]\) \([0-9]*\) .*/side \1 port \2,\1,\2,in/p' \
+        examples/bench.list | sort -u
+}
+
+report_by() { # WORD.. : a report in the folder `by`, by the table bench.csv
+    rm -rf "$tapped/by"
+    launch tools/afdx-report examples/network.toml --taps "$tapped/bench.csv" --no-admission \
+        --out "$tapped/by" "$@"
+}
+
+option_tests() {
+    local whole=$tapped/whole.pcapng json=$tapped/by/report.json words
+    annotated whole A B
+    annotated A A
+    annotated B B
+    bench_taps >"$tapped/bench.csv"
+    report_by "$whole"
+    tell 'a report by a table of taps' "$(
+        is_status 0
+        wants_number "$json" 'r["skipped"]["claimed"]' 0
+        wants_number "$json" 'r["totals"]["frames"]' "$(grep -c -v '^#' "$tapped/whole.list")"
+        wants_number "$json" 'r["taps"]["rows"][0]["direction"]' in
+        wants_number "$json" 'sum(row["frames"] for row in r["taps"]["rows"]) > 50' True
+    )"
+    report_by "$tapped/A.pcapng" "$tapped/B.pcapng"
+    tell 'a report on two recordings by a table of taps' "$(
+        is_status 0
+        wants_number "$json" 'r["skipped"]["claimed"]' 0
+    )"
+    report_by "$tapped/B.pcapng" "$tapped/A.pcapng"
+    tell 'recordings the other way round, in a report' "$(
+        is_status 3
+        text_is err "afdx-report: $tapped/B.pcapng is given as the recording of A, and the table \
+has its interfaces on B (and 1 lines more; afdx-taps has them all)
+"
+        if [[ -e $tapped/by ]]; then echo 'there is a report'; fi
+    )"
+    report_by --interface 0=A "$whole"
+    tell 'a table of taps beside --interface' "$(is_status 2; says err '--taps and --interface')"
+    report_by <(cat "$whole")
+    tell 'a recording from a pipe by a table of taps' "$(is_status 0; one_report)"
+    capture list --config examples/network.toml "$whole" -o "$tapped/claimed.list"
+    launch tools/afdx-capture list --config examples/network.toml --taps "$tapped/bench.csv" \
+        "$whole" -o "$tapped/tapped.list"
+    tell 'a list by a table of taps' "$(is_status 0; says err 'claimed 0')"
+    mapfile -t words < <(tools/afdx-taps examples/network.toml "$tapped/bench.csv" "$whole")
+    launch "$program" list "${words[@]}" examples/network.toml "$whole"
+    tell 'the program takes the words of afdx-taps' "$(
+        is_status 0
+        same "$tapped/tapped.list" "$work/out"
+        same <(grep -v '^#' "$tapped/whole.list" | cut -d ' ' -f 3,4) \
+            <(cut -d ' ' -f 3,4 "$work/out")
+    )"
+    launch "$program" list --interface=refused examples/network.toml "$whole"
+    tell 'the program refuses the word of a refusal' "$(
+        is_status 2
+        text_is err $'words BadInterface\n'
+    )"
+}
+
+one_report() { # the table of taps is in the report
+    wants_number "$tapped/by/report.json" 'len(r["taps"]["rows"]) > 4' True
+}
+
+campaign_taps_test() {
+    launch tools/afdx-campaign examples/network.toml --taps "$tapped/bench.csv" --no-admission \
+        "$tapped/whole.pcapng" "$tapped/A.pcapng,$tapped/B.pcapng" \
+        "$tapped/B.pcapng,$tapped/A.pcapng" --out "$tapped/campaign"
+    tell 'a campaign by a table of taps' "$(
+        is_status 3
+        wants_number "$tapped/campaign/runs/1/stdout" 'r["skipped"]["claimed"]' 0
+        wants_number "$tapped/campaign/runs/2/stdout" 'r["skipped"]["claimed"]' 0
+        grep -c 'as the recording of A' "$tapped/campaign/runs/3/stderr" | grep -vx 1
+    )"
+}
+
 mkdir -p "$tapped"
 cp examples/systems.csv examples/messages.csv "$tapped"
 launch tools/afdx-icd examples/systems.csv examples/messages.csv "$tapped/net.toml"
@@ -251,6 +336,16 @@ if [[ -s $tapped/net.toml ]]; then
     missing_taps_tests
     table_tests
     file_taps_tests
+    if "$python" -c 'import dpkt' 2>/dev/null && [[ -n $reporting ]]; then
+        option_tests
+        if has parallel; then
+            campaign_taps_test
+        else
+            skip 'a campaign by a table of taps' 'there is no GNU parallel'
+        fi
+    else
+        skip 'the option --taps' 'there is no package dpkt, or no numpy'
+    fi
 else
     skip 'afdx-taps' 'there is no configuration'
 fi
