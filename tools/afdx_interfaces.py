@@ -111,12 +111,12 @@ class Records:
 
     def packets(self, pieces: Pieces) -> int:
         """Passes over the frames that are at hand as a whole; the bytes that the next one needs."""
-        data, at, end, size = pieces.bytes, pieces.at, len(pieces.bytes), 16
+        data, at, end, needed = pieces.bytes, pieces.at, len(pieces.bytes), 16
         counts, firsts = self.heads.counts, self.heads.firsts
         while at + 16 <= end:
             (captured,) = self.captured(data, at)
-            size = 16 + captured
-            if at + size > end:
+            if at + 16 + captured > end:
+                needed = 16 + captured
                 break
             self.number += 1
             if captured >= 12:
@@ -125,9 +125,9 @@ class Records:
                     counts[head] += 1
                 except KeyError:
                     counts[head], firsts[head] = 1, self.number
-            at += size
+            at += 16 + captured
         pieces.at = at
-        return size
+        return needed
 
 
 def read_pcap(pieces: Pieces) -> list[Interface]:
@@ -210,15 +210,19 @@ class Sections:
 
     def packet(self, data: bytes, at: int, kind: int, size: int) -> bool:
         """A frame, whose block is at that place; false where its interface isn't described."""
-        place, begin = 0, at + 12
-        if kind != SIMPLE_PACKET:
-            place, begin = self.numbers(data, at + 8)[0], at + 28
+        if kind == SIMPLE_PACKET:
+            place, begin = 0, at + 12
+            (captured,) = struct.unpack_from(self.order + "I", data, at + 8)
+        else:
+            _, _, place, captured = self.lengths(data, at)
+            begin = at + 28
         if kind == OLD_PACKET:
-            place = struct.unpack_from(self.order + "H", data, at + 8)[0]
+            (place,) = struct.unpack_from(self.order + "H", data, at + 8)
         if place >= self.described:
             return False
         self.number += 1
-        if data[begin : begin + 4] == VIRTUAL_LINK and begin + 12 <= at + size - 4:
+        is_whole = captured >= 12 and begin + 12 <= at + size - 4
+        if is_whole and data.startswith(VIRTUAL_LINK, begin):
             self.interfaces[place].add(data[begin + 6 : begin + 12], self.number)
         return True
 

@@ -31,7 +31,7 @@ from afdx_tables import (
     cell,
     write_all,
 )
-from afdx_taps import of_words
+from afdx_taps import found_by
 from afdx_tools import program, read_config
 from afdx_words import Failed, Progress, as_file, at_hand, shown
 
@@ -176,7 +176,7 @@ def source_of(args: argparse.Namespace) -> Iterator[Source]:
         paths = [files.enter_context(at_hand(name, "run.list")) for name in names]
         options, taps = recording_options(args), None
         if args.taps is not None:
-            taps = of_words(args.taps, config, paths, names)
+            taps = found_by(args.taps, config, paths, names)
             options += taps.words
         yield Source(config, paths, options, of_replay, taps)
 

@@ -5,7 +5,7 @@ from __future__ import annotations
 import filecmp
 import os
 from dataclasses import dataclass, field
-from typing import NamedTuple
+from typing import Iterable, NamedTuple
 
 from afdx_cells import Cells
 from afdx_interfaces import OTHERS, Interface, interfaces_of
@@ -109,7 +109,7 @@ class WrongTaps(Refused):
     """What is wrong with a table of taps, a line each."""
 
     def __init__(self, lines: list[str]) -> None:
-        others = f" (and {len(lines) - 1} faults more)" if len(lines) > 1 else ""
+        others = f" (and {len(lines) - 1} more)" if len(lines) > 1 else ""
         super().__init__(lines[0] + others)
         self.lines = lines
 
@@ -213,6 +213,12 @@ class Claims:
     def __init__(self, config: Config) -> None:
         self.ports = config.ports_by_id()
         self.names = {port: system.name for port, system in config.by_port().items()}
+        self.links = config.links.values()
+
+    def come_out(self, place: Place, sources: Iterable[bytes]) -> bool:
+        """Frames of all of these sources come out of the switch there."""
+        senders = {Place(place.side, link.port) for link in self.links if place.port in link.ports}
+        return all(self.place_of(source) in senders for source in sources)
 
     def place_of(self, source: bytes) -> Place | None:
         """The place that a source address names; None where it names none."""
@@ -266,6 +272,8 @@ def note_frames(found: Found, claims: Claims, tap: Tap, recording: Recording, nu
     first = min(source.first for source in others.values())
     line = f"{at}, and {count} of its {total} AFDX frames name {places}{more}; "
     line += f"the first is number {first}"
+    if tap.direction == IN and count < total and claims.come_out(tap.place, others):
+        line += ". Such frames come out there: were both directions recorded?"
     (found.faults if count == total else found.remarks).append(line)
 
 
@@ -316,11 +324,11 @@ def checked(config: Config, taps: list[Tap], paths: list[str], names: list[str])
     return found
 
 
-def of_words(taps: str, config: str, paths: list[str], names: list[str]) -> Found:
+def found_by(taps: str, config: str, paths: list[str], names: list[str]) -> Found:
     """What the recordings are, by a table of --taps; Failed where they don't agree with it."""
     found = checked(read_config(config), read_taps(taps), paths, names)
     if found.faults:
         more = len(found.faults) - 1
-        others = f" (and {more} lines more; afdx-taps has them all)" if more else ""
+        others = f" (and {more} more; afdx-taps says all)" if more else ""
         raise Failed(found.faults[0] + others, DISAGREE)
     return found

@@ -92,6 +92,16 @@ number 3" 'run.pcapng: interface 2 (eth3) is A:3 in by taps.csv line 4, and has 
             "run.pcapng: interface 3 (eth4) is A:3 out by taps.csv line 5, and 1 of its 2 AFDX \
 frames name A:3 (disp); the first is number 11"
     )"
+    tap run.pcapng eth1=17A,33A eth2=33A,17A,49A eth3=49A eth4=17A
+    taps run.pcapng
+    tell 'frames that could come out there' "$(
+        is_status 0
+        says_all "run.pcapng: interface 0 (eth1) is A:1 in by taps.csv line 2, and 1 of its 2 \
+AFDX frames name A:2 (fcc); the first is number 2. Such frames come out there: were both \
+directions recorded?" "run.pcapng: interface 1 (eth2) is A:2 in by taps.csv line 3, and 2 of its 3 \
+AFDX frames name A:1 (adc), A:3 (disp); the first is number 4. Such frames come out there: were \
+both directions recorded?"
+    )"
 }
 
 wrong_place_tests() {
@@ -241,6 +251,14 @@ file_taps_tests() {
     tell 'the help of afdx-taps fits 80 columns' "$(is_status 0; grep -E '.{81}' "$work/out")"
 }
 
+reading_test() {
+    launch "$python" tests/tools/read_interfaces.py 2000
+    tell '2,000 recordings made at random are read as the reference does, changed ones too' "$(
+        is_status 0
+        head -n -1 "$work/out" | head -n 5
+    )" "$(tail -n 1 "$work/out")"
+}
+
 # ---- the option of the tools ---------------------------------------------------------------
 
 annotated() { # NAME SIDE.. : the frames of these sides, at the interfaces where they came in
@@ -283,7 +301,7 @@ option_tests() {
     tell 'recordings the other way round, in a report' "$(
         is_status 3
         text_is err "afdx-report: $tapped/B.pcapng is given as the recording of A, and the table \
-has its interfaces on B (and 1 lines more; afdx-taps has them all)
+has its interfaces on B (and 1 more; afdx-taps says all)
 "
         if [[ -e $tapped/by ]]; then echo 'there is a report'; fi
     )"
@@ -336,6 +354,7 @@ if [[ -s $tapped/net.toml ]]; then
     missing_taps_tests
     table_tests
     file_taps_tests
+    reading_test
     if "$python" -c 'import dpkt' 2>/dev/null && [[ -n $reporting ]]; then
         option_tests
         if has parallel; then
