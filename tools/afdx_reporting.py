@@ -40,6 +40,7 @@ from afdx_tables import (
     cell,
     files_of,
 )
+from afdx_taps import found_by
 from afdx_tools import program
 from afdx_words import Failed, Progress, as_file, at_hand, shown
 
@@ -122,6 +123,8 @@ def report_of(args: argparse.Namespace, source: Source, progress: Progress) -> t
     }
     if listed.skipped and not status:
         report["skipped"] = listed.skipped
+    if source.taps:
+        report["taps"] = {"file": shown(args.taps), "rows": source.taps.rows}
     if len(events.early.lines):
         report["early_ns"] = numbers.early_rows(counting)
     report["totals"] = numbers.totals(counting, report)
@@ -175,7 +178,11 @@ def source_of(args: argparse.Namespace) -> Iterator[Source]:
     with contextlib.ExitStack() as files:
         config = files.enter_context(at_hand(args.config))
         paths = [files.enter_context(at_hand(name)) for name in names]
-        yield Source(config, paths, recording_options(args), of_replay)
+        options, taps = recording_options(args), None
+        if args.taps is not None:
+            taps = found_by(args.taps, config, paths, names)
+            options += taps.words
+        yield Source(config, paths, options, of_replay, taps)
 
 
 def run_report(tool: str, args: argparse.Namespace) -> int:
@@ -185,6 +192,8 @@ def run_report(tool: str, args: argparse.Namespace) -> int:
     name = args.list if args.other is None else f"{args.list},{args.other}"
     try:
         with source_of(args) as source:
+            for line in source.taps.remarks if source.taps else []:
+                print(f"{tool}: {shown(line)}", file=sys.stderr)
             report, counting = report_of(args, source, progress)
     except Failed as error:
         if args.junit:

@@ -12,6 +12,7 @@ from afdx_checked import Checked, checked_of
 from afdx_events import OVER_RATE, Events
 from afdx_listing import Listing
 from afdx_recordings import is_recording
+from afdx_taps import Found
 from afdx_tools import MOST_LINES, program
 from afdx_words import Failed, Progress, shown
 
@@ -23,12 +24,13 @@ PIECE = 1 << 20  # bytes of a pipe
 @dataclass(frozen=True)
 class Source:
     """What is replayed: a configuration, a list or a recording, or those of both networks; the
-    options of recordings and of the replay."""
+    options of recordings and of the replay; what a table of taps says of the recordings."""
 
     config: str
     paths: list[str]
     options: list[str]
     of_replay: list[str]
+    taps: Found | None = None
 
     @property
     def is_recorded(self) -> bool:

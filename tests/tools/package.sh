@@ -40,6 +40,7 @@ installed_tests() { # DEB
             echo 'dpkg says that it is not'
         cmp "$program" "$root/usr/bin/afdx" 2>&1
         for file in share/man/man1/afdx{,-capture,-report,-campaign,-icd,-fill}.1.gz \
+            share/man/man1/afdx{-traffic,-taps}.1.gz \
             share/doc/afdx/{TOOLS.md,copyright} share/afdx/examples/{messages.csv,make_bench.py} \
             share/bash-completion/completions/afdx{,-capture} share/zsh/vendor-completions/_afdx \
             share/fish/vendor_completions.d/afdx{,-report}.fish share/doc/afdx/changelog.gz \
