@@ -62,11 +62,8 @@ explained_tests() {
             if [[ $(wc -l <"$work/out") -lt 2 ]]; then echo 'it is not explained'; fi
         )"
     fi
-    if [[ -n $tomlkit ]]; then
-        explained 'fill of a configuration with a fault' 1 \
-            'afdx-fill: config OutOfRange link 1 key 4' \
-            tools/afdx-fill "$work/faulty.toml" -
-    fi
+    explained 'fill of a configuration with a fault' 1 'afdx-fill: config OutOfRange link 1 key 4' \
+        tools/afdx-fill "$work/faulty.toml" -
     on_terminal tools/afdx-report nowhere.toml examples/one_link.list --json
     tell 'what is no line of the program stays one line' "$(
         is_status 4
@@ -84,7 +81,6 @@ explained_campaign_tests() {
     )"
 }
 
-if "$python" -c 'import tomlkit' 2>"$work/err"; then tomlkit=1; else tomlkit=; fi
 if [[ -z $reporting || -z $dpkt ]]; then
     skip 'faults on a terminal' "there is no program $program, no numpy, or no dpkt"
 else

@@ -197,12 +197,15 @@ file_tests() {
     tell 'a folder that is not there' "$(is_status 4; says err "$at/none/made.toml")"
     AFDX=/nowhere icd "$at"
     tell 'a program that is not there, of afdx-icd' "$(
-        is_refused "$at" 4 '/nowhere: No such file or directory'
+        is_refused "$at" 4 "/nowhere can't be run: No such file or directory"
     )"
     local said
     for said in 'true|said nothing' 'false|said nothing' 'echo|solve wrote other tables'; do
-        AFDX=/bin/${said%|*} icd "$at"
-        tell "a program that is /bin/${said%|*}" "$(
+        printf '#!/bin/sh\nif [ "$1" = --version ]; then exec "%s" "$1"; fi\nexec %s "$@"\n' \
+            "$program" "${said%|*}" >"$work/other_program"
+        chmod +x "$work/other_program"
+        AFDX=$work/other_program icd "$at"
+        tell "a program that answers as ${said%|*} does" "$(
             is_status 4
             says err "${said#*|}"
             wc -l <"$work/err" | grep -vx 1
