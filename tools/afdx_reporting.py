@@ -31,7 +31,7 @@ from afdx_tables import (
     cell,
     write_all,
 )
-from afdx_taps import found_by
+from afdx_tapped import found_by
 from afdx_tools import program, read_config
 from afdx_words import Failed, Progress, as_file, at_hand, shown
 

@@ -1,5 +1,5 @@
 #!/usr/bin/python3
-"""Reads the interfaces of recordings as afdx-taps does, and compares them with tests/lib/recorded.py.
+"""Reads interfaces of recordings as afdx-taps does, compared with tests/lib/recorded.py.
 
     tests/tools/read_interfaces.py COUNT
 

@@ -7,12 +7,14 @@ traffic() { # FOLDER [OPTION..] : what the tables there send, in FOLDER/sent
     launch env -C "$1" "$top/tools/afdx-traffic" "${@:2}" systems.csv messages.csv sent
 }
 
-is_sent() { # FOLDER MESSAGES COPIES : all is accepted and delivered, and goes to so many receivers
+# All is accepted, and so many messages are delivered. Of messages that share a link some go to
+# systems without a port for them: then more copies of a side leave than are delivered.
+is_sent() { # FOLDER MESSAGES DELIVERED [COPIES]
     local counts
     counts=$("$program" replay --summary "$1/made.toml" "$1/sent/all-systems.list" 2>&1 |
         sed -n 's/^summary //p')
     if [[ $counts != "lines $((2 * $2)) accepted $((2 * $2)) dropped 0 lost 0 departed \
-$((2 * $3)) too-old 0 delivered $3" ]]; then
+$((2 * ${4:-$3})) too-old 0 delivered $3" ]]; then
         echo "the replay of $2 messages counts $counts"
     fi
 }
@@ -86,7 +88,7 @@ speed,20,fcc,disp adc,50,3,,high,1022,queuing,4,/'
     traffic "$at" --config made.toml --seconds 10
     tell 'messages that share a link' "$(
         is_status 0
-        is_sent "$at" 2251 2951
+        is_sent "$at" 2251 2951 4052
         grep -v '#' "$at/sent/fcc.messages" | cut -d ' ' -f 2-4 | grep '^20 ' | sort -u >"$work/got"
         printf '20 %s\n' '1 1020' '2 1021' '3 1022' >"$work/wanted"
         same "$work/wanted" "$work/got"
