@@ -118,6 +118,14 @@ can wait for a link
     )"
 }
 
+random_test() {
+    launch nice -n 5 "$python" tests/tools/random_documents.py 10 "$program"
+    tell '10 networks made at random: admitted with room, grown, all sent and delivered' "$(
+        is_status 0
+        head -n -1 "$work/out" | head -n 5
+    )" "$(tail -n 1 "$work/out")"
+}
+
 traffic_fault_tests() {
     local at=$work/traffic/fault
     tables "$at" '' ''
@@ -169,6 +177,7 @@ else
     chance_tests
     shared_traffic_tests
     traffic_fault_tests
+    random_test
     launch env COLUMNS=80 tools/afdx-traffic --help
     tell 'the help of afdx-traffic fits 80 columns' "$(is_status 0; grep -E '.{81}' "$work/out")"
 fi
