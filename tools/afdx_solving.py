@@ -118,4 +118,7 @@ def read_admitted(path: str) -> dict:
         written = solve(file.read(), ("--keep", "jitter,buffer,latency,skew"))
     if written.line:
         raise Refused(f"{shown(path)}: {written.line}")
-    return tomllib.loads(written.text)
+    try:
+        return tomllib.loads(written.text)
+    except ValueError as error:
+        raise Failed("solve wrote no configuration", 4) from error

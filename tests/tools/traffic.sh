@@ -145,6 +145,11 @@ traffic_fault_tests() {
     )"
     traffic "$at" --config none.toml
     tell 'a network that is not there' "$(is_status 4; says err 'afdx-traffic: adc: device Config')"
+    AFDX=/bin/echo traffic "$at" --config made.toml
+    tell 'a program that sends no frames' "$(
+        is_status 4
+        text_is err $'afdx-traffic: send wrote other lines than those of frames\n'
+    )"
     traffic "$at" --seconds 3000 --config made.toml
     tell 'more frames than a list has lines' "$(
         is_status 2
