@@ -40,7 +40,7 @@ from afdx_tables import (
     cell,
     files_of,
 )
-from afdx_taps import found_by
+from afdx_tapped import found_by
 from afdx_tools import program
 from afdx_words import Failed, Progress, as_file, at_hand, shown
 

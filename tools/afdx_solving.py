@@ -121,4 +121,7 @@ def read_admitted(path: str) -> dict:
         written = solve(file.read(), ("--keep", AS_WRITTEN))
     if written.line:
         raise Refused(f"{shown(path)}: {written.line}")
-    return tomllib.loads(written.text)
+    try:
+        return tomllib.loads(written.text)
+    except ValueError as error:
+        raise Failed("solve wrote no configuration", 4) from error

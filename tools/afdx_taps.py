@@ -1,25 +1,19 @@
-"""Where the interfaces of a recording were plugged in: a table of taps, and whether the recording
-agrees with it."""
+"""Where the interfaces of a recording were plugged in: the table of taps, and which row is that of
+which interface."""
 from __future__ import annotations
 
-import filecmp
-import os
 from dataclasses import dataclass, field
-from typing import Iterable, NamedTuple
+from typing import NamedTuple
 
 from afdx_cells import Cells
-from afdx_interfaces import OTHERS, Interface, interfaces_of
-from afdx_reading import read_config
+from afdx_interfaces import Interface
 from afdx_sheets import Row, read_sheet
-from afdx_tools import Config, Refused
-from afdx_words import Failed, shown
+from afdx_tools import Refused
+from afdx_words import shown
 
 COLUMNS = dict.fromkeys(("interface", "side", "port", "direction"), True)
 SIDES = {0x20: "A", 0x40: "B"}  # by the last byte of a source address
-SENDER = b"\x02\0\0"  # a source address of an end system begins with it
 IN, OUT, NONE = "in", "out", "none"
-DISAGREE = 3  # the status where recording and table don't agree
-FEW = 3  # places that are named of frames that contradict theirs
 
 
 class Place(NamedTuple):
@@ -203,133 +197,3 @@ def note_absent(
         return
     for tap in absent:
         found.faults.append(f"{tap.row.place}: {shown(tap.name)} isn't in {recording.name}")
-
-
-# ---- what the frames say -------------------------------------------------------------------------
-
-
-class Claims:
-    """Where the systems of a configuration are, by the source addresses of their frames."""
-
-    def __init__(self, config: Config) -> None:
-        self.ports = config.ports_by_id()
-        self.names = {port: system.name for port, system in config.by_port().items()}
-        self.links = config.links.values()
-
-    def come_out(self, place: Place, sources: Iterable[bytes]) -> bool:
-        """Frames of all of these sources come out of the switch there."""
-        senders = {Place(place.side, link.port) for link in self.links if place.port in link.ports}
-        return all(self.place_of(source) in senders for source in sources)
-
-    def place_of(self, source: bytes) -> Place | None:
-        """The place that a source address names; None where it names none."""
-        side = SIDES.get(source[-1]) if source.startswith(SENDER) else None
-        port = self.ports.get(int.from_bytes(source[3:5], "big"))
-        return Place(side, port) if side and port else None
-
-    def called(self, source: bytes) -> str:
-        """That place as it is told."""
-        place = self.place_of(source)
-        if place:
-            return f"{place} ({self.names[place.port]})"
-        return f"no place ({source.hex(':')})" if source != OTHERS else "other addresses"
-
-    def agrees(self, tap: Tap, source: bytes) -> bool:
-        """A frame of that source can come there: into the switch only from the system at the port,
-        out of it only from another one on that side; anything where it doesn't count."""
-        place = self.place_of(source)
-        if tap.direction == NONE:
-            return True
-        if tap.direction == IN:
-            return place == tap.place
-        return place is not None and place.side == tap.place.side and place != tap.place
-
-
-def note_frames(found: Found, claims: Claims, tap: Tap, recording: Recording, number: int) -> None:
-    """Notes what frames an interface has, and those that contradict its place. If not one of them
-    names it, the place is wrong; else some frames are worth a look."""
-    interface = recording.interfaces[number]
-    others = {s: n for s, n in interface.sources.items() if not claims.agrees(tap, s)}
-    count, total = sum(source.frames for source in others.values()), interface.frames
-    found.rows.append(
-        {
-            "recording": recording.name,
-            "interface": number,
-            "name": None if interface.name is None else shown(interface.name),
-            "place": str(tap.place) if tap.place else None,
-            "direction": tap.direction,
-            "frames": total,
-            "contradicting": count,
-        }
-    )
-    at = f"{recording.name}: {called(number, interface.name)} is {tap.says} by {tap.row.place}"
-    if not total and tap.direction != NONE:
-        found.remarks.append(f"{at}, and has no AFDX frame")
-    if not count:
-        return
-    most = sorted(others, key=lambda source: -others[source].frames)
-    places = ", ".join(claims.called(source) for source in most[:FEW])
-    more = f" and {len(most) - FEW} others" if len(most) > FEW else ""
-    first = min(source.first for source in others.values())
-    line = f"{at}, and {count} of its {total} AFDX frames name {places}{more}; "
-    line += f"the first is number {first}"
-    if tap.direction == IN and count < total and claims.come_out(tap.place, others):
-        line += ". Such frames come out there: were both directions recorded?"
-    (found.faults if count == total else found.remarks).append(line)
-
-
-# ---- the words -----------------------------------------------------------------------------------
-
-
-def word_of(tap: Tap, number: int) -> str:
-    """The word of the program for an interface."""
-    place = tap.place if tap.direction == IN else "-"
-    return f"--interface={number}={place}"
-
-
-def note_words(found: Found, rows: list[dict[int, Tap]]) -> None:
-    """The words for all recordings; an interface that is left out is so in both."""
-    for number in sorted(set().union(*rows)):
-        words = {word_of(each[number], number) for each in rows if number in each}
-        if f"--interface={number}=-" in words and len(words) > 1:
-            found.faults.append(
-                f"interface {number} is left out of one recording and not of the other, which no "
-                "word says; record the interfaces of both networks in one order"
-            )
-        found.words += sorted(words)
-
-
-def are_same(paths: list[str]) -> bool:
-    """Two recordings have the same content."""
-    one, other = paths
-    return os.path.samefile(one, other) or filecmp.cmp(one, other, shallow=False)
-
-
-def checked(config: Config, taps: list[Tap], paths: list[str], names: list[str]) -> Found:
-    """Looks at one recording, or at those of A and B, and at the table. Recordings have to be files
-    that can be read again; `names` are what they are called."""
-    found, names = Found(), list(map(shown, names))
-    if len(paths) == 2 and are_same(paths):
-        found.faults.append(f"{names[0]} and {names[1]} are the same recording")
-        return found
-    claims, rows = Claims(config), []
-    for side, path, name in zip("AB" if len(paths) == 2 else [None], paths, names):
-        recording = Recording(name, side, interfaces_of(path))
-        if not recording.interfaces:
-            found.faults.append(f"{name} is no recording that has an interface")
-            continue
-        rows.append(matched(found, taps, recording))
-        for number, tap in rows[-1].items():
-            note_frames(found, claims, tap, recording, number)
-    note_words(found, rows)
-    return found
-
-
-def found_by(taps: str, config: str, paths: list[str], names: list[str]) -> Found:
-    """What the recordings are, by a table of --taps; Failed where they don't agree with it."""
-    found = checked(read_config(config), read_taps(taps), paths, names)
-    if found.faults:
-        more = len(found.faults) - 1
-        others = f" (and {more} more; afdx-taps says all)" if more else ""
-        raise Failed(found.faults[0] + others, DISAGREE)
-    return found

@@ -92,6 +92,24 @@ number 3" 'run.pcapng: interface 2 (eth3) is A:3 in by taps.csv line 4, and has 
             "run.pcapng: interface 3 (eth4) is A:3 out by taps.csv line 5, and 1 of its 2 AFDX \
 frames name A:3 (disp); the first is number 11"
     )"
+    set_taps eth1,A,1,in eth2,A,4,in
+    tap run.pcapng eth1=17A eth2=17A
+    taps run.pcapng
+    tell 'frames at a port without a system name another place, whatever the plug' "$(
+        is_status 0
+        text_is out "$(printf -- '--interface=%s\n' 0=A:1 1=A:4)"$'\n'
+        says_all "run.pcapng: interface 1 (eth2) is A:4 in by taps.csv line 3, and 1 of its 1 \
+AFDX frames name A:1 (adc); the first is number 2"
+    )"
+    set_taps eth1,A,1,in eth2,A,2,in eth3,A,3,in
+    tap run.pcapng eth1=49A eth2=33A eth3=49A
+    taps run.pcapng
+    tell 'a system that sends as another one, and never as itself' "$(
+        is_status 0
+        says_all "run.pcapng: interface 0 (eth1) is A:1 in by taps.csv line 2, and 1 of its 1 \
+AFDX frames name A:3 (disp); the first is number 1"
+    )"
+    set_taps eth1,A,1,in eth2,A,2,in eth3,A,3,in eth4,A,3,out
     tap run.pcapng eth1=17A,33A eth2=33A,17A,49A eth3=49A eth4=17A
     taps run.pcapng
     tell 'frames that could come out there' "$(
@@ -131,6 +149,13 @@ wrong_place_tests() {
         disagrees "run.pcapng: interface 0 (eth1) $wrong A:2 (fcc); the first is number 1" \
             "run.pcapng: interface 1 (eth2) is A:2 in by taps.csv line 3, and 1 of its 1 AFDX \
 frames name A:1 (adc); the first is number 3"
+    )"
+    tap run.pcapng eth1=17A eth2=33A eth3=17A,33A eth4=
+    taps run.pcapng
+    tell 'the other direction of a tap' "$(
+        is_status 3
+        says err "eth3) is A:3 in by taps.csv line 4, and 2 of its 2 AFDX frames name A:1 (adc), \
+A:2 (fcc); the first is number 3. Such frames come out there: was the other direction recorded?"
     )"
     tap run.pcapng eth1=17A eth2=33A eth3=17A,33A eth4=49A
     taps run.pcapng
@@ -261,15 +286,17 @@ reading_test() {
 
 # ---- the option of the tools ---------------------------------------------------------------
 
-annotated() { # NAME SIDE.. : the frames of these sides, at the interfaces where they came in
-    grep "^#\|^. [0-9]* [${*:2}] " examples/bench.list >"$tapped/$1.list"
+# The frames of these sides, at the interfaces where they came in. Those at port 11, all of another
+# system, are left out.
+annotated() { # NAME SIDES
+    grep "^[FBR] [0-9]* [$2] " examples/bench.list | grep -v ' A 11 ' >"$tapped/$1.list"
     capture annotate --no-admission examples/network.toml "$tapped/$1.list" "$tapped/$1.pcapng"
 }
 
 bench_taps() { # a table of all places that examples/bench.list names
     echo interface,side,port,direction
     sed -n 's/^[FBR] [0-9]* \([AB]\) \([0-9]*\) .*/side \1 port \2,\1,\2,in/p' \
-        examples/bench.list | sort -u
+        "$tapped/whole.list" | sort -u
 }
 
 report_by() { # WORD.. : a report in the folder `by`, by the table bench.csv
@@ -280,7 +307,7 @@ report_by() { # WORD.. : a report in the folder `by`, by the table bench.csv
 
 option_tests() {
     local whole=$tapped/whole.pcapng json=$tapped/by/report.json words
-    annotated whole A B
+    annotated whole AB
     annotated A A
     annotated B B
     bench_taps >"$tapped/bench.csv"
@@ -288,7 +315,8 @@ option_tests() {
     tell 'a report by a table of taps' "$(
         is_status 0
         wants_number "$json" 'r["skipped"]["claimed"]' 0
-        wants_number "$json" 'r["totals"]["frames"]' "$(grep -c -v '^#' "$tapped/whole.list")"
+        wants_number "$json" 'r["totals"]["frames"] + sum(r["skipped"].values())' \
+            "$(wc -l <"$tapped/whole.list")"
         wants_number "$json" 'r["taps"]["rows"][0]["direction"]' in
         wants_number "$json" 'sum(row["frames"] for row in r["taps"]["rows"]) > 50' True
     )"
