@@ -18,11 +18,14 @@ no_controls() { # FILE..
 # ---- the program ---------------------------------------------------------------------------------
 
 by_each_tool() { # PROGRAM WORDS : each tool on sound files, with this as its program
-    local base=examples/base.toml list=examples/one_link.list words
+    local base=examples/base.toml list=examples/one_link.list tables words
+    tables='examples/systems.csv examples/messages.csv'
+    printf 'interface,side,port,direction\neth0,A,1,in\n' >"$work/others.csv"
     for words in "report $base $list --json" "campaign $base $list --out $work/others" \
         "capture annotate $base $list $work/others.pcapng" \
         "capture list --config $base $list" "fill $base -" \
-        "icd examples/systems.csv examples/messages.csv -"; do
+        "icd $tables -" "traffic --config $base $tables $work/others" \
+        "taps $base $work/others.csv $list"; do
         # shellcheck disable=SC2086
         launch env AFDX="$1" tools/afdx-$words
         is_status 4
@@ -51,7 +54,7 @@ other_program_tests() {
 
 stream_tests() {
     local tool
-    for tool in report campaign capture icd fill; do
+    for tool in report campaign capture icd fill traffic taps; do
         status=0
         "tools/afdx-$tool" --help >/dev/full 2>"$work/err" || status=$?
         tell "afdx-$tool --help onto a full device" "$(
