@@ -160,7 +160,7 @@ done
 
 version_tests() {
     local wanted tool
-    wanted=$(sed -n 's/^const VERSION: &str = "\([^ ]*\) .*/\1/p' crates/afdx/src/words.rt)
+    wanted=$(sed -n 's/^const VERSION: &str = "\([^ ]*\) .*/\1/p' crates/afdx_words/src/words.rt)
     for tool in afdx-capture afdx-report afdx-campaign afdx-icd afdx-fill afdx-traffic afdx-taps; do
         launch "tools/$tool" --version
         tell "$tool --version" "$(

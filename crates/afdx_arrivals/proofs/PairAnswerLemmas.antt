@@ -70,7 +70,7 @@ module _ {R : Type 0} (remaining : R → Option (List ℕ)) (start input : Watch
   gives-by (at.Arrival moment) taken h = (taken-sound remaining start input source (number_taken source ∷ taken) h.0).1
   gives-by at.Over taken h = (all-sound remaining start input source taken h).2
 
-  few-of : (taken : Numbers) → HasTakenAll remaining start source input taken → IsFew (tally_of_source source)
+  pub few-of : (taken : Numbers) → HasTakenAll remaining start source input taken → IsFew (tally_of_source source)
   few-of taken all =
       let h = all.ended_so in
       let skipped = few-skipped (numbers_read all.read) in
@@ -113,7 +113,7 @@ module _ {R : Type 0} (remaining : R → Option (List ℕ)) (start inputs : BySi
   sound-b latest taken h =
       sound-by remaining start.b inputs.b source.pair.b.source source.pair.b.head taken h.known
 
-  paired-sound : (past : Numbers) → IsPaired number_taken (HasTaken remaining) (HasTakenAll remaining) start source.pair inputs past
+  pub paired-sound : (past : Numbers) → IsPaired number_taken (HasTaken remaining) (HasTakenAll remaining) start source.pair inputs past
       → (inputs.a.failed || inputs.b.failed) ≡ false
   paired-sound past h =
       either-false inputs.a.failed inputs.b.failed (sound-a (latest_of past) h.taken_a h.a)
@@ -132,7 +132,7 @@ module _ {R : Type 0} (remaining : R → Option (List ℕ)) (start inputs : BySi
       ((stopped-sound remaining start.b inputs.b source.pair.b.source h.taken_b h.fault_b h.stopped_b).0
       ∙ sym (named-read B h.fault_b) ∙ sym (ap is_read h.fault_is))
 
-  stopped-failed : (lines : Lines) (fault : RunFault) → Stopped lines fault
+  pub stopped-failed : (lines : Lines) (fault : RunFault) → Stopped lines fault
       → (inputs.a.failed || inputs.b.failed) ≡ is_read fault
   stopped-failed lines fault (inl h) = stops-failed h.past fault h.stops
   stopped-failed lines fault (inr h) =
@@ -200,6 +200,18 @@ module _ {R : Type 0} (remaining : R → Option (List ℕ)) (start inputs : BySi
     asked-once (first_standing remaining start.b) (standing remaining source.pair.b.source.source.reader.held inputs.b) b
         fresh-b,
   )
+
+  pub tally-of-two : (set_a : IsSetInOrder source.pair.a.source) (set_b : IsSetInOrder source.pair.b.source)
+      (bytes_a bytes_b : List ℕ) (known_a : remaining start.a.inner ≡ Some bytes_a)
+      (known_b : remaining start.b.inner ≡ Some bytes_b) (lines : Lines) → Ended lines
+      → plus_tally (tally_of_source source.pair.a.source) (tally_of_source source.pair.b.source)
+      ≡ (Whole remaining start inputs source set_a set_b bytes_a bytes_b known_a known_b).tally
+  tally-of-two set_a set_b bytes_a bytes_b known_a known_b lines k =
+      let a = ended-all remaining start.a inputs.a source.pair.a.source set_a k.is_paired.taken_a bytes_a known_a
+      k.is_paired.ended_a in
+      let b = ended-all remaining start.b inputs.b source.pair.b.source set_b k.is_paired.taken_b bytes_b known_b
+      k.is_paired.ended_b in
+      same-tallies _ _ _ _ a.tally b.tally
 
   -- ---- from what a run hands over
 
@@ -339,7 +351,7 @@ module _ {R : Type 0} (remaining : R → Option (List ℕ)) (start inputs : BySi
     (source : TimedPair OrderedRecording) (options : PairOptions) (ports : Ports)
     (set : IsSetBy options ports (settings-of source)) {H : Type 0} (items_of : Lines → List (Item H))
     (done told begins : List (Item H) → Type 0) where
-  by-options : (bytes_a bytes_b : List ℕ) (known_a : remaining start.a.inner ≡ Some bytes_a)
+  pub by-options : (bytes_a bytes_b : List ℕ) (known_a : remaining start.a.inner ≡ Some bytes_a)
       (known_b : remaining start.b.inner ≡ Some bytes_b) (r : Result Tally RunFault)
       → TakenAnswers (Whole remaining start inputs source set.order_a set.order_b bytes_a bytes_b known_a known_b)
       (AreCut remaining start inputs source set.order_a set.order_b bytes_a bytes_b known_a known_b) items_of done told begins r

@@ -38,7 +38,8 @@ use Rattle.afdx_arrivals.specs.Timing.{Timed, fault_or, origin_in, timed}
 use Rattle.afdx_arrivals.proofs.OrderedKnownLemmas.{AreAll, CanStop, IsSound, taken-sound, all-sound, stopped-sound}
 use Rattle.afdx_arrivals.proofs.OrderedKnownLemmas.{given-first, ended-all, stopped-fault, stopped-read}
 use Rattle.afdx_arrivals.proofs.OrderedKnownLemmas.{stopped-memory, can-stop}
-use Rattle.afdx_arrivals.proofs.TakenLemmas.{AreFirstLines, AreAllLines, StopsBehindLines, CanBePeeled, Handed}
+use Rattle.afdx_arrivals.specs.Over.{AreFirstLines, AreAllLines, StopsBehindLines}
+use Rattle.afdx_arrivals.proofs.TakenLemmas.{CanBePeeled, Handed}
 use Rattle.afdx_arrivals.proofs.TakenLemmas.{hands-err, hands-ok, handed-err, handed-ok, taken-start}
 use Rattle.afdx_arrivals.proofs.TimingLemmas.{timed-extends, timed-stopped}
 

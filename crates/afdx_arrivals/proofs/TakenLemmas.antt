@@ -15,27 +15,12 @@ use Rattle.afdx_arrivals.specs.declared.number_line.NumberLine.{NumberLine}
 use Rattle.afdx_arrivals.specs.declared.number_line.NumberLine.TheVariants as line
 use Rattle.afdx_arrivals.specs.ArrivingSource.{AreArrivals}
 use Rattle.afdx_arrivals.specs.ListText.{lines_themselves}
+use Rattle.afdx_arrivals.specs.Over.{AreFirstLines, AreAllLines, StopsBehindLines}
 use Rattle.afdx_arrivals.specs.NumberLines.{Lines, arrivals_listed, as_arrival}
 use Rattle.afdx_arrivals.specs.Taking.{Taken, arrivals_in}
 use Rattle.afdx_arrivals.specs.TakenRun.{TakenAnswers, FirstAreBegun, HasNoFault, IsOver, FirstAreTold, StopsTaken}
 
 -- ---- what is known of lines that were given
-
--- they are the first of all
-abbrev pub AreFirstLines : Taken → Lines → Type 0
-AreFirstLines whole lines = (later : Lines) × (whole.lines ≡ later ++ lines)
-
--- they are all, and there is no fault
-pub record AreAllLines (whole : Taken) (lines : Lines) : Type 0 where
-  pub over : HasNoFault whole
-  pub lines_are : whole.lines ≡ lines
-
--- this fault stands behind them
-abbrev pub StopsBehindLines : Taken → (AreCut : Lines → Type 0) → Lines → RunFault → Type 0
-StopsBehindLines whole AreCut lines run.Read = AreCut lines
-StopsBehindLines whole AreCut lines run.Memory = AreFirstLines whole lines
-StopsBehindLines whole AreCut lines run.Write = ⊥
-StopsBehindLines whole AreCut lines fault = (whole.fault ≡ Some fault) × (whole.lines ≡ lines)
 
 -- these are the items of lines of which this is known
 pub record AreItems {H : Type 0} (items_of : Lines → List (Item H)) (known : Lines → Type 0) (past : List (Item H))

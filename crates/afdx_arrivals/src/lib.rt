@@ -15,6 +15,7 @@ mod listing;
 mod number;
 mod number_line;
 mod ordered;
+mod over;
 mod ordered_recording;
 mod pair;
 mod pair_options;

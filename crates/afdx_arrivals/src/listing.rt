@@ -15,13 +15,14 @@ use crate::becoming::RecordingOptions;
 use crate::counts::Tally;
 use crate::number_line::NumberLine;
 use crate::ordered_recording::ordered_recording;
+use crate::over::list_over;
 use crate::pair_options::PairOptions;
 use crate::read_pair::read_pair;
 use crate::senders::{SystemPorts, UnsaidPort};
 use crate::timed_numbers::TimedNumbers;
 use afdx_frame::BySide;
 use afdx_lists::{RunFault, Watched};
-use afdx_run::{Machine, drive};
+use afdx_run::Machine;
 use afdx_text::{OutLine, Sink, Text};
 use std::alloc::Global;
 use std::io::Read;
@@ -68,13 +69,13 @@ fn put_number<O: Sink>(
 
 /// Writes the line of each number.
 #[derive(Drop)]
-struct Lister {
+pub(crate) struct Lister {
     scratch: Text,
 }
 
 impl Lister {
     /// It wrote nothing yet.
-    fn new(alloc: Global) -> Lister {
+    pub(crate) fn new(alloc: Global) -> Lister {
         Lister {
             scratch: Text::new(alloc),
         }
@@ -139,8 +140,7 @@ pub fn list_recording<R: Read, O: Sink>(
     let origin = options.origin;
     let recording = ordered_recording(alloc, options, ports)?;
     let mut lines = TimedNumbers::new(recording, origin);
-    drive(&mut lines, input, &mut Lister::new(alloc), output)?;
-    Ok(lines.numbers.tally())
+    list_over(alloc, &mut lines, input, output)
 }
 
 /// Writes two recordings that are read at once, of network A and of network B, as the frame list
@@ -173,6 +173,5 @@ pub fn list_pair<R: Read, O: Sink>(
         (O.written output.old) (O.written output.new) result) }
 {
     let mut lines = read_pair(alloc, options, unsaid)?;
-    drive(&mut lines, inputs, &mut Lister::new(alloc), output)?;
-    Ok(lines.tally())
+    list_over(alloc, &mut lines, inputs, output)
 }

@@ -2,11 +2,13 @@
 
 ghost use Rattle.std.specs.Prelude.{◌<◌, IfSome};
 
-use crate::devices::STANDARD_INPUT;
+use afdx_arrivals::{Interfaces, PairOptions, Place, RecordingOptions};
 use afdx_frame::{BySide, LAST_PORT, Side};
-use afdx_replay::{Interfaces, PairOptions, Place, RecordingOptions};
 use clap::{Arg, ArgAction, ArgMatches, value_parser};
 use std::alloc::{AllocError, Global};
+
+/// The word that names standard input.
+pub const STANDARD_INPUT: &str = "-";
 
 /// The greatest moment, in ns since 1970.
 const LATEST_MOMENT: u64 = 9_223_372_036_854_775_807;
