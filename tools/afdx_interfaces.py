@@ -6,7 +6,7 @@ from __future__ import annotations
 
 import struct
 from dataclasses import dataclass, field
-from typing import BinaryIO, NamedTuple
+from typing import BinaryIO, Callable, NamedTuple
 
 from afdx_recordings import HEADS
 
@@ -56,15 +56,24 @@ class Interface:
 
 
 class Pieces:
-    """A file as it is read: the bytes that are looked at, from `at` on."""
+    """A file as it is read: the bytes that are looked at, from `at` on. `told` is called with how
+    many were read."""
 
-    def __init__(self, file: BinaryIO) -> None:
-        self.file, self.bytes, self.at = file, b"", 0
+    def __init__(self, file: BinaryIO, told: Callable[[int], None]) -> None:
+        self.file, self.told, self.read = file, told, 0
+        self.bytes, self.at = b"", 0
+
+    def more(self, size: int) -> bytes:
+        """The next bytes, so many if the file has them."""
+        more = self.file.read(size)
+        self.read += len(more)
+        self.told(self.read)
+        return more
 
     def hold(self, size: int) -> bool:
         """Has so many bytes at hand; false where the file ends before."""
         while len(self.bytes) - self.at < size:
-            more = self.file.read(max(PIECE, size))
+            more = self.more(max(PIECE, size))
             if not more:
                 return False
             self.bytes, self.at = self.bytes[self.at :] + more, 0
@@ -74,7 +83,7 @@ class Pieces:
         """Passes over so many bytes; false where the file ends before."""
         while size > len(self.bytes) - self.at:
             size -= len(self.bytes) - self.at
-            self.bytes, self.at = self.file.read(PIECE), 0
+            self.bytes, self.at = self.more(PIECE), 0
             if not self.bytes:
                 return False
         self.at += size
@@ -257,10 +266,10 @@ def read_pcapng(pieces: Pieces) -> list[Interface]:
     return sections.interfaces
 
 
-def interfaces_of(path: str) -> list[Interface]:
+def interfaces_of(path: str, told: Callable[[int], None] = lambda count: None) -> list[Interface]:
     """The interfaces of a recording by their numbers; none where it is no recording."""
     with open(path, "rb") as file:
-        pieces = Pieces(file)
+        pieces = Pieces(file, told)
         if not pieces.hold(4) or pieces.bytes[:4] not in HEADS:
             return []
         if pieces.bytes[:4] == SECTION:

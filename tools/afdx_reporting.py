@@ -169,7 +169,7 @@ def print_text(report: Row) -> None:
 
 
 @contextlib.contextmanager
-def source_of(args: argparse.Namespace) -> Iterator[Source]:
+def source_of(args: argparse.Namespace, progress: Progress) -> Iterator[Source]:
     """What the words name, at hand to be read more than once."""
     names = [args.list] if args.other is None else [args.list, args.other]
     if names == ["-", "-"]:
@@ -180,7 +180,7 @@ def source_of(args: argparse.Namespace) -> Iterator[Source]:
         paths = [files.enter_context(at_hand(name)) for name in names]
         options, taps = recording_options(args), None
         if args.taps is not None:
-            taps = found_by(args.taps, config, paths, names)
+            taps = found_by(args.taps, config, paths, names, progress)
             options += taps.words
         yield Source(config, paths, options, of_replay, taps)
 
@@ -191,7 +191,7 @@ def run_report(tool: str, args: argparse.Namespace) -> int:
     other = other_report(args.compare) if args.compare else None
     name = args.list if args.other is None else f"{args.list},{args.other}"
     try:
-        with source_of(args) as source:
+        with source_of(args, progress) as source:
             for line in source.taps.remarks if source.taps else []:
                 print(f"{tool}: {shown(line)}", file=sys.stderr)
             report, counting = report_of(args, source, progress)

@@ -9,7 +9,7 @@ from afdx_interfaces import OTHERS, Interface, interfaces_of
 from afdx_reading import read_config
 from afdx_taps import IN, NONE, OUT, SIDES, Found, Place, Recording, Tap, called, matched, read_taps
 from afdx_tools import Config
-from afdx_words import Failed, shown
+from afdx_words import Failed, Progress, shown
 
 SENDER = b"\x02\0\0"  # a source address of an end system begins with it
 DISAGREE = 3  # the status where recording and table don't agree
@@ -157,16 +157,23 @@ def are_same(paths: list[str]) -> bool:
     return os.path.samefile(one, other) or filecmp.cmp(one, other, shallow=False)
 
 
-def read(paths: list[str], names: list[str]) -> list[Recording]:
+def read(paths: list[str], names: list[str], progress: Progress) -> list[Recording]:
     """The recordings; that of A first where there are two."""
     sides = ["A", "B"] if len(paths) == 2 else [None]
-    return [
-        Recording(shown(name), side, interfaces_of(path))
-        for path, name, side in zip(paths, names, sides)
-    ]
+    recordings = []
+    for path, name, side in zip(paths, map(shown, names), sides):
+
+        def told(count: int, name: str = name) -> None:
+            progress.tell(f"{count >> 20} MiB of {name} read")
+
+        recordings.append(Recording(name, side, interfaces_of(path, told)))
+    progress.done()
+    return recordings
 
 
-def checked(config: Config, taps: list[Tap], paths: list[str], names: list[str]) -> Found:
+def checked(
+    config: Config, taps: list[Tap], paths: list[str], names: list[str], progress: Progress
+) -> Found:
     """Looks at one recording, or at those of A and B, and at the table. Recordings have to be files
     that can be read again; `names` are what they are called."""
     found = Found()
@@ -175,7 +182,7 @@ def checked(config: Config, taps: list[Tap], paths: list[str], names: list[str])
         return found
     rows: list[dict[int, Tap]] = []
     all_tapped = []
-    for recording in read(paths, names):
+    for recording in read(paths, names, progress):
         if not recording.interfaces:
             found.faults.append(f"{recording.name} is no recording that has an interface")
             continue
@@ -191,9 +198,11 @@ def checked(config: Config, taps: list[Tap], paths: list[str], names: list[str])
     return found
 
 
-def found_by(taps: str, config: str, paths: list[str], names: list[str]) -> Found:
+def found_by(
+    taps: str, config: str, paths: list[str], names: list[str], progress: Progress
+) -> Found:
     """What the recordings are, by a table of --taps; Failed where they don't agree with it."""
-    found = checked(read_config(config), read_taps(taps), paths, names)
+    found = checked(read_config(config), read_taps(taps), paths, names, progress)
     if found.faults:
         more = len(found.faults) - 1
         others = f" (and {more} more; afdx-taps says all)" if more else ""

@@ -118,6 +118,22 @@ can wait for a link
     )"
 }
 
+link_tests() { # of names that were planted
+    local at=$work/traffic/planted
+    tables "$at" '' ''
+    icd "$at"
+    mkdir -p "$at/sent"
+    echo precious >"$at/precious"
+    ln -s ../precious "$at/sent/adc.messages"
+    ln -s ../precious "$at/sent/all-systems.list"
+    traffic "$at" --config made.toml
+    tell 'afdx-traffic follows no link in its folder' "$(
+        is_status 0
+        find "$at/sent" ! -type f ! -type d
+        if [[ $(<"$at/precious") != precious ]]; then echo 'a link was followed'; fi
+    )"
+}
+
 random_test() {
     launch nice -n 5 "$python" tests/tools/random_documents.py 10 "$program"
     tell '10 networks made at random: admitted with room, grown, all sent and delivered' "$(
@@ -145,7 +161,9 @@ traffic_fault_tests() {
     )"
     traffic "$at" --config none.toml
     tell 'a network that is not there' "$(is_status 4; says err 'afdx-traffic: adc: device Config')"
-    AFDX=/bin/echo traffic "$at" --config made.toml
+    printf '#!/bin/sh\necho afdx "$@"\n' >"$work/talker"
+    chmod +x "$work/talker"
+    AFDX=$work/talker traffic "$at" --config made.toml
     tell 'a program that sends no frames' "$(
         is_status 4
         text_is err $'afdx-traffic: send wrote other lines than those of frames\n'
@@ -182,6 +200,7 @@ else
     chance_tests
     shared_traffic_tests
     traffic_fault_tests
+    link_tests
     random_test
     launch env COLUMNS=80 tools/afdx-traffic --help
     tell 'the help of afdx-traffic fits 80 columns' "$(is_status 0; grep -E '.{81}' "$work/out")"
