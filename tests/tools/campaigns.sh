@@ -104,12 +104,12 @@ worst_tests() {
         >"$work/deadly"
     chmod +x "$work/deadly"
     launch env AFDX="$work/deadly" tools/afdx-campaign examples/base.toml "$work/sound.list" \
-        --out "$work/killed"
+        --out "$work/ended"
     tell 'a run that was killed has no result' "$(is_status 4; says err 'no result')"
-    launch tools/afdx-campaign examples/base.toml "$work/sound.list" --out "$work/killed" --resume
+    launch tools/afdx-campaign examples/base.toml "$work/sound.list" --out "$work/ended" --resume
     tell 'and is repeated too' "$(
         is_status 0
-        wants_text "$(column_of "$work/killed/campaign.csv" 1)" 1 'frames'
+        wants_text "$(column_of "$work/ended/campaign.csv" 1)" 1 'frames'
     )"
 }
 
