@@ -104,12 +104,12 @@ worst_tests() {
         >"$work/deadly"
     chmod +x "$work/deadly"
     launch env AFDX="$work/deadly" tools/afdx-campaign examples/base.toml "$work/sound.list" \
-        --out "$work/killed"
+        --out "$work/ended"
     tell 'a run that was killed has no result' "$(is_status 4; says err 'no result')"
-    launch tools/afdx-campaign examples/base.toml "$work/sound.list" --out "$work/killed" --resume
+    launch tools/afdx-campaign examples/base.toml "$work/sound.list" --out "$work/ended" --resume
     tell 'and is repeated too' "$(
         is_status 0
-        wants_text "$(column_of "$work/killed/campaign.csv" 1)" 1 'frames'
+        wants_text "$(column_of "$work/ended/campaign.csv" 1)" 1 'frames'
     )"
 }
 
@@ -153,7 +153,7 @@ all_ran() { # COUNT : each of so many lists has a result
 
 # A machine that can't be reached, and one whose cable is unplugged once it has done a run.
 dead_machine_tests() {
-    local ssh="1/ssh -F $work/machines/config" count=12
+    local ssh="1/ssh -F $work/machines/config" count=12 tries
     local quick="$ssh -oConnectTimeout=1 -oServerAliveInterval=1 -oServerAliveCountMax=2"
     many_lists "$work" "$count"
     launch tools/afdx-campaign examples/base.toml "$work"/many*.list --out "$work/many" \
@@ -166,8 +166,11 @@ dead_machine_tests() {
         wants_text "$(cell_of "$work/many/campaign.csv" 3 18)" "'$ssh one'" 'the machine'
     )"
     rm "$work/many/joblog"
-    (
-        until [[ -s $work/many/joblog ]] && [[ $(on_machine two) -gt 0 ]]; do sleep 0.1; done
+    ( # ten minutes are enough, however busy the processors are
+        for ((tries = 0; tries < 6000; tries++)); do
+            if [[ -s $work/many/joblog ]] && [[ $(on_machine two) -gt 0 ]]; then break; fi
+            sleep 0.1
+        done
         tests/tools/two_hosts.sh cut "$work/machines" two
     ) &
     launch tools/afdx-campaign examples/base.toml "$work"/many*.list --out "$work/many" \
