@@ -91,6 +91,7 @@ class Comparison:
     def __init__(self, document: Document, old: dict, new: dict, bounds: Bounds) -> None:
         self.document, self.bounds = document, bounds
         self.old, self.new = Tables(old), Tables(new)
+        self.asked = {link["vl"]: link for link in document.links}
         self.of_sender = functools.cache(self.why_sender)
         self.of_system = functools.cache(self.why_system)
 
@@ -117,8 +118,7 @@ class Comparison:
 
     def why(self, vl: int, key: str) -> str:
         """Why a key of a link that is solved has another value."""
-        asked = {"latency_us": "within_us", "skew_us": "skew_us"}.get(key)
-        if asked and any(getattr(each, asked) is not None for each in self.document.messages[vl]):
+        if self.asked[vl][key] == self.new.links[vl][key]:
             return AS_ASKED
         if key == "jitter_us":
             return self.of_sender(self.new.links[vl]["from"])

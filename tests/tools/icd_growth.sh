@@ -151,6 +151,15 @@ UDP port 1022 of link 22 at adc: depth 8 to 9
 ok
 '
     )"
+    tables "$at" '' '3s/,120,high/,100,high/'
+    icd "$at" --raise --since "$work/earlier.toml"
+    tell 'what is asked for and raised has its reason, too' "$(
+        is_status 0
+        text_is out "link 20, attitude: latency_us 120 to 112 (it can take 111111 ns to disp)
+ok
+"
+        made_says "$at" 20 'latency_us = 112, skew_us = 120'
+    )"
     sed 's/latency_us = 120,/latency_us = 9,/' "$work/earlier.toml" >"$at/refused.toml"
     icd "$at" --since refused.toml
     tell "an earlier configuration that isn't admitted" "$(
