@@ -265,7 +265,7 @@ reading_tests() {
     launch tools/afdx-fill "$work/config.toml" "$work/filled.toml"
     tell 'which afdx-fill fills, remarks and all' "$(
         is_status 0
-        grep -F 'name = "s\x31", # of all' "$work/filled.toml" | wc -l | grep -vx 1
+        grep -cF 'name = "s\x31", # of all' "$work/filled.toml" | grep -vx 1
         sed -E 's/(buffer|_us) = [0-9]+/\1/g' "$work/config.toml" >"$work/wanted"
         sed -E 's/(buffer|_us) = [0-9]+/\1/g' "$work/filled.toml" >"$work/got"
         same "$work/wanted" "$work/got"
