@@ -91,6 +91,24 @@ class Claims:
         return not self.are_others(tap, sources) or self.come_out(tap, sources)
 
 
+def swapped(recording: Recording) -> str:
+    """What is wrong with one of two recordings whose frames all name the other side; or nothing."""
+    counts = {"A": 0, "B": 0}
+    for interface in recording.interfaces:
+        for source, seen in interface.sources.items():
+            side = SIDES.get(source[-1]) if source.startswith(SENDER) else None
+            if side:
+                counts[side] += seen.frames
+    other = {"A": "B", "B": "A"}.get(recording.side or "")
+    if other is None or counts[recording.side] or not counts[other]:
+        return ""
+    total = sum(interface.frames for interface in recording.interfaces)
+    return (
+        f"{recording.name} is given as the recording of {recording.side}, and {counts[other]} of "
+        f"its {total} AFDX frames name side {other}, none {recording.side}"
+    )
+
+
 def row_of(tapped: Tapped, count: int) -> dict:
     """An interface as a row of a report, with so many frames that contradict its place."""
     name, tap = tapped.interface.name, tapped.tap
@@ -184,6 +202,9 @@ def checked(
     for recording in read(paths, names, progress):
         if not recording.interfaces:
             found.faults.append(f"{recording.name} is no recording that has an interface")
+            continue
+        if swapped(recording):
+            found.faults.append(swapped(recording))
             continue
         rows.append(matched(found, taps, recording))
         all_tapped += [
