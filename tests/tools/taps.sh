@@ -124,24 +124,23 @@ both directions recorded?"
 
 wrong_place_tests() {
     local wrong='is A:1 in by taps.csv line 2, and 2 of its 2 AFDX frames name'
-    local of='is given as the recording of'
+    local given_as_a='B.pcapng is given as the recording of A, and 3 of its 3 AFDX frames name '
+    given_as_a+='side B, none A'
     set_usual
     tap A.pcapng eth1=17A,17A eth2=33A eth3=49A eth4=17A
     tap B.pcapng eth5=17B eth6=33B eth7=49B
     taps B.pcapng A.pcapng
     tell "A's recording given as B's" "$(
-        disagrees \
-            "B.pcapng $of A, and 3 of its 3 AFDX frames name side B, none A" \
-            "A.pcapng $of B, and 5 of its 5 AFDX frames name side A, none B"
+        disagrees "$given_as_a" "A.pcapng is given as the recording of B, and 5 of its 5 AFDX \
+frames name side A, none B"
     )"
     taps A.pcapng B.pcapng
     tell 'each as what it is' "$(is_status 0)"
     tap A.pcapng eth1= eth2= eth3= eth4=
     taps B.pcapng A.pcapng
     tell "A's recording given as B's, without a frame" "$(
-        disagrees \
-            "B.pcapng $of A, and 3 of its 3 AFDX frames name side B, none A" \
-            "A.pcapng $of B, and the table has its interfaces on A"
+        disagrees "$given_as_a" \
+            'A.pcapng is given as the recording of B, and the table has its interfaces on A'
     )"
     tap A.pcapng eth1=17A,17A eth2=33A eth3=49A eth4=17A
     cp "$tapped/A.pcapng" "$tapped/copy.pcapng"
