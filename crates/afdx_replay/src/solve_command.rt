@@ -17,7 +17,6 @@ ghost use Rattle.afdx_replay.specs.SolveText.{needs_of_first, needs_at, needs_at
 ghost use Rattle.afdx_replay.specs.SolveText.{IsSolution, IsDenial, Solves};
 ghost use Rattle.afdx_replay.specs.SolveText.{IsSolved, IsUnsolved, IsFaulty, IsCut, IsUnmade};
 ghost use Rattle.afdx_lists.specs.Watching.{has_failed};
-ghost use Rattle.afdx_text.specs.Telling.{Tells};
 
 use crate::refusing::{refuse_config, want_memory};
 use crate::status::{DONE, REFUSED};

@@ -52,7 +52,7 @@ text-parses t lawful =
     let (q, ran) = tables-run t in
     let all = config-lines t lawful in
     let read = read_lines false false (config_expressions t) text text (no_nodes, []) (suc (length text)) all.lines all.printed
-        refl (omega arith) in
+    refl (omega arith) in
     document_some text (tables_root t, q) (rw (no-bom t) (read ∙ ran))
 
 text-spells : (t : Rows) → IsLawful t → IsUtf8 (config_text t) → Spells (config_text t) t

@@ -246,11 +246,11 @@ config-lines t lawful =
     let profile = line-number (codes "profile") t.profile refl (omega (arith, lawful.profile.1)) in
     let buffer = numbered (codes "buffer") t.buffer refl (omega (arith, lawful.buffer.1)) in
     let systems = all-lines (codes "system") system_fields system_text t.systems (IsSystem t.profile) lawful.systems.each
-        (system-lines t.profile) in
+    (system-lines t.profile) in
     let links = all-lines (codes "link") (link_fields t.systems) (link_text t.systems) t.links (IsLink (length t.systems))
-        lawful.links.each (link-lines t.systems words) in
+    lawful.links.each (link-lines t.systems words) in
     let ports = all-lines (codes "port") (port_fields t.systems) (port_text t.systems) t.ports (IsPort (length t.systems) t.links)
-        lawful.ports.each (λ p is. port-lines t.systems t.links p words lawful.links.each is) in
+    lawful.ports.each (λ p is. port-lines t.systems t.links p words lawful.links.each is) in
     let rest = and buffer (and systems (and links ports)) in
     record {
       lines = (number_line (codes "profile") t.profile, _, simp append_assoc refl, profile, rest.lines);
