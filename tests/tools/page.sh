@@ -69,8 +69,8 @@ find_on_page() { # WORDS FILTER : types words into the search field of a page th
 
 policy_test() {
     find_on_page 501 cat
-    tell 'a page runs no script but its own' "$(
-        if ! grep -q 'id="found"' "$work/out"; then echo 'no field'; fi
+    tell 'a page runs its own script, and no other' "$(
+        if ! grep -q '<p class="find">' "$work/out"; then echo 'no field is shown'; fi
         grep -oE 'id="found"[^>]*>[^<]*rows' "$work/out"
     )"
 }
