@@ -17,6 +17,8 @@ from afdx_explaining import explain
 from afdx_tools import Refused, leave, let_go, report_fault, shown
 
 WAIT = 2.0  # seconds after which progress is told
+TWICE = 0.5  # seconds in which a signal that comes again is the same one
+HEEDED: dict[int, float] = {}  # when a signal came
 FAULTY = 70  # the status where a tool has a fault of its own
 STOPPING = {"SIGSTOP", "SIGTSTP", "SIGTTIN", "SIGTTOU", "SIGCONT"}
 PASSED_OVER = {"SIGCHLD", "SIGURG", "SIGWINCH"}  # they end no program
@@ -56,15 +58,24 @@ def at_hand(path: str) -> Iterator[str]:
     if path != "-" and os.path.isdir(path):
         raise Refused(f"{shown(path)} is a folder")
     if path == "-" or not stat.S_ISREG(os.stat(path).st_mode):
-        with tempfile.TemporaryFile() as copy, source_of(path) as file:
-            shutil.copyfileobj(file, copy)
-            copy.flush()
+        with tempfile.TemporaryFile() as copy:
+            with source_of(path) as file:
+                copy_into(copy, file)
             yield open_name(copy)
     elif path.isprintable():
         yield as_file(path)
     else:
         with open(path, "rb") as file:
             yield open_name(file)
+
+
+def copy_into(copy: IO[bytes], file: IO[bytes]) -> None:
+    """Copies what is left of a file into a temporary one; a fault is told by its folder."""
+    try:
+        shutil.copyfileobj(file, copy)
+        copy.flush()
+    except OSError as error:
+        raise OSError(error.errno, error.strerror, tempfile.gettempdir()) from error
 
 
 def open_name(file: IO[bytes]) -> str:
@@ -145,8 +156,22 @@ def heed_signals() -> None:
             signal.signal(number, end_by)
 
 
-def end_by(number: int, frame: object) -> NoReturn:
-    """Ends the tool with the status that shells give a signal."""
+def leave_signals() -> None:
+    """Lets signals be as they were, when nothing is left to tidy up."""
+    for number in signal.valid_signals() - UNHEEDED:
+        if signal.getsignal(number) == end_by:
+            signal.signal(number, signal.SIG_DFL)
+
+
+def end_by(number: int, frame: object) -> None:
+    """Ends the tool with the status that shells give a signal. Some programs send it twice, which
+    is no other one."""
+    now = time.monotonic()
+    if now - HEEDED.get(number, -TWICE) < TWICE:
+        return
+    HEEDED[number] = now
+    if number == signal.SIGINT:
+        raise KeyboardInterrupt
     raise Ended(128 + number)
 
 
@@ -204,3 +229,5 @@ def guarded(
         sys.exit(flush(status))
     except (Exception, KeyboardInterrupt) as error:
         end_of(tool, error, stopped)
+    finally:
+        leave_signals()

@@ -10,33 +10,49 @@ unlisted() { # FOLDER NAME.. : what is in it besides these
     find "$1" -mindepth 1 -printf '%P\n' | grep -vxF -f <(printf '%s\n' "${@:2}")
 }
 
-# A file system without files that have no name: Python's own start is told of another flag.
-without_unnamed() { # COMMAND..
-    mkdir -p "$work/flags"
-    printf 'import os\nos.O_TMPFILE = os.O_DIRECTORY\n' >"$work/flags/sitecustomize.py"
-    PYTHONPATH=$work/flags "$@"
-}
+# As on a file system that has no files without a name: Python's start is told of another flag.
+unnamed=(env "PYTHONPATH=$work/flags")
+mkdir -p "$work/flags"
+printf 'import os\nos.O_TMPFILE = os.O_DIRECTORY\n' >"$work/flags/sitecustomize.py"
 
 # ---- signals -------------------------------------------------------------------------------------
 
-begin_endless() { # FIFO : a list that isn't at its end when a signal comes, though it is long
-    mkfifo "$1"
-    { { yes "F 5 A 1 $(frame_of A 1)" | head -n 3000; sleep 3; } >"$1"; } &>/dev/null &
+endless() { # FIFO : a list that isn't at its end when a signal comes, though it is long
+    local text
+    text=$(yes "F 5 A 1 $(frame_of A 1)" | head -n 3000)
+    {
+        : >"$1.opened"
+        printf '%s\n' "$text"
+        sleep 3
+    } >"$1"
 }
 
-end_endless() { # FIFO : frees what waits for a reader
-    : <>"$1"
+ended() { # SIGNAL FIFO COMMAND.. : the status of a command that gets a signal when it reads
+    local tries writer tool
+    mkfifo "$2"
+    endless "$2" &>/dev/null &
+    writer=$!
+    env --default-signal "${@:3}" >"$work/out" 2>"$work/err" </dev/null &
+    tool=$!
+    for ((tries = 0; tries < 200; tries++)); do
+        if [[ -e $2.opened ]]; then break; fi
+        sleep 0.1
+    done
+    sleep 0.3
+    kill -s "$1" "$tool"
+    status=0
+    wait "$tool" || status=$?
+    kill "$writer"
+    wait "$writer" || true
 }
 
 ended_by_each_signal() { # WORD.. : before the command
     local name fifo
     for name in "${SIGNALS[@]}"; do
         fifo=$(mktemp -u "$work/endless.XXXXXX")
-        begin_endless "$fifo"
-        launch "$@" timeout -s "$name" 0.9 tools/afdx-capture pcap "$fifo" "$safe/old.pcap"
-        end_endless "$fifo"
-        if [[ $status -eq 0 ]]; then echo "$name: status 0"; fi
-        if [[ $name != INT && -s $work/err ]]; then echo "$name: $(head -n 2 "$work/err")"; fi
+        ended "$name" "$fifo" "$@" tools/afdx-capture pcap "$fifo" "$safe/old.pcap" 2>/dev/null
+        if [[ $status -ne $((128 + $(kill -l "$name"))) ]]; then echo "$name: status $status"; fi
+        grep -vx 'afdx-capture: stopped' "$work/err"
         if [[ $(<"$safe/old.pcap") != old ]]; then echo "$name: the old recording is gone"; fi
         unlisted "$safe" old.pcap
     done
@@ -47,34 +63,27 @@ signal_tests() {
     tell 'no signal leaves a part of a file' "$(ended_by_each_signal)"
     local SIGNALS=("${SIGNALS[@]}")
     unset 'SIGNALS[-1]' # what SIGKILL ends can't tidy up, if its file has to have a name
-    tell 'nor where a file has to have a name' "$(ended_by_each_signal without_unnamed)"
+    tell 'nor where a file has to have a name' "$(ended_by_each_signal "${unnamed[@]}")"
     rm "$safe/old.pcap"
 }
 
 copy_tests() { # a list that comes by a pipe is copied for tools that read it twice
     mkdir "$work/copies"
-    begin_endless "$work/copied"
-    launch env TMPDIR="$work/copies" timeout -s KILL 0.7 tools/afdx-capture annotate \
-        examples/base.toml "$work/copied" "$safe/x.pcapng"
-    end_endless "$work/copied"
-    tell 'no signal leaves a copy of a list' "$(
-        if [[ $status -eq 0 ]]; then echo 'status 0'; fi
-        unlisted "$work/copies"
-    )"
+    ended KILL "$work/copied" env TMPDIR="$work/copies" tools/afdx-capture annotate \
+        examples/base.toml "$work/copied" "$safe/x.pcapng" 2>/dev/null
+    tell 'no signal leaves a copy of a list' "$(is_status 137; unlisted "$work/copies")"
 }
 
-# ---- names that were planted -----------------------------------------------------------------
-
 mode_tests() {
+    local name=unnamed
     printf 'F 0 A 1 %s\n' "$(frame_of A 0)" >"$work/one_line.list"
-    local each
-    for each in '' without_unnamed; do
+    for name in '' PYTHONPATH="$work/flags"; do
         (
             umask 027
-            # shellcheck disable=SC2086
-            launch $each tools/afdx-capture pcap "$work/one_line.list" "$safe/new.pcap"
+            launch env ${name:+"$name"} tools/afdx-capture pcap "$work/one_line.list" \
+                "$safe/new.pcap"
         )
-        tell "a new file is as open to others as the mask says ${each//_/ }" "$(
+        tell "a new file is as open to others as the mask says${name:+, if it has a name}" "$(
             stat -c %a "$safe/new.pcap" | grep -vx 640
             unlisted "$safe" new.pcap
         )"
