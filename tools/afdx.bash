@@ -160,10 +160,11 @@ _afdx_criteria() {
 _afdx_report() {
     local given before
     COMPREPLY=()
-    _afdx_read 1 --out --link --from --rows --worst --compare --title --fail-on --junit \
+    _afdx_read 1 --out --link --from --rows --worst --compare --title --cover --fail-on --junit \
         --interface --fcs --origin --reorder --stamps
     if _afdx_is_option; then
-        _afdx_words --out --no-admission --link --from --rows --worst --compare --title --json \
+        _afdx_words --out --no-admission --link --from --rows --worst --compare --title --cover \
+            --json \
             --interface --fcs --origin --reorder --stamps --fail-on --junit --help --version
         return
     fi
@@ -175,6 +176,7 @@ _afdx_report() {
         --stamps.*) _afdx_words end start ;;
         --out.*) _afdx_folders ;;
         --compare.*) _afdx_files json ;;
+        --cover.*) _afdx_files toml ;;
         --fail-on.*) _afdx_criteria ;;
         --junit.*) _afdx_files xml ;;
     esac

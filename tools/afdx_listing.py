@@ -36,10 +36,10 @@ class Listing:
         is_recorded: bool = False,
         is_pair: bool = False,
     ) -> None:
-        digest = hashlib.sha256()
+        digest = hashlib.sha256()  # of a list; recordings are files of their own
         parts: list[dict[str, np.ndarray]] = [columns_of_none()]
         lines = 0
-        for text in blocks_of(Hashed(file, digest.update)):
+        for text in blocks_of(file if is_recorded else Hashed(file, digest.update)):
             if is_recorded or lines <= MOST_LINES:  # of a list the program reads no further
                 part = columns_of(Block(text))
                 parts.append(part)

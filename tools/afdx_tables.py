@@ -19,6 +19,7 @@ NAMES = {
     "clocks": "Senders: by how much their copies came later on side B, in ns",
     "ports": "Ports: load, greatest backlog in bytes, and frames that left",
 }
+TROUBLES = "Frames with trouble: dropped, late, too old, refused, or at a full buffer"
 EARLY = "Links and sides: over-rate frames, and by how much they came too early"
 PROVED = (
     "Proved: each verdict (V), loss (L), departure with its time (D), drop for age (T), message "
@@ -86,6 +87,8 @@ def as_text(rows: Sequence[Row]) -> str:
 def plain(value: object) -> object:
     """A value as it stands in a CSV file: a text that a sheet would take for a formula gets an
     apostrophe before it; shares are plain fractions."""
+    if type(value) is int:  # most of them are
+        return value
     if value is None:
         return ""
     if isinstance(value, dict):
@@ -124,6 +127,9 @@ def write_all(folder: str, report: Row) -> None:
     write_csv(os.path.join(folder, "arrivals.csv"), over_time(report["arrivals"]))
     if "early_ns" in report:
         write_csv(os.path.join(folder, "early.csv"), report["early_ns"])
+    write_csv(os.path.join(folder, "troubles.csv"), report["troubles"])
+    if "where" in report:
+        write_csv(os.path.join(folder, "where.csv"), report["where"])
     if report.get("compared"):
         write_csv(os.path.join(folder, "compared.csv"), report["compared"]["rows"])
     with open(os.path.join(folder, "report.json"), "w", encoding="utf-8") as file:

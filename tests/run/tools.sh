@@ -73,7 +73,8 @@ else
 fi
 
 parts="recordings report hardening criteria early page capture_faults wireshark icd"
-parts+=" icd_faults fill completion around campaigns recorded_reports absence package"
+parts+=" icd_faults fill completion around campaigns recorded_reports absence evidence"
+parts+=" package"
 for part in $parts; do
     # shellcheck source=/dev/null
     source "$top/tests/tools/$part.sh"
