@@ -18,8 +18,12 @@ _afdx_folders() {
 
 _afdx_recordings() { _afdx_files pcap pcapng; }
 
+# `compgen -W` isn't called: it expands its words, and runs what stands in them.
 _afdx_words() { # WORD.. : those that the word begins
-    mapfile -t COMPREPLY < <(compgen -W "$*" -- "${COMP_WORDS[COMP_CWORD]}")
+    local word
+    for word in "$@"; do
+        if [[ $word == "${COMP_WORDS[COMP_CWORD]}"* ]]; then COMPREPLY+=("$word"); fi
+    done
 }
 
 _afdx_commands() { # COMMAND.. : the first word
@@ -30,12 +34,13 @@ _afdx_commands() { # COMMAND.. : the first word
     fi
 }
 
+# Byte by byte, so that no other can stand in a name; of a configuration's greatest size.
 _afdx_systems() { # CONFIG : the names of its systems
     local names
-    names=$(sed -n -e '/^ *\(\[\[link\]\]\|link *=\)/q' \
-        -e 's/.*\bname *= *"\([A-Za-z0-9]*\)".*/\1/p' "$1" 2>/dev/null)
-    # shellcheck disable=SC2086
-    _afdx_words $names
+    if [[ ! -f $1 || ! -r $1 ]]; then return; fi
+    mapfile -t names < <(head -c 4194304 <"$1" | LC_ALL=C sed 's/#.*//' |
+        LC_ALL=C grep -aoE '\bname[[:blank:]]*=[[:blank:]]*"[A-Za-z0-9]{1,16}"' | cut -d '"' -f 2)
+    _afdx_words "${names[@]}"
 }
 
 # Takes apart what stands before the word: `given` are the words that belong to no option, `before`
@@ -101,12 +106,14 @@ _afdx() {
 }
 
 _afdx_capture_list() {
-    _afdx_read 2 --config --interface --origin --fcs --reorder --stamps -o --out --split
+    _afdx_read 2 --config --interface --taps --origin --fcs --reorder --stamps -o --out --split
     if _afdx_is_option; then
-        _afdx_words --config --interface --origin --fcs --reorder --stamps --out --split --help
+        _afdx_words --config --interface --taps --origin --fcs --reorder --stamps --out --split \
+            --help
         return
     fi
     case $before in
+        --taps) _afdx_files csv ;;
         '') if ((${#given[@]} < 2)); then _afdx_recordings; fi ;;
         --config) _afdx_files toml ;;
         --fcs) _afdx_words yes no ;;
@@ -130,15 +137,18 @@ _afdx_capture_pcap() {
 }
 
 _afdx_capture_annotate() {
-    _afdx_read 2 --origin
+    _afdx_read 2 --interface --taps --origin --fcs --reorder --stamps
     if _afdx_is_option; then
-        _afdx_words --no-admission --origin --help
+        _afdx_words --no-admission --interface --taps --origin --fcs --reorder --stamps --help
         return
     fi
     case $before.${#given[@]} in
         .0) _afdx_files toml ;;
-        .1) _afdx_files list ;;
-        .2) _afdx_recordings ;;
+        .1) _afdx_files list pcap pcapng ;;
+        .[23]) _afdx_recordings ;;
+        --taps.*) _afdx_files csv ;;
+        --fcs.*) _afdx_words yes no ;;
+        --stamps.*) _afdx_words end start ;;
     esac
 }
 
@@ -161,11 +171,11 @@ _afdx_report() {
     local given before
     COMPREPLY=()
     _afdx_read 1 --out --link --from --rows --worst --compare --title --cover --fail-on --junit \
-        --interface --fcs --origin --reorder --stamps
+        --interface --taps --fcs --origin --reorder --stamps
     if _afdx_is_option; then
         _afdx_words --out --no-admission --link --from --rows --worst --compare --title --cover \
-            --json \
-            --interface --fcs --origin --reorder --stamps --fail-on --junit --help --version
+            --json --interface --taps --fcs --origin --reorder --stamps --fail-on --junit --help \
+            --version
         return
     fi
     case $before.${#given[@]} in
@@ -177,6 +187,7 @@ _afdx_report() {
         --out.*) _afdx_folders ;;
         --compare.*) _afdx_files json ;;
         --cover.*) _afdx_files toml ;;
+        --taps.*) _afdx_files csv ;;
         --fail-on.*) _afdx_criteria ;;
         --junit.*) _afdx_files xml ;;
     esac
@@ -185,16 +196,17 @@ _afdx_report() {
 _afdx_campaign() {
     local given before
     COMPREPLY=()
-    _afdx_read 1 --out -j --jobs -S --sshlogin --fail-on --junit --interface --fcs --origin \
-        --reorder --stamps
+    _afdx_read 1 --out -j --jobs -S --sshlogin --fail-on --junit --interface --taps --fcs \
+        --origin --reorder --stamps
     if _afdx_is_option; then
         _afdx_words --out --no-admission --pages --jobs --resume --sshlogin --transfer \
-            --interface --fcs --origin --reorder --stamps --fail-on --junit --help --version
+            --interface --taps --fcs --origin --reorder --stamps --fail-on --junit --help --version
         return
     fi
     case $before.${#given[@]} in
         --fail-on.*) _afdx_criteria ;;
         --junit.*) _afdx_files xml ;;
+        --taps.*) _afdx_files csv ;;
         --fcs.*) _afdx_words yes no ;;
         --stamps.*) _afdx_words end start ;;
         .0) _afdx_files toml ;;
@@ -206,15 +218,47 @@ _afdx_campaign() {
 _afdx_icd() {
     local given before
     COMPREPLY=()
-    _afdx_read 1 --profile
+    _afdx_read 1 --profile --reserve --since
     if _afdx_is_option; then
-        _afdx_words --profile --raise --help --version
+        _afdx_words --profile --fill --raise --reserve --since --help --version
         return
     fi
     case $before.${#given[@]} in
         --profile.*) _afdx_words 1 2 ;;
+        --since.*) _afdx_files toml ;;
         .0 | .1) _afdx_files csv ;;
         .2) _afdx_files toml ;;
+    esac
+}
+
+_afdx_traffic() {
+    local given before
+    COMPREPLY=()
+    _afdx_read 1 --profile --seconds --seed --config
+    if _afdx_is_option; then
+        _afdx_words --profile --fill --seconds --seed --config --help --version
+        return
+    fi
+    case $before.${#given[@]} in
+        --profile.*) _afdx_words 1 2 ;;
+        --config.*) _afdx_files toml ;;
+        .0 | .1) _afdx_files csv ;;
+        .2) _afdx_folders ;;
+    esac
+}
+
+_afdx_taps() {
+    local given before
+    COMPREPLY=()
+    _afdx_read 1
+    if _afdx_is_option; then
+        _afdx_words --anyway --help --version
+        return
+    fi
+    case ${#given[@]} in
+        0) _afdx_files toml ;;
+        1) _afdx_files csv ;;
+        2 | 3) _afdx_recordings ;;
     esac
 }
 
@@ -238,3 +282,5 @@ complete -F _afdx_report afdx-report
 complete -F _afdx_campaign afdx-campaign
 complete -F _afdx_icd afdx-icd
 complete -F _afdx_fill afdx-fill
+complete -F _afdx_traffic afdx-traffic
+complete -F _afdx_taps afdx-taps

@@ -17,7 +17,8 @@ function __afdx_given --description 'Words behind the command that belong to no 
 end
 
 set -g __afdx_valued --vl --port --lmin --policing --keep --interface --config --origin --reorder \
-    --stamps --fcs --side -o --out --split --link --from --rows --title --cover -j --jobs -S --sshlogin
+    --stamps --fcs --side -o --out --split --link --from --rows --title --cover -j --jobs -S \
+    --sshlogin
 
 function __afdx_at --description 'Is the word the one of that number behind COMMAND (- for none)?'
     set -l given (__afdx_given $__afdx_valued)
@@ -36,9 +37,11 @@ function __afdx_in --description 'Is the command one of these?'
 end
 
 function __afdx_systems --description 'The names of the systems of the configuration'
+    # Byte by byte, so that no other can stand in a name; of a configuration's greatest size.
     set -l given (__afdx_given $__afdx_valued)
-    sed -n -e '/^ *\(\[\[link\]\]\|link *=\)/q' -e 's/.*\bname *= *"\([A-Za-z0-9]*\)".*/\1/p' \
-        $given[2] 2>/dev/null
+    test -f "$given[2]"; and test -r "$given[2]"; or return
+    head -c 4194304 <$given[2] | LC_ALL=C sed 's/#.*//' |
+        LC_ALL=C grep -aoE '\bname[[:blank:]]*=[[:blank:]]*"[A-Za-z0-9]{1,16}"' | cut -d '"' -f 2
 end
 
 function __afdx_files --description 'Folders, and files with one of these extensions'
@@ -106,11 +109,15 @@ complete -c $tool -n '__afdx_at - 0 0' -a list -d 'Recordings to a frame list'
 complete -c $tool -n '__afdx_at - 0 0' -a pcap -d 'A frame list to a recording'
 complete -c $tool -n '__afdx_at - 0 0' -a annotate -d 'A replay beside its frames'
 complete -c $tool -n '__afdx_in list' -x -l config -a '(__afdx_files toml)' -d 'Tells switch ports'
-complete -c $tool -n '__afdx_in list' -x -l interface -d 'Where an interface was plugged in'
+complete -c $tool -n '__afdx_in list annotate' -x -l interface \
+    -d 'Where an interface was plugged in'
+complete -c $tool -n '__afdx_in list annotate' -x -l taps -a '(__afdx_files csv)' \
+    -d 'A table of taps'
 complete -c $tool -n '__afdx_in list pcap annotate' -x -l origin -d 'ns since 1970 of time 0'
-complete -c $tool -n '__afdx_in list' -x -l fcs -a 'yes no' -d 'Are there check sequences?'
-complete -c $tool -n '__afdx_in list' -x -l reorder -d 'How many in front may be later'
-complete -c $tool -n '__afdx_in list' -x -l stamps -a 'end start' -d 'Last bit or first?'
+complete -c $tool -n '__afdx_in list annotate' -x -l fcs -a 'yes no' \
+    -d 'Are there check sequences?'
+complete -c $tool -n '__afdx_in list annotate' -x -l reorder -d 'How many in front may be later'
+complete -c $tool -n '__afdx_in list annotate' -x -l stamps -a 'end start' -d 'Last bit or first?'
 complete -c $tool -n '__afdx_in pcap' -x -l fcs -a 'yes no' -d 'With check sequences?'
 complete -c $tool -n '__afdx_in pcap' -x -l side -a 'A B' -d 'Only frames of this network'
 complete -c $tool -n '__afdx_in list' -r -F -s o -l out -d 'The list'
@@ -120,8 +127,8 @@ complete -c $tool -n '__afdx_at list 0 1' -a "(__afdx_files $pcaps)"
 complete -c $tool -n '__afdx_at pcap 0 0' -a '(__afdx_files list)'
 complete -c $tool -n '__afdx_at pcap 1 1' -a "(__afdx_files $pcaps)"
 complete -c $tool -n '__afdx_at annotate 0 0' -a '(__afdx_files toml)'
-complete -c $tool -n '__afdx_at annotate 1 1' -a '(__afdx_files list)'
-complete -c $tool -n '__afdx_at annotate 2 2' -a "(__afdx_files $pcaps)"
+complete -c $tool -n '__afdx_at annotate 1 1' -a "(__afdx_files list $pcaps)"
+complete -c $tool -n '__afdx_at annotate 2 3' -a "(__afdx_files $pcaps)"
 
 # ---- afdx-report, afdx-campaign ------------------------------------------------------------------
 
@@ -135,6 +142,7 @@ for tool in afdx-report afdx-campaign
             refused skew jitter first-number recorder-lost left-out unused claimed lost'
     complete -c $tool -r -l junit -d 'Write each criterion as a JUnit test case'
     complete -c $tool -x -l interface -d 'Where an interface was plugged in'
+    complete -c $tool -x -l taps -a '(__afdx_files csv)' -d 'A table of taps'
     complete -c $tool -x -l fcs -a 'yes no' -d 'Are there check sequences?'
     complete -c $tool -x -l origin -d 'ns since 1970 of time 0'
     complete -c $tool -x -l reorder -d 'How many in front may be later'
@@ -159,16 +167,37 @@ complete -c afdx-campaign -l resume -d 'Only the lists that have not been run'
 complete -c afdx-campaign -x -s S -l sshlogin -d 'Run on this machine too'
 complete -c afdx-campaign -l transfer -d 'Copy lists and configuration there first'
 
-# ---- afdx-icd, afdx-fill -------------------------------------------------------------------------
+# ---- afdx-icd, afdx-traffic, afdx-taps, afdx-fill ------------------------------------------------
 
-set -ga __afdx_valued --profile --keep
+set -ga __afdx_valued --profile --keep --reserve --since --seconds --seed \
+    --taps
 complete -c afdx-icd -f
 complete -c afdx-icd -l help -d 'Print help and leave'
 complete -c afdx-icd -l version -d 'Print the version and leave'
 complete -c afdx-icd -x -l profile -a '1 2' -d 'Which rules its switches keep'
 complete -c afdx-icd -l raise -d 'Also where messages are late'
+complete -c afdx-icd -l fill -d 'An empty cell has the value of the one above'
+complete -c afdx-icd -x -l reserve -d 'Percent of room beyond what is needed'
+complete -c afdx-icd -x -l since -a '(__afdx_files toml)' -d 'Say what changed since this one'
 complete -c afdx-icd -n '__afdx_at - 0 1' -a '(__afdx_files csv)'
 complete -c afdx-icd -n '__afdx_at - 2 2' -a '(__afdx_files toml)'
+complete -c afdx-traffic -f
+complete -c afdx-traffic -l help -d 'Print help and leave'
+complete -c afdx-traffic -l version -d 'Print the version and leave'
+complete -c afdx-traffic -x -l profile -a '1 2' -d 'Which rules its switches keep'
+complete -c afdx-traffic -l fill -d 'An empty cell has the value of the one above'
+complete -c afdx-traffic -x -l seconds -d 'For how long'
+complete -c afdx-traffic -x -l seed -d 'Which chance begins the messages'
+complete -c afdx-traffic -x -l config -a '(__afdx_files toml)' -d 'Write frames too'
+complete -c afdx-traffic -n '__afdx_at - 0 1' -a '(__afdx_files csv)'
+complete -c afdx-traffic -n '__afdx_at - 2 2' -a '(__fish_complete_directories)'
+complete -c afdx-taps -f
+complete -c afdx-taps -l help -d 'Print help and leave'
+complete -c afdx-taps -l version -d 'Print the version and leave'
+complete -c afdx-taps -l anyway -d 'Print the words also where they do not agree'
+complete -c afdx-taps -n '__afdx_at - 0 0' -a '(__afdx_files toml)'
+complete -c afdx-taps -n '__afdx_at - 1 1' -a '(__afdx_files csv)'
+complete -c afdx-taps -n '__afdx_at - 2 3' -a '(__afdx_files pcap pcapng)'
 complete -c afdx-fill -f
 complete -c afdx-fill -l help -d 'Print help and leave'
 complete -c afdx-fill -l version -d 'Print the version and leave'

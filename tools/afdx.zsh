@@ -1,4 +1,4 @@
-#compdef afdx afdx-capture afdx-report afdx-campaign afdx-icd afdx-fill
+#compdef afdx afdx-capture afdx-report afdx-campaign afdx-icd afdx-fill afdx-traffic afdx-taps
 # Completes the words of `afdx` and of its tools in zsh. `bin/install PREFIX` puts it at
 # PREFIX/share/zsh/site-functions/_afdx; where zsh doesn't look there, put that folder into `fpath`.
 
@@ -21,11 +21,18 @@ local -a recorded=(
     '--origin[the moment of the recording that is time 0, in ns since 1970]:ns:'
     '--reorder[how many arrivals in front of a frame may be later]:number:'
 )
+local taps='--taps[a table of taps in the place of --interface]:table:_files -g "*.csv(-.)"'
 local stamps='--stamps[are stamps those of the last bit or of the first]:end:(end start)'
 
-_afdx_systems() { # the names of the systems of the configuration that was given
-    local -a names=(${(f)"$(sed -n -e '/^ *\(\[\[link\]\]\|link *=\)/q' \
-        -e 's/.*\bname *= *"\([A-Za-z0-9]*\)".*/\1/p' "${(Q)line[1]}" 2>/dev/null)"})
+# The names of the systems of the configuration that was given: byte by byte, so that no other can
+# stand in a name; of a configuration's greatest size.
+_afdx_systems() {
+    local file=${(Q)line[1]}
+    local -a names
+    if [[ ! -f $file || ! -r $file ]] return 1
+    names=(${(f)"$(head -c 4194304 <"$file" | LC_ALL=C sed 's/#.*//' |
+        LC_ALL=C grep -aoE '\bname[[:blank:]]*=[[:blank:]]*"[A-Za-z0-9]{1,16}"' |
+        cut -d '"' -f 2)"})
     compadd -a names
 }
 
@@ -68,7 +75,7 @@ _afdx_capture() {
     local origin='--origin[the time, in ns since 1970, that is 0 in the list]:ns:'
     case $1 in
         list)
-            _arguments $help $recorded $stamps \
+            _arguments $help $recorded $stamps $taps \
                 "--config[the switch port is that of the sender in it]:$config" \
                 "(-o --out --split)"{-o,--out}"[the list]:$list" \
                 '(-o --out)--split[write several lists]:prefix:_files' ":$recording" \
@@ -79,8 +86,9 @@ _afdx_capture() {
                 '--fcs[with check sequences]:answer:(yes no)' ":$list" ":$recording"
             ;;
         annotate)
-            _arguments $help $origin '--no-admission[also where the network is refused]' \
-                ":$config" ":$list" ":$recording"
+            _arguments $help $recorded $stamps $taps \
+                '--no-admission[also where the network is refused]' \
+                ":$config" ":$input" ":$recording" "::$recording"
             ;;
     esac
 }
@@ -99,7 +107,7 @@ case $service in
     afdx) _afdx_of_commands _afdx_program check explain list police replay send solve ;;
     afdx-capture) _afdx_of_commands _afdx_capture list pcap annotate ;;
     afdx-report)
-        _arguments $help $version $recorded $stamps \
+        _arguments $help $version $recorded $stamps $taps \
             '--out[the folder for page, CSV and JSON]:folder:_path_files -/' \
             '--no-admission[also where the network is refused]' \
             '--link[the link of the time line]:number:' \
@@ -114,7 +122,7 @@ case $service in
             '--json[print the JSON instead of the text]' ":$config" ":$input" "::$recording"
         ;;
     afdx-campaign)
-        _arguments $help $version $recorded $stamps \
+        _arguments $help $version $recorded $stamps $taps \
             '--out[the folder of the campaign]:folder:_path_files -/' \
             '--no-admission[also where the network is refused]' \
             '--pages[a page for each run too]' {-j,--jobs}'[runs at a time]:number:' \
@@ -126,7 +134,22 @@ case $service in
         ;;
     afdx-icd)
         _arguments $help $version '--profile[which rules its switches keep]:profile:(1 2)' \
-            '--raise[also where messages are late]' ":$table" ":$table" ":$config"
+            '--fill[an empty cell has the value of the one above]' \
+            '--raise[also where messages are late]' \
+            '--reserve[room beyond what is needed]:percent:' \
+            "--since[say what changed since this one]:$config" ":$table" ":$table" ":$config"
+        ;;
+    afdx-traffic)
+        _arguments $help $version '--profile[which rules its switches keep]:profile:(1 2)' \
+            '--fill[an empty cell has the value of the one above]' \
+            '--seconds[for how long]:seconds:' \
+            '--seed[which chance begins the messages]:number:' \
+            "--config[write frames too, as sent on this network]:$config" ":$table" ":$table" \
+            ':folder:_path_files -/'
+        ;;
+    afdx-taps)
+        _arguments $help $version '--anyway[print the words also where they do not agree]' \
+            ":$config" ":$table" ":$recording" "::$recording"
         ;;
     afdx-fill)
         _arguments $help $version \

@@ -7,15 +7,10 @@ from collections import deque
 from dataclasses import dataclass
 from typing import Iterable, Iterator
 
-from afdx_tools import Listed, Refused, program, read_config
-
-
-class Failed(Exception):
-    """The program ended with a fault: its line and its status."""
-
-    def __init__(self, line: str, status: int) -> None:
-        super().__init__(line)
-        self.status = status
+from afdx_program import version
+from afdx_reading import read_config
+from afdx_tools import Listed, Refused, program
+from afdx_words import Failed
 
 
 @dataclass
@@ -93,11 +88,8 @@ def replayed(
     config: str, path: str, no_admission: bool, listed: Iterator[Listed]
 ) -> Iterator[Followed]:
     """Replays a list and follows its frames; Failed where the program had a fault."""
-    afdx = program()
-    # Asked first, with standard error seen: the program of a checkout may have to be built, which
-    # is said there.
-    subprocess.run([afdx, "--version"], stdout=subprocess.DEVNULL, check=False)
-    words = [afdx, "replay", *(["--no-admission"] if no_admission else []), config, path]
+    version()
+    words = [program(), "replay", *(["--no-admission"] if no_admission else []), config, path]
     with tempfile.TemporaryFile("w+", encoding="utf-8", errors="replace") as errors:
         with subprocess.Popen(
             words, stdout=subprocess.PIPE, stderr=errors, encoding="ascii", errors="replace"
@@ -109,4 +101,4 @@ def replayed(
     if status < 0:
         raise Failed(fault or f"signal {-status} ended the program", 128 - status)
     if status:
-        raise Failed(fault or f"the program ended with status {status}", status)
+        raise Failed(fault or f"the program ended with status {status}", status, ["check", config])

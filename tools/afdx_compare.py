@@ -44,24 +44,41 @@ COMPARED = {
     "early_ns": ("greatest",),
 }
 RARE = {"early_ns": []}  # what a report hasn't where no frame was over-rate
+MOST = 2**63  # no number of a report is greater
 FRAME = ("link", "side", "number", "time_ns", "port", "what")
+TROUBLE = ("link", "side", "number", "time_ns", "line", "port", "what")  # what a report has of it
+
+
+def is_count(value: object) -> bool:
+    """A whole number, as all numbers are that are compared, or that there is none."""
+    return value is None or (type(value) is int and abs(value) <= MOST)
+
+
+def is_name(value: object) -> bool:
+    """What names a row or a frame: a number or a word."""
+    return is_count(value) or isinstance(value, str)
+
+
+def is_report(report: Row) -> bool:
+    """Has it each value that is compared, of the kind that afdx-report writes?"""
+    rows = [(row, KEYS[name], COMPARED[name]) for name in KEYS for row in report[name]]
+    rows += [(row, TROUBLE, ()) for row in report["troubles"]]
+    named = all(is_name(row[word]) for row, names, _ in rows for word in names)
+    counted = all(is_count(row[word]) for row, _, counts in rows for word in counts)
+    return named and counted and isinstance(report["run"]["title"], str)
 
 
 def other_report(path: str) -> Row:
     """The report of another run, as afdx-report wrote it."""
     try:
         with open(path, encoding="utf-8") as file:
-            report = json.load(file)
-        report = {**RARE, **report}
-        for name, key in KEYS.items():
-            for row in report[name]:
-                [row[word] for word in (*key, *COMPARED[name])]
-        [[row[word] for word in FRAME] for row in report["troubles"]]
-        return report if isinstance(report["totals"], dict) else {}[path]
-    except OSError:
-        raise
-    except (ValueError, KeyError, TypeError, RecursionError) as error:
-        raise Refused(f"{shown(path)} is no report.json of this afdx-report") from error
+            report = {**RARE, **json.load(file)}
+        if is_report(report):
+            troubles = [{word: row[word] for word in TROUBLE} for row in report["troubles"]]
+            return {**report, "troubles": troubles}
+    except (ValueError, LookupError, TypeError, RecursionError):
+        pass
+    raise Refused(f"{shown(path)} is no report.json of this afdx-report")
 
 
 def where(key: tuple[str, ...], row: Row) -> str:
@@ -101,7 +118,7 @@ def compared(this: Row, other: Row, path: str) -> Row:
     cut = max(len(this["troubles"]), len(other["troubles"])) >= MOST_TROUBLES
     return {
         "file": shown(path),
-        "title": str(other.get("run", {}).get("title", "")),
+        "title": shown(other["run"]["title"]),
         "rows": [row for name in KEYS for row in differing(name, this, other)],
         "only_here": only_in(this, other),
         "only_there": only_in(other, this),

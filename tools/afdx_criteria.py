@@ -5,6 +5,7 @@ import argparse
 from typing import Sequence
 from xml.etree import ElementTree as xml
 
+from afdx_outputs import finished
 from afdx_tables import Row
 from afdx_words import shown
 
@@ -103,4 +104,5 @@ def write_junit(path: str, suites: Sequence[xml.Element]) -> None:
     root = xml.Element("testsuites")
     root.extend(suites)
     xml.indent(root)
-    xml.ElementTree(root).write(path, encoding="utf-8", xml_declaration=True)
+    with finished(path) as file:
+        xml.ElementTree(root).write(file, encoding="utf-8", xml_declaration=True)

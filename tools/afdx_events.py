@@ -27,7 +27,8 @@ KNOWN = np.isin(np.arange(256), list(LETTERS.values()))
 def verdicts() -> tuple[str, ...]:
     """Why a switch drops a frame: the words of the program, in its order."""
     words = [program(), "explain", "--list"]
-    told = subprocess.run(words, capture_output=True, text=True, check=False).stdout
+    run = subprocess.run(words, capture_output=True, check=False)
+    told = run.stdout.decode(errors="replace")
     drops = [line for line in told.splitlines() if line.startswith("drop ")]
     return tuple(line.removeprefix("drop ") for line in drops)
 

@@ -6,7 +6,7 @@ from typing import IO, Callable
 
 import numpy as np
 
-from afdx_lines import RETURN, SPACE, Block, blocks_of
+from afdx_lines import LINE_FEED, RETURN, SPACE, Block, blocks_of
 from afdx_tools import MOST_LINES
 
 NO_LINK = -1  # stands for frames that name no link of the configuration
@@ -26,8 +26,9 @@ NETWORK[[0x20, 0x40]] = 0, 1
 class Listing:
     """The columns of a list, by the number of the line; `sound` where it has a line's form.
     `arrivals` are these lines. `port` is where the frame came in; `source` the end system that its
-    source address names, and `network` the side. That of one recording (`is_recorded`), or of two
-    (`is_pair` too), has any length."""
+    source address names, and `network` the side. Only the first `most` lines are looked at, those
+    that the program took; what the program writes itself of one recording (`is_recorded`), or of
+    two (`is_pair` too), has any length."""
 
     def __init__(
         self,
@@ -35,13 +36,15 @@ class Listing:
         told: Callable[[int], None] = lambda count: None,
         is_recorded: bool = False,
         is_pair: bool = False,
+        most: int = MOST_LINES,
     ) -> None:
         digest = hashlib.sha256()  # of a list; recordings are files of their own
         parts: list[dict[str, np.ndarray]] = [columns_of_none()]
         lines = 0
         for text in blocks_of(file if is_recorded else Hashed(file, digest.update)):
-            if is_recorded or lines <= MOST_LINES:  # of a list the program reads no further
-                part = columns_of(Block(text))
+            taken = text if is_recorded else first_lines(text, most - lines)
+            if taken:
+                part = columns_of(Block(taken))
                 parts.append(part)
                 lines += len(part["time"])
                 told(lines)
@@ -72,6 +75,14 @@ class Hashed:
         part = self.file.read(most)
         self.update(part)
         return part
+
+
+def first_lines(text: bytes, count: int) -> bytes:
+    """At most so many of a text's lines."""
+    if text.count(b"\n") <= count:
+        return text
+    ends = np.flatnonzero(np.frombuffer(text, np.uint8) == LINE_FEED)
+    return text[: ends[count - 1] + 1] if count > 0 else b""
 
 
 def columns_of_none() -> dict[str, np.ndarray]:

@@ -43,6 +43,8 @@ def files_of(
         ("Configuration", shown(args.config), digest(source.config)),
         *zip(heads, map(shown, paths), sums),
     ]
+    if args.taps and os.path.isfile(args.taps):
+        files.append(("Taps", shown(args.taps), digest(args.taps)))
     return files + ([("Cover", cover.path, cover.digest)] if cover else [])
 
 

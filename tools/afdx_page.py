@@ -15,11 +15,12 @@ from afdx_lanes import lanes
 from afdx_made import made_section
 from afdx_parts import paper_rows, section, table, table_section
 from afdx_ranking import FEWEST, ranked
-from afdx_style import SCRIPT, STYLE
+from afdx_style import POLICY, SCRIPT, STYLE
 from afdx_tables import COUNTED, EARLY, NAMES, PROVED, TROUBLES, UNPROMISED, Row, cell, in_us
 from afdx_where import Where
 
 EARLY_FRAMES = "Over-rate frames that came too early by most, in us"
+TAPS = "Taps: where the interfaces were plugged in, and frames that name another place"
 TRACKS_ON_PAPER = 6
 TROUBLES_SHOWN = 500
 FIND = (
@@ -170,6 +171,8 @@ def table_sections(report: Row, where: Where) -> str:
     """All tables, and the field that finds rows in them."""
     early, both = early_tables(report), compared_tables(report)
     tables = dict(both)
+    if "taps" in report:
+        tables["taps"] = TAPS, report["taps"]["rows"]
     for name, head in NAMES.items():
         tables[name] = head, report[name]
         behind = {"frames": "early-frames", "sides": "early"}.get(name)
@@ -211,6 +214,7 @@ def page(report: Row, counting: Counting, where: Where, args: argparse.Namespace
         words += f" Skipped of the recording: {cell(report['skipped'])}."
     parts = [
         "<!doctype html><html lang='en'><head><meta charset='utf-8'>",
+        f'<meta http-equiv="Content-Security-Policy" content="{POLICY}">',
         "<meta name='viewport' content='width=device-width, initial-scale=1'>",
         f"<title>{escape(title)}</title><style>{STYLE}</style></head><body><main>",
         cover_section(report["cover"]),

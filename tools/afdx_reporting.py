@@ -15,14 +15,18 @@ from afdx_compare import compared, other_report, words_of
 from afdx_counting import Counting
 from afdx_cover import Cover
 from afdx_criteria import judged, status_of, suite_of, write_junit
+from afdx_explaining import explain
 from afdx_findings import findings_of
 from afdx_lanes import arrivals_of
 from afdx_lines import keep_memory
 from afdx_made import header
+from afdx_outputs import write_folder
 from afdx_page import page
+from afdx_program import version
 from afdx_ranking import FEWEST, latency_text, nearest, ranked
+from afdx_reading import read_config
 from afdx_recordings import recording_options
-from afdx_running import Source, check, listed_of, replay, version
+from afdx_running import Source, check, listed_of, replay
 from afdx_silence import Silences
 from afdx_tables import (
     COUNTED,
@@ -30,14 +34,16 @@ from afdx_tables import (
     NAMES,
     PROVED,
     UNPROMISED,
+    WRITTEN,
     Row,
     as_text,
     cell,
-    write_all,
+    files_of,
 )
-from afdx_tools import program, read_config
+from afdx_tapped import found_by
+from afdx_tools import program
 from afdx_where import Where
-from afdx_words import Failed, Progress, as_file, at_hand
+from afdx_words import Failed, Progress, as_file, at_hand, shown
 
 
 def tables_of(counting: Counting, checked: Checked, worst: int) -> Row:
@@ -77,11 +83,10 @@ def report_of(
     args: argparse.Namespace, source: Source, cover: Cover | None, progress: Progress
 ) -> tuple[Row, Counting, Where]:
     """Runs the program, and counts: the report, what the pictures need, and where frames stand."""
-    afdx = program()
-    called = version(afdx)
-    checked = check(afdx, source.config)
+    called = version()
+    checked = check(program(), source.config)
     tables = read_config(source.config)
-    listed = listed_of(source, progress)
+    listed = listed_of(source, progress, checked.answer == "ok" or args.no_admission)
     events, fault, status = replay(source, listed, progress)
     progress.tell("counting")
     counting = Counting(tables, listed.listing, events)
@@ -100,6 +105,8 @@ def report_of(
     }
     if listed.skipped and not status:
         report["skipped"] = listed.skipped
+    if source.taps:
+        report["taps"] = {"file": shown(args.taps), "rows": source.taps.rows}
     report["totals"] = numbers.totals(counting, report)
     report["findings"] = findings_of(report)
     where.add_to(report)
@@ -142,28 +149,21 @@ def print_text(report: Row) -> None:
     print(f"\n{PROVED}\n{COUNTED}")
 
 
-def write_folder(
-    folder: str, report: Row, counting: Counting, where: Where, args: argparse.Namespace
-) -> None:
-    """Writes page, CSV files and JSON into a folder."""
-    os.makedirs(folder, exist_ok=True)
-    write_all(folder, report)
-    text = page(report, counting, where, args)
-    with open(os.path.join(folder, "report.html"), "w", encoding="utf-8") as file:
-        file.write(text)
-
-
 @contextlib.contextmanager
-def source_of(args: argparse.Namespace) -> Iterator[Source]:
+def source_of(args: argparse.Namespace, progress: Progress) -> Iterator[Source]:
     """What the words name, at hand to be read more than once."""
     names = [args.list] if args.other is None else [args.list, args.other]
     if names == ["-", "-"]:
         raise Failed("words SameInput", 2)
     of_replay = ["--no-admission"] if args.no_admission else []
     with contextlib.ExitStack() as files:
-        config = files.enter_context(at_hand(args.config, "run.toml"))
-        paths = [files.enter_context(at_hand(name, "run.list")) for name in names]
-        yield Source(config, paths, recording_options(args), of_replay)
+        config = files.enter_context(at_hand(args.config))
+        paths = [files.enter_context(at_hand(name)) for name in names]
+        options, taps = recording_options(args), None
+        if args.taps is not None:
+            taps = found_by(args.taps, config, paths, names, progress)
+            options += taps.words
+        yield Source(config, paths, options, of_replay, taps)
 
 
 def run_report(tool: str, args: argparse.Namespace) -> int:
@@ -174,7 +174,9 @@ def run_report(tool: str, args: argparse.Namespace) -> int:
     cover = Cover(args.cover) if args.cover else None
     name = args.list if args.other is None else f"{args.list},{args.other}"
     try:
-        with source_of(args) as source:
+        with source_of(args, progress) as source:
+            for line in source.taps.remarks if source.taps else []:
+                print(f"{tool}: {shown(line)}", file=sys.stderr)
             report, counting, where = report_of(args, source, cover, progress)
     except Failed as error:
         if args.junit:
@@ -186,7 +188,8 @@ def run_report(tool: str, args: argparse.Namespace) -> int:
     if other is not None:
         report["compared"] = compared(report, other, args.compare)
     if args.out or not args.json:
-        write_folder(as_file(args.out or "report"), report, counting, where, args)
+        texts = {**files_of(report), "report.html": page(report, counting, where, args)}
+        write_folder(as_file(args.out or "report"), texts, WRITTEN)
     if args.junit:
         suite = suite_of(name, report["fault"], report["totals"], args.fail_on)
         write_junit(args.junit, [suite])
@@ -197,4 +200,5 @@ def run_report(tool: str, args: argparse.Namespace) -> int:
     for line in [report["fault"], *report["unmet"]]:
         if line:
             print(f"{tool}: {line}", file=sys.stderr)
+            explain(line)
     return status_of(report["status"], report["unmet"])

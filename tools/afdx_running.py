@@ -1,6 +1,7 @@
 """The runs of the program that a report is made of: its bounds, the list, the replay."""
 from __future__ import annotations
 
+import re
 import subprocess
 import tempfile
 from dataclasses import dataclass, field
@@ -11,22 +12,25 @@ from afdx_checked import Checked, checked_of
 from afdx_events import OVER_RATE, Events
 from afdx_listing import Listing
 from afdx_recordings import is_recording
-from afdx_tools import program
+from afdx_taps import Found
+from afdx_tools import MOST_LINES, program
 from afdx_words import Failed, Progress, shown
 
 ENDED = (0, 3)  # the input came to its end or has a fault: each over-rate frame has its line
+ANY_RULE = ("1", "64", "0")  # BAG, Lmax and jitter of a link, of which no fault of a list depends
 PIECE = 1 << 20  # bytes of a pipe
 
 
 @dataclass(frozen=True)
 class Source:
     """What is replayed: a configuration, a list or a recording, or those of both networks; the
-    options of recordings and of the replay."""
+    options of recordings and of the replay; what a table of taps says of the recordings."""
 
     config: str
     paths: list[str]
     options: list[str]
     of_replay: list[str]
+    taps: Found | None = None
 
     @property
     def is_recorded(self) -> bool:
@@ -56,19 +60,19 @@ class Listed:
     skipped: dict[str, int] = field(default_factory=dict)
 
 
-def version(afdx: str) -> str:
-    """What the program calls itself. It is asked first, with standard error seen: the program of a
-    checkout may build itself first, which takes minutes and is said there."""
-    run = subprocess.run([afdx, "--version"], stdout=subprocess.PIPE, text=True, check=False)
-    return run.stdout.strip() or "afdx"
-
-
 def check(afdx: str, config: str) -> Checked:
     """What `check` says of the configuration."""
-    run = subprocess.run([afdx, "check", config], capture_output=True, text=True, check=False)
-    if run.stderr:
-        raise Failed(run.stderr.strip(), run.returncode)
-    return checked_of(run.stdout.splitlines())
+    run = subprocess.run(
+        [afdx, "check", config],
+        capture_output=True,
+        encoding="utf-8",
+        errors="replace",
+        check=False,
+    )
+    if run.stderr or run.returncode not in (0, 1):
+        status = run.returncode if run.returncode > 0 else 128 - run.returncode
+        raise Failed(run.stderr.strip() or ended_by(run.returncode), status, ["check", config])
+    return checked_of(map(shown, run.stdout.splitlines()))
 
 
 def ended_by(status: int) -> str:
@@ -82,15 +86,28 @@ def counts_of(line: str) -> dict[str, int]:
     return dict(zip(words[::2], map(int, words[1::2])))
 
 
-def listed_of(source: Source, progress: Progress) -> Listed:
-    """The list's columns; a recording's are those of the list that `afdx list` writes."""
+def taken_of(path: str) -> int:
+    """How many lines of a list the program takes: those before the first fault, which is the same
+    for all networks. What stands there or behind it isn't looked at here."""
+    words = [program(), "police", *ANY_RULE, path]
+    run = subprocess.run(words, stdout=subprocess.DEVNULL, stderr=subprocess.PIPE, check=False)
+    if run.returncode == 0 or run.stderr.split() == [b"list", b"TooManyLines"]:
+        return MOST_LINES
+    fault = re.fullmatch(rb"list [A-Za-z]+ ([0-9]{1,7})\n", run.stderr)
+    return int(fault[1]) - 1 if fault else 0
+
+
+def listed_of(source: Source, progress: Progress, is_run: bool) -> Listed:
+    """The list's columns; a recording's are those of the list that `afdx list` writes. `is_run`:
+    the program replays it, since the network is admitted or needn't be."""
 
     def told(count: int) -> None:
         progress.tell(f"{count:,} lines of the list read")
 
     if not source.is_recorded:
+        most = taken_of(source.paths[0]) if is_run else 0
         with open(source.paths[0], "rb") as file:
-            return Listed(Listing(file, told))
+            return Listed(Listing(file, told, most=most))
     with tempfile.TemporaryFile() as errors:
         with subprocess.Popen(
             source.listed(), stdout=subprocess.PIPE, stderr=errors, pipesize=PIECE
@@ -98,7 +115,7 @@ def listed_of(source: Source, progress: Progress) -> Listed:
             assert run.stdout is not None
             listing = Listing(run.stdout, told, is_recorded=True, is_pair=source.is_pair)
         errors.seek(0)
-        said = errors.read().decode("utf-8", "replace").strip()
+        said = shown(errors.read().decode("utf-8", "replace").strip())
     if run.returncode not in ENDED:
         status = run.returncode if run.returncode > 0 else 128 - run.returncode
         raise Failed(said or ended_by(run.returncode), status)
@@ -118,7 +135,7 @@ def replay(source: Source, listed: Listed, progress: Progress) -> tuple[Events, 
                 run.stdout, lambda line: progress.tell(f"{100 * line // most} % of the replay")
             )
         errors.seek(0)
-        fault = events.read_errors(errors)
+        fault = shown(events.read_errors(errors))
     if run.returncode < 0:
         return events, fault or ended_by(run.returncode), 128 - run.returncode
     if run.returncode in ENDED:

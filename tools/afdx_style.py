@@ -1,4 +1,9 @@
-"""How a report looks on light and dark screens and on paper, and its search field."""
+"""How a report looks on light and dark screens and on paper, its search field, and what a browser
+lets it do."""
+from __future__ import annotations
+
+import base64
+import hashlib
 
 STYLE = """
 :root { --ground: #f6f6f4; --sheet: #ffffff; --ink: #1d2126; --muted: #5f6771; --rule: #ececea;
@@ -38,7 +43,8 @@ section { background: var(--sheet); border: 1px solid var(--rule); border-radius
 .card dd { margin: 0; font-size: 20px; font-weight: 600; font-variant-numeric: tabular-nums;
   letter-spacing: -.02em; overflow-wrap: anywhere; }
 .card dt { color: var(--muted); font-size: 12.5px; }
-.on-paper { display: none; } #cover { margin-bottom: 24px; } #cover table { margin-top: 12px; font-size: 13.5px; }
+.on-paper { display: none; } #cover { margin-bottom: 24px; }
+#cover table { margin-top: 12px; font-size: 13.5px; }
 #cover td:last-child { min-width: 14em; } #cover td, #cover tbody th { padding: 7px 10px 7px 0; }
 #made td { white-space: normal; } #made code { overflow-wrap: anywhere; }
 .find { margin-top: 16px; } .find input { font: inherit; padding: 4px 8px; width: 22em;
@@ -123,3 +129,10 @@ SCRIPT = """
   find.addEventListener('input', () => { clearTimeout(waiting); waiting = setTimeout(look, 150); });
 })();
 """
+
+# A page loads nothing, and runs this script alone, whatever else might stand in it.
+DIGEST = base64.b64encode(hashlib.sha256(SCRIPT.encode()).digest()).decode()
+POLICY = (
+    f"default-src 'none'; style-src 'unsafe-inline'; script-src 'sha256-{DIGEST}'; "
+    "base-uri 'none'; form-action 'none'"
+)

@@ -83,7 +83,8 @@ def picture(
     kind `screen` it isn't on paper."""
     return (
         f'<svg viewBox="0 0 {WIDTH} {height:.0f}" class="{kind}" role="img" '
-        f'aria-labelledby="{name}-label {name}-numbers"><title id="{name}-label">{escape(label)}</title>'
+        f'aria-labelledby="{name}-label {name}-numbers">'
+        f'<title id="{name}-label">{escape(label)}</title>'
         f'<desc id="{name}-numbers">{escape(told)}</desc>' + "".join(parts) + "</svg>"
     )
 

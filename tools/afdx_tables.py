@@ -1,11 +1,12 @@
 """Rows as text, CSV and JSON."""
 from __future__ import annotations
 
-import csv
 import json
 import math
-import os
+import re
 from typing import Sequence
+
+from afdx_tools import shown
 
 Row = dict
 NAMES = {
@@ -36,7 +37,12 @@ COUNTED = (
     "sent); loads; gaps, jitter, numbers, skews and clocks; silences and what came on one side "
     "alone; shares; and the pictures."
 )
-FORMULA = ("=", "+", "-", "@", "\t", "\r")
+# Where a formula could begin: at a cell's begin, or behind a semicolon, at which spreadsheets of
+# many countries cut a line.
+FORMULA = re.compile(r"(^|;)( *)(?=[=+\-@])")
+WRITTEN = {f"{name}.csv" for name in NAMES} | {"arrivals.csv", "early.csv", "compared.csv"}
+WRITTEN |= {"troubles.csv", "where.csv"}
+WRITTEN |= {"report.json", "report.html"}  # what a folder may have of an earlier report
 
 
 def percent(share: float) -> str:
@@ -61,8 +67,8 @@ def cell(value: object) -> str:
     if isinstance(value, float):
         return percent(value)
     if isinstance(value, dict):
-        return ", ".join(f"{count} {word}" for word, count in value.items()) or "-"
-    return str(value)
+        value = ", ".join(f"{count} {word}" for word, count in value.items()) or "-"
+    return shown(str(value))
 
 
 def heads(rows: Sequence[Row]) -> list[str]:
@@ -76,7 +82,8 @@ def as_text(rows: Sequence[Row]) -> str:
         return "(none)\n"
     table = [heads(rows)] + [[cell(value) for value in row.values()] for row in rows]
     widths = [max(len(line[n]) for line in table) for n in range(len(table[0]))]
-    is_number = [isinstance(value, (int, float)) or value is None for value in rows[0].values()]
+    columns = zip(*(row.values() for row in rows))
+    is_number = [all(v is None or isinstance(v, (int, float)) for v in each) for each in columns]
     lines = []
     for line in table:
         cells = (c.rjust(w) if n else c.ljust(w) for c, w, n in zip(line, widths, is_number))
@@ -84,27 +91,21 @@ def as_text(rows: Sequence[Row]) -> str:
     return "".join(lines)
 
 
-def plain(value: object) -> object:
-    """A value as it stands in a CSV file: a text that a sheet would take for a formula gets an
-    apostrophe before it; shares are plain fractions."""
-    if type(value) is int:  # most of them are
-        return value
-    if value is None:
+def plain(value: object) -> str:
+    """A value as it stands in a CSV file. A text that a spreadsheet would take for a formula gets
+    an apostrophe before it; one with a semicolon is quoted too. Shares are plain fractions."""
+    if value is None or value == {}:
         return ""
-    if isinstance(value, dict):
-        value = cell(value) if value else ""
-    if isinstance(value, str) and value.startswith(FORMULA):
-        return "'" + value
-    return value
+    if not isinstance(value, (str, dict)):
+        return str(value)
+    text = FORMULA.sub(r"\1\2'", cell(value))
+    return f'"{text.replace(chr(34), 2 * chr(34))}"' if set(text) & set(',;"') else text
 
 
-def write_csv(path: str, rows: Sequence[Row]) -> None:
-    """Rows as a CSV file."""
-    with open(path, "w", encoding="utf-8", newline="") as file:
-        writer = csv.writer(file, lineterminator="\n")
-        writer.writerow(heads(rows))
-        for row in rows:
-            writer.writerow([plain(value) for value in row.values()])
+def csv_text(rows: Sequence[Row]) -> str:
+    """Rows as the text of a CSV file."""
+    lines = [heads(rows), *(row.values() for row in rows)]
+    return "".join(",".join(map(plain, line)) + "\n" for line in lines)
 
 
 def over_time(arrivals: Row) -> list[Row]:
@@ -120,18 +121,16 @@ def over_time(arrivals: Row) -> list[Row]:
     ]
 
 
-def write_all(folder: str, report: Row) -> None:
-    """The tables as CSV files, and all of the report as JSON."""
-    for name in NAMES:
-        write_csv(os.path.join(folder, f"{name}.csv"), report[name])
-    write_csv(os.path.join(folder, "arrivals.csv"), over_time(report["arrivals"]))
+def files_of(report: Row) -> dict[str, str]:
+    """The tables as CSV files, and all of the report as JSON: names and texts."""
+    texts = {f"{name}.csv": csv_text(report[name]) for name in NAMES}
+    texts["arrivals.csv"] = csv_text(over_time(report["arrivals"]))
     if "early_ns" in report:
-        write_csv(os.path.join(folder, "early.csv"), report["early_ns"])
-    write_csv(os.path.join(folder, "troubles.csv"), report["troubles"])
+        texts["early.csv"] = csv_text(report["early_ns"])
+    texts["troubles.csv"] = csv_text(report["troubles"])
     if "where" in report:
-        write_csv(os.path.join(folder, "where.csv"), report["where"])
+        texts["where.csv"] = csv_text(report["where"])
     if report.get("compared"):
-        write_csv(os.path.join(folder, "compared.csv"), report["compared"]["rows"])
-    with open(os.path.join(folder, "report.json"), "w", encoding="utf-8") as file:
-        parts = (f"{json.dumps(name)}: {json.dumps(value)}" for name, value in report.items())
-        file.write("{" + ",\n".join(parts) + "}\n")
+        texts["compared.csv"] = csv_text(report["compared"]["rows"])
+    parts = (f"{json.dumps(name)}: {json.dumps(value)}" for name, value in report.items())
+    return {**texts, "report.json": "{" + ",\n".join(parts) + "}\n"}

@@ -11,7 +11,7 @@ import shutil
 import sys
 import zlib
 from dataclasses import dataclass
-from typing import Iterator, NamedTuple, NoReturn
+from typing import IO, Iterator, NamedTuple, NoReturn
 
 try:
     import tomllib
@@ -19,6 +19,7 @@ except ModuleNotFoundError:  # Python before 3.11: the package python3-tomli
     import tomli as tomllib  # type: ignore[no-redef]
 
 MOST_LINES = 1_000_000
+LONGEST_LINE = 4_200  # bytes, without the line feed
 LATEST = 10**15
 CONSTANT = "03000000"
 HERE = os.path.dirname(os.path.realpath(__file__))
@@ -28,9 +29,38 @@ class Refused(Exception):
     """What a tool can't do, in a line for its user."""
 
 
+def shown(text: str) -> str:
+    """A text as it can be printed in a line: bytes that are no text, and characters that a terminal
+    would obey, as `\\xNN` or the like."""
+    return text if text.isprintable() else "".join(map(shown_one, text))
+
+
+def shown_one(character: str) -> str:
+    """A character as it can be printed."""
+    if character.isprintable():
+        return character
+    if 0xDC80 <= ord(character) <= 0xDCFF:  # in a name it stands for a byte that is no text
+        return f"\\x{ord(character) - 0xDC00:02x}"
+    return character.encode("unicode_escape").decode()
+
+
+def let_go(stream: IO[str] | None) -> None:
+    """Gives up what a stream that failed still has to write: nothing more is said of it."""
+    if stream is not None:
+        os.dup2(os.open(os.devnull, os.O_WRONLY), stream.fileno())
+
+
+def report_fault(tool: str, line: object) -> None:
+    """Writes one line on standard error, if that takes it."""
+    try:
+        print(f"{tool}: {shown(str(line))}", file=sys.stderr)
+    except OSError:
+        let_go(sys.stderr)
+
+
 def leave(tool: str, line: object, status: int = 2) -> NoReturn:
     """Ends the tool with one line on standard error."""
-    print(f"{tool}: {line}", file=sys.stderr)
+    report_fault(tool, line)
     sys.exit(status)
 
 
@@ -100,42 +130,6 @@ class Config:
         return {system.port: system for system in self.systems.values()}
 
 
-def link_of(row: dict, systems: dict[str, System]) -> Link:
-    """A link from its table."""
-    to = tuple(row["to"])
-    return Link(
-        vl=row["vl"],
-        source=row["from"],
-        port=systems[row["from"]].port,
-        to=to,
-        ports=tuple(sorted(systems[name].port for name in to)),
-        bag_ms=row["bag_ms"],
-        lmax=row["lmax"],
-        priority=row["priority"],
-        latency_ns=1000 * row["latency_us"],
-        policing=row["policing"],
-        jitter_ns=1000 * row["jitter_us"],
-        skew_ns=1000 * row["skew_us"],
-    )
-
-
-def read_config(path: str) -> Config:
-    """The tables of a configuration. Whether they are sound is the program's to say (`check`)."""
-    try:
-        with open(path, "rb") as file:
-            tree = tomllib.load(file)
-        systems = {
-            row["name"]: System(row["name"], row["port"], row["id"], row["rate"])
-            for row in tree.get("system", [])
-        }
-        links = {row["vl"]: link_of(row, systems) for row in tree.get("link", [])}
-        return Config(tree["profile"], tree["buffer"], systems, links)
-    except OSError as error:
-        raise Refused(f"{path} can't be read: {error.strerror}") from error
-    except (ValueError, KeyError, TypeError, AttributeError, RecursionError) as error:
-        raise Refused(f"{path} is no configuration; `afdx check {path}` says where") from error
-
-
 class Listed(NamedTuple):
     """A line of a frame list: its number, its five fields."""
 
@@ -174,8 +168,12 @@ def listed_of(number: int, text: str) -> Listed:
 def read_list(path: str) -> Iterator[Listed]:
     """The lines of a frame list, one at a time; empty lines and lines with `#` are passed over."""
     with open(path, encoding="ascii", errors="replace", newline="\n") as file:
-        for number, text in enumerate(file, 1):
-            text = text.rstrip("\n").removesuffix("\r")
+        lines = iter(lambda: file.readline(LONGEST_LINE + 2), "")
+        for number, text in enumerate(lines, 1):
+            text = text.removesuffix("\n")
+            if len(text) > LONGEST_LINE:
+                raise Refused(f"line {number} has more than {LONGEST_LINE:,} bytes")
+            text = text.removesuffix("\r")
             if text and not text.startswith("#"):
                 yield listed_of(number, text)
 

@@ -6,7 +6,7 @@ import datetime
 from typing import Iterator
 
 from afdx_counting import Counting
-from afdx_reading import BILLION, Recording
+from afdx_recorded import BILLION, Recording
 from afdx_running import Source
 from afdx_tables import Row
 

@@ -1,19 +1,27 @@
-"""What afdx-icd, afdx-report and afdx-campaign share: their words, their faults, their progress."""
+"""What the tools share: their words, their faults, their ends, their progress."""
 from __future__ import annotations
 
 import argparse
 import contextlib
 import os
 import shutil
+import signal
 import stat
 import sys
 import tempfile
 import time
-from typing import IO, Callable, Iterator, NoReturn
+import traceback
+from typing import IO, Callable, Iterator, NoReturn, Sequence
 
-from afdx_tools import Refused, leave
+from afdx_explaining import explain
+from afdx_tools import Refused, leave, let_go, report_fault, shown
 
 WAIT = 2.0  # seconds after which progress is told
+FAULTY = 70  # the status where a tool has a fault of its own
+STOPPING = {"SIGSTOP", "SIGTSTP", "SIGTTIN", "SIGTTOU", "SIGCONT"}
+PASSED_OVER = {"SIGCHLD", "SIGURG", "SIGWINCH"}  # they end no program
+SUDDEN = {"SIGKILL", "SIGABRT", "SIGBUS", "SIGFPE", "SIGILL", "SIGSEGV", "SIGSYS", "SIGTRAP"}
+UNHEEDED = {signal.Signals[name] for name in STOPPING | PASSED_OVER | SUDDEN}
 
 
 class Parser(argparse.ArgumentParser):
@@ -35,35 +43,33 @@ def whole(least: int, most: int) -> Callable[[str], int]:
     return number
 
 
-def shown(name: str) -> str:
-    """A name as it can be printed: bytes that are no text, and control characters, as `\\xNN`."""
-    text = os.fsencode(name).decode("utf-8", "backslashreplace")
-    return "".join(c if c.isprintable() else c.encode("unicode_escape").decode() for c in text)
-
-
 def as_file(path: str) -> str:
     """A path as a word that no program takes for an option."""
     return os.path.join(".", path) if path.startswith("-") else path
 
 
 @contextlib.contextmanager
-def at_hand(path: str, name: str) -> Iterator[str]:
-    """A file that can be read more than once, under a name that the program takes: `-` is standard
-    input; a copy where it is a pipe, a link where its name isn't UTF-8."""
-    regular = path != "-" and stat.S_ISREG(os.stat(path).st_mode)
+def at_hand(path: str) -> Iterator[str]:
+    """A file that can be read more than once, under a name that the program takes. `-` is standard
+    input. What is no file is copied into one that has no name in any folder; so no copy stays,
+    whatever ends the tool."""
     if path != "-" and os.path.isdir(path):
         raise Refused(f"{shown(path)} is a folder")
-    if regular and path.isprintable():
+    if path == "-" or not stat.S_ISREG(os.stat(path).st_mode):
+        with tempfile.TemporaryFile() as copy, source_of(path) as file:
+            shutil.copyfileobj(file, copy)
+            copy.flush()
+            yield open_name(copy)
+    elif path.isprintable():
         yield as_file(path)
-        return
-    with tempfile.TemporaryDirectory() as folder:
-        near = os.path.join(folder, name)
-        if regular:
-            os.symlink(os.path.abspath(path), near)
-        else:
-            with open(near, "wb") as copy, source_of(path) as file:
-                shutil.copyfileobj(file, copy)
-        yield near
+    else:
+        with open(path, "rb") as file:
+            yield open_name(file)
+
+
+def open_name(file: IO[bytes]) -> str:
+    """The name by which other programs find a file that this one has open."""
+    return f"/proc/{os.getpid()}/fd/{file.fileno()}"
 
 
 def source_of(path: str) -> IO[bytes]:
@@ -99,11 +105,13 @@ class Progress:
 
 
 class Failed(Exception):
-    """The program ended with a fault before there was anything to report."""
+    """The program ended with a fault before there was anything to report. `again` are words of the
+    program that end with this fault at once, if there are such."""
 
-    def __init__(self, line: str, status: int) -> None:
+    def __init__(self, line: str, status: int, again: Sequence[str] = ()) -> None:
         super().__init__(line)
         self.status = status
+        self.again = again
 
 
 def streams() -> bool:
@@ -125,30 +133,74 @@ def streams() -> bool:
     return True
 
 
+class Ended(SystemExit):
+    """A signal ended the tool."""
+
+
+def heed_signals() -> None:
+    """Lets each signal that would end the tool at once end it so that nothing temporary is left.
+    One that is ignored stays ignored."""
+    for number in signal.valid_signals() - UNHEEDED:
+        if signal.getsignal(number) == signal.SIG_DFL:
+            signal.signal(number, end_by)
+
+
+def end_by(number: int, frame: object) -> NoReturn:
+    """Ends the tool with the status that shells give a signal."""
+    raise Ended(128 + number)
+
+
+def flush(status: int) -> int:
+    """The status of a tool whose output is written. If it can't be, that is a fault, unless the
+    tool has had another one."""
+    try:
+        if sys.stdout is not None:
+            sys.stdout.flush()
+    except OSError:
+        let_go(sys.stdout)
+        if not status:
+            raise
+    return status
+
+
 def end_of(tool: str, error: BaseException, stopped: str) -> NoReturn:
     """The last line and the status for an exception."""
+    flush(FAULTY)
     if isinstance(error, Failed):
-        leave(tool, error, error.status)
+        report_fault(tool, error)
+        explain(str(error), error.again)
+        sys.exit(error.status)
     if isinstance(error, Refused):
-        leave(tool, shown(str(error)))
+        leave(tool, error)
     if isinstance(error, KeyboardInterrupt):
         leave(tool, stopped, 130)
     if isinstance(error, MemoryError):
         leave(tool, "memory", 4)
-    assert isinstance(error, OSError)
+    if not isinstance(error, OSError):
+        at = traceback.extract_tb(error.__traceback__)[-1]
+        place = f"{os.path.basename(at.filename)} line {at.lineno}"
+        leave(tool, f"a fault of this tool: {type(error).__name__} in {place}: {error}", FAULTY)
     if error.filename is None:  # no file was named: it was a stream
-        os.dup2(os.open(os.devnull, os.O_WRONLY), 1)
         leave(tool, f"device Write: {error.strerror}", 4)
-    leave(tool, f"{shown(os.fsdecode(error.filename))}: {error.strerror}", 4)
+    leave(tool, f"{os.fsdecode(error.filename)}: {error.strerror}", 4)
 
 
-def guarded(tool: str, work: Callable[[], int], stopped: str = "stopped") -> NoReturn:
-    """Runs a tool: its status, or one line on standard error, and never more than that."""
-    if not streams():
+def guarded(
+    tool: str, work: Callable[[], int], stopped: str = "stopped", wants_output: bool = True
+) -> NoReturn:
+    """Runs a tool: its status, or one line on standard error, and never more than that. Whether it
+    `wants_output`: is it a fault that standard output is closed?"""
+    if not streams() and wants_output:
         leave(tool, "device Write: standard output is closed", 4)
+    heed_signals()
     try:
-        status = work()
-        sys.stdout.flush()
-    except (Failed, Refused, KeyboardInterrupt, MemoryError, OSError) as error:
+        try:
+            status = work()
+        except Ended:
+            let_go(sys.stdout)
+            raise
+        except SystemExit as end:  # help was asked for, or a fault was told
+            status = end.code or 0
+        sys.exit(flush(status))
+    except (Exception, KeyboardInterrupt) as error:
         end_of(tool, error, stopped)
-    sys.exit(status)

@@ -42,7 +42,8 @@ as_in_tshark() { # NAME SIDE RECORDING : where.csv has what tshark says of these
     tshark -r "$3" -T fields -e frame.number -e frame.interface_id -e frame.interface_name \
         -e frame.time_epoch 2>"$work/said" | awk -F '\t' '
             NR == FNR {split($0, words, " "); wanted[words[1]] = 1; next}
-            $1 in wanted {print $1, $2 == "" ? 0 : $2, $3 == "unknown" ? "" : $3, $4}' "$work/got" - >"$work/wanted"
+            $1 in wanted {print $1, $2 == "" ? 0 : $2, $3 == "unknown" ? "" : $3, $4}
+        ' "$work/got" - >"$work/wanted"
     if [[ $(wc -l <"$work/got") -lt 20 ]]; then echo "only $(wc -l <"$work/got") frames"; fi
     same "$work/wanted" "$work/got"
 }

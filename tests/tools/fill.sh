@@ -69,6 +69,60 @@ kept_tests() {
     tell 'and so in rows of one line' "$(is_filled "$file")"
 }
 
+odd_layout_tests() {
+    local file=$work/odd_layout.toml
+    cat >"$file" <<'TOML'
+  profile=0x1# { [ " '
+[[ system ]]   # "name" = '
+"name" = 's1'
+port = 0b1
+'id'=1
+partition = +1
+rate = 100
+[["link"]] # jitter_us = 9
+vl = 1
+from = "s1"
+bag_ms = 2
+lmin = 64
+lmax = 0xC8
+"jitter_us" = 1_000 # us
+priority = """high"""
+policing = '''
+byte'''
+subs = 1
+  to = [ # skew_us = 1, }
+    "\u00732", # ]
+  ]
+[[system]]
+name = "s2"
+port = 2
+id = 2
+partition = 2
+rate = 100
+[[link]]
+vl=2
+from="s2"
+to=["s1"]
+bag_ms=2
+lmin=64
+lmax=100
+jitter_us=0
+priority="low"
+policing="frame"
+subs=1
+skew_us=0x1
+TOML
+    truncate -s -1 "$file" # the last line has no end
+    fill "$file"
+    tell 'a layout as nobody writes it, and tables in several places' "$(
+        is_filled "$file"
+        sed -e '1a\  buffer = 227' -e 's/1_000/58/' -e 's/jitter_us=0$/jitter_us=50/' \
+            -e '/^  \]$/a\  latency_us = 19\n  skew_us = 19' \
+            -e 's/skew_us=0x1/skew_us=10\nlatency_us = 10/' "$file" >"$work/wanted"
+        same "$work/wanted" "$work/filled.toml"
+    )"
+}
+
 place_tests() {
     cp examples/network.toml "$work/own.toml"
     chmod 640 "$work/own.toml"
@@ -120,8 +174,7 @@ left_tests() {
     sed '0,/^lmax = 64/s//lmax = 63/' examples/base.toml >"$file"
     fill "$file"
     tell 'a configuration with a fault' "$(is_left 1 'config OutOfRange link 1 key 6')"
-    sed '/^\[\[port/,$d' examples/base.toml >"$file"
-    printf '[[system]]\nname = "s4"\nport = 4\nid = 4\npartition = 1\nrate = 100\n' >>"$file"
+    sed 's/^latency_us/"latency\\u005fus"/' examples/base.toml >"$file"
     fill "$file"
     tell "a layout that can't be kept" "$(
         is_left 2 "this layout can't be kept; \`afdx solve\` writes one of its own"
@@ -138,10 +191,9 @@ if [[ -z $built ]]; then
     skip 'afdx-fill' "there is no program $program"
 elif ! "$program" solve --help >/dev/null 2>&1; then
     skip 'afdx-fill' 'the program has no command solve'
-elif ! "$python" -c 'import tomlkit' 2>"$work/err"; then
-    skip 'afdx-fill' 'there is no package tomlkit (apt-get install python3-tomlkit)'
 else
     kept_tests
+    odd_layout_tests
     place_tests
     option_tests
     left_tests

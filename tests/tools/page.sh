@@ -51,13 +51,32 @@ paper_test() {
     )"
 }
 
-found_rows() { # WORDS : what the page says of them in its search field
+with_script() { # PAGE SCRIPT : a page with another script too
+    sed "s|</body>|<script>$2</script></body>|" "$1"
+}
+
+without_policy() { # a page that any script may run in
+    sed 's|<meta http-equiv[^>]*>||'
+}
+
+find_on_page() { # WORDS FILTER : types words into the search field of a page that a filter wrote
     local typed="const field = document.getElementById(\"find\"); field.value = \"$1\";"
     typed+='field.dispatchEvent(new Event("input"))'
-    sed "s|</body>|<script>$typed</script></body>|" "$work/timelines/report.html" \
-        >"$work/find.html"
+    with_script "$work/timelines/report.html" "$typed" | "$2" >"$work/find.html"
     launch chromium --headless --no-sandbox --disable-gpu --virtual-time-budget=3000 --dump-dom \
         "file://$work/find.html"
+}
+
+policy_test() {
+    find_on_page 501 cat
+    tell 'a page runs its own script, and no other' "$(
+        if ! grep -q '<p class="find">' "$work/out"; then echo 'no field is shown'; fi
+        grep -oE 'id="found"[^>]*>[^<]*rows' "$work/out"
+    )"
+}
+
+found_rows() { # WORDS : what the page says of them in its search field
+    find_on_page "$1" without_policy
     grep -oE 'id="found"[^>]*>[^<]*' "$work/out" | grep -oE '[0-9]+ rows'
 }
 
@@ -85,7 +104,7 @@ narrow_test() { # a copy is late, and it is said within 400 pixels
     script+='const late = all.filter(one => one.textContent.includes("LATE"));'
     script+='const seen = late.filter(one => one.getBoundingClientRect().right <= 400);'
     script+='document.title = "in sight: " + seen.map(one => one.tagName).join(" ")'
-    sed "s|</body>|<script>$script</script></body>|" "$work/late/report.html" >"$work/narrow.html"
+    with_script "$work/late/report.html" "$script" | without_policy >"$work/narrow.html"
     launch chromium --headless --no-sandbox --disable-gpu --dump-dom "file://$work/narrow.html"
     tell 'LATE is in sight at 400 pixels: in the head, the picture and the tables' "$(
         wants_text "$(grep -oE 'in sight: [A-Za-z ]+' "$work/out" | head -n 1)" \
@@ -97,6 +116,7 @@ if [[ -n $reporting ]]; then
     parts_tests
     if has chromium && has pdftotext; then
         paper_test
+        policy_test
         find_tests
         narrow_test
     else

@@ -20,7 +20,8 @@ sys.dont_write_bytecode = True
 TOP = os.path.join(os.path.dirname(os.path.realpath(__file__)), "..", "..")
 sys.path[:0] = [os.path.join(TOP, "tools"), os.path.join(TOP, "examples")]
 from frame_builder import AROUND, frame_of  # noqa: E402
-from afdx_tools import Config, Link, read_config  # noqa: E402
+from afdx_reading import config_of  # noqa: E402
+from afdx_tools import Config, Link, tomllib  # noqa: E402
 
 MS = 1_000_000
 
@@ -109,7 +110,9 @@ def main() -> None:
     parser.add_argument("--seed", type=int, default=1)
     parser.add_argument("--sound", action="store_true")
     args = parser.parse_args()
-    for _, _, line in sorted(lines_of(read_config(args.config), args)):
+    with open(args.config, "rb") as file:
+        config = config_of(tomllib.load(file), args.config)
+    for _, _, line in sorted(lines_of(config, args)):
         print(line)
 
 

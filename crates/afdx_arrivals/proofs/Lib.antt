@@ -25,7 +25,6 @@ pub mod LawLemmas
 pub mod OrderLemmas
 pub mod OverLemmas
 pub mod PairAnswerLemmas
-pub mod OverTwoLemmas
 pub mod InputLemmas
 pub mod InputSaysLemmas
 pub mod LookLemmas

@@ -1,9 +1,9 @@
 -- A run over an input whose first bytes are looked at: what was looked at still comes, and where the
 -- look failed nothing was read.
-use Rattle.std.proofs.Common.{◌≡◌, ◌≤◌, ◌+◌, ◌∙◌, ◌⊎◌, ℕ, List, [], length, Bool, true, false, refl, sym, ap, subst, arith}
-use Rattle.std.proofs.Common.{Option, Some, None, Ok, Err, IfSome, take}
+use Rattle.std.proofs.Common.{◌≡◌, ◌≤◌, ◌+◌, ℕ, List, [], length, Bool, true, false, refl, sym, ap, subst, arith}
+use Rattle.std.proofs.Common.{Option, Some, None, Err, IfSome, take}
 use Rattle.std.proofs.KnownBytes.{Consumes-nil}
-use Rattle.std.specs.Io.KnownBytes.{Consumes, Keeps}
+use Rattle.std.specs.Io.KnownBytes.{Keeps}
 use Rattle.afdx_lists.specs.FrameLines.{listed_frame}
 use Rattle.afdx_lists.specs.Lines.{GaveWhole, lines_of, whole_lines_of}
 use Rattle.afdx_lists.specs.Peeking.{looked_at}
@@ -13,7 +13,7 @@ use Rattle.afdx_recordings.specs.Reading.{opening, recorded_from}
 use Rattle.afdx_run.specs.Engine.{Item}
 use Rattle.afdx_run.specs.Items.{thing_of}
 use Rattle.afdx_run.specs.Listed.{frames}
-use Rattle.afdx_run.specs.ListRun.{ListAnswers, Of}
+use Rattle.afdx_run.specs.ListRun.{ListAnswers}
 use Rattle.afdx_run.specs.Lists.{items_of}
 use Rattle.afdx_arrivals.specs.declared.becoming.RecordingOptions.{RecordingOptions}
 use Rattle.afdx_arrivals.specs.Becoming.{Options}
@@ -23,7 +23,7 @@ use Rattle.afdx_arrivals.specs.NumberLines.{arrivals_listed}
 use Rattle.afdx_arrivals.specs.Ordering.{forward, handed_on}
 use Rattle.afdx_arrivals.specs.RecordingRun.{IsAskedOnce, RecordingAnswers}
 use Rattle.afdx_arrivals.specs.Sequences.{read_of_items}
-use Rattle.afdx_arrivals.specs.Taking.{AreCutOff, late_of_one, sequence_of_bytes}
+use Rattle.afdx_arrivals.specs.Taking.{late_of_one, sequence_of_bytes}
 use Rattle.afdx_arrivals.specs.Timing.{timed}
 
 -- ---- what was looked at still comes

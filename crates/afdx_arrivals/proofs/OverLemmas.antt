@@ -1,69 +1,79 @@
--- What a run over lines answers, by what is known of their source.
-use Rattle.std.proofs.Common.{◌≡◌, List, Option, Some, None, Result, Ok, Err, IfSome, Bool, false, refl, sym, ◌∙◌, subst}
-use Rattle.afdx_lists.specs.Calls.{is_read}
+-- What a run over recordings answers, by what is known of their source.
+use Rattle.std.proofs.Common.{◌≡◌, List, inl, inr, Option, Some, None, Result, Ok, Err, IfSome, refl, ap, sym, subst, ◌∙◌}
 use Rattle.afdx_lists.specs.declared.fault.RunFault.{RunFault}
-use Rattle.afdx_run.specs.Engine.{Runs}
+use Rattle.afdx_lists.specs.declared.frame_line.Heading.{Heading}
+use Rattle.afdx_run.specs.Engine.{Item, Runs}
+use Rattle.afdx_text.specs.Sinks.{IsOfOutput}
 use Rattle.afdx_arrivals.specs.declared.counts.Tally.{Tally}
 use Rattle.afdx_arrivals.specs.ListText.{lines_themselves}
-use Rattle.afdx_arrivals.specs.NumberLines.{Lines}
-use Rattle.afdx_arrivals.specs.Over.{AreFirstLines, AreAllLines, StopsBehindLines}
+use Rattle.afdx_arrivals.specs.NumberLines.{AreItems, CanBePeeled, Lines, arrivals_listed}
+use Rattle.afdx_arrivals.specs.Over.{AreAllLines, AreFirstLines, StopsBehindLines, Takes}
 use Rattle.afdx_arrivals.specs.Taking.{Taken}
 use Rattle.afdx_arrivals.specs.TakenRun.{TakenAnswers}
-use Rattle.afdx_arrivals.proofs.RecordingRunLemmas.{not_read}
-use Rattle.afdx_arrivals.proofs.TakenLemmas.{handed-err, handed-ok, hands-err, hands-ok, lines-handed, lines-peeled}
+use Rattle.afdx_arrivals.proofs.TakenLemmas.{hands-err, hands-ok}
 
 if-some : {B : Type 0} (known : Option B) (P : B → Type 0) → ((bytes : B) → known ≡ Some bytes → P bytes) → IfSome known P
 if-some None P f = tt
 if-some (Some bytes) P f = f bytes refl
 
-module _ (gave ended : Lines → Type 0) (stopped : Lines → RunFault → Type 0) (done told begins : Lines → Type 0) where
-  abbrev pub HandsTo : Result (Unit {0}) RunFault → Type 0
+module _ {H : Type 0} (gave ended : List (Item H) → Type 0) (stopped : List (Item H) → RunFault → Type 0)
+    (done told begins : List (Item H) → Type 0) where
+  abbrev HandsTo : Result (Unit {0}) RunFault → Type 0
   HandsTo r = Runs gave ended done told begins stopped r
 
-  pub over-read : (failed : Bool) (fault : RunFault) → ((lines : Lines) → gave lines → failed ≡ false)
-      → ((lines : Lines) → ended lines → failed ≡ false)
-      → ((lines : Lines) → stopped lines fault → failed ≡ is_read fault) → HandsTo (Err fault)
-      → failed ≡ is_read fault
-  over-read failed fault f g h hands =
-      handed-err lines_themselves done told begins gave ended stopped (failed ≡ is_read fault) fault h
-      (λ is lines k. f lines k ∙ sym (not_read fault is)) (λ is lines k. g lines k ∙ sym (not_read fault is))
-      (lines-handed done told begins gave ended stopped {A = Unit {0}} (Err fault) hands)
+  -- what holds in each case of a fault
+  pub over-err : (P : Type 0) (fault : RunFault) → ((past : List (Item H)) → stopped past fault → P)
+      → (IsOfOutput fault → (past : List (Item H)) → gave past → P)
+      → (IsOfOutput fault → (past : List (Item H)) → ended past → P) → HandsTo (Err fault) → P
+  over-err P fault f g h (past, inl (s, t)) = f past s
+  over-err P fault f g h (past, inr (is, inl a, b)) = g is past a
+  over-err P fault f g h (past, inr (is, inr a, b)) = h is past a
 
-  pub over-ok : (P : Type 0) → ((lines : Lines) → ended lines → P) → HandsTo (Ok tt) → P
-  over-ok P f hands =
-      handed-ok lines_themselves done told begins gave ended stopped P f
-      (lines-handed done told begins gave ended stopped {A = Unit {0}} (Ok tt) hands)
-
-  module _ {W B : Type 0} (known : Option B) (whole : W → B → Taken) (cut : W → B → Lines → Type 0)
-      (IsSet : W → Type 0) (first last : W) (same : last ≡ first) (set : IsSet first) where
+  -- what is answered by the settings that the source has at last, is so by those that it had first
+  module _ (items_of : Lines → List (Item H)) {W B : Type 0} (known : Option B) (whole : W → B → Taken)
+      (cut : W → B → Lines → Type 0) (IsSet : W → Type 0) (first last : W) (same : last ≡ first) (set : IsSet first)
+      (counted : Tally)
+      (takes : (bytes : B) → known ≡ Some bytes → IsSet last
+      → Takes items_of (whole last bytes) (cut last bytes) gave ended stopped counted) where
     abbrev Answered : Result Tally RunFault → W → Type 0
-    Answered r w =
-        IfSome known (λ bytes. TakenAnswers (whole w bytes) (cut w bytes) lines_themselves done told begins r)
+    Answered r w = IfSome known (λ bytes. TakenAnswers (whole w bytes) (cut w bytes) items_of done told begins r)
 
-    set_last : IsSet last
-    set_last = subst IsSet (sym same) set
+    by-first : (r : Result Tally RunFault)
+        → ((bytes : B) → Takes items_of (whole last bytes) (cut last bytes) gave ended stopped counted
+        → TakenAnswers (whole last bytes) (cut last bytes) items_of done told begins r) → Answered r first
+    by-first r f =
+        subst (Answered r) same (if-some known
+        (λ bytes. TakenAnswers (whole last bytes) (cut last bytes) items_of done told begins r)
+        (λ bytes e. f bytes (takes bytes e (subst IsSet (sym same) set))))
 
-    pub over-err : (fault : RunFault)
-        → ((bytes : B) (lines : Lines) → known ≡ Some bytes → IsSet last → gave lines → AreFirstLines (whole last bytes) lines)
-        → ((bytes : B) (lines : Lines) → known ≡ Some bytes → IsSet last → ended lines → AreAllLines (whole last bytes) lines)
-        → ((bytes : B) (lines : Lines) → known ≡ Some bytes → IsSet last → stopped lines fault
-        → StopsBehindLines (whole last bytes) (cut last bytes) lines fault)
-        → HandsTo (Err fault) → Answered (Err fault) first
-    over-err fault f g h hands =
-        subst (Answered (Err fault)) same (if-some known
-        (λ bytes. TakenAnswers (whole last bytes) (cut last bytes) lines_themselves done told begins (Err fault))
-        (λ bytes e. hands-err (whole last bytes) (cut last bytes) lines_themselves done told begins gave ended stopped
-        lines-peeled fault (λ lines k. f bytes lines e set_last k) (λ lines k. g bytes lines e set_last k)
-        (λ lines k. h bytes lines e set_last k)
-        (lines-handed done told begins gave ended stopped {A = Unit {0}} (Err fault) hands)))
+    pub err-answers : CanBePeeled items_of → (fault : RunFault) → HandsTo (Err fault) → Answered (Err fault) first
+    err-answers peel fault hands =
+        by-first (Err fault) (λ bytes t. hands-err (whole last bytes) (cut last bytes) items_of done told begins gave ended
+        stopped counted t peel fault hands)
 
-    pub over-all : (tally : Tally)
-        → ((bytes : B) (lines : Lines) → known ≡ Some bytes → IsSet last → ended lines
-        → AreAllLines (whole last bytes) lines × (tally ≡ (whole last bytes).tally))
-        → HandsTo (Ok tt) → Answered (Ok tally) first
-    over-all tally g hands =
-        subst (Answered (Ok tally)) same (if-some known
-        (λ bytes. TakenAnswers (whole last bytes) (cut last bytes) lines_themselves done told begins (Ok tally))
-        (λ bytes e. hands-ok (whole last bytes) (cut last bytes) lines_themselves done told begins gave ended stopped
-        tally (λ lines k. g bytes lines e set_last k)
-        (lines-handed done told begins gave ended stopped {A = Unit {0}} (Ok tt) hands)))
+    pub ok-answers : (tally : Tally) → tally ≡ counted → HandsTo (Ok tt) → Answered (Ok tally) first
+    ok-answers tally is hands =
+        by-first (Ok tally) (λ bytes t. hands-ok (whole last bytes) (cut last bytes) items_of done told begins gave ended
+        stopped counted t tally is hands)
+
+-- what is taken of lines, is so of their arrivals
+pub arrivals-taken : (whole : Taken) (AreCut : Lines → Type 0) (gave ended : Lines → Type 0)
+    (stopped : Lines → RunFault → Type 0) (counted : Tally)
+    → Takes lines_themselves whole AreCut gave ended stopped counted
+    → Takes arrivals_listed whole AreCut (AreItems arrivals_listed gave) (AreItems arrivals_listed ended)
+    (λ past fault. AreItems arrivals_listed (λ lines. stopped lines fault) past) counted
+arrivals-taken whole AreCut gave ended stopped counted t = record {
+  first = λ past k. of-lines (AreFirstLines whole) past k.lines (t.first k.lines k.known_so) k.items_are;
+  all = λ past k. of-lines (AreAllLines whole) past k.lines (t.all k.lines k.known_so) k.items_are;
+  tally = λ past k. t.tally k.lines k.known_so;
+  stops = λ past fault k. of-lines (λ lines. StopsBehindLines whole AreCut lines fault) past k.lines
+      (t.stops k.lines fault k.known_so) k.items_are;
+}
+  where
+    of-lines : (known : Lines → Type 0) (past : List (Item Heading)) (lines : Lines) → AreItems lines_themselves known lines
+        → past ≡ arrivals_listed lines → AreItems arrivals_listed known past
+    of-lines known past lines k e = record {
+      lines = k.lines;
+      known_so = k.known_so;
+      items_are = e ∙ ap arrivals_listed k.items_are;
+    }

@@ -17,14 +17,28 @@ pub fn one_is_among_others()
     ensures admitted { AdmittedIsServing }
 {}
 
-/// The keys of each part are those of the format, by name and range, each at its number.
-#[tactic(auto, unfolding(crate::specs::Keys::top_keys, crate::specs::Keys::system_keys,
-    crate::specs::Keys::link_keys, crate::specs::Keys::port_keys))]
-pub fn keys_are()
-    ensures top { TheTopKeys }
-    ensures system { TheSystemKeys }
-    ensures link { TheLinkKeys }
-    ensures port { ThePortKeys }
+/// The keys of the top are those of the format, by name and range, each at its number.
+#[tactic(auto, unfolding(crate::specs::Keys::top_keys))]
+pub fn top_keys_are()
+    ensures { TheTopKeys }
+{}
+
+/// The keys of a system are those of the format, by name and range, each at its number.
+#[tactic(auto, unfolding(crate::specs::Keys::system_keys))]
+pub fn system_keys_are()
+    ensures { TheSystemKeys }
+{}
+
+/// The keys of a link are those of the format, by name and range, each at its number.
+#[tactic(auto, unfolding(crate::specs::Keys::link_keys))]
+pub fn link_keys_are()
+    ensures { TheLinkKeys }
+{}
+
+/// The keys of a port entry are those of the format, by name and range, each at its number.
+#[tactic(auto, unfolding(crate::specs::Keys::port_keys))]
+pub fn port_keys_are()
+    ensures { ThePortKeys }
 {}
 
 /// The words of the faults are those of the format.

@@ -8,10 +8,14 @@ pub fn whole_lines_are_first()
     ensures { WholeLinesAreFirst }
 {}
 
-/// The forms of the lines of faults are those of the formats.
-#[tactic(auto, unfolding(crate::specs::FaultForms::run_forms,
-    crate::specs::FaultForms::recording_forms))]
-pub fn forms_are()
-    ensures run { TheRunForms }
-    ensures recording { TheRecordingForms }
+/// The forms of the lines of a run's faults are those of the formats.
+#[tactic(auto, unfolding(crate::specs::FaultForms::run_forms))]
+pub fn run_forms_are()
+    ensures { TheRunForms }
+{}
+
+/// And those of a recording's.
+#[tactic(auto, unfolding(crate::specs::FaultForms::recording_forms))]
+pub fn recording_forms_are()
+    ensures { TheRecordingForms }
 {}

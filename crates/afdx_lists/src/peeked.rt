@@ -119,7 +119,8 @@ impl<R: Read> Watched<Peeked<R>> {
     {
         let asked = self.inner.calls();
         self.failed = self.inner.look();
-        self.calls = self.calls.saturating_add(self.inner.calls().saturating_sub(asked));
+        let reads = self.inner.calls().saturating_sub(asked);
+        self.calls = self.calls.saturating_add(reads);
         self.failed
     }
 

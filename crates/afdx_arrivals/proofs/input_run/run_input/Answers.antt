@@ -1,4 +1,4 @@
-use Rattle.std.proofs.Common.{arith, Bool, List, ℕ}
+use Rattle.std.proofs.Common.{Bool, List, ℕ}
 use Rattle.afdx_lists.specs.Peeking.{held, left_in}
 use Rattle.afdx_arrivals.specs.Becoming.{options_of}
 use Rattle.afdx_arrivals.specs.Claims.{ports_unsaid}

@@ -1,0 +1,169 @@
+# Tests that what the tools write is whole or isn't there, that nothing temporary is left or can be
+# known before, and that no link is followed; a part of tests/run/tools.sh.
+# shellcheck shell=bash
+# shellcheck disable=SC2154  # what it uses is set by tests/run/tools.sh, which sources it
+
+safe=$work/safe
+SIGNALS=(HUP INT QUIT TERM USR1 USR2 ALRM XCPU VTALRM PROF IO PWR RTMIN KILL)
+
+unlisted() { # FOLDER NAME.. : what is in it besides these
+    find "$1" -mindepth 1 -printf '%P\n' | grep -vxF -f <(printf '%s\n' "${@:2}")
+}
+
+# A file system without files that have no name: Python's own start is told of another flag.
+without_unnamed() { # COMMAND..
+    mkdir -p "$work/flags"
+    printf 'import os\nos.O_TMPFILE = os.O_DIRECTORY\n' >"$work/flags/sitecustomize.py"
+    PYTHONPATH=$work/flags "$@"
+}
+
+# ---- signals -------------------------------------------------------------------------------------
+
+begin_endless() { # FIFO : a list that isn't at its end when a signal comes, though it is long
+    mkfifo "$1"
+    { { yes "F 5 A 1 $(frame_of A 1)" | head -n 3000; sleep 3; } >"$1"; } &>/dev/null &
+}
+
+end_endless() { # FIFO : frees what waits for a reader
+    : <>"$1"
+}
+
+ended_by_each_signal() { # WORD.. : before the command
+    local name fifo
+    for name in "${SIGNALS[@]}"; do
+        fifo=$(mktemp -u "$work/endless.XXXXXX")
+        begin_endless "$fifo"
+        launch "$@" timeout -s "$name" 0.9 tools/afdx-capture pcap "$fifo" "$safe/old.pcap"
+        end_endless "$fifo"
+        if [[ $status -eq 0 ]]; then echo "$name: status 0"; fi
+        if [[ $name != INT && -s $work/err ]]; then echo "$name: $(head -n 2 "$work/err")"; fi
+        if [[ $(<"$safe/old.pcap") != old ]]; then echo "$name: the old recording is gone"; fi
+        unlisted "$safe" old.pcap
+    done
+}
+
+signal_tests() {
+    echo old >"$safe/old.pcap"
+    tell 'no signal leaves a part of a file' "$(ended_by_each_signal)"
+    local SIGNALS=("${SIGNALS[@]}")
+    unset 'SIGNALS[-1]' # what SIGKILL ends can't tidy up, if its file has to have a name
+    tell 'nor where a file has to have a name' "$(ended_by_each_signal without_unnamed)"
+    rm "$safe/old.pcap"
+}
+
+copy_tests() { # a list that comes by a pipe is copied for tools that read it twice
+    mkdir "$work/copies"
+    begin_endless "$work/copied"
+    launch env TMPDIR="$work/copies" timeout -s KILL 0.7 tools/afdx-capture annotate \
+        examples/base.toml "$work/copied" "$safe/x.pcapng"
+    end_endless "$work/copied"
+    tell 'no signal leaves a copy of a list' "$(
+        if [[ $status -eq 0 ]]; then echo 'status 0'; fi
+        unlisted "$work/copies"
+    )"
+}
+
+# ---- names that were planted -----------------------------------------------------------------
+
+mode_tests() {
+    printf 'F 0 A 1 %s\n' "$(frame_of A 0)" >"$work/one_line.list"
+    local each
+    for each in '' without_unnamed; do
+        (
+            umask 027
+            # shellcheck disable=SC2086
+            launch $each tools/afdx-capture pcap "$work/one_line.list" "$safe/new.pcap"
+        )
+        tell "a new file is as open to others as the mask says ${each//_/ }" "$(
+            stat -c %a "$safe/new.pcap" | grep -vx 640
+            unlisted "$safe" new.pcap
+        )"
+        rm "$safe/new.pcap"
+    done
+}
+
+# ---- no room -------------------------------------------------------------------------------------
+
+limited() { # KIB COMMAND.. : no file gets longer
+    (
+        ulimit -f "$1"
+        shift
+        launch "$@"
+        echo "$status" >"$work/status"
+    )
+    status=$(<"$work/status")
+}
+
+capture_room_tests() {
+    tests/tools/sample_list.py examples/network.toml --ms 60 >"$work/sample.list"
+    echo old >"$safe/old.pcap"
+    limited 8 tools/afdx-capture pcap "$work/sample.list" "$safe/old.pcap"
+    tell 'a recording for which there is no room' "$(
+        is_fault 4 "$safe/old.pcap: File too large"
+        if [[ $(<"$safe/old.pcap") != old ]]; then echo 'the old recording is gone'; fi
+        unlisted "$safe" old.pcap
+    )"
+    rm "$safe/old.pcap"
+}
+
+report_room_tests() {
+    local folder=$safe/report
+    launch tools/afdx-report examples/base.toml examples/one_link.list --out "$folder"
+    cp -r "$folder" "$safe/before"
+    limited 8 tools/afdx-report examples/network.toml examples/bench.list --out "$folder"
+    tell 'a report for which there is no room leaves the older one as it was' "$(
+        is_status 4
+        if [[ $(wc -l <"$work/err") -ne 1 ]]; then cat "$work/err"; fi
+        says err "$folder/"
+        diff -r "$safe/before" "$folder" 2>&1 | head -n 3
+    )"
+    rm -r "$folder" "$safe/before"
+}
+
+# ---- an older report -------------------------------------------------------------------------
+
+older_report_tests() {
+    local folder=$safe/report
+    launch tools/afdx-report examples/base.toml examples/babbling.list --out "$folder"
+    launch tools/afdx-report examples/base.toml examples/babbling.list --out "$folder" \
+        --compare "$folder/report.json"
+    tell 'a report of over-rate frames, compared' "$(
+        is_status 0
+        for name in early compared; do
+            if [[ ! -s $folder/$name.csv ]]; then echo "no $name.csv"; fi
+        done
+    )"
+    echo mine >"$folder/notes.csv"
+    echo precious >"$safe/precious"
+    rm "$folder/links.csv" "$folder/report.html"
+    ln -s "$safe/precious" "$folder/links.csv"
+    ln -s "$safe/precious" "$folder/report.html"
+    printf 'F 0 A 1 %s\n' "$(frame_of A 0)" >"$work/one_line.list"
+    launch tools/afdx-report examples/base.toml "$work/one_line.list" --out "$folder"
+    tell 'nothing of an older report stays beside a new one, and no link is followed' "$(
+        is_status 0
+        printf '%s\n' {arrivals,clocks,dropped,frames,latency,links,notes,ports}.csv \
+            report.{html,json} {sides,silences,skews,troubles}.csv >"$work/wanted"
+        ls -A "$folder" >"$work/got"
+        same "$work/wanted" "$work/got"
+        find "$folder" ! -type f ! -type d
+        if [[ $(<"$safe/precious") != precious ]]; then echo 'a link was followed'; fi
+    )"
+    rm -r "$folder" "$safe/precious"
+}
+
+mkdir "$safe"
+if [[ -n $dpkt ]]; then
+    signal_tests
+    mode_tests
+    capture_room_tests
+    if [[ -n $built ]]; then copy_tests; fi
+else
+    skip 'recordings that are written' 'there is no package dpkt (apt-get install python3-dpkt)'
+fi
+if [[ -n $reporting ]]; then
+    report_room_tests
+    older_report_tests
+else
+    skip 'reports that are written' "there is no program $program, or no numpy"
+fi
