@@ -66,7 +66,8 @@ def fault_of(report: dict, file: str) -> str | None:
     except Refused:
         return None
     said = "".join([*words_of(pair), as_text(pair["rows"]), csv_text(pair["rows"])])
-    said += "".join(table(rows, head) for head, rows in compared_tables({"compared": pair}).values())
+    for head, rows in compared_tables({"compared": pair}).values():
+        said += table(rows, head)
     odd = {letter for letter in said if not letter.isprintable() and letter != "\n"}
     return f"it writes {odd}" if odd else ""
 
