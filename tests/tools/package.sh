@@ -54,9 +54,9 @@ installed_tests() { # DEB
         dead_links "$root/usr/share/doc/afdx"
     )"
     tell 'GUIDE names the folder in which the package has the examples' "$(
-        grep -o '/usr/share/afdx/examples' "$root/usr/share/doc/afdx/GUIDE.md" >"$work/examples_at" ||
+        grep -o '/usr/share/afdx/examples' "$root/usr/share/doc/afdx/GUIDE.md" >"$work/listed" ||
             echo 'it does not'
-        diff -r -x __pycache__ examples "$root$(head -n 1 "$work/examples_at")"
+        diff -r -x __pycache__ examples "$root$(head -n 1 "$work/listed")"
     )"
     if [[ -n $numpy ]]; then
         launch env -u AFDX "$root/usr/bin/afdx-report" examples/base.toml \
