@@ -106,12 +106,14 @@ _afdx() {
 }
 
 _afdx_capture_list() {
-    _afdx_read 2 --config --interface --origin --fcs --reorder --stamps -o --out --split
+    _afdx_read 2 --config --interface --taps --origin --fcs --reorder --stamps -o --out --split
     if _afdx_is_option; then
-        _afdx_words --config --interface --origin --fcs --reorder --stamps --out --split --help
+        _afdx_words --config --interface --taps --origin --fcs --reorder --stamps --out --split \
+            --help
         return
     fi
     case $before in
+        --taps) _afdx_files csv ;;
         '') if ((${#given[@]} < 2)); then _afdx_recordings; fi ;;
         --config) _afdx_files toml ;;
         --fcs) _afdx_words yes no ;;
@@ -157,14 +159,19 @@ _afdx_capture() {
     fi
 }
 
+_afdx_criteria() {
+    _afdx_words silent contradicted clock twice late full-buffer too-old dropped unequal missing \
+        refused skew jitter first-number recorder-lost left-out unused claimed lost
+}
+
 _afdx_report() {
     local given before
     COMPREPLY=()
     _afdx_read 1 --out --link --from --rows --worst --compare --title --fail-on --junit \
-        --interface --fcs --origin --reorder --stamps
+        --interface --taps --fcs --origin --reorder --stamps
     if _afdx_is_option; then
         _afdx_words --out --no-admission --link --from --rows --worst --compare --title --json \
-            --interface --fcs --origin --reorder --stamps --fail-on --junit --help --version
+            --interface --taps --fcs --origin --reorder --stamps --fail-on --junit --help --version
         return
     fi
     case $before.${#given[@]} in
@@ -175,7 +182,8 @@ _afdx_report() {
         --stamps.*) _afdx_words end start ;;
         --out.*) _afdx_folders ;;
         --compare.*) _afdx_files json ;;
-        --fail-on.*) _afdx_words dropped lost late too-old refused ;;
+        --taps.*) _afdx_files csv ;;
+        --fail-on.*) _afdx_criteria ;;
         --junit.*) _afdx_files xml ;;
     esac
 }
@@ -183,16 +191,17 @@ _afdx_report() {
 _afdx_campaign() {
     local given before
     COMPREPLY=()
-    _afdx_read 1 --out -j --jobs -S --sshlogin --fail-on --junit --interface --fcs --origin \
-        --reorder --stamps
+    _afdx_read 1 --out -j --jobs -S --sshlogin --fail-on --junit --interface --taps --fcs \
+        --origin --reorder --stamps
     if _afdx_is_option; then
         _afdx_words --out --no-admission --pages --jobs --resume --sshlogin --transfer \
-            --interface --fcs --origin --reorder --stamps --fail-on --junit --help --version
+            --interface --taps --fcs --origin --reorder --stamps --fail-on --junit --help --version
         return
     fi
     case $before.${#given[@]} in
-        --fail-on.*) _afdx_words dropped lost late too-old refused ;;
+        --fail-on.*) _afdx_criteria ;;
         --junit.*) _afdx_files xml ;;
+        --taps.*) _afdx_files csv ;;
         --fcs.*) _afdx_words yes no ;;
         --stamps.*) _afdx_words end start ;;
         .0) _afdx_files toml ;;
@@ -204,15 +213,47 @@ _afdx_campaign() {
 _afdx_icd() {
     local given before
     COMPREPLY=()
-    _afdx_read 1 --profile
+    _afdx_read 1 --profile --reserve --since
     if _afdx_is_option; then
-        _afdx_words --profile --raise --help --version
+        _afdx_words --profile --fill --raise --reserve --since --help --version
         return
     fi
     case $before.${#given[@]} in
         --profile.*) _afdx_words 1 2 ;;
+        --since.*) _afdx_files toml ;;
         .0 | .1) _afdx_files csv ;;
         .2) _afdx_files toml ;;
+    esac
+}
+
+_afdx_traffic() {
+    local given before
+    COMPREPLY=()
+    _afdx_read 1 --profile --seconds --seed --config
+    if _afdx_is_option; then
+        _afdx_words --profile --fill --seconds --seed --config --help --version
+        return
+    fi
+    case $before.${#given[@]} in
+        --profile.*) _afdx_words 1 2 ;;
+        --config.*) _afdx_files toml ;;
+        .0 | .1) _afdx_files csv ;;
+        .2) _afdx_folders ;;
+    esac
+}
+
+_afdx_taps() {
+    local given before
+    COMPREPLY=()
+    _afdx_read 1
+    if _afdx_is_option; then
+        _afdx_words --anyway --help --version
+        return
+    fi
+    case ${#given[@]} in
+        0) _afdx_files toml ;;
+        1) _afdx_files csv ;;
+        2 | 3) _afdx_recordings ;;
     esac
 }
 
@@ -236,3 +277,5 @@ complete -F _afdx_report afdx-report
 complete -F _afdx_campaign afdx-campaign
 complete -F _afdx_icd afdx-icd
 complete -F _afdx_fill afdx-fill
+complete -F _afdx_traffic afdx-traffic
+complete -F _afdx_taps afdx-taps

@@ -109,6 +109,7 @@ complete -c $tool -n '__afdx_at - 0 0' -a pcap -d 'A frame list to a recording'
 complete -c $tool -n '__afdx_at - 0 0' -a annotate -d 'A replay beside its frames'
 complete -c $tool -n '__afdx_in list' -x -l config -a '(__afdx_files toml)' -d 'Tells switch ports'
 complete -c $tool -n '__afdx_in list' -x -l interface -d 'Where an interface was plugged in'
+complete -c $tool -n '__afdx_in list' -x -l taps -a '(__afdx_files csv)' -d 'A table of taps'
 complete -c $tool -n '__afdx_in list pcap annotate' -x -l origin -d 'ns since 1970 of time 0'
 complete -c $tool -n '__afdx_in list' -x -l fcs -a 'yes no' -d 'Are there check sequences?'
 complete -c $tool -n '__afdx_in list' -x -l reorder -d 'How many in front may be later'
@@ -133,9 +134,11 @@ for tool in afdx-report afdx-campaign
     complete -c $tool -l version -d 'Print the version and leave'
     complete -c $tool -l no-admission -d 'Also where the network is refused'
     complete -c $tool -x -l fail-on -d 'Status 6 where one of these is not 0' \
-        -a 'dropped lost late too-old refused'
+        -a 'silent contradicted clock twice late full-buffer too-old dropped unequal missing
+            refused skew jitter first-number recorder-lost left-out unused claimed lost'
     complete -c $tool -r -l junit -d 'Write each criterion as a JUnit test case'
     complete -c $tool -x -l interface -d 'Where an interface was plugged in'
+    complete -c $tool -x -l taps -a '(__afdx_files csv)' -d 'A table of taps'
     complete -c $tool -x -l fcs -a 'yes no' -d 'Are there check sequences?'
     complete -c $tool -x -l origin -d 'ns since 1970 of time 0'
     complete -c $tool -x -l reorder -d 'How many in front may be later'
@@ -159,16 +162,37 @@ complete -c afdx-campaign -l resume -d 'Only the lists that have not been run'
 complete -c afdx-campaign -x -s S -l sshlogin -d 'Run on this machine too'
 complete -c afdx-campaign -l transfer -d 'Copy lists and configuration there first'
 
-# ---- afdx-icd, afdx-fill -------------------------------------------------------------------------
+# ---- afdx-icd, afdx-traffic, afdx-taps, afdx-fill ------------------------------------------------
 
-set -ga __afdx_valued --profile --keep
+set -ga __afdx_valued --profile --keep --reserve --since --seconds --seed \
+    --taps
 complete -c afdx-icd -f
 complete -c afdx-icd -l help -d 'Print help and leave'
 complete -c afdx-icd -l version -d 'Print the version and leave'
 complete -c afdx-icd -x -l profile -a '1 2' -d 'Which rules its switches keep'
 complete -c afdx-icd -l raise -d 'Also where messages are late'
+complete -c afdx-icd -l fill -d 'An empty cell has the value of the one above'
+complete -c afdx-icd -x -l reserve -d 'Percent of room beyond what is needed'
+complete -c afdx-icd -x -l since -a '(__afdx_files toml)' -d 'Say what changed since this one'
 complete -c afdx-icd -n '__afdx_at - 0 1' -a '(__afdx_files csv)'
 complete -c afdx-icd -n '__afdx_at - 2 2' -a '(__afdx_files toml)'
+complete -c afdx-traffic -f
+complete -c afdx-traffic -l help -d 'Print help and leave'
+complete -c afdx-traffic -l version -d 'Print the version and leave'
+complete -c afdx-traffic -x -l profile -a '1 2' -d 'Which rules its switches keep'
+complete -c afdx-traffic -l fill -d 'An empty cell has the value of the one above'
+complete -c afdx-traffic -x -l seconds -d 'For how long'
+complete -c afdx-traffic -x -l seed -d 'Which chance begins the messages'
+complete -c afdx-traffic -x -l config -a '(__afdx_files toml)' -d 'Write frames too'
+complete -c afdx-traffic -n '__afdx_at - 0 1' -a '(__afdx_files csv)'
+complete -c afdx-traffic -n '__afdx_at - 2 2' -a '(__fish_complete_directories)'
+complete -c afdx-taps -f
+complete -c afdx-taps -l help -d 'Print help and leave'
+complete -c afdx-taps -l version -d 'Print the version and leave'
+complete -c afdx-taps -l anyway -d 'Print the words also where they do not agree'
+complete -c afdx-taps -n '__afdx_at - 0 0' -a '(__afdx_files toml)'
+complete -c afdx-taps -n '__afdx_at - 1 1' -a '(__afdx_files csv)'
+complete -c afdx-taps -n '__afdx_at - 2 3' -a '(__afdx_files pcap pcapng)'
 complete -c afdx-fill -f
 complete -c afdx-fill -l help -d 'Print help and leave'
 complete -c afdx-fill -l version -d 'Print the version and leave'

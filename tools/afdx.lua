@@ -14,7 +14,7 @@ local fields = {
     system = ProtoField.uint16("afdx.system", "Number of the sending system"),
     partition = ProtoField.uint8("afdx.partition", "Partition"),
     seq = ProtoField.uint8("afdx.seq", "Sequence number"),
-    step = ProtoField.uint16("afdx.step", "Steps since the link's number before on this network"),
+    step = ProtoField.int16("afdx.step", "Steps since the link's number before on this network"),
     gap = ProtoField.double("afdx.gap_ms", "Gap to the link's frame before on this network, in ms"),
 }
 afdx.fields = {
@@ -23,6 +23,8 @@ afdx.fields = {
 
 local experts = {
     missing = ProtoExpert.new("afdx.missing", "Sequence numbers are missing",
+        expert.group.SEQUENCE, expert.severity.WARN),
+    back = ProtoExpert.new("afdx.back", "The sequence number goes back",
         expert.group.SEQUENCE, expert.severity.WARN),
     repeated = ProtoExpert.new("afdx.repeated", "The sequence number before comes again",
         expert.group.SEQUENCE, expert.severity.WARN),
@@ -36,7 +38,8 @@ local experts = {
         expert.group.UNDECODED, expert.severity.WARN),
 }
 afdx.experts = {
-    experts.missing, experts.repeated, experts.reset, experts.no_side, experts.short, experts.cut,
+    experts.missing, experts.back, experts.repeated, experts.reset, experts.no_side, experts.short,
+    experts.cut,
 }
 
 local AUTO, YES, NO = 0, 1, 2
@@ -48,6 +51,7 @@ local CONSTANT = "\3\0\0\0"    -- a destination address of a virtual link begins
 local SIDES = { [0x20] = "A", [0x40] = "B" }
 local LOOKED_AT = 10           -- frames in which check sequences are looked for
 local SHORTEST = 60            -- bytes of the shortest frame without its check sequence
+local MOST_STEPS = 127         -- forward from one number to another
 local LONGEST = 1518           -- bytes of the longest frame with it; what is longer is no AFDX
 
 -- Of each link on each network: true once a right check sequence was found, frames whose check
@@ -127,10 +131,13 @@ end
 
 -- ---- what came before on a link --------------------------------------------------------------
 
--- Steps from one number of a link to a later one: 0, 1, .. 255, 1, ..; none leads to 0.
+-- Steps from one number of a link to a later one: 0, 1, .. 255, 1, ..; none leads to 0. What would
+-- be more than half of the round is a way back, below 0.
 local function steps_between(before, seq)
     if seq == 0 then return nil end
-    return before == 0 and seq or (seq - before) % 255
+    local steps, round = (seq - before) % 255, 255
+    if before == 0 then steps, round = seq, 256 end
+    return steps > MOST_STEPS and steps - round or steps
 end
 
 -- Notes a frame that is seen for the first time. Frames are first seen in the file's order.
@@ -164,6 +171,8 @@ local function add_history(tree, number)
             item:add_proto_expert_info(experts.repeated)
         elseif step > 1 then
             item:add_proto_expert_info(experts.missing, (step - 1) .. " sequence numbers missing")
+        elseif step < 0 then
+            item:add_proto_expert_info(experts.back, "The sequence number goes back by " .. -step)
         end
     elseif begins[number] then
         tree:add_proto_expert_info(experts.reset)
@@ -222,3 +231,19 @@ function afdx.dissector(tvb, pinfo, root)
 end
 
 register_postdissector(afdx)
+
+-- ---- what follows a datagram ----------------------------------------------------------------
+
+-- Padding of zeros with the sequence number after it is taken for a trailer of an AFDX frame. Else
+-- Wireshark notes at each short frame that its padding isn't zero, and takes the end of a frame
+-- whose recording doesn't say otherwise for a check sequence.
+local FIRST, LAST = Address.ether("03:00:00:00:00:00"), Address.ether("03:00:00:00:ff:ff")
+local ZEROS = ("\0"):rep(1518)
+
+local function is_padding(tvb, pinfo)
+    local to, zeros = pinfo.dl_dst, tvb:len() - 1
+    if to < FIRST or to > LAST or zeros > #ZEROS then return false end
+    return zeros == 0 or tvb:raw(0, zeros) == ZEROS:sub(1, zeros)
+end
+
+afdx:register_heuristic("eth.trailer", is_padding)

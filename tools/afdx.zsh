@@ -1,4 +1,4 @@
-#compdef afdx afdx-capture afdx-report afdx-campaign afdx-icd afdx-fill
+#compdef afdx afdx-capture afdx-report afdx-campaign afdx-icd afdx-fill afdx-traffic afdx-taps
 # Completes the words of `afdx` and of its tools in zsh. `bin/install PREFIX` puts it at
 # PREFIX/share/zsh/site-functions/_afdx; where zsh doesn't look there, put that folder into `fpath`.
 
@@ -21,6 +21,7 @@ local -a recorded=(
     '--origin[the moment of the recording that is time 0, in ns since 1970]:ns:'
     '--reorder[how many arrivals in front of a frame may be later]:number:'
 )
+local taps='--taps[a table of taps in the place of --interface]:table:_files -g "*.csv(-.)"'
 local stamps='--stamps[are stamps those of the last bit or of the first]:end:(end start)'
 
 # The names of the systems of the configuration that was given: byte by byte, so that no other can
@@ -74,7 +75,7 @@ _afdx_capture() {
     local origin='--origin[the time, in ns since 1970, that is 0 in the list]:ns:'
     case $1 in
         list)
-            _arguments $help $recorded $stamps \
+            _arguments $help $recorded $stamps $taps \
                 "--config[the switch port is that of the sender in it]:$config" \
                 "(-o --out --split)"{-o,--out}"[the list]:$list" \
                 '(-o --out)--split[write several lists]:prefix:_files' ":$recording" \
@@ -105,7 +106,7 @@ case $service in
     afdx) _afdx_of_commands _afdx_program check explain list police replay send solve ;;
     afdx-capture) _afdx_of_commands _afdx_capture list pcap annotate ;;
     afdx-report)
-        _arguments $help $version $recorded $stamps \
+        _arguments $help $version $recorded $stamps $taps \
             '--out[the folder for page, CSV and JSON]:folder:_path_files -/' \
             '--no-admission[also where the network is refused]' \
             '--link[the link of the time line]:number:' \
@@ -119,7 +120,7 @@ case $service in
             '--json[print the JSON instead of the text]' ":$config" ":$input" "::$recording"
         ;;
     afdx-campaign)
-        _arguments $help $version $recorded $stamps \
+        _arguments $help $version $recorded $stamps $taps \
             '--out[the folder of the campaign]:folder:_path_files -/' \
             '--no-admission[also where the network is refused]' \
             '--pages[a page for each run too]' {-j,--jobs}'[runs at a time]:number:' \
@@ -131,7 +132,22 @@ case $service in
         ;;
     afdx-icd)
         _arguments $help $version '--profile[which rules its switches keep]:profile:(1 2)' \
-            '--raise[also where messages are late]' ":$table" ":$table" ":$config"
+            '--fill[an empty cell has the value of the one above]' \
+            '--raise[also where messages are late]' \
+            '--reserve[room beyond what is needed]:percent:' \
+            "--since[say what changed since this one]:$config" ":$table" ":$table" ":$config"
+        ;;
+    afdx-traffic)
+        _arguments $help $version '--profile[which rules its switches keep]:profile:(1 2)' \
+            '--fill[an empty cell has the value of the one above]' \
+            '--seconds[for how long]:seconds:' \
+            '--seed[which chance begins the messages]:number:' \
+            "--config[write frames too, as sent on this network]:$config" ":$table" ":$table" \
+            ':folder:_path_files -/'
+        ;;
+    afdx-taps)
+        _arguments $help $version '--anyway[print the words also where they do not agree]' \
+            ":$config" ":$table" ":$recording" "::$recording"
         ;;
     afdx-fill)
         _arguments $help $version \

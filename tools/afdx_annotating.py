@@ -101,4 +101,4 @@ def replayed(
     if status < 0:
         raise Failed(fault or f"signal {-status} ended the program", 128 - status)
     if status:
-        raise Failed(fault or f"the program ended with status {status}", status)
+        raise Failed(fault or f"the program ended with status {status}", status, ["check", config])

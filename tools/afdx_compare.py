@@ -18,12 +18,28 @@ KEYS = {
     "early_ns": ("link", "side"),
 }
 COMPARED = {
-    "links": ("frames", "accepted", "dropped", "lost", "late", "too_old", "delivered", "redundant",
-              "refused"),
-    "latency": ("frames", "median_ns", "p99_ns", "greatest_ns", "late", "bound_ns",
-                "configured_ns"),
-    "sides": ("missing", "least_gap_ns", "jitter_ns", "table_jitter_ns"),
-    "skews": ("at_inputs_ns", "at_receivers_ns", "table_skew_ns"),
+    "links": (
+        "frames",
+        "accepted",
+        "dropped",
+        "full_buffer",
+        "late",
+        "too_old",
+        "delivered",
+        "redundant",
+        "refused",
+    ),
+    "latency": (
+        "frames",
+        "median_ns",
+        "p99_ns",
+        "greatest_ns",
+        "late",
+        "bound_ns",
+        "configured_ns",
+    ),
+    "sides": ("alone", "first_number", "missing", "least_gap_ns", "jitter_ns", "table_jitter_ns"),
+    "skews": ("at_inputs_ns", "at_receivers_ns", "table_skew_ns", "twice"),
     "ports": ("left", "backlog", "bound"),
     "early_ns": ("greatest",),
 }
@@ -115,8 +131,8 @@ def words_of(pair: Row) -> list[str]:
     here, there = len(pair["only_here"]), len(pair["only_there"])
     words = [
         f"Compared with {pair['title'] or pair['file']}: {len(pair['rows'])} numbers differ.",
-        f"Frames that were dropped, lost, late, too old or refused, by link, side, number, time, "
-        f"port and reason: {here} only here, {there} only there.",
+        "Frames that were dropped, late, too old or refused, or met a full buffer, by link, side, "
+        f"number, time, port and reason: {here} only here, {there} only there.",
     ]
     if pair["cut"]:
         words.append(f"Of each run only the first {MOST_TROUBLES:,} such frames were compared.")

@@ -11,20 +11,35 @@ from afdx_words import shown
 
 FAILED = 6  # the status of a run that ended well and failed by a criterion
 CRITERIA = {
-    "dropped": "frames that a switch dropped",
-    "lost": "copies that were lost to a full buffer",
+    "silent": "silences of networks, systems or links",
+    "contradicted": "frames whose own address names the other network",
+    "clock": "senders whose copies show that the clocks are apart",
+    "twice": "messages that were delivered twice",
     "late": "copies that left later than their link's configured latency",
+    "full-buffer": "copies that were lost to a full buffer",
     "too-old": "copies that were dropped for their age",
+    "dropped": "frames that a switch dropped",
+    "unequal": "frames that came on one side alone",
+    "missing": "sequence numbers that were skipped",
     "refused": "copies that a receiver dropped, redundant ones apart",
+    "skew": "links with more skew than SkewMax",
+    "jitter": "links and sides with more jitter than in the table",
+    "first-number": "links and sides whose first number isn't 0",
+    "recorder-lost": "frames that the recorder itself lost",
+    "left-out": "recorded frames that were left out",
+    "unused": "interfaces that were named and that no recording has",
+    "claimed": "frames of which only their own addresses say where they came in",
 }
+LOST = ("full-buffer", "too-old", "missing")  # what `lost` stands for: sent, and gone for good
 
 
 def criteria_of(text: str) -> list[str]:
     """The type of the word of --fail-on: criteria with commas between them."""
-    words = text.split(",")
-    for word in words:
-        if word not in CRITERIA:
-            raise argparse.ArgumentTypeError(f"{word} is none of {', '.join(CRITERIA)}")
+    words: set[str] = set()
+    for word in text.split(","):
+        if word not in CRITERIA and word != "lost":
+            raise argparse.ArgumentTypeError(f"{word} is none of {', '.join(CRITERIA)}, lost")
+        words |= set(LOST) if word == "lost" else {word}
     return [word for word in CRITERIA if word in words]
 
 
@@ -35,24 +50,28 @@ def add_words(parser: argparse.ArgumentParser) -> None:
         type=criteria_of,
         default=[],
         metavar="WORDS",
-        help=f"status {FAILED} where one of these isn't 0, with commas: {', '.join(CRITERIA)}",
+        help=f"status {FAILED} where one of these isn't 0, with commas: {', '.join(CRITERIA)}; "
+        f"lost stands for {', '.join(LOST)}",
     )
     parser.add_argument(
         "--junit", metavar="FILE", help="write the run and each criterion as a JUnit test case"
     )
 
 
-def count_of(totals: Row, word: str) -> int:
-    """The count that a criterion speaks of."""
-    return totals[word.replace("-", "_")]
+def failure_of(totals: Row, word: str) -> str:
+    """The count of a criterion that isn't met, or that the report doesn't have; else nothing."""
+    count = totals.get(word.replace("-", "_"))
+    if count is None:
+        return "no count of"
+    return f"{count}" if count else ""
 
 
 def judged(totals: Row | None, words: Sequence[str]) -> list[str]:
     """The criteria that aren't met, each with its count."""
     if totals is None:
         return []
-    found = [(word, count_of(totals, word)) for word in words]
-    return [f"{count} {word}" for word, count in found if count]
+    found = [(failure_of(totals, word), word) for word in words]
+    return [f"{count} {word}" for count, word in found if count]
 
 
 def status_of(status: int, unmet: Sequence[str]) -> int:
@@ -72,7 +91,7 @@ def suite_of(name: str, fault: str, totals: Row | None, words: Sequence[str]) ->
         case = xml.SubElement(suite, "testcase", classname=shown(name), name=word)
         if totals is None:
             xml.SubElement(case, "skipped", message="the run gave no report")
-        elif count := count_of(totals, word):
+        elif count := failure_of(totals, word):
             failures += 1
             xml.SubElement(case, "failure", message=f"{count} {CRITERIA[word]}")
     suite.set("errors", str(errors))

@@ -16,7 +16,7 @@ from afdx_tools import Refused, program
 ACCEPT = "accept"
 DELIVERED, REDUNDANT = "delivered", "redundant"
 OVER_RATE = "over-rate"
-LOST, OLD, LEFT = "lost", "too-old", "left"
+LOST, OLD, LEFT = "full-buffer", "too-old", "left"
 FATES = (LEFT, LOST, OLD)
 NOT_YET = -1  # stands for a line without a verdict, and for a departure without a receiver's line
 LETTERS = {letter: ord(letter) for letter in "VLDTMX"}
@@ -79,7 +79,8 @@ class Events:
 
     def read_errors(self, file: IO[bytes]) -> str:
         """Takes the lines of standard error, a file that was written; the fault line there."""
-        self.early = Early(file, self.named)
+        over_rate = self.lines_of(OVER_RATE) if self.listing.is_pair else None
+        self.early = Early(file, self.named, over_rate)
         return self.early.fault
 
     def take(self, text: bytes, told: Callable[[int], None]) -> None:
@@ -98,8 +99,8 @@ class Events:
     def judged(self, block: Block) -> np.ndarray:
         """`V n side accept` or `V n side drop WORD`"""
         at = np.flatnonzero(block.heads == LETTERS["V"])
-        numbers, _ = block.numbers(block.starts[at] + 2)
-        lines = self.named.next_lines(numbers)
+        numbers, end = block.numbers(block.starts[at] + 2)
+        lines = self.named.next_lines(numbers, block.at(end + 1))
         verdict = np.zeros(len(at), np.int8)
         before = block.ends[at] - len(ACCEPT) - 1  # a space, where the word is as long as that
         dropped = np.flatnonzero(block.bytes[before] != SPACE)
@@ -112,7 +113,7 @@ class Events:
         """`L n side port`: the time is that of the list's line."""
         at = np.flatnonzero(block.heads == LETTERS["L"])
         numbers, end = block.numbers(block.starts[at] + 2)
-        line = self.named.of(numbers)
+        line = self.named.of(numbers, block.at(end + 1))
         port, _ = block.numbers(end + 3)
         return copies(at, line, self.listing.time[line], port, LOST)
 
@@ -137,7 +138,7 @@ class Events:
         numbers, end = block.numbers(block.starts[at] + 2)
         time, end = block.numbers(end + 1)
         port, _ = block.numbers(end + 3)
-        return copies(at, self.named.of(numbers), time, port, fate)
+        return copies(at, self.named.of(numbers, block.at(end + 1)), time, port, fate)
 
     def side_of_copies(self) -> np.ndarray:
         """The side of each copy: 0 for A, 1 for B."""

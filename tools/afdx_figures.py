@@ -58,9 +58,11 @@ def side_bar(row: Row, y: float, place) -> str:
 def latency_row(pair: Sequence[Row], y: float, place) -> list[str]:
     """One link at one port: both sides, bound and configured latency, the margin between."""
     row = max(pair, key=lambda one: one["share"])
+    is_late = any(one["late"] for one in pair)
+    above = y - 2 if is_late else y + 4
     parts = [
-        text(0, y + 4, f"VL {row['link']}", "strong"),
-        text(70, y + 4, f"{row['from']} to {row['system']}"),
+        text(0, above, f"VL {row['link']}", "strong"),
+        text(70, above, f"{row['from']} to {row['system']}"),
         text(LEFT - 20, y + 4, row["priority"], "muted", "end"),
         line(LEFT, y, WIDTH - RIGHT, y, "rule"),
     ]
@@ -74,7 +76,8 @@ def latency_row(pair: Sequence[Row], y: float, place) -> list[str]:
     parts += [side_bar(one, y - 6 if one["side"] == "A" else y + 6, place) for one in pair]
     parts.append(diamond(x, y))
     share = f"{percent(row['share'])} of configured"
-    if any(one["late"] for one in pair):
+    if is_late:
+        parts.append(text(0, y + 12, f"LATE, {percent(row['share'])}", "bad"))
         parts.append(symbol(WIDTH - RIGHT + 17, y, LATE))
         parts.append(text(WIDTH - RIGHT + 28, y + 4, f"LATE, {percent(row['share'])}", "bad"))
     else:
@@ -166,8 +169,9 @@ def histogram(counts: dict[str, Sequence[int]]) -> str:
     for step in range(21):
         x = left + width * step
         name = f"{5 * step}" if step < 20 else "over 100 %"
-        parts.append(text(x + (0 if step < 20 else width / 2), bottom + 16, name, "muted",
-                          "middle"))
+        parts.append(
+            text(x + (0 if step < 20 else width / 2), bottom + 16, name, "muted", "middle")
+        )
         for place_of, side in enumerate("AB"):
             count = counts[side][step]
             if count:
@@ -193,8 +197,9 @@ def bars(series: Sequence[int], most: int, base: float, place_x, told) -> list[s
     for step, count in enumerate(series):
         if count:
             x1, x2, height = place_x(step), place_x(step + 1), 24 * count / most
-            shape = box(x1 + 0.4, base - max(height, 2), max(x2 - x1 - 0.8, 1.2), max(height, 2),
-                        "drop")
+            shape = box(
+                x1 + 0.4, base - max(height, 2), max(x2 - x1 - 0.8, 1.2), max(height, 2), "drop"
+            )
             parts.append(titled(shape, told(step, count)))
     return parts
 

@@ -1,4 +1,4 @@
-"""A frame list as columns: of each line its time, side, link, length and sequence number."""
+"""A frame list as columns: of each line when and where it came in, what its frame's bytes say."""
 from __future__ import annotations
 
 import hashlib
@@ -11,6 +11,7 @@ from afdx_tools import MOST_LINES
 
 NO_LINK = -1  # stands for frames that name no link of the configuration
 NO_NUMBER = -1  # stands for frames too short for a sequence number
+NO_SOURCE = -1  # stands for frames too short for a source address
 SIDES = "AB"
 KINDS = np.isin(np.arange(256), list(b"FBR"))
 CONSTANT = np.frombuffer(b"03000000", np.uint8)
@@ -18,18 +19,23 @@ DIGIT = np.full(256, 0, np.int32)
 DIGIT[np.frombuffer(b"0123456789", np.uint8)] = range(10)
 DIGIT[np.frombuffer(b"abcdef", np.uint8)] = range(10, 16)
 DIGIT[np.frombuffer(b"ABCDEF", np.uint8)] = range(10, 16)
+NETWORK = np.full(257, NO_SOURCE, np.int8)  # by the last byte of a source address; the last: none
+NETWORK[[0x20, 0x40]] = 0, 1
 
 
 class Listing:
     """The columns of a list, by the number of the line; `sound` where it has a line's form.
-    `arrivals` are these lines. Only the first `most` lines are looked at, those that the program
-    took; the list of one recording, which it writes itself, has any length (`is_recorded`)."""
+    `arrivals` are these lines. `port` is where the frame came in; `source` the end system that its
+    source address names, and `network` the side. Only the first `most` lines are looked at, those
+    that the program took; what the program writes itself of one recording (`is_recorded`), or of
+    two (`is_pair` too), has any length."""
 
     def __init__(
         self,
         file: IO[bytes],
         told: Callable[[int], None] = lambda count: None,
         is_recorded: bool = False,
+        is_pair: bool = False,
         most: int = MOST_LINES,
     ) -> None:
         digest = hashlib.sha256()
@@ -43,15 +49,18 @@ class Listing:
                 lines += len(part["time"])
                 told(lines)
         self.lines = lines
-        self.is_recorded = is_recorded
+        self.is_recorded, self.is_pair = is_recorded, is_pair
         self.digest = digest.hexdigest()
         joined = {name: np.concatenate([part[name] for part in parts]) for name in parts[0]}
         self.sound = joined["sound"]
         self.time = joined["time"]
         self.side = joined["side"]
+        self.port = joined["port"]
         self.link = joined["link"]
         self.length = joined["length"]
         self.number = joined["number"]
+        self.source = joined["source"]
+        self.network = joined["network"]
         self.arrivals = np.flatnonzero(self.sound)
 
 
@@ -82,9 +91,12 @@ def columns_of_none() -> dict[str, np.ndarray]:
         "sound": np.zeros(1, bool),
         "time": np.zeros(1, np.int64),
         "side": np.zeros(1, np.int8),
+        "port": np.zeros(1, np.int8),
         "link": np.full(1, NO_LINK, np.int32),
         "length": np.zeros(1, np.int16),
         "number": np.full(1, NO_NUMBER, np.int16),
+        "source": np.full(1, NO_SOURCE, np.int32),
+        "network": np.full(1, NO_SOURCE, np.int8),
     }
 
 
@@ -95,23 +107,36 @@ def columns_of(block: Block) -> dict[str, np.ndarray]:
     lines = np.flatnonzero(KINDS[block.heads] & (block.at(block.starts + 1) == SPACE))
     time, after = block.numbers(block.starts[lines] + 2)
     side = block.at(after + 1) - np.uint8(ord("A"))
-    _, blank = block.numbers(after + 3)
+    port, blank = block.numbers(after + 3)
     begin, end = blank + 1, block.ends[lines]
     end = end - (block.bytes[end - 1] == RETURN)
     sound = (side <= 1) & (begin < end)
     for place in (after, after + 2, blank):
         sound &= block.at(place) == SPACE
-    lines, time, side, begin, end = (part[sound] for part in (lines, time, side, begin, end))
+    found = (lines, time, side, port, begin, end)
+    lines, time, side, port, begin, end = (part[sound] for part in found)
     size = np.where(block.at(begin) == ord("-"), 0, end - begin)
     raw = block.heads[lines] == ord("R")
     columns["sound"][lines] = True
     columns["time"][lines] = time
     columns["side"][lines] = side
+    columns["port"][lines] = np.minimum(port, 127)  # over 24: a fault, with which the run ends
     columns["length"][lines] = size // 2 + np.where(raw, 0, 4)
     columns["link"][lines] = links_of(block.bytes, begin, size)
     behind = np.where(raw, 10, 2)  # digits from the sequence number on
     columns["number"][lines] = pairs(block.bytes, begin + size - behind, size >= behind, NO_NUMBER)
+    columns["source"][lines], columns["network"][lines] = sources_of(block.bytes, begin, size)
     return columns
+
+
+def sources_of(
+    text: np.ndarray, begin: np.ndarray, size: np.ndarray
+) -> tuple[np.ndarray, np.ndarray]:
+    """The end systems that the source addresses name, and the networks."""
+    there = size >= 24
+    high, low = (pairs(text, begin + at, there, 0) for at in (18, 20))
+    network = NETWORK[pairs(text, begin + 22, there, NO_SOURCE)]
+    return np.where(there, high * 256 + low, NO_SOURCE), network
 
 
 def pairs(text: np.ndarray, at: np.ndarray, there: np.ndarray, other: int) -> np.ndarray:

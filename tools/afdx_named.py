@@ -9,7 +9,8 @@ from afdx_tools import Refused
 
 class Named:
     """The lines of a listing by the numbers that a run gives them, and the other way round, 0 for
-    none. In a run over a recording the i-th verdict is that of the listing's i-th arrival."""
+    none. In a run over a recording the i-th verdict is that of the listing's i-th arrival; where
+    there are two recordings, a number is one of the frame's side."""
 
     def __init__(self, listing: Listing) -> None:
         self.listing = listing
@@ -19,26 +20,34 @@ class Named:
         self.lines[known] = known
         self.numbers = self.lines.copy()
 
-    def next_lines(self, numbers: np.ndarray) -> np.ndarray:
+    def keys(self, numbers: np.ndarray, sides: np.ndarray | None) -> np.ndarray:
+        """What tells these frames from all others; `sides` are the letters beside the numbers."""
+        if sides is None or not self.listing.is_pair:
+            return numbers
+        return 2 * numbers + (sides == ord("B"))
+
+    def next_lines(self, numbers: np.ndarray, sides: np.ndarray) -> np.ndarray:
         """The lines of the next verdicts, which have these numbers."""
         if self.listing.is_recorded:
             lines = self.listing.arrivals[self.judged : self.judged + len(numbers)]
             self.judged += len(numbers)
             if len(lines) < len(numbers):
                 raise gone(numbers[len(lines)])
-            self.grow(int(numbers.max(initial=0)))
-            self.lines[numbers] = lines
+            keys = self.keys(numbers, sides)
+            self.grow(int(keys.max(initial=0)))
+            self.lines[keys] = lines
             self.numbers[lines] = numbers
-        return self.of(numbers)
+        return self.of(numbers, sides)
 
     def grow(self, most: int) -> None:
-        """Makes room for numbers up to this one."""
+        """Makes room for keys up to this one."""
         if most >= len(self.lines):
             self.lines = np.pad(self.lines, (0, 2 * most + 1 - len(self.lines)))
 
-    def of(self, numbers: np.ndarray) -> np.ndarray:
+    def of(self, numbers: np.ndarray, sides: np.ndarray | None = None) -> np.ndarray:
         """The lines of these numbers; Refused where one has none."""
-        lines = self.lines[np.where(numbers < len(self.lines), numbers, 0)]
+        keys = self.keys(numbers, sides)
+        lines = self.lines[np.where(keys < len(self.lines), keys, 0)]
         if not lines.all():
             raise gone(numbers[np.flatnonzero(lines == 0)[0]])
         return lines

@@ -5,19 +5,20 @@ from typing import Sequence
 
 import numpy as np
 
+from afdx_absence import Copied, alone_by_side, contradicted
 from afdx_checked import Checked
 from afdx_counting import SHARES, Counting, Path, sorted_by
 from afdx_events import ACCEPT, DELIVERED, FATES, LEFT, LOST, OLD, REDUNDANT, side_name
 from afdx_listing import NO_LINK
 from afdx_tables import Row, in_us
-from afdx_traffic import pairs_of, skews_at_inputs, skews_at_receivers, traffic_of
+from afdx_traffic import Traffic, traffic_of
 
 MOST_TROUBLES = 10_000
 SUMS = (
     "frames",
     "accepted",
     "dropped",
-    "lost",
+    "full_buffer",
     "late",
     "too_old",
     "departed",
@@ -34,11 +35,7 @@ def vl_text(vl: int) -> str | int:
 
 def words_of(counts: np.ndarray, names: Sequence[str], without: Sequence[str]) -> Row:
     """The words that come, with their counts, in the order of the names."""
-    return {
-        name: int(count)
-        for name, count in zip(names, counts)
-        if count and name not in without
-    }
+    return {name: int(count) for name, count in zip(names, counts) if count and name not in without}
 
 
 def sums_row(counting: Counting, keys: np.ndarray, of_copies: np.ndarray, count: int) -> list[Row]:
@@ -57,7 +54,7 @@ def sums_row(counting: Counting, keys: np.ndarray, of_copies: np.ndarray, count:
                 "accepted": int(frames[key][verdicts.index(ACCEPT)]),
                 "dropped": sum(reasons.values()),
                 "reasons": reasons,
-                "lost": int(fates[key][FATES.index(LOST)]),
+                "full_buffer": int(fates[key][FATES.index(LOST)]),
                 "late": int(late[key]),
                 "too_old": int(fates[key][FATES.index(OLD)]),
                 "departed": int(fates[key][FATES.index(LEFT)]),
@@ -76,54 +73,45 @@ def link_rows(counting: Counting) -> list[Row]:
     return [{"link": vl_text(vl), **row} for vl, row in zip(counting.vls, rows) if row["frames"]]
 
 
-def side_rows(counting: Counting) -> list[Row]:
+def side_rows(counting: Counting, copied: Copied) -> list[Row]:
     """A row for each link and side: sums, and what was measured of the arrivals there."""
     keys = counting.place * 2 + counting.listing.side
     of_copies = counting.links * 2 + counting.sides
     sums = sums_row(counting, keys, of_copies, 2 * len(counting.vls))
-    traffic = traffic_of(counting)
+    traffic, alone = traffic_of(counting), alone_by_side(counting, copied)
     rows = []
     for key, row in enumerate(sums):
-        vl = counting.vls[key // 2]
-        if not row["frames"] or vl == NO_LINK:
-            continue
-        link, measured = counting.config.links[vl], traffic.get((vl, key % 2))
-        rows.append(
-            {
-                "link": vl,
-                "side": side_name(key % 2),
-                **{name: row[name] for name in SUMS},
-                "missing": measured.missing if measured else None,
-                "least_gap_ns": measured.gap if measured else None,
-                "gap_line": named(counting, measured.gap_line if measured else None),
-                "bag_ns": link.bag_ms * 1_000_000,
-                "jitter_ns": measured.jitter if measured else None,
-                "jitter_line": named(counting, measured.jitter_line if measured else None),
-                "table_jitter_ns": link.jitter_ns,
-            }
-        )
+        vl, side = counting.vls[key // 2], key % 2
+        if row["frames"] and vl != NO_LINK:
+            measured = measured_row(counting, vl, traffic.get((vl, side)))
+            rows.append(
+                {
+                    "link": vl,
+                    "side": side_name(side),
+                    **{name: row[name] for name in SUMS},
+                    "alone": alone.get((vl, side), 0),
+                    **measured,
+                }
+            )
     return rows
 
 
-def skew_rows(counting: Counting) -> list[Row]:
-    """A row for each link of which a frame was accepted on both sides."""
-    other = pairs_of(counting)
-    inputs, receivers = skews_at_inputs(counting, other), skews_at_receivers(counting, other)
-    rows = []
-    for vl, skew in inputs.items():
-        there = receivers.get(vl)
-        rows.append(
-            {
-                "link": vl,
-                "pairs": skew.pairs,
-                "at_inputs_ns": skew.greatest,
-                "inputs_line": named(counting, skew.line),
-                "at_receivers_ns": there.greatest if there else None,
-                "receivers_line": named(counting, there.line if there else None),
-                "table_skew_ns": counting.config.links[vl].skew_ns,
-            }
-        )
-    return rows
+def measured_row(counting: Counting, vl: int, traffic: Traffic | None) -> Row:
+    """What was measured of a link's arrivals on one side, beside its table."""
+    link, numbers = counting.config.links[vl], traffic.numbers if traffic else None
+    return {
+        "first_number": numbers.first if numbers else None,
+        "first_line": named(counting, numbers.first_line if numbers else None),
+        "missing": numbers.missing if numbers else None,
+        "missing_line": named(counting, numbers.missing_line if numbers else None),
+        "jumps": numbers.jumps if numbers else None,
+        "least_gap_ns": traffic.gap if traffic else None,
+        "gap_line": named(counting, traffic.gap_line if traffic else None),
+        "bag_ns": link.bag_ms * 1_000_000,
+        "jitter_ns": traffic.jitter if traffic else None,
+        "jitter_line": named(counting, traffic.jitter_line if traffic else None),
+        "table_jitter_ns": link.jitter_ns,
+    }
 
 
 def latency_row(counting: Counting, checked: Checked, path: Path) -> Row:
@@ -307,12 +295,33 @@ def trouble_rows(counting: Counting, most: int = MOST_TROUBLES) -> list[Row]:
             "line": named(counting, line),
             "port": port or None,
             "what": what,
+            "came_in": int(counting.listing.port[line]),
         }
         for line, port, what in sorted(found)[:most]
     ]
 
 
-def totals(links: Sequence[Row], sides: Sequence[Row]) -> Row:
-    """The sums over all links, and the missing numbers of both sides."""
-    sums = {key: sum(row[key] for row in links) for key in SUMS}
-    return {**sums, "missing": sum(row["missing"] or 0 for row in sides)}
+def totals(counting: Counting, report: Row) -> Row:
+    """The sums over all links, and the counts of what isn't as it should be."""
+    sides, skews = report["sides"], report["skews"]
+    left = dict(report.get("skipped", {}))
+    lost, claimed = left.pop("recorder-lost", 0), left.pop("claimed", 0)
+    placed, unused = left.pop("contradicted", 0), left.pop("unused", 0)
+    over = [row for row in skews if (row["at_receivers_ns"] or 0) > row["table_skew_ns"]]
+    shaky = [row for row in sides if (row["jitter_ns"] or 0) > row["table_jitter_ns"]]
+    return {
+        **{key: sum(row[key] for row in report["links"]) for key in SUMS},
+        "missing": sum(row["missing"] or 0 for row in sides),
+        "silent": len(report["silences"]),
+        "unequal": sum(row["alone"] for row in sides),
+        "first_number": sum(bool(row["first_number"]) for row in sides),
+        "twice": sum(row["twice"] for row in skews),
+        "clock": sum(row["clock"] == "apart" for row in report["clocks"]),
+        "skew": len(over),
+        "jitter": len(shaky),
+        "contradicted": max(sum(contradicted(counting)), placed),
+        "unused": unused,
+        "recorder_lost": lost,
+        "claimed": claimed,
+        "left_out": sum(left.values()),
+    }

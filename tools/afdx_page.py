@@ -9,151 +9,15 @@ import afdx_figures as figures
 import afdx_tracks as tracks
 from afdx_compare import words_of
 from afdx_counting import Counting
+from afdx_head import answer, cards, words_section
+from afdx_lanes import lanes
 from afdx_numbers import early_frames
-from afdx_ranking import FEWEST, nearest, ranked
+from afdx_parts import section, table_section
+from afdx_ranking import FEWEST, ranked
 from afdx_style import POLICY, SCRIPT, STYLE
-from afdx_tables import (
-    COUNTED,
-    EARLY,
-    NAMES,
-    PROVED,
-    UNPROMISED,
-    Row,
-    cell,
-    heads,
-    in_us,
-    percent,
-)
+from afdx_tables import COUNTED, EARLY, NAMES, PROVED, UNPROMISED, Row, cell, in_us
 
-MOST_ROWS = 10_000  # of a table on a page
 EARLY_FRAMES = "Over-rate frames that came too early by most, in us"
-CARDS = {
-    "frames": "frames in",
-    "accepted": "accepted",
-    "dropped": "dropped",
-    "lost": "lost copies",
-    "late": "late copies",
-    "too_old": "too old",
-    "departed": "copies out",
-    "delivered": "delivered",
-    "redundant": "redundant",
-    "refused": "refused",
-    "missing": "missing numbers",
-}
-PLAIN = ("link", "port", "number", "line", "at_line", "gap_line", "jitter_line", "inputs_line",
-         "receivers_line")
-
-
-def kind_of(name: str, rows: Sequence[Row]) -> str:
-    """How a column stands: numbers to the right, long words broken."""
-    if name.endswith("_us"):
-        return "number"
-    values = [row[name] for row in rows[:50] if row[name] is not None]
-    if any(isinstance(value, dict) for value in values):
-        return "words"
-    return "" if any(isinstance(value, str) for value in values) else "number"
-
-
-def is_over(row: Row) -> bool:
-    """Is something in the row over what the tables say?"""
-    pairs = (("jitter_ns", "table_jitter_ns"), ("at_receivers_ns", "table_skew_ns"))
-    over = any((row.get(name) or 0) > row.get(table, 0) for name, table in pairs if table in row)
-    return over or bool(row.get("late")) or ("latency_ns" in row and row["share"] > 1)
-
-
-def body_row(row: Row, kinds: Sequence[str]) -> str:
-    """A row of a table; its first cell is its head."""
-    parts = ['<tr class="over">' if is_over(row) else "<tr>"]
-    for number, ((name, value), kind) in enumerate(zip(row.items(), kinds)):
-        shown = f"{value:,}" if isinstance(value, int) and name not in PLAIN else cell(value)
-        styled = f' class="{kind}"' if kind else ""
-        if number == 0:
-            parts.append(f'<th scope="row"{styled}>{escape(shown)}</th>')
-        else:
-            parts.append(f"<td{styled}>{escape(shown)}</td>")
-    return "".join(parts) + "</tr>\n"
-
-
-def most_shown(rows: Sequence[Row]) -> Sequence[Row]:
-    """The rows that a page shows: all, or of too many those with the greatest share."""
-    if len(rows) <= MOST_ROWS:
-        return rows
-    order = sorted(range(len(rows)), key=lambda n: (-rows[n].get("share", 0), n))
-    return [rows[n] for n in sorted(order[:MOST_ROWS])]
-
-
-def table(all_rows: Sequence[Row], head: str) -> str:
-    """Rows as a table."""
-    rows = most_shown(all_rows)
-    count = f"{len(all_rows):,} rows" if len(all_rows) != 1 else "1 row"
-    if len(rows) < len(all_rows):
-        count = f"the {len(rows):,} with the greatest share of {count}; the CSV file has all"
-    caption = f"<caption>{escape(head)}: {count}</caption>"
-    if not rows:
-        return f"<table>{caption}<tbody><tr><td>none</td></tr></tbody></table>"
-    kinds = [kind_of(name, rows) for name in heads(rows)]
-    names = "".join(
-        f'<th scope="col"{f" class={kind!r}" if kind else ""}>{escape(name.replace("_", " "))}</th>'
-        for name, kind in zip(heads(rows), kinds)
-    )
-    body = "".join(body_row(row, kinds) for row in rows)
-    return f"<table>{caption}<thead><tr>{names}</tr></thead><tbody>{body}</tbody></table>"
-
-
-def section(name: str, title: str, words: str, body: str) -> str:
-    """A part of the page."""
-    return (
-        f'<section id="{name}"><h2>{escape(title)}</h2><p class="muted">{escape(words)}</p>{body}'
-        "</section>"
-    )
-
-
-def table_section(name: str, head: str, rows: Sequence[Row]) -> str:
-    """A table, in a box that rolls on a screen and is whole on paper."""
-    return (
-        f'<section id="{name}" class="table"><div class="box" tabindex="0" role="region" '
-        f'aria-label="{escape(head)}">{table(rows, head)}</div></section>'
-    )
-
-
-def cards(report: Row) -> str:
-    """The sums, one a card."""
-    parts = []
-    for key, words in CARDS.items():
-        count = report["totals"][key]
-        bad = ' class="bad"' if count and key in ("lost", "late", "too_old") else ""
-        parts.append(f'<div class="card"><dt>{words}</dt><dd{bad}>{count:,}</dd></div>')
-    return f'<dl class="cards">{"".join(parts)}</dl>'
-
-
-def latency_words(row: Row) -> str:
-    """A row of latencies in words."""
-    return (
-        f"link {row['link']} at port {row['port']}, side {row['side']}, "
-        f"{row['greatest_ns']:,} of {row['configured_ns']:,} ns configured "
-        f"({percent(row['share'])})"
-    )
-
-
-def answer(report: Row) -> str:
-    """What admission said, the run's fault, what is late, what criteria aren't met."""
-    said = report["admission"]
-    bad = []
-    if report["fault"]:
-        bad.append(f"the run ended with: {report['fault']}")
-    late = [row for row in ranked(report["latency"]) if row["late"]]
-    if late:
-        links = len({row["link"] for row in late})
-        bad.append(f"{links} late link{'s' if links > 1 else ''}: {latency_words(late[0])}")
-    if report["unmet"]:
-        bad.append("failed: " + ", ".join(report["unmet"]))
-    kind, words = ("good", "admitted") if said == "ok" else ("bad", f"not admitted: {said}")
-    parts = [f'<span class="answer {kind}">{escape(words)}</span>']
-    parts += [f'<span class="answer bad">{escape(words)}</span>' for words in bad]
-    most = nearest(report["latency"])
-    if most and not late:
-        parts.append(f'<span class="muted">Nearest: {escape(latency_words(most))}.</span>')
-    return f'<p style="margin-top:10px">{"".join(parts)}</p>'
 
 
 def one_each(latency: Sequence[Row]) -> list[list[Row]]:
@@ -237,9 +101,18 @@ def foot(report: Row) -> str:
     )
 
 
+def arrivals_section(report: Row) -> str:
+    """When frames came, of each link on each side."""
+    words = (
+        "Of each link side A above, side B below, by the time of arrival. Links with a silence, "
+        "with more than they may send, or with frames at a wrong port stand first."
+    )
+    return section("arrivals", "Arrivals over time", words, lanes(report["arrivals"]))
+
+
 def pictures(report: Row, counting: Counting, args: argparse.Namespace) -> str:
     """All pictures."""
-    parts = [latency_section(report, args.rows)]
+    parts = [arrivals_section(report), latency_section(report, args.rows)]
     if report["latency"]:
         words = "How near the copies came to their link's configured latency, sides A and B apart."
         shares = figures.histogram(report["histogram"])
@@ -305,7 +178,7 @@ def page(report: Row, counting: Counting, args: argparse.Namespace) -> str:
     words = f"{report['totals']['frames']:,} frames over {span:,.3f} ms at both switches."
     if "skipped" in report:
         words += f" Skipped of the recording: {cell(report['skipped'])}."
-    names = {"picture": "latency", "drops": "drops"}
+    names = {"words": "words", "arrivals": "arrivals", "picture": "latency", "drops": "drops"}
     names |= {name: f"table of {name}" for name in NAMES}
     early = early_sections(report, counting, args.worst)
     names |= {"early": "table of over-rate frames"} if early else {}
@@ -318,6 +191,7 @@ def page(report: Row, counting: Counting, args: argparse.Namespace) -> str:
         answer(report),
         links_to(names),
         cards(report),
+        words_section(report),
         pictures(report, counting, args),
         compared_sections(report),
         "<p class='find' hidden><label>Find rows <input id='find' type='search' "

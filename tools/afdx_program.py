@@ -36,14 +36,9 @@ def version() -> str:
     return said
 
 
-def run_to_its_end(words: list[str], folder: str) -> None:
-    """Runs another program in a folder, without streams; if this one is ended, that is too."""
-    nothing = subprocess.DEVNULL
-    with subprocess.Popen(words, stdin=nothing, stdout=nothing, cwd=folder) as run:
-        try:
-            run.wait()
-        finally:
-            while run.poll() is None:
-                run.terminate()
-                with contextlib.suppress(subprocess.TimeoutExpired):
-                    run.wait(PATIENCE)
+def end(run: subprocess.Popen[bytes]) -> None:
+    """Ends another program, which may want to be asked more than once."""
+    while run.poll() is None:
+        run.terminate()
+        with contextlib.suppress(subprocess.TimeoutExpired):
+            run.wait(PATIENCE)

@@ -15,11 +15,7 @@ def ranked(latency: Sequence[Row]) -> list[Row]:
     for row in latency:
         key = row["link"], row["port"]
         copies[key] = copies.get(key, 0) + row["frames"]
-    kept = [
-        row
-        for row in latency
-        if row["late"] or copies[row["link"], row["port"]] >= FEWEST
-    ]
+    kept = [row for row in latency if row["late"] or copies[row["link"], row["port"]] >= FEWEST]
     return sorted(kept, key=lambda row: (-row["share"], row["link"], row["port"], row["side"]))
 
 
@@ -29,8 +25,17 @@ def nearest(latency: Sequence[Row]) -> Row | None:
     return rows[0] if rows else None
 
 
-def latency_text(row: Row) -> str:
+def latency_words(row: Row) -> str:
     """A row of latencies in words."""
+    return (
+        f"link {row['link']} at port {row['port']}, side {row['side']}, "
+        f"{row['greatest_ns']:,} of {row['configured_ns']:,} ns configured "
+        f"({percent(row['share'])})"
+    )
+
+
+def latency_text(row: Row) -> str:
+    """The same without commas in numbers."""
     return (
         f"link {row['link']} at port {row['port']}, side {row['side']}: {row['greatest_ns']} of "
         f"{row['configured_ns']} ns configured ({percent(row['share'])})"

@@ -4,6 +4,8 @@ from __future__ import annotations
 import argparse
 import os
 
+from afdx_tools import Refused
+
 HEADS = frozenset(
     bytes.fromhex(head) for head in ("d4c3b2a1", "a1b2c3d4", "4d3cb2a1", "a1b23c4d", "0a0d0d0a")
 )
@@ -19,6 +21,8 @@ def add_recording_words(parser: argparse.ArgumentParser) -> None:
         metavar="K=PLACE",
         help="where the frames of interface K came in: A, B, A:PORT or B:PORT; - leaves them out",
     )
+    taps = "a table of taps in the place of --interface, which is checked; see afdx-taps"
+    add("--taps", metavar="FILE", help=taps)
     add("--fcs", choices=("yes", "no"), help="do recorded frames end with their check sequence?")
     origin = "the moment that is time 0, in ns since 1970 (that of the first arrival)"
     add("--origin", metavar="NS", help=origin)
@@ -29,13 +33,21 @@ def add_recording_words(parser: argparse.ArgumentParser) -> None:
 
 
 def recording_options(args: argparse.Namespace) -> list[str]:
-    """The options that were given, as the program takes them."""
+    """The options that were given, as the program takes them; without those of a table of taps."""
+    if args.taps is not None and args.interface:
+        raise Refused("--taps and --interface say the same: give one of them")
     words = [f"--interface={each}" for each in args.interface]
     for name in ("fcs", "origin", "reorder", "stamps"):
         said = getattr(args, name)
         if said is not None:
             words.append(f"--{name}={said}")
     return words
+
+
+def handed_on(args: argparse.Namespace) -> list[str]:
+    """The options that were given, as afdx-report takes them, wherever it runs."""
+    taps = [] if args.taps is None else [f"--taps={os.path.abspath(args.taps)}"]
+    return recording_options(args) + taps
 
 
 def is_recording(path: str) -> bool:

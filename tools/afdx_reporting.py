@@ -11,10 +11,14 @@ import sys
 from typing import Iterator
 
 import afdx_numbers as numbers
+from afdx_absence import clock_rows, copied_of, dropped_rows, silence_rows, skew_rows
 from afdx_checked import Checked
 from afdx_compare import compared, other_report, words_of
 from afdx_counting import Counting
+from afdx_findings import findings_of
 from afdx_criteria import judged, status_of, suite_of, write_junit
+from afdx_explaining import explain
+from afdx_lanes import arrivals_of
 from afdx_listing import Listing
 from afdx_outputs import write_folder
 from afdx_page import page
@@ -22,6 +26,7 @@ from afdx_program import version
 from afdx_ranking import FEWEST, latency_text, nearest, ranked
 from afdx_reading import read_config
 from afdx_recordings import recording_options
+from afdx_silence import Silences
 from afdx_running import Source, check, listed_of, replay
 from afdx_tables import (
     COUNTED,
@@ -35,6 +40,7 @@ from afdx_tables import (
     cell,
     files_of,
 )
+from afdx_tapped import found_by
 from afdx_tools import program
 from afdx_words import Failed, Progress, as_file, at_hand, shown
 
@@ -73,27 +79,29 @@ def sums_of(source: Source, listing: Listing) -> list[str]:
 
 def tables_of(counting: Counting, checked: Checked, worst: int) -> Row:
     """What is counted of a run."""
-    links, sides = numbers.link_rows(counting), numbers.side_rows(counting)
     ports, loads = numbers.port_rows(counting, checked)
+    silences = Silences(counting)
+    copied = copied_of(counting, silences)
     return {
-        "totals": numbers.totals(links, sides),
         "bounds": {port: vars(bound) for port, bound in checked.bounds.items()},
-        "links": links,
+        "silences": silence_rows(counting, silences),
+        "dropped": dropped_rows(counting),
+        "links": numbers.link_rows(counting),
         "latency": numbers.latency_rows(counting, checked),
         "frames": numbers.frame_rows(counting, checked, worst),
-        "sides": sides,
-        "skews": numbers.skew_rows(counting),
+        "sides": numbers.side_rows(counting, copied),
+        "skews": skew_rows(counting, copied),
+        "clocks": clock_rows(copied),
         "ports": ports,
         "histogram": numbers.histogram_of(counting),
         "drops": numbers.drops_of(counting),
         "loads": loads,
+        "arrivals": arrivals_of(counting, silences),
         "troubles": numbers.trouble_rows(counting),
     }
 
 
-def report_of(
-    args: argparse.Namespace, source: Source, progress: Progress
-) -> tuple[Row, Counting]:
+def report_of(args: argparse.Namespace, source: Source, progress: Progress) -> tuple[Row, Counting]:
     """Runs the program, and counts: the report, and what the pictures need."""
     called = version()
     checked = check(program(), source.config)
@@ -107,37 +115,42 @@ def report_of(
         "admission": checked.answer,
         "fault": fault,
         "status": status,
+        "totals": {},
+        "findings": [],
         **tables_of(counting, checked, args.worst),
         "proved": PROVED,
         "counted": COUNTED,
     }
     if listed.skipped and not status:
         report["skipped"] = listed.skipped
+    if source.taps:
+        report["taps"] = {"file": shown(args.taps), "rows": source.taps.rows}
     if len(events.early.lines):
         report["early_ns"] = numbers.early_rows(counting)
+    report["totals"] = numbers.totals(counting, report)
+    report["findings"] = findings_of(report)
     return report, counting
 
 
 def print_head(report: Row) -> None:
-    """The sums, what is late, what is nearest."""
+    """The findings, the sums, what is nearest."""
     print(f"{report['run']['title']}\n")
-    print(f"admission  {report['admission']}")
-    for name, count in report["totals"].items():
-        print(f"{name.replace('_', ' '):10} {count}")
+    print(f"admission   {report['admission']}")
+    if report["fault"]:
+        print(f"fault       {report['fault']}")
+    for found in report["findings"]:
+        print(f"finding     {found['criterion']}: {found['words']}")
+    for line in report["unmet"]:
+        print(f"not met     {line}")
+    for name in (*numbers.SUMS, "missing"):
+        print(f"{name.replace('_', ' '):11} {report['totals'][name]}")
     most = nearest(report["latency"])
     if "skipped" in report:
-        print(f"skipped    {cell(report['skipped'])}")
-    if most:
-        print(f"nearest    {latency_text(most)}")
-    else:
-        print(f"nearest    no link has {FEWEST} copies at a port")
+        print(f"skipped     {cell(report['skipped'])}")
+    print(f"nearest     {latency_text(most) if most else f'no link has {FEWEST} copies at a port'}")
     for row in ranked(report["latency"]):
         if row["late"]:
-            print(f"late       {latency_text(row)}, {row['late']} of {row['frames']} copies")
-    if report["fault"]:
-        print(f"fault      {report['fault']}")
-    for line in report["unmet"]:
-        print(f"not met    {line}")
+            print(f"late        {latency_text(row)}, {row['late']} of {row['frames']} copies")
     if report["admission"] != "ok":
         print(UNPROMISED)
 
@@ -156,7 +169,7 @@ def print_text(report: Row) -> None:
 
 
 @contextlib.contextmanager
-def source_of(args: argparse.Namespace) -> Iterator[Source]:
+def source_of(args: argparse.Namespace, progress: Progress) -> Iterator[Source]:
     """What the words name, at hand to be read more than once."""
     names = [args.list] if args.other is None else [args.list, args.other]
     if names == ["-", "-"]:
@@ -165,7 +178,11 @@ def source_of(args: argparse.Namespace) -> Iterator[Source]:
     with contextlib.ExitStack() as files:
         config = files.enter_context(at_hand(args.config))
         paths = [files.enter_context(at_hand(name)) for name in names]
-        yield Source(config, paths, recording_options(args), of_replay)
+        options, taps = recording_options(args), None
+        if args.taps is not None:
+            taps = found_by(args.taps, config, paths, names, progress)
+            options += taps.words
+        yield Source(config, paths, options, of_replay, taps)
 
 
 def run_report(tool: str, args: argparse.Namespace) -> int:
@@ -174,7 +191,9 @@ def run_report(tool: str, args: argparse.Namespace) -> int:
     other = other_report(args.compare) if args.compare else None
     name = args.list if args.other is None else f"{args.list},{args.other}"
     try:
-        with source_of(args) as source:
+        with source_of(args, progress) as source:
+            for line in source.taps.remarks if source.taps else []:
+                print(f"{tool}: {shown(line)}", file=sys.stderr)
             report, counting = report_of(args, source, progress)
     except Failed as error:
         if args.junit:
@@ -198,4 +217,5 @@ def run_report(tool: str, args: argparse.Namespace) -> int:
     for line in [report["fault"], *report["unmet"]]:
         if line:
             print(f"{tool}: {line}", file=sys.stderr)
+            explain(line)
     return status_of(report["status"], report["unmet"])

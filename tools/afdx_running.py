@@ -1,14 +1,10 @@
 """The runs of the program that a report is made of: its bounds, the list, the replay."""
 from __future__ import annotations
 
-import contextlib
 import re
-import shutil
 import subprocess
 import tempfile
-import threading
 from dataclasses import dataclass, field
-from typing import IO
 
 import numpy as np
 
@@ -16,24 +12,25 @@ from afdx_checked import Checked, checked_of
 from afdx_events import OVER_RATE, Events
 from afdx_listing import Listing
 from afdx_recordings import is_recording
+from afdx_taps import Found
 from afdx_tools import MOST_LINES, program
 from afdx_words import Failed, Progress, shown
 
 ENDED = (0, 3)  # the input came to its end or has a fault: each over-rate frame has its line
 ANY_RULE = ("1", "64", "0")  # BAG, Lmax and jitter of a link, of which no fault of a list depends
-STOP = b"fault\n"  # what no list has
 PIECE = 1 << 20  # bytes of a pipe
 
 
 @dataclass(frozen=True)
 class Source:
     """What is replayed: a configuration, a list or a recording, or those of both networks; the
-    options of recordings and of the replay."""
+    options of recordings and of the replay; what a table of taps says of the recordings."""
 
     config: str
     paths: list[str]
     options: list[str]
     of_replay: list[str]
+    taps: Found | None = None
 
     @property
     def is_recorded(self) -> bool:
@@ -50,19 +47,16 @@ class Source:
         return [program(), "list", "--summary", *self.options, self.config, *self.paths]
 
     def replayed(self) -> list[str]:
-        """The words of the replay; two recordings are replayed as the list that says the same."""
+        """The words of the replay."""
         words = [program(), "replay", "--explain-drops", *self.of_replay]
-        if self.is_pair:
-            return [*words, self.config, "-"]
         return [*words, *self.options, self.config, *self.paths]
 
 
 @dataclass(frozen=True)
 class Listed:
-    """The list's columns; of a recording its fault, and the counts of what was left out."""
+    """The list's columns; of a recording the counts of what was left out."""
 
     listing: Listing
-    fault: str = ""
     skipped: dict[str, int] = field(default_factory=dict)
 
 
@@ -77,7 +71,7 @@ def check(afdx: str, config: str) -> Checked:
     )
     if run.stderr or run.returncode not in (0, 1):
         status = run.returncode if run.returncode > 0 else 128 - run.returncode
-        raise Failed(run.stderr.strip() or ended_by(run.returncode), status)
+        raise Failed(run.stderr.strip() or ended_by(run.returncode), status, ["check", config])
     return checked_of(map(shown, run.stdout.splitlines()))
 
 
@@ -119,41 +113,24 @@ def listed_of(source: Source, progress: Progress, is_run: bool) -> Listed:
             source.listed(), stdout=subprocess.PIPE, stderr=errors, pipesize=PIECE
         ) as run:
             assert run.stdout is not None
-            listing = Listing(run.stdout, told, is_recorded=not source.is_pair)
+            listing = Listing(run.stdout, told, is_recorded=True, is_pair=source.is_pair)
         errors.seek(0)
         said = shown(errors.read().decode("utf-8", "replace").strip())
     if run.returncode not in ENDED:
         status = run.returncode if run.returncode > 0 else 128 - run.returncode
         raise Failed(said or ended_by(run.returncode), status)
-    if run.returncode:
-        return Listed(listing, fault=said)
-    return Listed(listing, skipped=counts_of(said))
-
-
-def feed(words: list[str], to: IO[bytes]) -> None:
-    """Gives what `afdx list` writes to a replay. Behind a list with a fault comes a line that no
-    list has: so the replay ends there too, and no port is emptied."""
-    pipe, nowhere = subprocess.PIPE, subprocess.DEVNULL
-    with subprocess.Popen(words, stdout=pipe, stderr=nowhere, pipesize=PIECE) as run:
-        assert run.stdout is not None
-        with contextlib.suppress(BrokenPipeError), to:
-            shutil.copyfileobj(run.stdout, to, PIECE)
-            if run.wait():
-                to.write(STOP)
+    return Listed(listing, {} if run.returncode else counts_of(said))
 
 
 def replay(source: Source, listed: Listed, progress: Progress) -> tuple[Events, str, int]:
     """Runs the replay and takes its lines; its fault line and its status."""
     events = Events(listed.listing)
     most = max(listed.listing.lines, 1)
-    pipe, given = subprocess.PIPE, subprocess.PIPE if source.is_pair else None
     with tempfile.TemporaryFile() as errors:
         with subprocess.Popen(
-            source.replayed(), stdin=given, stdout=pipe, stderr=errors, pipesize=PIECE
+            source.replayed(), stdout=subprocess.PIPE, stderr=errors, pipesize=PIECE
         ) as run:
             assert run.stdout is not None
-            if run.stdin is not None:
-                threading.Thread(target=feed, args=(source.listed(), run.stdin)).start()
             events.read(
                 run.stdout, lambda line: progress.tell(f"{100 * line // most} % of the replay")
             )
@@ -163,8 +140,6 @@ def replay(source: Source, listed: Listed, progress: Progress) -> tuple[Events, 
         return events, fault or ended_by(run.returncode), 128 - run.returncode
     if run.returncode in ENDED:
         want_whole(events)
-    if listed.fault and fault == f"list BadLine {listed.listing.lines + 1}":
-        fault = listed.fault
     return events, fault, run.returncode
 
 

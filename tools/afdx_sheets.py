@@ -5,8 +5,10 @@ from __future__ import annotations
 import csv
 import io
 from dataclasses import dataclass, field
-from typing import Iterator, Mapping, NamedTuple
+from fractions import Fraction
+from typing import Collection, Iterator, Mapping, NamedTuple
 
+from afdx_heads import Head, columns_of
 from afdx_tools import Refused
 from afdx_words import shown
 
@@ -15,11 +17,18 @@ LONGEST = 40  # characters of a cell that are shown
 
 
 class Row(NamedTuple):
-    """A row of a table: where it begins, its name, its cells by their columns."""
+    """A row of a table: where it begins, the column that names it, its cells by their columns, and
+    by what the numbers of a column are multiplied."""
 
     place: str
-    name: str
+    key: str
     cells: dict[str, str]
+    factors: Mapping[str, Fraction]
+
+    @property
+    def name(self) -> str:
+        """The row's name, as its cell has it."""
+        return self.cells[self.key]
 
     def at(self, column: str) -> str:
         """The row and one of its cells, for a line to its user."""
@@ -34,16 +43,24 @@ class Row(NamedTuple):
 
 @dataclass
 class Sheet:
-    """A table: its file, its rows, and its columns that no one asked for."""
+    """A table: its file, its rows, its columns that no one asked for, and how many empty cells were
+    filled from above."""
 
     path: str
     rows: list[Row] = field(default_factory=list)
     others: list[str] = field(default_factory=list)
+    filled: int = 0
 
     @property
     def name(self) -> str:
         """The file's name as it can be printed."""
         return shown(self.path)
+
+    def fill(self, above: Row | None, row: Row, column: str) -> None:
+        """Gives an empty cell what stands in the row above."""
+        if above and not row.cells[column] and above.cells[column]:
+            row.cells[column] = above.cells[column]
+            self.filled += 1
 
 
 def text_of(path: str) -> str:
@@ -79,33 +96,34 @@ def cells_of(path: str, text: str) -> Iterator[tuple[int, list[str]]]:
         raise Refused(f"{shown(path)} line {begin}: {error}") from error
 
 
-def columns_of(path: str, head: list[str], columns: Mapping[str, bool]) -> list[str]:
-    """The columns that the first row names, in small letters; Refused where one of those that have
-    to be there isn't, or one stands twice."""
-    names = [cell.lower() for cell in head]
-    missing = [name for name, is_needed in columns.items() if is_needed and name not in names]
-    if missing:
-        raise Refused(f"{shown(path)}: no column is named {', '.join(missing)}")
-    twice = [name for name in columns if names.count(name) > 1]
-    if twice:
-        raise Refused(f"{shown(path)}: two columns are named {twice[0]}")
-    return names
+def row_of(
+    place: str, heads: list[Head | None], columns: Mapping[str, bool], cells: list[str]
+) -> Row:
+    """A row; a column without a cell is empty."""
+    if any(cells[len(heads) :]):
+        raise Refused(f"{place}: it has more cells than the table has columns")
+    found = dict.fromkeys(columns, "")
+    found.update((head.column, cell) for head, cell in zip(heads, cells) if head)
+    factors = {head.column: head.factor for head in heads if head}
+    return Row(place, next(iter(columns)), found, factors)
 
 
-def read_sheet(path: str, columns: Mapping[str, bool]) -> Sheet:
+def read_sheet(path: str, columns: Mapping[str, bool], filled: Collection[str] = ()) -> Sheet:
     """Reads a table. `columns` are those that are asked for, the first of which names a row, and
-    whether each has to be there; of one that isn't the cells are empty."""
+    whether each has to be there; of one that isn't the cells are empty. An empty cell of a column
+    of `filled` gets the content of the one above."""
     sheet = Sheet(path)
     rows = cells_of(path, text_of(path))
-    names = columns_of(path, next(rows, (1, [""]))[1], columns)
-    sheet.others = [name for name in names if name and name not in columns]
-    key = next(iter(columns))
+    first = next(rows, (1, [""]))[1]
+    heads = columns_of(path, first, columns)
+    sheet.others = [shown(name.lower()) for name, head in zip(first, heads) if name and not head]
+    above = None
     for line, cells in rows:
-        place = f"{sheet.name} line {line}"
-        if any(cells[len(names) :]):
-            raise Refused(f"{place}: it has more cells than the table has columns")
-        found = dict.fromkeys(columns, "") | dict(zip(names, cells))
-        sheet.rows.append(Row(place, found[key], found))
+        row = row_of(f"{sheet.name} line {line}", heads, columns, cells)
+        for column in filled:
+            sheet.fill(above, row, column)
+        sheet.rows.append(row)
+        above = row
     if not sheet.rows:
         raise Refused(f"{sheet.name}: no row stands below the names of the columns")
     return sheet

@@ -3,10 +3,10 @@ from __future__ import annotations
 
 import re
 import subprocess
-from typing import NamedTuple, Sequence
+from typing import Iterable, NamedTuple, Sequence
 
 from afdx_program import version
-from afdx_tools import program
+from afdx_tools import Refused, program, tomllib
 from afdx_words import Failed, shown
 
 AS_WRITTEN = "jitter,buffer,latency,skew"  # the keys that `solve` finds; kept, all stay
@@ -26,6 +26,21 @@ class Need(NamedTuple):
         """The line."""
         at = f"vl {self.vl} at {self.port}"
         return f"{at}: {self.needed_ns} ns needed, {self.asked_us} us asked"
+
+
+class Worst(NamedTuple):
+    """Where the most is needed: a port of the switch, and how many ns or bytes."""
+
+    port: int
+    amount: int
+
+
+class Bounds(NamedTuple):
+    """What `check` says of an admitted network: of each link the port where its frames can take
+    longest, and the port where most bytes can wait."""
+
+    latencies: dict[int, Worst]
+    buffer: Worst
 
 
 class Solved(NamedTuple):
@@ -72,7 +87,41 @@ def solve(config: bytes, options: Sequence[str] = ("--raise-only",)) -> Solved:
     return Solved(said.out, [Need(*map(int, match.groups())) for match in found if match], "")
 
 
+def worst_of(needs: Iterable[Need]) -> dict[int, Worst]:
+    """Of each link the port where it needs the most time."""
+    worst: dict[int, Worst] = {}
+    for need in needs:
+        if need.vl not in worst or need.needed_ns > worst[need.vl].amount:
+            worst[need.vl] = Worst(need.port, need.needed_ns)
+    return worst
+
+
+def bounds(config: bytes) -> Bounds:
+    """The bounds of a configuration that is admitted."""
+    needs, fullest = [], Worst(0, 0)
+    for line in run(["check", "--margins"], config).out.splitlines():
+        match line.split():
+            case ["m", port, vl, bound, latency]:
+                needs.append(Need(int(vl), int(port), int(bound), int(latency) // 1000))
+            case ["P", port, _, _, needed] if int(needed) > fullest.amount:
+                fullest = Worst(int(port), int(needed))
+    return Bounds(worst_of(needs), fullest)
+
+
 def check(config: bytes) -> str:
     """The answer of admission: `ok`, `no ..` or `config ..`."""
     said = run(["check"], config)
     return shown([*said.out.splitlines(), *said.told][-1])
+
+
+def read_admitted(path: str) -> dict:
+    """The tables of a configuration that is admitted, as the program writes them; Refused if it
+    isn't."""
+    with open(path, "rb") as file:
+        written = solve(file.read(), ("--keep", AS_WRITTEN))
+    if written.line:
+        raise Refused(f"{shown(path)}: {written.line}")
+    try:
+        return tomllib.loads(written.text)
+    except ValueError as error:
+        raise Failed("solve wrote no configuration", 4) from error

@@ -28,6 +28,13 @@ section { background: var(--sheet); border: 1px solid var(--rule); border-radius
 .answer { display: inline-block; padding: 2px 10px; border-radius: 999px; font-weight: 600;
   border: 1px solid currentColor; margin: 0 6px 4px 0; }
 .good { color: var(--good); } .bad { color: var(--bad); }
+.answers { margin-top: 10px; } .findings { list-style: none; margin: 8px 0 0; padding: 0; }
+.findings li { color: var(--bad); border-left: 4px solid var(--bad); background: var(--sheet);
+  padding: 3px 10px; margin: 0 0 4px; overflow-wrap: anywhere; }
+.findings b { display: inline-block; min-width: 8.2em; }
+@media (max-width: 720px) { .findings b { display: block; } #words .where { display: none; }
+  #words td.words { min-width: 0; } caption { white-space: normal; } }
+.late-row { color: var(--bad); }
 .cards { display: grid; grid-template-columns: repeat(6, 1fr); gap: 10px; margin: 16px 0 0; }
 @media (max-width: 720px) { .cards { grid-template-columns: repeat(2, 1fr); } }
 .card { background: var(--sheet); border: 1px solid var(--rule); border-radius: 8px;
@@ -38,7 +45,7 @@ section { background: var(--sheet); border: 1px solid var(--rule); border-radius
 .card dt { color: var(--muted); font-size: 12.5px; }
 .find { margin-top: 16px; } .find input { font: inherit; padding: 4px 8px; width: 22em;
   max-width: 100%; }
-.box { max-height: 560px; overflow: auto; }
+.box { max-height: 560px; overflow: auto; } #words .box { max-height: none; }
 table { border-collapse: collapse; font-variant-numeric: tabular-nums; font-size: 12.5px;
   width: 100%; }
 caption { text-align: left; font-size: 16px; font-weight: 600; padding-bottom: 4px; }
@@ -48,7 +55,7 @@ th, td { padding: 3px 8px 3px 0; white-space: nowrap; }
 td, tbody th { border-bottom: 1px solid var(--rule); text-align: left; font-weight: 400; }
 thead th { white-space: normal; } td.words { white-space: normal; min-width: 11em; }
 th.words, td.words { padding-left: 10px; }
-.number, tbody th.number { text-align: right; } tr.over td, tr.over th { color: var(--bad);
+.number, .place, tbody th.number { text-align: right; } tr.over td, tr.over th { color: var(--bad);
   font-weight: 600; } tr.over th::before { content: "! "; }
 svg { display: block; width: 100%; min-width: 760px; height: auto; margin-top: 8px; }
 svg text { font-size: 12.5px; fill: var(--ink); } svg text.muted { fill: var(--muted); }
@@ -66,6 +73,13 @@ svg text.small { font-size: 10px; fill: var(--muted); }
 .reason { fill: none; stroke: var(--bad); stroke-width: 1.8; }
 .accepted { fill: var(--median); } .delivered { fill: var(--good); }
 .passed { fill: var(--sheet); stroke: var(--axis); stroke-width: 1.2; }
+.lane-none { stroke: var(--grid); stroke-width: 4.6; }
+.lane-A { stroke: var(--replayed); stroke-width: 4.6; }
+.lane-B { stroke: var(--second); stroke-width: 4.6; } .lane-gone { fill: var(--sheet); }
+.lane-silent { stroke: var(--bad); stroke-width: 1.6; stroke-dasharray: 7 4; }
+.lane-busy { stroke: var(--bad); stroke-width: 6.4; }
+.lane-wrong { stroke: var(--bad); stroke-width: 6.4; stroke-dasharray: 1.4 1.6; }
+svg text.lane-name { font-size: 10.5px; }
 .way { stroke: var(--axis); stroke-width: .6; opacity: .6; }
 footer { color: var(--muted); margin-top: 20px; font-size: 13px; }
 footer code { font-size: 12px; overflow-wrap: anywhere; }
@@ -79,9 +93,11 @@ footer code { font-size: 12px; overflow-wrap: anywhere; }
   body { font-size: 11px; } main { max-width: none; padding: 0; }
   section { overflow: visible; padding: 8px 0; border-width: 1px 0 0; border-radius: 0; }
   svg { min-width: 0; break-inside: avoid; } h2, section > p, caption { break-after: avoid; }
+  section > p, .findings li, .card { break-inside: avoid; }
   nav, .find { display: none; } .box { max-height: none; overflow: visible; }
   .cards { grid-template-columns: repeat(6, 1fr); gap: 5px; } .card { padding: 3px 8px; }
-  .table { page: wide; } table { font-size: 8.6px; } th, td { padding: 1px 5px 1px 0; }
+  .table { page: wide; } #words { page: auto; }
+  table { font-size: 8.6px; } th, td { padding: 1px 5px 1px 0; }
   thead th { position: static; box-shadow: none; border-bottom: 1px solid var(--axis); }
   tr { break-inside: avoid; } tr[hidden] { display: table-row; } }
 """
@@ -98,7 +114,7 @@ SCRIPT = """
     let shown = 0;
     for (const row of document.querySelectorAll('tbody tr')) {
       const names = [...row.cells].filter(cell => cell.scope || cell.className !== 'number')
-        .map(cell => cell.textContent.toLowerCase());
+        .map(cell => (cell.lastElementChild || cell).textContent.toLowerCase());
       row.hidden = !words.every(word => names.some(
         name => /^[0-9]+$/.test(word) ? name === word : name.startsWith(word)));
       shown += !row.hidden;

@@ -10,11 +10,14 @@ from afdx_tools import shown
 
 Row = dict
 NAMES = {
+    "silences": "Silences: which network, system or link, on which side, from when to when",
+    "dropped": "Dropped frames: by link, side, reason and the port where they came in",
     "links": "Links: what became of their frames",
     "latency": "Links, ports and sides: latency in the replay, in ns",
     "frames": "Frames nearest to their configured latency, or over it",
-    "sides": "Links and sides: sums, missing numbers, gaps and jitter of the arrivals",
+    "sides": "Links and sides: sums, numbers, gaps and jitter of the arrivals",
     "skews": "Links: greatest time between the two copies of a frame, in ns",
+    "clocks": "Senders: by how much their copies came later on side B, in ns",
     "ports": "Ports: load, greatest backlog in bytes, and frames that left",
 }
 EARLY = "Links and sides: over-rate frames, and by how much they came too early"
@@ -30,12 +33,13 @@ COUNTED = (
     "Counted by this report from those lines and the list, and not proved: all sums; latencies in "
     "the replay (a departure less the arrival of its line) with their percentiles, and which are "
     "late; backlogs (bytes of frames that wait in an output port, without the one that is being "
-    "sent); loads; gaps, jitter, missing numbers and skews; shares; and the pictures."
+    "sent); loads; gaps, jitter, numbers, skews and clocks; silences and what came on one side "
+    "alone; shares; and the pictures."
 )
 # Where a formula could begin: at a cell's begin, or behind a semicolon, at which spreadsheets of
 # many countries cut a line.
 FORMULA = re.compile(r"(^|;)( *)(?=[=+\-@])")
-WRITTEN = {f"{name}.csv" for name in NAMES} | {"early.csv", "compared.csv"}
+WRITTEN = {f"{name}.csv" for name in NAMES} | {"arrivals.csv", "early.csv", "compared.csv"}
 WRITTEN |= {"report.json", "report.html"}  # what a folder may have of an earlier report
 
 
@@ -76,7 +80,8 @@ def as_text(rows: Sequence[Row]) -> str:
         return "(none)\n"
     table = [heads(rows)] + [[cell(value) for value in row.values()] for row in rows]
     widths = [max(len(line[n]) for line in table) for n in range(len(table[0]))]
-    is_number = [isinstance(value, (int, float)) or value is None for value in rows[0].values()]
+    columns = zip(*(row.values() for row in rows))
+    is_number = [all(v is None or isinstance(v, (int, float)) for v in each) for each in columns]
     lines = []
     for line in table:
         cells = (c.rjust(w) if n else c.ljust(w) for c, w, n in zip(line, widths, is_number))
@@ -101,9 +106,23 @@ def csv_text(rows: Sequence[Row]) -> str:
     return "".join(",".join(map(plain, line)) + "\n" for line in lines)
 
 
+def over_time(arrivals: Row) -> list[Row]:
+    """The arrivals of each link and side, a column for each step of time, by its begin in ns."""
+    start, width = arrivals["start_ns"], arrivals["step_ns"]
+    return [
+        {
+            "link": row["link"],
+            "side": row["side"],
+            **{str(start + n * width): count for n, count in enumerate(row["counts"])},
+        }
+        for row in arrivals["links"]
+    ]
+
+
 def files_of(report: Row) -> dict[str, str]:
     """The tables as CSV files, and all of the report as JSON: names and texts."""
     texts = {f"{name}.csv": csv_text(report[name]) for name in NAMES}
+    texts["arrivals.csv"] = csv_text(over_time(report["arrivals"]))
     if "early_ns" in report:
         texts["early.csv"] = csv_text(report["early_ns"])
     if report.get("compared"):

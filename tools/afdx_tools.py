@@ -50,12 +50,17 @@ def let_go(stream: IO[str] | None) -> None:
         os.dup2(os.open(os.devnull, os.O_WRONLY), stream.fileno())
 
 
-def leave(tool: str, line: object, status: int = 2) -> NoReturn:
-    """Ends the tool with one line on standard error, if that takes it."""
+def report_fault(tool: str, line: object) -> None:
+    """Writes one line on standard error, if that takes it."""
     try:
         print(f"{tool}: {shown(str(line))}", file=sys.stderr)
     except OSError:
         let_go(sys.stderr)
+
+
+def leave(tool: str, line: object, status: int = 2) -> NoReturn:
+    """Ends the tool with one line on standard error."""
+    report_fault(tool, line)
     sys.exit(status)
 
 

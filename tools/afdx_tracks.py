@@ -27,11 +27,12 @@ class Copy:
 
 @dataclass
 class Arrived:
-    """An arrival: what became of the frame and of its copies."""
+    """An arrival: where it came in, what became of the frame and of its copies."""
 
     line: int
     time: int
     side: str
+    port: int
     verdict: str
     copies: list[Copy] = field(default_factory=list)
 
@@ -75,6 +76,7 @@ def arrivals_of(counting: Counting, lines: np.ndarray) -> list[Arrived]:
             events.number_of(n),
             int(listing.time[n]),
             side_name(int(listing.side[n])),
+            int(listing.port[n]),
             events.verdict_of(n),
         )
         for n in lines
@@ -103,7 +105,10 @@ def lanes_of(track: list[Arrived], ports: dict[int, str]) -> dict[tuple[str, int
 
 def arrival_mark(arrived: Arrived, x: float, y: float) -> str:
     """A dot for an accepted frame, its reason's symbol for a dropped one."""
-    words = f"line {arrived.line}, {arrived.time:,} ns, side {arrived.side}: {arrived.verdict}"
+    words = (
+        f"line {arrived.line}, {arrived.time:,} ns, side {arrived.side}, port {arrived.port}: "
+        f"{arrived.verdict}"
+    )
     if arrived.verdict == ACCEPT:
         return titled(dot(x, y, 4, "accepted"), words)
     return titled(symbol(x, y, arrived.verdict), words)

@@ -9,7 +9,7 @@ from afdx_tools import HERE
 
 # In an install the number lies beside the tools, where bin/install put it.
 INSTALLED = os.path.join(HERE, "version")
-SOURCE = os.path.join(HERE, "..", "crates", "afdx", "src", "words.rt")
+SOURCE = os.path.join(HERE, "..", "crates", "afdx_words", "src", "words.rt")
 
 
 def number() -> str:

@@ -11,9 +11,10 @@ import sys
 import tempfile
 import time
 import traceback
-from typing import IO, Callable, Iterator, NoReturn
+from typing import IO, Callable, Iterator, NoReturn, Sequence
 
-from afdx_tools import Refused, leave, let_go, shown
+from afdx_explaining import explain
+from afdx_tools import Refused, leave, let_go, report_fault, shown
 
 WAIT = 2.0  # seconds after which progress is told
 TWICE = 0.5  # seconds in which a signal that comes again is the same one
@@ -115,11 +116,13 @@ class Progress:
 
 
 class Failed(Exception):
-    """The program ended with a fault before there was anything to report."""
+    """The program ended with a fault before there was anything to report. `again` are words of the
+    program that end with this fault at once, if there are such."""
 
-    def __init__(self, line: str, status: int) -> None:
+    def __init__(self, line: str, status: int, again: Sequence[str] = ()) -> None:
         super().__init__(line)
         self.status = status
+        self.again = again
 
 
 def streams() -> bool:
@@ -189,7 +192,9 @@ def end_of(tool: str, error: BaseException, stopped: str) -> NoReturn:
     """The last line and the status for an exception."""
     flush(FAULTY)
     if isinstance(error, Failed):
-        leave(tool, error, error.status)
+        report_fault(tool, error)
+        explain(str(error), error.again)
+        sys.exit(error.status)
     if isinstance(error, Refused):
         leave(tool, error)
     if isinstance(error, KeyboardInterrupt):

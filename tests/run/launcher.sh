@@ -18,20 +18,26 @@ for crate in afdx low tests; do
     mkdir -p "$room/house/crates/$crate/src"
     touch "$room/house/crates/$crate/src/lib.rt"
 done
-cp "$top/bin/afdx" "$room/house/bin/afdx"
+sed 's/^APART=30 /APART=1 /; s/^LOOK=10 /LOOK=0.2 /' "$top/bin/afdx" >"$room/house/bin/afdx"
+chmod +x "$room/house/bin/afdx"
 printf 'low: toml\ntests: afdx low\nafdx: low clap\n' >"$room/house/crates.txt"
 cat >"$room/kit/rt" <<'RT'
 #!/usr/bin/env bash
 echo "$(basename "$PWD"): $1" >>"$CALLS"
 [[ ! -e $BROKEN ]] || { echo 'one goal is open'; exit 1; }
-echo 'so far: 1 of 2 functions checked'
+echo 'rt: chose --jobs 2 for low'
+echo 'so far: 0 of 2 functions checked; the verdict comes last'
+[[ ! -e $SLOW ]] || timeout 2.5 sha256sum /dev/zero
 echo 'crate low: modules loaded=1 checked=1'
+[[ ! -e $SLOW ]] || sleep 1.5
+echo 'rt: chose --jobs 2 for afdx'
+echo 'crate afdx: modules loaded=1 checked=1'
 mkdir -p out
 printf '#!/bin/sh\necho "ran $*"\nexit 3\n' >out/afdx
 chmod +x out/afdx
 RT
 chmod +x "$room/kit/rt"
-export CALLS=$room/calls BROKEN=$room/broken
+export CALLS=$room/calls BROKEN=$room/broken SLOW=$room/slow
 
 launch() { # WORD.. : runs the launcher, and keeps its status, streams, and what it called
     : >"$CALLS"
@@ -63,6 +69,7 @@ expect 'the first call proves what the program stands on, and builds' called "$o
 expect 'it ends as the program does' [ "$status" = 3 ]
 expect 'standard output is the program'"'"'s alone' cmp -s "$room/out" <(echo 'ran police --help')
 expect 'it says how far it is' grep -q '^afdx: checked low: 1 of 2, after' "$room/err"
+expect 'and when all is checked' grep -q '^afdx: now the program is compiled,' "$room/err"
 launch check
 expect 'the second call builds nothing' called ''
 expect 'and says nothing' [ ! -s "$room/err" ]
@@ -79,8 +86,16 @@ expect 'where a crate is not proved the status is 70' [ "$status" = 70 ]
 expect 'nothing is started' [ ! -s "$room/out" ]
 expect 'what rt said is told' grep -q 'one goal is open' "$room/err"
 rm "$BROKEN"
+touch "$SLOW"
 launch check
 expect 'it is built once that is mended' [ "$status" = 3 ]
+stands='^afdx: 0 of 2 crates checked, after [1-9][0-9]* s; now low for [1-9][0-9]* s '
+stands+='([0-9][0-9]* s of processor): 0 of 2 functions checked; in a large crate that stands'
+expect 'where a crate takes long it says which, how far it is, and how much work it was' \
+    grep -q "$stands" "$room/err"
+expect 'between two crates it says how many are checked' \
+    grep -q '^afdx: 1 of 2 crates checked, after [1-9][0-9]* s$' "$room/err"
+rm "$SLOW"
 expect 'each function of the launcher is written once' written_once
 
 printf '%d passed, %d failed\n' "$passed" "$failed"

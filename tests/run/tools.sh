@@ -61,7 +61,8 @@ if [[ ! -x $python ]]; then
 fi
 
 if "$python" -c 'import numpy' 2>"$work/err"; then numpy=1; else numpy=; fi
-for tool in afdx-capture ${numpy:+afdx-report} afdx-campaign afdx-icd afdx-fill; do
+for tool in afdx-capture ${numpy:+afdx-report} afdx-campaign afdx-icd afdx-fill afdx-traffic \
+    afdx-taps; do
     launch "tools/$tool" --help
     tell "$tool --help" "$(is_status 0; says out usage)"
 done
@@ -73,8 +74,9 @@ else
 fi
 
 parts="recordings report hardening criteria early page capture_faults wireshark icd"
-parts+=" icd_faults fill completion hostile_completion safe_outputs hostile_files around campaigns"
-parts+=" recorded_reports package"
+parts+=" explained icd_faults icd_documents icd_growth traffic taps fill completion"
+parts+=" hostile_completion safe_outputs hostile_files around campaigns recorded_reports absence"
+parts+=" package"
 for part in $parts; do
     # shellcheck source=/dev/null
     source "$top/tests/tools/$part.sh"

@@ -88,6 +88,7 @@ install_tests() {
         for file in share/man/man1/afdx{,-capture,-report,-campaign,-icd,-fill}.1 bin/afdx-fill \
             share/bash-completion/completions/afdx{,-capture,-report,-campaign,-icd,-fill} \
             share/zsh/site-functions/_afdx lib/wireshark/plugins/afdx.lua \
+            share/afdx/examples/{messages.csv,base.toml,one_link.list} \
             share/fish/vendor_completions.d/afdx{,-capture,-report,-campaign,-icd,-fill}.fish; do
             if [[ ! -s $prefix/$file ]]; then echo "no $file"; fi
         done
@@ -127,7 +128,7 @@ install_tests() {
 guide_tests() {
     local folder=$work/guide
     mkdir "$folder"
-    ln -s "$top/examples" "$folder/examples"
+    cp -r "$work/prefix/share/afdx/examples" "$folder" # as the guide says
     HAS=
     if "$program" send --help >"$work/out" 2>&1; then HAS+=' send'; fi
     if [[ -n $dpkt ]]; then HAS+=' capture'; fi

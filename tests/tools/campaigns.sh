@@ -65,6 +65,54 @@ criteria_campaign_tests() {
     tell 'and without them' "$(is_status 0)"
 }
 
+# ---- runs without a result, and what all of them come to -----------------------------------
+
+runs_logged() { # FOLDER NUMBER : how often that run stands in the job log
+    cut -f 9 "$1/joblog" | grep -c "^run=$2;"
+}
+
+worst_tests() {
+    printf 'F 0 A 1 %s\nF 0 C 1 00\n' "$(frame_of A 0)" >"$work/faulty.list"
+    launch tools/afdx-campaign examples/base.toml "$work/dropping.list" "$work/faulty.list" \
+        "$work/sound.list" --out "$work/worst" --fail-on dropped
+    tell 'a list with a fault is worse than a criterion that is not met' "$(
+        is_status 3
+        wants_text "$(column_of "$work/worst/campaign.csv" 16)" '6 3 0' 'statuses'
+        wants_text "$(tail -n 1 "$work/out" | awk '{ print $1, $2, $3, $4, $5 }')" 'all 3 5 4 1' \
+            'the sums'
+    )"
+    launch tools/afdx-campaign examples/base.toml "$work/sound.list" "$work/nowhere.list" \
+        --out "$work/worst"
+    tell 'a run without a result is the worst' "$(
+        is_status 4
+        says err '1 of 2 runs have no result (--resume repeats them)'
+        if ! tail -n 1 "$work/out" | grep -q '^all 2 .* 1 without a result$'; then
+            tail -n 1 "$work/out"
+        fi
+    )"
+    cp "$work/sound.list" "$work/nowhere.list"
+    launch tools/afdx-campaign examples/base.toml "$work/sound.list" "$work/nowhere.list" \
+        --out "$work/worst" --resume
+    tell 'resume repeats it, and it alone' "$(
+        is_status 0
+        wants_text "$(column_of "$work/worst/campaign.csv" 1)" '1 1' 'frames'
+        wants_text "$(runs_logged "$work/worst" 1) $(runs_logged "$work/worst" 2)" '1 2' 'runs'
+    )"
+    rm "$work/nowhere.list"
+    # shellcheck disable=SC2016  # the script expands it
+    printf '#!/bin/sh\ncase $1 in replay) kill -9 $PPID ;; esac\nexec "%s" "$@"\n' "$program" \
+        >"$work/deadly"
+    chmod +x "$work/deadly"
+    launch env AFDX="$work/deadly" tools/afdx-campaign examples/base.toml "$work/sound.list" \
+        --out "$work/ended"
+    tell 'a run that was killed has no result' "$(is_status 4; says err 'no result')"
+    launch tools/afdx-campaign examples/base.toml "$work/sound.list" --out "$work/ended" --resume
+    tell 'and is repeated too' "$(
+        is_status 0
+        wants_text "$(column_of "$work/ended/campaign.csv" 1)" 1 'frames'
+    )"
+}
+
 # ---- other machines ------------------------------------------------------------------------
 
 on_machines() { # FOLDER WORD.. : a campaign of two lists there, with relative paths
@@ -87,6 +135,65 @@ ran_there() { # FOLDER
     for number in 1 2; do
         if [[ ! -s $1/out/pages/$number/report.html ]]; then echo "no page $number"; fi
     done
+}
+
+many_lists() { # FOLDER COUNT
+    local number
+    for ((number = 1; number <= $2; number++)); do one_frame "$1/many$number.list"; done
+}
+
+on_machine() { # NAME : how many runs of the last campaign ended well there
+    tail -n +2 "$work/many/joblog" | cut -f 2,7 | grep -c " $1"$'\t''0$'
+}
+
+all_ran() { # COUNT : each of so many lists has a result
+    wants_text "$(column_of "$work/many/campaign.csv" 1 | tr -d ' ')" \
+        "$(printf '1%.0s' $(seq "$1"))" 'frames of each'
+}
+
+# A machine that can't be reached, and one whose cable is unplugged once it has done a run.
+dead_machine_tests() {
+    local ssh="1/ssh -F $work/machines/config" count=12 tries
+    local quick="$ssh -oConnectTimeout=1 -oServerAliveInterval=1 -oServerAliveCountMax=2"
+    many_lists "$work" "$count"
+    launch tools/afdx-campaign examples/base.toml "$work"/many*.list --out "$work/many" \
+        -S "$ssh refusing,$ssh one"
+    tell 'a machine that cannot be reached takes no run away' "$(
+        is_status 0
+        all_ran "$count"
+        says err 'refusing is left out, as 3 runs in a row failed there: ssh: connect to host'
+        wants_text "$(on_machine one)" "$count" 'runs on machine one'
+        wants_text "$(cell_of "$work/many/campaign.csv" 3 18)" "'$ssh one'" 'the machine'
+    )"
+    rm "$work/many/joblog"
+    ( # ten minutes are enough, however busy the processors are
+        for ((tries = 0; tries < 6000; tries++)); do
+            if [[ -s $work/many/joblog ]] && [[ $(on_machine two) -gt 0 ]]; then break; fi
+            sleep 0.1
+        done
+        tests/tools/two_hosts.sh cut "$work/machines" two
+    ) &
+    launch tools/afdx-campaign examples/base.toml "$work"/many*.list --out "$work/many" \
+        -S "$ssh one" -S "$quick two"
+    tell 'a machine that dies midway takes none either' "$(
+        is_status 0
+        all_ran "$count"
+        if [[ $(on_machine two) -eq 0 ]]; then echo 'it did nothing before'; fi
+        if [[ $(on_machine one) -le $((count / 2)) ]]; then echo 'the other did too little'; fi
+    )"
+    wait
+    launch tools/afdx-campaign examples/base.toml "$work"/many*.list --out "$work/many" \
+        -S "$quick two,$ssh refusing"
+    tell 'a campaign ends where no machine answers' "$(
+        is_status 4
+        says err "$count of $count runs have no result"
+        says out "$count without a result"
+    )"
+    tests/tools/two_hosts.sh join "$work/machines" two
+    launch tools/afdx-campaign examples/base.toml "$work"/many*.list --out "$work/many" \
+        -S "4/ssh -F $work/machines/config two" --resume
+    tell 'and goes on once one does' "$(is_status 0; all_ran "$count")"
+    rm "$work"/many*.list
 }
 
 machine_tests() {
@@ -117,6 +224,7 @@ machine_tests() {
         is_status 0
         wants_text "$(column_of "$work/machines/hidden/out/campaign.csv" 1)" '3 1' 'frames'
     )"
+    dead_machine_tests
     tests/tools/two_hosts.sh down "$work/machines" >>"$work/out" 2>&1
 }
 
@@ -132,6 +240,7 @@ without_rsync_test() {
 if [[ -n $reporting ]] && has parallel; then
     odd_name_tests
     criteria_campaign_tests
+    worst_tests
     without_rsync_test
     if has rsync; then
         machine_tests

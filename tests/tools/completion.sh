@@ -84,6 +84,7 @@ offer_tests() { # SHELL
         offers "$1" "afdx-capture list --config $files/" one.toml
         offers "$1" "afdx-capture list --config $files/one.toml $files/" four.pcap
         offers "$1" "afdx-capture list --config $files/one.toml $files/four.pcap $files/" four.pcap
+        offers "$1" "afdx-capture list --taps $files/" seven.csv
         offers "$1" "afdx-capture pcap $files/" two.list
         offers "$1" "afdx-capture pcap --side A $files/two.list $files/" four.pcap
         offers "$1" "afdx-capture annotate $files/" one.toml
@@ -93,12 +94,22 @@ offer_tests() { # SHELL
         offers "$1" "afdx-report --fcs no $files/one.toml $files/four.pcap $files/" four.pcap
         offers "$1" "afdx-report --reorder 0 --stamps end $files/" one.toml
         offers "$1" "afdx-report --out $files/"
+        offers "$1" "afdx-report --taps $files/seven.csv $files/" one.toml
         offers "$1" "afdx-icd --profile 2 $files/" seven.csv
         offers "$1" "afdx-icd $files/seven.csv $files/" seven.csv
+        offers "$1" "afdx-icd --fill --reserve 20 $files/seven.csv --since $files/" one.toml
         offers "$1" "afdx-icd $files/seven.csv $files/seven.csv $files/" one.toml
+        offers "$1" "afdx-traffic --seed 1 $files/seven.csv $files/" seven.csv
+        offers "$1" "afdx-traffic --seconds 9 --config $files/" one.toml
+        offers "$1" "afdx-traffic $files/seven.csv $files/seven.csv $files/"
+        offers "$1" "afdx-taps $files/" one.toml
+        offers "$1" "afdx-taps --anyway $files/one.toml $files/" seven.csv
+        offers "$1" "afdx-taps $files/one.toml $files/seven.csv $files/" four.pcap
+        offers "$1" "afdx-taps $files/one.toml $files/seven.csv $files/four.pcap $files/" four.pcap
         offers "$1" "afdx-fill $files/" one.toml
         offers "$1" "afdx-fill --keep skew $files/one.toml $files/" one.toml
         offers "$1" "afdx-campaign $files/" one.toml
+        offers "$1" "afdx-campaign --taps $files/" seven.csv
         offers "$1" "afdx-campaign --reorder 0 --stamps end $files/" one.toml
         offers "$1" "afdx-campaign $files/one.toml $files/two.list $files/" two.list four.pcap
     )"
@@ -113,8 +124,8 @@ options_of() { # WORD.. : the long options that its --help has a line for
 
 each_help() { # FUNCTION WORD.. : calls it with the words, a command's name and its options
     local name
-    for name in afdx-report afdx-campaign afdx-icd afdx-fill 'afdx-capture list' \
-        'afdx-capture pcap' 'afdx-capture annotate'; do
+    for name in afdx-report afdx-campaign afdx-icd afdx-fill afdx-traffic afdx-taps \
+        'afdx-capture list' 'afdx-capture pcap' 'afdx-capture annotate'; do
         # shellcheck disable=SC2086
         options_of tools/$name >"$work/options"
         "$@" "$name" "$work/options"
@@ -149,8 +160,8 @@ done
 
 version_tests() {
     local wanted tool
-    wanted=$(sed -n 's/^const VERSION: &str = "\([^ ]*\) .*/\1/p' crates/afdx/src/words.rt)
-    for tool in afdx-capture afdx-report afdx-campaign afdx-icd afdx-fill; do
+    wanted=$(sed -n 's/^const VERSION: &str = "\([^ ]*\) .*/\1/p' crates/afdx_words/src/words.rt)
+    for tool in afdx-capture afdx-report afdx-campaign afdx-icd afdx-fill afdx-traffic afdx-taps; do
         launch "tools/$tool" --version
         tell "$tool --version" "$(
             is_status 0

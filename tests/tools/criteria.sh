@@ -11,7 +11,7 @@ late_tests() {
     gigabit --out "$work/late"
     tell 'the late link stands first, few as its frames are' "$(
         is_status 0
-        says out 'nearest    link 2 at port 5, side A: 512000 of 400000 ns configured (128.0%)'
+        says out 'nearest     link 2 at port 5, side A: 512000 of 400000 ns configured (128.0%)'
         says out 'link 2 at port 5, side B: 512000 of 400000 ns configured (128.0%), 4 of 4 copies'
         wants_number "$work/late/report.json" 'r["totals"]["late"]' 8
         wants_number "$work/late/report.json" 'r["frames"][0]["line"]' 19
@@ -43,16 +43,21 @@ for share, words in ((0.9996, "99.9%"), (0.99999999, "99.9%"), (1.0, "100.0%"), 
 }
 
 criteria_tests() {
-    gigabit --json --fail-on lost,late,dropped --junit "$work/late.xml"
+    gigabit --json --fail-on full-buffer,late,dropped --junit "$work/late.xml"
     tell 'criteria that are not met: status 6, each named' "$(
         is_status 6
-        says err 'afdx-report: 2 lost'
+        says err 'afdx-report: 2 full-buffer'
         says err 'afdx-report: 8 late'
-        wants_number "$work/out" 'r["unmet"], r["status"]' "(['2 lost', '8 late'], 0)"
+        wants_number "$work/out" 'r["unmet"], r["status"]' "(['8 late', '2 full-buffer'], 0)"
         wants_cases "$work/late.xml" '4 0 2'
     )"
     gigabit --json --fail-on dropped --junit "$work/late.xml"
     tell 'a criterion that is met' "$(is_status 0; wants_cases "$work/late.xml" '2 0 0')"
+    gigabit --json --fail-on lost
+    tell 'lost is all that is gone' "$(
+        is_status 6
+        wants_number "$work/out" 'r["unmet"]' "['2 full-buffer', '2 too-old']"
+    )"
     gigabit --json --fail-on too-old,refused
     tell 'each criterion is its own count' "$(
         is_status 6

@@ -10,11 +10,18 @@ import sys
 
 
 def steps_between(before: int, number: int) -> int:
-    """Steps from a number to the next one: 0, 1, .. 255, 1, .., counted one by one."""
-    steps = 0
-    while before != number:
-        before = before % 255 + 1
+    """Steps from a number to the next one: 0, 1, .. 255, 1, .., counted one by one; below 0 where
+    that is more than half of the round, counted back: .. 2, 1, 255, 254, .. and 0, 255, 254, .."""
+    steps, place = 0, before
+    while place != number and steps <= 127:
+        place = place % 255 + 1
         steps += 1
+    if steps <= 127:
+        return steps
+    steps, place = 0, before
+    while place != number:
+        place = place - 1 if place > 1 else 255
+        steps -= 1
     return steps
 
 

@@ -23,7 +23,7 @@ word_tests() {
     refuses '65536 is no whole number of 0 to 65535' --link 65536
     refuses 'no whole number' --from 1e3
     refuses 'no whole number' --worst '²'
-    refuses 'early is none of dropped, lost, late' --fail-on dropped,early
+    refuses 'early is none of silent, contradicted, clock' --fail-on dropped,early
     launch tools/afdx-report examples/base.toml
     tell 'a missing word is one line' "$(is_status 2; one_line; says err LIST)"
 }

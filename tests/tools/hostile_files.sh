@@ -18,11 +18,14 @@ no_controls() { # FILE..
 # ---- the program ---------------------------------------------------------------------------------
 
 by_each_tool() { # PROGRAM WORDS : each tool on sound files, with this as its program
-    local base=examples/base.toml list=examples/one_link.list words
+    local base=examples/base.toml list=examples/one_link.list tables words
+    tables='examples/systems.csv examples/messages.csv'
+    printf 'interface,side,port,direction\neth0,A,1,in\n' >"$work/others.csv"
     for words in "report $base $list --json" "campaign $base $list --out $work/others" \
         "capture annotate $base $list $work/others.pcapng" \
         "capture list --config $base $list" "fill $base -" \
-        "icd examples/systems.csv examples/messages.csv -"; do
+        "icd $tables -" "traffic --config $base $tables $work/others" \
+        "taps $base $work/others.csv $list"; do
         # shellcheck disable=SC2086
         launch env AFDX="$1" tools/afdx-$words
         is_status 4
@@ -51,7 +54,7 @@ other_program_tests() {
 
 stream_tests() {
     local tool
-    for tool in report campaign capture icd fill; do
+    for tool in report campaign capture icd fill traffic taps; do
         status=0
         "tools/afdx-$tool" --help >/dev/full 2>"$work/err" || status=$?
         tell "afdx-$tool --help onto a full device" "$(
@@ -156,7 +159,7 @@ campaign_name_tests() {
         head -n 3 "$work/err"
         no_controls "$work/out"
         says out 'a\rb.list'
-        wants_text "$(tail -n +2 "$folder/out/campaign.csv" | grep -c ',0,$')" 7 'sound runs'
+        wants_text "$(tail -n +2 "$folder/out/campaign.csv" | grep -c ',0,,:$')" 7 'sound runs'
     )"
     tell 'no cell of its table is a formula, also where semicolons part cells' "$(
         no_controls "$folder/out/campaign.csv"
@@ -171,27 +174,43 @@ print(*sorted(row[0] for row in rows[1:]), sep="\n")' "$folder/out/campaign.csv"
     )"
 }
 
+go_on() { # a campaign that --resume goes on with, in $folder; its runs are repeated by parallel
+    launch "$@" tools/afdx-campaign examples/base.toml examples/one_link.list --out "$folder" \
+        --resume
+    if grep -q Traceback "$work/err"; then tail -n 1 "$work/err"; fi
+}
+
 odd_run_tests() { # what a run gave is of another kind
-    local folder=$work/odd_run number
+    local folder=$work/odd_run idle=$work/idle given
+    mkdir -p "$idle"
+    printf '#!/bin/sh\nexit 0\n' >"$idle/parallel"
+    chmod +x "$idle/parallel"
     launch tools/afdx-campaign examples/base.toml examples/one_link.list --out "$folder"
     cp "$folder/runs/1/stdout" "$work/kept.json"
-    for number in '{}' '[[[' '{"fault": "", "totals": 5, "latency": []}' ''; do
-        echo "$number" >"$folder/runs/1/stdout"
-        launch tools/afdx-campaign examples/base.toml examples/one_link.list --out "$folder" \
-            --resume
-        tell "a run that gave $number" "$(
+    for given in '{}' '[[[' '{"fault": "", "totals": 5, "latency": []}' ''; do
+        echo "$given" >"$folder/runs/1/stdout"
+        tell "a run that gave $given has no result" "$(
+            go_on env PATH="$idle:$PATH"
             is_status 4
-            if grep -q Traceback "$work/err"; then tail -n 1 "$work/err"; fi
+        )"
+        tell 'and is repeated' "$(
+            go_on env
+            is_status 0
+            wants_number "$folder/runs/1/stdout" 'r["totals"]["frames"]' 3
         )"
     done
     sed 's/"share": [0-9.e-]*/"share": NaN/' "$work/kept.json" >"$folder/runs/1/stdout"
     printf '\e]0;x\a what\n' >"$folder/runs/1/stderr"
     printf 'cut' >>"$folder/joblog"
-    launch tools/afdx-campaign examples/base.toml examples/one_link.list --out "$folder" --resume
-    tell 'and with a share that is none' "$(
+    tell 'nor has one with a share that is none' "$(
+        go_on env PATH="$idle:$PATH"
         is_status 4
         says out 'values of another kind'
         no_controls "$work/out"
+    )"
+    tell 'and it is repeated after a line of the job log that was cut' "$(
+        go_on env
+        is_status 0
     )"
 }
 
@@ -246,7 +265,7 @@ reading_tests() {
     launch tools/afdx-fill "$work/config.toml" "$work/filled.toml"
     tell 'which afdx-fill fills, remarks and all' "$(
         is_status 0
-        grep -F 'name = "s\x31", # of all' "$work/filled.toml" | wc -l | grep -vx 1
+        grep -cF 'name = "s\x31", # of all' "$work/filled.toml" | grep -vx 1
         sed -E 's/(buffer|_us) = [0-9]+/\1/g' "$work/config.toml" >"$work/wanted"
         sed -E 's/(buffer|_us) = [0-9]+/\1/g' "$work/filled.toml" >"$work/got"
         same "$work/wanted" "$work/got"

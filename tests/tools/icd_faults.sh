@@ -68,9 +68,31 @@ a queuing port has no depth
 messages: 4s/4$//
 messages.csv line 4, maintenance report: depth (empty): it has to be a whole number from 1 to 64
 
-a link stands twice
+messages of a link have two senders
 messages: 3s/,20,/,010,/
-messages.csv line 3, attitude: vl 010: messages.csv line 2 has it too
+messages.csv line 3, attitude: from fcc: messages.csv line 2 has adc, on this link
+
+messages of a link have two priorities
+messages: 4s/,21,/,20,/
+messages.csv line 4, maintenance report: priority low: messages.csv line 3 has high, on this link
+
+messages of a link have two kinds of policing
+messages: 1s/$/,policing/; 3s/$/,byte/; 4s/$/,frame/; 4s/,21,/,20,/; 4s/low/high/; 2d; 5,$d
+messages.csv line 3, maintenance report: policing frame: messages.csv line 2 has byte, on this link
+
+messages of a link have one UDP port
+messages: 4s/,21,/,20,/; 4s/low,1021/high,1020/
+messages.csv line 4, maintenance report: port 1020: messages.csv line 3 has it too, on this link
+
+two rows for a message differ
+messages: 2s/fcc disp/fcc/; 3s/.*/air data,10,adc,fcc disp,10,65,,high,1010,sampling,/; 4,$d
+messages.csv line 3, air data: every_ms 10: messages.csv line 2 has 20, of this message
+messages.csv line 3, air data: bytes 65: messages.csv line 2 has 64, of this message
+messages.csv line 3, air data: to fcc disp: messages.csv line 2 has fcc too, of this message
+
+messages of a link are too many
+messages: 3s/,10,120,/,1,120,/; 4s/.*/heading,20,fcc,disp,128,9,,high,1021,sampling,/; 5,$d
+messages.csv line 4, heading: every_ms 128: link 20 would have to send more than a frame a ms
 
 a message has no name
 messages: 3s/attitude//
@@ -84,9 +106,26 @@ systems.csv line 4, disp: id 17: systems.csv line 2 has it too
 messages.csv line 2, air data: to fcc disp: no system is named fcc
 
 a name is no name
-systems: 2s/adc/a-dc/
+systems: 2s/adc/a.dc/
 messages: 2d; s/,adc,/,disp,/
-systems.csv line 2, a-dc: system a-dc: it has to be a name of 1 to 16 letters A to Z and digits
+systems.csv line 2, a.dc: system a.dc: it has to be a name of 1 to 16 letters A to Z and digits
+
+a number may be a fraction or thousands
+messages: 4s/,200,1000,1000,/,"1,200",1.000,"1000,0",/
+messages.csv line 4, maintenance report: every_ms 1,200: it has to be a period in ms, as 20 or 12.5
+messages.csv line 4, maintenance report: bytes 1.000: it has to be a whole number from 1 to 1471
+
+a number has a fraction
+messages: 3s/,10,120,120,/,10,120.5,120,/
+messages.csv line 3, attitude: bytes 120.5: it has to be a whole number from 1 to 1471
+
+a port stands twice, once with a fraction
+systems: 3s/,2,/,1.0,/
+systems.csv line 3, fcc: port 1.0: systems.csv line 2 has it too
+
+a head has a unit that no one knows
+messages: 1s/every_ms/every [fortnights]/
+messages.csv: no column is named every_ms
 
 a rate is of profile 2
 systems: 2s/100$/1000/
@@ -143,8 +182,8 @@ many_faults_tests() {
     tables "$at" '' '2,$d'
     for vl in $(seq 4097); do echo "m,$vl,adc,fcc,9,9,9,low,9,sampling,1"; done >>"$at/messages.csv"
     icd "$at"
-    tell 'more messages than links and ports' "$(is_refused "$at" 2 \
-        'messages.csv: it has more than 4096 messages' \
+    tell 'more links and ports than a network has' "$(is_refused "$at" 2 \
+        'messages.csv: it has more than 4096 links' \
         'messages.csv: its messages have 4097 receivers; 4096 are the most')"
 }
 

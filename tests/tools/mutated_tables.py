@@ -19,12 +19,16 @@ sys.dont_write_bytecode = True
 HERE = os.path.dirname(os.path.abspath(__file__))
 sys.path[:0] = [os.path.join(HERE, "..", "..", "tools"), os.path.join(HERE, "..", "lib")]
 import afdx_interface as interface  # noqa: E402
+from afdx_layout import asked_text  # noqa: E402
 from afdx_sheets import read_sheet  # noqa: E402
 from afdx_tools import Refused  # noqa: E402
 from least import solve_fault  # noqa: E402
 
+COLUMNS = interface.SYSTEMS, interface.MESSAGES
+FULL = interface.FULL_SYSTEMS, interface.FULL_MESSAGES
 CELLS = "0 1 3 17 20 24 25 64 65 80 100 1471 1472 65535 65536 100000 100001 0.5 12,5 1000 -1 +1 010"
-CELLS += " adc fcc disp high low sampling queuing Frame x \u0661 \u00b2 1e3 0x10 nan"
+CELLS += " adc fcc disp high low sampling queuing Frame x \u0661 \u00b2 1e3 0x10 nan a-dc f_cc"
+CELLS += " 1.0 16.0 10,0 1.000 fcc;disp Every_[s] within[ms]"
 PIECES = [b'"', b",", b";", b"\t", b"\n", b"\r", b"\0", b"\xff", b" ", b"#"]
 PIECES += ["\ufeff".encode(), "\u2028".encode()]
 
@@ -43,10 +47,13 @@ def changed(chance: random.Random, text: bytes) -> bytes:
     return text
 
 
-def fault_of(paths: list[str]) -> tuple[str, bool]:
+def fault_of(paths: list[str], is_filled: bool) -> tuple[str, bool]:
     """What is wrong with how the tables are read, or nothing; and whether they have no fault."""
     try:
-        sheets = read_sheet(paths[0], interface.SYSTEMS), read_sheet(paths[1], interface.MESSAGES)
+        sheets = [
+            read_sheet(path, columns, full if is_filled else ())
+            for path, columns, full in zip(paths, COLUMNS, FULL)
+        ]
         document = interface.document_of(*sheets, 2)
     except Refused as refused:
         line = str(refused)
@@ -56,7 +63,7 @@ def fault_of(paths: list[str]) -> tuple[str, bool]:
             return f"a line that can't be printed: {line!r}", False
     if document.faults:
         return "", False
-    return solve_fault(interface.asked_text(document)), True
+    return solve_fault(asked_text(document)), True
 
 
 def main() -> None:
@@ -73,7 +80,7 @@ def main() -> None:
             for path, text in zip(made, texts):
                 with open(path, "wb") as file:
                     file.write(changed(chance, text) if chance.random() < 0.7 else text)
-            fault, is_read = fault_of(made)
+            fault, is_read = fault_of(made, chance.random() < 0.3)
             read += is_read
             wrong += bool(fault)
             if fault:

@@ -13,6 +13,23 @@ package_root() { # a root with an empty list of packages and the C library
     done < <(ldd "$program" | grep -o '/[^ ]*')
 }
 
+dead_links() { # FOLDER : links of its documents that lead to no file, or to no heading of one
+    "$python" - "$1" <<'END_OF_FILE'
+import pathlib, re, sys
+folder = pathlib.Path(sys.argv[1])
+for page in sorted(folder.glob("*.md")):
+    for name, _, place in re.findall(r"\]\(([^)#]*)(#([^)]*))?\)", page.read_text()):
+        target = folder / (name or page.name)
+        if not target.is_file():
+            print(f"{page.name}: there is no {name}")
+            continue
+        heads = re.findall(r"^#+ (.*)$", target.read_text(), re.M)
+        slugs = [re.sub(r"[^\w -]", "", head.lower()).replace(" ", "-") for head in heads]
+        if place and place not in slugs:
+            print(f"{page.name}: {target.name} has no heading {place}")
+END_OF_FILE
+}
+
 installed_tests() { # DEB
     local root=$work/deb_root file
     package_root
@@ -23,13 +40,23 @@ installed_tests() { # DEB
             echo 'dpkg says that it is not'
         cmp "$program" "$root/usr/bin/afdx" 2>&1
         for file in share/man/man1/afdx{,-capture,-report,-campaign,-icd,-fill}.1.gz \
-            share/doc/afdx/TOOLS.md share/doc/afdx/examples/messages.csv \
+            share/man/man1/afdx{-traffic,-taps}.1.gz \
+            share/doc/afdx/{TOOLS.md,copyright} share/afdx/examples/{messages.csv,make_bench.py} \
             share/bash-completion/completions/afdx{,-capture} share/zsh/vendor-completions/_afdx \
             share/fish/vendor_completions.d/afdx{,-report}.fish share/doc/afdx/changelog.gz \
             "lib/$(dpkg-architecture_of)/wireshark/plugins/afdx.lua" bin/afdx-report; do
             if [[ ! -s $root/usr/$file ]]; then echo "no $file"; fi
         done
         (cd "$root" && md5sum --quiet -c var/lib/dpkg/info/afdx.md5sums 2>&1)
+    )"
+    tell 'the README of the package is its own, and its documents lead nowhere else' "$(
+        cmp docs/PACKAGE.md "$root/usr/share/doc/afdx/README.md" 2>&1
+        dead_links "$root/usr/share/doc/afdx"
+    )"
+    tell 'GUIDE names the folder in which the package has the examples' "$(
+        grep -o '/usr/share/afdx/examples' "$root/usr/share/doc/afdx/GUIDE.md" >"$work/named" ||
+            echo 'it does not'
+        diff -r -x __pycache__ examples "$root$(head -n 1 "$work/named")"
     )"
     if [[ -n $numpy ]]; then
         launch env -u AFDX "$root/usr/bin/afdx-report" examples/base.toml \
@@ -60,7 +87,7 @@ dpkg-architecture_of() { # the folder of this machine's libraries
 
 package_tests() {
     local version deb
-    version=$(sed -n 's/^const VERSION: &str = "\([^ ]*\) .*/\1/p' crates/afdx/src/words.rt)
+    version=$(sed -n 's/^const VERSION: &str = "\([^ ]*\) .*/\1/p' crates/afdx_words/src/words.rt)
     launch bin/package "$work/packages"
     deb=$(tail -n 1 "$work/out")
     tell 'a package is made' "$(

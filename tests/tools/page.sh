@@ -18,7 +18,7 @@ parts_tests() { # of the sample of counted_tests
     )"
     tell 'of too many rows a page has those with the greatest share' "$(
         cd tools && "$python" -B -c '
-from afdx_page import table
+from afdx_parts import table
 rows = [{"link": n, "share": n / 20_000} for n in range(10_001)]
 page = table(rows, "Links")
 for words in ("the 10,000 with the greatest share of 10,001 rows", ">10000<", ">1<"):
@@ -46,36 +46,76 @@ paper_test() {
             if ! grep -qE "$words" "$work/page.txt"; then echo "no '$words'"; fi
         done
         pdftotext -f 1 -l 1 -layout "$work/page.pdf" "$work/first.txt"
-        if [[ $(grep -c 'of configured$' "$work/first.txt") -lt 10 ]]; then
-            echo 'page 1 is nearly empty'
-        fi
+        if [[ $(grep -c '[a-z]' "$work/first.txt") -lt 30 ]]; then echo 'page 1 is nearly empty'; fi
+        if [[ $(grep -c 'of configured$' "$work/page.txt") -lt 10 ]]; then echo 'no latencies'; fi
     )"
 }
 
-find_test() { # the search field finds the rows of a link
-    local typed='const field = document.getElementById("find"); field.value = "501";'
+with_script() { # PAGE SCRIPT : a page with another script too
+    sed "s|</body>|<script>$2</script></body>|" "$1"
+}
+
+without_policy() { # a page that any script may run in
+    sed 's|<meta http-equiv[^>]*>||'
+}
+
+find_on_page() { # WORDS FILTER : types words into the search field of a page that a filter wrote
+    local typed="const field = document.getElementById(\"find\"); field.value = \"$1\";"
     typed+='field.dispatchEvent(new Event("input"))'
-    sed "s|</body>|<script>$typed</script></body>|" "$work/timelines/report.html" \
-        >"$work/closed.html"
-    sed 's|<meta http-equiv[^>]*>||' "$work/closed.html" >"$work/find.html"
-    launch chromium --headless --no-sandbox --disable-gpu --virtual-time-budget=3000 --dump-dom \
-        "file://$work/closed.html"
-    tell 'a page runs no script but its own' "$(
-        if ! grep -q 'id="found"' "$work/out"; then echo 'no field'; fi
-        grep -oE 'id="found"[^>]*>[^<]*rows' "$work/out"
-    )"
+    with_script "$work/timelines/report.html" "$typed" | "$2" >"$work/find.html"
     launch chromium --headless --no-sandbox --disable-gpu --virtual-time-budget=3000 --dump-dom \
         "file://$work/find.html"
-    cat "$work/timelines"/{links,latency,frames,sides,skews}.csv | grep -c '^501,' >"$work/wanted"
-    grep -oE 'id="found"[^>]*>[^<]*' "$work/out" | grep -oE '[0-9]+ rows' >"$work/got"
-    tell 'the search field' "$(wants_text "$(<"$work/got")" "$(<"$work/wanted") rows" 'found')"
+}
+
+policy_test() {
+    find_on_page 501 cat
+    tell 'a page runs its own script, and no other' "$(
+        if ! grep -q '<p class="find">' "$work/out"; then echo 'no field is shown'; fi
+        grep -oE 'id="found"[^>]*>[^<]*rows' "$work/out"
+    )"
+}
+
+found_rows() { # WORDS : what the page says of them in its search field
+    find_on_page "$1" without_policy
+    grep -oE 'id="found"[^>]*>[^<]*' "$work/out" | grep -oE '[0-9]+ rows'
+}
+
+find_tests() {
+    local rows port
+    rows=$(cat "$work/timelines"/{dropped,links,latency,frames,sides,skews}.csv | grep -c '^501,')
+    tell 'the search field finds the rows of a link' "$(
+        wants_text "$(found_rows 501)" "$rows rows" 'found'
+    )"
+    port=$(awk -F , '$3 == "wrong-port" {print $5; exit}' "$work/timelines/dropped.csv")
+    rows=$(awk -F , -v port="$port" '$3 == "wrong-port" && ($5 == port || $1 == port)' \
+        "$work/timelines/dropped.csv" | wc -l)
+    tell 'and those of a wrong port' "$(
+        if [[ $rows -eq 0 ]]; then echo 'there are none'; fi
+        wants_text "$(found_rows "wrong-port $port")" "$rows rows" 'found'
+    )"
+}
+
+narrow_test() { # a copy is late, and it is said within 400 pixels
+    local script='document.documentElement.style.width = "400px";'
+    script+='const all = [...document.querySelectorAll("svg text, tbody th b, li")];'
+    script+='const late = all.filter(one => one.textContent.includes("LATE"));'
+    script+='const seen = late.filter(one => one.getBoundingClientRect().right <= 400);'
+    script+='document.title = "in sight: " + seen.map(one => one.tagName).join(" ")'
+    with_script "$work/late/report.html" "$script" | without_policy >"$work/narrow.html"
+    launch chromium --headless --no-sandbox --disable-gpu --dump-dom "file://$work/narrow.html"
+    tell 'LATE is in sight at 400 pixels: in the head, the picture and the tables' "$(
+        wants_text "$(grep -oE 'in sight: [A-Za-z ]+' "$work/out" | head -n 1)" \
+            'in sight: LI text B B B B B' 'LATE'
+    )"
 }
 
 if [[ -n $reporting ]]; then
     parts_tests
     if has chromium && has pdftotext; then
         paper_test
-        find_test
+        policy_test
+        find_tests
+        narrow_test
     else
         skip 'the page on paper' 'there is no chromium, or no pdftotext (poppler-utils)'
     fi

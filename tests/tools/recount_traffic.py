@@ -58,15 +58,19 @@ def jitter_of(link: dict, frames: list[dict]) -> int | None:
     return None if needed is None else -(-needed.numerator // needed.denominator)
 
 
-def missing_of(frames: list[dict]) -> int | None:
-    """The numbers that were skipped, counted up one by one."""
-    missing = 0 if frames else None
+def numbers_of(link: dict, frames: list[dict]) -> tuple[int, int] | tuple[None, None]:
+    """The numbers that were skipped while there was time for them, counted up one by one; how many
+    other steps are none to the next number."""
+    missing, jumps = 0, 0
     for before, frame in zip(frames, frames[1:]):
         number, steps = before["number"], 0
         while number != frame["number"] and steps < 300:
             number, steps = number % 255 + 1, steps + 1
-        missing += steps - 1 if 1 <= steps <= 127 and frame["number"] else 0
-    return missing
+        room = frame["time"] - before["time"] + 1000 * link["jitter_us"]
+        in_time = 1 < steps <= 127 and steps * link["bag_ms"] * 1_000_000 <= room
+        missing += steps - 1 if in_time and frame["number"] else 0
+        jumps += frame["number"] != 0 and steps != 1 and not in_time
+    return (missing, jumps) if frames else (None, None)
 
 
 def compare_sides(config: dict, frames: dict, rows: list[dict]) -> None:
@@ -79,9 +83,10 @@ def compare_sides(config: dict, frames: dict, rows: list[dict]) -> None:
         wanted = (
             min(gaps, default=None),
             jitter_of(links[row["link"]], charged),
-            missing_of([f for f in mine if f["verdict"] in NUMBERED]),
+            *numbers_of(links[row["link"]], [f for f in mine if f["verdict"] in NUMBERED]),
         )
-        if wanted != (row["least_gap_ns"], row["jitter_ns"], row["missing"]):
+        told = row["least_gap_ns"], row["jitter_ns"], row["missing"], row["jumps"]
+        if wanted != told:
             print(f"link {row['link']} side {row['side']}: {wanted} and {row}")
 
 
@@ -98,8 +103,10 @@ def skews_of(config: dict, frames: dict, left: list) -> dict[int, list[int]]:
     for (link, _), group in same.items():
         sides = [[f for f in group if f["side"] == side] for side in "AB"]
         for one in sides[0]:
+
             def apart(other: dict, one: dict = one) -> int:
                 return abs(other["time"] - one["time"])
+
             two = min(sides[1], key=apart, default=None)
             if two is None or apart(two) > 127 * bags[link]:
                 continue

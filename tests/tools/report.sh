@@ -43,7 +43,7 @@ report_tests() {
     launch tools/afdx-report examples/base.toml examples/one_link.list --out "$work/one"
     tell 'a report' "$(
         is_status 0
-        says out 'nearest    no link has 10 copies at a port'
+        says out 'nearest     no link has 10 copies at a port'
         wants_number "$json" \
             'r["totals"]["frames"], r["totals"]["accepted"], r["totals"]["dropped"]' '(3, 2, 1)'
         wants_number "$json" 'r["totals"]["delivered"], r["totals"]["redundant"]' '(1, 1)'
@@ -160,14 +160,15 @@ fault_tests() {
     )"
 }
 
-lost_tests() { # a buffer for one frame
+full_tests() { # a buffer for one frame
     sed 's/^buffer = .*/buffer = 64/' examples/base.toml >"$work/small.toml"
     printf 'F 0 A 1 %s\nF 0 A 2 %s\n' "$(frame_of A 0)" "$(frame_of_link_2)" >"$work/lost.list"
     launch tools/afdx-report --no-admission "$work/small.toml" "$work/lost.list" --json
-    tell 'a copy that is lost' "$(
+    tell 'a copy that meets a full buffer' "$(
         is_status 0
         wants_number "$work/out" \
-            'r["totals"]["lost"], r["totals"]["departed"], r["ports"][0]["backlog"]' '(1, 1, 64)'
+            'r["totals"]["full_buffer"], r["totals"]["departed"], r["ports"][0]["backlog"]' \
+            '(1, 1, 64)'
     )"
 }
 
@@ -200,7 +201,7 @@ if [[ -n $reporting ]]; then
     counted_tests
     time_line_tests
     fault_tests
-    lost_tests
+    full_tests
     old_tests
     if has chromium; then
         chromium_test

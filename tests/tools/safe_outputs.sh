@@ -151,8 +151,8 @@ older_report_tests() {
     launch tools/afdx-report examples/base.toml "$work/one_line.list" --out "$folder"
     tell 'nothing of an older report stays beside a new one, and no link is followed' "$(
         is_status 0
-        printf '%s\n' {frames,latency,links,notes,ports}.csv report.{html,json} \
-            {sides,skews}.csv >"$work/wanted"
+        printf '%s\n' {arrivals,clocks,dropped,frames,latency,links,notes,ports}.csv \
+            report.{html,json} {sides,silences,skews}.csv >"$work/wanted"
         ls -A "$folder" >"$work/got"
         same "$work/wanted" "$work/got"
         find "$folder" ! -type f ! -type d

@@ -2,13 +2,17 @@
 # Two machines for tests: network namespaces, each with an sshd and with a folder of its own hidden.
 #
 #     tests/tools/two_hosts.sh up FOLDER HIDDEN
+#     tests/tools/two_hosts.sh cut FOLDER NAME
+#     tests/tools/two_hosts.sh join FOLDER NAME
 #     tests/tools/two_hosts.sh down FOLDER
 #
 # `up` makes the machines one and two, and writes into FOLDER what belongs to them. From then on
-# `ssh -F FOLDER/config one` works. On the machines the folder HIDDEN is empty, and so they have a
-# home of their own; all else they share with this one. Needs root, iproute2, openssh-server and the
-# right to make namespaces; ends with status 3 where something of that isn't there. `down` ends the
-# daemons by their numbers and takes the namespaces away.
+# `ssh -F FOLDER/config one` works; `refusing` is a machine on which no daemon listens. On one
+# and two the folder HIDDEN is empty, and so they have a home of their own; all else they share with
+# this one. Needs root, iproute2, openssh-server and the right to make namespaces; ends with status
+# 3 where something of that isn't there. `cut` unplugs a machine's cable, `join` plugs it in again.
+# `down` ends the daemons by their numbers and takes the namespaces away. Several such pairs can
+# stand side by side.
 set -euo pipefail
 
 lacking() { # WHAT
@@ -38,12 +42,14 @@ END_OF_FILE
 }
 
 machine() { # FOLDER HIDDEN NAME NUMBER
-    local space=$3.$$ address=10.77.$4.2
+    local space=$3.$$ line=$3.$$ net=10.$((64 + $$ % 128)).$4 address
+    address=$net.2
     ip netns add "$space"
     echo "$space" >>"$1/spaces"
-    ip link add "afdx$4" type veth peer name end netns "$space"
-    ip addr add "10.77.$4.1/24" dev "afdx$4"
-    ip link set "afdx$4" up
+    ip link add "$line" type veth peer name end netns "$space"
+    echo "$line" >"$1/$3.line"
+    ip addr add "$net.1/24" dev "$line"
+    ip link set "$line" up
     ip -n "$space" addr add "$address/24" dev end
     ip -n "$space" link set end up
     ip -n "$space" link set lo up
@@ -70,6 +76,7 @@ up() { # FOLDER HIDDEN
     keys "$1"
     machine "$1" "$2" one 1
     machine "$1" "$2" two 2
+    printf 'Host refusing\n HostName 127.0.0.1\n Port 9\n' >>"$1/config"
     cat >>"$1/config" <<END_OF_FILE
 Host *
  IdentityFile $1/user
@@ -87,17 +94,19 @@ END_OF_FILE
 }
 
 down() { # FOLDER
-    local number space
+    local number space file
     while read -r number; do kill "$number" || true; done <"$1/daemons"
     while read -r space; do ip netns del "$space" || true; done <"$1/spaces"
-    for number in 1 2; do ip link del "afdx$number" 2>/dev/null || true; done
+    for file in "$1"/*.line; do ip link del "$(<"$file")" 2>/dev/null || true; done
 }
 
 case ${1-} in
     up) up "$(readlink -f "$2")" "$(readlink -f "$3")" ;;
+    cut) ip link set "$(<"$2/$3.line")" down ;;
+    join) ip link set "$(<"$2/$3.line")" up ;;
     down) down "$2" ;;
     *)
-        sed -n '2,13s/^# \{0,1\}//p' "${BASH_SOURCE[0]}" >&2
+        sed -n '2,17s/^# \{0,1\}//p' "${BASH_SOURCE[0]}" >&2
         exit 2
         ;;
 esac

@@ -50,7 +50,8 @@ lists_for_fields() { # writes $work/sound.list, $work/padded.list, $work/odd.lis
             52 "$(frame_of A 2)" 63 "$(frame_of A 0)" 74 "$(frame_of A 255)"
         printf 'F %d B 1 %s\n' 80 "$(frame_of B 2)"
         printf 'R %d A 1 %.80s\n' 90 "$(frame_of A 5)"
-        printf 'F %d A 1 %s\n' 100 "$(frame_of A 2)"
+        printf 'F %d A 1 %s\n' 100 "$(frame_of A 2)" 110 "$(frame_of A 254)" \
+            120 "$(frame_of A 126)" 130 "$(frame_of A 254)" 140 "$(frame_of A 125)"
     } >"$work/odd.list"
 }
 
@@ -101,6 +102,35 @@ padding_tests() { # frames without check sequences, whose padding isn't zero
     plugin=tools/afdx.lua
 }
 
+# Frames that are padded with zeros get no note of Wireshark's own, and where no header says whether
+# they end with a check sequence, the number at their end is taken for none.
+note_tests() {
+    local each number count=20
+    for ((number = 0; number < count; number++)); do
+        printf 'F %d0 A 1 %s\n' "$number" "$(frame_of A "$number")"
+    done >"$work/short.list"
+    capture pcap "$work/short.list" "$work/with.pcap"
+    capture pcap --fcs no "$work/short.list" "$work/without.pcap"
+    without_note "$work/with.pcap" "$work/with_unsaid.pcap"
+    without_note "$work/without.pcap" "$work/without_unsaid.pcap"
+    for each in with without without_unsaid; do
+        launch tshark -r "$work/$each.pcap" -Y '_ws.expert.message contains "padding"'
+        tell "frames that are padded have a note without the fields: $each" "$(
+            wants_text "$(wc -l <"$work/out")" $((count - 1)) 'frames'
+        )"
+        shark -r "$work/$each.pcap" -Y '_ws.expert.message contains "padding" || eth.trailer'
+        tell 'and none with them' "$(is_status 0; head -n 2 "$work/out")"
+    done
+    shark -r "$work/without_unsaid.pcap" -Y eth.fcs
+    tell 'no number is taken for a check sequence' "$(is_status 0; head -n 2 "$work/out")"
+    shark -r "$work/with_unsaid.pcap" -o eth.check_fcs:TRUE -o eth.fcs:Always \
+        -Y 'eth.fcs.status == 1 && !(_ws.expert.message contains "padding")'
+    tell 'a check sequence is still checked' "$(
+        is_status 0
+        wants_text "$(wc -l <"$work/out")" "$count" 'frames'
+    )"
+}
+
 interface_tests() { # side A with check sequences, side B without, in one file
     capture pcap --side A "$work/sound.list" "$work/a.pcap"
     capture pcap --side B --fcs no "$work/sound.list" "$work/b.pcap"
@@ -121,11 +151,14 @@ numbers_found() { # FILTER WANTED : the frames of the odd list that a filter fin
 expert_tests() {
     capture pcap "$work/odd.list" "$work/with.pcap"
     tell 'expert information finds what is odd about numbers' "$(
-        numbers_found afdx.missing '7 9 10 12'
+        numbers_found afdx.missing '7 10 12 14 16'
+        numbers_found afdx.back '9 13 15'
         numbers_found afdx.repeated '5'
         numbers_found afdx.reset '6 8'
         numbers_found afdx.short '11'
-        numbers_found 'afdx.step == 255' '9'
+        numbers_found 'afdx.step == -1' '9'
+        numbers_found 'afdx.step < -1' '13 15'
+        numbers_found '_ws.expert.message == "The sequence number goes back by 3"' '13'
         numbers_found 'afdx.vl == 1 && afdx.side == "B"' '3 10'
     )"
     printf 'F 0 A 1 ffffffffffff0200000001200806%092d\n' 0 >"$work/arp.list"
@@ -280,6 +313,7 @@ if [[ -z $dpkt ]]; then
 elif has tshark && has mergecap; then
     field_tests
     padding_tests
+    note_tests
     interface_tests
     expert_tests
     speed_tests

@@ -1,11 +1,9 @@
 //! Devices that remember what an explanation needs.
 
+use afdx_words::STANDARD_INPUT;
 use std::fs::File;
 use std::io;
 use std::io::{Read, Stdin, Write};
-
-/// The word that names standard input.
-pub const STANDARD_INPUT: &str = "-";
 
 /// What a person is told of the input that a word names.
 pub fn name_of_input(word: &str) -> &str {

@@ -1,16 +1,12 @@
-//! The program `afdx`: words, files and streams.
+//! The program `afdx`: files and streams.
 #![tactic(auto)]
 
 mod configs;
 mod devices;
 mod explaining;
-mod list_words;
 mod pair_running;
 mod progress;
-mod recording_words;
 mod running;
-mod solve_words;
-mod words;
 
 use crate::configs::{check_config, solve_tables};
 use crate::explaining::{Cause, explain, is_asked, line_of, print_lists, print_meaning};
@@ -20,6 +16,7 @@ use afdx_explain::meaning_of;
 use afdx_frame::BySide;
 use afdx_replay::status::{DONE, NO_DEVICE_OR_MEMORY, WRONG_WORDS};
 use afdx_replay::{CommandedRule, Policing, RunFault};
+use afdx_words::afdx_command;
 use clap::error::ErrorKind;
 use clap::{ArgMatches, Error};
 use std::alloc::AllocError;
@@ -232,7 +229,7 @@ fn answer_refusal(rt: &HostRuntime, refusal: &Error) -> u8 {
 }
 
 fn run_words(rt: &HostRuntime, given: &[String]) -> Result<u8, AllocError> {
-    let command = words::afdx_command(rt.alloc())?;
+    let command = afdx_command(rt.alloc())?;
     match command.try_get_matches_from(given) {
         Ok(matches) => Ok(run_matches(rt, &matches)),
         Err(refusal) => Ok(answer_refusal(rt, &refusal)),

@@ -6,7 +6,6 @@ ghost use Rattle.afdx_lists.specs.Watching.{has_ended, has_failed};
 use crate::devices::{Heard, Input, Traced, name_of_input};
 use crate::explaining::Cause;
 use crate::progress::{Cleared, Count, Counted, is_told};
-use crate::recording_words::pair_options;
 use crate::running::{Replaying, early_lines, end_run, ended_of, output_room, refuse};
 use crate::{memory, no_file};
 use afdx_frame::BySide;
@@ -14,6 +13,7 @@ use afdx_replay::{
     InputEnded, Output, PairOptions, Sink, Watched, list_pair_and_count, replay_pair,
     replay_pair_and_explain,
 };
+use afdx_words::pair_options;
 use clap::ArgMatches;
 use std::io::{Read, Write};
 

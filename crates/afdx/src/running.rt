@@ -4,16 +4,16 @@ ghost use Rattle.std.specs.Prelude.{◌≡◌, false};
 ghost use Rattle.afdx_lists.specs.Peeking.{is_untouched};
 ghost use Rattle.afdx_lists.specs.Watching.{device_of, has_ended, has_failed};
 
-use crate::devices::{Heard, STANDARD_INPUT, Traced, name_of_input};
+use crate::devices::{Heard, Traced, name_of_input};
 use crate::explaining::Cause;
 use crate::progress::{Cleared, Count, Counted, is_told};
-use crate::recording_words::{Refused, recording_options};
 use crate::{complain, explain_if_asked, memory, no_file};
 use afdx_replay::status::{DONE, WRONG_WORDS};
 use afdx_replay::{
     CommandedRule, Ended, InputEnded, ListEnded, Output, Peeked, RecordingOptions, Sink, Watched,
     finish, list_and_count, police_input, replay_input, replay_input_and_explain, send_and_count,
 };
+use afdx_words::{Refused, STANDARD_INPUT, recording_options};
 use clap::ArgMatches;
 use std::fs::File;
 use std::io::{IsTerminal, LineWriter, Read, Stderr, Write};
@@ -146,7 +146,6 @@ pub fn ended_of(listed: ListEnded) -> InputEnded {
             summary: None,
         },
         tally: listed.tally,
-        look_failed: false,
     }
 }
 
@@ -206,7 +205,6 @@ fn run_over<R: Read, O: Sink, E: Write>(
         Run::Send { config, system } => Ok(InputEnded {
             ended: send_and_count(rt.alloc(), config, system, input, lines, faults),
             tally: None,
-            look_failed: false,
         }),
     }
 }

@@ -1,5 +1,6 @@
 -- How a fault is written: its line's word, which is that of its row, then what it speaks of.
-use Rattle.std.specs.Prelude.{ℕ, nat_eq, if◌then◌else◌, List, [], ◌++◌, codes, decimal, map, slice_index_or}
+use Rattle.std.specs.Prelude.{ℕ, ◌≡◌, nat_eq, if◌then◌else◌, List, [], ◌∷◌, ◌++◌, codes, decimal, map}
+use Rattle.std.specs.Prelude.{slice_index_or}
 use Rattle.afdx_admit.specs.contracts.fault.AdmitFault.{the_type}
 use Rattle.afdx_admit.specs.declared.fault.AdmitFault.{AdmitFault}
 use Rattle.afdx_admit.specs.declared.fault.AdmitFault.TheVariants.{Overload, Buffer, HighLatency}
@@ -34,3 +35,8 @@ subject name (Skew vl) = decimal vl.0
 -- with the name of the sender that it speaks of
 abbrev pub fault_text : List ℕ → AdmitFault → List ℕ
 fault_text name fault = line_word fault ++ codes " " ++ subject name fault
+
+-- the words that the formats fix, in the order of `AdmitFault`
+abbrev pub TheLineWords : Type 0
+TheLineWords = line_words
+    ≡ codes "A1" ∷ codes "A2" ∷ codes "A3" ∷ codes "A4" ∷ codes "A5" ∷ codes "A6" ∷ codes "A7" ∷ []

@@ -1,5 +1,6 @@
 //! Laws over the definitions.
 
+ghost use Rattle.afdx_admit.specs.FaultText.{TheLineWords};
 ghost use Rattle.afdx_admit.specs.Laws.{FirstIsOfAll, LinesAreAdmission, LowBoundIsANumber};
 
 /// In lawful tables no line is false exactly where they are admitted.
@@ -15,4 +16,10 @@ pub fn low_bound_is_a_number()
 /// The first false line of some is the first of all that are false.
 pub fn first_is_of_all()
     ensures { FirstIsOfAll }
+{}
+
+/// The words of the lines of admission are those of the formats.
+#[tactic(auto, unfolding(crate::specs::FaultText::line_words))]
+pub fn words_are()
+    ensures { TheLineWords }
 {}

@@ -11,9 +11,8 @@ use Rattle.afdx_run.specs.Listed.{frames}
 use Rattle.afdx_arrivals.specs.declared.number_line.NumberLine.{NumberLine}
 use Rattle.afdx_arrivals.specs.declared.number_line.NumberLine.TheVariants as line
 use Rattle.afdx_arrivals.specs.declared.skipped.Skipped.{Skipped}
-use Rattle.afdx_arrivals.specs.ArrivingSource.{AreArrivals}
 use Rattle.afdx_arrivals.specs.Becoming.{has_own, seal_by, without_own}
-use Rattle.afdx_arrivals.specs.NumberLines.{Lines, LineFollows, arrivals_listed, as_arrival, latest_time, time_or}
+use Rattle.afdx_arrivals.specs.NumberLines.{AreItems, Lines, LineFollows, arrivals_listed, as_arrival, latest_time, time_or}
 use Rattle.afdx_arrivals.proofs.Sealing.{known}
 
 -- the time of the newest arrival is that of the newest that is listed
@@ -72,12 +71,12 @@ module _ (x : Item NumberLine) (lines : Lines) (kind : FrameKind) (time : ℕ) (
 
   -- so it is given behind those before it
   pub arrival-given : (known-so : Lines → Type 0) (past : List (Item Heading)) → past ≡ arrivals_listed lines
-      → known-so (x ∷ lines) → LineFollows lines x → AreArrivals known-so (Arrives ∷ past) × CanFollow past Arrives
+      → known-so (x ∷ lines) → LineFollows lines x → AreItems arrivals_listed known-so (Arrives ∷ past) × CanFollow past Arrives
   arrival-given known-so past e k h = (
     record {
       lines = x ∷ lines;
       known_so = k;
-      arrivals_are = ap (λ (xs : List (Item Heading)). Arrives ∷ xs) e ∙ arrival-first;
+      items_are = ap (λ (xs : List (Item Heading)). Arrives ∷ xs) e ∙ arrival-first;
     },
     subst (λ (xs : List (Item Heading)). CanFollow xs Arrives) (sym e) (arrival-follows h),
   )
@@ -85,9 +84,9 @@ module _ (x : Item NumberLine) (lines : Lines) (kind : FrameKind) (time : ℕ) (
 -- a number that is skipped changes nothing
 pub skipped-given : (known-so : Lines → Type 0) (past : List (Item Heading)) (x : Item NumberLine) (reason : Skipped)
     (lines : Lines) → x.head ≡ line.Skipped reason → past ≡ arrivals_listed lines → known-so (x ∷ lines)
-    → AreArrivals known-so past
+    → AreItems arrivals_listed known-so past
 skipped-given known-so past x reason lines is e k = record {
   lines = x ∷ lines;
   known_so = k;
-  arrivals_are = e ∙ sym (skipped-none x reason lines is);
+  items_are = e ∙ sym (skipped-none x reason lines is);
 }

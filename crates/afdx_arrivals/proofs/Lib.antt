@@ -23,6 +23,8 @@ pub mod TimedPairLemmas
 pub mod RecordingRunLemmas
 pub mod LawLemmas
 pub mod OrderLemmas
+pub mod OverLemmas
 pub mod PairAnswerLemmas
 pub mod InputLemmas
 pub mod InputSaysLemmas
+pub mod LookLemmas

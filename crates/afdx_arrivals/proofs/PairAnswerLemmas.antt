@@ -1,6 +1,6 @@
 -- What a run over two recordings answers, from what it hands from them to its machine.
 use Rattle.std.proofs.Common.{◌≡◌, ℕ, ◌≤◌, List, [], ◌∷◌, ◌++◌, length, refl, ap, sym, ◌∙◌, subst, arith}
-use Rattle.std.proofs.Common.{Option, Some, None, Result, Ok, Err, Bool, true, false, ◌||◌, inl, inr}
+use Rattle.std.proofs.Common.{IfSome, Option, Some, None, Result, Err, Bool, false, ◌||◌, inl, inr}
 use Rattle.afdx_frame.specs.declared.by_side.BySide.{BySide}
 use Rattle.afdx_frame.specs.declared.link.Side.TheVariants.{A, B}
 use Rattle.afdx_lists.specs.Calls.{is_read}
@@ -14,35 +14,35 @@ use Rattle.afdx_run.specs.Engine.{Item}
 use Rattle.afdx_arrivals.specs.declared.ahead.Ahead.{Ahead}
 use Rattle.afdx_arrivals.specs.declared.ahead.AtHead.{AtHead}
 use Rattle.afdx_arrivals.specs.declared.ahead.AtHead.TheVariants as at
-use Rattle.afdx_arrivals.specs.declared.becoming.RecordingOptions.{RecordingOptions}
 use Rattle.afdx_arrivals.specs.declared.counts.Tally.{Tally}
 use Rattle.afdx_arrivals.specs.declared.pair_options.PairOptions.{PairOptions}
-use Rattle.afdx_arrivals.specs.declared.senders.SystemPorts.{SystemPorts}
 use Rattle.afdx_arrivals.specs.declared.timed_pair.TimedPair.{TimedPair}
-use Rattle.afdx_arrivals.specs.Becoming.{Options, options_of}
+use Rattle.afdx_arrivals.specs.Becoming.{Options}
 use Rattle.afdx_arrivals.specs.Claims.{Ports, ports_of}
 use Rattle.afdx_arrivals.specs.Counting.{IsFew, plus_tally}
+use Rattle.afdx_arrivals.specs.ListText.{lines_themselves}
 use Rattle.afdx_arrivals.specs.NumberLines.{Lines}
+use Rattle.afdx_arrivals.specs.Over.{CutOfTwo, IsAsked, Takes, both, of_set, way_of_two, whole_of_two}
 use Rattle.afdx_arrivals.specs.PairOptions.{options_of_a, options_of_b}
 use Rattle.afdx_arrivals.specs.PairSource.{IsAhead, IsAheadBy, IsPaired, NoneIsBefore, StopsPairing, head_by}
 use Rattle.afdx_arrivals.specs.OrderedRecording.{OrderedRecording, IsSetInOrder, HasTaken, HasTakenAll, HasStoppedTaking}
 use Rattle.afdx_arrivals.specs.OrderedRecording.{number_taken, tally_of_source}
 use Rattle.afdx_arrivals.specs.Ordering.{Sequence}
 use Rattle.afdx_arrivals.specs.ReadPair.{IsNewPair}
-use Rattle.afdx_arrivals.specs.RecordingRun.{AreCutOffInPair, IfBoth, IsAskedOnce, of_a, of_b, taken_of_pair}
+use Rattle.afdx_arrivals.specs.RecordingRun.{AreCutOffInPair, IfBoth, of_a, of_b, taken_of_pair}
 use Rattle.afdx_arrivals.specs.RecordingSource.{first_standing}
 use Rattle.afdx_arrivals.specs.Sequences.{Numbers, latest_of, numbers_read}
-use Rattle.afdx_arrivals.specs.Taking.{Taken, AreCutOffAtOne, sequence_of_bytes, side_of, taken_of_both}
+use Rattle.afdx_arrivals.specs.Taking.{AreCutOffAtOne, sequence_of_bytes, side_of, taken_of_both}
 use Rattle.afdx_arrivals.specs.TakenRun.{TakenAnswers}
 use Rattle.afdx_arrivals.specs.TimedPairSource.{HasPaired, HasPairedAll, HasStoppedPairing}
 use Rattle.afdx_arrivals.specs.Timing.{origin_in, timed}
 use Rattle.afdx_arrivals.proofs.OrderedKnownLemmas.{ended-all, taken-sound, all-sound, stopped-sound}
 use Rattle.afdx_arrivals.proofs.LawLemmas.{sequences-agree}
-use Rattle.afdx_arrivals.proofs.PairRunLemmas.{Whole, AreCut, pair-gave, pair-ended, pair-stopped, named-read, network-unread}
+use Rattle.afdx_arrivals.proofs.PairRunLemmas.{pair-gave, pair-ended, pair-stopped, named-read, network-unread}
 use Rattle.afdx_arrivals.proofs.PairRunLemmas.{either-false, either-left, either-right, sound-by}
-use Rattle.afdx_arrivals.proofs.RecordingRunLemmas.{asked-once, gave-start, not_read}
+use Rattle.afdx_arrivals.proofs.RecordingRunLemmas.{asked-by, gave-start}
 use Rattle.afdx_arrivals.proofs.SourceLemmas.{few-claimed, few-skipped}
-use Rattle.afdx_arrivals.proofs.TakenLemmas.{CanBePeeled, Handed, answers-same, handed-err, handed-ok, hands-err, hands-ok, taken-start}
+use Rattle.afdx_arrivals.proofs.TakenLemmas.{answers-same, taken-start}
 
 -- where the bytes of both are known
 pub if-both : (a b : Option (List ℕ)) (P : List ℕ → List ℕ → Type 0)
@@ -51,6 +51,33 @@ if-both (Some x) (Some y) P f = f x y refl refl
 if-both (Some x) None P f = tt
 if-both None (Some y) P f = tt
 if-both None None P f = tt
+
+pub both-more : (x y : Option (List ℕ)) (Q : List ℕ × List ℕ → Type 0) (P : List ℕ → List ℕ → Type 0)
+    → ((a b : List ℕ) → Q (a, b) → P a b) → IfSome (both x y) Q → IfBoth x y P
+both-more (Some a) (Some b) Q P f h = f a b h
+both-more (Some a) None Q P f h = tt
+both-more None (Some b) Q P f h = tt
+both-more None None Q P f h = tt
+
+first_in : Option (List ℕ × List ℕ) → List ℕ
+first_in None = []
+first_in (Some p) = p.0
+
+second_in : Option (List ℕ × List ℕ) → List ℕ
+second_in None = []
+second_in (Some p) = p.1
+
+pub both-a : (a b : Option (List ℕ)) (bytes : List ℕ × List ℕ) → both a b ≡ Some bytes → a ≡ Some bytes.0
+unfolding first_in
+both-a (Some a) (Some b) bytes e = ap (λ (o : Option (List ℕ × List ℕ)). Some (first_in o)) e
+both-a (Some a) None bytes e = absurd (cc)
+both-a None b bytes e = absurd (cc)
+
+pub both-b : (a b : Option (List ℕ)) (bytes : List ℕ × List ℕ) → both a b ≡ Some bytes → b ≡ Some bytes.1
+unfolding second_in
+both-b (Some a) (Some b) bytes e = ap (λ (o : Option (List ℕ × List ℕ)). Some (second_in o)) e
+both-b (Some a) None bytes e = absurd (cc)
+both-b None b bytes e = absurd (cc)
 
 same-tallies : (a b c d : Tally) → a ≡ c → b ≡ d → plus_tally a b ≡ plus_tally c d
 same-tallies a b c d e f = rw (e, f) refl
@@ -70,7 +97,7 @@ module _ {R : Type 0} (remaining : R → Option (List ℕ)) (start input : Watch
   gives-by (at.Arrival moment) taken h = (taken-sound remaining start input source (number_taken source ∷ taken) h.0).1
   gives-by at.Over taken h = (all-sound remaining start input source taken h).2
 
-  few-of : (taken : Numbers) → HasTakenAll remaining start source input taken → IsFew (tally_of_source source)
+  pub few-of : (taken : Numbers) → HasTakenAll remaining start source input taken → IsFew (tally_of_source source)
   few-of taken all =
       let h = all.ended_so in
       let skipped = few-skipped (numbers_read all.read) in
@@ -113,7 +140,7 @@ module _ {R : Type 0} (remaining : R → Option (List ℕ)) (start inputs : BySi
   sound-b latest taken h =
       sound-by remaining start.b inputs.b source.pair.b.source source.pair.b.head taken h.known
 
-  paired-sound : (past : Numbers) → IsPaired number_taken (HasTaken remaining) (HasTakenAll remaining) start source.pair inputs past
+  pub paired-sound : (past : Numbers) → IsPaired number_taken (HasTaken remaining) (HasTakenAll remaining) start source.pair inputs past
       → (inputs.a.failed || inputs.b.failed) ≡ false
   paired-sound past h =
       either-false inputs.a.failed inputs.b.failed (sound-a (latest_of past) h.taken_a h.a)
@@ -132,7 +159,7 @@ module _ {R : Type 0} (remaining : R → Option (List ℕ)) (start inputs : BySi
       ((stopped-sound remaining start.b inputs.b source.pair.b.source h.taken_b h.fault_b h.stopped_b).0
       ∙ sym (named-read B h.fault_b) ∙ sym (ap is_read h.fault_is))
 
-  stopped-failed : (lines : Lines) (fault : RunFault) → Stopped lines fault
+  pub stopped-failed : (lines : Lines) (fault : RunFault) → Stopped lines fault
       → (inputs.a.failed || inputs.b.failed) ≡ is_read fault
   stopped-failed lines fault (inl h) = stops-failed h.past fault h.stops
   stopped-failed lines fault (inr h) =
@@ -140,14 +167,6 @@ module _ {R : Type 0} (remaining : R → Option (List ℕ)) (start inputs : BySi
       ∙ sym (ap is_read h.fault_is ∙ network-unread (side_of h.x.head) _)
 
   -- ---- how often each was asked
-
-  abbrev AskedA : Type 0
-  AskedA =
-      IsAskedOnce (remaining start.a.inner) (remaining inputs.a.inner) start.a.calls inputs.a.calls
-
-  abbrev AskedB : Type 0
-  AskedB =
-      IsAskedOnce (remaining start.b.inner) (remaining inputs.b.inner) start.b.calls inputs.b.calls
 
   abbrev GivesA : Type 0
   GivesA =
@@ -165,7 +184,7 @@ module _ {R : Type 0} (remaining : R → Option (List ℕ)) (start inputs : BySi
   ahead-gives-b latest taken h =
       gives-by remaining start.b inputs.b source.pair.b.source source.pair.b.head taken h.known
 
-  paired-gives : (past : Numbers) → IsPaired number_taken (HasTaken remaining) (HasTakenAll remaining) start source.pair inputs past
+  pub paired-gives : (past : Numbers) → IsPaired number_taken (HasTaken remaining) (HasTakenAll remaining) start source.pair inputs past
       → GivesA × GivesB
   paired-gives past h =
       (ahead-gives-a (latest_of past) h.taken_a h.a, ahead-gives-b (latest_of past) h.taken_b h.b)
@@ -182,148 +201,58 @@ module _ {R : Type 0} (remaining : R → Option (List ℕ)) (start inputs : BySi
     (stopped-sound remaining start.b inputs.b source.pair.b.source h.taken_b h.fault_b h.stopped_b).1,
   )
 
-  stopped-gives : (lines : Lines) (fault : RunFault) → Stopped lines fault → GivesA × GivesB
+  pub stopped-gives : (lines : Lines) (fault : RunFault) → Stopped lines fault → GivesA × GivesB
   stopped-gives lines fault (inl h) = stops-gives h.past fault h.stops
   stopped-gives lines fault (inr h) = paired-gives (h.x ∷ h.before) h.is_paired
 
-  ended-gives : (lines : Lines) → Ended lines → GivesA × GivesB
+  pub ended-gives : (lines : Lines) → Ended lines → GivesA × GivesB
   ended-gives lines h = (
     (all-sound remaining start.a inputs.a source.pair.a.source h.is_paired.taken_a h.is_paired.ended_a).2,
     (all-sound remaining start.b inputs.b source.pair.b.source h.is_paired.taken_b h.is_paired.ended_b).2,
   )
 
-  asked-both : (first_standing remaining start.a).over ≡ false → (first_standing remaining start.b).over ≡ false
-      → GivesA × GivesB → AskedA × AskedB
-  asked-both fresh-a fresh-b (a, b) = (
-    asked-once (first_standing remaining start.a) (standing remaining source.pair.a.source.source.reader.held inputs.a) a
-        fresh-a,
-    asked-once (first_standing remaining start.b) (standing remaining source.pair.b.source.source.reader.held inputs.b) b
-        fresh-b,
+  pub asked-both : GivesA × GivesB → IsAsked remaining start.a inputs.a × IsAsked remaining start.b inputs.b
+  asked-both (a, b) = (
+    λ fresh. asked-by remaining start.a inputs.a source.pair.a.source.source.reader.held a fresh,
+    λ fresh. asked-by remaining start.b inputs.b source.pair.b.source.source.reader.held b fresh,
   )
 
-  -- ---- from what a run hands over
+  module _ (set_a : IsSetInOrder source.pair.a.source) (set_b : IsSetInOrder source.pair.b.source)
+      (bytes_a bytes_b : List ℕ) (known_a : remaining start.a.inner ≡ Some bytes_a)
+      (known_b : remaining start.b.inner ≡ Some bytes_b) where
+    tally-of-two : (lines : Lines) → Ended lines
+        → plus_tally (tally_of_source source.pair.a.source) (tally_of_source source.pair.b.source)
+        ≡ (whole_of_two (way_of_two source) (bytes_a, bytes_b)).tally
+    tally-of-two lines k =
+        let a = ended-all remaining start.a inputs.a source.pair.a.source set_a k.is_paired.taken_a bytes_a known_a
+        k.is_paired.ended_a in
+        let b = ended-all remaining start.b inputs.b source.pair.b.source set_b k.is_paired.taken_b bytes_b known_b
+        k.is_paired.ended_b in
+        same-tallies _ _ _ _ a.tally b.tally
 
-  module _ {H : Type 0} (items_of : Lines → List (Item H)) (done told begins : List (Item H) → Type 0) where
-    abbrev pub PairHands : Result (Unit {0}) RunFault → Type 0
-    PairHands result = Handed items_of done told begins Gave Ended Stopped result
-
-    pub err-read : (fault : RunFault) → PairHands (Err fault) → (inputs.a.failed || inputs.b.failed) ≡ is_read fault
-    err-read fault h =
-        handed-err items_of done told begins Gave Ended Stopped
-        ((inputs.a.failed || inputs.b.failed) ≡ is_read fault) fault
-        (λ lines s. stopped-failed lines fault s)
-        (λ is lines k. paired-sound k.past k.is_paired ∙ sym (not_read fault is))
-        (λ is lines k. either-false inputs.a.failed inputs.b.failed k.is_paired.ended_a.ended_so.sound k.is_paired.ended_b.ended_so.sound
-        ∙ sym (not_read fault is)) h
-
-    pub ok-read : PairHands (Ok tt) → (inputs.a.failed || inputs.b.failed) ≡ false
-    ok-read h =
-        handed-ok items_of done told begins Gave Ended Stopped ((inputs.a.failed || inputs.b.failed) ≡ false)
-        (λ lines k. either-false inputs.a.failed inputs.b.failed k.is_paired.ended_a.ended_so.sound k.is_paired.ended_b.ended_so.sound) h
-
-    pub ok-ended : PairHands (Ok tt) → (inputs.a.ended ≡ true) × (inputs.b.ended ≡ true)
-    ok-ended h =
-        handed-ok items_of done told begins Gave Ended Stopped ((inputs.a.ended ≡ true) × (inputs.b.ended ≡ true))
-        (λ lines k. (k.is_paired.ended_a.ended_so.ended, k.is_paired.ended_b.ended_so.ended)) h
-
-    pub ok-few : PairHands (Ok tt) → IsFew (tally_of_source source.pair.a.source) × IsFew (tally_of_source source.pair.b.source)
-    ok-few h =
-        handed-ok items_of done told begins Gave Ended Stopped
-        (IsFew (tally_of_source source.pair.a.source) × IsFew (tally_of_source source.pair.b.source))
-        (λ lines k. (
-          few-of remaining start.a inputs.a source.pair.a.source k.is_paired.taken_a k.is_paired.ended_a,
-          few-of remaining start.b inputs.b source.pair.b.source k.is_paired.taken_b k.is_paired.ended_b,
-        )) h
-
-    pub err-asked : (first_standing remaining start.a).over ≡ false → (first_standing remaining start.b).over ≡ false
-        → (fault : RunFault) → PairHands (Err fault) → AskedA × AskedB
-    err-asked fresh-a fresh-b fault h =
-        asked-both fresh-a fresh-b (handed-err items_of done told begins Gave Ended Stopped (GivesA × GivesB) fault
-        (λ lines s. stopped-gives lines fault s) (λ is lines k. paired-gives k.past k.is_paired)
-        (λ is lines k. ended-gives lines k) h)
-
-    pub ok-asked : (first_standing remaining start.a).over ≡ false → (first_standing remaining start.b).over ≡ false
-        → PairHands (Ok tt) → AskedA × AskedB
-    ok-asked fresh-a fresh-b h =
-        asked-both fresh-a fresh-b (handed-ok items_of done told begins Gave Ended Stopped (GivesA × GivesB)
-        (λ lines k. ended-gives lines k) h)
-
-    module _ (set_a : IsSetInOrder source.pair.a.source) (set_b : IsSetInOrder source.pair.b.source)
-        (bytes_a bytes_b : List ℕ) (known_a : remaining start.a.inner ≡ Some bytes_a)
-        (known_b : remaining start.b.inner ≡ Some bytes_b) where
-      abbrev All : Taken
-      All = Whole remaining start inputs source set_a set_b bytes_a bytes_b known_a known_b
-
-      abbrev Cut : Lines → Type 0
-      Cut = AreCut remaining start inputs source set_a set_b bytes_a bytes_b known_a known_b
-
-      err-taken : CanBePeeled items_of → (fault : RunFault) → PairHands (Err fault)
-          → TakenAnswers All Cut items_of done told begins (Err fault)
-      err-taken peel fault h =
-          hands-err All Cut items_of done told begins Gave Ended Stopped peel fault
-          (pair-gave remaining start inputs source set_a set_b bytes_a bytes_b known_a known_b)
-          (pair-ended remaining start inputs source set_a set_b bytes_a bytes_b known_a known_b)
-          (λ lines s. pair-stopped remaining start inputs source set_a set_b bytes_a bytes_b known_a known_b lines fault s) h
-
-      tally-of-ended : (lines : Lines) → Ended lines
-          → plus_tally (tally_of_source source.pair.a.source) (tally_of_source source.pair.b.source) ≡ All.tally
-      tally-of-ended lines k =
-          let a = ended-all remaining start.a inputs.a source.pair.a.source set_a k.is_paired.taken_a bytes_a known_a
-          k.is_paired.ended_a in
-          let b = ended-all remaining start.b inputs.b source.pair.b.source set_b k.is_paired.taken_b bytes_b known_b
-          k.is_paired.ended_b in
-          same-tallies _ _ _ _ a.tally b.tally
-
-      ok-taken : (tally : Tally)
-          → tally ≡ plus_tally (tally_of_source source.pair.a.source) (tally_of_source source.pair.b.source)
-          → PairHands (Ok tt) → TakenAnswers All Cut items_of done told begins (Ok tally)
-      ok-taken tally is h =
-          hands-ok All Cut items_of done told begins Gave Ended Stopped tally
-          (λ lines k. (
-            pair-ended remaining start inputs source set_a set_b bytes_a bytes_b known_a known_b lines k,
-            is ∙ tally-of-ended lines k,
-          )) h
-
--- ---- by which settings
-
-abbrev Settings : Type 0
-Settings = (RecordingOptions × SystemPorts) × ℕ
-
-abbrev pub PairSettings : Type 0
-PairSettings = Settings × Settings × Option ℕ
-
-abbrev pub settings-of : TimedPair OrderedRecording → PairSettings
-settings-of source = (
-  ((source.pair.a.source.source.options, source.pair.a.source.source.ports), source.pair.a.source.most),
-  ((source.pair.b.source.source.options, source.pair.b.source.source.ports), source.pair.b.source.most),
-  source.clock.said,
-)
-
--- the sequences are those of the options
-pub record IsSetBy (options : PairOptions) (ports : Ports) (s : PairSettings) : Type 0 where
-  pub a : (bytes : List ℕ) → sequence_of_bytes (options_of s.0.0.0) (ports_of s.0.0.1) bytes ≡ of_a options ports bytes
-  pub b : (bytes : List ℕ) → sequence_of_bytes (options_of s.1.0.0) (ports_of s.1.0.1) bytes ≡ of_b options ports bytes
-  pub order_a : s.0.1 ≡ s.0.0.0.reorder
-  pub order_b : s.1.1 ≡ s.1.0.0.reorder
-  pub said : s.2 ≡ options.origin
-
-pub new-set : (options : PairOptions) (ports : Ports) (source : TimedPair OrderedRecording)
-    → IsNewPair options ports source → IsSetBy options ports (settings-of source)
-new-set options ports source new =
-    let of_a = source.pair.a.source.source in
-    let of_b = source.pair.b.source.source in record {
-      a = λ bytes. ap (λ (o : Options). sequence_of_bytes o (ports_of of_a.ports) bytes) new.options_a
-          ∙ sequences-agree (options_of_a options) (ports_of of_a.ports) ports _ new.ports_a;
-      b = λ bytes. ap (λ (o : Options). sequence_of_bytes o (ports_of of_b.ports) bytes) new.options_b
-          ∙ sequences-agree (options_of_b options) (ports_of of_b.ports) ports _ new.ports_b;
-      order_a = new.order_a;
-      order_b = new.order_b;
-      said = new.said;
+    pub two-take : Takes lines_themselves (whole_of_two (way_of_two source) (bytes_a, bytes_b))
+        (CutOfTwo remaining (way_of_two source) (bytes_a, bytes_b) inputs) Gave Ended Stopped
+        (plus_tally (tally_of_source source.pair.a.source) (tally_of_source source.pair.b.source))
+    two-take = record {
+      first = λ lines k. record {
+        lines = lines;
+        known_so = pair-gave remaining start inputs source set_a set_b bytes_a bytes_b known_a known_b lines k;
+        items_are = refl;
+      };
+      all = λ lines k. record {
+        lines = lines;
+        known_so = pair-ended remaining start inputs source set_a set_b bytes_a bytes_b known_a known_b lines k;
+        items_are = refl;
+      };
+      tally = λ lines k. tally-of-two lines k;
+      stops = λ lines fault k. record {
+        lines = lines;
+        known_so = pair-stopped remaining start inputs source set_a set_b bytes_a bytes_b known_a known_b lines fault k;
+        items_are = refl;
+      };
     }
 
-pub still-set-pair : (options : PairOptions) (ports : Ports) (old source : TimedPair OrderedRecording)
-    → settings-of source ≡ settings-of old → IsNewPair options ports old → IsSetBy options ports (settings-of source)
-still-set-pair options ports old source e new = subst (IsSetBy options ports) (sym e) (new-set options ports old new)
+-- ---- by the options and the ports that they were made with
 
 cut-same : (said said' : Option ℕ) (a a' b b' : List ℕ → Sequence) → said ≡ said'
     → ((bytes : List ℕ) → a bytes ≡ a' bytes) → ((bytes : List ℕ) → b bytes ≡ b' bytes)
@@ -335,55 +264,41 @@ cut-same said said' a a' b b' e f g fa fb bytes_a bytes_b rest_a rest_b lines (i
 cut-same said said' a a' b b' e f g fa fb bytes_a bytes_b rest_a rest_b lines (inr (failed, (read, gave, is))) =
     inr (failed, (read, gave, rw (← e, ← f bytes_a, ← g read) is))
 
-module _ {R : Type 0} (remaining : R → Option (List ℕ)) (start inputs : BySide (Watched R))
-    (source : TimedPair OrderedRecording) (options : PairOptions) (ports : Ports)
-    (set : IsSetBy options ports (settings-of source)) {H : Type 0} (items_of : Lines → List (Item H))
-    (done told begins : List (Item H) → Type 0) where
-  by-options : (bytes_a bytes_b : List ℕ) (known_a : remaining start.a.inner ≡ Some bytes_a)
-      (known_b : remaining start.b.inner ≡ Some bytes_b) (r : Result Tally RunFault)
-      → TakenAnswers (Whole remaining start inputs source set.order_a set.order_b bytes_a bytes_b known_a known_b)
-      (AreCut remaining start inputs source set.order_a set.order_b bytes_a bytes_b known_a known_b) items_of done told begins r
-      → TakenAnswers (taken_of_pair options ports bytes_a bytes_b)
-      (AreCutOffInPair options ports remaining bytes_a bytes_b inputs) items_of done told begins r
-  by-options bytes_a bytes_b known_a known_b r h =
-      answers-same (Whole remaining start inputs source set.order_a set.order_b bytes_a bytes_b known_a known_b)
-      (taken_of_pair options ports bytes_a bytes_b)
-      (AreCut remaining start inputs source set.order_a set.order_b bytes_a bytes_b known_a known_b)
-      (AreCutOffInPair options ports remaining bytes_a bytes_b inputs) items_of done told begins r
-      (same-taken _ _ _ _ _ _ (set.a bytes_a) (set.b bytes_b) set.said)
-      (λ lines k. cut-same source.clock.said options.origin
-      (sequence_of_bytes (options_of source.pair.a.source.source.options) (ports_of source.pair.a.source.source.ports))
-      (of_a options ports)
-      (sequence_of_bytes (options_of source.pair.b.source.source.options) (ports_of source.pair.b.source.source.ports))
-      (of_b options ports) set.said set.a set.b
-      (has_failed inputs.a) (has_failed inputs.b) bytes_a bytes_b (remaining (device_of inputs.a))
-      (remaining (device_of inputs.b)) lines k) h
+module _ (options : PairOptions) (ports : Ports) (source : TimedPair OrderedRecording)
+    (new : IsNewPair options ports source) where
+  same-a : (bytes : List ℕ) → of_set (way_of_two source).0 bytes ≡ of_a options ports bytes
+  same-a bytes =
+      let of_a = source.pair.a.source.source in
+      ap (λ (o : Options). sequence_of_bytes o (ports_of of_a.ports) bytes) new.options_a
+      ∙ sequences-agree (options_of_a options) (ports_of of_a.ports) ports _ new.ports_a
 
-  -- what is answered of both
-  abbrev pub PairTaken : Result Tally RunFault → Type 0
-  PairTaken r =
-      IfBoth (remaining start.a.inner) (remaining start.b.inner)
-      (λ a b. TakenAnswers (taken_of_pair options ports a b) (AreCutOffInPair options ports remaining a b inputs)
+  same-b : (bytes : List ℕ) → of_set (way_of_two source).1 bytes ≡ of_b options ports bytes
+  same-b bytes =
+      let of_b = source.pair.b.source.source in
+      ap (λ (o : Options). sequence_of_bytes o (ports_of of_b.ports) bytes) new.options_b
+      ∙ sequences-agree (options_of_b options) (ports_of of_b.ports) ports _ new.ports_b
+
+  pub two-by : {H : Type 0} (items_of : Lines → List (Item H)) (done told begins : List (Item H) → Type 0)
+      (r : Result Tally RunFault) {R : Type 0} (remaining : R → Option (List ℕ)) (start rest : BySide (Watched R))
+      → IfSome (both (remaining start.a.inner) (remaining start.b.inner)) (λ bytes.
+      TakenAnswers (whole_of_two (way_of_two source) bytes) (CutOfTwo remaining (way_of_two source) bytes rest)
       items_of done told begins r)
-
-  pub err-answers : CanBePeeled items_of → (fault : RunFault)
-      → PairHands remaining start inputs source items_of done told begins (Err fault) → PairTaken (Err fault)
-  err-answers peel fault h =
-      if-both (remaining start.a.inner) (remaining start.b.inner)
-      (λ a b. TakenAnswers (taken_of_pair options ports a b) (AreCutOffInPair options ports remaining a b inputs)
-      items_of done told begins (Err fault))
-      (λ a b known_a known_b. by-options a b known_a known_b (Err fault)
-      (err-taken remaining start inputs source items_of done told begins set.order_a set.order_b a b known_a known_b peel fault h))
-
-  pub ok-answers : (tally : Tally)
-      → tally ≡ plus_tally (tally_of_source source.pair.a.source) (tally_of_source source.pair.b.source)
-      → PairHands remaining start inputs source items_of done told begins (Ok tt) → PairTaken (Ok tally)
-  ok-answers tally is h =
-      if-both (remaining start.a.inner) (remaining start.b.inner)
-      (λ a b. TakenAnswers (taken_of_pair options ports a b) (AreCutOffInPair options ports remaining a b inputs)
-      items_of done told begins (Ok tally))
-      (λ a b known_a known_b. by-options a b known_a known_b (Ok tally)
-      (ok-taken remaining start inputs source items_of done told begins set.order_a set.order_b a b known_a known_b tally is h))
+      → IfBoth (remaining start.a.inner) (remaining start.b.inner) (λ a b.
+      TakenAnswers (taken_of_pair options ports a b) (AreCutOffInPair options ports remaining a b rest)
+      items_of done told begins r)
+  two-by items_of done told begins r remaining start rest =
+      both-more (remaining start.a.inner) (remaining start.b.inner)
+      (λ bytes. TakenAnswers (whole_of_two (way_of_two source) bytes) (CutOfTwo remaining (way_of_two source) bytes rest)
+      items_of done told begins r)
+      (λ a b. TakenAnswers (taken_of_pair options ports a b) (AreCutOffInPair options ports remaining a b rest)
+      items_of done told begins r)
+      (λ a b h. answers-same (whole_of_two (way_of_two source) (a, b)) (taken_of_pair options ports a b)
+      (CutOfTwo remaining (way_of_two source) (a, b) rest) (AreCutOffInPair options ports remaining a b rest)
+      items_of done told begins r (same-taken _ _ _ _ _ _ (same-a a) (same-b b) new.said)
+      (λ lines k. cut-same source.clock.said options.origin
+      (of_set (way_of_two source).0) (of_a options ports) (of_set (way_of_two source).1) (of_b options ports)
+      new.said same-a same-b (has_failed rest.a) (has_failed rest.b) a b (remaining (device_of rest.a))
+      (remaining (device_of rest.b)) lines k) h)
 
 -- ---- before the first read
 

@@ -37,7 +37,7 @@ use Rattle.afdx_arrivals.proofs.CutLemmas.{cut-at-a, cut-at-b}
 use Rattle.afdx_arrivals.proofs.OrderedKnownLemmas.{given-first, ended-all, stopped-fault, stopped-read}
 use Rattle.afdx_arrivals.proofs.OrderedKnownLemmas.{CanStop, stopped-memory, can-stop, taken-sound}
 use Rattle.afdx_arrivals.proofs.MergeLemmas.{EndsIn, merge-extends, reverse-taken}
-use Rattle.afdx_arrivals.proofs.TakenLemmas.{AreAllLines, AreFirstLines, StopsBehindLines}
+use Rattle.afdx_arrivals.specs.Over.{AreAllLines, AreFirstLines, StopsBehindLines}
 use Rattle.afdx_arrivals.proofs.TimingLemmas.{timed-extends, timed-stopped}
 
 -- ---- one of the two

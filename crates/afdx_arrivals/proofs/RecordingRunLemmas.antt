@@ -1,6 +1,6 @@
 -- What a run over a recording answers, from what it hands from the recording to its machine.
 use Rattle.std.proofs.Common.{◌≡◌, ◌≤◌, ◌+◌, ℕ, List, [], ◌∷◌, ◌++◌, length, length-append, if◌then◌else◌, refl, ap, sym, ◌∙◌, subst}
-use Rattle.std.proofs.Common.{Option, Some, None, Result, Ok, Err, IfSome, arith, true, false, Bool, inl, inr}
+use Rattle.std.proofs.Common.{Option, Some, None, Result, Err, IfSome, arith, true, false, Bool, inl, inr}
 use Rattle.std.specs.Io.KnownBytes.{Consumes}
 use Rattle.std.proofs.KnownBytes.{Consumes-nil}
 use Rattle.std.proofs.Math.Seq.{take-nil}
@@ -13,6 +13,7 @@ use Rattle.afdx_lists.specs.declared.recording_fault.RecordingFault.{RecordingFa
 use Rattle.afdx_lists.specs.declared.watched.Watched.{Watched}
 use Rattle.afdx_recordings.specs.Holding.{Standing, standing, GivesSome, last_calls}
 use Rattle.afdx_recordings.specs.Recordings.{State, Over, Faulted}
+use Rattle.afdx_recordings.specs.declared.held.Held.{Held}
 use Rattle.afdx_run.specs.Engine.{Item}
 use Rattle.afdx_text.specs.Sinks.{IsOfOutput}
 use Rattle.afdx_arrivals.specs.declared.becoming.RecordingOptions.{RecordingOptions}
@@ -20,14 +21,15 @@ use Rattle.afdx_arrivals.specs.declared.counts.Tally.{Tally}
 use Rattle.afdx_arrivals.specs.declared.number.Number.{Number}
 use Rattle.afdx_arrivals.specs.declared.senders.SystemPorts.{SystemPorts}
 use Rattle.afdx_arrivals.specs.declared.timed_numbers.TimedNumbers.{TimedNumbers}
-use Rattle.afdx_arrivals.specs.ArrivingSource.{AreArrivals}
 use Rattle.afdx_arrivals.specs.Becoming.{Options, options_of}
 use Rattle.afdx_arrivals.specs.Claims.{Ports, ports_of}
+use Rattle.afdx_arrivals.specs.ListText.{lines_themselves}
 use Rattle.afdx_arrivals.specs.NumberLines.{Lines, arrivals_listed}
 use Rattle.afdx_arrivals.specs.OrderedRecording.{OrderedRecording, IsSetInOrder, IsUnread, tally_of_source}
 use Rattle.afdx_arrivals.specs.OrderedRecording.{HasTaken, HasTakenAll, HasStoppedTaking}
 use Rattle.afdx_arrivals.specs.OrderedSource.{AreHeld}
 use Rattle.afdx_arrivals.specs.Ordering.{Sequence, forward, handed_on, in_order}
+use Rattle.afdx_arrivals.specs.ReadPair.{IsNewOne}
 use Rattle.afdx_arrivals.specs.RecordingRun.{IsAskedOnce}
 use Rattle.afdx_arrivals.specs.RecordingSource.{first_standing, HasRead}
 use Rattle.afdx_arrivals.specs.Sequences.{Numbers, counts_of, has_arrival, latest_of}
@@ -38,8 +40,8 @@ use Rattle.afdx_arrivals.specs.Timing.{Timed, fault_or, origin_in, timed}
 use Rattle.afdx_arrivals.proofs.OrderedKnownLemmas.{AreAll, CanStop, IsSound, taken-sound, all-sound, stopped-sound}
 use Rattle.afdx_arrivals.proofs.OrderedKnownLemmas.{given-first, ended-all, stopped-fault, stopped-read}
 use Rattle.afdx_arrivals.proofs.OrderedKnownLemmas.{stopped-memory, can-stop}
-use Rattle.afdx_arrivals.proofs.TakenLemmas.{AreFirstLines, AreAllLines, StopsBehindLines, CanBePeeled, Handed}
-use Rattle.afdx_arrivals.proofs.TakenLemmas.{hands-err, hands-ok, handed-err, handed-ok, taken-start}
+use Rattle.afdx_arrivals.specs.Over.{AreFirstLines, AreAllLines, IsAsked, IsSetOne, StopsBehindLines, Takes, way_of_one}
+use Rattle.afdx_arrivals.proofs.TakenLemmas.{taken-start}
 use Rattle.afdx_arrivals.proofs.TimingLemmas.{timed-extends, timed-stopped}
 
 pub not_read : (fault : RunFault) → IsOfOutput fault → is_read fault ≡ false
@@ -69,19 +71,17 @@ asked-of (Some left) (Some rest) given old new last c calls few =
     omega (arith, n, calls, few)
 
 -- where what it gives is known, it was asked once for each byte at most, and once more
-pub asked-once : (first now : Standing) → GivesSome first now → first.over ≡ false
+asked-once : (first now : Standing) → GivesSome first now → first.over ≡ false
     → IsAskedOnce first.left now.left first.calls now.calls
 asked-once first now (given, gives) unasked =
     let calls : now.calls ≤ first.calls + length given + last_calls now =
     (let c = gives.calls in omega (arith, c)) in
     asked-of first.left now.left given first.calls now.calls (last_calls now) gives.consumed calls (last-few now)
 
--- ---- where all bytes of the input are known
-
-pub if-known : (left : Option (List ℕ)) (P : List ℕ → Type 0) → ((bytes : List ℕ) → left ≡ Some bytes → P bytes)
-    → IfSome left P
-if-known None P f = tt
-if-known (Some bytes) P f = f bytes refl
+pub asked-by : {R : Type 0} (remaining : R → Option (List ℕ)) (start input : Watched R) (held : Held)
+    → GivesSome (first_standing remaining start) (standing remaining held input) → IsAsked remaining start input
+asked-by remaining start input held gives fresh =
+    asked-once (first_standing remaining start) (standing remaining held input) gives fresh
 
 -- ---- its lines
 
@@ -128,36 +128,6 @@ module _ (said : Option ℕ) (outcome : Sequence) where
 
 abbrev timed-with : Lines → RunFault → Timed
 timed-with lines fault = record { lines = lines; fault = Some fault }
-
--- ---- by which settings
-
-abbrev Settings : Type 0
-Settings = ((RecordingOptions × SystemPorts) × ℕ) × Option ℕ
-
-abbrev pub Settings-of : TimedNumbers OrderedRecording → Settings
-Settings-of source =
-    (((source.numbers.source.options, source.numbers.source.ports), source.numbers.most), source.clock.said)
-
--- time 0, and how many arrivals may come late, are those of the options
-abbrev pub HasSettings : RecordingOptions → SystemPorts → TimedNumbers OrderedRecording → Type 0
-HasSettings o p source = Settings-of source ≡ (((o, p), o.reorder), o.origin)
-
-module _ (o : RecordingOptions) (p : SystemPorts) (source : TimedNumbers OrderedRecording) where
-  -- those that it had, it has
-  pub still-set : (old : TimedNumbers OrderedRecording) → Settings-of source ≡ Settings-of old
-      → old.numbers.source.options ≡ o → old.numbers.source.ports ≡ p → IsSetInOrder old.numbers
-      → old.clock.said ≡ o.origin → HasSettings o p source
-  still-set old e options ports order said = e ∙ rw (order, options, ports, said) refl
-
-  same-said : HasSettings o p source → source.clock.said ≡ source.numbers.source.options.origin
-  same-said e = ap (λ (s : Settings). s.1) e ∙ sym (ap (λ (s : Settings). s.0.0.0.origin) e)
-
-  same-order : HasSettings o p source → IsSetInOrder source.numbers
-  same-order e = ap (λ (s : Settings). s.0.1) e ∙ sym (ap (λ (s : Settings). s.0.0.0.reorder) e)
-
-  by-settings : (P : RecordingOptions → SystemPorts → Type 0) → HasSettings o p source
-      → P source.numbers.source.options source.numbers.source.ports → P o p
-  by-settings P e h = subst (λ (s : Settings). P s.0.0.0 s.0.0.1) e h
 
 -- ---- what is known of a source, from call to call
 
@@ -211,7 +181,7 @@ module _ {R : Type 0} (remaining : R → Option (List ℕ)) (start input : Watch
         → timed late_of_one source.numbers.source.options.origin numbers ≡ all
     by-said numbers all t = ap (λ (o : Option ℕ). timed late_of_one o numbers) (sym said) ∙ t
 
-    pub gave-known : (lines : Lines) → Gave lines → AreFirstLines All lines
+    gave-known : (lines : Lines) → Gave lines → AreFirstLines All lines
     gave-known lines g =
         let k = given-first remaining start input source.numbers set g.numbers bytes e g.gave_them in
         lines-first Options-of.origin (sequence_of_bytes Options-of Ports-of bytes) g.numbers k.0 lines None
@@ -220,13 +190,13 @@ module _ {R : Type 0} (remaining : R → Option (List ℕ)) (start input : Watch
     whole-known : (lines : Lines) (g : Ended lines) → AreAll remaining start input source.numbers set g.numbers bytes e
     whole-known lines g = ended-all remaining start input source.numbers set g.numbers bytes e g.ended_so
 
-    pub ended-known : (lines : Lines) → Ended lines → AreAllLines All lines
+    ended-known : (lines : Lines) → Ended lines → AreAllLines All lines
     ended-known lines g =
         let k = whole-known lines g in
         lines-all Options-of.origin (sequence_of_bytes Options-of Ports-of bytes) g.numbers lines
         (by-said g.numbers _ g.are_timed.timed_as) k.numbers k.ending
 
-    pub ended-tally : (lines : Lines) → Ended lines → tally_of_source source.numbers ≡ All.tally
+    ended-tally : (lines : Lines) → Ended lines → tally_of_source source.numbers ≡ All.tally
     ended-tally lines g = (whole-known lines g).tally
 
     no-other : (numbers : Numbers) (fault : RunFault)
@@ -271,82 +241,19 @@ module _ {R : Type 0} (remaining : R → Option (List ℕ)) (start input : Watch
         (late_of_one x) (t ∙ ap (λ (f : RunFault). timed-with lines f) is) k.1 in
         subst (λ (f : RunFault). StopsBehindLines All Cut lines f) (sym is) h
 
-    pub stopped-known : (lines : Lines) (fault : RunFault) → Stopped lines fault → StopsBehindLines All Cut lines fault
+    stopped-known : (lines : Lines) (fault : RunFault) → Stopped lines fault → StopsBehindLines All Cut lines fault
     stopped-known lines fault (inl s) =
         stops-known s.numbers lines fault (by-said s.numbers _ s.are_timed.timed_as) s.stopped_so
     stopped-known lines fault (inr s) =
         late-known s.before s.x lines fault s.fault_is s.gave_them (by-said (s.x ∷ s.before) _ s.is_late.timed_as)
 
-  -- ---- from what a run hands over
-
-  module _ {H : Type 0} (items_of : Lines → List (Item H)) (done told begins : List (Item H) → Type 0) where
-    abbrev pub RunsOver : {A : Type 0} → Result A RunFault → Type 0
-    RunsOver result = Handed items_of done told begins Gave Ended Stopped result
-
-    pub fault-read : (fault : RunFault) → RunsOver {A = Unit {0}} (Err fault) → input.failed ≡ is_read fault
-    fault-read fault h =
-        handed-err items_of done told begins Gave Ended Stopped (input.failed ≡ is_read fault) fault
-        (λ lines s. (stopped-so lines fault s).0) (λ is lines g. (gave-sound lines g).0 ∙ sym (not_read fault is))
-        (λ is lines g. (ended-sound lines g).0 ∙ sym (not_read fault is)) h
-
-    fault-gives : (fault : RunFault) → RunsOver {A = Unit {0}} (Err fault) → GivesSome First Now
-    fault-gives fault h =
-        handed-err items_of done told begins Gave Ended Stopped (GivesSome First Now) fault
-        (λ lines s. (stopped-so lines fault s).1) (λ is lines g. (gave-sound lines g).1)
-        (λ is lines g. (ended-sound lines g).2) h
-
-    pub fault-calls : First.over ≡ false → (fault : RunFault) → RunsOver {A = Unit {0}} (Err fault)
-        → IsAskedOnce First.left Now.left First.calls Now.calls
-    fault-calls fresh fault h = asked-once First Now (fault-gives fault h) fresh
-
-    pub done-calls : First.over ≡ false → RunsOver {A = Unit {0}} (Ok tt)
-        → IsAskedOnce First.left Now.left First.calls Now.calls
-    done-calls fresh h =
-        asked-once First Now (handed-ok items_of done told begins Gave Ended Stopped (GivesSome First Now)
-        (λ lines g. (ended-sound lines g).2) h) fresh
-
-    pub done-read : RunsOver {A = Unit {0}} (Ok tt) → input.failed ≡ false
-    done-read h =
-        handed-ok items_of done told begins Gave Ended Stopped (input.failed ≡ false) (λ lines g. (ended-sound lines g).0) h
-
-    pub done-ended : RunsOver {A = Unit {0}} (Ok tt) → input.ended ≡ true
-    done-ended h =
-        handed-ok items_of done told begins Gave Ended Stopped (input.ended ≡ true) (λ lines g. (ended-sound lines g).1) h
-
-    module _ (o : RecordingOptions) (p : SystemPorts) (settings : HasSettings o p source) where
-      abbrev Answers : RecordingOptions → SystemPorts → List ℕ → Result Tally RunFault → Type 0
-      Answers o p bytes result =
-          TakenAnswers (taken_of_bytes (options_of o) (ports_of p) bytes)
-          (AreCutOff (options_of o) (ports_of p) bytes (remaining input.inner)) items_of done told begins result
-
-      abbrev IfAnswers : Result Tally RunFault → RecordingOptions → SystemPorts → Type 0
-      IfAnswers result o p = IfSome (remaining start.inner) (λ bytes. Answers o p bytes result)
-
-      pub fault-answers : CanBePeeled items_of → (fault : RunFault) → RunsOver {A = Unit {0}} (Err fault)
-          → IfSome (remaining start.inner) (λ bytes. Answers o p bytes (Err fault))
-      fault-answers peel fault h =
-          let said = same-said o p source settings in
-          let set = same-order o p source settings in
-          by-settings o p source (IfAnswers (Err fault)) settings
-          (if-known (remaining start.inner)
-          (λ bytes. Answers source.numbers.source.options source.numbers.source.ports bytes (Err fault)) (λ bytes e.
-          hands-err (taken_of_bytes (options_of source.numbers.source.options) (ports_of source.numbers.source.ports) bytes)
-          (AreCutOff (options_of source.numbers.source.options) (ports_of source.numbers.source.ports) bytes (remaining input.inner))
-          items_of done told begins Gave Ended Stopped peel fault (λ lines g. gave-known said set bytes e lines g)
-          (λ lines g. ended-known said set bytes e lines g) (λ lines s. stopped-known said set bytes e lines fault s) h))
-
-      pub done-answers : (tally : Tally) → tally ≡ tally_of_source source.numbers → RunsOver {A = Unit {0}} (Ok tt)
-          → IfSome (remaining start.inner) (λ bytes. Answers o p bytes (Ok tally))
-      done-answers tally is h =
-          let said = same-said o p source settings in
-          let set = same-order o p source settings in
-          by-settings o p source (IfAnswers (Ok tally)) settings
-          (if-known (remaining start.inner)
-          (λ bytes. Answers source.numbers.source.options source.numbers.source.ports bytes (Ok tally)) (λ bytes e.
-          hands-ok (taken_of_bytes (options_of source.numbers.source.options) (ports_of source.numbers.source.ports) bytes)
-          (AreCutOff (options_of source.numbers.source.options) (ports_of source.numbers.source.ports) bytes (remaining input.inner))
-          items_of done told begins Gave Ended Stopped tally
-          (λ lines g. (ended-known said set bytes e lines g, is ∙ ended-tally said set bytes e lines g)) h))
+    pub one-takes : Takes lines_themselves All Cut Gave Ended Stopped (tally_of_source source.numbers)
+    one-takes = record {
+      first = λ lines g. record { lines = lines; known_so = gave-known lines g; items_are = refl };
+      all = λ lines g. record { lines = lines; known_so = ended-known lines g; items_are = refl };
+      tally = λ lines g. ended-tally lines g;
+      stops = λ lines fault s. record { lines = lines; known_so = stopped-known lines fault s; items_are = refl };
+    }
 
 -- ---- before the first read
 
@@ -382,31 +289,38 @@ gave-start remaining input source sound ended new = record {
   stands = rw new.stage (read-start remaining input source sound ended new, none-held source.most source.held new.held);
 }
 
--- nor was a line given
-pub timed-start : {R : Type 0} (remaining : R → Option (List ℕ)) (input : Watched R) (source : TimedNumbers OrderedRecording)
-    → input.failed ≡ false → has_ended input ≡ false → IsUnread source.numbers → source.clock.zero ≡ source.clock.said
-    → HasTimed (HasTaken remaining) (HasTakenAll remaining) input source input []
-unfolding timed origin_in
-timed-start remaining input source sound ended new zero = record {
-  numbers = [];
-  gave_them = gave-start remaining input source.numbers sound ended new;
-  are_timed = record { timed_as = refl; zero = zero };
-}
+module _ (o : RecordingOptions) (p : SystemPorts) (source : TimedNumbers OrderedRecording) (new : IsNewOne o p source) where
+  -- nor was a line given
+  pub timed-start : {R : Type 0} (remaining : R → Option (List ℕ)) (input : Watched R) → input.failed ≡ false
+      → has_ended input ≡ false → HasTimed (HasTaken remaining) (HasTakenAll remaining) input source input []
+  unfolding timed origin_in
+  timed-start remaining input sound ended = record {
+    numbers = [];
+    gave_them = gave-start remaining input source.numbers sound ended new.unread;
+    are_timed = record { timed_as = refl; zero = new.zero ∙ sym new.said };
+  }
+
+  -- and it is set as its options say
+  pub one-set : IsSetOne (way_of_one source)
+  one-set = record { order = new.order; said = new.said ∙ sym (ap (λ (o : RecordingOptions). o.origin) new.options_are) }
+
+  -- what is answered by the options and the ports that it was made with
+  module _ {H : Type 0} (items_of : Lines → List (Item H)) (done told begins : List (Item H) → Type 0)
+      (r : Result Tally RunFault) (left rest : Option (List ℕ)) where
+    abbrev OneAnswers : RecordingOptions → SystemPorts → Type 0
+    OneAnswers o p =
+        IfSome left (λ bytes. TakenAnswers (taken_of_bytes (options_of o) (ports_of p) bytes)
+        (AreCutOff (options_of o) (ports_of p) bytes rest) items_of done told begins r)
+
+    pub one-by : OneAnswers source.numbers.source.options source.numbers.source.ports → OneAnswers o p
+    one-by h =
+        subst (λ (q : SystemPorts). OneAnswers o q) new.ports_are
+        (subst (λ (q : RecordingOptions). OneAnswers q source.numbers.source.ports) new.options_are h)
 
 -- no lines are no arrivals
 pub listed-none : arrivals_listed [] ≡ []
 unfolding arrivals_listed
 listed-none = refl
-
--- nor an arrival
-pub arriving-start : {R : Type 0} (remaining : R → Option (List ℕ)) (input : Watched R) (source : TimedNumbers OrderedRecording)
-    → input.failed ≡ false → has_ended input ≡ false → IsUnread source.numbers → source.clock.zero ≡ source.clock.said
-    → AreArrivals (Gave remaining input input source) []
-arriving-start remaining input source sound ended new zero = record {
-  lines = [];
-  known_so = timed-start remaining input source sound ended new zero;
-  arrivals_are = sym listed-none;
-}
 
 -- there was no memory
 pub answers-start : {H : Type 0} (options : Options) (ports : Ports) (items_of : Lines → List (Item H))

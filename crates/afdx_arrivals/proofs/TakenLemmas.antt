@@ -1,6 +1,6 @@
 -- What a run answers that takes all of some lines, whatever is told of them.
 use Rattle.std.proofs.Common.{◌≡◌, ℕ, List, [], ◌∷◌, ◌++◌, append_assoc, append-nil, refl, ap, sym, ◌∙◌, subst}
-use Rattle.std.proofs.Common.{Some, Result, Ok, Err, ◌⊎◌, inl, inr}
+use Rattle.std.proofs.Common.{Result, Ok, Err, ◌⊎◌, inl, inr}
 use Rattle.afdx_lists.specs.declared.frame_line.Heading.{Heading}
 use Rattle.afdx_lists.specs.declared.fault.RunFault.{RunFault}
 use Rattle.afdx_lists.specs.declared.fault.RunFault.TheVariants as run
@@ -13,46 +13,13 @@ use Rattle.afdx_text.specs.Sinks.{IsOfOutput}
 use Rattle.afdx_arrivals.specs.declared.counts.Tally.{Tally}
 use Rattle.afdx_arrivals.specs.declared.number_line.NumberLine.{NumberLine}
 use Rattle.afdx_arrivals.specs.declared.number_line.NumberLine.TheVariants as line
-use Rattle.afdx_arrivals.specs.ArrivingSource.{AreArrivals}
 use Rattle.afdx_arrivals.specs.ListText.{lines_themselves}
-use Rattle.afdx_arrivals.specs.NumberLines.{Lines, arrivals_listed, as_arrival}
+use Rattle.afdx_arrivals.specs.Over.{AreFirstLines, AreAllLines, StopsBehindLines, Takes}
+use Rattle.afdx_arrivals.specs.NumberLines.{AreItems, CanBePeeled, Lines, WithoutNewest, arrivals_listed, as_arrival}
 use Rattle.afdx_arrivals.specs.Taking.{Taken, arrivals_in}
-use Rattle.afdx_arrivals.specs.TakenRun.{TakenAnswers, FirstAreBegun, HasNoFault, IsOver, FirstAreTold, StopsTaken}
+use Rattle.afdx_arrivals.specs.TakenRun.{TakenAnswers, FirstAreBegun, IsOver, FirstAreTold, StopsTaken}
 
--- ---- what is known of lines that were given
-
--- they are the first of all
-abbrev pub AreFirstLines : Taken → Lines → Type 0
-AreFirstLines whole lines = (later : Lines) × (whole.lines ≡ later ++ lines)
-
--- they are all, and there is no fault
-pub record AreAllLines (whole : Taken) (lines : Lines) : Type 0 where
-  pub over : HasNoFault whole
-  pub lines_are : whole.lines ≡ lines
-
--- this fault stands behind them
-abbrev pub StopsBehindLines : Taken → (AreCut : Lines → Type 0) → Lines → RunFault → Type 0
-StopsBehindLines whole AreCut lines run.Read = AreCut lines
-StopsBehindLines whole AreCut lines run.Memory = AreFirstLines whole lines
-StopsBehindLines whole AreCut lines run.Write = ⊥
-StopsBehindLines whole AreCut lines fault = (whole.fault ≡ Some fault) × (whole.lines ≡ lines)
-
--- these are the items of lines of which this is known
-pub record AreItems {H : Type 0} (items_of : Lines → List (Item H)) (known : Lines → Type 0) (past : List (Item H))
-    : Type 0 where
-  pub lines : Lines
-  pub known_so : known lines
-  pub items_are : past ≡ items_of lines
-
--- without the newest item they are those of some first lines
-pub record WithoutNewest {H : Type 0} (items_of : Lines → List (Item H)) (lines : Lines) : Type 0 where
-  pub before : Lines
-  pub after : Lines
-  pub parts : lines ≡ after ++ before
-  pub items_are : items_of before ≡ without_newest (items_of lines)
-
-abbrev pub CanBePeeled : {H : Type 0} → (Lines → List (Item H)) → Type 0
-CanBePeeled items_of = (lines : Lines) → WithoutNewest items_of lines
+-- ---- without the newest item
 
 pub lines-peeled : CanBePeeled lines_themselves
 lines-peeled [] = record { before = []; after = []; parts = refl; items_are = refl }
@@ -139,95 +106,29 @@ module _ {H : Type 0} (whole : Taken) (AreCut : Lines → Type 0) (items_of : Li
 
   -- ---- from what a run hands over
 
-  module _ (gave ended : Lines → Type 0) (stopped : Lines → RunFault → Type 0) where
-    -- of the items of these lines
-    abbrev pub Hands : {A : Type 0} → Result A RunFault → Type 0
-    Hands result =
-        Runs (AreItems items_of gave) (AreItems items_of ended) done told begins
-        (λ past fault. AreItems items_of (λ lines. stopped lines fault) past) result
+  module _ (gave ended : List (Item H) → Type 0) (stopped : List (Item H) → RunFault → Type 0) (counted : Tally)
+      (takes : Takes items_of whole AreCut gave ended stopped counted) where
+    abbrev Hands : Result (Unit {0}) RunFault → Type 0
+    Hands result = Runs gave ended done told begins stopped result
 
-    pub hands-err : CanBePeeled items_of → (fault : RunFault)
-        → ((lines : Lines) → gave lines → AreFirstLines whole lines)
-        → ((lines : Lines) → ended lines → AreAllLines whole lines)
-        → ((lines : Lines) → stopped lines fault → StopsBehindLines whole AreCut lines fault)
-        → Hands {A = Unit {0}} (Err fault) → Answers (Err fault)
-    hands-err peel fault f g h (past, inl (s, t)) =
-        taken-stop s.lines fault (h s.lines s.known_so) (subst told s.items_are t)
-    hands-err peel fault f g h (past, inr (is, inl a, b)) =
-        taken-output fault is (taken-begun peel a.lines (f a.lines a.known_so)
-        (subst (λ (xs : List (Item H)). begins xs ⊎ begins (without_newest xs)) a.items_are b))
-    hands-err peel fault f g h (past, inr (is, inr a, b)) =
-        taken-output fault is (taken-begun peel a.lines ([], (g a.lines a.known_so).lines_are)
-        (subst (λ (xs : List (Item H)). begins xs ⊎ begins (without_newest xs)) a.items_are b))
+    begun-first : CanBePeeled items_of → (known : Lines → Type 0) → ((lines : Lines) → known lines → AreFirstLines whole lines)
+        → (past : List (Item H)) → AreItems items_of known past → begins past ⊎ begins (without_newest past) → Begun
+    begun-first peel known f past a b =
+        taken-begun peel a.lines (f a.lines a.known_so)
+        (subst (λ (xs : List (Item H)). begins xs ⊎ begins (without_newest xs)) a.items_are b)
 
-    pub hands-ok : (tally : Tally) → ((lines : Lines) → ended lines → AreAllLines whole lines × (tally ≡ whole.tally))
-        → Hands {A = Unit {0}} (Ok tt) → Answers (Ok tally)
-    hands-ok tally g (past, a, d) =
-        let all = g a.lines a.known_so in
-        taken-done a.lines tally all.0 (subst done a.items_are d) all.1
+    pub hands-err : CanBePeeled items_of → (fault : RunFault) → Hands (Err fault) → Answers (Err fault)
+    hands-err peel fault (past, inl (s, t)) =
+        let k = takes.stops past fault s in taken-stop k.lines fault k.known_so (subst told k.items_are t)
+    hands-err peel fault (past, inr (is, inl a, b)) =
+        taken-output fault is (begun-first peel (AreFirstLines whole) (λ lines k. k) past (takes.first past a) b)
+    hands-err peel fault (past, inr (is, inr a, b)) =
+        taken-output fault is (begun-first peel (AreAllLines whole) (λ lines k. ([], k.lines_are)) past (takes.all past a) b)
 
--- what is known of the lines, whatever was told
-module _ {H : Type 0} (items_of : Lines → List (Item H)) (done told begins : List (Item H) → Type 0)
-    (gave ended : Lines → Type 0) (stopped : Lines → RunFault → Type 0) where
-  abbrev pub Handed : {A : Type 0} → Result A RunFault → Type 0
-  Handed result =
-      Runs (AreItems items_of gave) (AreItems items_of ended) done told begins
-      (λ past fault. AreItems items_of (λ lines. stopped lines fault) past) result
-
-  -- what holds in each case
-  pub handed-err : (P : Type 0) (fault : RunFault) → ((lines : Lines) → stopped lines fault → P)
-      → (IsOfOutput fault → (lines : Lines) → gave lines → P)
-      → (IsOfOutput fault → (lines : Lines) → ended lines → P) → Handed {A = Unit {0}} (Err fault) → P
-  handed-err P fault f g h (past, inl (s, t)) = f s.lines s.known_so
-  handed-err P fault f g h (past, inr (is, inl a, b)) = g is a.lines a.known_so
-  handed-err P fault f g h (past, inr (is, inr a, b)) = h is a.lines a.known_so
-
-  pub handed-ok : (P : Type 0) → ((lines : Lines) → ended lines → P) → Handed {A = Unit {0}} (Ok tt) → P
-  handed-ok P f (past, a, d) = f a.lines a.known_so
-
--- ---- a run over a source of arrivals among lines, or of lines
-
-module _ (done told begins : List (Item Heading) → Type 0) (gave ended : Lines → Type 0)
-    (stopped : Lines → RunFault → Type 0) where
-  abbrev pub HandsArrivals : {A : Type 0} → Result A RunFault → Type 0
-  HandsArrivals result =
-      Runs (AreArrivals gave) (AreArrivals ended) done told begins
-      (λ past fault. AreArrivals (λ lines. stopped lines fault) past) result
-
-  items-arrivals : (known : Lines → Type 0) (past : List (Item Heading)) → AreArrivals known past
-      → AreItems arrivals_listed known past
-  items-arrivals known past a = record { lines = a.lines; known_so = a.known_so; items_are = a.arrivals_are }
-
-  either-arrivals : (past : List (Item Heading)) → AreArrivals gave past ⊎ AreArrivals ended past
-      → AreItems arrivals_listed gave past ⊎ AreItems arrivals_listed ended past
-  either-arrivals past (inl a) = inl (items-arrivals gave past a)
-  either-arrivals past (inr a) = inr (items-arrivals ended past a)
-
-  pub arrivals-handed : {A : Type 0} (result : Result A RunFault) → HandsArrivals result
-      → Handed arrivals_listed done told begins gave ended stopped result
-  arrivals-handed (Ok a) (past, e, d) = (past, items-arrivals ended past e, d)
-  arrivals-handed (Err fault) (past, inl (s, t)) =
-      (past, inl (items-arrivals (λ lines. stopped lines fault) past s, t))
-  arrivals-handed (Err fault) (past, inr (is, a, b)) = (past, inr (is, either-arrivals past a, b))
-
-module _ (done told begins : Lines → Type 0) (gave ended : Lines → Type 0)
-    (stopped : Lines → RunFault → Type 0) where
-  abbrev pub HandsLines : {A : Type 0} → Result A RunFault → Type 0
-  HandsLines result = Runs gave ended done told begins stopped result
-
-  items-lines : (known : Lines → Type 0) (past : Lines) → known past → AreItems lines_themselves known past
-  items-lines known past k = record { lines = past; known_so = k; items_are = refl }
-
-  either-lines : (past : Lines) → gave past ⊎ ended past
-      → AreItems lines_themselves gave past ⊎ AreItems lines_themselves ended past
-  either-lines past (inl a) = inl (items-lines gave past a)
-  either-lines past (inr a) = inr (items-lines ended past a)
-
-  pub lines-handed : {A : Type 0} (result : Result A RunFault) → HandsLines result
-      → Handed lines_themselves done told begins gave ended stopped result
-  lines-handed (Ok a) (past, e, d) = (past, items-lines ended past e, d)
-  lines-handed (Err fault) (past, inl (s, t)) = (past, inl (items-lines (λ lines. stopped lines fault) past s, t))
-  lines-handed (Err fault) (past, inr (is, a, b)) = (past, inr (is, either-lines past a, b))
+    pub hands-ok : (tally : Tally) → tally ≡ counted → Hands (Ok tt) → Answers (Ok tally)
+    hands-ok tally is (past, a, d) =
+        let all = takes.all past a in
+        taken-done all.lines tally all.known_so (subst done all.items_are d) (is ∙ takes.tally past a)
 
 -- ---- what that says of the arrivals
 

@@ -7,6 +7,7 @@ pub mod Becoming
 pub mod Counting
 pub mod Sequences
 pub mod Ordering
+pub mod Over
 pub mod Holding
 pub mod NumberLines
 pub mod Timing

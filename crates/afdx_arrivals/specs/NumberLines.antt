@@ -1,9 +1,9 @@
 -- The lines of numbers: when and where an arrival comes, or why a number is skipped. A list of them
 -- has the newest first.
-use Rattle.std.specs.Prelude.{ℕ, ◌≡◌, ◌+◌, ◌≤◌, ◌<◌, List, [], ◌∷◌, length}
+use Rattle.std.specs.Prelude.{ℕ, ◌≡◌, ◌+◌, ◌≤◌, ◌<◌, List, [], ◌∷◌, ◌++◌, length}
 use Rattle.afdx_frame.specs.Times.{latest_listed}
 use Rattle.afdx_lists.specs.declared.frame_line.Heading.{Heading}
-use Rattle.afdx_run.specs.Engine.{Item, item_of}
+use Rattle.afdx_run.specs.Engine.{Item, item_of, without_newest}
 use Rattle.afdx_run.specs.Items.{most_frames}
 use Rattle.afdx_recordings.specs.Recordings.{most_numbers}
 use Rattle.afdx_arrivals.specs.declared.number.AsRead.{AsRead}
@@ -28,6 +28,27 @@ as_arrival n bytes (line.Skipped reason) past = past
 unfoldable pub arrivals_listed : Lines → List (Item Heading)
 arrivals_listed [] = []
 arrivals_listed (x ∷ past) = as_arrival x.number x.bytes x.head (arrivals_listed past)
+
+-- ---- the items that lines stand for: their arrivals, or they themselves
+
+module _ {H : Type 0} (items_of : Lines → List (Item H)) where
+  -- these are the items of lines of which this is known
+  pub record AreItems (known : Lines → Type 0) (past : List (Item H)) : Type 0 where
+    pub lines : Lines
+    pub known_so : known lines
+    pub items_are : past ≡ items_of lines
+
+  -- without the newest item they are those of some first lines
+  pub record WithoutNewest (lines : Lines) : Type 0 where
+    pub before : Lines
+    pub after : Lines
+    pub parts : lines ≡ after ++ before
+    pub items_are : items_of before ≡ without_newest (items_of lines)
+
+  abbrev pub CanBePeeled : Type 0
+  CanBePeeled = (lines : Lines) → WithoutNewest lines
+
+-- ---- their times
 
 -- the time of an arrival, else this one
 abbrev pub time_or : NumberLine → ℕ → ℕ

@@ -1,12 +1,25 @@
--- Two recordings that are read at once, before the first read.
+-- A recording, or two that are read at once, before the first read.
 use Rattle.std.specs.Prelude.{◌≡◌}
 use Rattle.afdx_arrivals.specs.declared.ahead.AtHead.TheVariants.{Unknown}
+use Rattle.afdx_arrivals.specs.declared.becoming.RecordingOptions.{RecordingOptions}
 use Rattle.afdx_arrivals.specs.declared.pair_options.PairOptions.{PairOptions}
+use Rattle.afdx_arrivals.specs.declared.senders.SystemPorts.{SystemPorts}
+use Rattle.afdx_arrivals.specs.declared.timed_numbers.TimedNumbers.{TimedNumbers}
 use Rattle.afdx_arrivals.specs.declared.timed_pair.TimedPair.{TimedPair}
 use Rattle.afdx_arrivals.specs.Becoming.{options_of}
 use Rattle.afdx_arrivals.specs.Claims.{Agree, Ports, ports_of}
 use Rattle.afdx_arrivals.specs.OrderedRecording.{IsSetInOrder, IsUnread, OrderedRecording}
 use Rattle.afdx_arrivals.specs.PairOptions.{options_of_a, options_of_b}
+
+-- nothing of one was read, by these options and ports
+pub record IsNewOne (options : RecordingOptions) (ports : SystemPorts)
+    (source : TimedNumbers OrderedRecording) : Type 0 where
+  pub options_are : source.numbers.source.options ≡ options
+  pub ports_are : source.numbers.source.ports ≡ ports
+  pub order : IsSetInOrder source.numbers
+  pub unread : IsUnread source.numbers
+  pub said : source.clock.said ≡ options.origin
+  pub zero : source.clock.zero ≡ options.origin
 
 -- nothing of either of two was read, by these options and ports that agree with these
 pub record IsNewPair (options : PairOptions) (ports : Ports) (source : TimedPair OrderedRecording)

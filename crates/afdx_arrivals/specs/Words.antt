@@ -1,6 +1,6 @@
 -- Each reason to skip a number, in a word, and what it means: the table of the code; and the line
 -- that counts them.
-use Rattle.std.specs.Prelude.{ℕ, List, [], ◌++◌, map, slice_index_or, codes, decimal}
+use Rattle.std.specs.Prelude.{ℕ, ◌≡◌, List, [], ◌∷◌, ◌++◌, map, slice_index_or, codes, decimal}
 use Rattle.afdx_arrivals.specs.contracts.skipped.Skipped.{the_type}
 use Rattle.afdx_arrivals.specs.declared.skipped.Skipped.{Skipped}
 use Rattle.afdx_arrivals.specs.declared.skipped.TheConstants.{SKIPPED}
@@ -39,3 +39,9 @@ abbrev pub skipped_line : Tally → List ℕ
 skipped_line t =
     codes "skipped " ++ (reasons_text t.counts ++ (counted (codes " recorder-lost ") t.lost
     (codes " claimed " ++ decimal t.counts.claimed)))
+
+-- the words that the formats fix, in the order of `Skipped`
+abbrev pub TheWords : Type 0
+TheWords = words
+    ≡ codes "no-frame" ∷ codes "left-out" ∷ codes "not-afdx" ∷ codes "unknown-sender"
+    ∷ codes "no-network" ∷ codes "before-origin" ∷ []

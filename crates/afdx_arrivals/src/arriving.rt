@@ -68,7 +68,8 @@ impl<S> Arriving<S> {
 }
 
 impl<I, S: Source<NumberLine, I>> Source<Heading, I> for Arriving<S> {
-    ghost use Rattle.afdx_arrivals.specs.ArrivingSource.{arrival_given, AreArrivals};
+    ghost use Rattle.afdx_arrivals.specs.ArrivingSource.{arrival_given};
+    ghost use Rattle.afdx_arrivals.specs.NumberLines.{arrivals_listed, AreItems};
 
     ghost current = { arrival_given S.current };
 
@@ -78,13 +79,14 @@ impl<I, S: Source<NumberLine, I>> Source<Heading, I> for Arriving<S> {
 
     ghost settings = { λ source. S.settings source.lines };
 
-    ghost Gave = { λ start source input past. AreArrivals (S.Gave start source.lines input) past };
+    ghost Gave = { λ start source input past.
+        AreItems arrivals_listed (S.Gave start source.lines input) past };
 
     ghost Ended = { λ start source input past.
-        AreArrivals (S.Ended start source.lines input) past };
+        AreItems arrivals_listed (S.Ended start source.lines input) past };
 
     ghost Stopped = { λ start source input past fault.
-        AreArrivals (λ lines. S.Stopped start source.lines input lines fault) past };
+        AreItems arrivals_listed (λ lines. S.Stopped start source.lines input lines fault) past };
 
     #[inline(always)]
     fn next(&mut self, input: &mut I) -> Result<bool, RunFault> {

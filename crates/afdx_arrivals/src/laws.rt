@@ -1,6 +1,7 @@
 //! Laws of what recorded frames become.
 
 ghost use Rattle.afdx_arrivals.specs.Laws as laws;
+ghost use Rattle.afdx_arrivals.specs.Words.{TheWords};
 
 /// Where two ways to know a port agree, what is taken of a recording is the same.
 pub fn sequences_agree()
@@ -27,4 +28,10 @@ pub fn arrivals_are_in_order()
 /// And so it is with those of two recordings that are read at once.
 pub fn arrivals_of_both_are_in_order()
     ensures { laws.ArrivalsOfBothAreInOrder }
+{}
+
+/// The words of the reasons to skip a number are those of the formats.
+#[tactic(auto, unfolding(crate::specs::Words::words))]
+pub fn words_are()
+    ensures { TheWords }
 {}

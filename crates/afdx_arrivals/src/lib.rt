@@ -16,6 +16,7 @@ mod number;
 mod number_line;
 mod ordered;
 mod ordered_recording;
+mod over;
 mod pair;
 mod pair_options;
 mod places;

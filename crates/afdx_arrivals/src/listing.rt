@@ -3,25 +3,24 @@
 ghost use Rattle.std.specs.Prelude.{◌≡◌, ◌||◌, List, ℕ, OnOk, OnErr, IfErr, IfSome, true, false};
 ghost use Rattle.std.specs.Io.KnownBytes.{Appends};
 ghost use Rattle.afdx_lists.specs.Calls.{AppendsFront, is_failed_read, is_failed_write};
-ghost use Rattle.afdx_lists.specs.Watching.{device_of, has_ended, has_failed};
+ghost use Rattle.afdx_lists.specs.Watching.{calls_of, device_of, has_ended, has_failed};
 ghost use Rattle.afdx_text.specs.Sinks.{IsOfOutput};
 ghost use Rattle.afdx_arrivals.specs.Becoming.{options_of};
 ghost use Rattle.afdx_arrivals.specs.Claims.{ports_of, ports_unsaid};
 ghost use Rattle.afdx_arrivals.specs.ListText as text;
 ghost use Rattle.afdx_arrivals.specs.ListText.{PairListingAnswers, ListingAnswers};
-ghost use Rattle.afdx_arrivals.specs.RecordingRun.{IfBothKnown};
+ghost use Rattle.afdx_arrivals.specs.RecordingRun.{IfBothKnown, IsAskedOnce};
 
 use crate::becoming::RecordingOptions;
 use crate::counts::Tally;
 use crate::number_line::NumberLine;
-use crate::ordered_recording::ordered_recording;
+use crate::over::run_over;
 use crate::pair_options::PairOptions;
-use crate::read_pair::read_pair;
+use crate::read_pair::{read_one, read_pair};
 use crate::senders::{SystemPorts, UnsaidPort};
-use crate::timed_numbers::TimedNumbers;
 use afdx_frame::BySide;
 use afdx_lists::{RunFault, Watched};
-use afdx_run::{Machine, drive};
+use afdx_run::Machine;
 use afdx_text::{OutLine, Sink, Text};
 use std::alloc::Global;
 use std::io::Read;
@@ -68,13 +67,13 @@ fn put_number<O: Sink>(
 
 /// Writes the line of each number.
 #[derive(Drop)]
-struct Lister {
+pub(crate) struct Lister {
     scratch: Text,
 }
 
 impl Lister {
     /// It wrote nothing yet.
-    fn new(alloc: Global) -> Lister {
+    pub(crate) fn new(alloc: Global) -> Lister {
         Lister {
             scratch: Text::new(alloc),
         }
@@ -129,6 +128,8 @@ pub fn list_recording<R: Read, O: Sink>(
     ensures ended { OnOk result (has_ended input.new ≡ true) }
     ensures read { has_failed input.new ≡ is_failed_read result }
     ensures write { O.failed output.new ≡ is_failed_write result }
+    ensures calls { IsAskedOnce (R.remaining (device_of input.old))
+        (R.remaining (device_of input.new)) (calls_of input.old) (calls_of input.new) }
 
     // Where the input's bytes are known: what is answered and written for the recording that they
     // are.
@@ -136,11 +137,8 @@ pub fn list_recording<R: Read, O: Sink>(
         ListingAnswers (options_of options) (ports_of ports) bytes
         (R.remaining (device_of input.new)) (O.written output.old) (O.written output.new) result) }
 {
-    let origin = options.origin;
-    let recording = ordered_recording(alloc, options, ports)?;
-    let mut lines = TimedNumbers::new(recording, origin);
-    drive(&mut lines, input, &mut Lister::new(alloc), output)?;
-    Ok(lines.numbers.tally())
+    let mut lines = read_one(alloc, options, ports)?;
+    run_over(&mut lines, &mut Lister::new(alloc), input, output)
 }
 
 /// Writes two recordings that are read at once, of network A and of network B, as the frame list
@@ -165,6 +163,10 @@ pub fn list_pair<R: Read, O: Sink>(
     ensures ended { OnOk result (has_ended inputs.new.a ≡ true × has_ended inputs.new.b ≡ true) }
     ensures read { (has_failed inputs.new.a || has_failed inputs.new.b) ≡ is_failed_read result }
     ensures write { O.failed output.new ≡ is_failed_write result }
+    ensures calls_a { IsAskedOnce (R.remaining (device_of inputs.old.a))
+        (R.remaining (device_of inputs.new.a)) (calls_of inputs.old.a) (calls_of inputs.new.a) }
+    ensures calls_b { IsAskedOnce (R.remaining (device_of inputs.old.b))
+        (R.remaining (device_of inputs.new.b)) (calls_of inputs.old.b) (calls_of inputs.new.b) }
 
     // Where the bytes of both are known: what is answered and written for the recordings that they
     // are.
@@ -173,6 +175,5 @@ pub fn list_pair<R: Read, O: Sink>(
         (O.written output.old) (O.written output.new) result) }
 {
     let mut lines = read_pair(alloc, options, unsaid)?;
-    drive(&mut lines, inputs, &mut Lister::new(alloc), output)?;
-    Ok(lines.tally())
+    run_over(&mut lines, &mut Lister::new(alloc), inputs, output)
 }

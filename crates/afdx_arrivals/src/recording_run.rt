@@ -10,14 +10,13 @@ ghost use Rattle.afdx_arrivals.specs.RecordingRun.{IfBothKnown, IsAskedOnce, Pai
 use crate::arriving::Arriving;
 use crate::becoming::RecordingOptions;
 use crate::counts::Tally;
-use crate::ordered_recording::ordered_recording;
+use crate::over::run_over;
 use crate::pair_options::PairOptions;
-use crate::read_pair::read_pair;
+use crate::read_pair::{read_one, read_pair};
 use crate::senders::{SystemPorts, UnsaidPort};
-use crate::timed_numbers::TimedNumbers;
 use afdx_frame::BySide;
 use afdx_lists::{Heading, RunFault, Watched};
-use afdx_run::{Machine, drive};
+use afdx_run::Machine;
 use afdx_text::Sink;
 use std::alloc::Global;
 use std::io::Read;
@@ -60,11 +59,8 @@ pub fn run_recording<R: Read, M: Machine<Heading>, O: Sink>(
         (M.Begins rules machine.new (O.written output.old) (O.written output.new))
         bytes (R.remaining (device_of input.new)) result) }
 {
-    let origin = options.origin;
-    let recording = ordered_recording(alloc, options, ports)?;
-    let mut arrivals = Arriving::new(TimedNumbers::new(recording, origin));
-    drive(&mut arrivals, input, machine, output)?;
-    Ok(arrivals.lines.numbers.tally())
+    let mut arrivals = Arriving::new(read_one(alloc, options, ports)?);
+    run_over(&mut arrivals, machine, input, output)
 }
 
 /// Lets a machine tell the arrivals of two recordings that are read at once, of network A and of
@@ -110,6 +106,5 @@ pub fn run_pair<R: Read, M: Machine<Heading>, O: Sink>(
         R.remaining a b inputs.new result) }
 {
     let mut arrivals = Arriving::new(read_pair(alloc, options, unsaid)?);
-    drive(&mut arrivals, inputs, machine, output)?;
-    Ok(arrivals.lines.tally())
+    run_over(&mut arrivals, machine, inputs, output)
 }

@@ -15,4 +15,5 @@ pub mod Numbers
 pub mod SentList
 pub mod LawfulStream
 pub mod Admission
+pub mod Format
 pub mod Laws

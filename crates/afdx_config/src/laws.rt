@@ -1,5 +1,7 @@
 //! Laws over the definitions.
 
+ghost use Rattle.afdx_config.specs.Format.{TheTopKeys, TheSystemKeys, TheLinkKeys, ThePortKeys};
+ghost use Rattle.afdx_config.specs.Format.{TheFaultWords};
 ghost use Rattle.afdx_config.specs.Laws.{EachRowIsFound, OneIsAmongOthers, AdmittedIsServing};
 
 /// In lawful tables a look-up by name, by port or by identifier gives the row's own place.
@@ -13,4 +15,34 @@ pub fn each_row_is_found()
 pub fn one_is_among_others()
     ensures lawful { OneIsAmongOthers }
     ensures admitted { AdmittedIsServing }
+{}
+
+/// The keys of the top are those of the format, by name and range, each at its number.
+#[tactic(auto, unfolding(crate::specs::Keys::top_keys))]
+pub fn top_keys_are()
+    ensures { TheTopKeys }
+{}
+
+/// The keys of a system are those of the format, by name and range, each at its number.
+#[tactic(auto, unfolding(crate::specs::Keys::system_keys))]
+pub fn system_keys_are()
+    ensures { TheSystemKeys }
+{}
+
+/// The keys of a link are those of the format, by name and range, each at its number.
+#[tactic(auto, unfolding(crate::specs::Keys::link_keys))]
+pub fn link_keys_are()
+    ensures { TheLinkKeys }
+{}
+
+/// The keys of a port entry are those of the format, by name and range, each at its number.
+#[tactic(auto, unfolding(crate::specs::Keys::port_keys))]
+pub fn port_keys_are()
+    ensures { ThePortKeys }
+{}
+
+/// The words of the faults are those of the format.
+#[tactic(auto, unfolding(crate::specs::FaultText::fault_words))]
+pub fn words_are()
+    ensures { TheFaultWords }
 {}

@@ -2,8 +2,8 @@
 
 use crate::entry::Entry;
 
-/// Faults that come before a command has begun, and the one of 'solve'.
-pub const FAULTS: [Entry; 10] = [
+/// Faults that come before a command has begun.
+pub const FAULTS: [Entry; 9] = [
     (
         "words NotText",
         "\
@@ -60,13 +60,5 @@ See that the path is right, is a file, and may be read.",
         "\
 LIST or SUBMISSIONS can't be opened.
 See that the path is right and may be read; - is standard input.",
-    ),
-    (
-        "solve Unread",
-        "\
-The text that 'solve' was to write didn't read back as the tables that were solved, so nothing
-is written.
-No configuration is known that leads to it. It is a fault of the program, and of no other: please
-report it, with CONFIG.",
     ),
 ];

@@ -1,5 +1,5 @@
 -- Each fault in a word: that of its row, which stands at its place.
-use Rattle.std.specs.Prelude.{ℕ, List, [], map, slice_index_or}
+use Rattle.std.specs.Prelude.{ℕ, ◌≡◌, List, [], ◌∷◌, codes, map, slice_index_or}
 use Rattle.afdx_frame.specs.contracts.fault.MacFault as mac
 use Rattle.afdx_frame.specs.contracts.fault.IpFault as ip
 use Rattle.afdx_frame.specs.declared.fault.MacFault.{MacFault}
@@ -21,3 +21,14 @@ mac_word fault = slice_index_or mac_words (tag_of mac.the_type fault) []
 -- of a frame that carries no datagram
 abbrev pub ip_word : IpFault → List ℕ
 ip_word fault = slice_index_or ip_words (tag_of ip.the_type fault) []
+
+-- the words that the formats fix, in the order of `MacFault`
+abbrev pub TheMacWords : Type 0
+TheMacWords = mac_words
+    ≡ codes "too-short" ∷ codes "too-long" ∷ codes "bad-fcs" ∷ codes "bad-address" ∷ []
+
+-- and in that of `IpFault`
+abbrev pub TheIpWords : Type 0
+TheIpWords = ip_words
+    ≡ codes "not-ipv4" ∷ codes "bad-ip-header" ∷ codes "fragment" ∷ codes "not-udp"
+    ∷ codes "bad-udp-length" ∷ []

@@ -45,6 +45,15 @@ lines_of_feed line rest h =
     ∙ but_empty_last-cons line (slice_split (λ byte. eqb byte 10) rest)
     (slice_split-has_first (λ byte. eqb byte 10) rest)
 
+-- bytes with a line feed have one
+feed-stands : (front rest : List ℕ) → HasNoFeed (front ++ 10 ∷ rest) → ⊥
+feed-stands [] rest h = absurd (cc (All-head (λ (byte : ℕ). eqb byte 10 ≡ false) 10 rest h))
+feed-stands (x ∷ xs) rest h = feed-stands xs rest (All-tail (λ (byte : ℕ). eqb byte 10 ≡ false) x (xs ++ 10 ∷ rest) h)
+
+pub feed-or-none : (bytes : List ℕ) (n : ℕ) → IsFirstFeed bytes n → HasNoFeed bytes → ⊥
+feed-or-none bytes n feed none =
+    feed-stands (take n bytes) (drop (n + 1) bytes) (subst HasNoFeed feed.parts none)
+
 but_empty_last-one : (line : List ℕ) → 0 < length line → but_empty_last (line ∷ []) ≡ line ∷ []
 but_empty_last-one [] some = absurd (omega arith)
 but_empty_last-one (x ∷ xs) some = refl

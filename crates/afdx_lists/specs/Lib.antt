@@ -8,3 +8,4 @@ pub mod Fields
 pub mod Forms
 pub mod FrameLines
 pub mod SubmissionLines
+pub mod FaultForms

@@ -69,15 +69,6 @@ pub enum RunFault {
     /// There is a byte after 1,000,000 lines.
     #[error("list TooManyLines")]
     TooManyLines,
-    /// The recording, or a frame of it, has this fault.
-    #[error(transparent)]
-    Recording(RecordingFault),
-    /// The recording of network A, of two that are read at once, has this fault, or a frame of it.
-    #[error("{0} A")]
-    RecordingOfA(RecordingFault),
-    /// That of network B has it.
-    #[error("{0} B")]
-    RecordingOfB(RecordingFault),
     /// The list or recording could not be read.
     #[error("device Read")]
     Read,
@@ -87,6 +78,15 @@ pub enum RunFault {
     /// A growth of memory was refused.
     #[error("memory")]
     Memory,
+    /// The recording, or a frame of it, has this fault.
+    #[error(transparent)]
+    Recording(RecordingFault),
+    /// The recording of network A, of two that are read at once, has this fault, or a frame of it.
+    #[error("{0} A")]
+    RecordingOfA(RecordingFault),
+    /// That of network B has it.
+    #[error("{0} B")]
+    RecordingOfB(RecordingFault),
 }
 
 /// Each fault of a run, in the order of `RunFault`: the form of its line (`n` is the number of a

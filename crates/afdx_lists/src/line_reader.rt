@@ -2,7 +2,7 @@
 
 ghost use Rattle.std.specs.Prelude.{◌≤◌, ◌<◌, ◌≡◌, ◌≢◌, ◌+◌, ◌-◌, ◌++◌, ◌∷◌, [], Ok, Err, true};
 ghost use Rattle.std.specs.Prelude.{false, vec_len, length, take, drop, IfOk, OnOk, OnErr, IfErr};
-ghost use Rattle.std.specs.Prelude.{IfSome, IfNone};
+ghost use Rattle.std.specs.Prelude.{ℕ, IfSome, IfNone};
 ghost use Rattle.std.specs.Io.KnownBytes.{IsAtEnd};
 ghost use Rattle.afdx_lists.specs.Calls.{is_failed_read};
 
@@ -117,7 +117,8 @@ impl LineReader {
             (has_ended input.old) (has_ended input.new) (R.remaining (device_of input.old))
             (R.remaining (device_of input.new)) (unread self.old) (unread self.new)) }
 
-        // How often the input is read.
+        // How often the input is read: not at all while a whole line is held.
+        ensures unasked { (n : ℕ) → IsFirstFeed (unread self.old) n → input.new ≡ input.old }
         ensures calls { calls_of input.new ≤ calls_of input.old + reads_of_line }
         ensures last_call { most_lines ≤ lines_taken self.old →
             calls_of input.new ≤ calls_of input.old + 1 }

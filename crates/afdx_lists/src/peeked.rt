@@ -1,8 +1,8 @@
 //! A reader whose first bytes can be looked at before they are read.
 
-ghost use Rattle.std.specs.Prelude.{◌≤◌, ◌<◌, ◌≡◌, take, length, IfSome, true, false};
+ghost use Rattle.std.specs.Prelude.{◌≤◌, ◌<◌, ◌≡◌, ◌+◌, take, length, IfSome, true, false};
 ghost use Rattle.std.specs.Io.KnownBytes.{Keeps, IsAtEnd};
-ghost use Rattle.afdx_lists.specs.Watching.{device_of};
+ghost use Rattle.afdx_lists.specs.Watching.{device_of, has_failed};
 
 use crate::watched::Watched;
 use std::io;
@@ -28,6 +28,7 @@ pub struct Peeked<R> {
 impl<R: Read> Peeked<R> {
     ghost use Rattle.afdx_lists.specs.Watching.{still_in};
     ghost use Rattle.afdx_lists.specs.Peeking.{held, looked_at, is_untouched, left_in, has_broken};
+    ghost use Rattle.afdx_lists.specs.Peeking.{asked_of};
 
     /// A reader of which nothing was read.
     pub fn new(inner: R) -> Peeked<R>
@@ -47,12 +48,21 @@ impl<R: Read> Peeked<R> {
         self.inner.into_inner()
     }
 
-    /// Reads its first four bytes, to be looked at. Fewer: it has no more, or failed behind them,
-    /// which is answered: true.
+    /// How many reads its reader was asked for, up to the greatest `u64`.
+    fn calls(&self) -> u64
+        ensures { result ≡ asked_of self.now }
+    {
+        self.inner.calls()
+    }
+
+    /// Reads its first four bytes, to be looked at, in at most four reads. Fewer: it has no more,
+    /// or failed after them, which is answered: true.
     pub fn look(&mut self) -> bool
         requires { is_untouched self.old }
         ensures left { Keeps (left_in R.remaining self.old) (left_in R.remaining self.new) }
         ensures failed { result ≡ true → length (held self.new) < looked_at }
+        ensures broken { result ≡ has_broken self.new }
+        ensures asked { asked_of self.new ≤ asked_of self.old + looked_at }
         ensures first { result ≡ false → IfSome (left_in R.remaining self.old)
             (λ bytes. held self.new ≡ take looked_at bytes) }
     {
@@ -68,10 +78,13 @@ impl<R: Read> Peeked<R> {
     fn look_further(&mut self) -> bool
         requires first { self.old.start ≡ 0 }
         requires few { self.old.end < looked_at }
+        requires unbroken { has_broken self.old ≡ false }
         ensures first { self.new.start ≡ 0 }
         ensures seen { length (held self.new) ≡ self.new.end }
         ensures left { Keeps (left_in R.remaining self.old) (left_in R.remaining self.new) }
+        ensures asked { asked_of self.new ≤ asked_of self.old + 1 }
         ensures more { result ≡ true → self.old.end < self.new.end }
+        ensures whole { result ≡ true → has_broken self.new ≡ false }
         ensures none { result ≡ false → self.new.end ≡ self.old.end }
         ensures last { result ≡ false → has_broken self.new ≡ false →
             IsAtEnd (still_in R.remaining self.new.inner) }
@@ -98,12 +111,17 @@ impl<R: Read> Watched<Peeked<R>> {
     ghost use Rattle.afdx_lists.specs.Peeking.{held, is_untouched, HasLooked};
 
     /// Reads the first four bytes of its reader, to be looked at, as `Peeked::look` does. True: it
-    /// failed before the fourth.
+    /// failed before the fourth, which is a read that failed: nothing is read any more.
     pub fn look(&mut self) -> bool
-        requires { is_untouched (device_of self.old) }
+        requires untouched { is_untouched (device_of self.old) }
+        requires sound { has_failed self.old ≡ false }
         ensures { HasLooked R.remaining self.old self.new result }
     {
-        self.inner.look()
+        let asked = self.inner.calls();
+        self.failed = self.inner.look();
+        let reads = self.inner.calls().saturating_sub(asked);
+        self.calls = self.calls.saturating_add(reads);
+        self.failed
     }
 
     /// The bytes that are to be looked at, and that no read gave as yet.

@@ -7,6 +7,7 @@ ghost use Rattle.afdx_police.specs.Laws.{VerdictsDecide, NoFrameIsRefused, Fault
 ghost use Rattle.afdx_police.specs.Delayed.{DelayedAreAccepted, RoomIsNeeded};
 ghost use Rattle.afdx_police.specs.Early.{LeastWaitIsFill};
 ghost use Rattle.afdx_police.specs.Stream.{RegularIsAccepted};
+ghost use Rattle.afdx_police.specs.Words.{TheWords};
 
 /// The window rule's test is that of each window.
 pub fn fits_is_each_window()
@@ -83,4 +84,10 @@ pub fn sound_is_charged_for()
 /// An arrival is accepted exactly if it has no fault and fits.
 pub fn verdicts_decide()
     ensures { VerdictsDecide }
+{}
+
+/// The words of the reasons are those of the formats.
+#[tactic(auto, unfolding(crate::specs::Words::words))]
+pub fn words_are()
+    ensures { TheWords }
 {}

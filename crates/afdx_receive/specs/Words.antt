@@ -1,5 +1,5 @@
 -- Each reason for which a receiver drops what arrived, in a word.
-use Rattle.std.specs.Prelude.{ℕ, List, [], map, slice_index_or}
+use Rattle.std.specs.Prelude.{ℕ, ◌≡◌, List, [], ◌∷◌, codes, map, slice_index_or}
 use Rattle.afdx_frame.specs.Words.{mac_word, ip_word}
 use Rattle.afdx_receive.specs.declared.reception.DropReason.{DropReason}
 use Rattle.afdx_receive.specs.declared.reception.DropReason.TheVariants.{Mac, NotSubscribed}
@@ -25,3 +25,8 @@ drop_word Sequence = own_word 1
 drop_word Redundant = own_word 2
 drop_word (Ip fault) = ip_word fault
 drop_word NoPort = own_word 3
+
+-- the words that the formats fix
+abbrev pub TheOwnWords : Type 0
+TheOwnWords = own_words
+    ≡ codes "not-subscribed" ∷ codes "sequence" ∷ codes "redundant" ∷ codes "no-port" ∷ []

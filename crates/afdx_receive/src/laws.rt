@@ -7,6 +7,7 @@ ghost use Rattle.afdx_receive.specs.TwoStreams.{StandsByPlace, FirstCopiesWin};
 ghost use Rattle.afdx_receive.specs.TwoStreams.{FirstCopiesAreCounted, SentIsWonOnce};
 ghost use Rattle.afdx_receive.specs.Delivery.{SentIsDeliveredOnce};
 ghost use Rattle.afdx_receive.specs.Copies.{StreamIsDeliveredOnce};
+ghost use Rattle.afdx_receive.specs.Words.{TheOwnWords};
 
 use afdx_frame::laws::{
     built_is_computed, datagram_is_computed, frame_is_computed, reading_is_computed,
@@ -74,3 +75,9 @@ pub fn stream_is_delivered_once()
 {
     built_is_computed();
 }
+
+/// The words of a receiver's own reasons are those of the formats.
+#[tactic(auto, unfolding(crate::specs::Words::own_words))]
+pub fn words_are()
+    ensures { TheOwnWords }
+{}

@@ -178,11 +178,3 @@ module _ (options : Options) (rule : Rule) (old new : Known) where
       police_lemmas.told-done rule accounts accepted dropped n (Some bytes) old new (counted_over Counts n) h refl,
       refl,
     )
-
--- ---- what was looked at still comes
-
-pub if-kept : (left looked : Option (List ℕ)) (P : List ℕ → Type 0) → Keeps left looked → IfSome looked P
-    → IfSome left P
-if-kept None looked P k h = tt
-if-kept (Some bytes) None P k h = absurd k
-if-kept (Some bytes) (Some same) P k h = subst P k h

@@ -1,23 +1,19 @@
--- Before an input, or two, are read: memory ran out, or the first bytes were looked at.
-use Rattle.std.proofs.Common.{◌≡◌, ◌<◌, ◌||◌, ℕ, List, [], length, take, append-nil, Option, Some, None, Result, Ok, Err, IfSome, true, false, Bool, refl, sym, ap, ◌∙◌, subst, arith, inl}
-use Rattle.std.proofs.lemmas.Bool.Decides.{nat_tests}
+-- Before an input, or two, are read memory ran out; and how a command ends as its run answered.
+use Rattle.std.proofs.Common.{◌≡◌, ℕ, List, [], append-nil, Option, Some, None, Result, Ok, Err, IfSome, true, false}
+use Rattle.std.proofs.Common.{Bool, refl, sym, inl}
 use Rattle.std.proofs.KnownBytes.{Appends-nil}
-use Rattle.std.specs.Io.KnownBytes.{Keeps}
 use Rattle.afdx_config.specs.Admission.{IsAdmitted}
 use Rattle.afdx_config.specs.Lawful.{IsLawful}
 use Rattle.afdx_config.specs.Reading.{Spells}
 use Rattle.afdx_config.specs.Rows.{Rows}
 use Rattle.afdx_frame.specs.declared.by_side.BySide.{BySide}
-use Rattle.afdx_lists.specs.Peeking.{HasLooked, held, looked_at}
 use Rattle.afdx_lists.specs.Calls.{is_failed_read, is_failed_write}
 use Rattle.afdx_lists.specs.Watching.{calls_of, device_of}
-use Rattle.afdx_recordings.specs.Beginning.{is_recording}
 use Rattle.afdx_text.specs.Telling.{TellsLine}
 use Rattle.std.specs.Prelude.{OnOk, OnErr}
 use Rattle.std.specs.Result.{result_ok}
 use Rattle.afdx_lists.specs.declared.fault.RunFault.{RunFault}
 use Rattle.afdx_lists.specs.declared.peeked.Peeked.{Peeked}
-use Rattle.afdx_police.specs.Rule.{Rule}
 use Rattle.afdx_lists.specs.declared.fault.RunFault.TheVariants as run
 use Rattle.afdx_lists.specs.declared.watched.Watched.{Watched}
 use Rattle.afdx_network.specs.Order.{events_of}
@@ -27,18 +23,16 @@ use Rattle.afdx_run.proofs.RunLemmas.{stops-at-start}
 use Rattle.afdx_arrivals.specs.declared.becoming.RecordingOptions.{RecordingOptions}
 use Rattle.afdx_arrivals.specs.Becoming.{Options, options_of}
 use Rattle.afdx_arrivals.specs.NumberLines.{Lines}
-use Rattle.afdx_arrivals.specs.InputRun.{is_recorded, IsAskedFew}
-use Rattle.afdx_arrivals.specs.RecordingRun.{IfBoth, IfBothKnown, IsAskedOnce}
+use Rattle.afdx_arrivals.specs.InputRun.{is_read_recorded, IsAskedFew}
+use Rattle.afdx_arrivals.specs.RecordingRun.{IfBoth, IfBothKnown}
 use Rattle.afdx_arrivals.specs.Taking.{Taken, arrivals_in}
 use Rattle.afdx_arrivals.specs.TakenRun.{FirstAreTold}
 use Rattle.afdx_arrivals.specs.declared.pair_options.PairOptions.{PairOptions}
-use Rattle.afdx_arrivals.proofs.RecordingRunLemmas.{unasked}
 use Rattle.afdx_replay.specs.replaying.Early.{TellsEarly, TellsMost}
 use Rattle.afdx_replay.specs.replaying.Input.{AnswersInput, ExplainsInput, are_cut_of, taken_of}
 use Rattle.afdx_replay.specs.Commands.{EndsWith, status_of_answer}
 use Rattle.afdx_replay.specs.Inputs.{summary_in}
-use Rattle.afdx_replay.specs.policing.Input as police
-use Rattle.afdx_replay.specs.replaying.InputCommand.{is_decided_recorded, is_read_recorded, left_of, ReplaysInput}
+use Rattle.afdx_replay.specs.replaying.InputCommand.{left_of, ReplaysInput}
 use Rattle.afdx_replay.specs.replaying.Pair as pair
 use Rattle.afdx_replay.specs.replaying.Pair.{AnswersPair, ExplainsPair}
 use Rattle.afdx_replay.specs.replaying.PairCommand.{IsAskedOnceFor, ReplaysPair}
@@ -46,16 +40,11 @@ use Rattle.afdx_replay.specs.replaying.Replayed.{Known, WritesSome}
 use Rattle.afdx_replay.specs.replaying.Taken.{AnswersTaken, ExplainsTaken}
 use Rattle.afdx_replay.specs.declared.ending.Ended.{Ended}
 use Rattle.afdx_replay.specs.declared.summary.InputSummary.{InputSummary}
-use Rattle.afdx_replay.proofs.InputLemmas.{if-kept}
 use Rattle.afdx_replay.proofs.PairLemmas.{of-both}
 use Rattle.afdx_replay.proofs.PromisedInputLemmas.{if-both-promised, if-promised}
 use Rattle.afdx_replay.specs.replaying.Text.{replay_text}
 use Rattle.afdx_replay.proofs.EarlyLemmas.{early-start}
 use Rattle.afdx_replay.proofs.ReplayLemmas.{stops-start}
-
-pub unasked-few : (b : Bool) (left : Option (List ℕ)) (calls : ℕ) → IsAskedFew b left left calls calls
-unasked-few true left calls = unasked left calls
-unasked-few false left calls = omega arith
 
 -- of no arrivals
 none-told : (whole : Taken) (told : List Arrival → Type 0) → told [] → FirstAreTold whole told
@@ -136,101 +125,24 @@ ends-in error_bytes all_read input_failed failed old new ended (Err fault) a b c
   write = g;
 }
 
--- ---- what was looked at still comes
-
-pub asked-kept : (b : Bool) (left looked rest : Option (List ℕ)) (old between new : ℕ) → Keeps left looked
-    → between ≡ old → IsAskedFew b looked rest between new → IsAskedFew b left rest old new
-asked-kept true None looked rest old between new k e h = tt
-asked-kept true (Some bytes) None rest old between new k e h = absurd k
-asked-kept true (Some bytes) (Some same) rest old between new k e h =
-    subst (λ (x : List ℕ). IsAskedOnce (Some x) rest old new) k
-    (subst (λ (n : ℕ). IsAskedOnce (Some same) rest n new) e h)
-asked-kept false left looked rest old between new k e h = omega (arith, e, h)
-
--- what is held decides as the bytes do, unless the look failed: then it is too short to begin as a
--- recording
-too-short : (seen : List ℕ) → length seen < looked_at → is_recording seen ≡ false
-unfolding is_recording
-too-short seen few = grind (arith, nat_tests, few)
-
-decided-by : (options : RecordingOptions) (failed : Bool) (left : Option (List ℕ)) (seen : List ℕ)
-    → (failed ≡ true → length seen < looked_at)
-    → (failed ≡ false → IfSome left (λ bytes. seen ≡ take looked_at bytes))
-    → IfSome left (λ bytes. is_recorded options seen ≡ is_decided_recorded options failed bytes)
-decided-by options failed None seen few first = tt
-decided-by options true (Some bytes) seen few first =
-    ap (λ (x : Bool). options.are_given || x) (too-short seen (few refl))
-decided-by options false (Some bytes) seen few first =
-    ap (λ (xs : List ℕ). options.are_given || is_recording xs) (first refl)
-
--- a command that ends as its run answered, of which the first bytes were looked at, which it says
--- failed or didn't
-module _ {R : Type 0} (remaining : R → Option (List ℕ)) (options : RecordingOptions)
-    (input looked rest : Watched (Peeked R)) (failed : Bool) (h : HasLooked remaining input looked failed)
-    (said : Bool) (is_said : said ≡ failed) where
-  abbrev Is : Bool
-  Is = is_read_recorded options looked
-
-  abbrev Left : Known
-  Left = left_of remaining input
-
-  decided : IfSome Left (λ bytes. Is ≡ is_decided_recorded options said bytes)
-  decided =
-      decided-by options said Left (held (device_of looked)) (λ e. h.few (sym is_said ∙ e))
-      (λ e. h.first (sym is_said ∙ e))
-
-  module _ (config : List ℕ) (admission : Bool) where
-    -- with whatever else is true of whether it is a recording, and of the tables
-    pub replays-looked-with : (more : Bool → Rows → Type 0) (old new : Known)
-        (answer : Result InputSummary RunFault) (t : Rows) → Spells config t
-        → (admission ≡ true → IsAdmitted t) → IsLawful t
-        → IsAskedFew Is (left_of remaining looked) (left_of remaining rest) (calls_of looked) (calls_of rest)
-        → IfSome (left_of remaining looked) (λ bytes. AnswersInput Is (options_of options) t bytes
-        (left_of remaining rest) old new answer)
-        → more Is t
-        → (r : ReplaysInput remaining config admission options said input rest old new answer)
-        × more r.recorded r.tables
-    replays-looked-with more old new answer t spelled admitted lawful asked answers also =
-        let kept = if-kept Left (left_of remaining looked) (λ bytes.
-        AnswersInput Is (options_of options) t bytes (left_of remaining rest) old new answer) h.left answers in (
-          record {
-            tables = t;
-            spelled = spelled;
-            admitted = admitted;
-            recorded = Is;
-            decided = decided;
-            calls = asked-kept Is Left (left_of remaining looked) (left_of remaining rest)
-                (calls_of input) (calls_of looked) (calls_of rest) h.left h.calls asked;
-            answers = kept;
-            promised = λ asks. if-promised t lawful (admitted asks) (options_of options) Is Left
-                (left_of remaining rest) old new answer kept;
-          },
-          also,
-        )
-
-    pub replays-looked : (old new : Known) (answer : Result InputSummary RunFault) (t : Rows) → Spells config t
-        → (admission ≡ true → IsAdmitted t) → IsLawful t
-        → IsAskedFew Is (left_of remaining looked) (left_of remaining rest) (calls_of looked) (calls_of rest)
-        → IfSome (left_of remaining looked) (λ bytes. AnswersInput Is (options_of options) t bytes
-        (left_of remaining rest) old new answer)
-        → ReplaysInput remaining config admission options said input rest old new answer
-    replays-looked old new answer t spelled admitted lawful asked answers =
-        (replays-looked-with (λ recorded t. Unit {0}) old new answer t spelled admitted lawful asked answers tt).0
-
-  -- the same of a run that polices one link
-  pub polices-looked : (rule : Rule) (old new : Known) (answer : Result InputSummary RunFault)
-      → IsAskedFew Is (left_of remaining looked) (left_of remaining rest) (calls_of looked) (calls_of rest)
-      → IfSome (left_of remaining looked) (λ bytes. police.AnswersInput Is (options_of options) rule bytes
-      (left_of remaining rest) old new answer)
-      → police.PolicesInput remaining rule options said input rest old new answer
-  polices-looked rule old new answer asked answers = record {
-    recorded = Is;
-    decided = decided;
-    calls = asked-kept Is Left (left_of remaining looked) (left_of remaining rest)
-        (calls_of input) (calls_of looked) (calls_of rest) h.left h.calls asked;
-    answers = if-kept Left (left_of remaining looked) (λ bytes.
-        police.AnswersInput Is (options_of options) rule bytes (left_of remaining rest) old new answer)
-        h.left answers;
+-- a command that ends as its run answered
+module _ {R : Type 0} (remaining : R → Option (List ℕ)) (config : List ℕ) (admission : Bool)
+    (options : RecordingOptions) (input rest : Watched (Peeked R)) where
+  pub replays-input : (old new : Known) (answer : Result InputSummary RunFault) (t : Rows) → Spells config t
+      → (admission ≡ true → IsAdmitted t) → IsLawful t
+      → IsAskedFew options (left_of remaining input) (left_of remaining rest) (calls_of input) (calls_of rest)
+      → IfSome (left_of remaining input) (λ bytes. AnswersInput (is_read_recorded options (left_of remaining input))
+      (options_of options) t bytes (left_of remaining rest) old new answer)
+      → ReplaysInput remaining config admission options input rest old new answer
+  replays-input old new answer t spelled admitted lawful asked answers = record {
+    tables = t;
+    spelled = spelled;
+    admitted = admitted;
+    calls = asked;
+    answers = answers;
+    promised = λ asks. if-promised t lawful (admitted asks) (options_of options)
+        (is_read_recorded options (left_of remaining input)) (left_of remaining input)
+        (left_of remaining rest) old new answer answers;
   }
 
 -- of two, of which nothing is looked at

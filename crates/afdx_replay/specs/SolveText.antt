@@ -13,6 +13,7 @@ use Rattle.afdx_config.specs.Rows.{LinkRow, Rows, is_to}
 use Rattle.afdx_config.specs.declared.fault.ConfigFault.{ConfigFault}
 use Rattle.afdx_admit.specs.Lines.{first_false, lines}
 use Rattle.afdx_admit.specs.declared.fault.AdmitFault.{AdmitFault}
+use Rattle.afdx_solve.specs.ConfigText.{config_text}
 use Rattle.afdx_solve.specs.Laws.{IsLeast}
 use Rattle.afdx_solve.specs.Solved.{solved}
 use Rattle.afdx_solve.specs.declared.options.SolveOptions.{SolveOptions}
@@ -78,15 +79,16 @@ needs_text t asked = needs_at_first t asked last_port
 
 -- ---- what is written
 
--- The configuration is read, and its tables are solved: this text spells them, with just the solved
--- keys changed. They are admitted, and each key that is neither kept nor only raised is the least.
--- These needs are told.
+-- The configuration is read, and its tables are solved: this text is theirs, with just the solved
+-- keys changed, and spells them. They are admitted, and each key that is neither kept nor only
+-- raised is the least. These needs are told.
 pub record IsSolution (o : SolveOptions) (config text needs : List ℕ) : Type 0 where
   pub tables : Rows
   pub asked : List (Option ℕ)
   pub spelled : SpellsKeeping o.kept config tables
   pub asks : Asks config asked
   pub lawful : IsLawful tables
+  pub layout : text ≡ config_text (solved o tables)
   pub spells : Spells text (solved o tables)
   pub admitted : IsAdmitted (solved o tables)
   pub least : o.raise_only ≡ false → IsLeast o (solved o tables)
@@ -102,10 +104,6 @@ pub record IsDenial (o : SolveOptions) (config text : List ℕ) : Type 0 where
   pub fault : AdmitFault
   pub first : first_false (lines (solved o tables)) ≡ Some fault
   pub said : text ≡ fault_line (solved o tables) fault
-
--- the line of a solution whose text doesn't read back
-abbrev pub unread_line : List ℕ
-unread_line = codes "solve Unread\n"
 
 -- how the command ends, by what its output and its error output were and are
 module _ {O E : Type 0} (o : SolveOptions) (bytes : O → Option (List ℕ))
@@ -142,10 +140,9 @@ module _ {O E : Type 0} (o : SolveOptions) (bytes : O → Option (List ℕ))
     pub begun : AppendsFront (bytes (device_of old)) (bytes (device_of new)) text
     pub told : TellsLine error_bytes old_errors new_errors
 
-  -- memory was refused, or the solution's text doesn't read back, and nothing is written
+  -- memory was refused, and nothing is written
   pub record IsUnmade : Type 0 where
     pub told : WantsMemory error_bytes old_errors new_errors 4
-        ⊎ Tells error_bytes old_errors new_errors unread_line
     pub written : new ≡ old
 
   -- and by its exit status

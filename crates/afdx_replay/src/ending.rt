@@ -42,9 +42,6 @@ pub struct InputEnded {
     pub ended: Ended,
     /// If the status is 0 and it was a recording: how many numbers were skipped, and why.
     pub tally: Option<Tally>,
-    /// Whether the input failed before its first four bytes were seen. It was then read as a list,
-    /// unless an option asks for a recording. False where nothing was looked at.
-    pub look_failed: bool,
 }
 
 impl InputEnded {
@@ -53,12 +50,10 @@ impl InputEnded {
         ensures status { result.ended.status ≡ status }
         ensures summary { result.ended.summary ≡ None }
         ensures tally { result.tally ≡ None }
-        ensures look { result.look_failed ≡ false }
     {
         InputEnded {
             ended: Ended::without_counts(status),
             tally: None,
-            look_failed: false,
         }
     }
 }
@@ -83,16 +78,14 @@ pub fn end<E: Write>(answer: Result<Summary, RunFault>, errors: &mut Watched<E>)
     }
 }
 
-/// The same of a run over a list or recordings; the first look at it failed, or didn't.
+/// The same of a run over a list or recordings.
 pub(crate) fn end_input<E: Write>(
     answer: Result<InputSummary, RunFault>,
-    look_failed: bool,
     errors: &mut Watched<E>,
 ) -> InputEnded
     ensures status { result.ended.status ≡ status_of_answer (summary_in answer) }
     ensures summary { result.ended.summary ≡ result_ok (summary_in answer) }
     ensures tally { result.tally ≡ tally_in answer }
-    ensures look { result.look_failed ≡ look_failed }
     ensures counts { IsSome result.ended.summary ↔ (result.ended.status ≡ 0) }
     ensures told { OnErr (summary_in answer) (TellsLine E.contents errors.old errors.new) }
     ensures silent { OnOk (summary_in answer) (errors.new ≡ errors.old) }
@@ -101,12 +94,10 @@ pub(crate) fn end_input<E: Write>(
         Ok(all) => InputEnded {
             ended: end(Ok(all.summary), errors),
             tally: all.tally,
-            look_failed,
         },
         Err(fault) => InputEnded {
             ended: end(Err(fault), errors),
             tally: None,
-            look_failed,
         },
     }
 }

@@ -28,7 +28,7 @@ pub use policing::command::{CommandedRule, police, police_and_count};
 pub use policing::input_command::police_input;
 pub use policing::run::run_police;
 pub use replaying::admitted::run;
-pub use replaying::command::{replay, replay_and_count, replay_and_explain};
+pub use replaying::command::{replay, replay_and_count};
 pub use replaying::input_command::{replay_input, replay_input_and_explain};
 pub use replaying::pair_command::{replay_pair, replay_pair_and_explain};
 pub use replaying::run::run_unadmitted;

@@ -10,6 +10,7 @@ ghost use Rattle.afdx_arrivals.specs.ListText.{ListingAnswers};
 ghost use Rattle.afdx_text.specs.Telling.{TellsLine};
 ghost use Rattle.afdx_replay.specs.Commands.{one_has_failed};
 ghost use Rattle.afdx_replay.specs.Listing.{EndsListing, EndsPairListing, status_of_listing};
+ghost use Rattle.afdx_replay.specs.replaying.PairCommand.{IsAskedOnceFor};
 
 use crate::refusing::refuse_config;
 use crate::status::DONE;
@@ -57,6 +58,7 @@ fn list_in<R: Read, O: Sink>(
     ensures ended { OnOk result (has_ended input.new ≡ true) }
     ensures read { has_failed input.new ≡ is_failed_read result }
     ensures write { O.failed output.new ≡ is_failed_write result }
+    ensures calls { IsAskedOnceFor R.remaining input.old input.new }
     ensures answer { IfSome (R.remaining (device_of input.old)) (λ bytes.
         ListingAnswers (options_of options) (ports_of_senders tables.now.systems) bytes
         (R.remaining (device_of input.new)) (O.written output.old) (O.written output.new) result) }
@@ -113,6 +115,7 @@ pub fn list_and_count<R: Read, O: Sink, E: Write>(
     ensures done { result.status ≡ 0 → (has_ended input.new ≡ true) × (has_failed input.new ≡ false)
         × (O.failed output.new ≡ false) }
     ensures device { (has_failed input.new || O.failed output.new) ≡ true → result.status ≡ 4 }
+    ensures calls { IsAskedOnceFor R.remaining input.old input.new }
 
     // The command ends as the listing answered, or nothing is read and nothing is written.
     ensures lists { EndsListing R.remaining O.written O.failed E.contents config.now options
@@ -160,6 +163,8 @@ pub fn list_pair_and_count<R: Read, O: Sink, E: Write>(
         × (O.failed output.new ≡ false) }
     ensures device { (one_has_failed inputs.new || O.failed output.new) ≡ true →
         result.status ≡ 4 }
+    ensures calls_a { IsAskedOnceFor R.remaining inputs.old.a inputs.new.a }
+    ensures calls_b { IsAskedOnceFor R.remaining inputs.old.b inputs.new.b }
 
     // The command ends as the listing answered, or nothing is read and nothing is written.
     ensures lists { EndsPairListing R.remaining O.written O.failed E.contents config.now options

@@ -14,20 +14,19 @@ ghost use Rattle.afdx_replay.specs.CheckText.{fault_line, class_bound_at};
 ghost use Rattle.afdx_replay.specs.Refusals.{WantsMemory};
 ghost use Rattle.afdx_replay.specs.SolveText.{told_need, need_over, need_line, need_at, asked_by};
 ghost use Rattle.afdx_replay.specs.SolveText.{needs_of_first, needs_at, needs_at_first, needs_text};
-ghost use Rattle.afdx_replay.specs.SolveText.{IsSolution, IsDenial, unread_line, Solves};
+ghost use Rattle.afdx_replay.specs.SolveText.{IsSolution, IsDenial, Solves};
 ghost use Rattle.afdx_replay.specs.SolveText.{IsSolved, IsUnsolved, IsFaulty, IsCut, IsUnmade};
 ghost use Rattle.afdx_lists.specs.Watching.{has_failed};
-ghost use Rattle.afdx_text.specs.Telling.{Tells};
 
 use crate::refusing::{refuse_config, want_memory};
-use crate::status::{DONE, NO_DEVICE_OR_MEMORY, REFUSED};
+use crate::status::{DONE, REFUSED};
 use afdx_admit::laws::lines_are_admission;
 use afdx_admit::{AdmitFault, PortBounds, bounds_of};
 use afdx_config::{Link, SystemId, Tables, read_to_solve_asking};
 use afdx_frame::{LAST_PORT, Priority, VlId};
 use afdx_lists::Watched;
 use afdx_solve::laws::each_is_least;
-use afdx_solve::{SolveOptions, TextFault, config_text, solve};
+use afdx_solve::{SolveOptions, config_text, solve};
 use afdx_text::{tell, tell_fault, write_text};
 use std::alloc::{AllocError, Global};
 use std::fmt::Write as _;
@@ -206,7 +205,7 @@ fn answer_of(
     options: SolveOptions,
     tables: Tables,
     asked: &[Option<u64>],
-) -> Result<Answer, TextFault>
+) -> Result<Answer, AllocError>
     requires { IsLawful tables }
     ensures solution { IfOk result (λ answer. answer.is_solution ≡ true → (config : List ℕ) →
         SpellsKeeping options.kept config tables → Asks config asked.now →
@@ -239,21 +238,6 @@ fn answer_of(
     }
 }
 
-/// Tells why there is no text, and gives the exit status.
-fn refuse_text<E: Write>(fault: TextFault, errors: &mut Watched<E>) -> u8
-    ensures status { result ≡ 4 }
-    ensures told { WantsMemory E.contents errors.old errors.new 4
-        ⊎ Tells E.contents errors.old errors.new unread_line }
-{
-    match fault {
-        TextFault::Memory => want_memory(errors),
-        TextFault::Unread => {
-            tell(errors, b"solve Unread\n");
-            NO_DEVICE_OR_MEMORY
-        }
-    }
-}
-
 /// What `solve_config` does, a clause for each part of `Solves`.
 fn solve_with<O: Write, E: Write>(
     alloc: Global,
@@ -282,9 +266,8 @@ fn solve_with<O: Write, E: Write>(
         Ok(read) => read,
         Err(fault) => return refuse_config(fault, errors),
     };
-    let answer = match answer_of(alloc, options, tables, asked.as_slice()) {
-        Ok(answer) => answer,
-        Err(fault) => return refuse_text(fault, errors),
+    let Ok(answer) = answer_of(alloc, options, tables, asked.as_slice()) else {
+        return want_memory(errors);
     };
     match write_text(output, answer.text.as_bytes()) {
         Ok(()) if answer.is_solution => {
@@ -312,9 +295,7 @@ fn solve_with<O: Write, E: Write>(
 ///
 /// It gives the exit status: 0 where a configuration is written, 1 where there is none or the one
 /// that was read has a fault, 4 for a device, of which a beginning of the text is written, or
-/// memory, of which nothing is. The text is read again and compared before it is written: where it
-/// didn't say the same, `solve Unread` is told, the status is 4 and nothing is written. That it
-/// always does isn't proved; no test has met it.
+/// memory, of which nothing is.
 pub fn solve_config<O: Write, E: Write>(
     alloc: Global,
     options: SolveOptions,

@@ -3,6 +3,7 @@
 ghost use Rattle.afdx_send.specs.Laws.{EmissionsAreInTime, EmissionsAreLawful, FirstReleasesAgree};
 ghost use Rattle.afdx_send.specs.Laws.{EmissionsAreBuildable, ZeroComesFirst};
 ghost use Rattle.afdx_send.specs.Complete.{AllIsSent, EmissionsAreOfTaken};
+ghost use Rattle.afdx_send.specs.Words.{TheRefusalWords};
 
 use crate::released::Released;
 use afdx_bounds::laws::{sender_is_bounded, tables_are_served};
@@ -51,3 +52,9 @@ pub fn all_is_sent()
     sender_is_bounded::<Released>();
     tables_are_served()
 }
+
+/// The words of the refusals are those of the formats.
+#[tactic(auto, unfolding(crate::specs::Words::refusal_words))]
+pub fn words_are()
+    ensures { TheRefusalWords }
+{}

@@ -3,3 +3,12 @@ pub mod LeastLemmas
 pub mod RowLemmas
 pub mod SameLemmas
 pub mod StageLemmas
+pub mod TextLemmas
+pub mod RunLemmas
+pub mod TreeLemmas
+pub mod KeyLemmas
+pub mod ReadRowLemmas
+pub mod ReadTablesLemmas
+pub mod NameLemmas
+pub mod LineLemmas
+pub mod ConfigTextLemmas

@@ -1,3 +1,4 @@
 pub mod Solved
 pub mod Delays
 pub mod Laws
+pub mod ConfigText

@@ -7,10 +7,9 @@ mod delays;
 mod jitters;
 pub mod laws;
 mod options;
-mod same;
 mod solving;
 mod writing;
 
 pub use options::SolveOptions;
 pub use solving::solve;
-pub use writing::{TextFault, config_text};
+pub use writing::config_text;

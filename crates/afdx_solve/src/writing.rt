@@ -1,49 +1,130 @@
 //! Tables as the text of a configuration.
 
-ghost use Rattle.std.specs.Prelude.{◌≡◌, ◌<◌, length, string_bytes, IfOk};
-ghost use Rattle.std.specs.List.{AllByRecursion};
-ghost use Rattle.afdx_config.specs.Rows.{link_row, port_row, system_places};
+ghost use Rattle.std.specs.Prelude.{◌≡◌, ◌++◌, ◌<◌, length, map, string_bytes, IfOk, OnOk, codes};
+ghost use Rattle.std.specs.List.{AllByRecursion, flat_map};
+ghost use Rattle.afdx_config.specs.Rows.{system_row, link_row, port_row, system_places};
 ghost use Rattle.afdx_config.specs.Lawful.{IsLink, IsPort};
 ghost use Rattle.afdx_config.specs.Reading.{Spells};
+ghost use Rattle.afdx_solve.specs.ConfigText.{number_line, text_line, texts_line, header, listed};
+ghost use Rattle.afdx_solve.specs.ConfigText.{class_word, policing_word, kind_word, name_at};
+ghost use Rattle.afdx_solve.specs.ConfigText.{system_text, way_text, traffic_text, treatment_text};
+ghost use Rattle.afdx_solve.specs.ConfigText.{link_text, port_text, config_text};
 
-use crate::same::same_tables;
-use afdx_config::{ComRow, ConfigFault, Kind, Link, System, SystemId, Tables, read_tables};
+use afdx_config::{ComRow, Kind, Link, System, SystemId, Tables};
 use afdx_frame::{Policing, Priority};
 use std::alloc::{AllocError, Global};
 use std::fmt::Write;
 
-/// Adds a system.
-fn put_system(text: &mut String, system: &System) -> Result<(), AllocError> {
-    let System {
-        name,
-        port,
-        id,
-        partition,
-        rate,
-    } = system;
-    write!(
-        text,
-        "\n[[system]]\nname = \"{name}\"\nport = {port}\nid = {id}\npartition = {partition}\n"
-    )?;
-    write!(text, "rate = {rate}\n")
+/// Adds a key with a whole number.
+#[tactic(auto, unfolding(crate::specs::ConfigText::number_line))]
+fn put_number(text: &mut String, key: &str, number: u64) -> Result<(), AllocError>
+    ensures { OnOk result
+        (string_bytes text.new ≡ string_bytes text.old ++ number_line key.now number) }
+{
+    write!(text, "{key} = {number}\n")
 }
 
-/// Adds the names of some systems, with commas between them.
+/// Adds a key with a text.
+#[tactic(auto, unfolding(crate::specs::ConfigText::text_line))]
+fn put_text(text: &mut String, key: &str, value: &str) -> Result<(), AllocError>
+    ensures { OnOk result
+        (string_bytes text.new ≡ string_bytes text.old ++ text_line key.now value.now) }
+{
+    write!(text, "{key} = \"{value}\"\n")
+}
+
+/// Adds an empty line and the header of a table.
+#[tactic(auto, unfolding(crate::specs::ConfigText::header))]
+fn put_header(text: &mut String, key: &str) -> Result<(), AllocError>
+    ensures { OnOk result (string_bytes text.new ≡ string_bytes text.old ++ header key.now) }
+{
+    write!(text, "\n[[{key}]]\n")
+}
+
+/// Adds a system.
+#[tactic(auto, unfolding(crate::specs::ConfigText::system_text), using(std::proofs::Common::append_assoc))]
+fn put_system(text: &mut String, system: &System) -> Result<(), AllocError>
+    ensures { OnOk result (string_bytes text.new
+        ≡ string_bytes text.old ++ system_text (system_row system.now)) }
+{
+    put_header(text, "system")?;
+    put_text(text, "name", &system.name)?;
+    put_number(text, "port", u64::from(system.port))?;
+    put_number(text, "id", u64::from(system.id))?;
+    put_number(text, "partition", u64::from(system.partition))?;
+    put_number(text, "rate", system.rate)
+}
+
+/// The name of the system at a place.
+#[tactic(auto, unfolding(crate::specs::ConfigText::name_at))]
+fn name_of(tables: &Tables, id: SystemId) -> &str
+    requires { id.0 < length tables.now.systems }
+    ensures { result.now ≡ name_at tables.now.systems id.0 }
+{
+    &tables.system(id).name
+}
+
+/// Adds the names of some systems in quotes, with commas between them.
+#[tactic(auto, using(std::proofs::Common::append_assoc))]
 fn put_names(text: &mut String, tables: &Tables, systems: &[SystemId]) -> Result<(), AllocError>
     requires { AllByRecursion (λ i. i < length tables.now.systems) (system_places systems.now) }
+    ensures { OnOk result (string_bytes text.new ≡ string_bytes text.old
+        ++ listed (map (name_at tables.now.systems) (system_places systems.now))) }
 {
     match systems {
         [] => Ok(()),
-        [last] => write!(text, "\"{}\"", tables.system(*last).name),
+        [last] => {
+            let name = name_of(tables, *last);
+            write!(text, "\"{name}\"")
+        }
         [first, rest @ ..] => {
-            write!(text, "\"{}\", ", tables.system(*first).name)?;
+            let name = name_of(tables, *first);
+            write!(text, "\"{name}\", ")?;
             put_names(text, tables, rest)
         }
     }
 }
 
+/// Adds the receivers of a link.
+#[tactic(auto, unfolding(crate::specs::ConfigText::texts_line), using(std::proofs::Common::append_assoc))]
+fn put_receivers(text: &mut String, tables: &Tables, link: &Link) -> Result<(), AllocError>
+    requires { IsLink (length tables.now.systems) (link_row link.now) }
+    ensures { OnOk result (string_bytes text.new ≡ string_bytes text.old
+        ++ texts_line (codes "to") (map (name_at tables.now.systems) (link_row link.now).to)) }
+{
+    write!(text, "to = [")?;
+    put_names(text, tables, link.to.as_slice())?;
+    write!(text, "]\n")
+}
+
+/// Adds who sends a link to whom.
+#[tactic(auto, using(std::proofs::Common::append_assoc))]
+fn put_way(text: &mut String, tables: &Tables, link: &Link) -> Result<(), AllocError>
+    requires { IsLink (length tables.now.systems) (link_row link.now) }
+    ensures { OnOk result (string_bytes text.new
+        ≡ string_bytes text.old ++ way_text tables.now.systems (link_row link.now)) }
+{
+    put_number(text, "vl", u64::from(link.vl.0))?;
+    put_text(text, "from", name_of(tables, link.from))?;
+    put_receivers(text, tables, link)
+}
+
+/// Adds how much a link may send.
+#[tactic(auto, using(std::proofs::Common::append_assoc))]
+fn put_traffic(text: &mut String, link: &Link) -> Result<(), AllocError>
+    ensures { OnOk result
+        (string_bytes text.new ≡ string_bytes text.old ++ traffic_text (link_row link.now)) }
+{
+    put_number(text, "bag_ms", link.bag_ms)?;
+    put_number(text, "lmin", link.lmin)?;
+    put_number(text, "lmax", link.lmax)?;
+    put_number(text, "jitter_us", link.jitter_us)
+}
+
 /// A class in a word.
-fn class_word(priority: Priority) -> &'static str {
+fn class_word(priority: Priority) -> &'static str
+    ensures { result.now ≡ class_word priority }
+{
     match priority {
         Priority::High => "high",
         Priority::Low => "low",
@@ -51,48 +132,45 @@ fn class_word(priority: Priority) -> &'static str {
 }
 
 /// How a link is policed, in a word.
-fn policing_word(policing: Policing) -> &'static str {
+fn policing_word(policing: Policing) -> &'static str
+    ensures { result.now ≡ policing_word policing }
+{
     match policing {
         Policing::Byte => "byte",
         Policing::Frame => "frame",
     }
 }
 
-/// Adds how much a link may send, and how its frames are treated.
-fn put_traffic(text: &mut String, link: &Link) -> Result<(), AllocError> {
-    write!(text, "bag_ms = {}\nlmin = {}\n", link.bag_ms, link.lmin)?;
-    write!(
-        text,
-        "lmax = {}\njitter_us = {}\n",
-        link.lmax, link.jitter_us
-    )?;
-    let priority = class_word(link.priority);
-    let policing = policing_word(link.policing);
-    write!(
-        text,
-        "priority = \"{priority}\"\npolicing = \"{policing}\"\n"
-    )?;
-    write!(text, "latency_us = {}\n", link.latency_us)?;
-    write!(text, "skew_us = {}\nsubs = {}\n", link.skew_us, link.subs)
+/// Adds how the frames of a link are treated.
+#[tactic(auto, using(std::proofs::Common::append_assoc))]
+fn put_treatment(text: &mut String, link: &Link) -> Result<(), AllocError>
+    ensures { OnOk result
+        (string_bytes text.new ≡ string_bytes text.old ++ treatment_text (link_row link.now)) }
+{
+    put_text(text, "priority", class_word(link.priority))?;
+    put_text(text, "policing", policing_word(link.policing))?;
+    put_number(text, "latency_us", link.latency_us)?;
+    put_number(text, "skew_us", link.skew_us)?;
+    put_number(text, "subs", link.subs)
 }
 
 /// Adds a link.
+#[tactic(auto, unfolding(crate::specs::ConfigText::link_text), using(std::proofs::Common::append_assoc))]
 fn put_link(text: &mut String, tables: &Tables, link: &Link) -> Result<(), AllocError>
     requires { IsLink (length tables.now.systems) (link_row link.now) }
+    ensures { OnOk result (string_bytes text.new
+        ≡ string_bytes text.old ++ link_text tables.now.systems (link_row link.now)) }
 {
-    let from = &tables.system(link.from).name;
-    write!(
-        text,
-        "\n[[link]]\nvl = {}\nfrom = \"{from}\"\nto = [",
-        link.vl.0
-    )?;
-    put_names(text, tables, link.to.as_slice())?;
-    write!(text, "]\n")?;
-    put_traffic(text, link)
+    put_header(text, "link")?;
+    put_way(text, tables, link)?;
+    put_traffic(text, link)?;
+    put_treatment(text, link)
 }
 
 /// A kind of port in a word.
-fn kind_word(kind: Kind) -> &'static str {
+fn kind_word(kind: Kind) -> &'static str
+    ensures { result.now ≡ kind_word kind }
+{
     match kind {
         Kind::Sampling => "sampling",
         Kind::Queuing => "queuing",
@@ -100,91 +178,68 @@ fn kind_word(kind: Kind) -> &'static str {
 }
 
 /// Adds a communication port.
+#[tactic(auto, unfolding(crate::specs::ConfigText::port_text), using(std::proofs::Common::append_assoc))]
 fn put_port(text: &mut String, tables: &Tables, port: &ComRow) -> Result<(), AllocError>
     requires { IsPort (length tables.now.systems) tables.now.links (port_row port.now) }
+    ensures { OnOk result (string_bytes text.new
+        ≡ string_bytes text.old ++ port_text tables.now.systems (port_row port.now)) }
 {
-    let system = &tables.system(port.system).name;
-    let kind = kind_word(port.kind);
-    write!(
-        text,
-        "\n[[port]]\nsystem = \"{system}\"\nlink = {}\n",
-        port.link.0
-    )?;
-    write!(
-        text,
-        "udp = {}\nkind = \"{kind}\"\ndepth = {}\n",
-        port.udp, port.depth
-    )
+    put_header(text, "port")?;
+    put_text(text, "system", name_of(tables, port.system))?;
+    put_number(text, "link", u64::from(port.link.0))?;
+    put_number(text, "udp", u64::from(port.udp))?;
+    put_text(text, "kind", kind_word(port.kind))?;
+    put_number(text, "depth", port.depth)
 }
 
-/// The tables in the layout of the program: the keys of each table in the order of their numbers.
-fn written(alloc: Global, tables: &Tables) -> Result<String, AllocError> {
-    let mut text = String::new(alloc);
-    write!(
-        text,
-        "profile = {}\nbuffer = {}\n",
-        tables.profile(),
-        tables.buffer()
-    )?;
+/// Adds all systems.
+fn put_systems(text: &mut String, tables: &Tables) -> Result<(), AllocError>
+    ensures { OnOk result (string_bytes text.new
+        ≡ string_bytes text.old ++ flat_map system_text tables.now.systems) }
+{
     let count = tables.system_count();
     for i in 0..count {
-        put_system(&mut text, tables.system(SystemId(i as u8)))?;
+        put_system(text, tables.system(SystemId(i as u8)))?;
     }
+    Ok(())
+}
+
+/// Adds all links.
+fn put_links(text: &mut String, tables: &Tables) -> Result<(), AllocError>
+    ensures { OnOk result (string_bytes text.new ≡ string_bytes text.old
+        ++ flat_map (link_text tables.now.systems) tables.now.links) }
+{
     let count = tables.link_count();
     for i in 0..count {
-        put_link(&mut text, tables, tables.link(i))?;
+        put_link(text, tables, tables.link(i))?;
     }
+    Ok(())
+}
+
+/// Adds all communication ports.
+fn put_ports(text: &mut String, tables: &Tables) -> Result<(), AllocError>
+    ensures { OnOk result (string_bytes text.new ≡ string_bytes text.old
+        ++ flat_map (port_text tables.now.systems) tables.now.ports) }
+{
     let count = tables.com_count();
     for i in 0..count {
-        put_port(&mut text, tables, tables.com(i))?;
+        put_port(text, tables, tables.com(i))?;
     }
-    Ok(text)
+    Ok(())
 }
 
-/// Why there is no text of tables.
-#[derive(Clone, Copy, Debug, PartialEq, Eq)]
-pub enum TextFault {
-    /// A growth of memory was refused.
-    Memory,
-    /// What was written doesn't read back as the tables. No test has met it.
-    Unread,
-}
-
-impl From<AllocError> for TextFault {
-    ghost use Rattle.std.specs.Prelude.{◌≡◌};
-    ghost use Rattle.afdx_solve.specs.declared.writing.TextFault.TheVariants.{Memory};
-
-    ghost from_gives = { λ _ e. e ≡ Memory };
-
-    fn from(_e: AllocError) -> TextFault {
-        TextFault::Memory
-    }
-}
-
-impl From<ConfigFault> for TextFault {
-    ghost use Rattle.std.specs.Prelude.{◌≡◌};
-    ghost use Rattle.afdx_config.specs.declared.fault.ConfigFault.TheVariants as config;
-    ghost use Rattle.afdx_solve.specs.declared.writing.TextFault.TheVariants.{Memory};
-
-    ghost from_gives = { λ fault e. e ≡ Memory → fault ≡ config.Memory };
-
-    fn from(fault: ConfigFault) -> TextFault {
-        match fault {
-            ConfigFault::Memory => TextFault::Memory,
-            _ => TextFault::Unread,
-        }
-    }
-}
-
-/// A text that spells these tables: it was read back and compared.
-pub fn config_text(alloc: Global, tables: &Tables) -> Result<String, TextFault>
-    ensures text { IfOk result (λ text. Spells (string_bytes text) tables.now) }
+/// The text of a configuration with these tables, in one layout: the keys of each table in the
+/// order of their numbers. It reads back as these tables.
+#[tactic(auto, using(std::proofs::Common::append_assoc))]
+pub fn config_text(alloc: Global, tables: &Tables) -> Result<String, AllocError>
+    ensures text { IfOk result (λ text. string_bytes text ≡ config_text tables.now) }
+    ensures spells { IfOk result (λ text. Spells (string_bytes text) tables.now) }
 {
-    let text = written(alloc, tables)?;
-    let back = read_tables(alloc, text.as_bytes())?;
-    if same_tables(&back, tables) {
-        Ok(text)
-    } else {
-        Err(TextFault::Unread)
-    }
+    let mut text = String::new(alloc);
+    put_number(&mut text, "profile", tables.profile())?;
+    put_number(&mut text, "buffer", tables.buffer())?;
+    put_systems(&mut text, tables)?;
+    put_links(&mut text, tables)?;
+    put_ports(&mut text, tables)?;
+    Ok(text)
 }

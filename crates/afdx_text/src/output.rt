@@ -139,9 +139,20 @@ impl<W: Write + Drop> Sink for Output<W> {
     ghost failed = { λ o. device_has_failed o };
 
     /// Puts a line in its place among those that are held. Where that fails, none of it was put; or
-    /// all of it, where it is handed over at once and the device failed.
+    /// all of it, where it is handed over at once and the device failed. Where lines are handed
+    /// over at once nothing is held after it.
     #[inline(always)]
-    fn put(&mut self, line: &OutLine<'_>, _scratch: &mut Text) -> Result<(), RunFault> {
+    fn put(&mut self, line: &OutLine<'_>, _scratch: &mut Text) -> Result<(), RunFault>
+        requires sound { device_has_failed self.old ≡ false }
+        ensures write { device_has_failed self.new ≡ is_failed_write result }
+        ensures fault { IfErr result IsOfOutput }
+        ensures whole { OnOk result (Appends (written W.contents self.old)
+            (written W.contents self.new) (line_text line.now)) }
+        ensures front { OnErr result (AppendsFront (written W.contents self.old)
+            (written W.contents self.new) (line_text line.now)) }
+        ensures at_once { is_at_once self.old ≡ true → OnOk result (held_bytes self.new ≡ []) }
+        ensures stays { is_at_once self.new ≡ is_at_once self.old }
+    {
         self.hold(line)?;
         if self.is_at_once {
             self.hand_over()?;

@@ -8,7 +8,7 @@ use Rattle.afdx_lists.specs.declared.peeked.Peeked.{Peeked}
 use Rattle.afdx_lists.specs.declared.watched.Watched.{Watched}
 use Rattle.afdx_arrivals.specs.Becoming.{Options, options_of}
 use Rattle.afdx_arrivals.specs.Claims.{one_port}
-use Rattle.afdx_arrivals.specs.InputRun.{IsAskedFew}
+use Rattle.afdx_arrivals.specs.InputRun.{is_read_recorded, IsAskedFew}
 use Rattle.afdx_arrivals.specs.NumberLines.{Lines}
 use Rattle.afdx_arrivals.specs.Taking.{Taken, arrivals_in, AreCutOff, taken_of_bytes}
 use Rattle.afdx_arrivals.specs.TakenRun.{HasNoFault, StopsTaken}
@@ -16,7 +16,7 @@ use Rattle.afdx_arrivals.specs.declared.becoming.RecordingOptions.{RecordingOpti
 use Rattle.afdx_replay.specs.Inputs.{summary_in, tally_in}
 use Rattle.afdx_replay.specs.policing.Policed.{Answers, WritesText, WritesBeginning}
 use Rattle.afdx_replay.specs.policing.Text.{counts_of}
-use Rattle.afdx_replay.specs.replaying.InputCommand.{is_decided_recorded, left_of}
+use Rattle.afdx_replay.specs.replaying.InputCommand.{left_of}
 use Rattle.afdx_replay.specs.replaying.Replayed.{Known}
 use Rattle.afdx_replay.specs.declared.summary.InputSummary.{InputSummary}
 
@@ -47,17 +47,13 @@ AnswersInput true options rule bytes rest old new answer =
 AnswersInput false options rule bytes rest old new answer =
     Answers rule bytes rest old new (summary_in answer) × (tally_in answer ≡ None)
 
--- The first bytes of the input are looked at, which fails or not, and then its frames are policed,
--- of a list or of a recording. Where its bytes are known, they decide which of the two it is, and
--- what is written is what goes with this answer.
+-- The frames of the input are policed, of a list or of a recording. Where its bytes are known, the
+-- first of them decide which of the two it is, and what is written is what goes with this answer.
 pub record PolicesInput {R : Type 0} (remaining : R → Option (List ℕ)) (rule : Rule)
-    (options : RecordingOptions) (look_failed : Bool) (input rest : Watched (Peeked R))
+    (options : RecordingOptions) (input rest : Watched (Peeked R))
     (old new : Known) (answer : Result InputSummary RunFault) : Type 0 where
-  pub recorded : Bool
-  pub decided : IfSome (left_of remaining input) (λ bytes.
-      recorded ≡ is_decided_recorded options look_failed bytes)
-  pub calls : IsAskedFew recorded (left_of remaining input) (left_of remaining rest)
+  pub calls : IsAskedFew options (left_of remaining input) (left_of remaining rest)
       (calls_of input) (calls_of rest)
   pub answers : IfSome (left_of remaining input) (λ bytes.
-      AnswersInput recorded (options_of options) rule bytes (left_of remaining rest)
-      old new answer)
+      AnswersInput (is_read_recorded options (left_of remaining input)) (options_of options)
+      rule bytes (left_of remaining rest) old new answer)

@@ -9,7 +9,6 @@ use Rattle.afdx_lists.specs.Watching.{device_of}
 use Rattle.afdx_replay.specs.Commands.{EndsAs}
 use Rattle.afdx_replay.specs.replaying.PromisedRun.{PromisedAnswers}
 use Rattle.afdx_replay.specs.Refusals.{RefusesConfig, RefusesTables, WantsMemory}
-use Rattle.afdx_replay.specs.replaying.Early.{ExplainsAnswer}
 use Rattle.afdx_replay.specs.replaying.Replayed.{Answers}
 use Rattle.afdx_replay.specs.declared.ending.Ended.{Ended}
 use Rattle.afdx_replay.specs.declared.summary.Summary.{Summary}
@@ -48,21 +47,3 @@ EndsReplay remaining written failed error_bytes config admission old_input new_i
     (written old_output) (written new_output) answer)
     ⊎ (IsNotReplayed error_bytes config admission old_errors new_errors ended.status
     × (new_input ≡ old_input) × (new_output ≡ old_output))
-
--- the same of a run that also tells a device by how much frames came too early
-abbrev pub EndsExplained : {R O E D : Type 0} → (R → Option (List ℕ)) →
-    (written : O → Option (List ℕ)) → (failed : O → Bool) → (E → Option (List ℕ)) →
-    (D → Option (List ℕ)) → List ℕ → Bool → (old_input new_input : Watched R) →
-    (old_output new_output : O) → (old_errors new_errors : Watched E) →
-    (old_drops new_drops : Watched D) → Ended → Type 0
-EndsExplained remaining written failed error_bytes drop_bytes config admission old_input new_input
-    old_output new_output old_errors new_errors old_drops new_drops ended =
-    ((answer : Result Summary RunFault)
-    × EndsAs error_bytes new_input (failed new_output) old_errors new_errors ended answer
-    × (replays : Replays config admission (remaining (device_of old_input))
-    (remaining (device_of new_input)) (written old_output) (written new_output) answer)
-    × IfSome (remaining (device_of old_input)) (λ bytes.
-    ExplainsAnswer drop_bytes replays.tables bytes (remaining (device_of new_input))
-    old_drops new_drops answer))
-    ⊎ (IsNotReplayed error_bytes config admission old_errors new_errors ended.status
-    × (new_input ≡ old_input) × (new_output ≡ old_output) × (new_drops ≡ old_drops))

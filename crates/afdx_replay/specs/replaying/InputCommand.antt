@@ -1,16 +1,15 @@
 -- What the command `replay` does whose input is a list of frames, or a recording.
-use Rattle.std.specs.Prelude.{ℕ, ◌≡◌, ◌⊎◌, Bool, true, false, not, ◌&&◌, ◌||◌, None, List, take, Option, Result, IfSome}
+use Rattle.std.specs.Prelude.{ℕ, ◌≡◌, ◌⊎◌, Bool, true, None, List, Option, Result, IfSome}
 use Rattle.afdx_config.specs.Admission.{IsAdmitted}
 use Rattle.afdx_config.specs.Reading.{Spells}
 use Rattle.afdx_config.specs.Rows.{Rows}
-use Rattle.afdx_lists.specs.Peeking.{held, left_in, looked_at}
+use Rattle.afdx_lists.specs.Peeking.{left_in}
 use Rattle.afdx_lists.specs.Watching.{calls_of, device_of}
 use Rattle.afdx_lists.specs.declared.fault.RunFault.{RunFault}
 use Rattle.afdx_lists.specs.declared.peeked.Peeked.{Peeked}
 use Rattle.afdx_lists.specs.declared.watched.Watched.{Watched}
-use Rattle.afdx_recordings.specs.Beginning.{is_recording}
 use Rattle.afdx_arrivals.specs.Becoming.{options_of}
-use Rattle.afdx_arrivals.specs.InputRun.{is_recorded, IsAskedFew}
+use Rattle.afdx_arrivals.specs.InputRun.{is_read_recorded, IsAskedFew}
 use Rattle.afdx_arrivals.specs.declared.becoming.RecordingOptions.{RecordingOptions}
 use Rattle.afdx_replay.specs.Commands.{EndsAs}
 use Rattle.afdx_replay.specs.Inputs.{summary_in, tally_in}
@@ -20,42 +19,28 @@ use Rattle.afdx_replay.specs.replaying.Replayed.{Known}
 use Rattle.afdx_replay.specs.declared.ending.InputEnded.{InputEnded}
 use Rattle.afdx_replay.specs.declared.summary.InputSummary.{InputSummary}
 
--- whether an input is read as a recording that holds the bytes that were looked at
-abbrev pub is_read_recorded : {R : Type 0} → RecordingOptions → Watched (Peeked R) → Bool
-is_read_recorded options looked = is_recorded options (held (device_of looked))
-
--- whether an input of these bytes is read as a recording once they were looked at: an option asks
--- for one, or it begins as one; but if the look failed nothing of it is known
-abbrev pub is_decided_recorded : RecordingOptions → (look_failed : Bool) → List ℕ → Bool
-is_decided_recorded options look_failed bytes =
-    options.are_given || (not look_failed && is_recording (take looked_at bytes))
-
 -- what an input still gives, where that is known
 abbrev pub left_of : {R : Type 0} → (R → Option (List ℕ)) → Watched (Peeked R) → Known
 left_of remaining input = left_in remaining (device_of input)
 
--- The first bytes of the input are looked at, which fails or not, and then it is replayed, as a
--- list or as a recording, in the tables that the configuration spells, which are admitted if that
--- is asked for. Where the input's bytes are known, they decide which of the two it is, and what is
--- written is what goes with this answer; and if admission is asked for, it is as promised.
+-- The input is replayed, as a list or as a recording, in the tables that the configuration spells,
+-- which are admitted if that is asked for. Where the input's bytes are known, the first of them
+-- decide which of the two it is, and what is written is what goes with this answer; and if admission
+-- is asked for, it is as promised.
 pub record ReplaysInput {R : Type 0} (remaining : R → Option (List ℕ)) (config : List ℕ)
-    (admission : Bool) (options : RecordingOptions) (look_failed : Bool)
-    (input rest : Watched (Peeked R)) (old new : Known) (answer : Result InputSummary RunFault) :
-    Type 0 where
+    (admission : Bool) (options : RecordingOptions) (input rest : Watched (Peeked R))
+    (old new : Known) (answer : Result InputSummary RunFault) : Type 0 where
   pub tables : Rows
   pub spelled : Spells config tables
   pub admitted : admission ≡ true → IsAdmitted tables
-  pub recorded : Bool
-  pub decided : IfSome (left_of remaining input) (λ bytes.
-      recorded ≡ is_decided_recorded options look_failed bytes)
-  pub calls : IsAskedFew recorded (left_of remaining input) (left_of remaining rest)
+  pub calls : IsAskedFew options (left_of remaining input) (left_of remaining rest)
       (calls_of input) (calls_of rest)
   pub answers : IfSome (left_of remaining input) (λ bytes.
-      AnswersInput recorded (options_of options) tables bytes (left_of remaining rest)
-      old new answer)
+      AnswersInput (is_read_recorded options (left_of remaining input)) (options_of options)
+      tables bytes (left_of remaining rest) old new answer)
   pub promised : admission ≡ true → IfSome (left_of remaining input) (λ bytes.
-      PromisedInput recorded (options_of options) tables bytes (left_of remaining rest)
-      old new answer)
+      PromisedInput (is_read_recorded options (left_of remaining input)) (options_of options)
+      tables bytes (left_of remaining rest) old new answer)
 
 -- nothing of an input, or of two, is read and nothing is written, and the error output is told why
 pub record EndsUnread {I O E : Type 0} (error_bytes : E → Option (List ℕ)) (config : List ℕ)
@@ -64,7 +49,6 @@ pub record EndsUnread {I O E : Type 0} (error_bytes : E → Option (List ℕ)) (
   pub refused : IsNotReplayed error_bytes config admission old_errors new_errors
       ended.ended.status
   pub tally : ended.tally ≡ None
-  pub unlooked : ended.look_failed ≡ false
   pub unread : new_input ≡ old_input
   pub unwritten : new_output ≡ old_output
 
@@ -77,7 +61,7 @@ module _ {R O E : Type 0} (remaining : R → Option (List ℕ)) (written : O →
     pub ends : EndsAs error_bytes new_input (failed new_output) old_errors new_errors ended.ended
         (summary_in answer)
     pub tally : ended.tally ≡ tally_in answer
-    pub replays : ReplaysInput remaining config admission options ended.look_failed
+    pub replays : ReplaysInput remaining config admission options
         old_input new_input (written old_output) (written new_output) answer
 
   abbrev pub EndsInputUnread : InputEnded → Type 0
@@ -96,6 +80,7 @@ module _ {R O E : Type 0} (remaining : R → Option (List ℕ)) (written : O →
   EndsInputExplained drop_bytes old_drops new_drops ended =
       ((answer : Result InputSummary RunFault) × (ends : EndsInputAs ended answer)
       × IfSome (left_of remaining old_input) (λ bytes.
-      ExplainsInput drop_bytes ends.replays.recorded (options_of options) ends.replays.tables bytes
+      ExplainsInput drop_bytes (is_read_recorded options (left_of remaining old_input))
+      (options_of options) ends.replays.tables bytes
       (left_of remaining new_input) old_drops new_drops answer))
       ⊎ (EndsInputUnread ended × (new_drops ≡ old_drops))

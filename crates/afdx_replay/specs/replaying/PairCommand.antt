@@ -49,7 +49,6 @@ module _ {R O E : Type 0} (remaining : R → Option (List ℕ)) (written : O →
     pub ends : EndsAsPair error_bytes new_inputs (failed new_output) old_errors new_errors
         ended.ended (summary_in answer)
     pub tally : ended.tally ≡ tally_in answer
-    pub unlooked : ended.look_failed ≡ false
     pub replays : ReplaysPair remaining config admission options old_inputs new_inputs
         (written old_output) (written new_output) answer
 

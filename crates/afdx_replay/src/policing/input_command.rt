@@ -24,9 +24,8 @@ use std::io::{Read, Write};
 /// does, or a recording: verdicts go to `output`, a fault's one line to `errors`. It also gives
 /// what the run counted.
 ///
-/// The input's first four bytes are looked at. It is a recording if it begins as one; if an option
-/// of recordings is given, it has to be. Where the input fails before the fourth byte, which is
-/// answered (`look_failed`), it is a list unless an option is given. Frames of a recording come in
+/// The input's first four bytes are looked at, in at most four reads. It is a recording if it
+/// begins as one; if an option of recordings is given, it has to be. Frames of a recording come in
 /// at the rule's port, where no option says another.
 ///
 /// The exit status is 0 done, 2 a value out of range, 3 a fault of the list or the recording, 4 a
@@ -56,7 +55,7 @@ pub fn police_input<R: Read, O: Sink, E: Write>(
 
     // A value out of range: nothing is read and nothing is written.
     ensures out_of_range { (IsCommanded given.now → ⊥) →
-        (result.ended.status ≡ 2) × (result.tally ≡ None) × (result.look_failed ≡ false) }
+        (result.ended.status ≡ 2) × (result.tally ≡ None) }
     ensures words { (IsCommanded given.now → ⊥) →
         Tells E.contents errors.old errors.new (codes "words BadRule\n") }
     ensures nothing_read { (IsCommanded given.now → ⊥) →
@@ -70,14 +69,13 @@ pub fn police_input<R: Read, O: Sink, E: Write>(
         × EndsAs E.contents input.new (O.failed output.new) errors.old errors.new result.ended
         (summary_in answer)
         × (result.tally ≡ tally_in answer)
-        × PolicesInput R.remaining (commanded_rule given.now) options result.look_failed
+        × PolicesInput R.remaining (commanded_rule given.now) options
         input.old input.new (O.written output.old) (O.written output.new) answer }
 {
     let Some(rule) = given.rule() else {
         tell(errors, b"words BadRule\n");
         return InputEnded::without_counts(WRONG_WORDS);
     };
-    let look_failed = input.look();
     let answer = police_input_into(alloc, options, &rule, input, output);
-    end_input(answer, look_failed, errors)
+    end_input(answer, errors)
 }

@@ -3,13 +3,12 @@
 ghost use Rattle.std.specs.Prelude.{◌≡◌, ◌≤◌, ◌+◌, ◌||◌, ◌⊎◌, ◌↔◌, IsSome, false, true};
 ghost use Rattle.afdx_lists.specs.Lines.{most_reads};
 ghost use Rattle.afdx_lists.specs.Watching.{calls_of, device_of, has_ended, has_failed};
-ghost use Rattle.afdx_replay.specs.replaying.Command.{EndsExplained, EndsReplay};
+ghost use Rattle.afdx_replay.specs.replaying.Command.{EndsReplay};
 ghost use Rattle.afdx_replay.specs.declared.ending.Ended.{Ended as End};
 
 use crate::ending::{Ended, end};
 use crate::refusing::{refuse_config, refuse_tables};
 use crate::replaying::admitted::replay_admitted_into;
-use crate::replaying::explained::explain_into;
 use crate::replaying::run::replay_into;
 use afdx_admit::admit;
 use afdx_config::read_tables;
@@ -63,58 +62,6 @@ pub fn replay_and_count<R: Read, O: Sink, E: Write>(
         }
         Err((tables, fault)) => { Ended::without_counts(refuse_tables(&tables, fault, errors)) }
     }
-}
-
-/// Replays a list of frames in the tables of a configuration, as `replay_and_count` does, and tells
-/// `drops`, in a line each, by how much frames came too early that were dropped for their link's
-/// rate. `drops` is handed back.
-pub fn replay_and_explain<R: Read, O: Sink, E: Write, D: Write + Drop>(
-    alloc: Global,
-    admission: bool,
-    config: &[u8],
-    input: &mut Watched<R>,
-    output: &mut O,
-    errors: &mut Watched<E>,
-    drops: Watched<D>,
-) -> (Ended, Watched<D>)
-    requires sound_input { has_failed input.old ≡ false }
-    requires unended { has_ended input.old ≡ false }
-    requires sound_output { O.failed output.old ≡ false }
-    ensures statuses { let status = result.0.status in
-        (status ≡ 0) ⊎ (status ≡ 1) ⊎ (status ≡ 3) ⊎ (status ≡ 4) }
-    ensures counts { IsSome result.0.summary ↔ (result.0.status ≡ 0) }
-    ensures done { result.0.status ≡ 0 →
-        (has_ended input.new ≡ true) × (has_failed input.new ≡ false)
-        × (O.failed output.new ≡ false) }
-    ensures device { (has_failed input.new || O.failed output.new) ≡ true → result.0.status ≡ 4 }
-    ensures calls { calls_of input.new ≤ calls_of input.old + most_reads }
-
-    // The command ends as a run over the list answered, which told `drops` what it should, or
-    // nothing is read, nothing is written and `drops` isn't told anything.
-    ensures explains { EndsExplained R.remaining O.written O.failed E.contents D.contents config.now
-        admission input.old input.new output.old output.new errors.old errors.new
-        drops result.1 result.0 }
-{
-    let tables = match read_tables(alloc, config) {
-        Ok(tables) => tables,
-        Err(fault) => return (Ended::without_counts(refuse_config(fault, errors)), drops),
-    };
-    if admission {
-        return match admit(tables) {
-            Ok(admitted) => {
-                let (answer, drops) = explain_into(alloc, admitted.tables(), input, output, drops);
-                (end(answer, errors), drops)
-            }
-            Err((tables, fault)) => {
-                (
-                    Ended::without_counts(refuse_tables(&tables, fault, errors)),
-                    drops,
-                )
-            }
-        };
-    }
-    let (answer, drops) = explain_into(alloc, &tables, input, output, drops);
-    (end(answer, errors), drops)
 }
 
 /// Replays a list of frames in the tables of a configuration, as `replay_and_count` does, and gives

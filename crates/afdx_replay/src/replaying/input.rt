@@ -2,12 +2,12 @@
 
 ghost use Rattle.std.specs.Prelude.{◌≡◌, IfSome, OnOk, true, false};
 ghost use Rattle.afdx_lists.specs.Calls.{is_failed_read, is_failed_write};
-ghost use Rattle.afdx_lists.specs.Peeking.{left_in};
+ghost use Rattle.afdx_lists.specs.Peeking.{is_untouched};
 ghost use Rattle.afdx_lists.specs.Watching.{calls_of, device_of, has_ended, has_failed};
 ghost use Rattle.afdx_arrivals.specs.Becoming.{options_of};
-ghost use Rattle.afdx_arrivals.specs.InputRun.{IsAskedFew};
+ghost use Rattle.afdx_arrivals.specs.InputRun.{is_read_recorded, IsAskedFew};
 ghost use Rattle.afdx_replay.specs.replaying.Input.{AnswersInput, ExplainsInput};
-ghost use Rattle.afdx_replay.specs.replaying.InputCommand.{is_read_recorded};
+ghost use Rattle.afdx_replay.specs.replaying.InputCommand.{left_of};
 
 use crate::replaying::explained::Explaining;
 use crate::replaying::run::Replay;
@@ -19,8 +19,8 @@ use afdx_text::Sink;
 use std::alloc::Global;
 use std::io::{Read, Write};
 
-/// Replays an input whose first bytes were looked at, a list of frames or a recording, through the
-/// switches of both sides and the systems behind them.
+/// Replays an input, a list of frames or a recording, through the switches of both sides and the
+/// systems behind them.
 pub(crate) fn replay_input_into<R: Read, O: Sink>(
     alloc: Global,
     options: RecordingOptions,
@@ -28,21 +28,22 @@ pub(crate) fn replay_input_into<R: Read, O: Sink>(
     input: &mut Watched<Peeked<R>>,
     output: &mut O,
 ) -> Result<InputSummary, RunFault>
+    requires untouched { is_untouched (device_of input.old) }
     requires sound_input { has_failed input.old ≡ false }
     requires unended { has_ended input.old ≡ false }
     requires sound_output { O.failed output.old ≡ false }
     ensures ended { OnOk result (has_ended input.new ≡ true) }
     ensures read { has_failed input.new ≡ is_failed_read result }
     ensures write { O.failed output.new ≡ is_failed_write result }
-    ensures calls { IsAskedFew (is_read_recorded options input.old)
-        (left_in R.remaining (device_of input.old)) (left_in R.remaining (device_of input.new))
+    ensures calls { IsAskedFew options
+        (left_of R.remaining input.old) (left_of R.remaining input.new)
         (calls_of input.old) (calls_of input.new) }
 
     // Where its bytes are known: what is answered and written for the list, or the recording, that
     // they are.
-    ensures answer { IfSome (left_in R.remaining (device_of input.old)) (λ bytes.
-        AnswersInput (is_read_recorded options input.old) (options_of options) tables.now bytes
-        (left_in R.remaining (device_of input.new))
+    ensures answer { IfSome (left_of R.remaining input.old) (λ bytes.
+        AnswersInput (is_read_recorded options (left_of R.remaining input.old)) (options_of options)
+        tables.now bytes (left_of R.remaining input.new)
         (O.written output.old) (O.written output.new) result) }
 {
     let mut replay = Replay::new(alloc, tables)?;
@@ -61,22 +62,24 @@ pub(crate) fn explain_input_into<R: Read, O: Sink, D: Write + Drop>(
     output: &mut O,
     drops: Watched<D>,
 ) -> (Result<InputSummary, RunFault>, Watched<D>)
+    requires untouched { is_untouched (device_of input.old) }
     requires sound_input { has_failed input.old ≡ false }
     requires unended { has_ended input.old ≡ false }
     requires sound_output { O.failed output.old ≡ false }
     ensures ended { OnOk result.0 (has_ended input.new ≡ true) }
     ensures read { has_failed input.new ≡ is_failed_read result.0 }
     ensures write { O.failed output.new ≡ is_failed_write result.0 }
-    ensures calls { IsAskedFew (is_read_recorded options input.old)
-        (left_in R.remaining (device_of input.old)) (left_in R.remaining (device_of input.new))
+    ensures calls { IsAskedFew options
+        (left_of R.remaining input.old) (left_of R.remaining input.new)
         (calls_of input.old) (calls_of input.new) }
-    ensures answer { IfSome (left_in R.remaining (device_of input.old)) (λ bytes.
-        AnswersInput (is_read_recorded options input.old) (options_of options) tables.now bytes
-        (left_in R.remaining (device_of input.new))
+    ensures answer { IfSome (left_of R.remaining input.old) (λ bytes.
+        AnswersInput (is_read_recorded options (left_of R.remaining input.old)) (options_of options)
+        tables.now bytes (left_of R.remaining input.new)
         (O.written output.old) (O.written output.new) result.0) }
-    ensures explains { IfSome (left_in R.remaining (device_of input.old)) (λ bytes.
-        ExplainsInput D.contents (is_read_recorded options input.old) (options_of options)
-        tables.now bytes (left_in R.remaining (device_of input.new)) drops result.1 result.0) }
+    ensures explains { IfSome (left_of R.remaining input.old) (λ bytes.
+        ExplainsInput D.contents (is_read_recorded options (left_of R.remaining input.old))
+        (options_of options) tables.now bytes (left_of R.remaining input.new)
+        drops result.1 result.0) }
 {
     let replay = match Replay::new(alloc, tables) {
         Ok(replay) => replay,

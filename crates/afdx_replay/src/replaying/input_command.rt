@@ -19,9 +19,8 @@ use std::io::{Read, Write};
 /// gives what the run counted.
 ///
 /// Nothing of the input is read before the tables are taken; then its first four bytes are looked
-/// at. It is a recording if it begins as one; if an option of recordings is given, it has to be.
-/// Where the input fails before the fourth of them, which is answered (`look_failed`), it is a list
-/// unless an option is given.
+/// at, in at most four reads. It is a recording if it begins as one; if an option of recordings is
+/// given, it has to be.
 ///
 /// The exit status is 0 done, 1 a fault of the configuration or tables that are not admitted, 3 a
 /// fault of the list or the recording, 4 a device or memory.
@@ -58,9 +57,8 @@ pub fn replay_input<R: Read, O: Sink, E: Write>(
         Ok(taken) => taken,
         Err(status) => return InputEnded::without_counts(status),
     };
-    let look_failed = input.look();
     let answer = replay_input_into(alloc, options, taken.tables(), input, output);
-    end_input(answer, look_failed, errors)
+    end_input(answer, errors)
 }
 
 /// Replays an input as `replay_input` does, and tells `drops`, in a line each, by how much frames
@@ -98,8 +96,7 @@ pub fn replay_input_and_explain<R: Read, O: Sink, E: Write, D: Write + Drop>(
         Ok(taken) => taken,
         Err(status) => return (InputEnded::without_counts(status), drops),
     };
-    let look_failed = input.look();
     let tables = taken.tables();
     let (answer, drops) = explain_input_into(alloc, options, tables, input, output, drops);
-    (end_input(answer, look_failed, errors), drops)
+    (end_input(answer, errors), drops)
 }

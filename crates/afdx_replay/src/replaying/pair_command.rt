@@ -59,7 +59,7 @@ pub fn replay_pair<R: Read, O: Sink, E: Write>(
         Err(status) => return InputEnded::without_counts(status),
     };
     let answer = replay_pair_into(alloc, options, taken.tables(), inputs, output);
-    end_input(answer, false, errors)
+    end_input(answer, errors)
 }
 
 /// Replays two recordings as `replay_pair` does, and tells `drops`, in a line each, by how much
@@ -101,5 +101,5 @@ pub fn replay_pair_and_explain<R: Read, O: Sink, E: Write, D: Write + Drop>(
     };
     let tables = taken.tables();
     let (answer, drops) = explain_pair_into(alloc, options, tables, inputs, output, drops);
-    (end_input(answer, false, errors), drops)
+    (end_input(answer, errors), drops)
 }

@@ -85,7 +85,6 @@ fn is_replayed(
 ) -> Result<(), Fail> {
     let (ended, found, faults) = replayed(alloc, input)?;
     equal((ended.ended.status, claimed(ended)), answer)?;
-    equal(ended.look_failed, false)?;
     equal((found.as_str(), faults.as_str()), (text, line))
 }
 
@@ -169,7 +168,6 @@ fn a_recording_is_policed(rt: HostRuntime) -> Result<(), Fail> {
     let bytes = recording(rt.alloc(), &[0, 1])?;
     let (ended, text, line) = policed(rt.alloc(), bytes.as_slice())?;
     equal((ended.ended.status, claimed(ended)), (0, Some(2)))?;
-    equal(ended.look_failed, false)?;
     let wanted = "V 1 A accept\nV 2 A drop over-rate\n";
     equal((text.as_str(), line.as_str()), (wanted, ""))
 }

@@ -1,12 +1,19 @@
-use Rattle.std.proofs.Common.{rules, ◌≡◌, refl, Ok, Err}
+use Rattle.std.proofs.Common.{rules, ◌≡◌, refl, Err}
 use Rattle.afdx_lists.specs.declared.fault.RunFault.TheVariants as run
 use Rattle.afdx_arrivals.specs.Claims.{ports_unsaid}
 use Rattle.afdx_arrivals.specs.ListText.{WritesLines, WritesSomeLines, lines_themselves}
 use Rattle.afdx_arrivals.proofs.ListingLemmas.{lines-start}
-use Rattle.afdx_arrivals.proofs.PairAnswerLemmas.{Gave, Ended, Stopped, pair-start, pair-unread, still-set-pair}
-use Rattle.afdx_arrivals.proofs.PairAnswerLemmas.{err-read, ok-read, ok-ended, ok-few, err-answers, ok-answers}
-use Rattle.afdx_arrivals.proofs.TakenLemmas.{lines-handed, lines-peeled}
+use Rattle.afdx_arrivals.proofs.PairAnswerLemmas.{pair-start, pair-unread, two-by}
+use Rattle.afdx_arrivals.proofs.RecordingRunLemmas.{unasked}
 use Rattle.afdx_arrivals.proofs.listing.list_pair.Goals as goal
+
+pub returns-in_err-lines-clause-calls_a : goal.returns-in_err-lines-clause-calls_a
+returns-in_err-lines-clause-calls_a g c =
+    unasked (g.R.Read.remaining c.args.inputs.now.a.inner) c.args.inputs.now.a.calls
+
+pub returns-in_err-lines-clause-calls_b : goal.returns-in_err-lines-clause-calls_b
+returns-in_err-lines-clause-calls_b g c =
+    unasked (g.R.Read.remaining c.args.inputs.now.b.inner) c.args.inputs.now.b.calls
 
 -- there was no memory
 pub returns-in_err-lines-clause-answer : goal.returns-in_err-lines-clause-answer
@@ -17,127 +24,29 @@ returns-in_err-lines-clause-answer g c =
     let e : c.from_residual.result ≡ Err run.Memory = search rules in
     rw e stop
 
-pub drive-requires-clause-gave : goal.drive-requires-clause-gave
-drive-requires-clause-gave g c =
+pub run_over-requires-clause-gave : goal.run_over-requires-clause-gave
+run_over-requires-clause-gave g c =
     pair-start g.R.Read.remaining c.args.inputs.now c.in_ok-lines.lines c.args.options
     (ports_unsaid c.args.unsaid) c.requires.sound_a c.requires.sound_b c.requires.unended_a c.requires.unended_b
     c.in_ok-lines.ensures
 
-pub drive-requires-clause-told : goal.drive-requires-clause-told
-drive-requires-clause-told g c = (tt, lines-start (g.O.Sink.written c.args.output.now))
+pub run_over-requires-clause-set : goal.run_over-requires-clause-set
+run_over-requires-clause-set g c =
+    record { order_a = c.in_ok-lines.ensures.order_a; order_b = c.in_ok-lines.ensures.order_b }
 
-pub returns-in_err-drive-clause-read : goal.returns-in_err-drive-clause-read
-returns-in_err-drive-clause-read g c =
-    let remaining = g.R.Read.remaining in
-    let start = c.args.inputs.now in
-    let inputs = c.drive.new.input in
-    let source = c.drive.new.source in
-    let old = g.O.Sink.written c.args.output.now in
-    let new = g.O.Sink.written c.drive.new.output in
-    let e : c.from_residual-in_err-drive.result ≡ Err c.in_err-drive.field-0.0 = search rules in
-    rw e (err-read remaining start inputs source lines_themselves (WritesLines old new) (WritesLines old new)
-    (WritesSomeLines old new) c.in_err-drive.field-0.0
-    (lines-handed (WritesLines old new) (WritesLines old new) (WritesSomeLines old new)
-    (Gave remaining start inputs source) (Ended remaining start inputs source)
-    (Stopped remaining start inputs source)
-    {A = Unit {0}} (Err c.in_err-drive.field-0.0) (c.in_err-drive.ensures.answer tt (lines-start old))))
+pub run_over-requires-clause-told : goal.run_over-requires-clause-told
+run_over-requires-clause-told g c = (tt, lines-start (g.O.Sink.written c.args.output.now))
 
-pub returns-in_err-drive-clause-answer : goal.returns-in_err-drive-clause-answer
-returns-in_err-drive-clause-answer g c =
-    let remaining = g.R.Read.remaining in
-    let start = c.args.inputs.now in
-    let inputs = c.drive.new.input in
-    let source = c.drive.new.source in
-    let old = g.O.Sink.written c.args.output.now in
-    let new = g.O.Sink.written c.drive.new.output in
-    let ports = ports_unsaid c.args.unsaid in
-    let stop = err-answers remaining start inputs source c.args.options ports
-    (still-set-pair c.args.options ports c.in_ok-lines.lines source c.in_err-drive.ensures.settings
-    c.in_ok-lines.ensures)
-    lines_themselves (WritesLines old new) (WritesLines old new) (WritesSomeLines old new) lines-peeled
-    c.in_err-drive.field-0.0
-    (lines-handed (WritesLines old new) (WritesLines old new) (WritesSomeLines old new)
-    (Gave remaining start inputs source) (Ended remaining start inputs source)
-    (Stopped remaining start inputs source)
-    {A = Unit {0}} (Err c.in_err-drive.field-0.0) (c.in_err-drive.ensures.answer tt (lines-start old))) in
-    let e : c.from_residual-in_err-drive.result ≡ Err c.in_err-drive.field-0.0 = search rules in
-    rw e stop
+pub returns-clause-calls_a : goal.returns-clause-calls_a
+returns-clause-calls_a g c = c.run_over.ensures.calls.0 (rw (c.requires.sound_a, c.requires.unended_a) refl)
 
-pub tally-requires-clause-a : goal.tally-requires-clause-a
-tally-requires-clause-a g c =
-    let remaining = g.R.Read.remaining in
-    let start = c.args.inputs.now in
-    let inputs = c.drive.new.input in
-    let source = c.drive.new.source in
-    let old = g.O.Sink.written c.args.output.now in
-    let new = g.O.Sink.written c.drive.new.output in
-    (ok-few remaining start inputs source lines_themselves (WritesLines old new) (WritesLines old new)
-    (WritesSomeLines old new)
-    (lines-handed (WritesLines old new) (WritesLines old new) (WritesSomeLines old new)
-    (Gave remaining start inputs source) (Ended remaining start inputs source)
-    (Stopped remaining start inputs source)
-    {A = Unit {0}} (Ok tt) (c.in_ok-drive.ensures.answer tt (lines-start old)))).0
-
-pub tally-requires-clause-b : goal.tally-requires-clause-b
-tally-requires-clause-b g c =
-    let remaining = g.R.Read.remaining in
-    let start = c.args.inputs.now in
-    let inputs = c.drive.new.input in
-    let source = c.drive.new.source in
-    let old = g.O.Sink.written c.args.output.now in
-    let new = g.O.Sink.written c.drive.new.output in
-    (ok-few remaining start inputs source lines_themselves (WritesLines old new) (WritesLines old new)
-    (WritesSomeLines old new)
-    (lines-handed (WritesLines old new) (WritesLines old new) (WritesSomeLines old new)
-    (Gave remaining start inputs source) (Ended remaining start inputs source)
-    (Stopped remaining start inputs source)
-    {A = Unit {0}} (Ok tt) (c.in_ok-drive.ensures.answer tt (lines-start old)))).1
-
-pub returns-clause-ended : goal.returns-clause-ended
-returns-clause-ended g c =
-    let remaining = g.R.Read.remaining in
-    let start = c.args.inputs.now in
-    let inputs = c.drive.new.input in
-    let source = c.drive.new.source in
-    let old = g.O.Sink.written c.args.output.now in
-    let new = g.O.Sink.written c.drive.new.output in
-    ok-ended remaining start inputs source lines_themselves (WritesLines old new) (WritesLines old new)
-    (WritesSomeLines old new)
-    (lines-handed (WritesLines old new) (WritesLines old new) (WritesSomeLines old new)
-    (Gave remaining start inputs source) (Ended remaining start inputs source)
-    (Stopped remaining start inputs source)
-    {A = Unit {0}} (Ok tt) (c.in_ok-drive.ensures.answer tt (lines-start old)))
-
-pub returns-clause-read : goal.returns-clause-read
-returns-clause-read g c =
-    let remaining = g.R.Read.remaining in
-    let start = c.args.inputs.now in
-    let inputs = c.drive.new.input in
-    let source = c.drive.new.source in
-    let old = g.O.Sink.written c.args.output.now in
-    let new = g.O.Sink.written c.drive.new.output in
-    ok-read remaining start inputs source lines_themselves (WritesLines old new) (WritesLines old new)
-    (WritesSomeLines old new)
-    (lines-handed (WritesLines old new) (WritesLines old new) (WritesSomeLines old new)
-    (Gave remaining start inputs source) (Ended remaining start inputs source)
-    (Stopped remaining start inputs source)
-    {A = Unit {0}} (Ok tt) (c.in_ok-drive.ensures.answer tt (lines-start old)))
+pub returns-clause-calls_b : goal.returns-clause-calls_b
+returns-clause-calls_b g c = c.run_over.ensures.calls.1 (rw (c.requires.sound_b, c.requires.unended_b) refl)
 
 pub returns-clause-answer : goal.returns-clause-answer
 returns-clause-answer g c =
-    let remaining = g.R.Read.remaining in
-    let start = c.args.inputs.now in
-    let inputs = c.drive.new.input in
-    let source = c.drive.new.source in
     let old = g.O.Sink.written c.args.output.now in
-    let new = g.O.Sink.written c.drive.new.output in
-    let ports = ports_unsaid c.args.unsaid in
-    ok-answers remaining start inputs source c.args.options ports
-    (still-set-pair c.args.options ports c.in_ok-lines.lines source c.in_ok-drive.ensures.settings
-    c.in_ok-lines.ensures)
-    lines_themselves (WritesLines old new) (WritesLines old new) (WritesSomeLines old new) c.tally.result
-    c.tally.ensures
-    (lines-handed (WritesLines old new) (WritesLines old new) (WritesSomeLines old new)
-    (Gave remaining start inputs source) (Ended remaining start inputs source)
-    (Stopped remaining start inputs source)
-    {A = Unit {0}} (Ok tt) (c.in_ok-drive.ensures.answer tt (lines-start old)))
+    let new = g.O.Sink.written c.run_over.new.output in
+    two-by c.args.options (ports_unsaid c.args.unsaid) c.in_ok-lines.lines c.in_ok-lines.ensures lines_themselves
+    (WritesLines old new) (WritesLines old new) (WritesSomeLines old new) c.run_over.result
+    g.R.Read.remaining c.args.inputs.now c.run_over.new.input (c.run_over.ensures.answer tt (lines-start old))

@@ -1,4 +1,5 @@
 use Rattle.std.proofs.Common.{refl, inl, inr}
+use Rattle.afdx_arrivals.proofs.RecordingRunLemmas.{unasked}
 use Rattle.afdx_replay.proofs.RefusalLemmas.{config-refused}
 use Rattle.afdx_replay.proofs.listing.list_and_count.Goals as goal
 
@@ -27,3 +28,7 @@ returns-clause-lists g c = inl (
     answered = c.list_in-answer.ensures.answer;
   },
 )
+
+pub returns-in-Err-clause-calls : goal.returns-in-Err-clause-calls
+returns-in-Err-clause-calls g c =
+    unasked (g.R.Read.remaining c.args.input.now.inner) c.args.input.now.calls

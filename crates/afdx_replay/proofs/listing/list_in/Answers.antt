@@ -2,6 +2,7 @@ use Rattle.std.proofs.Common.{rules}
 use Rattle.afdx_arrivals.specs.Becoming.{options_of}
 use Rattle.afdx_arrivals.specs.Claims.{ports_of, ports_of_senders}
 use Rattle.afdx_replay.proofs.ListingLemmas.{listing-unread, listing-agrees}
+use Rattle.afdx_arrivals.proofs.RecordingRunLemmas.{unasked}
 use Rattle.afdx_replay.proofs.listing.list_in.Goals as goal
 
 -- there was no memory
@@ -18,3 +19,7 @@ returns-clause-answer g c =
     (g.R.Read.remaining c.args.input.now.inner) (g.R.Read.remaining c.list_recording.new.input.inner)
     (g.O.Sink.written c.args.output.now) (g.O.Sink.written c.list_recording.new.output) c.list_recording.result
     c.list_recording.ensures.answer
+
+pub returns-in_err-ports-clause-calls : goal.returns-in_err-ports-clause-calls
+returns-in_err-ports-clause-calls g c =
+    unasked (g.R.Read.remaining c.args.input.now.inner) c.args.input.now.calls

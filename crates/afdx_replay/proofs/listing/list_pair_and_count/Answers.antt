@@ -1,4 +1,5 @@
 use Rattle.std.proofs.Common.{refl, inl, inr}
+use Rattle.afdx_arrivals.proofs.RecordingRunLemmas.{unasked}
 use Rattle.afdx_replay.proofs.RefusalLemmas.{config-refused}
 use Rattle.afdx_replay.proofs.listing.list_pair_and_count.Goals as goal
 
@@ -27,3 +28,11 @@ returns-clause-lists g c = inl (
     answered = c.list_pair-answer.ensures.answer;
   },
 )
+
+pub returns-in-Err-clause-calls_a : goal.returns-in-Err-clause-calls_a
+returns-in-Err-clause-calls_a g c =
+    unasked (g.R.Read.remaining c.args.inputs.now.a.inner) c.args.inputs.now.a.calls
+
+pub returns-in-Err-clause-calls_b : goal.returns-in-Err-clause-calls_b
+returns-in-Err-clause-calls_b g c =
+    unasked (g.R.Read.remaining c.args.inputs.now.b.inner) c.args.inputs.now.b.calls

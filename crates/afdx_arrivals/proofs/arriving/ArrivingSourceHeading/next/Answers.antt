@@ -15,7 +15,7 @@ returns-in-Arrival-clause-item g c start past h ok =
     arrival-given x k.lines c.in-Arrival.kind c.in-Arrival.time c.in-Arrival.side
     c.in-Arrival.port c.has_own-own.result c.seal_by.result (sym c.head.ensures ∙ c.in-Arrival.is)
     (rw c.bytes.ensures at c.has_own-own.ensures) c.seal_by.ensures
-    (g.S.Source.Gave start c.next.new.self c.next.new.input) past k.arrivals_are item.0 item.1
+    (g.S.Source.Gave start c.next.new.self c.next.new.input) past k.items_are item.0 item.1
 
 pub loop-kind-preserved : goal.loop-kind-preserved
 loop-kind-preserved g c =
@@ -25,7 +25,7 @@ loop-kind-preserved g c =
           let item = c.in_ok-next.ensures.item start k.lines k.known_so (ap Ok c.if-branch.true) in
           skipped-given (g.S.Source.Gave start c.next.new.self c.next.new.input) past
           (g.S.Source.current c.next.new.self) c.in_default.field-0 k.lines
-          (sym c.head.ensures ∙ c.in_default.is) k.arrivals_are item.0;
+          (sym c.head.ensures ∙ c.in_default.is) k.items_are item.0;
       settings = c.next.ensures.settings ∙ c.loop-kind.invariant.settings;
       fewer = omega (arith, less, c.loop-kind.invariant.fewer);
     }

@@ -5,7 +5,7 @@ use Rattle.afdx_lists.specs.Lines.{unread, latest_line, HasNoFeed}
 use Rattle.afdx_lists.proofs.ReaderLemmas.{unread_length, unread_nothing, few_lines, all_taken, none_after}
 use Rattle.afdx_lists.proofs.TakingLemmas.{TakesBytes-then, TakesBytes-part, TakesLine-feed}
 use Rattle.afdx_lists.proofs.TakingLemmas.{TakesLine-last, IsAtEnd-left, some_line_left}
-use Rattle.afdx_lists.proofs.LineLemmas.{lines_of_some}
+use Rattle.afdx_lists.proofs.LineLemmas.{feed-or-none, lines_of_some}
 use Rattle.afdx_lists.proofs.TakingLemmas.{long_line_held, long_line_left}
 use Rattle.afdx_lists.proofs.line_reader.LineReader.next_line.Goals as goal
 
@@ -145,5 +145,22 @@ reads-preserved g c =
       no_feed = subst HasNoFeed (sym front) none;
       taken = TakesBytes-then _ _ _ _ _ _ c.reads.invariant.taken c.refill.ensures.bytes;
       calls = omega (arith, c.refill.ensures.calls, c.reads.invariant.held);
+      unasked = λ n feed. absurd (feed-or-none _ n feed (subst HasNoFeed (c.reads.invariant.unasked n feed).1 none));
       held = omega (arith, c.refill.ensures.calls, c.reads.invariant.held, more.0);
     }
+
+-- a line feed that was held at first: nothing was read
+pub returns-in_err-refill-clause-unasked : goal.returns-in_err-refill-clause-unasked
+returns-in_err-refill-clause-unasked g c n feed =
+    let none : HasNoFeed (unread c.reads.self) = search rules in
+    absurd (feed-or-none _ n feed (subst HasNoFeed (c.reads.invariant.unasked n feed).1 none))
+
+pub returns-then-searched-eq0-clause-unasked : goal.returns-then-searched-eq0-clause-unasked
+returns-then-searched-eq0-clause-unasked g c n feed =
+    let none : HasNoFeed (unread c.reads.self) = search rules in
+    absurd (feed-or-none _ n feed (subst HasNoFeed (c.reads.invariant.unasked n feed).1 none))
+
+pub returns-then-not-branch-clause-unasked : goal.returns-then-not-branch-clause-unasked
+returns-then-not-branch-clause-unasked g c n feed =
+    let none : HasNoFeed (unread c.reads.self) = search rules in
+    absurd (feed-or-none _ n feed (subst HasNoFeed (c.reads.invariant.unasked n feed).1 none))

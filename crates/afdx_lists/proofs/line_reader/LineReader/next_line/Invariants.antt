@@ -1,5 +1,5 @@
-use Rattle.std.proofs.Common.{◌≡◌, ◌≤◌, ◌+◌, ◌-◌, [], take, false}
-use Rattle.afdx_lists.specs.Lines.{unread, IsHonest, HasNoFeed, TakesBytes}
+use Rattle.std.proofs.Common.{ℕ, ◌≡◌, ◌≤◌, ◌+◌, ◌-◌, [], take, false}
+use Rattle.afdx_lists.specs.Lines.{unread, IsHonest, HasNoFeed, IsFirstFeed, TakesBytes}
 use Rattle.afdx_lists.specs.Lines.{most_lines, longest_line, reads_of_line}
 use Rattle.afdx_lists.proofs.line_reader.LineReader.next_line.Given as goal
 
@@ -16,6 +16,8 @@ invariant-reads g l = record {
   taken : TakesBytes (g.R.Read.remaining l.initial.input.inner) (g.R.Read.remaining l.input.inner)
       (unread l.initial.self) (unread l.self) [];
   calls : l.input.calls ≤ l.initial.input.calls + (l.searched + 1);
+  unasked : (n : ℕ) → IsFirstFeed (unread l.initial.self) n
+      → (l.input ≡ l.initial.input) × (unread l.self ≡ unread l.initial.self);
   held : l.input.calls ≤ l.initial.input.calls + (l.self.end - l.self.start);
 }
 

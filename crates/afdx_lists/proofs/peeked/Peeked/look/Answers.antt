@@ -9,6 +9,8 @@ unfolding held
 loop-self-init g c = record {
   first = omega (arith, c.requires.0, c.args.self.now.ordered);
   seen = none-seen _ _ _ c.requires.0;
+  whole = c.requires.1;
+  asked = omega (arith, c.requires.0);
   left = Keeps-refl _;
 }
 

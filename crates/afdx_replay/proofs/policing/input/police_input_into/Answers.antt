@@ -6,7 +6,7 @@ use Rattle.afdx_lists.specs.Peeking.{left_in}
 use Rattle.afdx_police.specs.RuleOf.{rule_of}
 use Rattle.afdx_replay.specs.policing.Policed.{WritesText, WritesBeginning}
 use Rattle.afdx_replay.specs.policing.Told.{HasTold, TellsItems, BeginsItems}
-use Rattle.afdx_replay.specs.replaying.InputCommand.{is_read_recorded}
+use Rattle.afdx_arrivals.specs.InputRun.{is_read_recorded}
 use Rattle.afdx_replay.proofs.InputLemmas.{police-err, police-ok}
 use Rattle.afdx_replay.proofs.TextLemmas.{front-whole}
 use Rattle.afdx_replay.proofs.policing.input.police_input_into.Goals as goal
@@ -21,8 +21,8 @@ returns-in_err-count-clause-answer g c =
     let new = g.O.Sink.written c.run_input.new.output in
     let tells = TellsItems rule c.run_input.new.machine old new in
     let options = options_of c.args.options in
-    let is = is_read_recorded c.args.options c.args.input.now in
     let left = left_in g.R.Read.remaining c.args.input.now.inner in
+    let is = is_read_recorded c.args.options left in
     let rest = left_in g.R.Read.remaining c.run_input.new.input.inner in
     let stop = police-err options rule old new is left rest c.in_err-count.field-0.0
     (input-err options (one_port rule.port) tells tells (BeginsItems rule old new)
@@ -39,8 +39,8 @@ returns-clause-answer g c =
     let police = c.run_input.new.machine in
     let tells = TellsItems rule police old new in
     let options = options_of c.args.options in
-    let is = is_read_recorded c.args.options c.args.input.now in
     let left = left_in g.R.Read.remaining c.args.input.now.inner in
+    let is = is_read_recorded c.args.options left in
     let rest = left_in g.R.Read.remaining c.run_input.new.input.inner in
     rw c.of.ensures
     (police-ok options rule old new police.accounts police.accepted police.dropped is left rest c.in_ok-count.count

@@ -1,7 +1,6 @@
 use Rattle.std.proofs.Common.{◌≡◌, true}
 use Rattle.afdx_lists.specs.Watching.{has_ended, has_failed}
-use Rattle.afdx_replay.specs.Commands.{commanded_rule}
-use Rattle.afdx_replay.proofs.InputStartLemmas.{ends-in, polices-looked}
+use Rattle.afdx_replay.proofs.InputStartLemmas.{ends-in}
 use Rattle.afdx_replay.proofs.policing.input_command.police_input.Goals as goal
 
 pub returns-clause-polices : goal.returns-clause-polices
@@ -13,10 +12,8 @@ returns-clause-polices g c commanded = (
       c.end_input.ensures.summary c.end_input.ensures.told c.end_input.ensures.silent c.police_input_into-answer.ensures.ended
       c.police_input_into-answer.ensures.read c.police_input_into-answer.ensures.write,
   c.end_input.ensures.tally,
-  polices-looked g.R.Read.remaining c.args.options c.args.input.now c.look-look_failed.new.self
-      c.police_input_into-answer.new.input c.look-look_failed.result c.look-look_failed.ensures
-      c.end_input.result.look_failed c.end_input.ensures.look (commanded_rule c.args.given.now)
-      (g.O.Sink.written c.args.output.now) (g.O.Sink.written c.police_input_into-answer.new.output)
-      c.police_input_into-answer.result c.police_input_into-answer.ensures.calls
-      (rw c.in-Some.ensures.given at c.police_input_into-answer.ensures.answer),
+  record {
+    calls = c.police_input_into-answer.ensures.calls;
+    answers = rw c.in-Some.ensures.given at c.police_input_into-answer.ensures.answer;
+  },
 )

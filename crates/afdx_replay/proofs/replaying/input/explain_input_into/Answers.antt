@@ -1,33 +1,36 @@
-use Rattle.std.proofs.Common.{inl}
+use Rattle.std.proofs.Common.{arith, inl}
+use Rattle.std.proofs.KnownBytes.{Keeps-refl}
 use Rattle.afdx_arrivals.specs.Becoming.{options_of}
 use Rattle.afdx_arrivals.specs.Claims.{ports_of_senders}
+use Rattle.afdx_arrivals.proofs.LookLemmas.{unread-few}
 use Rattle.afdx_arrivals.proofs.InputSaysLemmas.{input-err, input-ok}
 use Rattle.afdx_lists.specs.Peeking.{left_in}
 use Rattle.afdx_replay.specs.replaying.Early.{ExplainsAll, ExplainsItems, ExplainsSome, TellsEarly, TellsMost}
-use Rattle.afdx_replay.specs.replaying.InputCommand.{is_read_recorded}
+use Rattle.afdx_arrivals.specs.InputRun.{is_read_recorded}
 use Rattle.afdx_replay.specs.replaying.Replayed.{WritesSoFar, WritesSome, ToldAll}
 use Rattle.afdx_replay.proofs.EarlyLemmas.{early-start}
 use Rattle.afdx_replay.proofs.InputLemmas.{replay-err, replay-ok, explain-err, explain-ok}
-use Rattle.afdx_replay.proofs.InputStartLemmas.{start-input, start-explained, unasked-few}
+use Rattle.afdx_replay.proofs.InputStartLemmas.{start-input, start-explained}
 use Rattle.afdx_replay.proofs.ReplayLemmas.{are-some, are-so-far}
 use Rattle.afdx_replay.proofs.replaying.input.explain_input_into.Goals as goal
 
 -- there was no memory
 pub returns-in-Err-clause-calls : goal.returns-in-Err-clause-calls
 returns-in-Err-clause-calls g c =
-    unasked-few (is_read_recorded c.args.options c.args.input.now)
-    (left_in g.R.Read.remaining c.args.input.now.inner) c.args.input.now.calls
+    unread-few c.args.options _ _ _ _ (Keeps-refl (left_in g.R.Read.remaining c.args.input.now.inner)) (omega arith)
 
 pub returns-in-Err-clause-answer : goal.returns-in-Err-clause-answer
 returns-in-Err-clause-answer g c =
     rw c.from.ensures (start-input (options_of c.args.options) c.args.tables.now
-    (is_read_recorded c.args.options c.args.input.now) (left_in g.R.Read.remaining c.args.input.now.inner)
+    (is_read_recorded c.args.options (left_in g.R.Read.remaining c.args.input.now.inner))
+    (left_in g.R.Read.remaining c.args.input.now.inner)
     (g.O.Sink.written c.args.output.now))
 
 pub returns-in-Err-clause-explains : goal.returns-in-Err-clause-explains
 returns-in-Err-clause-explains g c =
     rw c.from.ensures (start-explained g.D.Write.contents (options_of c.args.options) c.args.tables.now c.args.drops
-    (is_read_recorded c.args.options c.args.input.now) (left_in g.R.Read.remaining c.args.input.now.inner))
+    (is_read_recorded c.args.options (left_in g.R.Read.remaining c.args.input.now.inner))
+    (left_in g.R.Read.remaining c.args.input.now.inner))
 
 pub run_input-count-requires-clause-told : goal.run_input-count-requires-clause-told
 run_input-count-requires-clause-told g c =
@@ -44,8 +47,8 @@ returns-in-Ok-count-clause-answer g c =
     let new = g.O.Sink.written c.run_input-count.new.output in
     let all = c.run_input-count.new.machine in
     let options = options_of c.args.options in
-    let is = is_read_recorded c.args.options c.args.input.now in
     let left = left_in g.R.Read.remaining c.args.input.now.inner in
+    let is = is_read_recorded c.args.options left in
     let rest = left_in g.R.Read.remaining c.run_input-count.new.input.inner in
     rw c.of.ensures
     (replay-ok options t old new is all.replay.counts left rest c.in-Ok-count.count
@@ -64,8 +67,8 @@ returns-in-Ok-count-clause-explains g c =
     let new = g.O.Sink.written c.run_input-count.new.output in
     let all = c.run_input-count.new.machine in
     let options = options_of c.args.options in
-    let is = is_read_recorded c.args.options c.args.input.now in
     let left = left_in g.R.Read.remaining c.args.input.now.inner in
+    let is = is_read_recorded c.args.options left in
     let rest = left_in g.R.Read.remaining c.run_input-count.new.input.inner in
     rw c.of.ensures
     (explain-ok g.D.Write.contents options t c.args.drops all.drops is all.replay.counts left rest c.in-Ok-count.count
@@ -86,8 +89,8 @@ returns-clause-answer g c =
     let new = g.O.Sink.written c.run_input-count.new.output in
     let all = c.run_input-count.new.machine in
     let options = options_of c.args.options in
-    let is = is_read_recorded c.args.options c.args.input.now in
     let left = left_in g.R.Read.remaining c.args.input.now.inner in
+    let is = is_read_recorded c.args.options left in
     let rest = left_in g.R.Read.remaining c.run_input-count.new.input.inner in
     replay-err options t old new is left rest c.in-Err-count.fault
     (input-err options (ports_of_senders t.systems)
@@ -106,8 +109,8 @@ returns-clause-explains g c =
     let new = g.O.Sink.written c.run_input-count.new.output in
     let all = c.run_input-count.new.machine in
     let options = options_of c.args.options in
-    let is = is_read_recorded c.args.options c.args.input.now in
     let left = left_in g.R.Read.remaining c.args.input.now.inner in
+    let is = is_read_recorded c.args.options left in
     let rest = left_in g.R.Read.remaining c.run_input-count.new.input.inner in
     explain-err g.D.Write.contents options t c.args.drops all.drops is left rest c.in-Err-count.fault
     (input-err options (ports_of_senders t.systems)

@@ -1,26 +1,28 @@
-use Rattle.std.proofs.Common.{rules}
+use Rattle.std.proofs.Common.{arith, rules}
+use Rattle.std.proofs.KnownBytes.{Keeps-refl}
 use Rattle.afdx_arrivals.specs.Becoming.{options_of}
 use Rattle.afdx_arrivals.specs.Claims.{ports_of_senders}
+use Rattle.afdx_arrivals.proofs.LookLemmas.{unread-few}
 use Rattle.afdx_arrivals.proofs.InputSaysLemmas.{input-err, input-ok}
 use Rattle.afdx_lists.specs.Peeking.{left_in}
-use Rattle.afdx_replay.specs.replaying.InputCommand.{is_read_recorded}
+use Rattle.afdx_arrivals.specs.InputRun.{is_read_recorded}
 use Rattle.afdx_replay.specs.replaying.Replayed.{WritesSoFar, WritesSome, ToldAll}
 use Rattle.afdx_replay.specs.replaying.Told.{TellsItems, BeginsItems, TellsAll}
 use Rattle.afdx_replay.proofs.InputLemmas.{replay-err, replay-ok}
-use Rattle.afdx_replay.proofs.InputStartLemmas.{start-input, unasked-few}
+use Rattle.afdx_replay.proofs.InputStartLemmas.{start-input}
 use Rattle.afdx_replay.proofs.ReplayLemmas.{are-some, are-so-far}
 use Rattle.afdx_replay.proofs.replaying.input.replay_input_into.Goals as goal
 
 -- there was no memory
 pub returns-in_err-replay-clause-calls : goal.returns-in_err-replay-clause-calls
 returns-in_err-replay-clause-calls g c =
-    unasked-few (is_read_recorded c.args.options c.args.input.now)
-    (left_in g.R.Read.remaining c.args.input.now.inner) c.args.input.now.calls
+    unread-few c.args.options _ _ _ _ (Keeps-refl (left_in g.R.Read.remaining c.args.input.now.inner)) (omega arith)
 
 pub returns-in_err-replay-clause-answer : goal.returns-in_err-replay-clause-answer
 returns-in_err-replay-clause-answer g c =
     let stop = start-input (options_of c.args.options) c.args.tables.now
-    (is_read_recorded c.args.options c.args.input.now) (left_in g.R.Read.remaining c.args.input.now.inner)
+    (is_read_recorded c.args.options (left_in g.R.Read.remaining c.args.input.now.inner))
+    (left_in g.R.Read.remaining c.args.input.now.inner)
     (g.O.Sink.written c.args.output.now) in
     search rules
 
@@ -35,8 +37,8 @@ returns-in_err-count-clause-answer g c =
     let new = g.O.Sink.written c.run_input.new.output in
     let replay = c.run_input.new.machine in
     let options = options_of c.args.options in
-    let is = is_read_recorded c.args.options c.args.input.now in
     let left = left_in g.R.Read.remaining c.args.input.now.inner in
+    let is = is_read_recorded c.args.options left in
     let rest = left_in g.R.Read.remaining c.run_input.new.input.inner in
     let stop = replay-err options t old new is left rest c.in_err-count.field-0.0
     (input-err options (ports_of_senders t.systems) (TellsAll t replay old new) (TellsItems t replay old new)
@@ -52,8 +54,8 @@ returns-clause-answer g c =
     let new = g.O.Sink.written c.run_input.new.output in
     let replay = c.run_input.new.machine in
     let options = options_of c.args.options in
-    let is = is_read_recorded c.args.options c.args.input.now in
     let left = left_in g.R.Read.remaining c.args.input.now.inner in
+    let is = is_read_recorded c.args.options left in
     let rest = left_in g.R.Read.remaining c.run_input.new.input.inner in
     rw c.of.ensures
     (replay-ok options t old new is replay.counts left rest c.in_ok-count.count

@@ -1,14 +1,13 @@
 use Rattle.std.proofs.Common.{◌≡◌, true, refl, inl, inr}
 use Rattle.afdx_lists.specs.Watching.{has_ended, has_failed}
 use Rattle.afdx_replay.specs.replaying.Tables.{tables_of}
-use Rattle.afdx_replay.proofs.InputStartLemmas.{ends-in, replays-looked}
+use Rattle.afdx_replay.proofs.InputStartLemmas.{ends-in, replays-input}
 use Rattle.afdx_replay.proofs.replaying.input_command.replay_input.Goals as goal
 
 pub returns-in-Err-clause-replays : goal.returns-in-Err-clause-replays
 returns-in-Err-clause-replays g c = inr (record {
   refused = rw c.without_counts.ensures.status c.in-Err.ensures.refused;
   tally = c.without_counts.ensures.tally;
-  unlooked = c.without_counts.ensures.look;
   unread = refl;
   unwritten = refl;
 })
@@ -25,9 +24,8 @@ returns-clause-replays g c = inl (
         (rw c.in-Ok.ensures.silent at c.end_input.ensures.silent) c.replay_input_into-answer.ensures.ended
         c.replay_input_into-answer.ensures.read c.replay_input_into-answer.ensures.write;
     tally = c.end_input.ensures.tally;
-    replays = replays-looked g.R.Read.remaining c.args.options c.args.input.now c.look-look_failed.new.self
-        c.replay_input_into-answer.new.input c.look-look_failed.result c.look-look_failed.ensures
-        c.end_input.result.look_failed c.end_input.ensures.look c.args.config.now c.args.admission
+    replays = replays-input g.R.Read.remaining c.args.config.now c.args.admission c.args.options c.args.input.now
+        c.replay_input_into-answer.new.input
         (g.O.Sink.written c.args.output.now) (g.O.Sink.written c.replay_input_into-answer.new.output)
         c.replay_input_into-answer.result (tables_of c.in-Ok.taken) c.in-Ok.ensures.spelled
         c.in-Ok.ensures.admitted c.in-Ok.ensures.lawful c.replay_input_into-answer.ensures.calls

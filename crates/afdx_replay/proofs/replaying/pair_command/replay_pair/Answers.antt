@@ -8,7 +8,6 @@ pub returns-in-Err-clause-replays : goal.returns-in-Err-clause-replays
 returns-in-Err-clause-replays g c = inr (record {
   refused = rw c.without_counts.ensures.status c.in-Err.ensures.refused;
   tally = c.without_counts.ensures.tally;
-  unlooked = c.without_counts.ensures.look;
   unread = refl;
   unwritten = refl;
 })
@@ -25,7 +24,6 @@ returns-clause-replays g c = inl (
         (rw c.in-Ok.ensures.silent at c.end_input.ensures.silent) c.replay_pair_into-answer.ensures.ended
         c.replay_pair_into-answer.ensures.read c.replay_pair_into-answer.ensures.write;
     tally = c.end_input.ensures.tally;
-    unlooked = c.end_input.ensures.look;
     replays = replays-pair g.R.Read.remaining c.args.config.now c.args.admission c.args.options c.args.inputs.now
         c.replay_pair_into-answer.new.inputs (g.O.Sink.written c.args.output.now)
         (g.O.Sink.written c.replay_pair_into-answer.new.output) c.replay_pair_into-answer.result

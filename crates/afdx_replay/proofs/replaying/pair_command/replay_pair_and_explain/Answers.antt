@@ -11,7 +11,6 @@ returns-in-Err-clause-explains g c = inr (
   record {
     refused = rw c.without_counts.ensures.status c.in-Err.ensures.refused;
     tally = c.without_counts.ensures.tally;
-    unlooked = c.without_counts.ensures.look;
     unread = refl;
     unwritten = refl;
   },
@@ -41,7 +40,6 @@ returns-clause-explains g c =
             (rw c.in-Ok.ensures.silent at c.end_input.ensures.silent) c.explain_pair_into-answer.ensures.ended
             c.explain_pair_into-answer.ensures.read c.explain_pair_into-answer.ensures.write;
         tally = c.end_input.ensures.tally;
-        unlooked = c.end_input.ensures.look;
         replays = replays.0;
       },
       replays.1,

@@ -1,0 +1,10 @@
+//! The words of the program's command line, and what those of recordings say.
+#![tactic(auto)]
+
+mod list_words;
+mod recording_words;
+mod solve_words;
+mod words;
+
+pub use recording_words::{Refused, STANDARD_INPUT, pair_options, recording_options};
+pub use words::afdx_command;

@@ -1,0 +1,327 @@
+//! The options of a recording, and what their words say.
+
+ghost use Rattle.std.specs.Prelude.{◌<◌, IfSome};
+
+use afdx_arrivals::{Interfaces, PairOptions, Place, RecordingOptions};
+use afdx_frame::{BySide, LAST_PORT, Side};
+use clap::{Arg, ArgAction, ArgMatches, value_parser};
+use std::alloc::{AllocError, Global};
+
+/// The word that names standard input.
+pub const STANDARD_INPUT: &str = "-";
+
+/// The greatest moment, in ns since 1970.
+const LATEST_MOMENT: u64 = 9_223_372_036_854_775_807;
+
+/// The greatest number of an interface.
+const LAST_INTERFACE: u16 = 4_095;
+
+const INTERFACE_HELP: &str = "Where the frames of interface K of the recording came in: A, B, \
+A:PORT or B:PORT; - leaves them out";
+
+/// The option that says where an interface's frames came in, which may be given again.
+pub fn interface_option<'a>(alloc: Global) -> Arg<'a> {
+    Arg::new(alloc, "interface")
+        .long("interface")
+        .value_name("K=PLACE")
+        .help(INTERFACE_HELP)
+        .action(ArgAction::Append)
+}
+
+const FCS_HELP: &str = "Whether each frame of the recording ends with its check sequence, \
+whatever it says";
+
+const ANSWERS: &[&str] = &["yes", "no"];
+
+/// The option that says whether frames have their check sequence.
+pub fn fcs_option<'a>(alloc: Global) -> Arg<'a> {
+    Arg::new(alloc, "fcs")
+        .long("fcs")
+        .help(FCS_HELP)
+        .value_name("ANSWER")
+        .value_parser(ANSWERS)
+}
+
+const ORIGIN_HELP: &str = "The moment of the recording that is time 0, in ns since 1970; else \
+that of its first arrival";
+
+/// The option that says when time 0 is.
+pub fn origin_option<'a>(alloc: Global) -> Arg<'a> {
+    Arg::new(alloc, "origin")
+        .help(ORIGIN_HELP)
+        .value_parser(value_parser!(u64))
+        .long("origin")
+        .value_name("NS")
+}
+
+/// How many arrivals may be later than one behind them, where no option says it.
+const USUAL_REORDER: u32 = 10_000;
+
+/// The most that may be said.
+const MOST_REORDER: u64 = 100_000;
+
+const REORDER_HELP: &str = "By how many arrivals times of a recording may go back, at most \
+100,000; else 10,000, and with --line-buffered 0";
+
+/// The option that says by how many arrivals times may go back.
+pub fn reorder_option<'a>(alloc: Global) -> Arg<'a> {
+    Arg::new(alloc, "reorder")
+        .help(REORDER_HELP)
+        .value_parser(value_parser!(u64))
+        .long("reorder")
+        .value_name("N")
+}
+
+const STAMPS_HELP: &str = "Whether the recorder stamps the end of a frame, as most do, or its \
+start";
+
+const STAMPED: &[&str] = &["end", "start"];
+
+/// The option that says which bit of a frame is stamped.
+pub fn stamps_option<'a>(alloc: Global) -> Arg<'a> {
+    Arg::new(alloc, "stamps")
+        .long("stamps")
+        .help(STAMPS_HELP)
+        .value_name("BIT")
+        .value_parser(STAMPED)
+}
+
+const SECOND_HELP: &str = "The path of the recording of network B, or - for standard input; the \
+first LIST is then that of network A";
+
+/// The word that names a second recording, which may be absent.
+pub fn second_list<'a>(alloc: Global) -> Arg<'a> {
+    Arg::new(alloc, "LIST_B")
+        .value_name("LIST")
+        .help(SECOND_HELP)
+}
+
+/// Why words are not taken.
+#[derive(Clone, Copy, Debug, PartialEq, Eq)]
+pub enum Refused {
+    /// A word of `--interface` has another form, or its interface was named before.
+    BadInterface,
+    /// The number of `--origin` is over 2^63 - 1, or that of `--reorder` over 100,000.
+    BadNumber,
+    /// Both recordings are standard input.
+    SameInput,
+    /// There was no memory.
+    Memory,
+}
+
+impl From<AllocError> for Refused {
+    fn from(_error: AllocError) -> Refused {
+        Refused::Memory
+    }
+}
+
+/// The number that at most so many digits write, with nothing beside them.
+fn number_in(digits: &str, most: usize) -> Option<u16> {
+    let digits = digits.as_bytes();
+    if digits.is_empty() || digits.len() > most {
+        return None;
+    }
+    let mut number: u16 = 0;
+    for digit in digits {
+        if !digit.is_ascii_digit() {
+            return None;
+        }
+        number = number
+            .checked_mul(10)?
+            .checked_add(u16::from(*digit - b'0'))?;
+    }
+    Some(number)
+}
+
+/// The side that a word names.
+fn side_in(word: &str) -> Option<Side> {
+    match word {
+        "A" => Some(Side::A),
+        "B" => Some(Side::B),
+        _ => None,
+    }
+}
+
+/// The port that a word names: 1 to 24, in one or two digits.
+fn port_in(word: &str) -> Option<u8> {
+    let port = number_in(word, 2)?;
+    if port == 0 || port > u16::from(LAST_PORT) {
+        return None;
+    }
+    Some(port as u8)
+}
+
+/// The place that a word names: `-`, a side, or a side and a port.
+fn place_in(word: &str) -> Option<Place> {
+    if word == "-" {
+        return Some(Place::LeftOut);
+    }
+    match word.split_once(':') {
+        Some((side, port)) => Some(Place::AtPort(side_in(side)?, port_in(port)?)),
+        None => Some(Place::OnSide(side_in(word)?)),
+    }
+}
+
+/// The interface and the place that a word `K=PLACE` names.
+fn interface_in(word: &str) -> Option<(u16, Place)>
+    ensures { IfSome result (λ at. at.0 < 4096) }
+{
+    let (interface, place) = word.split_once('=')?;
+    let interface = number_in(interface, 4)?;
+    if interface > LAST_INTERFACE {
+        return None;
+    }
+    Some((interface, place_in(place)?))
+}
+
+/// Says where the frames of an interface came in, unless that was said before.
+fn put_once(interfaces: &mut Interfaces, interface: u16, place: Place) -> Result<(), Refused>
+    requires { interface < 4096 }
+{
+    if interfaces.place(interface).is_some() {
+        return Err(Refused::BadInterface);
+    }
+    interfaces.put(interface, place);
+    Ok(())
+}
+
+/// Where the frames of each interface came in, by the words of `--interface`.
+fn interfaces_in(alloc: Global, words: &[&str]) -> Result<Interfaces, Refused> {
+    let mut interfaces = Interfaces::new(alloc)?;
+    for word in words {
+        let Some((interface, place)) = interface_in(word) else {
+            return Err(Refused::BadInterface);
+        };
+        put_once(&mut interfaces, interface, place)?;
+    }
+    Ok(interfaces)
+}
+
+/// Says where the frames of an interface came in, unless that was said before: in the recording of
+/// the place's side, or that they are left out of both.
+fn put_in_pair(pair: &mut BySide<Interfaces>, interface: u16, place: Place) -> Result<(), Refused>
+    requires { interface < 4096 }
+{
+    match place {
+        Place::LeftOut => {
+            put_once(&mut pair.a, interface, place)?;
+            put_once(&mut pair.b, interface, place)
+        }
+        Place::OnSide(Side::A) | Place::AtPort(Side::A, _) => {
+            put_once(&mut pair.a, interface, place)
+        }
+        Place::OnSide(Side::B) | Place::AtPort(Side::B, _) => {
+            put_once(&mut pair.b, interface, place)
+        }
+    }
+}
+
+/// Where the frames of each interface of two recordings came in, by the words of `--interface`.
+fn pair_interfaces_in(alloc: Global, words: &[&str]) -> Result<BySide<Interfaces>, Refused> {
+    let mut pair = BySide {
+        a: Interfaces::new(alloc)?,
+        b: Interfaces::new(alloc)?,
+    };
+    for word in words {
+        let Some((interface, place)) = interface_in(word) else {
+            return Err(Refused::BadInterface);
+        };
+        put_in_pair(&mut pair, interface, place)?;
+    }
+    Ok(pair)
+}
+
+/// Whether each frame ends with its check sequence, where that is said.
+fn fcs_in(matches: &ArgMatches<'_>) -> Option<bool> {
+    matches.get_str("fcs").map(|said| said == "yes")
+}
+
+/// The moment that is time 0, where that is said.
+fn origin_in(matches: &ArgMatches<'_>) -> Result<Option<u64>, Refused> {
+    match matches.get_one::<u64>("origin") {
+        Some(moment) if moment > LATEST_MOMENT => Err(Refused::BadNumber),
+        origin => Ok(origin),
+    }
+}
+
+/// By how many arrivals times may go back, where that is said.
+fn reorder_in(matches: &ArgMatches<'_>) -> Result<Option<u32>, Refused> {
+    match matches.get_one::<u64>("reorder") {
+        Some(most) if most > MOST_REORDER => Err(Refused::BadNumber),
+        Some(most) => Ok(Some(most as u32)),
+        None => Ok(None),
+    }
+}
+
+/// The same where it isn't said: a command that tells each line at once holds nothing.
+fn usual_reorder(matches: &ArgMatches<'_>) -> u32 {
+    if matches.get_flag("line-buffered") {
+        0
+    } else {
+        USUAL_REORDER
+    }
+}
+
+/// What is said of the recorder's clock and of its order, where it is.
+#[derive(Clone, Copy, Debug)]
+struct Moments {
+    origin: Option<u64>,
+    reorder: Option<u32>,
+    /// Whether the stamps of frames' first bits are meant.
+    from_start: Option<bool>,
+}
+
+/// What the words say of it.
+fn moments_in(matches: &ArgMatches<'_>) -> Result<Moments, Refused> {
+    Ok(Moments {
+        origin: origin_in(matches)?,
+        reorder: reorder_in(matches)?,
+        from_start: matches.get_str("stamps").map(|bit| bit == "start"),
+    })
+}
+
+/// What the words say of a recording, if they are taken.
+pub fn recording_options(
+    alloc: Global,
+    matches: &ArgMatches<'_>,
+) -> Result<RecordingOptions, Refused> {
+    let words = matches.get_strs("interface").unwrap_or(&[]);
+    let interfaces = interfaces_in(alloc, words)?;
+    let fcs = fcs_in(matches);
+    let Moments {
+        origin,
+        reorder,
+        from_start,
+    } = moments_in(matches)?;
+    let of_moments = origin.is_some() || reorder.is_some() || from_start.is_some();
+    Ok(RecordingOptions {
+        interfaces,
+        fcs,
+        origin,
+        network: None,
+        reorder: reorder.unwrap_or(usual_reorder(matches)),
+        from_start: from_start.unwrap_or(false),
+        are_given: !words.is_empty() || fcs.is_some() || of_moments,
+    })
+}
+
+/// What the words say of two recordings, which are at these paths, if they are taken.
+pub fn pair_options(
+    alloc: Global,
+    matches: &ArgMatches<'_>,
+    lists: BySide<&str>,
+) -> Result<PairOptions, Refused> {
+    let words = matches.get_strs("interface").unwrap_or(&[]);
+    let interfaces = pair_interfaces_in(alloc, words)?;
+    let moments = moments_in(matches)?;
+    if lists.a == STANDARD_INPUT && lists.b == STANDARD_INPUT {
+        return Err(Refused::SameInput);
+    }
+    Ok(PairOptions {
+        interfaces,
+        fcs: fcs_in(matches),
+        origin: moments.origin,
+        reorder: moments.reorder.unwrap_or(usual_reorder(matches)),
+        from_start: moments.from_start.unwrap_or(false),
+    })
+}
