@@ -3,8 +3,8 @@
 
     bench/port.py [PROGRAM]
 
-PROGRAM is the built program of crates/port_bench, made by `rt run` there:
-crates/port_bench/out/port_bench where it isn't given. It puts and takes 10,000,000 frames in turn,
+PROGRAM is the built program of crates/afdx_port_bench, made by `rt run` there:
+crates/afdx_port_bench/out/afdx_port_bench where it isn't given. It puts and takes 10,000,000 frames in turn,
 and fills a queue of 4 MiB with 65,536 frames of 64 bytes and drains it.
 """
 import os
@@ -14,7 +14,7 @@ import tempfile
 sys.dont_write_bytecode = True
 from measure import HERE, timed  # noqa: E402
 
-PROGRAM = os.path.join(HERE, "..", "crates", "port_bench", "out", "port_bench")
+PROGRAM = os.path.join(HERE, "..", "crates", "afdx_port_bench", "out", "afdx_port_bench")
 RUNS = [("10,000,000 pairs of put and take", "10000000"), ("65,536 frames in and out", "fill")]
 
 

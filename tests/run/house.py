@@ -46,7 +46,7 @@ MEMORY = {
     "crates/afdx_send/src/fault.rt": {""},  # the row of a table
     "crates/afdx_replay/src/sending/run.rt": {"refusal_of"},
     "crates/afdx_send/src/sender_state.rt": {"accept"},
-    "crates/afdx_systems/src/end_system.rt": {"pass_on"},
+    "crates/afdx_end_systems/src/end_system.rt": {"pass_on"},
     "crates/afdx_text/src/line.rt": {"room_wanted"},
 }
 SCRIPTS = ["tests/**/*.py", "tests/**/*.sh", "tests/**/*.c", "examples/*.py"]

@@ -4,10 +4,10 @@ use Rattle.afdx_frame.specs.declared.link.Side.{Side}
 use Rattle.afdx_frame.specs.declared.seals.Seal.{Seal}
 use Rattle.afdx_lists.specs.declared.frame_line.FrameKind.{FrameKind}
 use Rattle.afdx_lists.specs.declared.frame_line.Heading.{Heading}
-use Rattle.afdx_run.specs.Engine.{Item, item_of}
-use Rattle.afdx_run.specs.Items.{CanFollow, arrivals}
-use Rattle.afdx_run.specs.Lists.{latest_in}
-use Rattle.afdx_run.specs.Listed.{frames}
+use Rattle.afdx_engine.specs.Engine.{Item, item_of}
+use Rattle.afdx_engine.specs.Items.{CanFollow, arrivals}
+use Rattle.afdx_engine.specs.Lists.{latest_in}
+use Rattle.afdx_engine.specs.Listed.{frames}
 use Rattle.afdx_arrivals.specs.declared.number_line.NumberLine.{NumberLine}
 use Rattle.afdx_arrivals.specs.declared.number_line.NumberLine.TheVariants as line
 use Rattle.afdx_arrivals.specs.declared.skipped.Skipped.{Skipped}

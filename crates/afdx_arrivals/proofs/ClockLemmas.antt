@@ -1,8 +1,8 @@
 -- The clock of a source of lines: one number more.
 use Rattle.std.proofs.Common.{◌≡◌, ◌≤◌, ◌<◌, ◌∷◌, length, true, false, ap, sym, ◌∙◌}
 use Rattle.afdx_lists.specs.declared.fault.RunFault.{RunFault}
-use Rattle.afdx_run.specs.Engine.{Item, item_of}
-use Rattle.afdx_run.specs.Items.{most_frames}
+use Rattle.afdx_engine.specs.Engine.{Item, item_of}
+use Rattle.afdx_engine.specs.Items.{most_frames}
 use Rattle.afdx_arrivals.specs.declared.clock.Clock.{Clock}
 use Rattle.afdx_arrivals.specs.declared.number.Number.{Number}
 use Rattle.afdx_arrivals.specs.declared.number_line.NumberLine.{NumberLine}

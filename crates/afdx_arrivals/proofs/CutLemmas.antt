@@ -1,7 +1,7 @@
 -- What a fault of one of two recordings cuts off is a beginning.
 use Rattle.std.proofs.Common.{List, [], ◌∷◌, ◌++◌, refl, Option, Some, None, Bool, true, false, if◌then◌else◌}
 use Rattle.afdx_lists.specs.declared.fault.RunFault.{RunFault}
-use Rattle.afdx_run.specs.Engine.{Item}
+use Rattle.afdx_engine.specs.Engine.{Item}
 use Rattle.afdx_arrivals.specs.declared.number.Number.{Number}
 use Rattle.afdx_arrivals.specs.declared.number.Number.TheVariants.{Arrival, Skipped}
 use Rattle.afdx_arrivals.specs.Merging.{Merged, at_head_of_a, behind_a, by_head_of_a, is_first, merge, rest_of_b}

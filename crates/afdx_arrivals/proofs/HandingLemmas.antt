@@ -5,7 +5,7 @@ use Rattle.std.proofs.Common.{Bool, true, false, nat_lt, if◌then◌else◌, Op
 use Rattle.std.proofs.Common.{append_assoc, take-append-drop, length-append, length-drop, length-take}
 use Rattle.std.proofs.lemmas.Bool.{cond_both, ltb-false, ltb-true}
 use Rattle.std.proofs.lemmas.List.{drop_all}
-use Rattle.afdx_run.specs.Engine.{Item}
+use Rattle.afdx_engine.specs.Engine.{Item}
 use Rattle.afdx_arrivals.specs.declared.number.Number.{Number}
 use Rattle.afdx_arrivals.specs.declared.number.Number.TheVariants.{Arrival, Skipped}
 use Rattle.afdx_arrivals.specs.Ordering.{Forward, all_handed, arrivals_only, forward, forward_next, goes_back, handed_on, hands_on}

@@ -5,8 +5,8 @@ use Rattle.afdx_lists.specs.declared.frame_line.Heading.{Heading}
 use Rattle.afdx_lists.specs.declared.fault.RunFault.{RunFault}
 use Rattle.afdx_police.specs.Arrival.{Arrival}
 use Rattle.afdx_recordings.specs.Reading.{recorded}
-use Rattle.afdx_run.specs.Engine.{Item}
-use Rattle.afdx_run.specs.Items.{arrivals}
+use Rattle.afdx_engine.specs.Engine.{Item}
+use Rattle.afdx_engine.specs.Items.{arrivals}
 use Rattle.afdx_arrivals.specs.declared.counts.Tally.{Tally}
 use Rattle.afdx_arrivals.specs.Becoming.{Options}
 use Rattle.afdx_arrivals.specs.Claims.{Ports, Agree}

@@ -5,12 +5,12 @@ use Rattle.afdx_lists.specs.declared.frame_line.Heading.{Heading}
 use Rattle.afdx_lists.specs.declared.fault.RunFault.{RunFault}
 use Rattle.afdx_lists.specs.FrameLines.{listed_frame}
 use Rattle.afdx_police.specs.Arrival.{Arrival}
-use Rattle.afdx_run.specs.Engine.{Item}
-use Rattle.afdx_run.specs.Items.{arrivals, thing_of}
-use Rattle.afdx_run.specs.Listed.{frames}
-use Rattle.afdx_run.specs.ListRun as list
-use Rattle.afdx_run.specs.Stops.{StopsAt}
-use Rattle.afdx_run.proofs.ListRunLemmas.{answers-err, answers-ok}
+use Rattle.afdx_engine.specs.Engine.{Item}
+use Rattle.afdx_engine.specs.Items.{arrivals, thing_of}
+use Rattle.afdx_engine.specs.Listed.{frames}
+use Rattle.afdx_engine.specs.ListRun as list
+use Rattle.afdx_engine.specs.Stops.{StopsAt}
+use Rattle.afdx_engine.proofs.ListRunLemmas.{answers-err, answers-ok}
 use Rattle.afdx_arrivals.specs.declared.input_run.InputCount.{InputCount}
 use Rattle.afdx_arrivals.specs.declared.input_run.InputCount.TheVariants as count
 use Rattle.afdx_arrivals.specs.Becoming.{Options}

@@ -20,7 +20,7 @@ use Rattle.afdx_recordings.specs.declared.recorded.Recorded.TheVariants as recor
 use Rattle.afdx_recordings.specs.declared.recorded.RecordedFrame.{RecordedFrame}
 use Rattle.afdx_recordings.specs.Reading as reading
 use Rattle.afdx_recordings.specs.Recordings.{Numbered, Ending, Recording}
-use Rattle.afdx_run.specs.Items.{arrivals}
+use Rattle.afdx_engine.specs.Items.{arrivals}
 use Rattle.afdx_arrivals.specs.declared.becoming.Found.{Found}
 use Rattle.afdx_arrivals.specs.declared.becoming.Entrance.{Entrance}
 use Rattle.afdx_arrivals.specs.declared.becoming.NoArrival.{NoArrival}

@@ -3,7 +3,7 @@ use Rattle.std.proofs.Common.{List, [], ◌∷◌}
 use Rattle.std.proofs.KnownBytes.{Appends-nil, Appends-trans}
 use Rattle.std.specs.Io.KnownBytes.{Appends}
 use Rattle.afdx_lists.specs.Calls.{AppendsFront}
-use Rattle.afdx_run.specs.Engine.{Bytes, Item}
+use Rattle.afdx_engine.specs.Engine.{Bytes, Item}
 use Rattle.afdx_text.proofs.OutputLemmas.{front-more}
 use Rattle.afdx_arrivals.specs.declared.number_line.NumberLine.{NumberLine}
 use Rattle.afdx_arrivals.specs.ListText.{WritesLines, WritesSomeLines, list_text, number_text}

@@ -10,11 +10,11 @@ use Rattle.afdx_lists.specs.Peeking.{looked_at}
 use Rattle.afdx_lists.specs.declared.frame_line.Heading.{Heading}
 use Rattle.afdx_lists.specs.declared.fault.RunFault.TheVariants as run
 use Rattle.afdx_recordings.specs.Reading.{opening, recorded_from}
-use Rattle.afdx_run.specs.Engine.{Item}
-use Rattle.afdx_run.specs.Items.{thing_of}
-use Rattle.afdx_run.specs.Listed.{frames}
-use Rattle.afdx_run.specs.ListRun.{ListAnswers}
-use Rattle.afdx_run.specs.Lists.{items_of}
+use Rattle.afdx_engine.specs.Engine.{Item}
+use Rattle.afdx_engine.specs.Items.{thing_of}
+use Rattle.afdx_engine.specs.Listed.{frames}
+use Rattle.afdx_engine.specs.ListRun.{ListAnswers}
+use Rattle.afdx_engine.specs.Lists.{items_of}
 use Rattle.afdx_arrivals.specs.declared.becoming.RecordingOptions.{RecordingOptions}
 use Rattle.afdx_arrivals.specs.Becoming.{Options}
 use Rattle.afdx_arrivals.specs.Claims.{Ports}

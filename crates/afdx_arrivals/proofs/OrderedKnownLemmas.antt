@@ -12,7 +12,7 @@ use Rattle.afdx_lists.specs.declared.recording_fault.RecordingFault.TheVariants.
 use Rattle.afdx_lists.specs.declared.watched.Watched.{Watched}
 use Rattle.afdx_recordings.specs.Holding.{Standing, standing, GivesSome}
 use Rattle.afdx_recordings.specs.Recordings.{Faulted, Over, most_numbers}
-use Rattle.afdx_run.specs.Engine.{Item}
+use Rattle.afdx_engine.specs.Engine.{Item}
 use Rattle.afdx_arrivals.specs.declared.number.AsRead.{AsRead}
 use Rattle.afdx_arrivals.specs.declared.ordered.Stage.{Stage}
 use Rattle.afdx_arrivals.specs.declared.ordered.Stage.TheVariants as stage

@@ -2,7 +2,7 @@
 use Rattle.std.proofs.Common.{◌≡◌, List, inl, inr, Option, Some, None, Result, Ok, Err, IfSome, refl, ap, sym, subst, ◌∙◌}
 use Rattle.afdx_lists.specs.declared.fault.RunFault.{RunFault}
 use Rattle.afdx_lists.specs.declared.frame_line.Heading.{Heading}
-use Rattle.afdx_run.specs.Engine.{Item, Runs}
+use Rattle.afdx_engine.specs.Engine.{Item, Runs}
 use Rattle.afdx_text.specs.Sinks.{IsOfOutput}
 use Rattle.afdx_arrivals.specs.declared.counts.Tally.{Tally}
 use Rattle.afdx_arrivals.specs.ListText.{lines_themselves}

@@ -13,7 +13,7 @@ use Rattle.afdx_lists.specs.declared.fault.RunFault.TheVariants as run
 use Rattle.afdx_lists.specs.declared.recording_fault.RecordingFault.{RecordingFault}
 use Rattle.afdx_lists.specs.declared.recording_fault.RecordingFault.TheVariants.{TimeTooLarge}
 use Rattle.afdx_lists.specs.declared.watched.Watched.{Watched}
-use Rattle.afdx_run.specs.Engine.{Item}
+use Rattle.afdx_engine.specs.Engine.{Item}
 use Rattle.afdx_arrivals.specs.declared.ahead.Ahead.{Ahead}
 use Rattle.afdx_arrivals.specs.declared.ahead.AtHead.{AtHead}
 use Rattle.afdx_arrivals.specs.declared.ahead.AtHead.TheVariants as at

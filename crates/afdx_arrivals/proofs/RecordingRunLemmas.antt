@@ -14,7 +14,7 @@ use Rattle.afdx_lists.specs.declared.watched.Watched.{Watched}
 use Rattle.afdx_recordings.specs.Holding.{Standing, standing, GivesSome, last_calls}
 use Rattle.afdx_recordings.specs.Recordings.{State, Over, Faulted}
 use Rattle.afdx_recordings.specs.declared.held.Held.{Held}
-use Rattle.afdx_run.specs.Engine.{Item}
+use Rattle.afdx_engine.specs.Engine.{Item}
 use Rattle.afdx_text.specs.Sinks.{IsOfOutput}
 use Rattle.afdx_arrivals.specs.declared.becoming.RecordingOptions.{RecordingOptions}
 use Rattle.afdx_arrivals.specs.declared.counts.Tally.{Tally}

@@ -6,7 +6,7 @@ use Rattle.afdx_recordings.specs.Holding.{Standing, Gives}
 use Rattle.afdx_recordings.specs.Reading.{recorded, recorded_from, CanFollow, SaysFirst, SaysEnding, SaysNothing}
 use Rattle.afdx_recordings.specs.Recordings.{State, Numbered, Recording, Ending, Over, Faulted, in_front, no_more}
 use Rattle.afdx_recordings.proofs.HeldLemmas.{Gives-then}
-use Rattle.afdx_run.specs.Engine.{item_of}
+use Rattle.afdx_engine.specs.Engine.{item_of}
 use Rattle.afdx_arrivals.specs.declared.number.Number.{Number}
 use Rattle.afdx_arrivals.specs.Becoming.{Options, first_bytes}
 use Rattle.afdx_arrivals.specs.Claims.{Ports}

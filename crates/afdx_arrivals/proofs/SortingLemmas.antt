@@ -5,7 +5,7 @@ use Rattle.std.proofs.Common.{Bool, true, false, nat_lt, min, arith}
 use Rattle.std.proofs.Common.{take_all, take-append-drop, drop_at, length-take}
 use Rattle.std.proofs.lemmas.Bool.{and_right, cond_both, le-ltb, lt-ltb, ltb-false, ltb-true}
 use Rattle.std.proofs.lemmas.List.{drop_all, drop-append-le, take-append-le}
-use Rattle.afdx_run.specs.Engine.{Item}
+use Rattle.afdx_engine.specs.Engine.{Item}
 use Rattle.afdx_arrivals.specs.declared.number.Number.{Number}
 use Rattle.afdx_arrivals.specs.Ordering.{in_order, is_later, later_among, moment_of, put_among}
 use Rattle.afdx_arrivals.specs.Sequences.{Numbers, is_arrival}

@@ -5,9 +5,9 @@ use Rattle.afdx_lists.specs.declared.frame_line.Heading.{Heading}
 use Rattle.afdx_lists.specs.declared.fault.RunFault.{RunFault}
 use Rattle.afdx_lists.specs.declared.fault.RunFault.TheVariants as run
 use Rattle.afdx_police.specs.Arrival.{Arrival}
-use Rattle.afdx_run.specs.Engine.{Item, Runs, without_newest}
-use Rattle.afdx_run.specs.Items.{arrivals, thing_of}
-use Rattle.afdx_run.specs.Listed.{frames}
+use Rattle.afdx_engine.specs.Engine.{Item, Runs, without_newest}
+use Rattle.afdx_engine.specs.Items.{arrivals, thing_of}
+use Rattle.afdx_engine.specs.Listed.{frames}
 use Rattle.afdx_lists.specs.FrameLines.{listed_frame}
 use Rattle.afdx_text.specs.Sinks.{IsOfOutput}
 use Rattle.afdx_arrivals.specs.declared.counts.Tally.{Tally}

@@ -1,7 +1,7 @@
 -- The lines of two recordings: what the number is that was given last.
 use Rattle.std.proofs.Common.{◌≡◌, ℕ, ap, sym, subst, ◌∙◌}
 use Rattle.afdx_frame.specs.declared.link.Side.{Side}
-use Rattle.afdx_run.specs.Engine.{Item}
+use Rattle.afdx_engine.specs.Engine.{Item}
 use Rattle.afdx_arrivals.specs.declared.number.Number.{Number}
 use Rattle.afdx_arrivals.specs.declared.pair.Pair.{Pair}
 use Rattle.afdx_arrivals.specs.PairSource.{given_by, number_given}

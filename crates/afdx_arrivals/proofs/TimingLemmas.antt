@@ -4,8 +4,8 @@ use Rattle.std.proofs.Common.{Option, Some, None, Bool, true, false, nat_lt, ifâ
 use Rattle.std.proofs.lemmas.Bool.{ltb-false}
 use Rattle.afdx_frame.specs.Times.{latest_listed}
 use Rattle.afdx_lists.specs.declared.fault.RunFault.{RunFault}
-use Rattle.afdx_run.specs.Engine.{Item, item_of}
-use Rattle.afdx_run.specs.Items.{most_frames}
+use Rattle.afdx_engine.specs.Engine.{Item, item_of}
+use Rattle.afdx_engine.specs.Items.{most_frames}
 use Rattle.afdx_arrivals.specs.declared.number.Number.{Number}
 use Rattle.afdx_arrivals.specs.declared.number.Number.TheVariants.{Arrival, Skipped}
 use Rattle.afdx_arrivals.specs.declared.number_line.NumberLine.{NumberLine}

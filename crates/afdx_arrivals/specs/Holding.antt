@@ -3,7 +3,7 @@ use Rattle.std.specs.Prelude.{ℕ, ◌*◌, ◌+◌, ◌≡◌, ◌≤◌, Bool,
 use Rattle.std.specs.List.{All}
 use Rattle.std.specs.Ordering.{nat_cmp, flip_args, on}
 use Rattle.std.specs.declared.cmp.Ordering.{Ordering}
-use Rattle.afdx_run.specs.Engine.{Item, item_of}
+use Rattle.afdx_engine.specs.Engine.{Item, item_of}
 use Rattle.afdx_arrivals.specs.declared.becoming.Found.{Found}
 use Rattle.afdx_arrivals.specs.declared.number.Number.{Number}
 use Rattle.afdx_arrivals.specs.declared.number.Number.TheVariants.{Arrival}

@@ -7,10 +7,10 @@ use Rattle.afdx_lists.specs.declared.frame_line.Heading.{Heading}
 use Rattle.afdx_lists.specs.declared.fault.RunFault.{RunFault}
 use Rattle.afdx_lists.specs.FrameLines.{listed_frame}
 use Rattle.afdx_recordings.specs.Beginning.{is_recording}
-use Rattle.afdx_run.specs.Engine.{Item}
-use Rattle.afdx_run.specs.Items.{thing_of}
-use Rattle.afdx_run.specs.Listed.{frames}
-use Rattle.afdx_run.specs.ListRun.{ListAnswers}
+use Rattle.afdx_engine.specs.Engine.{Item}
+use Rattle.afdx_engine.specs.Items.{thing_of}
+use Rattle.afdx_engine.specs.Listed.{frames}
+use Rattle.afdx_engine.specs.ListRun.{ListAnswers}
 use Rattle.afdx_arrivals.specs.declared.becoming.RecordingOptions.{RecordingOptions}
 use Rattle.afdx_arrivals.specs.declared.input_run.InputCount.{InputCount}
 use Rattle.afdx_arrivals.specs.declared.input_run.InputCount.TheVariants.{Lines, Recorded}

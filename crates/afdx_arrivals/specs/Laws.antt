@@ -4,8 +4,8 @@ use Rattle.afdx_frame.specs.Seals.{whole}
 use Rattle.afdx_frame.specs.Times.{latest_listed}
 use Rattle.afdx_police.specs.Arrival.{Arrival}
 use Rattle.afdx_recordings.specs.Recordings.{Recording}
-use Rattle.afdx_run.specs.Lists.{latest_in}
-use Rattle.afdx_run.specs.Listed.{frames}
+use Rattle.afdx_engine.specs.Lists.{latest_in}
+use Rattle.afdx_engine.specs.Listed.{frames}
 use Rattle.afdx_lists.specs.FrameLines.{frame_bytes}
 use Rattle.afdx_lists.specs.declared.frame_line.FrameKind.{FrameKind}
 use Rattle.afdx_arrivals.specs.Becoming.{Options, message_with, seal_with}

@@ -5,7 +5,7 @@ use Rattle.afdx_frame.specs.declared.by_side.BySide.{BySide}
 use Rattle.afdx_lists.specs.declared.fault.RunFault.{RunFault}
 use Rattle.afdx_lists.specs.declared.watched.Watched.{Watched}
 use Rattle.afdx_lists.specs.Calls.{AppendsFront}
-use Rattle.afdx_run.specs.Engine.{Bytes, Item}
+use Rattle.afdx_engine.specs.Engine.{Bytes, Item}
 use Rattle.afdx_text.specs.OutLines.{frame_line, remark_line}
 use Rattle.afdx_arrivals.specs.declared.number_line.NumberLine.{NumberLine}
 use Rattle.afdx_arrivals.specs.declared.number_line.NumberLine.TheVariants.{Arrival, Skipped}

@@ -3,8 +3,8 @@
 use Rattle.std.specs.Prelude.{ℕ, ◌≡◌, ◌+◌, ◌≤◌, ◌<◌, List, [], ◌∷◌, ◌++◌, length}
 use Rattle.afdx_frame.specs.Times.{latest_listed}
 use Rattle.afdx_lists.specs.declared.frame_line.Heading.{Heading}
-use Rattle.afdx_run.specs.Engine.{Item, item_of, without_newest}
-use Rattle.afdx_run.specs.Items.{most_frames}
+use Rattle.afdx_engine.specs.Engine.{Item, item_of, without_newest}
+use Rattle.afdx_engine.specs.Items.{most_frames}
 use Rattle.afdx_recordings.specs.Recordings.{most_numbers}
 use Rattle.afdx_arrivals.specs.declared.number.AsRead.{AsRead}
 use Rattle.afdx_arrivals.specs.declared.number.Number.{Number}

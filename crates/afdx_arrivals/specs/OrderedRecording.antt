@@ -5,7 +5,7 @@ use Rattle.afdx_lists.specs.declared.watched.Watched.{Watched}
 use Rattle.afdx_recordings.specs.Holding.{unread}
 use Rattle.afdx_recordings.specs.Reading.{state_of}
 use Rattle.afdx_recordings.specs.Recordings.{at_start, lost_by}
-use Rattle.afdx_run.specs.Engine.{Item}
+use Rattle.afdx_engine.specs.Engine.{Item}
 use Rattle.afdx_arrivals.specs.declared.counts.Tally.{Tally}
 use Rattle.afdx_arrivals.specs.declared.number.Number.{Number}
 use Rattle.afdx_arrivals.specs.declared.ordered.Ordered.{Ordered}

@@ -3,7 +3,7 @@
 use Rattle.std.specs.Prelude.{ℕ, ◌+◌, Bool, ◌&&◌, nat_lt, [], ◌∷◌, ◌++◌, length, take, drop, Option, Some, None, if◌then◌else◌}
 use Rattle.afdx_lists.specs.declared.recording_fault.RecordingFault.TheVariants.{TimeBack}
 use Rattle.afdx_recordings.specs.Recordings.{Recording, Ending, Faulted}
-use Rattle.afdx_run.specs.Engine.{Item}
+use Rattle.afdx_engine.specs.Engine.{Item}
 use Rattle.afdx_arrivals.specs.declared.number.Number.{Number}
 use Rattle.afdx_arrivals.specs.declared.counts.Tally.{Tally}
 use Rattle.afdx_arrivals.specs.Becoming.{Options}

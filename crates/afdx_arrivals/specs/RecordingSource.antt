@@ -12,7 +12,7 @@ use Rattle.afdx_lists.specs.declared.watched.Watched.{Watched}
 use Rattle.afdx_recordings.specs.Holding.{Standing, standing, Gives, GivesSome, IsTrueToEnd}
 use Rattle.afdx_recordings.specs.Reading.{state_of, latest, recorded, recorded_from, CanFollow}
 use Rattle.afdx_recordings.specs.Recordings.{State, Over, Faulted, lost_by, most_numbers}
-use Rattle.afdx_run.specs.Engine.{Item, item_of}
+use Rattle.afdx_engine.specs.Engine.{Item, item_of}
 use Rattle.afdx_arrivals.specs.declared.number.AsRead.{AsRead}
 use Rattle.afdx_arrivals.specs.declared.number.Number.{Number}
 use Rattle.afdx_arrivals.specs.declared.read_recording.ReadRecording.{ReadRecording}

@@ -3,8 +3,8 @@ use Rattle.std.specs.Prelude.{◌≡◌, ◌⊎◌, List, ◌++◌, Some, None, 
 use Rattle.afdx_lists.specs.declared.fault.RunFault.{RunFault}
 use Rattle.afdx_lists.specs.declared.fault.RunFault.TheVariants as run
 use Rattle.afdx_police.specs.Arrival.{Arrival}
-use Rattle.afdx_run.specs.Engine.{Item}
-use Rattle.afdx_run.specs.Items.{arrivals}
+use Rattle.afdx_engine.specs.Engine.{Item}
+use Rattle.afdx_engine.specs.Items.{arrivals}
 use Rattle.afdx_arrivals.specs.declared.counts.Tally.{Tally}
 use Rattle.afdx_arrivals.specs.NumberLines.{Lines, arrivals_listed}
 use Rattle.afdx_arrivals.specs.Taking.{Taken, arrivals_in}

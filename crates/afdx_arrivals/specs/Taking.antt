@@ -11,8 +11,8 @@ use Rattle.afdx_lists.specs.declared.recording_fault.RecordingFault.TheVariants.
 use Rattle.afdx_recordings.specs.Reading.{recorded}
 use Rattle.afdx_recordings.specs.Recordings.{Ending, Over, Faulted}
 use Rattle.afdx_police.specs.Arrival.{Arrival}
-use Rattle.afdx_run.specs.Engine.{Item}
-use Rattle.afdx_run.specs.Items.{arrivals}
+use Rattle.afdx_engine.specs.Engine.{Item}
+use Rattle.afdx_engine.specs.Items.{arrivals}
 use Rattle.afdx_arrivals.specs.declared.number.Number.{Number}
 use Rattle.afdx_arrivals.specs.declared.number.Number.TheVariants.{Arrival as IsArrival, Skipped}
 use Rattle.afdx_arrivals.specs.declared.counts.Tally.{Tally}

@@ -1,7 +1,7 @@
 -- What is known of a source of lines that times the numbers of another, from call to call.
 use Rattle.std.specs.Prelude.{◌≡◌, ◌⊎◌, ◌∷◌, Some, None}
 use Rattle.afdx_lists.specs.declared.fault.RunFault.{RunFault}
-use Rattle.afdx_run.specs.Engine.{Item, item_of}
+use Rattle.afdx_engine.specs.Engine.{Item, item_of}
 use Rattle.afdx_arrivals.specs.declared.clock.Clock.{Clock}
 use Rattle.afdx_arrivals.specs.declared.number.Number.{Number}
 use Rattle.afdx_arrivals.specs.declared.number_line.NumberLine.{NumberLine}

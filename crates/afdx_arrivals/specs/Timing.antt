@@ -2,7 +2,7 @@
 use Rattle.std.specs.Prelude.{ℕ, Bool, false, ◌-◌, nat_lt, [], ◌∷◌, Option, Some, None, if◌then◌else◌}
 use Rattle.afdx_frame.specs.Times.{latest_listed}
 use Rattle.afdx_lists.specs.declared.fault.RunFault.{RunFault}
-use Rattle.afdx_run.specs.Engine.{Item, item_of}
+use Rattle.afdx_engine.specs.Engine.{Item, item_of}
 use Rattle.afdx_arrivals.specs.declared.number.Number.{Number}
 use Rattle.afdx_arrivals.specs.declared.number.Number.TheVariants.{Arrival, Skipped}
 use Rattle.afdx_arrivals.specs.declared.number_line.NumberLine.{NumberLine}

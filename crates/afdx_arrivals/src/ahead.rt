@@ -8,7 +8,7 @@ ghost use Rattle.afdx_arrivals.specs.Sequences.{Numbers};
 
 use crate::number::Number;
 use afdx_lists::RunFault;
-use afdx_run::Source;
+use afdx_engine::Source;
 
 /// What stands at the head of a recording.
 #[derive(Clone, Copy, Debug)]

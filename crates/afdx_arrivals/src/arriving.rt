@@ -6,7 +6,7 @@ ghost use Rattle.afdx_arrivals.specs.Becoming as spec;
 use crate::number_line::NumberLine;
 use afdx_frame::{Seal, Side, is_sealed};
 use afdx_lists::{FrameKind, Heading, RunFault};
-use afdx_run::Source;
+use afdx_engine::Source;
 
 /// Gives the arrivals among the lines that a source gives.
 #[derive(Drop)]

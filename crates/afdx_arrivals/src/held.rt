@@ -33,7 +33,7 @@ pub struct HeldArrival {
 }
 
 impl Model for HeldArrival {
-    ghost use Rattle.afdx_run.specs.Engine.{Item};
+    ghost use Rattle.afdx_engine.specs.Engine.{Item};
     ghost use Rattle.afdx_arrivals.specs.Holding.{arrival_item};
     ghost use Rattle.afdx_arrivals.specs.declared.number.Number.{Number as Shown};
 
@@ -200,7 +200,7 @@ pub struct Held {
 impl Model for Held {
     ghost use Rattle.std.specs.Prelude.{List, ◌++◌};
     ghost use Rattle.std.specs.BinaryHeap.{IsHeap, heap_items};
-    ghost use Rattle.afdx_run.specs.Engine.{Item};
+    ghost use Rattle.afdx_engine.specs.Engine.{Item};
     ghost use Rattle.afdx_arrivals.specs.Holding.{AreBehind, AreRising, by_rank};
     ghost use Rattle.afdx_arrivals.specs.declared.number.Number.{Number as Shown};
 

@@ -16,7 +16,7 @@ use crate::recording_run::run_recording;
 use crate::senders::{SystemPorts, UnsaidPort};
 use afdx_lists::{Heading, Peeked, RunFault, Watched};
 use afdx_recordings::is_recording;
-use afdx_run::{Machine, run_list};
+use afdx_engine::{Machine, run_list};
 use afdx_text::Sink;
 use std::alloc::Global;
 use std::io::Read;

@@ -20,7 +20,7 @@ use crate::read_pair::{read_one, read_pair};
 use crate::senders::{SystemPorts, UnsaidPort};
 use afdx_frame::BySide;
 use afdx_lists::{RunFault, Watched};
-use afdx_run::Machine;
+use afdx_engine::Machine;
 use afdx_text::{OutLine, Sink, Text};
 use std::alloc::Global;
 use std::io::Read;

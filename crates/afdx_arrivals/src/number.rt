@@ -4,7 +4,7 @@ ghost use Rattle.afdx_arrivals.specs.NumberLines.{NumberFollows, ReadFollows};
 
 use crate::becoming::Found;
 use crate::skipped::Skipped;
-use afdx_run::Head;
+use afdx_engine::Head;
 
 /// What a number of a recording is.
 #[derive(Clone, Copy, Debug, PartialEq, Eq)]

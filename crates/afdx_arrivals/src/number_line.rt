@@ -5,7 +5,7 @@ ghost use Rattle.afdx_arrivals.specs.NumberLines.{LineFollows};
 use crate::skipped::Skipped;
 use afdx_frame::Side;
 use afdx_lists::FrameKind;
-use afdx_run::Head;
+use afdx_engine::Head;
 
 /// What the line of a number says.
 #[derive(Clone, Copy, Debug, PartialEq, Eq)]

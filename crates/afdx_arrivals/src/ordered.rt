@@ -13,7 +13,7 @@ use crate::becoming::Found;
 use crate::held::{Held, HeldArrival};
 use crate::number::{AsRead, Number};
 use afdx_lists::{RecordingFault, RunFault};
-use afdx_run::Source;
+use afdx_engine::Source;
 use std::alloc::Global;
 
 /// What is known of the end of a recording.

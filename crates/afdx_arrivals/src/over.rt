@@ -5,7 +5,7 @@ ghost use Rattle.std.specs.Prelude.{◌≡◌, ◌||◌, ℕ, List, [], Bool, Op
 ghost use Rattle.afdx_lists.specs.Calls.{is_read, is_failed_read, is_failed_write};
 ghost use Rattle.afdx_lists.specs.Watching.{device_of, has_ended, has_failed};
 ghost use Rattle.afdx_lists.specs.declared.fault.RunFault.{RunFault as Fault};
-ghost use Rattle.afdx_run.specs.Engine.{Item};
+ghost use Rattle.afdx_engine.specs.Engine.{Item};
 ghost use Rattle.afdx_arrivals.specs.ListText.{lines_themselves};
 ghost use Rattle.afdx_arrivals.specs.NumberLines.{CanBePeeled, Lines, arrivals_listed};
 ghost use Rattle.afdx_arrivals.specs.Over.{IsAsked, Takes};
@@ -22,7 +22,7 @@ use crate::timed_numbers::TimedNumbers;
 use crate::timed_pair::TimedPair;
 use afdx_frame::BySide;
 use afdx_lists::{Heading, RunFault, Watched};
-use afdx_run::{Head, Machine, Source, drive};
+use afdx_engine::{Head, Machine, Source, drive};
 use afdx_text::Sink;
 use std::io::Read;
 

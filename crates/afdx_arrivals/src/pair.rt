@@ -2,7 +2,7 @@
 
 ghost use Rattle.std.specs.Prelude.{◌≡◌, ◌≤◌, ◌<◌, ◌∷◌, ℕ, length, IfErr, Ok, true, false};
 ghost use Rattle.afdx_lists.specs.Calls.{is_failed_write};
-ghost use Rattle.afdx_run.specs.Items.{most_frames};
+ghost use Rattle.afdx_engine.specs.Items.{most_frames};
 ghost use Rattle.afdx_arrivals.specs.PairSource as spec;
 ghost use Rattle.afdx_arrivals.specs.PairSource.{IsPaired, IsPairedToEnd, StopsPairing};
 ghost use Rattle.afdx_arrivals.specs.PairSource.{left_in_pair, number_given};
@@ -12,7 +12,7 @@ use crate::ahead::{Ahead, AtHead, seek};
 use crate::number::Number;
 use afdx_frame::{BySide, Side};
 use afdx_lists::RunFault;
-use afdx_run::Source;
+use afdx_engine::Source;
 
 /// Two recordings that are read at once, of network A and of network B.
 #[derive(Drop)]

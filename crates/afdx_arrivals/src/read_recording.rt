@@ -17,7 +17,7 @@ use crate::senders::SystemPorts;
 use crate::skipped::Skipped;
 use afdx_lists::{RecordingFault, RunFault, Watched};
 use afdx_recordings::FrameReader;
-use afdx_run::Source;
+use afdx_engine::Source;
 use std::alloc::{AllocError, Global};
 use std::io::Read;
 

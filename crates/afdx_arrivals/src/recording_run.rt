@@ -16,7 +16,7 @@ use crate::read_pair::{read_one, read_pair};
 use crate::senders::{SystemPorts, UnsaidPort};
 use afdx_frame::BySide;
 use afdx_lists::{Heading, RunFault, Watched};
-use afdx_run::Machine;
+use afdx_engine::Machine;
 use afdx_text::Sink;
 use std::alloc::Global;
 use std::io::Read;

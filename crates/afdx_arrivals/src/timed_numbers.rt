@@ -5,7 +5,7 @@ use crate::number::Number;
 use crate::number_line::NumberLine;
 use crate::skipped::Skipped;
 use afdx_lists::{RecordingFault, RunFault};
-use afdx_run::Source;
+use afdx_engine::Source;
 
 /// Gives the line of each number that a source of one recording gives.
 #[derive(Drop)]

@@ -10,7 +10,7 @@ use crate::pair::{Pair, next_of};
 use crate::skipped::Skipped;
 use afdx_frame::{BySide, Side};
 use afdx_lists::{RecordingFault, RunFault};
-use afdx_run::Source;
+use afdx_engine::Source;
 
 /// Gives the line of each number of two recordings.
 #[derive(Drop)]

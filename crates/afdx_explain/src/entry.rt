@@ -7,7 +7,7 @@ ghost use Rattle.afdx_explain.specs.Forms.{row_among, formed_row, formed_among};
 
 use crate::forms::has_form;
 use afdx_config::Key;
-use afdx_fields::first_field;
+use afdx_lists::first_field;
 
 /// The forms of a line, each on a line of its own, and what such a line means: one or more lines of
 /// text.

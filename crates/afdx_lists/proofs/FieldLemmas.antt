@@ -6,7 +6,7 @@ use Rattle.std.proofs.lemmas.Grind.{common_steps}
 use Rattle.std.specs.Char.{is_ascii_digit}
 use Rattle.std.proofs.Common.{Result, Ok, Err}
 use Rattle.afdx_lists.specs.declared.fault.LineFault.TheVariants.{TimeTooLarge, TimeBack}
-use Rattle.afdx_fields.specs.Fields.{number_of, number_after, all_digits}
+use Rattle.afdx_lists.specs.Splitting.{number_of, number_after, all_digits}
 use Rattle.afdx_lists.specs.Fields.{bytes_of_digits, ok_of}
 use Rattle.afdx_frame.specs.Times.{latest_listed}
 use Rattle.afdx_lists.specs.Fields.{cut, time_fault}

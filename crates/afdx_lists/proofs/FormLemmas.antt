@@ -8,7 +8,7 @@ use Rattle.afdx_lists.specs.declared.fault.LineFault.TheVariants.{BadLine}
 use Rattle.afdx_lists.specs.declared.fault.LineError.{LineError}
 use Rattle.afdx_lists.specs.declared.fault.LineError.TheVariants.{Fault, Memory}
 use Rattle.afdx_lists.specs.Faults.{IsErrorOf, IsBytesError, NeedsRoom}
-use Rattle.afdx_fields.specs.Fields.{between_spaces}
+use Rattle.afdx_lists.specs.Splitting.{between_spaces}
 use Rattle.afdx_lists.specs.Fields.{holds_space, is_skipped, bytes_of_digits}
 use Rattle.afdx_lists.specs.Forms.{Form, from_five, five_of, if_five, said_with, fields_say_with}
 use Rattle.afdx_lists.specs.Forms.{fields_say, said_by}

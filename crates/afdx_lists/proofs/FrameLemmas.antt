@@ -7,7 +7,7 @@ use Rattle.std.specs.Str.Lines.{strip_carriage_return}
 use Rattle.afdx_frame.specs.declared.link.Side.{Side}
 use Rattle.afdx_lists.specs.declared.frame_line.FrameKind.{FrameKind}
 use Rattle.afdx_lists.specs.declared.fault.LineFault.{LineFault}
-use Rattle.afdx_fields.specs.Fields.{between_spaces, number_of}
+use Rattle.afdx_lists.specs.Splitting.{between_spaces, number_of}
 use Rattle.afdx_lists.specs.Fields.{cut, cut_number, is_skipped, fault_or, time_fault}
 use Rattle.afdx_lists.specs.Forms.{from_five, five_of, if_five}
 use Rattle.afdx_lists.specs.FrameLines.{kind_of, side_of, frame_fields_with, frame_fields_from, cut_frame}

@@ -1,3 +1,4 @@
+pub mod SplitLemmas
 pub mod FieldLemmas
 pub mod FormLemmas
 pub mod LineLemmas

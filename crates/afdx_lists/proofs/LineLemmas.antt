@@ -8,7 +8,7 @@ use Rattle.memchr.specs.Find.{IsFirstByte, is_byte}
 use Rattle.std.proofs.lemmas.List.Splits.{slice_split_at, slice_split_none, slice_split-cons_yes, slice_split-cons_no}
 use Rattle.std.proofs.lemmas.List.Elements.{All-append, All-head, All-tail}
 use Rattle.std.proofs.lemmas.Grind.{common_steps}
-use Rattle.afdx_fields.proofs.FieldLemmas.{piece_before, no_such_byte}
+use Rattle.afdx_lists.proofs.SplitLemmas.{piece_before, no_such_byte}
 use Rattle.afdx_lists.specs.Lines.{lines_of, but_empty_last, HasNoFeed, IsFirstFeed}
 
 -- a split has a first part

@@ -15,10 +15,10 @@ use Rattle.std.specs.Str.{bytes_eq}
 use Rattle.memchr.specs.Find.{IsFirstByte, is_byte}
 use Rattle.hex.specs.Hex.{decode_pairs, decode_of, value_at, pair_value, ◌>>=◌}
 use Rattle.hex.specs.declared.error.FromHexError.{FromHexError}
-use Rattle.afdx_fields.specs.Fields.{between_spaces, number_of, number_after, all_digits}
+use Rattle.afdx_lists.specs.Splitting.{between_spaces, number_of, number_after, all_digits}
 use Rattle.afdx_lists.specs.Fields.{cut_number}
 use Rattle.afdx_lists.specs.Fields.{holds_space, bytes_of_digits, ok_of}
-use Rattle.afdx_fields.proofs.FieldLemmas.{piece_before, no_such_byte}
+use Rattle.afdx_lists.proofs.SplitLemmas.{piece_before, no_such_byte}
 use Rattle.afdx_lists.proofs.LineLemmas.{slice_split-has_first}
 use Rattle.afdx_lists.proofs.FieldLemmas.{number_of_digits}
 

@@ -5,7 +5,7 @@ use Rattle.std.specs.Borrow.{Bor}
 use Rattle.std.specs.Str.{bytes_eq}
 use Rattle.hex.specs.Hex.{decode_of}
 use Rattle.afdx_frame.specs.Times.{latest_listed}
-use Rattle.afdx_fields.specs.Fields.{space, between_spaces, fields_after, number_of}
+use Rattle.afdx_lists.specs.Splitting.{space, between_spaces, fields_after, number_of}
 use Rattle.afdx_lists.specs.Letters.{number_sign, hyphen}
 use Rattle.afdx_lists.specs.declared.fault.LineFault.{LineFault}
 use Rattle.afdx_lists.specs.declared.fault.LineFault.TheVariants.{TimeTooLarge, TimeBack}

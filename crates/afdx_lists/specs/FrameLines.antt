@@ -7,7 +7,7 @@ use Rattle.afdx_frame.specs.declared.link.Side.{Side}
 use Rattle.afdx_frame.specs.declared.link.Side.TheVariants.{A, B}
 use Rattle.afdx_frame.specs.Ports.{last_port}
 use Rattle.afdx_lists.specs.Letters.{letter_A, letter_B, letter_F, letter_R}
-use Rattle.afdx_fields.specs.Fields.{between_spaces, number_of}
+use Rattle.afdx_lists.specs.Splitting.{between_spaces, number_of}
 use Rattle.afdx_lists.specs.Fields.{cut, time_fault, fault_or}
 use Rattle.afdx_lists.specs.Forms.{Form, from_five, five_of, said_by}
 use Rattle.afdx_lists.specs.declared.frame_line.FrameKind.{FrameKind}

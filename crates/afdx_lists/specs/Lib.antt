@@ -4,6 +4,7 @@ pub mod Peeking
 pub mod Faults
 pub mod Letters
 pub mod Lines
+pub mod Splitting
 pub mod Fields
 pub mod Forms
 pub mod FrameLines

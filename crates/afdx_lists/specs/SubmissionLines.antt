@@ -1,6 +1,6 @@
 -- What one line of a submission list says.
 use Rattle.std.specs.Prelude.{ℕ, nat_lt, List, Option, Some, None, Result, if◌then◌else◌}
-use Rattle.afdx_fields.specs.Fields.{between_spaces, number_of}
+use Rattle.afdx_lists.specs.Splitting.{between_spaces, number_of}
 use Rattle.afdx_lists.specs.Fields.{cut, time_fault}
 use Rattle.afdx_lists.specs.Forms.{Form, from_five, five_of, said_by}
 use Rattle.afdx_lists.specs.declared.submission_line.Handed.{Handed}

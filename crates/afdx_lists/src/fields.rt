@@ -4,7 +4,7 @@ ghost use Rattle.hex.specs.Hex.{hex_digit_value, decode_pairs, decode_sized};
 ghost use Rattle.std.specs.Prelude.{◌≤◌, nat_le, length, true, IfSome, MatchResult, Err, ◌*◌, Ok, if◌then◌else◌, ◌≡◌, ◌^◌, ◌-◌, min, Some, None, OnOk, IfErr};
 ghost use Rattle.std.specs.Prelude.{false};
 ghost use Rattle.std.specs.Str.Lines.{strip_carriage_return};
-ghost use Rattle.afdx_fields.specs.Fields.{number_of};
+ghost use Rattle.afdx_lists.specs.Splitting.{number_of};
 ghost use Rattle.afdx_lists.specs.Fields.{bytes_of_digits, is_skipped};
 ghost use Rattle.afdx_frame.specs.Times.{latest_listed};
 ghost use Rattle.afdx_lists.specs.Fields.{SplitsNumber, holds_space, time_fault, cut_number};
@@ -13,7 +13,7 @@ ghost use Rattle.afdx_lists.specs.declared.fault.LineFault.TheVariants.{BadLine}
 ghost use Rattle.afdx_lists.specs.declared.fault.LineError.TheVariants.{Fault};
 
 use crate::fault::{LineError, LineFault};
-use afdx_fields::first_field;
+use crate::first_field::first_field;
 use afdx_frame::LATEST_LISTED;
 use hex::FromHexError;
 use std::alloc::AllocError;

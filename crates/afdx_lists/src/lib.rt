@@ -5,6 +5,7 @@
 
 mod fault;
 mod fields;
+mod first_field;
 mod frame_line;
 pub mod laws;
 mod line_reader;
@@ -14,6 +15,7 @@ mod submission_line;
 mod watched;
 
 pub use fault::{LineError, LineFault, RUN_FAULTS, RunFault};
+pub use first_field::first_field;
 pub use frame_line::{FrameKind, Heading, read_frame_line};
 pub use line_reader::LineReader;
 pub use peeked::Peeked;

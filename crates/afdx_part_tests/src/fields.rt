@@ -1,6 +1,6 @@
 //! The first field of a text.
 
-use afdx_fields::first_field;
+use afdx_lists::first_field;
 
 /// Whether the fields of the text begin with this one, and this is the rest after it.
 fn begins_with(text: &[u8], field: &[u8], rest: Option<&[u8]>) -> bool {

@@ -16,8 +16,8 @@ use Rattle.afdx_lists.proofs.FrameLemmas.{line_says-later}
 use Rattle.afdx_lists.specs.Lines.{lines_of}
 use Rattle.afdx_lists.specs.declared.fault.LineFault.{LineFault}
 use Rattle.afdx_lists.specs.declared.fault.RunFault.{RunFault}
-use Rattle.afdx_run.specs.Lists.{items_of, latest_in, with_item}
-use Rattle.afdx_run.specs.Listed.{frames, arrival_at, said_after, arrivals_of}
+use Rattle.afdx_engine.specs.Lists.{items_of, latest_in, with_item}
+use Rattle.afdx_engine.specs.Listed.{frames, arrival_at, said_after, arrivals_of}
 use Rattle.afdx_replay.specs.replaying.Promises.{IsListed, ArrivalsAreListed}
 use Rattle.afdx_promises.specs.Lines.{IsIn}
 use Rattle.afdx_replay.specs.replaying.PromisedRun.{IsAsPromised, WritesPromisedSoFar, WritesPromisedSome, PromisedAnswers}
@@ -25,7 +25,7 @@ use Rattle.afdx_network.specs.Order.{events_of}
 use Rattle.afdx_replay.specs.replaying.Text.{replay_text, replay_counts}
 use Rattle.afdx_replay.specs.replaying.Replayed.{WritesSoFar, WritesSome, Answers}
 use Rattle.afdx_replay.specs.declared.summary.Summary.{Summary}
-use Rattle.afdx_run.proofs.RunLemmas.{stops-more}
+use Rattle.afdx_engine.proofs.RunLemmas.{stops-more}
 use Rattle.afdx_replay.proofs.PromisedLemmas.{replay-promised, so-far-told, none-counted}
 
 -- ---- the times of a list's arrivals don't decrease

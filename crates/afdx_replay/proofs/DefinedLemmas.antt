@@ -11,11 +11,11 @@ use Rattle.afdx_network.proofs.OrderedLemmas.{are-events, are-so-far}
 use Rattle.afdx_promises.proofs.DefinitionLemmas.{events-by-definition, so-far-by-definition}
 use Rattle.afdx_replay.specs.replaying.DefinedRun.{WritesDefinedSoFar, WritesDefinedSome, DefinedAnswers}
 use Rattle.afdx_replay.specs.replaying.DefinedRun.{RunsAreByDefinition}
-use Rattle.afdx_run.specs.Listed.{frames, arrivals_of}
+use Rattle.afdx_engine.specs.Listed.{frames, arrivals_of}
 use Rattle.afdx_replay.specs.replaying.Replayed.{WritesSoFar, WritesSome, Answers}
 use Rattle.afdx_replay.specs.declared.summary.Summary.{Summary}
 use Rattle.afdx_replay.proofs.AdmittedRunLemmas.{arrivals-timed, arrivals-listed}
-use Rattle.afdx_run.proofs.RunLemmas.{stops-more}
+use Rattle.afdx_engine.proofs.RunLemmas.{stops-more}
 
 module _ (t : Rows) (bytes : List ℕ) (old new : Option (List ℕ)) (lawful : IsLawful t) where
   all-defined : (n : ℕ) → WritesSoFar t old new (arrivals_of (lines_of bytes) n)

@@ -8,8 +8,8 @@ use Rattle.afdx_police.specs.declared.shape.Reason.TheVariants.{TooShort, TooLon
 use Rattle.afdx_police.specs.declared.shape.Reason.TheVariants.{WrongPort, OverLmax, UnderLmin, OverRate}
 use Rattle.afdx_lists.specs.Lines.{lines_of}
 use Rattle.afdx_lists.specs.declared.watched.Watched.{Watched}
-use Rattle.afdx_run.specs.ListRun.{IsDone}
-use Rattle.afdx_run.specs.Listed.{arrivals_of, frames}
+use Rattle.afdx_engine.specs.ListRun.{IsDone}
+use Rattle.afdx_engine.specs.Listed.{arrivals_of, frames}
 use Rattle.afdx_switch.specs.Early.{IsEarlyBy}
 use Rattle.afdx_switch.specs.Verdicts.{reason_of, shape_fault}
 use Rattle.afdx_switch.proofs.EarlyLemmas.{early-dropped, over-rate-sound}

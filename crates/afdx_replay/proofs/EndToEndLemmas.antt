@@ -41,9 +41,9 @@ use Rattle.afdx_promises.proofs.SentLemmas.{copy-is, all-earlier, take-all}
 use Rattle.afdx_replay.specs.EndToEnd.{lines_at, HoldsText, HasSent, heard_of, EachIsToldAsTaken}
 use Rattle.afdx_replay.specs.EndToEnd.{TakenIsToldOnce, WrittenIsSent, RunsTellTakenOnce}
 use Rattle.afdx_replay.specs.EndToEnd.{TextsAreLists, AreToldAsTaken}
-use Rattle.afdx_run.specs.Listed.{AreSound, arrivals_of}
+use Rattle.afdx_engine.specs.Listed.{AreSound, arrivals_of}
 use Rattle.afdx_replay.specs.OneSide.{HoldsFirst, AreToldSoFar, TakenIsToldSoFar, TakenIsToldByOneSide}
-use Rattle.afdx_run.specs.Listed.{Handed}
+use Rattle.afdx_engine.specs.Listed.{Handed}
 use Rattle.afdx_replay.specs.sending.Events.{Event, Emitted, Submitted, submissions_in}
 use Rattle.afdx_replay.specs.sending.Events.{turns_in, taken_by, calls_in, EachFollows}
 use Rattle.afdx_replay.specs.sending.Text.{send_text}

@@ -9,7 +9,7 @@ use Rattle.afdx_network.specs.Order.{events_of}
 use Rattle.afdx_police.specs.Arrival.{Arrival}
 use Rattle.afdx_police.specs.Rule.{Rule}
 use Rattle.afdx_police.specs.declared.account.LinkAccount.{LinkAccount}
-use Rattle.afdx_run.specs.Stops.{StopsAt}
+use Rattle.afdx_engine.specs.Stops.{StopsAt}
 use Rattle.afdx_arrivals.specs.Becoming.{Options}
 use Rattle.afdx_arrivals.specs.Claims.{Ports, ports_of_senders, one_port}
 use Rattle.afdx_arrivals.specs.Taking.{Taken, arrivals_in, taken_of_bytes}

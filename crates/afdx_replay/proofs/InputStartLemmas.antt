@@ -18,8 +18,8 @@ use Rattle.afdx_lists.specs.declared.fault.RunFault.TheVariants as run
 use Rattle.afdx_lists.specs.declared.watched.Watched.{Watched}
 use Rattle.afdx_network.specs.Order.{events_of}
 use Rattle.afdx_police.specs.Arrival.{Arrival}
-use Rattle.afdx_run.specs.Listed.{frames}
-use Rattle.afdx_run.proofs.RunLemmas.{stops-at-start}
+use Rattle.afdx_engine.specs.Listed.{frames}
+use Rattle.afdx_engine.proofs.RunLemmas.{stops-at-start}
 use Rattle.afdx_arrivals.specs.declared.becoming.RecordingOptions.{RecordingOptions}
 use Rattle.afdx_arrivals.specs.Becoming.{Options, options_of}
 use Rattle.afdx_arrivals.specs.NumberLines.{Lines}

@@ -2,7 +2,7 @@
 use Rattle.std.proofs.Common.{ℕ, List, refl, Option, Some, None, Result, Err, IfSome}
 use Rattle.afdx_lists.specs.declared.fault.RunFault.{RunFault}
 use Rattle.afdx_lists.specs.declared.fault.RunFault.TheVariants as run
-use Rattle.afdx_run.specs.Engine.{Bytes}
+use Rattle.afdx_engine.specs.Engine.{Bytes}
 use Rattle.afdx_arrivals.specs.Becoming.{Options}
 use Rattle.afdx_arrivals.specs.Claims.{Agree, Ports}
 use Rattle.afdx_arrivals.specs.ListText.{lines_themselves, ListingAnswers, WritesLines, WritesSomeLines}

@@ -23,7 +23,7 @@ use Rattle.afdx_send.proofs.LawLemmas.{GoInOrder}
 use Rattle.afdx_send.proofs.NewLemmas.{distinct_links}
 use Rattle.afdx_send.proofs.NextLemmas.{AllSubs, split_last}
 use Rattle.afdx_send.proofs.OneLemmas.{one-emission, no-turns, order-next, released-once, none-is-next}
-use Rattle.afdx_run.specs.Listed.{Handed}
+use Rattle.afdx_engine.specs.Listed.{Handed}
 use Rattle.afdx_replay.specs.sending.Events.{Event, Emitted, Submitted, submissions_in}
 use Rattle.afdx_replay.specs.sending.Events.{turns_in, taken_by, calls_in, IsAnswered, EachFollows}
 use Rattle.afdx_replay.specs.sending.Events.{AreDone, IsAtSubmission}

@@ -6,8 +6,8 @@ use Rattle.afdx_lists.specs.declared.frame_line.Heading.{Heading}
 use Rattle.afdx_lists.specs.declared.fault.RunFault.{RunFault}
 use Rattle.afdx_lists.specs.declared.watched.Watched.{Watched}
 use Rattle.afdx_police.specs.Arrival.{Arrival}
-use Rattle.afdx_run.specs.Engine.{Item}
-use Rattle.afdx_run.specs.Items.{arrivals}
+use Rattle.afdx_engine.specs.Engine.{Item}
+use Rattle.afdx_engine.specs.Items.{arrivals}
 use Rattle.afdx_arrivals.specs.Claims.{Ports, ports_of_senders}
 use Rattle.afdx_arrivals.specs.RecordingRun.{IfBoth, PairAnswers}
 use Rattle.afdx_arrivals.specs.TakenRun.{IsOver, StopsTaken}

@@ -17,8 +17,8 @@ use Rattle.afdx_lists.specs.declared.fault.RunFault.TheVariants as run
 use Rattle.afdx_lists.specs.Lines.{most_lines, longest_line}
 use Rattle.afdx_promises.specs.Sent.{arrivals_at}
 use Rattle.afdx_replay.specs.EndToEnd.{says_at, lines_at}
-use Rattle.afdx_run.specs.Listed.{frames, arrival_at, arrivals_of, AreSound}
-use Rattle.afdx_run.specs.Lists.{with_item, item_said, items_of, fault_in, fault_said}
+use Rattle.afdx_engine.specs.Listed.{frames, arrival_at, arrivals_of, AreSound}
+use Rattle.afdx_engine.specs.Lists.{with_item, item_said, items_of, fault_in, fault_said}
 
 -- an arrival is the frame that a line says
 pub record IsSaidBy (line : List ℕ) (x : Arrival) : Type 0 where

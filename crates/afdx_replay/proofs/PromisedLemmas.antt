@@ -18,8 +18,8 @@ use Rattle.afdx_promises.specs.Receptions.{brought, brought_by}
 use Rattle.afdx_promises.proofs.AcceptedLemmas.{told-accepted, told-so-far-accepted}
 use Rattle.afdx_promises.proofs.EventLemmas.{as-promised, so-far-promised}
 use Rattle.afdx_promises.proofs.ToldLemmas as promise
-use Rattle.afdx_systems.specs.Handovers.{came_to, arrival_of}
-use Rattle.afdx_systems.specs.Receptions.{line_at, reception_line, is_delivered}
+use Rattle.afdx_end_systems.specs.Handovers.{came_to, arrival_of}
+use Rattle.afdx_end_systems.specs.Receptions.{line_at, reception_line, is_delivered}
 use Rattle.afdx_replay.specs.policing.Text.{verdict_line}
 use Rattle.afdx_replay.specs.replaying.Promises.{text_of, ReplayIsAsPromised, ReplaySoFarIsAsPromised, NoneIsCounted}
 use Rattle.afdx_replay.specs.replaying.Text.{handed_over, frames_left, loss_lines, departure_line}

@@ -12,10 +12,10 @@ use Rattle.afdx_police.specs.declared.shape.Reason.{Reason}
 use Rattle.afdx_lists.specs.Calls.{AppendsFront}
 use Rattle.afdx_lists.specs.Lines.{lines_of}
 use Rattle.afdx_lists.specs.declared.fault.RunFault.TheVariants as run
-use Rattle.afdx_systems.specs.Handovers.{HandedOver}
-use Rattle.afdx_systems.specs.Receptions.{reception_line, is_delivered}
-use Rattle.afdx_systems.specs.StandsFor as systems
-use Rattle.afdx_systems.specs.declared.systems.Systems.{Systems}
+use Rattle.afdx_end_systems.specs.Handovers.{HandedOver}
+use Rattle.afdx_end_systems.specs.Receptions.{reception_line, is_delivered}
+use Rattle.afdx_end_systems.specs.StandsFor as systems
+use Rattle.afdx_end_systems.specs.declared.systems.Systems.{Systems}
 use Rattle.afdx_network.specs.Events.{Event, Came, Left, Admission, Departure, arrivals_in}
 use Rattle.afdx_network.specs.Order.{AreEvents, events_of}
 use Rattle.afdx_network.specs.Network as network
@@ -31,10 +31,10 @@ use Rattle.afdx_replay.specs.replaying.Text.{no_counts, with_admission, with_dep
 use Rattle.afdx_replay.specs.replaying.Text.{with_lines}
 use Rattle.afdx_replay.specs.replaying.Replayed.{WritesSoFar, WritesSome, WritesAll, HasTold, AreTold}
 use Rattle.afdx_replay.specs.replaying.Replayed.{ToldAll, TellsDeparture, HasRoom}
-use Rattle.afdx_run.specs.Listed.{frames, arrivals_of}
+use Rattle.afdx_engine.specs.Listed.{frames, arrivals_of}
 use Rattle.afdx_replay.specs.declared.summary.Summary.{Summary}
-use Rattle.afdx_run.specs.Stops.{StopsAt}
-use Rattle.afdx_run.proofs.RunLemmas.{IsDone, GaveLines-start}
+use Rattle.afdx_engine.specs.Stops.{StopsAt}
+use Rattle.afdx_engine.proofs.RunLemmas.{IsDone, GaveLines-start}
 use Rattle.afdx_replay.proofs.TextLemmas.{front-whole, front-more, front-longer}
 
 abbrev pub hand : Side → ℕ → ℕ → ℕ → List ℕ → HandedOver

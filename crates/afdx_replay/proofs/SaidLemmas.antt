@@ -11,7 +11,7 @@ use Rattle.hex.specs.Hex.{decode_of}
 use Rattle.hex.specs.declared.error.FromHexError.{FromHexError}
 use Rattle.hex.proofs.HexLemmas.{decode_of-ok}
 use Rattle.afdx_frame.specs.Sealing.{AreBytes}
-use Rattle.afdx_fields.specs.Fields.{number_of, between_spaces}
+use Rattle.afdx_lists.specs.Splitting.{number_of, between_spaces}
 use Rattle.afdx_lists.specs.Fields.{bytes_of_digits, ok_of}
 use Rattle.afdx_lists.specs.Forms.{from_five, five_of}
 use Rattle.afdx_lists.specs.SubmissionLines.{Submission, SubmissionFields, at_most, submission_fields}
@@ -20,8 +20,8 @@ use Rattle.afdx_lists.specs.SubmissionLines.{submission_form, submission_said}
 use Rattle.afdx_lists.proofs.FormLemmas.{says-from}
 use Rattle.afdx_lists.specs.declared.fault.LineFault.{LineFault}
 use Rattle.afdx_lists.specs.Lines.{most_lines}
-use Rattle.afdx_run.specs.Lists.{with_item, item_said, items_of, fault_in, HaveNoFault}
-use Rattle.afdx_run.specs.Listed.{Handed, submissions}
+use Rattle.afdx_engine.specs.Lists.{with_item, item_said, items_of, fault_in, HaveNoFault}
+use Rattle.afdx_engine.specs.Listed.{Handed, submissions}
 
 -- ---- bytes and UDP ports
 

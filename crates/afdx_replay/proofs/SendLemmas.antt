@@ -25,7 +25,7 @@ use Rattle.afdx_send.specs.declared.fault.SendFault.TheVariants.{TooLarge, Queue
 use Rattle.afdx_send.specs.declared.sender.Emission.{Emission}
 use Rattle.afdx_send.specs.declared.sender_state.SenderState.{SenderState}
 use Rattle.afdx_replay.specs.replaying.Text.{no_counts, with_lines}
-use Rattle.afdx_run.specs.Listed.{Handed, submissions}
+use Rattle.afdx_engine.specs.Listed.{Handed, submissions}
 use Rattle.afdx_replay.specs.sending.Events.{message_of, Event, Emitted, Submitted}
 use Rattle.afdx_replay.specs.sending.Events.{submissions_in, turns_in, taken_by, calls_in, EachFollows}
 use Rattle.afdx_replay.specs.sending.Events.{AreDone}
@@ -34,7 +34,7 @@ use Rattle.afdx_replay.specs.sending.Sent.{Source, source_at, WritesSoFar, Write
 use Rattle.afdx_replay.specs.sending.Command.{Sends}
 use Rattle.afdx_replay.specs.sending.Progress.{HasTold, AreTold, ToldUntil, TellsSubmission, HasRoom}
 use Rattle.afdx_replay.specs.declared.summary.Summary.{Summary}
-use Rattle.afdx_run.proofs.RunLemmas.{IsDone}
+use Rattle.afdx_engine.proofs.RunLemmas.{IsDone}
 use Rattle.afdx_replay.proofs.TextLemmas.{front-whole, front-more}
 
 pub text-none : (s : SystemRow) → send_text s [] ≡ []

@@ -18,7 +18,7 @@ use Rattle.afdx_send.specs.Releases.{Submission}
 use Rattle.afdx_send.specs.Sender.{SenderHistory, IsNextIn}
 use Rattle.afdx_send.proofs.NewLemmas.{from_filter, distinct_links}
 use Rattle.afdx_send.specs.Laws.{IsBuildable}
-use Rattle.afdx_run.specs.Listed.{Handed}
+use Rattle.afdx_engine.specs.Listed.{Handed}
 use Rattle.afdx_replay.specs.sending.Events.{Event, Emitted, Submitted, submissions_in}
 use Rattle.afdx_replay.specs.sending.Events.{turns_in, taken_by, calls_in, EachFollows}
 use Rattle.afdx_replay.specs.sending.Laws.{IsTold, SentLinesAreArrivals}

@@ -23,7 +23,7 @@ use Rattle.afdx_frame.specs.Sealing.{AreBytes}
 use Rattle.afdx_frame.specs.declared.link.Side.{Side}
 use Rattle.afdx_frame.specs.declared.link.Side.TheVariants.{A, B}
 use Rattle.afdx_police.specs.Arrival.{arrival_with}
-use Rattle.afdx_fields.specs.Fields.{between_spaces, number_of, number_after, all_digits}
+use Rattle.afdx_lists.specs.Splitting.{between_spaces, number_of, number_after, all_digits}
 use Rattle.afdx_lists.specs.Fields.{bytes_of_digits}
 use Rattle.afdx_lists.specs.Forms.{from_five, five_of, said_with}
 use Rattle.afdx_lists.specs.FrameLines.{FrameFields, kind_of, side_of, frame_fields, frame_fields_with}
@@ -34,8 +34,8 @@ use Rattle.afdx_lists.proofs.FieldLemmas.{number_of_digits}
 use Rattle.afdx_lists.proofs.FormLemmas.{says_item}
 use Rattle.afdx_lists.proofs.LineLemmas.{lines_of_feed, lines_of_nothing}
 use Rattle.afdx_port.proofs.TurnLemmas.{eqb-other}
-use Rattle.afdx_run.specs.Lists.{with_item, items_of, fault_in, fault_said, HaveNoFault}
-use Rattle.afdx_run.specs.Listed.{frames, arrivals_of}
+use Rattle.afdx_engine.specs.Lists.{with_item, items_of, fault_in, fault_said, HaveNoFault}
+use Rattle.afdx_engine.specs.Listed.{frames, arrivals_of}
 use Rattle.afdx_replay.specs.policing.Text.{side_text}
 use Rattle.afdx_replay.specs.sending.Laws.{IsArrival}
 use Rattle.afdx_replay.specs.sending.Text.{sent_line}

@@ -9,7 +9,7 @@ use Rattle.afdx_config.specs.Rows.{SystemRow, LinkRow}
 use Rattle.afdx_send.specs.Complete.{IsFor}
 use Rattle.afdx_send.specs.Releases.{Submission}
 use Rattle.afdx_send.specs.Sender.{IsTaken}
-use Rattle.afdx_run.specs.Listed.{Handed}
+use Rattle.afdx_engine.specs.Listed.{Handed}
 use Rattle.afdx_replay.specs.sending.Events.{message_of, Event, Emitted, Submitted}
 use Rattle.afdx_replay.specs.sending.Events.{submissions_in, taken_by, calls_in, EachFollows}
 

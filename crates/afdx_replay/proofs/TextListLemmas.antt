@@ -26,8 +26,8 @@ use Rattle.afdx_send.specs.declared.fault.SendFault.{SendFault}
 use Rattle.afdx_send.specs.declared.fault.SendFault.TheVariants.{NotMyLink, NoSuchSub, Empty}
 use Rattle.afdx_send.specs.declared.fault.SendFault.TheVariants.{TooLarge, QueueFull, Memory}
 use Rattle.afdx_promises.specs.Sent.{frame_on}
-use Rattle.afdx_run.specs.Listed.{frames, arrivals_of, AreSound}
-use Rattle.afdx_run.specs.Lists.{latest_in, with_item, item_after, items_of, fault_in, fault_said}
+use Rattle.afdx_engine.specs.Listed.{frames, arrivals_of, AreSound}
+use Rattle.afdx_engine.specs.Lists.{latest_in, with_item, item_after, items_of, fault_in, fault_said}
 use Rattle.afdx_replay.specs.sending.Events.{Event, Emitted, Submitted, turns_in, EachFollows}
 use Rattle.afdx_replay.specs.sending.Text.{send_text}
 use Rattle.afdx_replay.proofs.SendLineLemmas.{no-return, refused, refused-least, line_on, all_lines}

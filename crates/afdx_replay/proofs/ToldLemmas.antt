@@ -15,13 +15,13 @@ use Rattle.afdx_police.specs.Arrival.{Arrival}
 use Rattle.afdx_police.specs.Rule.{Rule}
 use Rattle.afdx_police.specs.Verdicts.{verdict_in}
 use Rattle.afdx_replay.specs.declared.summary.Summary.{Summary}
-use Rattle.afdx_run.specs.Listed.{frames}
-use Rattle.afdx_run.specs.Stops.{StopsAt}
+use Rattle.afdx_engine.specs.Listed.{frames}
+use Rattle.afdx_engine.specs.Stops.{StopsAt}
 use Rattle.afdx_replay.specs.policing.Text.{text_of, count_judged, verdict_line}
 use Rattle.afdx_replay.specs.policing.Policed.{WritesText, WritesBeginning, WritesAll}
 use Rattle.afdx_replay.specs.policing.Accounts.{HaveSeen}
 use Rattle.afdx_replay.specs.policing.Told.{HasTold}
-use Rattle.afdx_run.proofs.RunLemmas.{IsDone, stops-at-start}
+use Rattle.afdx_engine.proofs.RunLemmas.{IsDone, stops-at-start}
 use Rattle.afdx_replay.proofs.TextLemmas.{text_of-none, text_of-more, judged-none}
 use Rattle.afdx_replay.proofs.TextLemmas.{judged-more, judged-same, front-whole, front-more}
 

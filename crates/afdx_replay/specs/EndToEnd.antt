@@ -17,10 +17,10 @@ use Rattle.afdx_send.specs.Complete.{submissions_of, AreReleasesOfAll}
 use Rattle.afdx_send.specs.Releases.{Submission, Release}
 use Rattle.afdx_promises.specs.Lines.{Line, messages_told}
 use Rattle.afdx_promises.specs.Promises.{EachIsToldOnce}
-use Rattle.afdx_run.specs.Listed.{AreSound, arrivals_of}
-use Rattle.afdx_run.specs.Lists.{items_of, HaveNoFault}
+use Rattle.afdx_engine.specs.Listed.{AreSound, arrivals_of}
+use Rattle.afdx_engine.specs.Lists.{items_of, HaveNoFault}
 use Rattle.afdx_replay.specs.replaying.PromisedRun.{WritesPromised}
-use Rattle.afdx_run.specs.Listed.{submissions}
+use Rattle.afdx_engine.specs.Listed.{submissions}
 use Rattle.afdx_replay.specs.sending.Events.{Event, turns_in, taken_by, AreEventsOf, AreDone}
 use Rattle.afdx_replay.specs.sending.Text.{send_text}
 use Rattle.afdx_replay.specs.sending.Sent.{source_at, WritesAll}

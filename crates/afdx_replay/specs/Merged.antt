@@ -10,7 +10,7 @@ use Rattle.afdx_lists.specs.Lines.{lines_of}
 use Rattle.afdx_promises.specs.Lines.{Line}
 use Rattle.afdx_promises.specs.Promises.{EachIsToldOnce}
 use Rattle.afdx_replay.specs.EndToEnd.{says_at, lines_at, HasSent, EachIsToldAsTaken}
-use Rattle.afdx_run.specs.Listed.{AreSound, arrivals_of}
+use Rattle.afdx_engine.specs.Listed.{AreSound, arrivals_of}
 use Rattle.afdx_replay.specs.sending.Events.{Event}
 use Rattle.afdx_replay.specs.sending.Text.{send_text}
 

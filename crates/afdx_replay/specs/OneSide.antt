@@ -10,7 +10,7 @@ use Rattle.afdx_send.specs.Releases.{Submission, Release}
 use Rattle.afdx_promises.specs.Lines.{Line, messages_told}
 use Rattle.afdx_promises.specs.Promises.{EachIsToldOnceSoFar, most_come}
 use Rattle.afdx_replay.specs.EndToEnd.{lines_at, HasSent, heard_of, EachIsToldAsTaken}
-use Rattle.afdx_run.specs.Listed.{AreSound, arrivals_of}
+use Rattle.afdx_engine.specs.Listed.{AreSound, arrivals_of}
 use Rattle.afdx_replay.specs.sending.Events.{Event, taken_by}
 use Rattle.afdx_replay.specs.sending.Text.{send_text}
 

@@ -6,7 +6,7 @@ use afdx_config::Tables;
 use afdx_frame::{Checked, Side};
 use afdx_receive::Reception;
 use afdx_samples::{HELLO, ShortText, all_right, base_tables, hello, sealed, world};
-use afdx_systems::{Handover, Systems};
+use afdx_end_systems::{Handover, Systems};
 use afdx_text::{OutLine, Text};
 use std::alloc::{AllocError, Global};
 use std::test::Fail;

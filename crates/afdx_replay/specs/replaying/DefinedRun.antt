@@ -10,11 +10,11 @@ use Rattle.afdx_lists.specs.Calls.{AppendsFront}
 use Rattle.afdx_lists.specs.declared.fault.RunFault.{RunFault}
 use Rattle.afdx_network.specs.Events.{Event}
 use Rattle.afdx_promises.specs.ByDefinition.{AreByDefinition, AreByDefinitionSoFar}
-use Rattle.afdx_run.specs.Listed.{AreSound, arrivals_of}
+use Rattle.afdx_engine.specs.Listed.{AreSound, arrivals_of}
 use Rattle.afdx_replay.specs.replaying.Replayed.{Answers}
 use Rattle.afdx_replay.specs.replaying.Promises.{AreListed}
 use Rattle.afdx_replay.specs.replaying.Text.{replay_text, replay_counts, with_lines}
-use Rattle.afdx_run.specs.Stops.{StopsAt}
+use Rattle.afdx_engine.specs.Stops.{StopsAt}
 use Rattle.afdx_replay.specs.declared.summary.Summary.{Summary}
 
 -- all lines of the list were read, none has a fault, and the output, which held `old`, now holds

@@ -13,10 +13,10 @@ use Rattle.afdx_lists.specs.declared.watched.Watched.{Watched}
 use Rattle.afdx_switch.specs.Early.{IsEarlyBy}
 use Rattle.afdx_switch.specs.Verdicts.{reason_of}
 use Rattle.afdx_text.specs.Telling.{Tells}
-use Rattle.afdx_run.specs.Engine.{Item}
-use Rattle.afdx_run.specs.Items.{arrivals}
-use Rattle.afdx_run.specs.Listed.{arrivals_of}
-use Rattle.afdx_run.specs.Stops.{StopsAt}
+use Rattle.afdx_engine.specs.Engine.{Item}
+use Rattle.afdx_engine.specs.Items.{arrivals}
+use Rattle.afdx_engine.specs.Listed.{arrivals_of}
+use Rattle.afdx_engine.specs.Stops.{StopsAt}
 use Rattle.afdx_replay.specs.replaying.Replayed.{Known}
 use Rattle.afdx_replay.specs.replaying.Told.{TellsItems, TellsAll, BeginsItems}
 use Rattle.afdx_replay.specs.declared.replaying.run.Replay.{Replay}

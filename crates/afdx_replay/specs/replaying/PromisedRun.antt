@@ -9,9 +9,9 @@ use Rattle.afdx_lists.specs.Calls.{AppendsFront}
 use Rattle.afdx_lists.specs.declared.fault.RunFault.{RunFault}
 use Rattle.afdx_promises.specs.Lines.{Line}
 use Rattle.afdx_promises.specs.Promises.{KeepsPromises, KeepsPromisesSoFar, EachIsToldOnce, EachIsToldOnceSoFar, StreamsAreAccepted}
-use Rattle.afdx_run.specs.Listed.{AreSound, arrivals_of}
+use Rattle.afdx_engine.specs.Listed.{AreSound, arrivals_of}
 use Rattle.afdx_replay.specs.replaying.Promises.{text_of, AreListed}
-use Rattle.afdx_run.specs.Stops.{StopsAt}
+use Rattle.afdx_engine.specs.Stops.{StopsAt}
 use Rattle.afdx_replay.specs.declared.summary.Summary.{Summary}
 
 -- of these arrivals and of all that leaves the output, which held `old`, now holds after it the

@@ -7,15 +7,15 @@ use Rattle.afdx_police.specs.Arrival.{Arrival}
 use Rattle.afdx_lists.specs.Lines.{lines_of}
 use Rattle.afdx_lists.specs.Calls.{AppendsFront}
 use Rattle.afdx_lists.specs.declared.fault.RunFault.{RunFault}
-use Rattle.afdx_systems.specs.StandsFor as systems
-use Rattle.afdx_systems.specs.declared.systems.Systems.{Systems}
+use Rattle.afdx_end_systems.specs.StandsFor as systems
+use Rattle.afdx_end_systems.specs.declared.systems.Systems.{Systems}
 use Rattle.afdx_network.specs.Events.{Event, Left, Departure, arrivals_in}
 use Rattle.afdx_network.specs.Order.{IsAtArrival, events_of, events_so_far}
 use Rattle.afdx_network.specs.Network as network
 use Rattle.afdx_network.specs.declared.network.Network.{Network}
-use Rattle.afdx_run.specs.Listed.{AreSound, arrivals_of}
+use Rattle.afdx_engine.specs.Listed.{AreSound, arrivals_of}
 use Rattle.afdx_replay.specs.replaying.Text.{replay_text, replay_counts, frames_left, lines_after, with_lines}
-use Rattle.afdx_run.specs.Stops.{StopsAt}
+use Rattle.afdx_engine.specs.Stops.{StopsAt}
 use Rattle.afdx_replay.specs.declared.replaying.run.Replay.{Replay}
 use Rattle.afdx_replay.specs.declared.summary.Summary.{Summary}
 

@@ -4,8 +4,8 @@ use Rattle.std.specs.Prelude.{ℕ, ◌+◌, Bool, true, false, Option, Some, Non
 use Rattle.afdx_frame.specs.declared.link.Side.{Side}
 use Rattle.afdx_config.specs.Rows.{Rows}
 use Rattle.afdx_police.specs.declared.shape.Reason.{Reason}
-use Rattle.afdx_systems.specs.Handovers.{HandedOver}
-use Rattle.afdx_systems.specs.Receptions.{reception_line, is_delivered}
+use Rattle.afdx_end_systems.specs.Handovers.{HandedOver}
+use Rattle.afdx_end_systems.specs.Receptions.{reception_line, is_delivered}
 use Rattle.afdx_network.specs.Events.{Event, Came, Left, Admission, Departure}
 use Rattle.afdx_replay.specs.policing.Text.{verdict_line}
 use Rattle.afdx_replay.specs.declared.summary.Summary.{Summary}

@@ -4,10 +4,10 @@ use Rattle.afdx_frame.specs.Times.{latest_listed}
 use Rattle.afdx_config.specs.Rows.{Rows}
 use Rattle.afdx_lists.specs.declared.frame_line.Heading.{Heading}
 use Rattle.afdx_network.specs.Network as network
-use Rattle.afdx_run.specs.Engine.{Item}
-use Rattle.afdx_run.specs.Items.{arrivals, most_frames}
-use Rattle.afdx_run.specs.Listed.{frames}
-use Rattle.afdx_run.specs.Lists.{latest_in}
+use Rattle.afdx_engine.specs.Engine.{Item}
+use Rattle.afdx_engine.specs.Items.{arrivals, most_frames}
+use Rattle.afdx_engine.specs.Listed.{frames}
+use Rattle.afdx_engine.specs.Lists.{latest_in}
 use Rattle.afdx_replay.specs.replaying.Replayed.{Known, TellsArrivals, HasRoomFor, WritesSome, ToldAll}
 use Rattle.afdx_replay.specs.declared.replaying.run.Replay.{Replay}
 

@@ -10,7 +10,7 @@ use Rattle.afdx_send.specs.Releases as send
 use Rattle.afdx_send.specs.Sender.{SenderHistory, submission, IsNextIn, IsTaken, IsRefused, AreAllEmitted}
 use Rattle.afdx_send.specs.declared.fault.SendFault.{SendFault}
 use Rattle.afdx_send.specs.declared.fault.SendFault.TheVariants.{Memory}
-use Rattle.afdx_run.specs.Listed.{Handed}
+use Rattle.afdx_engine.specs.Listed.{Handed}
 
 -- an emission, in its slot of the system's port; or a submission, and why it was refused, if it was
 pub data Event : Type 0 where

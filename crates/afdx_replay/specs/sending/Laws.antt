@@ -12,9 +12,9 @@ use Rattle.afdx_lists.specs.Lines.{lines_of}
 use Rattle.afdx_port.specs.Schedule.{Turn}
 use Rattle.afdx_send.specs.Frames.{Frame}
 use Rattle.afdx_promises.specs.Sent.{frame_on}
-use Rattle.afdx_run.specs.Listed.{AreSound, arrivals_of}
-use Rattle.afdx_run.specs.Lists.{items_of, HaveNoFault}
-use Rattle.afdx_run.specs.Listed.{Handed, submissions}
+use Rattle.afdx_engine.specs.Listed.{AreSound, arrivals_of}
+use Rattle.afdx_engine.specs.Lists.{items_of, HaveNoFault}
+use Rattle.afdx_engine.specs.Listed.{Handed, submissions}
 use Rattle.afdx_replay.specs.sending.Events.{Event, turns_in, AreEventsOf, AreDone}
 use Rattle.afdx_replay.specs.sending.Text.{sent_line}
 use Rattle.afdx_replay.specs.sending.Sent.{source_at, WritesAll}

@@ -9,7 +9,7 @@ use Rattle.afdx_send.specs.Frames.{Frame}
 use Rattle.afdx_send.specs.Sender.{StandsFor, IsNextIn, last_time}
 use Rattle.afdx_send.specs.declared.fault.SendFault.{SendFault}
 use Rattle.afdx_send.specs.declared.sender_state.SenderState.{SenderState}
-use Rattle.afdx_run.specs.Listed.{Handed}
+use Rattle.afdx_engine.specs.Listed.{Handed}
 use Rattle.afdx_replay.specs.sending.Events.{Event, Submitted, submissions_in, turns_in, calls_in, EachFollows, IsAnswered, IsAtSubmission, AreDone}
 use Rattle.afdx_replay.specs.sending.Text.{send_text, send_counts}
 use Rattle.afdx_replay.specs.sending.Sent.{Source}

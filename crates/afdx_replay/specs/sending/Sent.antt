@@ -6,10 +6,10 @@ use Rattle.afdx_config.specs.Rows.{SystemRow, LinkRow, Rows}
 use Rattle.afdx_lists.specs.Lines.{lines_of}
 use Rattle.afdx_lists.specs.Calls.{AppendsFront}
 use Rattle.afdx_lists.specs.declared.fault.RunFault.{RunFault}
-use Rattle.afdx_run.specs.Lists.{items_of, HaveNoFault}
-use Rattle.afdx_run.specs.Stops.{StopsIn}
+use Rattle.afdx_engine.specs.Lists.{items_of, HaveNoFault}
+use Rattle.afdx_engine.specs.Stops.{StopsIn}
 use Rattle.afdx_replay.specs.replaying.Text.{with_lines}
-use Rattle.afdx_run.specs.Listed.{Handed, submissions}
+use Rattle.afdx_engine.specs.Listed.{Handed, submissions}
 use Rattle.afdx_replay.specs.sending.Events.{Event, AreEventsOf, IsAtSubmission, AreDone}
 use Rattle.afdx_replay.specs.sending.Text.{send_text, send_counts}
 use Rattle.afdx_replay.specs.declared.summary.Summary.{Summary}

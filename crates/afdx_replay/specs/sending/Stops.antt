@@ -4,7 +4,7 @@ use Rattle.std.specs.Prelude.{ℕ, ◌≡◌, List, ◌++◌, Some}
 use Rattle.afdx_config.specs.Admission.{links_from}
 use Rattle.afdx_config.specs.Lawful.{IsLawful}
 use Rattle.afdx_config.specs.Rows.{SystemRow, Rows}
-use Rattle.afdx_run.specs.Listed.{Handed}
+use Rattle.afdx_engine.specs.Listed.{Handed}
 use Rattle.afdx_replay.specs.sending.Events.{Event, AreEventsOf, IsAtSubmission}
 use Rattle.afdx_replay.specs.sending.Sent.{source_at, WritesSoFar}
 

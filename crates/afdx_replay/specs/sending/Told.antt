@@ -4,10 +4,10 @@ use Rattle.afdx_frame.specs.Times.{latest_listed}
 use Rattle.afdx_lists.specs.Lines.{most_lines}
 use Rattle.afdx_lists.specs.declared.submission_line.Handed.{Handed}
 use Rattle.afdx_send.specs.Sender.{frames_held, last_time}
-use Rattle.afdx_run.specs.Engine.{Item}
-use Rattle.afdx_run.specs.Items.{handed}
-use Rattle.afdx_run.specs.Lists.{latest_in}
-use Rattle.afdx_run.specs.Listed.{submissions}
+use Rattle.afdx_engine.specs.Engine.{Item}
+use Rattle.afdx_engine.specs.Items.{handed}
+use Rattle.afdx_engine.specs.Lists.{latest_in}
+use Rattle.afdx_engine.specs.Listed.{submissions}
 use Rattle.afdx_replay.specs.sending.Sent.{Source, WritesSome, WritesEvents}
 use Rattle.afdx_replay.specs.sending.Progress.{AreTold, HasRoom}
 use Rattle.afdx_replay.specs.declared.sending.run.Sending.{Sending}

@@ -10,7 +10,7 @@ ghost use Rattle.afdx_police.specs.Verdicts.{verdict_in};
 ghost use Rattle.afdx_lists.specs.Calls.{is_failed_read, is_failed_write};
 ghost use Rattle.afdx_lists.specs.FrameLines.{listed_frame};
 ghost use Rattle.afdx_lists.specs.Watching.{calls_of, device_of, has_ended, has_failed};
-ghost use Rattle.afdx_run.specs.Listed.{arrival_at};
+ghost use Rattle.afdx_engine.specs.Listed.{arrival_at};
 ghost use Rattle.afdx_replay.specs.policing.Accounts.{AreUntil, HaveSeen};
 ghost use Rattle.afdx_replay.specs.policing.Policed.{Answers};
 
@@ -18,7 +18,7 @@ use crate::summary::{NO_COUNTS, Summary};
 use afdx_frame::BySide;
 use afdx_lists::{Heading, RunFault, Watched};
 use afdx_police::{LinkAccount, LinkRule, Reason};
-use afdx_run::{Machine, run_list};
+use afdx_engine::{Machine, run_list};
 use afdx_text::{OutLine, Sink, Text};
 use std::alloc::{AllocError, Global};
 use std::io::{Read, Write};

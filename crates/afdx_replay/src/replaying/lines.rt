@@ -6,9 +6,9 @@ ghost use Rattle.std.specs.Io.KnownBytes.{Appends};
 ghost use Rattle.afdx_lists.specs.Calls.{AppendsFront, is_failed_write};
 ghost use Rattle.afdx_text.specs.Sinks.{IsOfOutput};
 ghost use Rattle.afdx_config.specs.Rows.{Rows};
-ghost use Rattle.afdx_systems.specs.Handovers.{HandedOver, handed_over};
-ghost use Rattle.afdx_systems.specs.Receptions.{reception_line, is_delivered};
-ghost use Rattle.afdx_systems.specs.StandsFor.{StandsFor};
+ghost use Rattle.afdx_end_systems.specs.Handovers.{HandedOver, handed_over};
+ghost use Rattle.afdx_end_systems.specs.Receptions.{reception_line, is_delivered};
+ghost use Rattle.afdx_end_systems.specs.StandsFor.{StandsFor};
 ghost use Rattle.afdx_network.specs.Network.{reason_in, ports_in, lost_in};
 ghost use Rattle.afdx_switch.specs.Departures.{as_given, giving_port};
 ghost use Rattle.afdx_replay.specs.policing.Text.{verdict_line};
@@ -20,7 +20,7 @@ use afdx_network::Departed;
 use afdx_police::Reason;
 use afdx_receive::Reception;
 use afdx_switch::{PortSet, Verdict};
-use afdx_systems::{Handover, Systems};
+use afdx_end_systems::{Handover, Systems};
 use afdx_text::{OutLine, Sink, Text};
 
 /// Why the frame was dropped, if it was.

@@ -1,5 +1,5 @@
 use Rattle.std.proofs.Common.{◌≡◌, ◌^◌, ◌-◌, min, take, true}
-use Rattle.afdx_fields.specs.Fields.{all_digits, number_after}
+use Rattle.afdx_lists.specs.Splitting.{all_digits, number_after}
 use Rattle.afdx_lists.proofs.fields.read_many_digits.Given as goal
 
 abbrev pub invariant-loop-digit : goal.invariant-loop-digit

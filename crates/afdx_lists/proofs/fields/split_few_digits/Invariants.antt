@@ -1,5 +1,5 @@
 use Rattle.std.proofs.Common.{◌≡◌, take, true}
-use Rattle.afdx_fields.specs.Fields.{all_digits, number_after}
+use Rattle.afdx_lists.specs.Splitting.{all_digits, number_after}
 use Rattle.afdx_lists.proofs.fields.split_few_digits.Given as goal
 
 abbrev pub invariant-loop-at : goal.invariant-loop-at

@@ -1,6 +1,6 @@
 use Rattle.std.proofs.Common.{◌≡◌, ◌≤◌, List}
 use Rattle.afdx_lists.specs.declared.frame_line.Heading.{Heading}
-use Rattle.afdx_run.specs.Engine.{Item}
+use Rattle.afdx_engine.specs.Engine.{Item}
 use Rattle.afdx_arrivals.specs.NumberLines.{AreItems, arrivals_listed}
 use Rattle.afdx_arrivals.proofs.arriving.ArrivingSourceHeading.next.Given as goal
 

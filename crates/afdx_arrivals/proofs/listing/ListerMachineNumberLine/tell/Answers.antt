@@ -1,5 +1,5 @@
 use Rattle.std.proofs.Common.{rules, ◌≡◌, Err, inr}
-use Rattle.afdx_run.specs.Engine.{item_of}
+use Rattle.afdx_engine.specs.Engine.{item_of}
 use Rattle.afdx_arrivals.proofs.ListingLemmas.{lines-told, lines-begun}
 use Rattle.afdx_arrivals.proofs.listing.ListerMachineNumberLine.tell.Goals as goal
 

@@ -1,11 +1,11 @@
 use Rattle.std.proofs.Common.{rules, refl}
 use Rattle.afdx_police.specs.RuleOf.{rule_of}
 use Rattle.afdx_lists.specs.FrameLines.{listed_frame}
-use Rattle.afdx_run.specs.Items.{thing_of}
-use Rattle.afdx_run.specs.Listed.{frames}
+use Rattle.afdx_engine.specs.Items.{thing_of}
+use Rattle.afdx_engine.specs.Listed.{frames}
 use Rattle.afdx_replay.specs.policing.Policed.{WritesText, WritesBeginning}
 use Rattle.afdx_replay.specs.policing.Told.{HasTold, TellsItems, BeginsItems}
-use Rattle.afdx_run.proofs.ListRunLemmas.{answers-err, answers-ok}
+use Rattle.afdx_engine.proofs.ListRunLemmas.{answers-err, answers-ok}
 use Rattle.afdx_replay.proofs.TextLemmas.{front-whole}
 use Rattle.afdx_replay.proofs.ToldLemmas.{told-done}
 use Rattle.afdx_replay.proofs.policing.run.police_into.Goals as goal

@@ -3,9 +3,9 @@ use Rattle.std.specs.Io.KnownBytes.{Appends}
 use Rattle.std.proofs.KnownBytes.{Appends-nil, Keeps-refl}
 use Rattle.afdx_lists.specs.Calls.{AppendsFront}
 use Rattle.afdx_receive.specs.Words.{drop_word}
-use Rattle.afdx_systems.specs.Handovers.{handed_over}
-use Rattle.afdx_systems.specs.Receptions.{message_line, drop_line}
-use Rattle.afdx_systems.proofs.ReceptionLemmas.{told-as, told-nothing}
+use Rattle.afdx_end_systems.specs.Handovers.{handed_over}
+use Rattle.afdx_end_systems.specs.Receptions.{message_line, drop_line}
+use Rattle.afdx_end_systems.proofs.ReceptionLemmas.{told-as, told-nothing}
 use Rattle.afdx_text.proofs.OutputLemmas.{on-err, none_front}
 use Rattle.afdx_replay.proofs.replaying.lines.hear.Goals as goal
 

@@ -1,12 +1,12 @@
 use Rattle.std.proofs.Common.{rules, refl, Ok}
 use Rattle.afdx_lists.specs.FrameLines.{listed_frame}
-use Rattle.afdx_run.specs.Items.{thing_of}
-use Rattle.afdx_run.specs.Listed.{frames}
+use Rattle.afdx_engine.specs.Items.{thing_of}
+use Rattle.afdx_engine.specs.Listed.{frames}
 use Rattle.afdx_replay.specs.replaying.Replayed.{WritesSoFar, WritesSome, ToldAll}
 use Rattle.afdx_replay.specs.replaying.Text.{with_lines}
 use Rattle.afdx_replay.specs.replaying.Told.{TellsItems, BeginsItems, TellsAll}
 use Rattle.afdx_replay.proofs.DefinedLemmas.{if-defined}
-use Rattle.afdx_run.proofs.ListRunLemmas.{answers-err, answers-ok}
+use Rattle.afdx_engine.proofs.ListRunLemmas.{answers-err, answers-ok}
 use Rattle.afdx_replay.proofs.ReplayLemmas.{are-some, are-so-far, told-done, stops-start}
 use Rattle.afdx_replay.proofs.replaying.run.replay_into.Goals as goal
 

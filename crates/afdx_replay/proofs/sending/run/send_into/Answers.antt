@@ -1,11 +1,11 @@
 use Rattle.std.proofs.Common.{rules, refl}
 use Rattle.afdx_lists.specs.SubmissionLines.{submission_of}
-use Rattle.afdx_run.specs.Items.{thing_of}
-use Rattle.afdx_run.specs.Listed.{submissions}
+use Rattle.afdx_engine.specs.Items.{thing_of}
+use Rattle.afdx_engine.specs.Listed.{submissions}
 use Rattle.afdx_replay.specs.sending.Told.{TellsItems, BeginsItems, TellsAll}
 use Rattle.afdx_replay.specs.sending.Sent.{source_at, WritesSoFar, WritesSome, WritesEvents}
-use Rattle.afdx_run.proofs.ListRunLemmas.{answers-err, answers-ok}
-use Rattle.afdx_run.proofs.RunLemmas.{stops-at-start}
+use Rattle.afdx_engine.proofs.ListRunLemmas.{answers-err, answers-ok}
+use Rattle.afdx_engine.proofs.RunLemmas.{stops-at-start}
 use Rattle.afdx_replay.proofs.SendLemmas.{are-some, are-so-far, start-some, told-done}
 use Rattle.afdx_replay.proofs.SendStartLemmas.{row-at}
 use Rattle.afdx_replay.proofs.sending.run.send_into.Goals as goal

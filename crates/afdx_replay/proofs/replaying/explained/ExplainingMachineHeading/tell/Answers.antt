@@ -1,8 +1,8 @@
 use Rattle.std.proofs.Common.{rules, ◌≡◌, Err, List, sym, subst, arith, add-one, length}
 use Rattle.afdx_lists.specs.FrameLines.{listed_frame}
 use Rattle.afdx_police.specs.Arrival.{Arrival}
-use Rattle.afdx_run.specs.Items.{arrivals}
-use Rattle.afdx_run.specs.Listed.{arrival_at}
+use Rattle.afdx_engine.specs.Items.{arrivals}
+use Rattle.afdx_engine.specs.Listed.{arrival_at}
 use Rattle.afdx_switch.specs.Early.{IsEarlyBy}
 use Rattle.afdx_replay.proofs.EarlyLemmas.{begun-early, early-more, early-same}
 use Rattle.afdx_replay.proofs.replaying.explained.ExplainingMachineHeading.tell.Goals as goal

@@ -2,8 +2,8 @@ use Rattle.std.proofs.Common.{◌≡◌, ◌∙◌, ◌∷◌, sym, ap, refl, su
 use Rattle.std.specs.Io.KnownBytes.{Appends}
 use Rattle.afdx_frame.specs.Parts.{bytes_of}
 use Rattle.afdx_lists.specs.Calls.{AppendsFront}
-use Rattle.afdx_systems.specs.Receptions.{is_delivered}
-use Rattle.afdx_systems.specs.StandsFor as systems
+use Rattle.afdx_end_systems.specs.Receptions.{is_delivered}
+use Rattle.afdx_end_systems.specs.StandsFor as systems
 use Rattle.afdx_replay.specs.replaying.Text.{departure_line, frames_left, handed_over, heard}
 use Rattle.afdx_replay.proofs.ReplayLemmas.{line-is, old-is, handed-is, heard-whole, heard-front, tells-old, tells-left}
 use Rattle.afdx_replay.proofs.ReplayLemmas.{left-lines}

@@ -1,6 +1,6 @@
 use Rattle.std.proofs.Common.{◌∷◌, List, subst, refl, arith}
 use Rattle.afdx_replay.specs.sending.Sent.{WritesSome}
-use Rattle.afdx_run.specs.Listed.{Handed}
+use Rattle.afdx_engine.specs.Listed.{Handed}
 use Rattle.afdx_replay.specs.sending.Events.{Emitted}
 use Rattle.afdx_text.proofs.OutputLemmas.{on-err}
 use Rattle.afdx_replay.proofs.SendLemmas.{told-emitted, told-later, told-some, begun-emitted, done-at, if-none}

@@ -1,5 +1,5 @@
 use Rattle.std.proofs.Common.{rules, arith, ◌≡◌, List, subst, Err}
-use Rattle.afdx_run.specs.Listed.{Handed}
+use Rattle.afdx_engine.specs.Listed.{Handed}
 use Rattle.afdx_replay.specs.sending.Sent.{WritesSome}
 use Rattle.afdx_replay.proofs.SendLemmas.{told-all}
 use Rattle.afdx_replay.proofs.sending.run.SendingMachineHanded.end.Goals as goal

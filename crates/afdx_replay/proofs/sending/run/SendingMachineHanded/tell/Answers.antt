@@ -1,5 +1,5 @@
 use Rattle.std.proofs.Common.{arith, add-one, length}
-use Rattle.afdx_run.specs.Items.{handed}
+use Rattle.afdx_engine.specs.Items.{handed}
 use Rattle.afdx_replay.proofs.sending.run.SendingMachineHanded.tell.Goals as goal
 
 pub returns-clause-told : goal.returns-clause-told

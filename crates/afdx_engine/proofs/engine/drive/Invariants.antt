@@ -1,0 +1,16 @@
+use Rattle.std.proofs.Common.{◌≡◌, [], List, false}
+use Rattle.afdx_engine.specs.Engine.{Item}
+use Rattle.afdx_engine.proofs.engine.drive.Given as goal
+
+abbrev pub invariant-loop-source : goal.invariant-loop-source
+invariant-loop-source g l =
+    (past : List (Item g.row.H.Denot))
+    × (g.O.Sink.failed l.output ≡ false)
+    × g.S.Source.Gave l.fn.input l.source l.input past
+    × (g.S.Source.settings l.source ≡ g.S.Source.settings l.fn.source)
+    × ((rules : g.M.Machine.Rules) →
+    g.M.Machine.Told rules l.fn.machine (g.O.Sink.written l.fn.output) (g.O.Sink.written l.fn.output) [] →
+    g.M.Machine.Told rules l.machine (g.O.Sink.written l.fn.output) (g.O.Sink.written l.output) past)
+
+abbrev pub decreases-loop-source : goal.decreases-loop-source
+decreases-loop-source g l = g.S.Source.left_of l.source

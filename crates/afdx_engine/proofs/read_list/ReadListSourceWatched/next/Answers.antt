@@ -1,0 +1,92 @@
+use Rattle.std.proofs.Common.{rules, arith, ◌≡◌, ◌∙◌, sym, ap, Ok, Err, true, refl}
+use Rattle.afdx_engine.specs.Engine.{item_of}
+use Rattle.afdx_engine.specs.Items.{thing_of}
+use Rattle.afdx_engine.proofs.ListSourceLemmas.{TookLine, gave-skip, gave-item, stopped-line, stopped-reader}
+use Rattle.afdx_engine.proofs.read_list.ReadListSourceWatched.next.Goals as goal
+
+pub returns-in_err-next_line-clause-stop : goal.returns-in_err-next_line-clause-stop
+returns-in_err-next_line-clause-stop g c start past h =
+    let k = g.H.Listed.kind in
+    let gave = c.loop-self.invariant.gave start past h in
+    let e : c.from_residual.result ≡ Err c.in_err-next_line.field-0.0 = search rules in
+    rw e (stopped-reader k (thing_of k g.H.Listed.says_of) g.R.Read.remaining start c.loop-self.input
+    c.next_line.new.input c.loop-self.self.reader c.next_line.new.self
+    (g.H.Listed.time_of c.loop-self.self.head) past gave
+    c.in_err-next_line.field-0.0 c.in_err-next_line.ensures.fault c.in_err-next_line.ensures.failed
+    (λ e. c.in_err-next_line.ensures.read (ap Err e)) c.next_line.ensures.honest c.in_err-next_line.ensures.part
+    c.next_line.ensures.calls c.next_line.ensures.last_call)
+
+pub returns-in-Ok-Some-clause-item : goal.returns-in-Ok-Some-clause-item
+returns-in-Ok-Some-clause-item g c start past h ok =
+    let k = g.H.Listed.kind in
+    let is : c.next_line.result ≡ Ok true = search rules in
+    let lines = c.next_line.ensures.lines is in
+    let took : TookLine g.R.Read.remaining c.loop-self.self.reader c.loop-self.input c.next_line.new.self
+    c.next_line.new.input = record {
+      sound = search rules;
+      honest = c.next_line.ensures.honest;
+      line = c.next_line.ensures.line is;
+      short = c.next_line.ensures.short is;
+      lines = lines;
+      whole = c.next_line.ensures.whole is;
+      calls = c.next_line.ensures.calls;
+    } in
+    let gave = c.loop-self.invariant.gave start past h in
+    let early = rw c.in-Ok-Some.field-0-is at c.in-Ok-Some.ensures.time in
+    let follows = rw c.in-Ok-Some.field-0-is at c.in-Ok-Some.ensures.follows in
+    let x = item_of c.next_line.new.self.lines c.in-Ok-Some.head c.read_line.new.bytes.items in (
+      gave-item k (thing_of k g.H.Listed.says_of) g.R.Read.remaining start c.loop-self.input
+          c.next_line.new.input c.loop-self.self.reader c.next_line.new.self
+          (g.H.Listed.time_of c.loop-self.self.head) past gave took x
+          (g.H.Listed.says_of c.in-Ok-Some.head c.read_line.new.bytes.items) _
+          (rw (c.line.ensures, c.time.ensures, c.in-Ok-Some.field-0-is) at c.in-Ok-Some.ensures.ok) refl
+          (sym (g.met.H.Listed.times _ _ _)) early,
+      follows past c.next_line.new.self.lines (sym gave.latest_is ∙ sym c.time.ensures)
+          (omega (arith, gave.fewer, lines.0, lines.1)),
+    )
+
+pub loop-self-preserved : goal.loop-self-preserved
+loop-self-preserved g c =
+    let k = g.H.Listed.kind in
+    let is : c.next_line.result ≡ Ok true = search rules in
+    let lines = c.next_line.ensures.lines is in
+    let took : TookLine g.R.Read.remaining c.loop-self.self.reader c.loop-self.input c.next_line.new.self
+    c.next_line.new.input = record {
+      sound = search rules;
+      honest = c.next_line.ensures.honest;
+      line = c.next_line.ensures.line is;
+      short = c.next_line.ensures.short is;
+      lines = lines;
+      whole = c.next_line.ensures.whole is;
+      calls = c.next_line.ensures.calls;
+    } in
+    record {
+      gave = λ start past h. gave-skip k (thing_of k g.H.Listed.says_of) g.R.Read.remaining start
+          c.loop-self.input c.next_line.new.input c.loop-self.self.reader c.next_line.new.self
+          (g.H.Listed.time_of c.loop-self.self.head) past
+          (c.loop-self.invariant.gave start past h) took
+          (rw (c.line.ensures, c.time.ensures, c.in-Ok-None.field-0-is) at c.in-Ok-None.ensures.ok);
+      later = omega (arith, lines.0, c.loop-self.invariant.later);
+    }
+
+pub returns-in-Err-clause-stop : goal.returns-in-Err-clause-stop
+returns-in-Err-clause-stop g c start past h =
+    let k = g.H.Listed.kind in
+    let is : c.next_line.result ≡ Ok true = search rules in
+    let lines = c.next_line.ensures.lines is in
+    let took : TookLine g.R.Read.remaining c.loop-self.self.reader c.loop-self.input c.next_line.new.self
+    c.next_line.new.input = record {
+      sound = search rules;
+      honest = c.next_line.ensures.honest;
+      line = c.next_line.ensures.line is;
+      short = c.next_line.ensures.short is;
+      lines = lines;
+      whole = c.next_line.ensures.whole is;
+      calls = c.next_line.ensures.calls;
+    } in
+    let gave = c.loop-self.invariant.gave start past h in
+    let stopped = stopped-line k (thing_of k g.H.Listed.says_of) g.R.Read.remaining start c.loop-self.input
+    c.next_line.new.input c.loop-self.self.reader c.next_line.new.self
+    (g.H.Listed.time_of c.loop-self.self.head) past gave took
+    c.in-Err.error (rw (c.line.ensures, c.time.ensures) at c.in-Err.ensures.err) in
+    rw (c.from.ensures, c.lines-n.ensures) stopped

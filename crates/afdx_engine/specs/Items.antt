@@ -1,0 +1,50 @@
+-- What the items of a list say, whatever kind of list it is.
+use Rattle.std.specs.Prelude.{ℕ, ◌≤◌, ◌<◌, List, length, map}
+use Rattle.afdx_frame.specs.Seals.{IsSealedAs}
+use Rattle.afdx_frame.specs.Times.{latest_listed}
+use Rattle.afdx_police.specs.Arrival.{Arrival}
+use Rattle.afdx_lists.specs.FrameLines.{listed_frame}
+use Rattle.afdx_lists.specs.Lines.{most_lines}
+use Rattle.afdx_lists.specs.SubmissionLines.{submission_of}
+use Rattle.afdx_lists.specs.declared.frame_line.Heading.{Heading}
+use Rattle.afdx_lists.specs.declared.submission_line.Handed.{Handed}
+use Rattle.afdx_engine.specs.Engine.{Item}
+use Rattle.afdx_engine.specs.Lists.{Kind, latest_in}
+use Rattle.afdx_engine.specs.Listed.{frames}
+use Rattle.afdx_engine.specs.Listed.{submissions}
+use Rattle.afdx_engine.specs.Listed as listed
+
+-- what an item says: its line says `says_of` its head and its bytes
+abbrev pub thing_of : {H Y X : Type 0} → Kind Y X → (H → List ℕ → Y) → Item H → X
+thing_of k says_of x = k.item x.number (says_of x.head x.bytes)
+
+-- the arrivals of the items of a list of frames
+abbrev pub arrivals : List (Item Heading) → List Arrival
+arrivals past = map (thing_of frames listed_frame) past
+
+-- the submissions of those of a list of messages
+abbrev pub handed : List (Item Handed) → List listed.Handed
+handed past = map (thing_of submissions submission_of) past
+
+-- the most frames that a run can count: those of any recording, and far more than a list has
+abbrev pub most_frames : ℕ
+most_frames = 200000000000000000
+
+-- the limits of a run: an item may come after these, no earlier than they, not too late, and there
+-- are not too many
+pub record IsInOrder {H Y X : Type 0} (k : Kind Y X) (said : Item H → X) (time : H → ℕ) (most : ℕ)
+    (past : List (Item H)) (x : Item H) : Type 0 where
+  pub order : latest_in k (map said past) ≤ time x.head
+  pub early : time x.head ≤ latest_listed
+  pub few : length past < most
+
+-- a frame may come after these: in order, and what is said of its seal is true
+pub record CanFollow (past : List (Item Heading)) (x : Item Heading) : Type 0 where
+  pub in_order :
+      IsInOrder frames (thing_of frames listed_frame) (λ head. head.time) most_frames past x
+  pub sealed : IsSealedAs x.head.seal x.bytes
+
+-- a message may come after these
+abbrev pub CanBeHanded : List (Item Handed) → Item Handed → Type 0
+CanBeHanded past x =
+    IsInOrder submissions (thing_of submissions submission_of) (λ head. head.time) most_lines past x

@@ -1,0 +1,93 @@
+//! The two kinds of lists: of frames, and of messages.
+
+ghost use Rattle.std.specs.Prelude.{refl};
+ghost use Rattle.afdx_lists.specs.FrameLines.{ListedFrame, listed_frame};
+ghost use Rattle.afdx_lists.specs.SubmissionLines.{Submission, submission_of};
+ghost use Rattle.afdx_police.specs.Arrival.{Arrival};
+ghost use Rattle.afdx_engine.specs.Items.{CanFollow, CanBeHanded};
+ghost use Rattle.afdx_engine.specs.Listed.{frames};
+ghost use Rattle.afdx_engine.specs.Listed.{submissions};
+ghost use Rattle.afdx_engine.specs.Listed as listed;
+
+use crate::engine::Head;
+use crate::read_list::Listed;
+use afdx_frame::{Seal, Side};
+use afdx_lists::{Handed, Heading, LineError, read_frame_line, read_submission_line};
+
+impl Head for Heading {
+    ghost can_follow = { CanFollow };
+}
+
+impl Listed for Heading {
+    ghost Said = { ListedFrame };
+
+    ghost Thing = { Arrival };
+
+    ghost kind = { frames };
+
+    ghost says_of = { listed_frame };
+
+    ghost time_of = { λ heading. heading.time };
+
+    ghost times = { λ n heading bytes. refl };
+
+    fn none() -> Heading {
+        Heading {
+            time: 0,
+            side: Side::A,
+            port: 1,
+            seal: Seal::Missing,
+        }
+    }
+
+    fn time(&self) -> u64 {
+        self.time
+    }
+
+    fn read_line(
+        line: &[u8],
+        latest: u64,
+        frame: &mut Vec<u8>,
+    ) -> Result<Option<Heading>, LineError> {
+        read_frame_line(line, latest, frame)
+    }
+}
+
+impl Head for Handed {
+    ghost can_follow = { CanBeHanded };
+}
+
+impl Listed for Handed {
+    ghost Said = { Submission };
+
+    ghost Thing = { listed.Handed };
+
+    ghost kind = { submissions };
+
+    ghost says_of = { submission_of };
+
+    ghost time_of = { λ handed. handed.time };
+
+    ghost times = { λ n handed bytes. refl };
+
+    fn none() -> Handed {
+        Handed {
+            time: 0,
+            vl: 0,
+            sub: 0,
+            udp: 0,
+        }
+    }
+
+    fn time(&self) -> u64 {
+        self.time
+    }
+
+    fn read_line(
+        line: &[u8],
+        latest: u64,
+        payload: &mut Vec<u8>,
+    ) -> Result<Option<Handed>, LineError> {
+        read_submission_line(line, latest, payload)
+    }
+}

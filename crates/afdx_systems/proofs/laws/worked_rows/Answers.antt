@@ -1,5 +1,0 @@
-use Rattle.afdx_systems.proofs.Examples.{all_worked}
-use Rattle.afdx_systems.proofs.laws.worked_rows.Goals as goal
-
-pub returns : goal.returns
-returns c = all_worked
