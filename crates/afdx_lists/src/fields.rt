@@ -13,7 +13,7 @@ ghost use Rattle.afdx_lists.specs.declared.fault.LineFault.TheVariants.{BadLine}
 ghost use Rattle.afdx_lists.specs.declared.fault.LineError.TheVariants.{Fault};
 
 use crate::fault::{LineError, LineFault};
-use crate::first_field::first_field;
+use crate::splitting::first_field;
 use afdx_frame::LATEST_LISTED;
 use hex::FromHexError;
 use std::alloc::AllocError;

@@ -16,7 +16,7 @@ use crate::fault::{LineError, LineFault};
 use crate::fields::{
     fault_of_time, first_error, read_bytes, says_nothing, split_number, trim_line,
 };
-use crate::first_field::first_field;
+use crate::splitting::first_field;
 use afdx_frame::{Checked, LAST_PORT, Seal, Side, unseal};
 
 /// When and where a frame comes in at a switch.

@@ -5,20 +5,20 @@
 
 mod fault;
 mod fields;
-mod first_field;
 mod frame_line;
 pub mod laws;
 mod line_reader;
 mod peeked;
 mod recording_fault;
+mod splitting;
 mod submission_line;
 mod watched;
 
 pub use fault::{LineError, LineFault, RUN_FAULTS, RunFault};
-pub use first_field::first_field;
 pub use frame_line::{FrameKind, Heading, read_frame_line};
 pub use line_reader::LineReader;
 pub use peeked::Peeked;
 pub use recording_fault::{RECORDING_FAULTS, RecordingFault};
+pub use splitting::first_field;
 pub use submission_line::{Handed, read_submission_line};
 pub use watched::Watched;

@@ -1,5 +1,5 @@
 use Rattle.afdx_lists.proofs.SplitLemmas.{split_at_byte, split_at_none}
-use Rattle.afdx_lists.proofs.first_field.first_field.Goals as goal
+use Rattle.afdx_lists.proofs.splitting.first_field.Goals as goal
 
 pub returns-in-Some-clause-parts : goal.returns-in-Some-clause-parts
 returns-in-Some-clause-parts c = split_at_byte c.args.byte c.args.text.now c.in-Some.at c.in-Some.ensures
