@@ -84,19 +84,21 @@ def tap_of(row: Row, faults: list[str]) -> Tap:
     return Tap(row, row.name, place, direction)
 
 
-def are_one(one: Tap, other: Tap) -> bool:
-    """Both are an interface of one name in a recording of the same side."""
-    sides = [tap.place.side if tap.place else None for tap in (one, other)]
-    return one.name == other.name and (None in sides or sides[0] == sides[1])
-
-
 def refuse_twice(taps: list[Tap], faults: list[str]) -> None:
-    """Notes the taps that are one interface twice, or one place."""
-    for number, tap in enumerate(taps):
-        for before in taps[:number]:
-            if are_one(before, tap):
-                faults.append(f"{tap.row.at('interface')}: {before.row.place} has it too")
-            if tap.place and (tap.place, tap.direction) == (before.place, before.direction):
+    """Notes the taps that are one interface twice, in a recording of the same side or of none, or
+    one place."""
+    names: dict[tuple[str, str | None], Tap] = {}
+    places: dict[tuple[Place, str], Tap] = {}
+    for tap in taps:
+        side = tap.place.side if tap.place else None
+        sides = ("A", "B", None) if side is None else (side, None)
+        same = [names[tap.name, each] for each in sides if (tap.name, each) in names]
+        if same:
+            faults.append(f"{tap.row.at('interface')}: {same[0].row.place} has it too")
+        names.setdefault((tap.name, side), tap)
+        if tap.place:
+            before = places.setdefault((tap.place, tap.direction), tap)
+            if before is not tap:
                 faults.append(f"{tap.row.at('port')}: {before.row.place} is {tap.says} too")
 
 

@@ -88,7 +88,8 @@ offer_tests() { # SHELL
         offers "$1" "afdx-capture pcap $files/" two.list
         offers "$1" "afdx-capture pcap --side A $files/two.list $files/" four.pcap
         offers "$1" "afdx-capture annotate $files/" one.toml
-        offers "$1" "afdx-capture annotate $files/one.toml $files/" two.list
+        offers "$1" "afdx-capture annotate $files/one.toml $files/" two.list four.pcap
+        offers "$1" "afdx-capture annotate $files/one.toml $files/four.pcap $files/" four.pcap
         offers "$1" "afdx-report $files/" one.toml
         offers "$1" "afdx-report --rows 7 $files/one.toml $files/" two.list four.pcap
         offers "$1" "afdx-report --fcs no $files/one.toml $files/four.pcap $files/" four.pcap

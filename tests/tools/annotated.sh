@@ -1,0 +1,174 @@
+# Tests of afdx-capture annotate on recordings, against tshark; a part of tests/run/tools.sh.
+# shellcheck shell=bash
+# shellcheck disable=SC2154  # what it uses is set by tests/run/tools.sh, which sources it
+
+said=$work/annotated
+
+fields_of() { # RECORDING FIELD.. : of each frame, with tabs between
+    local words=() field
+    for field in "${@:2}"; do words+=(-e "$field"); done
+    env HOME="$work" tshark -r "$1" -T fields -E aggregator=';' "${words[@]}" 2>"$work/said"
+}
+
+as_recorded() { # GOT WANTED : frames are those of the other recording, as tshark sees them
+    local fields=(frame.number frame.interface_id frame.time_epoch frame.len frame.cap_len)
+    fields_of "$2" "${fields[@]}" | sed 's/\t\t/\t0\t/' >"$work/wanted"
+    fields_of "$1" "${fields[@]}" | sed 's/\t\t/\t0\t/' >"$work/got"
+    same "$work/wanted" "$work/got"
+    env HOME="$work" tshark -r "$2" -x >"$work/wanted" 2>"$work/said"
+    env HOME="$work" tshark -r "$1" -x >"$work/got" 2>"$work/said"
+    same "$work/wanted" "$work/got"
+    if [[ ! -s $work/got ]]; then echo 'no frames'; fi
+}
+
+lines_of() { # RECORDING : the comments, each line of a comment by itself
+    fields_of "$1" frame.comment | tr ';' '\n' | sed '/^$/d' | sort
+}
+
+replayed_lines() { # WORD.. : the lines of a replay, without messages
+    "$program" replay "$@" 2>"$work/said" | awk '$1 == "M" {NF = 4} {print}' | sort
+}
+
+own_numbers() { # RECORDING : each frame's verdict has its number
+    fields_of "$1" frame.number frame.comment | awk -F '\t' '{
+        split($2, words, "[ ;]")
+        if (words[1] == "V" && words[2] != $1) {print "frame " $1 " has " $2; exit}}'
+}
+
+one_tests() {
+    local config=examples/network.toml one=$said/one.pcap
+    capture pcap --origin 1764210600123456789 "$work/sample.list" "$one"
+    launch tools/afdx-capture annotate "$config" "$one" "$said/one.said.pcapng"
+    tell 'frames of a pcap as they were recorded, with their lines' "$(
+        is_status 0
+        as_recorded "$said/one.said.pcapng" "$one"
+        same <(replayed_lines "$config" "$one") <(lines_of "$said/one.said.pcapng")
+        own_numbers "$said/one.said.pcapng"
+    )"
+    capture annotate "$config" "$work/sample.list" "$said/many.pcapng"
+    launch tools/afdx-capture annotate "$config" "$said/many.pcapng" "$said/many.said.pcapng"
+    tell 'those of a pcapng keep interfaces, names and comments' "$(
+        is_status 0
+        as_recorded "$said/many.said.pcapng" "$said/many.pcapng"
+        same <(fields_of "$said/many.pcapng" frame.interface_name) \
+            <(fields_of "$said/many.said.pcapng" frame.interface_name)
+        if [[ $(lines_of "$said/many.said.pcapng" | uniq -d | wc -l) -lt 1000 ]]; then
+            echo 'the earlier comments are gone'
+        fi
+    )"
+    launch tools/afdx-capture annotate --interface 0=A:5 --stamps start --reorder 50 --fcs yes \
+        "$config" "$one" "$said/placed.pcapng"
+    tell 'options of recordings are handed on' "$(
+        is_status 0
+        as_recorded "$said/placed.pcapng" "$one"
+        same <(replayed_lines --interface 0=A:5 --stamps start --reorder 50 --fcs yes "$config" \
+            "$one") <(lines_of "$said/placed.pcapng")
+    )"
+    tools/afdx-capture annotate "$config" - - <"$one" >"$said/piped.pcapng" 2>"$work/err"
+    tell 'from standard input to standard output' "$(
+        same "$said/one.said.pcapng" "$said/piped.pcapng"
+    )"
+}
+
+two_tests() {
+    local config=examples/network.toml a=$said/A.pcap b=$said/B.pcap
+    capture pcap --side A "$work/sample.list" "$a"
+    capture pcap --side B "$work/sample.list" "$b"
+    launch tools/afdx-capture annotate "$config" "$a" "$b" "$said/two.pcapng"
+    tell 'two recordings: each frame with its number and side' "$(
+        is_status 0
+        same <(replayed_lines "$config" "$a" "$b") <(lines_of "$said/two.pcapng")
+        fields_of "$said/two.pcapng" frame.interface_name frame.comment | awk -F '\t' '{
+            split($2, words, "[ ;]")
+            if (words[3] != $1 || words[2] != ++count[$1]) {print "frame " NR ": " $0; exit}}'
+        fields_of "$said/two.pcapng" frame.time_epoch >"$work/got"
+        sort -c -n "$work/got" 2>&1
+    )"
+}
+
+# The program, or one in its place that says the numbers of what it leaves out: those of its lines
+# with `--reorder 0`.
+numbering() {
+    printf 'F 0 A 1 %s\nF 1 A 1 %s\n' "$(frame_of A 0)" "$(printf 'ff%.0s' {1..60})" \
+        >"$said/other.list"
+    capture pcap "$said/other.list" "$said/other.pcap"
+    if "$program" list examples/base.toml "$said/other.pcap" | grep -qE '^# [a-z-]+ [0-9]'; then
+        echo "$program"
+        return
+    fi
+    cat >"$said/numbering" <<END_OF_FILE
+#!/bin/bash
+if [[ \$1 != list ]]; then exec "$program" "\$@"; fi
+"$program" "\$@" --reorder 0 | awk '/^#/ {print \$0, NR; next} {print}'
+END_OF_FILE
+    chmod +x "$said/numbering"
+    echo "$said/numbering"
+}
+
+left_out_tests() {
+    local config=examples/base.toml run=$said/left.pcap program_of_numbers
+    program_of_numbers=$(numbering)
+    {
+        echo "F 0 A 1 $(frame_of A 0)"
+        echo "F 1000000 A 1 ffffffffffff0200000001200806$(printf '00%.0s' {1..50})"
+        echo "F 2000000 A 1 $(frame_of A 1)"
+        echo "F 3000000 A 1 $(frame_of A 2 | sed 's/ 020000000 / /; s/0200000001/0200000099/')"
+        echo "F 4000000 A 1 $(frame_of A 3)"
+    } >"$said/left.list"
+    capture pcap "$said/left.list" "$run"
+    launch env AFDX="$program_of_numbers" tools/afdx-capture annotate "$config" "$run" \
+        "$said/left.pcapng"
+    tell 'frames that were left out say why' "$(
+        is_status 0
+        as_recorded "$said/left.pcapng" "$run"
+        fields_of "$said/left.pcapng" frame.number frame.comment | cut -d ';' -f 1 >"$work/got"
+        printf '%s\t%s\n' 1 'V 1 A accept' 2 '# not-afdx' 3 'V 3 A accept' 4 '# unknown-sender' \
+            5 'V 5 A accept' >"$work/wanted"
+        same "$work/wanted" "$work/got"
+    )"
+    "$python" tests/tools/odd_recordings.py "$said" "$(frame_of A 0)5d0b5f3c"
+    launch env AFDX="$program_of_numbers" tools/afdx-capture annotate "$config" \
+        "$said/big.pcapng" "$said/small.pcapng"
+    tell 'the other order of bytes, stamps of other units, blocks that are no frames' "$(
+        is_status 0
+        as_recorded "$said/small.pcapng" "$said/big.pcapng"
+    )"
+}
+
+fault_tests_of_recordings() {
+    head -c -10 "$said/one.pcap" >"$said/cut.pcap"
+    launch tools/afdx-capture annotate examples/network.toml "$said/cut.pcap" "$said/no.pcapng"
+    tell 'annotate on a recording that is cut' "$(
+        is_status 3
+        one_line
+        says err 'recording Ended'
+        if [[ -e $said/no.pcapng ]]; then echo 'there is a recording'; fi
+    )"
+    launch tools/afdx-capture annotate examples/refused.toml "$said/one.pcap" "$said/no.pcapng"
+    tell 'annotate on a recording where the network is refused' "$(
+        is_status 1
+        one_line
+        says err 'admit A3 7 104 267995'
+    )"
+    launch tools/afdx-capture annotate --fcs no examples/base.toml examples/one_link.list \
+        "$said/no.pcapng"
+    tell 'annotate on a list with options of recordings' "$(
+        is_status 3
+        says err 'recording NotRecording 0'
+    )"
+    launch tools/afdx-capture annotate --origin x examples/base.toml examples/one_link.list \
+        "$said/no.pcapng"
+    tell 'annotate on a list with an origin that is no number' "$(is_status 2; one_line)"
+    launch tools/afdx-capture annotate examples/base.toml - - "$said/no.pcapng"
+    tell 'annotate on standard input twice' "$(is_status 2; one_line; says err SameInput)"
+}
+
+mkdir -p "$said"
+if [[ -x $program && -n $dpkt && $reads == *two* ]] && has tshark; then
+    one_tests
+    two_tests
+    left_out_tests
+    fault_tests_of_recordings
+else
+    skip 'annotated recordings' 'there is no program that reads two, no dpkt, or no tshark'
+fi
