@@ -10,14 +10,14 @@ use Rattle.afdx_police.specs.Arrival.{Arrival}
 use Rattle.afdx_police.specs.Rule.{Rule}
 use Rattle.afdx_police.specs.declared.account.LinkAccount.{LinkAccount}
 use Rattle.afdx_engine.specs.Stops.{StopsAt}
-use Rattle.afdx_arrivals.specs.Becoming.{Options}
-use Rattle.afdx_arrivals.specs.Claims.{Ports, ports_of_senders, one_port}
-use Rattle.afdx_arrivals.specs.Taking.{Taken, arrivals_in, taken_of_bytes}
-use Rattle.afdx_arrivals.specs.TakenRun.{IsOver}
-use Rattle.afdx_arrivals.specs.declared.input_run.InputCount.{InputCount}
-use Rattle.afdx_arrivals.specs.declared.input_run.InputCount.TheVariants as count
-use Rattle.afdx_arrivals.specs.declared.counts.Tally.{Tally}
-use Rattle.afdx_arrivals.proofs.InputSaysLemmas.{StopsInput, IsTold, if-more}
+use Rattle.afdx_recorded.specs.Becoming.{Options}
+use Rattle.afdx_recorded.specs.Claims.{Ports, ports_of_senders, one_port}
+use Rattle.afdx_recorded.specs.Taking.{Taken, arrivals_in, taken_of_bytes}
+use Rattle.afdx_inputs.specs.TakenRun.{IsOver}
+use Rattle.afdx_inputs.specs.declared.input_run.InputCount.{InputCount}
+use Rattle.afdx_inputs.specs.declared.input_run.InputCount.TheVariants as count
+use Rattle.afdx_recorded.specs.declared.counts.Tally.{Tally}
+use Rattle.afdx_inputs.proofs.InputSaysLemmas.{StopsInput, IsTold, if-more}
 use Rattle.afdx_replay.specs.Inputs.{counted_over, summary_of}
 use Rattle.afdx_replay.specs.policing.Input as police
 use Rattle.afdx_replay.specs.policing.Policed.{WritesText, WritesBeginning}

@@ -10,8 +10,8 @@ ghost use Rattle.afdx_replay.specs.Inputs.{summary_in, tally_in};
 
 use crate::status::DONE;
 use crate::summary::{InputSummary, Summary};
-use afdx_arrivals::Tally;
 use afdx_lists::{RunFault, Watched};
+use afdx_recorded::Tally;
 use afdx_text::{Output, tell_fault};
 use std::io::Write;
 

@@ -15,10 +15,10 @@ mod solve_command;
 pub mod status;
 mod summary;
 
-pub use afdx_arrivals::{Interfaces, PairOptions, Place, RecordingOptions, Tally};
 pub use afdx_config::KeptKeys;
 pub use afdx_frame::{BySide, Policing};
 pub use afdx_lists::{Peeked, RecordingFault, RunFault, Watched};
+pub use afdx_recorded::{Interfaces, PairOptions, Place, RecordingOptions, Tally};
 pub use afdx_solve::SolveOptions;
 pub use afdx_text::{Output, Sink};
 pub use check_command::{CheckOptions, check, check_lines};

@@ -3,7 +3,8 @@
 ghost use Rattle.std.specs.Prelude.{◌≡◌};
 ghost use Rattle.afdx_replay.specs.Inputs as inputs;
 
-use afdx_arrivals::{InputCount, Tally};
+use afdx_inputs::InputCount;
+use afdx_recorded::Tally;
 use std::fmt;
 
 /// What a run counted. A count that has no meaning in a run stays 0.

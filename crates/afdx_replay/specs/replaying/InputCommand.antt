@@ -8,9 +8,9 @@ use Rattle.afdx_lists.specs.Watching.{calls_of, device_of}
 use Rattle.afdx_lists.specs.declared.fault.RunFault.{RunFault}
 use Rattle.afdx_lists.specs.declared.peeked.Peeked.{Peeked}
 use Rattle.afdx_lists.specs.declared.watched.Watched.{Watched}
-use Rattle.afdx_arrivals.specs.Becoming.{options_of}
-use Rattle.afdx_arrivals.specs.InputRun.{is_read_recorded, IsAskedFew}
-use Rattle.afdx_arrivals.specs.declared.becoming.RecordingOptions.{RecordingOptions}
+use Rattle.afdx_recorded.specs.Becoming.{options_of}
+use Rattle.afdx_inputs.specs.InputRun.{is_read_recorded, IsAskedFew}
+use Rattle.afdx_recorded.specs.declared.becoming.RecordingOptions.{RecordingOptions}
 use Rattle.afdx_replay.specs.Commands.{EndsAs}
 use Rattle.afdx_replay.specs.Inputs.{summary_in, tally_in}
 use Rattle.afdx_replay.specs.replaying.Command.{IsNotReplayed}

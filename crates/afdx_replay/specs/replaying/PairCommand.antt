@@ -7,8 +7,8 @@ use Rattle.afdx_config.specs.Rows.{Rows}
 use Rattle.afdx_lists.specs.Watching.{calls_of, device_of}
 use Rattle.afdx_lists.specs.declared.fault.RunFault.{RunFault}
 use Rattle.afdx_lists.specs.declared.watched.Watched.{Watched}
-use Rattle.afdx_arrivals.specs.RecordingRun.{IfBothKnown, IsAskedOnce}
-use Rattle.afdx_arrivals.specs.declared.pair_options.PairOptions.{PairOptions}
+use Rattle.afdx_inputs.specs.RecordingRun.{IfBothKnown, IsAskedOnce}
+use Rattle.afdx_recorded.specs.declared.pair_options.PairOptions.{PairOptions}
 use Rattle.afdx_replay.specs.Commands.{EndsAsPair}
 use Rattle.afdx_replay.specs.Inputs.{summary_in, tally_in}
 use Rattle.afdx_replay.specs.replaying.InputCommand.{EndsUnread}

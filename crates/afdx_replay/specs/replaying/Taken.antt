@@ -6,9 +6,9 @@ use Rattle.afdx_config.specs.Rows.{Rows}
 use Rattle.afdx_lists.specs.declared.fault.RunFault.{RunFault}
 use Rattle.afdx_lists.specs.declared.watched.Watched.{Watched}
 use Rattle.afdx_network.specs.Order.{events_of}
-use Rattle.afdx_arrivals.specs.NumberLines.{Lines}
-use Rattle.afdx_arrivals.specs.Taking.{Taken, arrivals_in}
-use Rattle.afdx_arrivals.specs.TakenRun.{HasNoFault, StopsTaken}
+use Rattle.afdx_recorded.specs.NumberLines.{Lines}
+use Rattle.afdx_recorded.specs.Taking.{Taken, arrivals_in}
+use Rattle.afdx_inputs.specs.TakenRun.{HasNoFault, StopsTaken}
 use Rattle.afdx_replay.specs.Inputs.{counted_over}
 use Rattle.afdx_replay.specs.replaying.Early.{TellsEarly, TellsMost}
 use Rattle.afdx_replay.specs.replaying.PromisedRun.{IsAsPromised, WritesPromisedSoFar, WritesPromisedSome}

@@ -8,8 +8,8 @@ ghost use Rattle.afdx_replay.specs.replaying.InputCommand.{EndsInput, EndsInputE
 use crate::ending::{InputEnded, end_input};
 use crate::replaying::input::{explain_input_into, replay_input_into};
 use crate::replaying::tables::take_tables;
-use afdx_arrivals::RecordingOptions;
 use afdx_lists::{Peeked, Watched};
+use afdx_recorded::RecordingOptions;
 use afdx_text::Sink;
 use std::alloc::Global;
 use std::io::{Read, Write};

@@ -8,9 +8,9 @@ ghost use Rattle.afdx_replay.specs.replaying.PairCommand.{EndsPair, EndsPairExpl
 use crate::ending::{InputEnded, end_input};
 use crate::replaying::pair::{explain_pair_into, replay_pair_into};
 use crate::replaying::tables::take_tables;
-use afdx_arrivals::PairOptions;
 use afdx_frame::BySide;
 use afdx_lists::Watched;
+use afdx_recorded::PairOptions;
 use afdx_text::Sink;
 use std::alloc::Global;
 use std::io::{Read, Write};

@@ -18,9 +18,9 @@ ghost use Rattle.afdx_replay.specs.sending.Progress.{handed_at, HasTold, AreTold
 use crate::summary::{NO_COUNTS, Summary};
 use afdx_admit::Admitted;
 use afdx_config::SystemId;
+use afdx_engine::{Machine, run_list};
 use afdx_frame::{Side, VlId};
 use afdx_lists::{FrameKind, Handed, RunFault, Watched};
-use afdx_engine::{Machine, run_list};
 use afdx_send::{Emission, SendFault, Sender};
 use afdx_text::{OutLine, Sink, Text};
 use std::alloc::{AllocError, Global};

@@ -1,5 +1,5 @@
 use Rattle.std.proofs.Common.{refl, inl, inr}
-use Rattle.afdx_arrivals.proofs.RecordingRunLemmas.{unasked}
+use Rattle.afdx_inputs.proofs.RecordingRunLemmas.{unasked}
 use Rattle.afdx_replay.proofs.RefusalLemmas.{config-refused}
 use Rattle.afdx_replay.proofs.listing.list_and_count.Goals as goal
 
