@@ -27,7 +27,7 @@ use Rattle.afdx_replay.specs.replaying.Input.{AnswersInput, ExplainsInput, taken
 use Rattle.afdx_replay.specs.replaying.Replayed.{Known, WritesSoFar, WritesSome, ToldAll}
 use Rattle.afdx_replay.specs.replaying.Taken.{WritesRecorded}
 use Rattle.afdx_replay.specs.replaying.Text.{replay_counts}
-use Rattle.afdx_replay.specs.declared.summary.Summary.{Summary}
+use Rattle.afdx_commands.specs.declared.summary.Summary.{Summary}
 use Rattle.afdx_replay.proofs.ReplayLemmas.{told-done}
 use Rattle.afdx_replay.proofs.ToldLemmas as police_lemmas
 use Rattle.afdx_replay.proofs.EarlyLemmas.{done-told}

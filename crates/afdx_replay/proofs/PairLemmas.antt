@@ -19,7 +19,7 @@ use Rattle.afdx_replay.specs.Inputs.{summary_of}
 use Rattle.afdx_replay.specs.replaying.Early.{TellsEarly}
 use Rattle.afdx_replay.specs.replaying.Pair.{AnswersPair, ExplainsPair, are_cut_of, taken_of}
 use Rattle.afdx_replay.specs.replaying.Replayed.{Known, ToldAll}
-use Rattle.afdx_replay.specs.declared.summary.Summary.{Summary}
+use Rattle.afdx_commands.specs.declared.summary.Summary.{Summary}
 use Rattle.afdx_replay.proofs.InputLemmas.{recorded-whole}
 
 -- more is known of both

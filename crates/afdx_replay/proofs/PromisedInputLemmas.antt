@@ -30,8 +30,8 @@ use Rattle.afdx_replay.specs.replaying.Pair.{AnswersPair, PromisedPair}
 use Rattle.afdx_replay.specs.replaying.PromisedRun.{WritesPromisedSoFar, WritesPromisedSome}
 use Rattle.afdx_replay.specs.replaying.Replayed.{Known, WritesSoFar, WritesSome}
 use Rattle.afdx_replay.specs.replaying.Taken.{AnswersTaken, PromisedTaken}
-use Rattle.afdx_replay.specs.declared.summary.InputSummary.{InputSummary}
-use Rattle.afdx_replay.specs.declared.summary.Summary.{Summary}
+use Rattle.afdx_replay.specs.declared.input_ending.InputSummary.{InputSummary}
+use Rattle.afdx_commands.specs.declared.summary.Summary.{Summary}
 use Rattle.afdx_replay.proofs.PairLemmas.{if-both-more}
 use Rattle.afdx_replay.proofs.AdmittedRunLemmas.{latest-most, as-promised, so-far-promised, some-promised, promised-answers}
 

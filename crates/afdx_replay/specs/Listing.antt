@@ -18,8 +18,8 @@ use Rattle.afdx_recorded.specs.declared.becoming.RecordingOptions.{RecordingOpti
 use Rattle.afdx_recorded.specs.declared.pair_options.PairOptions.{PairOptions}
 use Rattle.afdx_recorded.specs.declared.counts.Tally.{Tally}
 use Rattle.afdx_text.specs.Telling.{TellsLine}
-use Rattle.afdx_replay.specs.Commands.{have_ended, one_has_failed}
-use Rattle.afdx_replay.specs.Refusals.{RefusesConfig, WantsMemory}
+use Rattle.afdx_commands.specs.Commands.{have_ended, one_has_failed}
+use Rattle.afdx_commands.specs.Refusals.{RefusesConfig, WantsMemory}
 use Rattle.afdx_replay.specs.declared.listing.ListEnded.{ListEnded}
 
 -- the exit status of what a listing answers

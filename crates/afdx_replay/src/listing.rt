@@ -8,12 +8,12 @@ ghost use Rattle.afdx_recorded.specs.Becoming.{options_of};
 ghost use Rattle.afdx_recorded.specs.Claims.{ports_of_senders};
 ghost use Rattle.afdx_inputs.specs.ListText.{ListingAnswers};
 ghost use Rattle.afdx_text.specs.Telling.{TellsLine};
-ghost use Rattle.afdx_replay.specs.Commands.{one_has_failed};
+ghost use Rattle.afdx_commands.specs.Commands.{one_has_failed};
 ghost use Rattle.afdx_replay.specs.Listing.{EndsListing, EndsPairListing, status_of_listing};
 ghost use Rattle.afdx_replay.specs.replaying.PairCommand.{IsAskedOnceFor};
 
-use crate::refusing::refuse_config;
-use crate::status::DONE;
+use afdx_commands::refusing::refuse_config;
+use afdx_commands::status::DONE;
 use afdx_config::{Tables, read_tables};
 use afdx_frame::BySide;
 use afdx_inputs::{list_pair, list_recording};

@@ -18,7 +18,7 @@ use Rattle.afdx_replay.specs.policing.Policed.{Answers, WritesText, WritesBeginn
 use Rattle.afdx_replay.specs.policing.Text.{counts_of}
 use Rattle.afdx_replay.specs.replaying.InputCommand.{left_of}
 use Rattle.afdx_replay.specs.replaying.Replayed.{Known}
-use Rattle.afdx_replay.specs.declared.summary.InputSummary.{InputSummary}
+use Rattle.afdx_replay.specs.declared.input_ending.InputSummary.{InputSummary}
 
 -- there is no fault, the text of the arrivals is written, and they and the numbers are counted
 pub record WritesRecorded (rule : Rule) (whole : Taken) (old new : Known) (all : InputSummary) :

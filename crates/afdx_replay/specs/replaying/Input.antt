@@ -12,7 +12,7 @@ use Rattle.afdx_replay.specs.replaying.Early.{ExplainsAnswer}
 use Rattle.afdx_replay.specs.replaying.PromisedRun.{PromisedAnswers}
 use Rattle.afdx_replay.specs.replaying.Replayed.{Known, Answers}
 use Rattle.afdx_replay.specs.replaying.Taken.{AnswersTaken, PromisedTaken, ExplainsTaken}
-use Rattle.afdx_replay.specs.declared.summary.InputSummary.{InputSummary}
+use Rattle.afdx_replay.specs.declared.input_ending.InputSummary.{InputSummary}
 
 -- what a run takes of the recording of these bytes: where no option says at which port a frame came
 -- in, it is that of the system which its source address names

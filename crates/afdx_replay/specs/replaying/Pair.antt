@@ -11,7 +11,7 @@ use Rattle.afdx_recorded.specs.Taking.{Taken}
 use Rattle.afdx_recorded.specs.declared.pair_options.PairOptions.{PairOptions}
 use Rattle.afdx_replay.specs.replaying.Replayed.{Known}
 use Rattle.afdx_replay.specs.replaying.Taken.{AnswersTaken, PromisedTaken, ExplainsTaken}
-use Rattle.afdx_replay.specs.declared.summary.InputSummary.{InputSummary}
+use Rattle.afdx_replay.specs.declared.input_ending.InputSummary.{InputSummary}
 
 -- what a run takes of the recordings of these bytes, of A and of B: where no option says at which
 -- port a frame came in, it is that of the system which its source address names

@@ -14,7 +14,7 @@ use Rattle.afdx_replay.specs.replaying.Early.{TellsEarly, TellsMost}
 use Rattle.afdx_replay.specs.replaying.PromisedRun.{IsAsPromised, WritesPromisedSoFar, WritesPromisedSome}
 use Rattle.afdx_replay.specs.replaying.Replayed.{Known, WritesSoFar, WritesSome}
 use Rattle.afdx_replay.specs.replaying.Text.{replay_text, replay_counts}
-use Rattle.afdx_replay.specs.declared.summary.InputSummary.{InputSummary}
+use Rattle.afdx_replay.specs.declared.input_ending.InputSummary.{InputSummary}
 
 -- there is no fault, the text of all events of the arrivals is written, and they and the numbers
 -- are counted

@@ -10,8 +10,9 @@ ghost use Rattle.afdx_inputs.specs.InputRun.{is_read_recorded, IsAskedFew};
 ghost use Rattle.afdx_replay.specs.policing.Input.{AnswersInput};
 ghost use Rattle.afdx_replay.specs.replaying.InputCommand.{left_of};
 
+use crate::input_ending::InputSummary;
 use crate::policing::run::Police;
-use crate::summary::{InputSummary, NO_COUNTS, Summary};
+use afdx_commands::{NO_COUNTS, Summary};
 use afdx_inputs::run_input;
 use afdx_lists::{Peeked, RunFault, Watched};
 use afdx_police::LinkRule;

@@ -9,9 +9,9 @@ ghost use Rattle.afdx_inputs.specs.InputRun.{is_read_recorded, IsAskedFew};
 ghost use Rattle.afdx_replay.specs.replaying.Input.{AnswersInput, ExplainsInput};
 ghost use Rattle.afdx_replay.specs.replaying.InputCommand.{left_of};
 
+use crate::input_ending::InputSummary;
 use crate::replaying::explained::Explaining;
 use crate::replaying::run::Replay;
-use crate::summary::InputSummary;
 use afdx_config::Tables;
 use afdx_inputs::run_input;
 use afdx_lists::{Peeked, RunFault, Watched};

@@ -6,9 +6,9 @@ ghost use Rattle.afdx_lists.specs.Watching.{calls_of, device_of, has_ended, has_
 ghost use Rattle.afdx_inputs.specs.RecordingRun.{IfBothKnown, IsAskedOnce};
 ghost use Rattle.afdx_replay.specs.replaying.Pair.{AnswersPair, ExplainsPair};
 
+use crate::input_ending::InputSummary;
 use crate::replaying::explained::Explaining;
 use crate::replaying::run::Replay;
-use crate::summary::InputSummary;
 use afdx_config::Tables;
 use afdx_frame::BySide;
 use afdx_inputs::{InputCount, run_pair};

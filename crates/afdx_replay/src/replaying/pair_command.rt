@@ -2,10 +2,10 @@
 
 ghost use Rattle.std.specs.Prelude.{◌≡◌, ◌||◌, ◌⊎◌, ◌↔◌, IsSome, false, true};
 ghost use Rattle.afdx_lists.specs.Watching.{has_ended, has_failed};
-ghost use Rattle.afdx_replay.specs.Commands.{one_has_failed};
+ghost use Rattle.afdx_commands.specs.Commands.{one_has_failed};
 ghost use Rattle.afdx_replay.specs.replaying.PairCommand.{EndsPair, EndsPairExplained};
 
-use crate::ending::{InputEnded, end_input};
+use crate::input_ending::{InputEnded, end_input};
 use crate::replaying::pair::{explain_pair_into, replay_pair_into};
 use crate::replaying::tables::take_tables;
 use afdx_frame::BySide;

@@ -1,5 +1,5 @@
 use Rattle.std.proofs.Common.{refl, inl, inr}
-use Rattle.afdx_replay.specs.Commands.{have_ended, one_has_failed}
+use Rattle.afdx_commands.specs.Commands.{have_ended, one_has_failed}
 use Rattle.afdx_replay.specs.replaying.Pair.{ExplainsPair}
 use Rattle.afdx_inputs.specs.RecordingRun.{IfBothKnown}
 use Rattle.afdx_replay.specs.replaying.Tables.{tables_of}
