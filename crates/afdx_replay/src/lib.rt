@@ -25,6 +25,5 @@ pub use policing::input_command::police_input;
 pub use policing::run::run_police;
 pub use replaying::admitted::run;
 pub use replaying::command::{replay, replay_and_count};
-pub use replaying::input_command::{replay_input, replay_input_and_explain};
-pub use replaying::pair_command::{replay_pair, replay_pair_and_explain};
+pub use replaying::input_command::replay_input;
 pub use replaying::run::run_unadmitted;
