@@ -178,7 +178,7 @@ ends-in error_bytes all_read input_failed failed old new ended (Err fault) a b t
 -- ---- a run that polices one link
 
 module _ (rule : Rule) (takes : Taking) (police : Police) (old new : Known) where
-  abbrev Counts : Summary
+  abbrev pub Counts : Summary
   Counts = record {
     lines = 0;
     accepted = police.accepted;

@@ -34,7 +34,7 @@ pub(crate) fn police_over<P: Drop, A: Arrivals<P>, O: Sink>(
 
     // Where its bytes are known: what is answered and written for the arrivals that it takes.
     ensures polices { IfSome (A.known input.old) (λ bytes. Polices (rule_of rule.now)
-        (A.Takes options (one_port rule.now.port) bytes input.new)
+        (A.Takes options (one_port (rule_of rule.now).port) bytes input.new)
         (O.written output.old) (O.written output.new) result) }
 {
     let mut police = Police::new(alloc, rule);

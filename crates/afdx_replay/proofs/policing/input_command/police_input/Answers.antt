@@ -1,8 +1,12 @@
+use Rattle.std.proofs.Common.{IfSome, subst}
+use Rattle.afdx_police.specs.Rule.{Rule}
+use Rattle.afdx_recorded.specs.Claims.{one_port}
+use Rattle.afdx_replay.specs.policing.Input.{Polices}
 use Rattle.afdx_replay.proofs.ReplaysLemmas.{ends-in}
 use Rattle.afdx_replay.proofs.policing.input_command.police_input.Goals as goal
 
-pub returns-in-else-clause-calls : goal.returns-in-else-clause-calls
-returns-in-else-clause-calls g c = c.starts.ensures.asked c.args.options c.args.input.now c.requires.new
+pub returns-in_default-clause-calls : goal.returns-in_default-clause-calls
+returns-in_default-clause-calls g c = c.starts.ensures.asked c.args.options c.args.input.now c.requires.new
 
 pub returns-clause-polices : goal.returns-clause-polices
 returns-clause-polices g c commanded = (
@@ -13,5 +17,8 @@ returns-clause-polices g c commanded = (
       c.end_input.ensures.status c.end_input.ensures.summary c.end_input.ensures.tally
       c.end_input.ensures.told c.end_input.ensures.silent c.police_over-answer.ensures.ended
       c.police_over-answer.ensures.read c.police_over-answer.ensures.write,
-  rw c.in-Some.ensures.given at c.police_over-answer.ensures.polices,
+  subst (λ (rule : Rule). IfSome (g.A.Arrivals.known c.args.input.now) (λ bytes. Polices rule
+      (g.A.Arrivals.Takes c.args.options (one_port rule.port) bytes c.police_over-answer.new.input)
+      (g.O.Sink.written c.args.output.now) (g.O.Sink.written c.police_over-answer.new.output)
+      c.police_over-answer.result)) c.in-Some.ensures.given c.police_over-answer.ensures.polices,
 )

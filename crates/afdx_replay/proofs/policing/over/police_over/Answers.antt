@@ -41,3 +41,6 @@ returns-clause-polices g c =
     (λ (bytes : g.A.Arrivals.Bytes). Polices rule (takes bytes) old new (answer_of (Counts rule (takes bytes) police old new) count))
     (λ bytes told. polices-told rule (takes bytes) police old new count told)
     (c.in_ok-count.ensures.answer rule (c.new-police.ensures old)))
+
+pub tell_all-requires-clause-told : goal.tell_all-requires-clause-told
+tell_all-requires-clause-told g c = (rule_of c.args.rule.now, c.new-police.ensures (g.O.Sink.written c.args.output.now))

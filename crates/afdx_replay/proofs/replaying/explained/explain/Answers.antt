@@ -1,4 +1,4 @@
-use Rattle.std.proofs.Common.{List, sym, subst, ◌∷◌}
+use Rattle.std.proofs.Common.{List, sym, subst}
 use Rattle.afdx_lists.specs.FrameLines.{listed_frame}
 use Rattle.afdx_police.specs.Arrival.{Arrival}
 use Rattle.afdx_engine.specs.Listed.{arrival_at}

@@ -8,7 +8,7 @@ use Rattle.afdx_replay.specs.policing.Told.{HasTold, TellsItems, BeginsItems}
 use Rattle.afdx_engine.proofs.ListRunLemmas.{answers-err, answers-ok}
 use Rattle.afdx_replay.proofs.TextLemmas.{front-whole}
 use Rattle.afdx_replay.proofs.ToldLemmas.{told-done}
-use Rattle.afdx_replay.proofs.policing.run.police_into.Goals as goal
+use Rattle.afdx_replay.proofs.policing.run.run_police.Goals as goal
 
 pub run_list-requires-clause-told : goal.run_list-requires-clause-told
 run_list-requires-clause-told g c = (rule_of c.args.rule.now, c.new-police.ensures _)
@@ -16,8 +16,8 @@ run_list-requires-clause-told g c = (rule_of c.args.rule.now, c.new-police.ensur
 pub returns-in_err-lines-clause-answer : goal.returns-in_err-lines-clause-answer
 returns-in_err-lines-clause-answer g c =
     let rule = rule_of c.args.rule.now in
-    let old = g.O.Sink.written c.args.output.now in
-    let new = g.O.Sink.written c.run_list.new.output in
+    let old = g.W.Write.contents c.args.output.now.inner in
+    let new = g.W.Write.contents c.run_list.new.output.inner in
     let tells = TellsItems rule c.run_list.new.machine old new in
     let stop = answers-err frames (thing_of frames listed_frame) tells tells (BeginsItems rule old new)
     (WritesText rule old new) (WritesBeginning rule old new) (g.R.Read.remaining c.args.input.now.inner)
@@ -29,8 +29,8 @@ returns-in_err-lines-clause-answer g c =
 pub returns-clause-answer : goal.returns-clause-answer
 returns-clause-answer g c =
     let rule = rule_of c.args.rule.now in
-    let old = g.O.Sink.written c.args.output.now in
-    let new = g.O.Sink.written c.run_list.new.output in
+    let old = g.W.Write.contents c.args.output.now.inner in
+    let new = g.W.Write.contents c.run_list.new.output.inner in
     let police = c.run_list.new.machine in
     let tells = TellsItems rule police old new in
     told-done rule police.accounts police.accepted police.dropped _ _ old new _

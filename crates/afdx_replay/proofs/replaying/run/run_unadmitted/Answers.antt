@@ -8,23 +8,23 @@ use Rattle.afdx_replay.specs.replaying.Told.{TellsItems, BeginsItems, TellsAll}
 use Rattle.afdx_replay.proofs.DefinedLemmas.{if-defined}
 use Rattle.afdx_engine.proofs.ListRunLemmas.{answers-err, answers-ok}
 use Rattle.afdx_replay.proofs.ReplayLemmas.{are-some, are-so-far, told-done, stops-start}
-use Rattle.afdx_replay.proofs.replaying.run.replay_into.Goals as goal
+use Rattle.afdx_replay.proofs.replaying.run.run_unadmitted.Goals as goal
 
 pub returns-in_err-replay-clause-answer : goal.returns-in_err-replay-clause-answer
 returns-in_err-replay-clause-answer g c =
     let stop = stops-start c.args.tables.now (g.R.Read.remaining c.args.input.now.inner)
-    (g.O.Sink.written c.args.output.now) in
+    (g.W.Write.contents c.args.output.now.inner) in
     search rules
 
 pub run_list-requires-clause-told : goal.run_list-requires-clause-told
 run_list-requires-clause-told g c =
-    (c.args.tables.now, c.in_ok-replay.ensures (g.O.Sink.written c.args.output.now))
+    (c.args.tables.now, c.in_ok-replay.ensures (g.W.Write.contents c.args.output.now.inner))
 
 pub returns-in_err-lines-clause-answer : goal.returns-in_err-lines-clause-answer
 returns-in_err-lines-clause-answer g c =
     let t = c.args.tables.now in
-    let old = g.O.Sink.written c.args.output.now in
-    let new = g.O.Sink.written c.run_list.new.output in
+    let old = g.W.Write.contents c.args.output.now.inner in
+    let new = g.W.Write.contents c.run_list.new.output.inner in
     let replay = c.run_list.new.machine in
     let stop = answers-err frames (thing_of frames listed_frame) (TellsAll t replay old new)
     (TellsItems t replay old new) (BeginsItems t old new) (WritesSoFar t old new) (WritesSome t old new)
@@ -37,8 +37,8 @@ returns-in_err-lines-clause-answer g c =
 pub returns-clause-answer : goal.returns-clause-answer
 returns-clause-answer g c =
     let t = c.args.tables.now in
-    let old = g.O.Sink.written c.args.output.now in
-    let new = g.O.Sink.written c.run_list.new.output in
+    let old = g.W.Write.contents c.args.output.now.inner in
+    let new = g.W.Write.contents c.run_list.new.output.inner in
     let replay = c.run_list.new.machine in
     told-done t (ToldAll t replay.counts old new) replay.counts _ _ _ old new
     (answers-ok frames (thing_of frames listed_frame) (TellsAll t replay old new) (TellsItems t replay old new)
@@ -57,6 +57,6 @@ returns-in_err-lines-clause-defined g c = λ lawful.
 pub returns-clause-defined : goal.returns-clause-defined
 returns-clause-defined g c = λ lawful.
     if-defined c.args.tables.now (g.R.Read.remaining c.args.input.now.inner)
-    (g.R.Read.remaining c.run_list.new.input.inner) (g.O.Sink.written c.args.output.now)
-    (g.O.Sink.written c.run_list.new.output)
+    (g.R.Read.remaining c.run_list.new.input.inner) (g.W.Write.contents c.args.output.now.inner)
+    (g.W.Write.contents c.run_list.new.output.inner)
     (Ok (with_lines c.run_list.new.machine.counts c.in_ok-lines.lines)) lawful (returns-clause-answer g c)
