@@ -1,5 +1,6 @@
 //! Explanations: the command `explain`, and what follows the line of a fault with `--explain`.
 
+use crate::telling::tell_text;
 use afdx_admit::ADMISSION;
 use afdx_arrivals::SKIPPED;
 use afdx_config::{CONFIG_FAULTS, Key, LINK_KEYS, PORT_KEYS, SYSTEM_KEYS, TOP_KEYS, UNKNOWN_KEYS};
@@ -190,7 +191,7 @@ pub fn print_lists(rt: &HostRuntime) -> io::Result<()> {
 /// Where a configuration stops being TOML, and why.
 fn tell_place(rt: &HostRuntime, config: &[u8]) {
     if let Err(error) = toml::table_from_slice(rt.alloc(), config) {
-        let _ = rt.eprint(error);
+        tell_text(rt, &error);
     }
 }
 
@@ -202,10 +203,10 @@ fn tell_device(rt: &HostRuntime, line: &str, cause: &Cause<'_>) {
     };
     match &cause.reason {
         Some(reason) => {
-            let _ = eprintln!(rt; "{path}: {reason}");
+            tell_text(rt, &format_args!("{path}: {reason}\n"));
         }
         None => {
-            let _ = eprintln!(rt; "{path}");
+            tell_text(rt, &format_args!("{path}\n"));
         }
     }
 }

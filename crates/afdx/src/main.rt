@@ -7,11 +7,13 @@ mod explaining;
 mod pair_running;
 mod progress;
 mod running;
+mod telling;
 
 use crate::configs::{check_config, solve_tables};
 use crate::explaining::{Cause, explain, is_asked, line_of, print_lists, print_meaning};
 use crate::pair_running::{PairRun, run_pair};
 use crate::running::{Replaying, Run, run_list};
+use crate::telling::{complain, end_with, memory, tell_text};
 use afdx_explain::meaning_of;
 use afdx_frame::BySide;
 use afdx_replay::status::{DONE, NO_DEVICE_OR_MEMORY, WRONG_WORDS};
@@ -27,22 +29,6 @@ use std::process::ExitCode;
 
 /// The most bytes of a configuration.
 const LARGEST_CONFIG: u64 = 4_194_304;
-
-/// A line on standard error. There is nothing to be done where that fails too.
-fn complain(rt: &HostRuntime, line: &str) {
-    let _ = rt.eprintln(line);
-}
-
-/// A fault's one line on standard error, and its exit status.
-fn end_with(rt: &HostRuntime, fault: RunFault) -> u8 {
-    let status = fault.status();
-    let _ = rt.eprintln(fault);
-    status
-}
-
-fn memory(rt: &HostRuntime) -> u8 {
-    end_with(rt, RunFault::Memory)
-}
 
 /// What follows the line of a fault, if that is asked for.
 fn explain_if_asked(rt: &HostRuntime, matches: &ArgMatches<'_>, line: &str, cause: &Cause<'_>) {
@@ -218,11 +204,11 @@ fn answer_refusal(rt: &HostRuntime, refusal: &Error) -> u8 {
     if refusal.kind() == ErrorKind::OutOfMemory {
         return memory(rt);
     }
-    let printed = refusal.print(rt);
-    if refusal.exit_code() != 0 {
+    if refusal.use_stderr() {
+        tell_text(rt, refusal);
         return WRONG_WORDS;
     }
-    if printed.is_err() {
+    if refusal.print(rt).is_err() {
         return end_with(rt, RunFault::Write);
     }
     DONE

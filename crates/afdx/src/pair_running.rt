@@ -5,9 +5,10 @@ ghost use Rattle.afdx_lists.specs.Watching.{has_ended, has_failed};
 
 use crate::devices::{Heard, Input, Traced, name_of_input};
 use crate::explaining::Cause;
+use crate::no_file;
 use crate::progress::{Cleared, Count, Counted, is_told};
-use crate::running::{Replaying, early_lines, end_run, ended_of, output_room, refuse};
-use crate::{memory, no_file};
+use crate::running::{Replaying, end_run, ended_of, output_room, refuse};
+use crate::telling::{error_lines, memory};
 use afdx_frame::BySide;
 use afdx_replay::{
     InputEnded, Output, PairOptions, Sink, Watched, list_pair_and_count, replay_pair,
@@ -61,7 +62,7 @@ fn cause_in<'a, R: Drop>(
     }
 }
 
-/// Replays two recordings. Err: the status where there is no memory to tell of early frames.
+/// Replays two recordings.
 fn replay_from<R: Read, O: Sink, E: Write>(
     rt: &HostRuntime,
     replaying: &Replaying<'_>,
@@ -69,7 +70,7 @@ fn replay_from<R: Read, O: Sink, E: Write>(
     inputs: &mut BySide<Watched<R>>,
     lines: &mut O,
     faults: &mut Watched<E>,
-) -> Result<InputEnded, u8>
+) -> InputEnded
     requires sound_a { has_failed inputs.old.a ≡ false }
     requires sound_b { has_failed inputs.old.b ≡ false }
     requires unended_a { has_ended inputs.old.a ≡ false }
@@ -78,16 +79,16 @@ fn replay_from<R: Read, O: Sink, E: Write>(
 {
     let (alloc, admission, config) = (rt.alloc(), replaying.admission, replaying.config);
     if !replaying.explains_drops {
-        return Ok(replay_pair(alloc, admission, options, config, inputs, lines, faults));
+        return replay_pair(alloc, admission, options, config, inputs, lines, faults);
     }
-    let drops = early_lines(rt)?;
+    let drops = Watched::new(error_lines(rt));
     let told = replay_pair_and_explain(
         alloc, admission, options, config, inputs, lines, faults, drops,
     );
-    Ok(told.0)
+    told.0
 }
 
-/// Makes the run over what two inputs give, or gives the status where there is none.
+/// Makes the run over what two inputs give.
 fn run_over<R: Read, O: Sink, E: Write>(
     rt: &HostRuntime,
     run: &PairRun<'_>,
@@ -95,7 +96,7 @@ fn run_over<R: Read, O: Sink, E: Write>(
     inputs: &mut BySide<Watched<R>>,
     lines: &mut O,
     faults: &mut Watched<E>,
-) -> Result<InputEnded, u8>
+) -> InputEnded
     requires sound_a { has_failed inputs.old.a ≡ false }
     requires sound_b { has_failed inputs.old.b ≡ false }
     requires unended_a { has_ended inputs.old.a ≡ false }
@@ -106,7 +107,7 @@ fn run_over<R: Read, O: Sink, E: Write>(
         PairRun::Replay(replaying) => replay_from(rt, replaying, options, inputs, lines, faults),
         PairRun::List { config } => {
             let listed = list_pair_and_count(rt.alloc(), options, config, inputs, lines, faults);
-            Ok(ended_of(listed))
+            ended_of(listed)
         }
     }
 }
@@ -134,11 +135,8 @@ fn run_from(
         a: Watched::new(Traced::new(Counted::new(&count, inputs.a))),
         b: Watched::new(Traced::new(Counted::new(&count, inputs.b))),
     };
-    let mut errors = Watched::new(Heard::new(Cleared::new(rt, told, rt.stderr())));
-    let ended = match run_over(rt, run, options, &mut inputs, &mut output, &mut errors) {
-        Ok(ended) => ended,
-        Err(status) => return status,
-    };
+    let mut errors = Watched::new(Heard::new(Cleared::new(rt, told, error_lines(rt))));
+    let ended = run_over(rt, run, options, &mut inputs, &mut output, &mut errors);
     let read = cause_in(run.config(), lists, inputs);
     end_run(rt, matches, ended, read, output, errors)
 }

@@ -7,7 +7,8 @@ ghost use Rattle.afdx_lists.specs.Watching.{device_of, has_ended, has_failed};
 use crate::devices::{Heard, Traced, name_of_input};
 use crate::explaining::Cause;
 use crate::progress::{Cleared, Count, Counted, is_told};
-use crate::{complain, explain_if_asked, memory, no_file};
+use crate::telling::{complain, error_lines, memory};
+use crate::{explain_if_asked, no_file};
 use afdx_replay::status::{DONE, WRONG_WORDS};
 use afdx_replay::{
     CommandedRule, Ended, InputEnded, ListEnded, Output, Peeked, RecordingOptions, Sink, Watched,
@@ -16,7 +17,7 @@ use afdx_replay::{
 use afdx_words::{Refused, STANDARD_INPUT, recording_options};
 use clap::ArgMatches;
 use std::fs::File;
-use std::io::{IsTerminal, LineWriter, Read, Stderr, Write};
+use std::io::{IsTerminal, Read, Write};
 
 const OUTPUT_BUFFER: usize = 65_536;
 
@@ -129,15 +130,6 @@ fn options_in(rt: &HostRuntime, matches: &ArgMatches<'_>) -> Result<RecordingOpt
     }
 }
 
-/// Where lines go that tell of frames that came too early. Err: the status where there is no memory
-/// for one.
-pub fn early_lines(rt: &HostRuntime) -> Result<Watched<LineWriter<Stderr>>, u8> {
-    match LineWriter::new(rt.alloc(), rt.stderr()) {
-        Ok(early) => Ok(Watched::new(early)),
-        Err(_) => Err(memory(rt)),
-    }
-}
-
 /// How a run over recordings ended that `list` made.
 pub fn ended_of(listed: ListEnded) -> InputEnded {
     InputEnded {
@@ -149,7 +141,7 @@ pub fn ended_of(listed: ListEnded) -> InputEnded {
     }
 }
 
-/// Replays an input. Err: the status where there is no memory to tell of early frames.
+/// Replays an input.
 fn replay_from<R: Read, O: Sink, E: Write>(
     rt: &HostRuntime,
     replaying: &Replaying<'_>,
@@ -157,7 +149,7 @@ fn replay_from<R: Read, O: Sink, E: Write>(
     input: &mut Watched<Peeked<R>>,
     lines: &mut O,
     faults: &mut Watched<E>,
-) -> Result<InputEnded, u8>
+) -> InputEnded
     requires untouched { is_untouched (device_of input.old) }
     requires sound_input { has_failed input.old ≡ false }
     requires unended { has_ended input.old ≡ false }
@@ -165,13 +157,13 @@ fn replay_from<R: Read, O: Sink, E: Write>(
 {
     let (alloc, admission, config) = (rt.alloc(), replaying.admission, replaying.config);
     if !replaying.explains_drops {
-        return Ok(replay_input(alloc, admission, options, config, input, lines, faults));
+        return replay_input(alloc, admission, options, config, input, lines, faults);
     }
-    let drops = early_lines(rt)?;
+    let drops = Watched::new(error_lines(rt));
     let told = replay_input_and_explain(
         alloc, admission, options, config, input, lines, faults, drops,
     );
-    Ok(told.0)
+    told.0
 }
 
 /// Makes the run over what an input gives, or gives the status where there is none.
@@ -195,7 +187,7 @@ fn run_over<R: Read, O: Sink, E: Write>(
         }
         Run::Replay(replaying) => {
             let options = options_in(rt, matches)?;
-            replay_from(rt, replaying, options, input, lines, faults)
+            Ok(replay_from(rt, replaying, options, input, lines, faults))
         }
         Run::List { config } => {
             let options = options_in(rt, matches)?;
@@ -226,7 +218,7 @@ fn run_from<R: Read + Drop>(
     let count = Count::new(rt, told);
     let device = Traced::new(Counted::new(&count, input));
     let mut input = Watched::new(Peeked::new(device));
-    let mut errors = Watched::new(Heard::new(Cleared::new(rt, told, rt.stderr())));
+    let mut errors = Watched::new(Heard::new(Cleared::new(rt, told, error_lines(rt))));
     let ended = match run_over(rt, matches, run, &mut input, &mut output, &mut errors) {
         Ok(ended) => ended,
         Err(status) => return status,
