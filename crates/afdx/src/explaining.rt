@@ -1,5 +1,6 @@
 //! Explanations: the command `explain`, and what follows the line of a fault with `--explain`.
 
+use crate::devices::INPUT_NAME;
 use crate::telling::tell_text;
 use afdx_admit::ADMISSION;
 use afdx_arrivals::SKIPPED;
@@ -13,7 +14,7 @@ use afdx_send::SEND_FAULTS;
 use clap::ArgMatches;
 use std::alloc::{AllocError, Global};
 use std::io;
-use std::io::IsTerminal;
+use std::io::{ErrorKind, IsTerminal};
 
 /// What the program knows of a fault beside its line: the bytes of the configuration, and the path
 /// of a device and why it failed.
@@ -202,6 +203,9 @@ fn tell_device(rt: &HostRuntime, line: &str, cause: &Cause<'_>) {
         _ => cause.path,
     };
     match &cause.reason {
+        Some(reason) if path == INPUT_NAME && reason.kind() == ErrorKind::IsADirectory => {
+            tell_text(rt, &format_args!("{path}: closed, or a directory\n"));
+        }
         Some(reason) => {
             tell_text(rt, &format_args!("{path}: {reason}\n"));
         }

@@ -5,6 +5,7 @@ mod configs;
 mod devices;
 mod explaining;
 mod pair_running;
+mod places;
 mod progress;
 mod running;
 mod telling;
@@ -12,6 +13,7 @@ mod telling;
 use crate::configs::{check_config, solve_tables};
 use crate::explaining::{Cause, explain, is_asked, line_of, print_lists, print_meaning};
 use crate::pair_running::{PairRun, run_pair};
+use crate::places::take_places;
 use crate::running::{Replaying, Run, run_list};
 use crate::telling::{complain, end_with, memory, tell_text};
 use afdx_explain::meaning_of;
@@ -223,6 +225,10 @@ fn run_words(rt: &HostRuntime, given: &[String]) -> Result<u8, AllocError> {
 }
 
 fn main(rt: HostRuntime) -> ExitCode {
+    let _places = match take_places(&rt) {
+        Ok(places) => places,
+        Err(fault) => return ExitCode::from(end_with(&rt, fault)),
+    };
     let given = match std::env::args(&rt) {
         Ok(given) => given,
         Err(error) if error.kind() == std::io::ErrorKind::OutOfMemory => {
