@@ -3,13 +3,13 @@
 use crate::devices::INPUT_NAME;
 use crate::telling::tell_text;
 use afdx_admit::ADMISSION;
-use afdx_arrivals::SKIPPED;
 use afdx_config::{CONFIG_FAULTS, Key, LINK_KEYS, PORT_KEYS, SYSTEM_KEYS, TOP_KEYS, UNKNOWN_KEYS};
 use afdx_explain::{FAULTS, LINES, kind_of, meaning_of};
 use afdx_frame::{IP_FAULTS, MAC_FAULTS};
 use afdx_lists::{RECORDING_FAULTS, RUN_FAULTS};
 use afdx_police::REASONS;
 use afdx_receive::DROP_REASONS;
+use afdx_recorded::SKIPPED;
 use afdx_send::SEND_FAULTS;
 use clap::ArgMatches;
 use std::alloc::{AllocError, Global};

@@ -9,7 +9,7 @@ use crate::explaining::Cause;
 use crate::progress::{Cleared, Count, Counted, is_told};
 use crate::telling::{complain, error_lines, memory};
 use crate::{explain_if_asked, no_file};
-use afdx_replay::status::{DONE, WRONG_WORDS};
+use afdx_commands::status::{DONE, WRONG_WORDS};
 use afdx_replay::{
     CommandedRule, Ended, InputEnded, ListEnded, Output, Peeked, RecordingOptions, Sink, Watched,
     finish, list_and_count, police_input, replay_input, replay_input_and_explain, send_and_count,

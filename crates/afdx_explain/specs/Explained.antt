@@ -10,7 +10,7 @@ use Rattle.afdx_config.specs.declared.key_tables.TheConstants.{PORT_KEYS, UNKNOW
 use Rattle.afdx_admit.specs.declared.fault.TheConstants.{ADMISSION}
 use Rattle.afdx_receive.specs.declared.reception.TheConstants.{DROP_REASONS}
 use Rattle.afdx_send.specs.declared.fault.TheConstants.{SEND_FAULTS}
-use Rattle.afdx_arrivals.specs.declared.skipped.TheConstants.{SKIPPED}
+use Rattle.afdx_recorded.specs.declared.skipped.TheConstants.{SKIPPED}
 use Rattle.afdx_lists.specs.declared.fault.TheConstants.{RUN_FAULTS}
 use Rattle.afdx_lists.specs.declared.recording_fault.TheConstants.{RECORDING_FAULTS}
 use Rattle.afdx_explain.specs.Forms.{text_among, row_among, formed_row, formed_among}

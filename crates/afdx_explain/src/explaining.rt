@@ -9,12 +9,12 @@ use crate::faults::FAULTS;
 use crate::kinds::KINDS;
 use crate::lines::LINES;
 use afdx_admit::ADMISSION;
-use afdx_arrivals::SKIPPED;
 use afdx_config::{CONFIG_FAULTS, LINK_KEYS, PORT_KEYS, SYSTEM_KEYS, TOP_KEYS, UNKNOWN_KEYS};
 use afdx_frame::{IP_FAULTS, MAC_FAULTS};
 use afdx_lists::{RECORDING_FAULTS, RUN_FAULTS};
 use afdx_police::REASONS;
 use afdx_receive::DROP_REASONS;
+use afdx_recorded::SKIPPED;
 use afdx_send::SEND_FAULTS;
 
 /// The forms of a line that tells why a switch dropped a frame.

@@ -10,14 +10,14 @@ use Rattle.afdx_police.specs.Arrival.{Arrival}
 use Rattle.afdx_police.specs.Rule.{Rule}
 use Rattle.afdx_police.specs.declared.account.LinkAccount.{LinkAccount}
 use Rattle.afdx_engine.specs.Stops.{StopsAt}
-use Rattle.afdx_arrivals.specs.Becoming.{Options}
-use Rattle.afdx_arrivals.specs.Claims.{Ports, ports_of_senders, one_port}
-use Rattle.afdx_arrivals.specs.Taking.{Taken, arrivals_in, taken_of_bytes}
-use Rattle.afdx_arrivals.specs.TakenRun.{IsOver}
-use Rattle.afdx_arrivals.specs.declared.input_run.InputCount.{InputCount}
-use Rattle.afdx_arrivals.specs.declared.input_run.InputCount.TheVariants as count
-use Rattle.afdx_arrivals.specs.declared.counts.Tally.{Tally}
-use Rattle.afdx_arrivals.proofs.InputSaysLemmas.{StopsInput, IsTold, if-more}
+use Rattle.afdx_recorded.specs.Becoming.{Options}
+use Rattle.afdx_recorded.specs.Claims.{Ports, ports_of_senders, one_port}
+use Rattle.afdx_recorded.specs.Taking.{Taken, arrivals_in, taken_of_bytes}
+use Rattle.afdx_inputs.specs.TakenRun.{IsOver}
+use Rattle.afdx_inputs.specs.declared.input_run.InputCount.{InputCount}
+use Rattle.afdx_inputs.specs.declared.input_run.InputCount.TheVariants as count
+use Rattle.afdx_recorded.specs.declared.counts.Tally.{Tally}
+use Rattle.afdx_inputs.proofs.InputSaysLemmas.{StopsInput, IsTold, if-more}
 use Rattle.afdx_replay.specs.Inputs.{counted_over, summary_of}
 use Rattle.afdx_replay.specs.policing.Input as police
 use Rattle.afdx_replay.specs.policing.Policed.{WritesText, WritesBeginning}
@@ -27,7 +27,7 @@ use Rattle.afdx_replay.specs.replaying.Input.{AnswersInput, ExplainsInput, taken
 use Rattle.afdx_replay.specs.replaying.Replayed.{Known, WritesSoFar, WritesSome, ToldAll}
 use Rattle.afdx_replay.specs.replaying.Taken.{WritesRecorded}
 use Rattle.afdx_replay.specs.replaying.Text.{replay_counts}
-use Rattle.afdx_replay.specs.declared.summary.Summary.{Summary}
+use Rattle.afdx_commands.specs.declared.summary.Summary.{Summary}
 use Rattle.afdx_replay.proofs.ReplayLemmas.{told-done}
 use Rattle.afdx_replay.proofs.ToldLemmas as police_lemmas
 use Rattle.afdx_replay.proofs.EarlyLemmas.{done-told}

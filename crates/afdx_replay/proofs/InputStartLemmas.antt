@@ -20,17 +20,17 @@ use Rattle.afdx_network.specs.Order.{events_of}
 use Rattle.afdx_police.specs.Arrival.{Arrival}
 use Rattle.afdx_engine.specs.Listed.{frames}
 use Rattle.afdx_engine.proofs.RunLemmas.{stops-at-start}
-use Rattle.afdx_arrivals.specs.declared.becoming.RecordingOptions.{RecordingOptions}
-use Rattle.afdx_arrivals.specs.Becoming.{Options, options_of}
-use Rattle.afdx_arrivals.specs.NumberLines.{Lines}
-use Rattle.afdx_arrivals.specs.InputRun.{is_read_recorded, IsAskedFew}
-use Rattle.afdx_arrivals.specs.RecordingRun.{IfBoth, IfBothKnown}
-use Rattle.afdx_arrivals.specs.Taking.{Taken, arrivals_in}
-use Rattle.afdx_arrivals.specs.TakenRun.{FirstAreTold}
-use Rattle.afdx_arrivals.specs.declared.pair_options.PairOptions.{PairOptions}
+use Rattle.afdx_recorded.specs.declared.becoming.RecordingOptions.{RecordingOptions}
+use Rattle.afdx_recorded.specs.Becoming.{Options, options_of}
+use Rattle.afdx_recorded.specs.NumberLines.{Lines}
+use Rattle.afdx_inputs.specs.InputRun.{is_read_recorded, IsAskedFew}
+use Rattle.afdx_inputs.specs.RecordingRun.{IfBoth, IfBothKnown}
+use Rattle.afdx_recorded.specs.Taking.{Taken, arrivals_in}
+use Rattle.afdx_inputs.specs.TakenRun.{FirstAreTold}
+use Rattle.afdx_recorded.specs.declared.pair_options.PairOptions.{PairOptions}
 use Rattle.afdx_replay.specs.replaying.Early.{TellsEarly, TellsMost}
 use Rattle.afdx_replay.specs.replaying.Input.{AnswersInput, ExplainsInput, are_cut_of, taken_of}
-use Rattle.afdx_replay.specs.Commands.{EndsWith, status_of_answer}
+use Rattle.afdx_commands.specs.Commands.{EndsWith, status_of_answer}
 use Rattle.afdx_replay.specs.Inputs.{summary_in}
 use Rattle.afdx_replay.specs.replaying.InputCommand.{left_of, ReplaysInput}
 use Rattle.afdx_replay.specs.replaying.Pair as pair
@@ -38,8 +38,8 @@ use Rattle.afdx_replay.specs.replaying.Pair.{AnswersPair, ExplainsPair}
 use Rattle.afdx_replay.specs.replaying.PairCommand.{IsAskedOnceFor, ReplaysPair}
 use Rattle.afdx_replay.specs.replaying.Replayed.{Known, WritesSome}
 use Rattle.afdx_replay.specs.replaying.Taken.{AnswersTaken, ExplainsTaken}
-use Rattle.afdx_replay.specs.declared.ending.Ended.{Ended}
-use Rattle.afdx_replay.specs.declared.summary.InputSummary.{InputSummary}
+use Rattle.afdx_commands.specs.declared.ending.Ended.{Ended}
+use Rattle.afdx_replay.specs.declared.input_ending.InputSummary.{InputSummary}
 use Rattle.afdx_replay.proofs.PairLemmas.{of-both}
 use Rattle.afdx_replay.proofs.PromisedInputLemmas.{if-both-promised, if-promised}
 use Rattle.afdx_replay.specs.replaying.Text.{replay_text}

@@ -8,18 +8,18 @@ use Rattle.afdx_lists.specs.declared.watched.Watched.{Watched}
 use Rattle.afdx_police.specs.Arrival.{Arrival}
 use Rattle.afdx_engine.specs.Engine.{Item}
 use Rattle.afdx_engine.specs.Items.{arrivals}
-use Rattle.afdx_arrivals.specs.Claims.{Ports, ports_of_senders}
-use Rattle.afdx_arrivals.specs.RecordingRun.{IfBoth, PairAnswers}
-use Rattle.afdx_arrivals.specs.TakenRun.{IsOver, StopsTaken}
-use Rattle.afdx_arrivals.specs.declared.counts.Tally.{Tally}
-use Rattle.afdx_arrivals.specs.declared.input_run.InputCount.TheVariants as count
-use Rattle.afdx_arrivals.specs.declared.pair_options.PairOptions.{PairOptions}
-use Rattle.afdx_arrivals.proofs.TakenLemmas.{says-ok, says-err}
+use Rattle.afdx_recorded.specs.Claims.{Ports, ports_of_senders}
+use Rattle.afdx_inputs.specs.RecordingRun.{IfBoth, PairAnswers}
+use Rattle.afdx_inputs.specs.TakenRun.{IsOver, StopsTaken}
+use Rattle.afdx_recorded.specs.declared.counts.Tally.{Tally}
+use Rattle.afdx_inputs.specs.declared.input_run.InputCount.TheVariants as count
+use Rattle.afdx_recorded.specs.declared.pair_options.PairOptions.{PairOptions}
+use Rattle.afdx_inputs.proofs.TakenLemmas.{says-ok, says-err}
 use Rattle.afdx_replay.specs.Inputs.{summary_of}
 use Rattle.afdx_replay.specs.replaying.Early.{TellsEarly}
 use Rattle.afdx_replay.specs.replaying.Pair.{AnswersPair, ExplainsPair, are_cut_of, taken_of}
 use Rattle.afdx_replay.specs.replaying.Replayed.{Known, ToldAll}
-use Rattle.afdx_replay.specs.declared.summary.Summary.{Summary}
+use Rattle.afdx_commands.specs.declared.summary.Summary.{Summary}
 use Rattle.afdx_replay.proofs.InputLemmas.{recorded-whole}
 
 -- more is known of both

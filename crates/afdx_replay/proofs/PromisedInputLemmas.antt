@@ -13,16 +13,16 @@ use Rattle.afdx_police.specs.Arrival.{Arrival}
 use Rattle.afdx_recordings.specs.Reading.{recorded}
 use Rattle.afdx_engine.specs.Items.{arrivals}
 use Rattle.afdx_switch.specs.Admitted.{IsAdmittedRun}
-use Rattle.afdx_arrivals.specs.Becoming.{Options}
-use Rattle.afdx_arrivals.specs.Claims.{Ports, ports_of_senders}
-use Rattle.afdx_arrivals.specs.Laws.{AreInOrder}
-use Rattle.afdx_arrivals.specs.NumberLines.{Lines, arrivals_listed}
-use Rattle.afdx_arrivals.specs.PairOptions.{options_of_a, options_of_b}
-use Rattle.afdx_arrivals.specs.RecordingRun.{IfBoth}
-use Rattle.afdx_arrivals.specs.Taking.{Taken, arrivals_in}
-use Rattle.afdx_arrivals.specs.declared.pair_options.PairOptions.{PairOptions}
-use Rattle.afdx_arrivals.proofs.LawLemmas.{both-in-order, bytes-in-order, cut-in-order, cut-one-in-order}
-use Rattle.afdx_arrivals.proofs.TakenLemmas.{taken-more}
+use Rattle.afdx_recorded.specs.Becoming.{Options}
+use Rattle.afdx_recorded.specs.Claims.{Ports, ports_of_senders}
+use Rattle.afdx_recorded.specs.Laws.{AreInOrder}
+use Rattle.afdx_recorded.specs.NumberLines.{Lines, arrivals_listed}
+use Rattle.afdx_recorded.specs.PairOptions.{options_of_a, options_of_b}
+use Rattle.afdx_inputs.specs.RecordingRun.{IfBoth}
+use Rattle.afdx_recorded.specs.Taking.{Taken, arrivals_in}
+use Rattle.afdx_recorded.specs.declared.pair_options.PairOptions.{PairOptions}
+use Rattle.afdx_recorded.proofs.LawLemmas.{both-in-order, bytes-in-order, cut-in-order, cut-one-in-order}
+use Rattle.afdx_inputs.proofs.TakenLemmas.{taken-more}
 use Rattle.afdx_replay.specs.Inputs.{summary_in}
 use Rattle.afdx_replay.specs.replaying.Input.{AnswersInput, PromisedInput, are_cut_of, taken_of}
 use Rattle.afdx_replay.specs.replaying.Pair as pair
@@ -30,8 +30,8 @@ use Rattle.afdx_replay.specs.replaying.Pair.{AnswersPair, PromisedPair}
 use Rattle.afdx_replay.specs.replaying.PromisedRun.{WritesPromisedSoFar, WritesPromisedSome}
 use Rattle.afdx_replay.specs.replaying.Replayed.{Known, WritesSoFar, WritesSome}
 use Rattle.afdx_replay.specs.replaying.Taken.{AnswersTaken, PromisedTaken}
-use Rattle.afdx_replay.specs.declared.summary.InputSummary.{InputSummary}
-use Rattle.afdx_replay.specs.declared.summary.Summary.{Summary}
+use Rattle.afdx_replay.specs.declared.input_ending.InputSummary.{InputSummary}
+use Rattle.afdx_commands.specs.declared.summary.Summary.{Summary}
 use Rattle.afdx_replay.proofs.PairLemmas.{if-both-more}
 use Rattle.afdx_replay.proofs.AdmittedRunLemmas.{latest-most, as-promised, so-far-promised, some-promised, promised-answers}
 

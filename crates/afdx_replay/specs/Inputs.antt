@@ -2,11 +2,11 @@
 -- count.
 use Rattle.std.specs.Prelude.{ℕ, Option, Some, None, Result, Ok, Err}
 use Rattle.afdx_lists.specs.declared.fault.RunFault.{RunFault}
-use Rattle.afdx_arrivals.specs.declared.input_run.InputCount.{InputCount}
-use Rattle.afdx_arrivals.specs.declared.input_run.InputCount.TheVariants.{Lines, Recorded}
-use Rattle.afdx_arrivals.specs.declared.counts.Tally.{Tally}
-use Rattle.afdx_replay.specs.declared.summary.Summary.{Summary}
-use Rattle.afdx_replay.specs.declared.summary.InputSummary.{InputSummary}
+use Rattle.afdx_inputs.specs.declared.input_run.InputCount.{InputCount}
+use Rattle.afdx_inputs.specs.declared.input_run.InputCount.TheVariants.{Lines, Recorded}
+use Rattle.afdx_recorded.specs.declared.counts.Tally.{Tally}
+use Rattle.afdx_commands.specs.declared.summary.Summary.{Summary}
+use Rattle.afdx_replay.specs.declared.input_ending.InputSummary.{InputSummary}
 
 -- these counts, of so many lines or numbers
 abbrev pub counted_over : Summary → ℕ → Summary

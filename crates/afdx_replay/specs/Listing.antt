@@ -10,16 +10,16 @@ use Rattle.afdx_lists.specs.Faults.{status_of}
 use Rattle.afdx_lists.specs.Watching.{device_of, has_ended, has_failed}
 use Rattle.afdx_lists.specs.declared.fault.RunFault.{RunFault}
 use Rattle.afdx_lists.specs.declared.watched.Watched.{Watched}
-use Rattle.afdx_arrivals.specs.Becoming.{options_of}
-use Rattle.afdx_arrivals.specs.Claims.{ports_of_senders}
-use Rattle.afdx_arrivals.specs.ListText.{ListingAnswers, PairListingAnswers}
-use Rattle.afdx_arrivals.specs.RecordingRun.{IfBothKnown}
-use Rattle.afdx_arrivals.specs.declared.becoming.RecordingOptions.{RecordingOptions}
-use Rattle.afdx_arrivals.specs.declared.pair_options.PairOptions.{PairOptions}
-use Rattle.afdx_arrivals.specs.declared.counts.Tally.{Tally}
+use Rattle.afdx_recorded.specs.Becoming.{options_of}
+use Rattle.afdx_recorded.specs.Claims.{ports_of_senders}
+use Rattle.afdx_inputs.specs.ListText.{ListingAnswers, PairListingAnswers}
+use Rattle.afdx_inputs.specs.RecordingRun.{IfBothKnown}
+use Rattle.afdx_recorded.specs.declared.becoming.RecordingOptions.{RecordingOptions}
+use Rattle.afdx_recorded.specs.declared.pair_options.PairOptions.{PairOptions}
+use Rattle.afdx_recorded.specs.declared.counts.Tally.{Tally}
 use Rattle.afdx_text.specs.Telling.{TellsLine}
-use Rattle.afdx_replay.specs.Commands.{have_ended, one_has_failed}
-use Rattle.afdx_replay.specs.Refusals.{RefusesConfig, WantsMemory}
+use Rattle.afdx_commands.specs.Commands.{have_ended, one_has_failed}
+use Rattle.afdx_commands.specs.Refusals.{RefusesConfig, WantsMemory}
 use Rattle.afdx_replay.specs.declared.listing.ListEnded.{ListEnded}
 
 -- the exit status of what a listing answers

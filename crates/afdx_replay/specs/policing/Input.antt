@@ -6,19 +6,19 @@ use Rattle.afdx_lists.specs.Watching.{calls_of}
 use Rattle.afdx_lists.specs.declared.fault.RunFault.{RunFault}
 use Rattle.afdx_lists.specs.declared.peeked.Peeked.{Peeked}
 use Rattle.afdx_lists.specs.declared.watched.Watched.{Watched}
-use Rattle.afdx_arrivals.specs.Becoming.{Options, options_of}
-use Rattle.afdx_arrivals.specs.Claims.{one_port}
-use Rattle.afdx_arrivals.specs.InputRun.{is_read_recorded, IsAskedFew}
-use Rattle.afdx_arrivals.specs.NumberLines.{Lines}
-use Rattle.afdx_arrivals.specs.Taking.{Taken, arrivals_in, AreCutOff, taken_of_bytes}
-use Rattle.afdx_arrivals.specs.TakenRun.{HasNoFault, StopsTaken}
-use Rattle.afdx_arrivals.specs.declared.becoming.RecordingOptions.{RecordingOptions}
+use Rattle.afdx_recorded.specs.Becoming.{Options, options_of}
+use Rattle.afdx_recorded.specs.Claims.{one_port}
+use Rattle.afdx_inputs.specs.InputRun.{is_read_recorded, IsAskedFew}
+use Rattle.afdx_recorded.specs.NumberLines.{Lines}
+use Rattle.afdx_recorded.specs.Taking.{Taken, arrivals_in, AreCutOff, taken_of_bytes}
+use Rattle.afdx_inputs.specs.TakenRun.{HasNoFault, StopsTaken}
+use Rattle.afdx_recorded.specs.declared.becoming.RecordingOptions.{RecordingOptions}
 use Rattle.afdx_replay.specs.Inputs.{summary_in, tally_in}
 use Rattle.afdx_replay.specs.policing.Policed.{Answers, WritesText, WritesBeginning}
 use Rattle.afdx_replay.specs.policing.Text.{counts_of}
 use Rattle.afdx_replay.specs.replaying.InputCommand.{left_of}
 use Rattle.afdx_replay.specs.replaying.Replayed.{Known}
-use Rattle.afdx_replay.specs.declared.summary.InputSummary.{InputSummary}
+use Rattle.afdx_replay.specs.declared.input_ending.InputSummary.{InputSummary}
 
 -- there is no fault, the text of the arrivals is written, and they and the numbers are counted
 pub record WritesRecorded (rule : Rule) (whole : Taken) (old new : Known) (all : InputSummary) :

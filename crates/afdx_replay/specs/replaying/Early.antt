@@ -20,7 +20,7 @@ use Rattle.afdx_engine.specs.Stops.{StopsAt}
 use Rattle.afdx_replay.specs.replaying.Replayed.{Known}
 use Rattle.afdx_replay.specs.replaying.Told.{TellsItems, TellsAll, BeginsItems}
 use Rattle.afdx_replay.specs.declared.replaying.run.Replay.{Replay}
-use Rattle.afdx_replay.specs.declared.summary.Summary.{Summary}
+use Rattle.afdx_commands.specs.declared.summary.Summary.{Summary}
 
 abbrev pub is_over_rate : Option Reason → Bool
 is_over_rate (Some OverRate) = true

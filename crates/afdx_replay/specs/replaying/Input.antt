@@ -3,16 +3,16 @@ use Rattle.std.specs.Prelude.{ℕ, ◌≡◌, Bool, true, false, List, Option, N
 use Rattle.afdx_config.specs.Rows.{Rows}
 use Rattle.afdx_lists.specs.declared.fault.RunFault.{RunFault}
 use Rattle.afdx_lists.specs.declared.watched.Watched.{Watched}
-use Rattle.afdx_arrivals.specs.Becoming.{Options}
-use Rattle.afdx_arrivals.specs.Claims.{ports_of_senders}
-use Rattle.afdx_arrivals.specs.NumberLines.{Lines}
-use Rattle.afdx_arrivals.specs.Taking.{Taken, AreCutOff, taken_of_bytes}
+use Rattle.afdx_recorded.specs.Becoming.{Options}
+use Rattle.afdx_recorded.specs.Claims.{ports_of_senders}
+use Rattle.afdx_recorded.specs.NumberLines.{Lines}
+use Rattle.afdx_recorded.specs.Taking.{Taken, AreCutOff, taken_of_bytes}
 use Rattle.afdx_replay.specs.Inputs.{summary_in, tally_in}
 use Rattle.afdx_replay.specs.replaying.Early.{ExplainsAnswer}
 use Rattle.afdx_replay.specs.replaying.PromisedRun.{PromisedAnswers}
 use Rattle.afdx_replay.specs.replaying.Replayed.{Known, Answers}
 use Rattle.afdx_replay.specs.replaying.Taken.{AnswersTaken, PromisedTaken, ExplainsTaken}
-use Rattle.afdx_replay.specs.declared.summary.InputSummary.{InputSummary}
+use Rattle.afdx_replay.specs.declared.input_ending.InputSummary.{InputSummary}
 
 -- what a run takes of the recording of these bytes: where no option says at which port a frame came
 -- in, it is that of the system which its source address names

@@ -8,16 +8,16 @@ use Rattle.afdx_lists.specs.Watching.{calls_of, device_of}
 use Rattle.afdx_lists.specs.declared.fault.RunFault.{RunFault}
 use Rattle.afdx_lists.specs.declared.peeked.Peeked.{Peeked}
 use Rattle.afdx_lists.specs.declared.watched.Watched.{Watched}
-use Rattle.afdx_arrivals.specs.Becoming.{options_of}
-use Rattle.afdx_arrivals.specs.InputRun.{is_read_recorded, IsAskedFew}
-use Rattle.afdx_arrivals.specs.declared.becoming.RecordingOptions.{RecordingOptions}
-use Rattle.afdx_replay.specs.Commands.{EndsAs}
+use Rattle.afdx_recorded.specs.Becoming.{options_of}
+use Rattle.afdx_inputs.specs.InputRun.{is_read_recorded, IsAskedFew}
+use Rattle.afdx_recorded.specs.declared.becoming.RecordingOptions.{RecordingOptions}
+use Rattle.afdx_commands.specs.Commands.{EndsAs}
 use Rattle.afdx_replay.specs.Inputs.{summary_in, tally_in}
 use Rattle.afdx_replay.specs.replaying.Command.{IsNotReplayed}
 use Rattle.afdx_replay.specs.replaying.Input.{AnswersInput, PromisedInput, ExplainsInput}
 use Rattle.afdx_replay.specs.replaying.Replayed.{Known}
-use Rattle.afdx_replay.specs.declared.ending.InputEnded.{InputEnded}
-use Rattle.afdx_replay.specs.declared.summary.InputSummary.{InputSummary}
+use Rattle.afdx_replay.specs.declared.input_ending.InputEnded.{InputEnded}
+use Rattle.afdx_replay.specs.declared.input_ending.InputSummary.{InputSummary}
 
 -- what an input still gives, where that is known
 abbrev pub left_of : {R : Type 0} → (R → Option (List ℕ)) → Watched (Peeked R) → Known

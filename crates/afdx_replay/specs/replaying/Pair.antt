@@ -4,14 +4,14 @@ use Rattle.afdx_frame.specs.declared.by_side.BySide.{BySide}
 use Rattle.afdx_config.specs.Rows.{Rows}
 use Rattle.afdx_lists.specs.declared.fault.RunFault.{RunFault}
 use Rattle.afdx_lists.specs.declared.watched.Watched.{Watched}
-use Rattle.afdx_arrivals.specs.Claims.{ports_of_senders}
-use Rattle.afdx_arrivals.specs.NumberLines.{Lines}
-use Rattle.afdx_arrivals.specs.RecordingRun.{AreCutOffInPair, taken_of_pair}
-use Rattle.afdx_arrivals.specs.Taking.{Taken}
-use Rattle.afdx_arrivals.specs.declared.pair_options.PairOptions.{PairOptions}
+use Rattle.afdx_recorded.specs.Claims.{ports_of_senders}
+use Rattle.afdx_recorded.specs.NumberLines.{Lines}
+use Rattle.afdx_inputs.specs.RecordingRun.{AreCutOffInPair, taken_of_pair}
+use Rattle.afdx_recorded.specs.Taking.{Taken}
+use Rattle.afdx_recorded.specs.declared.pair_options.PairOptions.{PairOptions}
 use Rattle.afdx_replay.specs.replaying.Replayed.{Known}
 use Rattle.afdx_replay.specs.replaying.Taken.{AnswersTaken, PromisedTaken, ExplainsTaken}
-use Rattle.afdx_replay.specs.declared.summary.InputSummary.{InputSummary}
+use Rattle.afdx_replay.specs.declared.input_ending.InputSummary.{InputSummary}
 
 -- what a run takes of the recordings of these bytes, of A and of B: where no option says at which
 -- port a frame came in, it is that of the system which its source address names

@@ -7,15 +7,15 @@ use Rattle.afdx_config.specs.Rows.{Rows}
 use Rattle.afdx_lists.specs.Watching.{calls_of, device_of}
 use Rattle.afdx_lists.specs.declared.fault.RunFault.{RunFault}
 use Rattle.afdx_lists.specs.declared.watched.Watched.{Watched}
-use Rattle.afdx_arrivals.specs.RecordingRun.{IfBothKnown, IsAskedOnce}
-use Rattle.afdx_arrivals.specs.declared.pair_options.PairOptions.{PairOptions}
-use Rattle.afdx_replay.specs.Commands.{EndsAsPair}
+use Rattle.afdx_inputs.specs.RecordingRun.{IfBothKnown, IsAskedOnce}
+use Rattle.afdx_recorded.specs.declared.pair_options.PairOptions.{PairOptions}
+use Rattle.afdx_commands.specs.Commands.{EndsAsPair}
 use Rattle.afdx_replay.specs.Inputs.{summary_in, tally_in}
 use Rattle.afdx_replay.specs.replaying.InputCommand.{EndsUnread}
 use Rattle.afdx_replay.specs.replaying.Pair.{AnswersPair, PromisedPair, ExplainsPair}
 use Rattle.afdx_replay.specs.replaying.Replayed.{Known}
-use Rattle.afdx_replay.specs.declared.ending.InputEnded.{InputEnded}
-use Rattle.afdx_replay.specs.declared.summary.InputSummary.{InputSummary}
+use Rattle.afdx_replay.specs.declared.input_ending.InputEnded.{InputEnded}
+use Rattle.afdx_replay.specs.declared.input_ending.InputSummary.{InputSummary}
 
 -- an input that becomes `rest` is asked at most once for each byte that it gives, and once more
 abbrev pub IsAskedOnceFor : {R : Type 0} → (R → Option (List ℕ)) → (input rest : Watched R) →

@@ -6,15 +6,15 @@ use Rattle.afdx_config.specs.Rows.{Rows}
 use Rattle.afdx_lists.specs.declared.fault.RunFault.{RunFault}
 use Rattle.afdx_lists.specs.declared.watched.Watched.{Watched}
 use Rattle.afdx_network.specs.Order.{events_of}
-use Rattle.afdx_arrivals.specs.NumberLines.{Lines}
-use Rattle.afdx_arrivals.specs.Taking.{Taken, arrivals_in}
-use Rattle.afdx_arrivals.specs.TakenRun.{HasNoFault, StopsTaken}
+use Rattle.afdx_recorded.specs.NumberLines.{Lines}
+use Rattle.afdx_recorded.specs.Taking.{Taken, arrivals_in}
+use Rattle.afdx_inputs.specs.TakenRun.{HasNoFault, StopsTaken}
 use Rattle.afdx_replay.specs.Inputs.{counted_over}
 use Rattle.afdx_replay.specs.replaying.Early.{TellsEarly, TellsMost}
 use Rattle.afdx_replay.specs.replaying.PromisedRun.{IsAsPromised, WritesPromisedSoFar, WritesPromisedSome}
 use Rattle.afdx_replay.specs.replaying.Replayed.{Known, WritesSoFar, WritesSome}
 use Rattle.afdx_replay.specs.replaying.Text.{replay_text, replay_counts}
-use Rattle.afdx_replay.specs.declared.summary.InputSummary.{InputSummary}
+use Rattle.afdx_replay.specs.declared.input_ending.InputSummary.{InputSummary}
 
 -- there is no fault, the text of all events of the arrivals is written, and they and the numbers
 -- are counted

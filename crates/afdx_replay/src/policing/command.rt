@@ -3,16 +3,17 @@
 ghost use Rattle.std.specs.Prelude.{◌≡◌, ◌≤◌, ◌+◌, ◌||◌, ◌⊎◌, ◌↔◌, ℕ, Result, IfSome, IsSome, codes, false, true};
 ghost use Rattle.afdx_lists.specs.Lines.{most_reads};
 ghost use Rattle.afdx_text.specs.Telling.{Tells};
-ghost use Rattle.afdx_replay.specs.Commands.{commanded_rule, usual_rule, EndsAs, IsCommanded};
+ghost use Rattle.afdx_commands.specs.Commands.{EndsAs};
+ghost use Rattle.afdx_replay.specs.policing.Command.{commanded_rule, usual_rule, IsCommanded};
 ghost use Rattle.afdx_replay.specs.policing.Policed.{Answers};
-ghost use Rattle.afdx_replay.specs.declared.ending.Ended.{Ended as End};
-ghost use Rattle.afdx_replay.specs.declared.summary.Summary.{Summary};
+ghost use Rattle.afdx_commands.specs.declared.ending.Ended.{Ended as End};
+ghost use Rattle.afdx_commands.specs.declared.summary.Summary.{Summary};
 ghost use Rattle.afdx_lists.specs.declared.fault.RunFault.{RunFault};
 ghost use Rattle.afdx_lists.specs.Watching.{calls_of, device_of, has_ended, has_failed};
 
-use crate::ending::{Ended, end};
 use crate::policing::run::police_into;
-use crate::status::WRONG_WORDS;
+use afdx_commands::status::WRONG_WORDS;
+use afdx_commands::{Ended, end};
 use afdx_frame::{LAST_PORT, LEAST_FRAME, Policing, VlId};
 use afdx_lists::Watched;
 use afdx_police::LinkRule;

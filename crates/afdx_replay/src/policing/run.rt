@@ -14,11 +14,11 @@ ghost use Rattle.afdx_engine.specs.Listed.{arrival_at};
 ghost use Rattle.afdx_replay.specs.policing.Accounts.{AreUntil, HaveSeen};
 ghost use Rattle.afdx_replay.specs.policing.Policed.{Answers};
 
-use crate::summary::{NO_COUNTS, Summary};
+use afdx_commands::{NO_COUNTS, Summary};
+use afdx_engine::{Machine, run_list};
 use afdx_frame::BySide;
 use afdx_lists::{Heading, RunFault, Watched};
 use afdx_police::{LinkAccount, LinkRule, Reason};
-use afdx_engine::{Machine, run_list};
 use afdx_text::{OutLine, Sink, Text};
 use std::alloc::{AllocError, Global};
 use std::io::{Read, Write};

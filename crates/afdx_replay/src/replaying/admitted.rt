@@ -8,8 +8,8 @@ ghost use Rattle.afdx_replay.specs.replaying.Replayed.{Answers};
 ghost use Rattle.afdx_replay.specs.replaying.PromisedRun.{PromisedAnswers};
 
 use crate::replaying::run::replay_into;
-use crate::summary::Summary;
 use afdx_admit::Admitted;
+use afdx_commands::Summary;
 use afdx_lists::{RunFault, Watched};
 use afdx_text::Sink;
 use std::alloc::Global;

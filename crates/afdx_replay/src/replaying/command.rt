@@ -4,13 +4,13 @@ ghost use Rattle.std.specs.Prelude.{◌≡◌, ◌≤◌, ◌+◌, ◌||◌, ◌
 ghost use Rattle.afdx_lists.specs.Lines.{most_reads};
 ghost use Rattle.afdx_lists.specs.Watching.{calls_of, device_of, has_ended, has_failed};
 ghost use Rattle.afdx_replay.specs.replaying.Command.{EndsReplay};
-ghost use Rattle.afdx_replay.specs.declared.ending.Ended.{Ended as End};
+ghost use Rattle.afdx_commands.specs.declared.ending.Ended.{Ended as End};
 
-use crate::ending::{Ended, end};
-use crate::refusing::{refuse_config, refuse_tables};
 use crate::replaying::admitted::replay_admitted_into;
 use crate::replaying::run::replay_into;
 use afdx_admit::admit;
+use afdx_commands::refusing::{refuse_config, refuse_tables};
+use afdx_commands::{Ended, end};
 use afdx_config::read_tables;
 use afdx_lists::Watched;
 use afdx_text::Sink;

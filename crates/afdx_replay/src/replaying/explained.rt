@@ -7,9 +7,9 @@ ghost use Rattle.afdx_replay.specs.replaying.Early.{early_line, is_over_rate as 
 ghost use Rattle.afdx_text.specs.Telling.{Tells};
 
 use crate::replaying::run::Replay;
+use afdx_engine::Machine;
 use afdx_lists::{Heading, RunFault, Watched};
 use afdx_police::Reason;
-use afdx_engine::Machine;
 use afdx_text::{Sink, tell, tell_number};
 use std::io::Write;
 

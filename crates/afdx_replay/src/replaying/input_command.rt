@@ -5,11 +5,11 @@ ghost use Rattle.afdx_lists.specs.Peeking.{is_untouched};
 ghost use Rattle.afdx_lists.specs.Watching.{device_of, has_ended, has_failed};
 ghost use Rattle.afdx_replay.specs.replaying.InputCommand.{EndsInput, EndsInputExplained};
 
-use crate::ending::{InputEnded, end_input};
+use crate::input_ending::{InputEnded, end_input};
 use crate::replaying::input::{explain_input_into, replay_input_into};
 use crate::replaying::tables::take_tables;
-use afdx_arrivals::RecordingOptions;
 use afdx_lists::{Peeked, Watched};
+use afdx_recorded::RecordingOptions;
 use afdx_text::Sink;
 use std::alloc::Global;
 use std::io::{Read, Write};

@@ -3,16 +3,17 @@
 ghost use Rattle.std.specs.Prelude.{◌≡◌, ◌||◌, OnOk, true, false};
 ghost use Rattle.afdx_lists.specs.Calls.{is_failed_read, is_failed_write};
 ghost use Rattle.afdx_lists.specs.Watching.{calls_of, device_of, has_ended, has_failed};
-ghost use Rattle.afdx_arrivals.specs.RecordingRun.{IfBothKnown, IsAskedOnce};
+ghost use Rattle.afdx_inputs.specs.RecordingRun.{IfBothKnown, IsAskedOnce};
 ghost use Rattle.afdx_replay.specs.replaying.Pair.{AnswersPair, ExplainsPair};
 
+use crate::input_ending::InputSummary;
 use crate::replaying::explained::Explaining;
 use crate::replaying::run::Replay;
-use crate::summary::InputSummary;
-use afdx_arrivals::{InputCount, PairOptions, UnsaidPort, run_pair};
 use afdx_config::Tables;
 use afdx_frame::BySide;
+use afdx_inputs::{InputCount, run_pair};
 use afdx_lists::{RunFault, Watched};
+use afdx_recorded::{PairOptions, UnsaidPort};
 use afdx_text::Sink;
 use std::alloc::Global;
 use std::io::{Read, Write};

@@ -2,15 +2,15 @@
 
 ghost use Rattle.std.specs.Prelude.{◌≡◌, ◌||◌, ◌⊎◌, ◌↔◌, IsSome, false, true};
 ghost use Rattle.afdx_lists.specs.Watching.{has_ended, has_failed};
-ghost use Rattle.afdx_replay.specs.Commands.{one_has_failed};
+ghost use Rattle.afdx_commands.specs.Commands.{one_has_failed};
 ghost use Rattle.afdx_replay.specs.replaying.PairCommand.{EndsPair, EndsPairExplained};
 
-use crate::ending::{InputEnded, end_input};
+use crate::input_ending::{InputEnded, end_input};
 use crate::replaying::pair::{explain_pair_into, replay_pair_into};
 use crate::replaying::tables::take_tables;
-use afdx_arrivals::PairOptions;
 use afdx_frame::BySide;
 use afdx_lists::Watched;
+use afdx_recorded::PairOptions;
 use afdx_text::Sink;
 use std::alloc::Global;
 use std::io::{Read, Write};

@@ -25,13 +25,13 @@ ghost use Rattle.afdx_switch.specs.Verdicts.{reason_of as reason_after};
 ghost use Rattle.afdx_replay.specs.replaying.Text.{replay_counts, frames_left, lines_after, with_admission};
 
 use crate::replaying::lines::{hear, put_admission, put_departure, reason_of};
-use crate::summary::{NO_COUNTS, Summary};
+use afdx_commands::{NO_COUNTS, Summary};
 use afdx_config::Tables;
+use afdx_end_systems::{Handover, Systems};
+use afdx_engine::{Machine, run_list};
 use afdx_lists::{Heading, RunFault, Watched};
 use afdx_network::{Departed, Network};
 use afdx_police::Reason;
-use afdx_engine::{Machine, run_list};
-use afdx_end_systems::{Handover, Systems};
 use afdx_text::{Sink, Text};
 use std::alloc::{AllocError, Global};
 use std::io::{Read, Write};

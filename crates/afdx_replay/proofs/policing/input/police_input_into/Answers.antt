@@ -1,12 +1,12 @@
 use Rattle.std.proofs.Common.{rules}
-use Rattle.afdx_arrivals.specs.Becoming.{options_of}
-use Rattle.afdx_arrivals.specs.Claims.{one_port}
-use Rattle.afdx_arrivals.proofs.InputSaysLemmas.{input-err, input-ok}
+use Rattle.afdx_recorded.specs.Becoming.{options_of}
+use Rattle.afdx_recorded.specs.Claims.{one_port}
+use Rattle.afdx_inputs.proofs.InputSaysLemmas.{input-err, input-ok}
 use Rattle.afdx_lists.specs.Peeking.{left_in}
 use Rattle.afdx_police.specs.RuleOf.{rule_of}
 use Rattle.afdx_replay.specs.policing.Policed.{WritesText, WritesBeginning}
 use Rattle.afdx_replay.specs.policing.Told.{HasTold, TellsItems, BeginsItems}
-use Rattle.afdx_arrivals.specs.InputRun.{is_read_recorded}
+use Rattle.afdx_inputs.specs.InputRun.{is_read_recorded}
 use Rattle.afdx_replay.proofs.InputLemmas.{police-err, police-ok}
 use Rattle.afdx_replay.proofs.TextLemmas.{front-whole}
 use Rattle.afdx_replay.proofs.policing.input.police_input_into.Goals as goal

@@ -1,5 +1,6 @@
 use Rattle.std.proofs.Common.{refl, inl, inr}
-use Rattle.afdx_replay.proofs.RefusalLemmas.{config-refused, tables-refused, config-not-replayed, tables-not-replayed}
+use Rattle.afdx_commands.proofs.RefusalLemmas.{config-refused, tables-refused}
+use Rattle.afdx_replay.proofs.NotReplayedLemmas.{config-not-replayed, tables-not-replayed}
 use Rattle.afdx_replay.proofs.replaying.command.replay_and_count.Goals as goal
 
 pub returns-in-Err-clause-replays : goal.returns-in-Err-clause-replays

@@ -1,11 +1,11 @@
 use Rattle.std.proofs.Common.{arith, rules}
 use Rattle.std.proofs.KnownBytes.{Keeps-refl}
-use Rattle.afdx_arrivals.specs.Becoming.{options_of}
-use Rattle.afdx_arrivals.specs.Claims.{ports_of_senders}
-use Rattle.afdx_arrivals.proofs.LookLemmas.{unread-few}
-use Rattle.afdx_arrivals.proofs.InputSaysLemmas.{input-err, input-ok}
+use Rattle.afdx_recorded.specs.Becoming.{options_of}
+use Rattle.afdx_recorded.specs.Claims.{ports_of_senders}
+use Rattle.afdx_inputs.proofs.LookLemmas.{unread-few}
+use Rattle.afdx_inputs.proofs.InputSaysLemmas.{input-err, input-ok}
 use Rattle.afdx_lists.specs.Peeking.{left_in}
-use Rattle.afdx_arrivals.specs.InputRun.{is_read_recorded}
+use Rattle.afdx_inputs.specs.InputRun.{is_read_recorded}
 use Rattle.afdx_replay.specs.replaying.Replayed.{WritesSoFar, WritesSome, ToldAll}
 use Rattle.afdx_replay.specs.replaying.Told.{TellsItems, BeginsItems, TellsAll}
 use Rattle.afdx_replay.proofs.InputLemmas.{replay-err, replay-ok}

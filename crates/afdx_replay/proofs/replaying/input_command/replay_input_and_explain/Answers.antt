@@ -1,7 +1,7 @@
 use Rattle.std.proofs.Common.{◌≡◌, true, refl, inl, inr}
 use Rattle.afdx_lists.specs.Watching.{has_ended, has_failed}
-use Rattle.afdx_arrivals.specs.Becoming.{options_of}
-use Rattle.afdx_arrivals.specs.InputRun.{is_read_recorded}
+use Rattle.afdx_recorded.specs.Becoming.{options_of}
+use Rattle.afdx_inputs.specs.InputRun.{is_read_recorded}
 use Rattle.afdx_replay.specs.replaying.InputCommand.{left_of}
 use Rattle.afdx_replay.specs.replaying.Tables.{tables_of}
 use Rattle.afdx_replay.proofs.InputStartLemmas.{ends-in}

@@ -1,7 +1,7 @@
 use Rattle.std.proofs.Common.{inl}
 use Rattle.afdx_replay.specs.replaying.Early.{ExplainsAll, ExplainsItems, ExplainsSome, TellsEarly, TellsMost}
 use Rattle.afdx_replay.specs.replaying.Replayed.{WritesSoFar, WritesSome, ToldAll}
-use Rattle.afdx_arrivals.proofs.RecordingRunLemmas.{unasked}
+use Rattle.afdx_inputs.proofs.RecordingRunLemmas.{unasked}
 use Rattle.afdx_replay.proofs.EarlyLemmas.{early-start}
 use Rattle.afdx_replay.proofs.InputStartLemmas.{start-pair, start-pair-explained}
 use Rattle.afdx_replay.proofs.PairLemmas.{pair-err, pair-ok, pair-replayed, pair-explained}

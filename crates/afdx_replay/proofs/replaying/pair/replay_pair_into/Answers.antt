@@ -1,7 +1,7 @@
 use Rattle.std.proofs.Common.{rules}
 use Rattle.afdx_replay.specs.replaying.Replayed.{WritesSoFar, WritesSome, ToldAll}
 use Rattle.afdx_replay.specs.replaying.Told.{TellsItems, BeginsItems, TellsAll}
-use Rattle.afdx_arrivals.proofs.RecordingRunLemmas.{unasked}
+use Rattle.afdx_inputs.proofs.RecordingRunLemmas.{unasked}
 use Rattle.afdx_replay.proofs.InputStartLemmas.{start-pair}
 use Rattle.afdx_replay.proofs.PairLemmas.{pair-err, pair-ok, pair-replayed}
 use Rattle.afdx_replay.proofs.ReplayLemmas.{are-some, are-so-far}

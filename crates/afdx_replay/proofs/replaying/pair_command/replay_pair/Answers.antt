@@ -1,5 +1,5 @@
 use Rattle.std.proofs.Common.{refl, inl, inr}
-use Rattle.afdx_replay.specs.Commands.{have_ended, one_has_failed}
+use Rattle.afdx_commands.specs.Commands.{have_ended, one_has_failed}
 use Rattle.afdx_replay.specs.replaying.Tables.{tables_of}
 use Rattle.afdx_replay.proofs.InputStartLemmas.{ends-in, replays-pair}
 use Rattle.afdx_replay.proofs.replaying.pair_command.replay_pair.Goals as goal

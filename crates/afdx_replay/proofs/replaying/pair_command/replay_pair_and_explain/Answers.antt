@@ -1,7 +1,7 @@
 use Rattle.std.proofs.Common.{refl, inl, inr}
-use Rattle.afdx_replay.specs.Commands.{have_ended, one_has_failed}
+use Rattle.afdx_commands.specs.Commands.{have_ended, one_has_failed}
 use Rattle.afdx_replay.specs.replaying.Pair.{ExplainsPair}
-use Rattle.afdx_arrivals.specs.RecordingRun.{IfBothKnown}
+use Rattle.afdx_inputs.specs.RecordingRun.{IfBothKnown}
 use Rattle.afdx_replay.specs.replaying.Tables.{tables_of}
 use Rattle.afdx_replay.proofs.InputStartLemmas.{ends-in, replays-pair-with}
 use Rattle.afdx_replay.proofs.replaying.pair_command.replay_pair_and_explain.Goals as goal

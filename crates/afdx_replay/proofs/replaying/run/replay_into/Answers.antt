@@ -3,7 +3,7 @@ use Rattle.afdx_lists.specs.FrameLines.{listed_frame}
 use Rattle.afdx_engine.specs.Items.{thing_of}
 use Rattle.afdx_engine.specs.Listed.{frames}
 use Rattle.afdx_replay.specs.replaying.Replayed.{WritesSoFar, WritesSome, ToldAll}
-use Rattle.afdx_replay.specs.replaying.Text.{with_lines}
+use Rattle.afdx_commands.specs.Counts.{with_lines}
 use Rattle.afdx_replay.specs.replaying.Told.{TellsItems, BeginsItems, TellsAll}
 use Rattle.afdx_replay.proofs.DefinedLemmas.{if-defined}
 use Rattle.afdx_engine.proofs.ListRunLemmas.{answers-err, answers-ok}

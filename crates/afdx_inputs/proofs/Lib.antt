@@ -1,0 +1,10 @@
+pub mod ListingLemmas
+pub mod CutLemmas
+pub mod TakenLemmas
+pub mod PairRunLemmas
+pub mod RecordingRunLemmas
+pub mod OverLemmas
+pub mod PairAnswerLemmas
+pub mod InputLemmas
+pub mod InputSaysLemmas
+pub mod LookLemmas
